@@ -1,0 +1,12 @@
+pub mod BracketsLemmas
+pub mod ClassesLemmas
+pub mod EmbeddingsLemmas
+pub mod ExplicitLemmas
+pub mod InPlace
+pub mod IsolatesLemmas
+pub mod LevelsLemmas
+pub mod MatchingLemmas
+pub mod OpenStack
+pub mod OrderLemmas
+pub mod PlacesLemmas
+pub mod VisualOrderLemmas

@@ -1,0 +1,24 @@
+-- The characters that code units of UTF-16 mean.
+use Rattle.std.specs.Prelude.{ℕ, ◌+◌, ◌-◌, ◌*◌, Bool, ◌&&◌, ◌||◌, nat_le, nat_lt, if◌then◌else◌, List, [], ◌∷◌}
+
+-- u and v are a high surrogate and a low one
+abbrev pub is_pair : ℕ → ℕ → Bool
+is_pair u v = (nat_le 0xD800 u && nat_lt u 0xDC00) && (nat_le 0xDC00 v && nat_lt v 0xE000)
+
+-- the character of a pair
+abbrev pub pair_char : ℕ → ℕ → ℕ
+pair_char u v = 0x10000 + ((u - 0xD800) * 0x400 + (v - 0xDC00))
+
+-- the character of a unit in no pair: U+FFFD for a surrogate
+abbrev pub lone_char : ℕ → ℕ
+lone_char u = if nat_lt u 0xD800 || (nat_le 0xE000 u && nat_lt u 0x10000) then u else 0xFFFD
+
+-- a high surrogate directly followed by a low one is one character
+abbrev pub utf16_text : List ℕ → List ℕ
+utf16_text [] = []
+utf16_text (u ∷ []) = lone_char u ∷ []
+utf16_text (u ∷ v ∷ us) = if is_pair u v then pair_char u v ∷ utf16_text us else (lone_char u ∷ utf16_text (v ∷ us))
+
+-- how many units a character takes
+abbrev pub utf16_len : ℕ → ℕ
+utf16_len c = if nat_lt c 0x10000 then 1 else 2

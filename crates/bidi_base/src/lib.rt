@@ -1,0 +1,7 @@
+//! The words that every layer of the bidirectional algorithm speaks: classes, levels, data sources
+//! and texts. Its folder `specs` has every definition that a contract cites, one module a topic.
+#![tactic(auto)]
+
+pub mod char_data;
+pub mod data_source;
+pub mod level;
