@@ -2,6 +2,7 @@ pub mod BracketsLemmas
 pub mod ClassesLemmas
 pub mod EmbeddingsLemmas
 pub mod ExplicitLemmas
+pub mod GivesLemmas
 pub mod InPlace
 pub mod IsolatesLemmas
 pub mod LevelsLemmas
@@ -9,4 +10,7 @@ pub mod MatchingLemmas
 pub mod OpenStack
 pub mod OrderLemmas
 pub mod PlacesLemmas
+pub mod StrLemmas
+pub mod TextLemmas
+pub mod UnitsLemmas
 pub mod VisualOrderLemmas
