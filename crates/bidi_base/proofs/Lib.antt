@@ -9,4 +9,5 @@ pub mod MatchingLemmas
 pub mod OpenStack
 pub mod OrderLemmas
 pub mod PlacesLemmas
+pub mod TableLemmas
 pub mod VisualOrderLemmas
