@@ -11,6 +11,7 @@ pub mod OpenStack
 pub mod OrderLemmas
 pub mod PlacesLemmas
 pub mod StrLemmas
+pub mod TableLemmas
 pub mod TextLemmas
 pub mod UnitsLemmas
 pub mod VisualOrderLemmas
