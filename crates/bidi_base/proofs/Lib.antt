@@ -14,6 +14,7 @@ pub mod PerUnit
 pub mod PlaceLemmas
 pub mod PlacesLemmas
 pub mod StrLemmas
+pub mod TableLemmas
 pub mod TextLemmas
 pub mod UnitsLemmas
 pub mod VisualOrderLemmas
