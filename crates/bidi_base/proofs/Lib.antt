@@ -9,6 +9,9 @@ pub mod LevelsLemmas
 pub mod MatchingLemmas
 pub mod OpenStack
 pub mod OrderLemmas
+pub mod PerCharTests
+pub mod PerUnit
+pub mod PlaceLemmas
 pub mod PlacesLemmas
 pub mod StrLemmas
 pub mod TableLemmas
