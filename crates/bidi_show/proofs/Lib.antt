@@ -1,1 +1,3 @@
+mod ListsLemmas
 mod NumbersLemmas
+mod TextsLemmas

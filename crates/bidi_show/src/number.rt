@@ -1,10 +1,10 @@
 //! Numbers as words write them.
-ghost use Rattle.std.specs.Prelude.{◌≡◌, map, IfOk, string_bytes};
+ghost use Rattle.std.specs.Prelude.{◌≡◌, map, filter_map, is_some, IfOk, string_bytes};
 ghost use Rattle.std.specs.Char.{is_ascii_digit};
 ghost use Rattle.std.specs.List.{list_all};
 ghost use Rattle.bidi_show.specs.Numbers.{number_of as number_of_word, level_of as level_of_word, levels_of};
 
-use bidi_base::level::Level;
+use unicode_bidi::Level;
 use std::alloc::{AllocError, Global};
 use std::marker::Model;
 
@@ -34,6 +34,23 @@ pub fn level_of(word: &str) -> Option<Level>
     Level::new(u8::try_from(number).ok()?).ok()
 }
 
+// Whether each word writes a level.
+fn are_levels(words: &[String]) -> bool
+    ensures { result ≡ list_all (λ word. is_some (level_of_word (string_bytes word))) words.now }
+{
+    words.iter().all(|word| level_of(word.as_str()).is_some())
+}
+
+// The levels that words write.
+fn levels_in(alloc: Global, words: &[String]) -> Result<Vec<Level>, AllocError>
+    ensures { IfOk result (λ v. v.items ≡ filter_map (λ word. level_of_word (string_bytes word)) words.now) }
+{
+    words
+        .iter()
+        .filter_map(|word| level_of(word.as_str()))
+        .collect(alloc)
+}
+
 /// Words each of which writes a level. In a contract they are these levels.
 #[derive(Drop)]
 pub struct LevelWords<'w> {
@@ -54,7 +71,7 @@ impl<'w> LevelWords<'w> {
     pub fn new(words: &'w [String]) -> Option<LevelWords<'w>>
         ensures { result ≡ levels_of (map string_bytes words.now) }
     {
-        if words.iter().all(|word| level_of(word.as_str()).is_some()) {
+        if are_levels(words) {
             Some(LevelWords { words })
         } else {
             None
@@ -65,9 +82,6 @@ impl<'w> LevelWords<'w> {
     pub fn levels(&self, alloc: Global) -> Result<Vec<Level>, AllocError>
         ensures { IfOk result (λ v. v.items ≡ self.now) }
     {
-        self.words
-            .iter()
-            .filter_map(|word| level_of(word.as_str()))
-            .collect(alloc)
+        levels_in(alloc, self.words)
     }
 }
