@@ -1,6 +1,7 @@
 pub mod BracketsLemmas
 pub mod ClassesLemmas
 pub mod EmbeddingsLemmas
+mod Examples
 pub mod ExplicitLemmas
 pub mod GivesLemmas
 pub mod InPlace
