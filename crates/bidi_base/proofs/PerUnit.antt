@@ -77,14 +77,20 @@ module _ {X : Type 0} (len_of : ℕ → ℕ) where
   per_unit-push_map f (x ∷ xs) c =
       ap (λ (us : List X). replicate (len_of x) (f x) ++ us) (per_unit-push_map f xs c) ∙ sym (append_assoc (replicate (len_of x) (f x)) (per_unit len_of xs (map f xs)) (replicate (len_of c) (f c)))
 
-  pub per_unit-more : (chars : List ℕ) (values : List X) (k c : ℕ) (d : X) → k < length chars → k < length values
+  next : (chars : List ℕ) (values : List X) (k c : ℕ) (d : X) → k < length chars → k < length values
       → per_unit len_of (take (suc k) chars) (take (suc k) values) ≡ per_unit len_of (take k chars) (take k values) ++ replicate (len_of (get_or chars k c)) (get_or values k d)
-  per_unit-more [] values k c d fits too = absurd (omega arith)
-  per_unit-more (x ∷ chars) [] k c d fits too = absurd (omega arith)
-  per_unit-more (x ∷ chars) (v ∷ values) zero c d fits too = append-nil (replicate (len_of x) v)
-  per_unit-more (x ∷ chars) (v ∷ values) (suc k) c d fits too =
-      ap (λ (xs : List X). replicate (len_of x) v ++ xs) (per_unit-more chars values k c d (omega arith) (omega arith))
+  next [] values k c d fits too = absurd (omega arith)
+  next (x ∷ chars) [] k c d fits too = absurd (omega arith)
+  next (x ∷ chars) (v ∷ values) zero c d fits too = append-nil (replicate (len_of x) v)
+  next (x ∷ chars) (v ∷ values) (suc k) c d fits too =
+      ap (λ (xs : List X). replicate (len_of x) v ++ xs) (next chars values k c d (omega arith) (omega arith))
       ∙ sym (append_assoc (replicate (len_of x) v) (per_unit len_of (take k chars) (take k values)) (replicate (len_of (get_or chars k c)) (get_or values k d)))
+
+  pub per_unit-more : (chars : List ℕ) (values : List X) (k c : ℕ) (d : X) → k < length chars → k < length values
+      → per_unit len_of (take (k + 1) chars) (take (k + 1) values) ≡ per_unit len_of (take k chars) (take k values) ++ replicate (len_of (get_or chars k c)) (get_or values k d)
+  per_unit-more chars values k c d fits too =
+      let one : k + 1 ≡ suc k = omega arith in
+      ap (λ (n : ℕ). per_unit len_of (take n chars) (take n values)) one ∙ next chars values k c d fits too
 
   -- the units of the first k characters, and of the others
   cut : (chars : List ℕ) (values : List X) (k : ℕ) → length values ≡ length chars → per_unit len_of chars values ≡ per_unit len_of (take k chars) (take k values) ++ per_unit len_of (drop k chars) (drop k values)
@@ -165,12 +171,10 @@ module _ {X : Type 0} (len_of : ℕ → ℕ) where
 
   pub IsWrittenTo-more : (chars : List ℕ) (values : List X) (k c : ℕ) (d x : X) (units : List X) → k < length chars → k < length values → x ≡ get_or values k d → IsWrittenInto chars values k (len_of (get_or chars k c)) x units → IsWrittenTo chars values (k + 1) units
   IsWrittenTo-more chars values k c d x units fits too is h =
-      let next : k + 1 ≡ suc k = omega arith in
       ap (λ (n : ℕ). take n units) (place-more len_of chars k c fits)
       ∙ h
       ∙ ap (λ (y : X). per_unit len_of (take k chars) (take k values) ++ replicate (len_of (get_or chars k c)) y) is
       ∙ sym (per_unit-more chars values k c d fits too)
-      ∙ ap (λ (n : ℕ). per_unit len_of (take n chars) (take n values)) (sym next)
 
   pub IsWrittenTo-end : (chars : List ℕ) (values : List X) (k : ℕ) (units : List X) → length chars ≤ k → length values ≤ k → length units ≡ text_len len_of chars → IsWrittenTo chars values k units → units ≡ per_unit len_of chars values
   IsWrittenTo-end chars values k units past too long h =
