@@ -2,5 +2,7 @@
 
 mod embeddings;
 mod kinds;
+mod run_sequences;
 
 pub use embeddings::{Explicit, explicit_levels};
+pub use run_sequences::{PlainSequence, sequences};
