@@ -1,4 +1,6 @@
+pub mod AgreeLemmas
 pub mod BracketsLemmas
+pub mod ChainLemmas
 pub mod ClassesLemmas
 pub mod EmbeddingsLemmas
 mod Examples
@@ -8,7 +10,8 @@ pub mod InPlace
 pub mod IsolatesLemmas
 pub mod LevelsLemmas
 pub mod MatchingLemmas
-pub mod OpenStack
+pub mod OpenMatches
+pub mod OpenersStack
 pub mod OrderLemmas
 pub mod PerCharTests
 pub mod PerUnit
@@ -18,4 +21,12 @@ pub mod StrLemmas
 pub mod TableLemmas
 pub mod TextLemmas
 pub mod UnitsLemmas
+pub mod PassLemmas
+pub mod PermutationLemmas
+pub mod PlacesLemmas
+pub mod ReadStack
+pub mod RunsLemmas
+pub mod SequencesLemmas
+pub mod SuccessorLemmas
 pub mod VisualOrderLemmas
+pub mod WaitingLemmas

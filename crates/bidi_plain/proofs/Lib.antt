@@ -1,0 +1,4 @@
+mod ExplicitPass
+mod ListPass
+mod OpenersLemmas
+mod StatusLemmas
