@@ -10,3 +10,4 @@ pub mod OpenStack
 pub mod OrderLemmas
 pub mod PlacesLemmas
 pub mod VisualOrderLemmas
+pub mod WeakLemmas

@@ -1,0 +1,5 @@
+mod Blocks
+mod Scans
+mod Separators
+mod Terminators
+mod WeakRules
