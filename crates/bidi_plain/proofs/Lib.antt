@@ -3,3 +3,5 @@ mod Scans
 mod Separators
 mod Terminators
 mod WeakRules
+mod NeutralBlocks
+mod BracketRules
