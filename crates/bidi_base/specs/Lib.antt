@@ -12,9 +12,11 @@ pub mod Levels
 pub mod Line
 pub mod Matching
 pub mod Neutral
+pub mod Openers
 pub mod Order
 pub mod Paragraphs
 pub mod Places
+pub mod SequencePass
 pub mod Sequences
 pub mod Source
 pub mod Stored

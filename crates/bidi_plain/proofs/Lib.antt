@@ -1,0 +1,11 @@
+mod Blocks
+mod BracketRules
+mod ExplicitPass
+mod ListPass
+mod NeutralBlocks
+mod OpenersLemmas
+mod Scans
+mod Separators
+mod StatusLemmas
+mod Terminators
+mod WeakRules

@@ -1,0 +1,13 @@
+//! The rules over lists of characters. Each call answers fresh vectors.
+
+mod embeddings;
+mod implicit_levels;
+mod kinds;
+mod neutrals;
+mod run_sequences;
+mod weak_types;
+
+pub use embeddings::{Explicit, explicit_levels};
+pub use implicit_levels::implicit;
+pub use run_sequences::{PlainSequence, sequences};
+pub use weak_types::weak;
