@@ -2,6 +2,7 @@ pub mod BracketsLemmas
 pub mod ClassesLemmas
 pub mod EmbeddingsLemmas
 pub mod ExplicitLemmas
+pub mod GivesLemmas
 pub mod InPlace
 pub mod IsolatesLemmas
 pub mod LevelsLemmas
@@ -9,4 +10,8 @@ pub mod MatchingLemmas
 pub mod OpenStack
 pub mod OrderLemmas
 pub mod PlacesLemmas
+pub mod StrLemmas
+pub mod TableLemmas
+pub mod TextLemmas
+pub mod UnitsLemmas
 pub mod VisualOrderLemmas

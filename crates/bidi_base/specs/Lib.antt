@@ -18,6 +18,7 @@ pub mod Places
 pub mod Sequences
 pub mod Source
 pub mod Stored
+pub mod Table
 pub mod Text
 pub mod Units
 pub mod Utf16

@@ -5,3 +5,4 @@
 pub mod char_data;
 pub mod data_source;
 pub mod level;
+pub mod text;

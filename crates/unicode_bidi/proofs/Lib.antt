@@ -1,0 +1,7 @@
+pub mod Distinct
+pub mod Least
+pub mod Ordered
+pub mod Passes
+pub mod Reversed
+pub mod Stretches
+pub mod Turning

@@ -1,0 +1,11 @@
+//! The Unicode Bidirectional Algorithm (UAX #9), proved.
+#![tactic(auto)]
+
+mod info;
+mod visual;
+
+pub use bidi_base::char_data;
+pub use bidi_base::level;
+pub use bidi_base::char_data::BidiClass;
+pub use bidi_base::level::{LTR_LEVEL, Level, RTL_LEVEL};
+pub use info::BidiInfo;
