@@ -8,8 +8,13 @@ pub mod IsolatesLemmas
 pub mod LevelsLemmas
 pub mod MatchingLemmas
 pub mod OpenStack
+pub mod OpenersStack
 pub mod OrderLemmas
+pub mod PerUnit
 pub mod PlacesLemmas
+pub mod ReadStack
+pub mod StatusBounds
+pub mod StatusMachine
 pub mod StrLemmas
 pub mod TableLemmas
 pub mod TextLemmas

@@ -17,6 +17,7 @@ pub mod Paragraphs
 pub mod Places
 pub mod Sequences
 pub mod Source
+pub mod StatusMachine
 pub mod Stored
 pub mod Table
 pub mod Text

@@ -1,11 +1,12 @@
 //! An isolating run sequence as the level runs that it joins, and the walks over its units.
 
-ghost use Rattle.std.specs.Prelude.{◌≡◌, ◌≤◌, ◌<◌, IsTrue, IfSome, map, length, get_or, is_some};
+ghost use Rattle.std.specs.Prelude.{◌≡◌, ◌≤◌, ◌<◌, ◌↔◌, IsTrue, IfSome, map, length, get_or, is_some};
 ghost use Rattle.bidi_base.specs.Classes.{is_l_or_r};
 ghost use Rattle.bidi_base.specs.Units.{bounds, are_ordered, is_run_sequence};
 
 use super::LevelRun;
 use bidi_base::char_data::BidiClass;
+use bidi_base::text::{TextSource, is_line};
 
 /// An isolating run sequence (BD13): one or more level runs in text order, and the classes that
 /// hold at its start and at its end (X10), each L or R.
@@ -19,7 +20,7 @@ pub struct IsolatingRunSequence {
 
 impl IsolatingRunSequence {
     ghost use Rattle.bidi_rules.specs.RunSequence.{runs as runs_of, sos as sos_of, eos as eos_of, forwards_left, backwards_left};
-    ghost use Rattle.bidi_base.specs.Units.{units_from, units_below};
+    ghost use Rattle.bidi_base.specs.Units.{AreLines, units_from, units_below};
 
     /// A sequence of these runs. `None` unless there is a run, each run is non-empty and ends at or
     /// before the start of the next, and `sos` and `eos` are each L or R.
@@ -54,6 +55,18 @@ impl IsolatingRunSequence {
         ensures { result ≡ eos_of self.now }
     {
         self.eos
+    }
+
+    /// Whether each run lies in the text and cuts no character, as [`is_line`] says.
+    pub fn fits<T: TextSource>(&self, text: T) -> bool
+        ensures { IsTrue result ↔ AreLines T.units (T.characters text) (map bounds (runs_of self.now)) }
+    {
+        for run in &self.runs {
+            if !is_line(text, run) {
+                return false;
+            }
+        }
+        true
     }
 
     /// The units from `pos` to the end of the run at that index, then those of each later run, upwards.
