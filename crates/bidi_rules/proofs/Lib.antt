@@ -1,1 +1,2 @@
+pub mod StackLemmas
 pub mod WalkLemmas

@@ -2,4 +2,5 @@
 //! paragraph: explicit levels, isolating run sequences, and what is resolved within each.
 #![tactic(auto)]
 
+pub mod explicit;
 pub mod prepare;
