@@ -1,6 +1,7 @@
 pub mod BracketsLemmas
 pub mod ClassesLemmas
 pub mod EmbeddingsLemmas
+mod Examples
 pub mod ExplicitLemmas
 pub mod GivesLemmas
 pub mod InPlace
@@ -11,6 +12,9 @@ pub mod OpenStack
 pub mod OpenersStack
 pub mod OrderLemmas
 pub mod PerUnit
+pub mod PerCharTests
+pub mod PerUnit
+pub mod PlaceLemmas
 pub mod PlacesLemmas
 pub mod ReadStack
 pub mod StatusBounds
