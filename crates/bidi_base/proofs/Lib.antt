@@ -1,4 +1,6 @@
+pub mod AgreeLemmas
 pub mod BracketsLemmas
+pub mod ChainLemmas
 pub mod ClassesLemmas
 pub mod EmbeddingsLemmas
 mod Examples
@@ -8,19 +10,24 @@ pub mod InPlace
 pub mod IsolatesLemmas
 pub mod LevelsLemmas
 pub mod MatchingLemmas
-pub mod OpenStack
+pub mod OpenMatches
 pub mod OpenersStack
 pub mod OrderLemmas
-pub mod PerUnit
+pub mod PassLemmas
 pub mod PerCharTests
 pub mod PerUnit
+pub mod PermutationLemmas
 pub mod PlaceLemmas
 pub mod PlacesLemmas
 pub mod ReadStack
+pub mod RunsLemmas
+pub mod SequencesLemmas
 pub mod StatusBounds
 pub mod StatusMachine
 pub mod StrLemmas
+pub mod SuccessorLemmas
 pub mod TableLemmas
 pub mod TextLemmas
 pub mod UnitsLemmas
 pub mod VisualOrderLemmas
+pub mod WaitingLemmas

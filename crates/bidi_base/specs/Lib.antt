@@ -12,6 +12,7 @@ pub mod Levels
 pub mod Line
 pub mod Matching
 pub mod Neutral
+pub mod Openers
 pub mod Order
 pub mod Paragraphs
 pub mod Places

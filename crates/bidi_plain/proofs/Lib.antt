@@ -1,0 +1,3 @@
+mod ExplicitPass
+mod OpenersLemmas
+mod StatusLemmas
