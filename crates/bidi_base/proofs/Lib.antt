@@ -22,6 +22,8 @@ pub mod PlacesLemmas
 pub mod ReadStack
 pub mod RunsLemmas
 pub mod SequencesLemmas
+pub mod StatusBounds
+pub mod StatusMachine
 pub mod StrLemmas
 pub mod SuccessorLemmas
 pub mod TableLemmas

@@ -19,6 +19,7 @@ pub mod Places
 pub mod SequencePass
 pub mod Sequences
 pub mod Source
+pub mod StatusMachine
 pub mod Stored
 pub mod Table
 pub mod Text
