@@ -5,3 +5,7 @@
 mod level_rows;
 #[cfg(test)]
 mod order_rows;
+#[cfg(test)]
+mod source_rows;
+#[cfg(test)]
+mod text_rows;
