@@ -74,8 +74,8 @@ fn read_class(
 }
 
 /// The sequence that waits for a character of this class, where that begins a level run.
-fn sequence_for(waiting: &Waiting, class: BidiClass) -> Option<usize>
-    ensures { result ≡ waiting_for class waiting.now.items }
+fn sequence_for(waiting: &[Option<usize>], class: BidiClass) -> Option<usize>
+    ensures { result ≡ waiting_for class waiting.now }
 {
     match class {
         BidiClass::PDI => match waiting.last() {
