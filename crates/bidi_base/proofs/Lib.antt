@@ -8,6 +8,7 @@ pub mod LevelsLemmas
 pub mod MatchingLemmas
 pub mod OpenStack
 pub mod OrderLemmas
+pub mod PairsLemmas
 pub mod PlacesLemmas
 pub mod VisualOrderLemmas
 pub mod WeakLemmas

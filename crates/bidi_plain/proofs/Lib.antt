@@ -5,3 +5,4 @@ mod Terminators
 mod WeakRules
 mod NeutralBlocks
 mod BracketRules
+mod BracketPass
