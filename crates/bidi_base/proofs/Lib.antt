@@ -1,11 +1,13 @@
 pub mod BracketsLemmas
 pub mod ClassesLemmas
+pub mod ContextLemmas
 pub mod EmbeddingsLemmas
 pub mod ExplicitLemmas
 pub mod InPlace
 pub mod IsolatesLemmas
 pub mod LevelsLemmas
 pub mod MatchingLemmas
+pub mod NeutralLemmas
 pub mod OpenStack
 pub mod OrderLemmas
 pub mod PairsLemmas

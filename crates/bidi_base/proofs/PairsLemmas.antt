@@ -1,13 +1,13 @@
 -- Bracket pairs in one pass from the front: what is closed and what waits at each place, and what the pass has found at its end.
-use Rattle.std.proofs.Common.{◌≡◌, ℕ, zero, suc, ◌+◌, ◌-◌, ◌<◌, ◌≤◌, Bool, true, false, not, cond, ◌&&◌, ◌||◌, eqb, ltb, leb, List, [], ◌∷◌, ◌++◌, map, length, get_or, take, drop, set, reverse, filter, filter_map, find, fold, option_to_list, Option, Some, None, option_map, unwrap_or, refl, sym, ap, subst, ◌∙◌, ◌⊎◌, arith, inl, inr, append-nil, append_assoc, add-one, length-set, get_or-set_same, get_or-set_other, eqb-true, eq-eqb, ne_eqb, lt-ltb, le-ltb}
+use Rattle.std.proofs.Common.{◌≡◌, ℕ, zero, suc, ◌+◌, ◌-◌, ◌<◌, ◌≤◌, Bool, true, false, not, cond, ◌&&◌, ◌||◌, eqb, ltb, leb, List, [], ◌∷◌, ◌++◌, map, length, get_or, take, set, reverse, filter, filter_map, find, fold, option_to_list, Option, Some, None, option_map, unwrap_or, refl, sym, ap, subst, ◌∙◌, ◌⊎◌, arith, inl, inr, append-nil, append_assoc, add-one, length-set, get_or-set_same, get_or-set_other, eqb-true, eq-eqb, ne_eqb, lt-ltb, le-ltb}
 use Rattle.std.specs.Prelude.{⊤, All}
-use Rattle.std.specs.List.{range_with_len, list_any, cons_option, AllByRecursion}
+use Rattle.std.specs.List.{range_with_len, cons_option, AllByRecursion}
 use Rattle.std.specs.Option.{option_or}
-use Rattle.std.proofs.lemmas.Bool.{cases_Bool, cases_lt, cases_eq, and_right, lt-leb, cases_order, both_ways, and_parts, and_from, and_left, or_parts, cond-true, cond-false, not_from_true, not_from_false, not-true, le-leb, eqb-false}
+use Rattle.std.proofs.lemmas.Bool.{cases_Bool, cases_lt, cases_eq, and_right, lt-leb, cases_order, both_ways, and_parts, and_from, and_left, or_parts, cond-true, cond-false, not-true, le-leb}
 use Rattle.std.proofs.lemmas.List.{reverse-append}
 use Rattle.std.proofs.lemmas.List.Elements.{filter-append, All-from_recursion}
 use Rattle.std.proofs.lemmas.List.Folds.{find-append, list_any-append}
-use Rattle.std.proofs.lemmas.List.FromFn.{fill_by_all, length-map-range_with_len, get_or-map-range_with_len, length-range_with_len}
+use Rattle.std.proofs.lemmas.List.FromFn.{fill_by_all, length-map-range_with_len, get_or-map-range_with_len}
 use Rattle.std.proofs.lemmas.List.Sums.{fold_push}
 use Rattle.bidi_base.specs.declared.char_data.BidiClass.{BidiClass}
 use Rattle.bidi_base.specs.declared.data_source.BidiMatchedOpeningBracket.{BidiMatchedOpeningBracket}
@@ -158,10 +158,11 @@ module _ (brackets : List (Option BidiMatchedOpeningBracket)) where
       let place : k + suc n ≡ k + n + 1 = omega arith in
       elim (closed_before-next (k + n)) [
         | inl same ↦ (h.0, ap (closed_before brackets) place ∙ same ∙ h.1, h.2)
-        | inr pair ↦
-            (h.0 ++ (pair.0, k + n) ∷ [],
-            ap (closed_before brackets) place ∙ pair.2 ∙ ap (λ (ps : List (ℕ × ℕ)). ps ++ (pair.0, k + n) ∷ []) h.1 ∙ append_assoc (closed_before brackets k) h.0 ((pair.0, k + n) ∷ []),
-            AreClosedFrom-push k pair.0 (k + n) h.0 h.2 (omega arith))
+        | inr pair ↦ (
+          h.0 ++ (pair.0, k + n) ∷ [],
+          ap (closed_before brackets) place ∙ pair.2 ∙ ap (λ (ps : List (ℕ × ℕ)). ps ++ (pair.0, k + n) ∷ []) h.1 ∙ append_assoc (closed_before brackets k) h.0 ((pair.0, k + n) ∷ []),
+          AreClosedFrom-push k pair.0 (k + n) h.0 h.2 (omega arith),
+        )
       ]
 
   -- at k it does not matter what is closed from there on
@@ -220,12 +221,15 @@ module _ (brackets : List (Option BidiMatchedOpeningBracket)) where
       by_test : (b : Bool) → is_available brackets (closed_before brackets j) j low ≡ b → AreWaiting j (low + 1) (filter (is_available brackets (closed_before brackets j) j) (range_with_len (low + 1) n))
           → AreWaiting j low (cond b (low ∷ filter (is_available brackets (closed_before brackets j) j) (range_with_len (low + 1) n)) (filter (is_available brackets (closed_before brackets j) j) (range_with_len (low + 1) n)))
       by_test true e rest =
-          let parts = and_parts (is_opening (bracket_at brackets low)) (not (is_taken (closed_before brackets j) j low)) e in
-          (omega arith, record {
-            below = omega arith;
-            opening = parts.0;
-            unpaired = not_taken-find j low (closed_before brackets j) (closed_before-in_order j) (not-true (is_taken (closed_before brackets j) j low) parts.1);
-          }, rest)
+          let parts = and_parts (is_opening (bracket_at brackets low)) (not (is_taken (closed_before brackets j) j low)) e in (
+            omega arith,
+            record {
+              below = omega arith;
+              opening = parts.0;
+              unpaired = not_taken-find j low (closed_before brackets j) (closed_before-in_order j) (not-true (is_taken (closed_before brackets j) j low) parts.1);
+            },
+            rest,
+          )
       by_test false e rest = AreWaiting-from j (low + 1) low (filter (is_available brackets (closed_before brackets j) j) (range_with_len (low + 1) n)) (omega arith) rest
 
   pub available-waiting : (j : ℕ) → AreWaiting j 0 (available brackets (closed_before brackets j) j)
@@ -295,11 +299,13 @@ module _ (brackets : List (Option BidiMatchedOpeningBracket)) where
   pub IsUnderWay-opening : (j : ℕ) (waiting : List ℕ) → IsUnderWay j waiting → is_opening (bracket_at brackets j) ≡ true → length waiting < max_open_brackets
       → IsUnderWay (j + 1) (waiting ++ j ∷ []) × (closed_before brackets (j + 1) ≡ closed_before brackets j)
   IsUnderWay-opening j waiting h opening few =
-      let same = closed_before-more j ∙ with_closing-other (closed_before brackets j) j (opening_or_closing (bracket_at brackets j) opening) in
-      (record {
-        waits = ap (λ (ws : List ℕ). ws ++ j ∷ []) h.waits ∙ sym (available-opening brackets (closed_before brackets j) j (closed_before-closed j) opening) ∙ ap (λ (ps : List (ℕ × ℕ)). available brackets ps (j + 1)) (sym same);
-        room = room_more j waiting h (λ _. few);
-      }, same)
+      let same = closed_before-more j ∙ with_closing-other (closed_before brackets j) j (opening_or_closing (bracket_at brackets j) opening) in (
+        record {
+          waits = ap (λ (ws : List ℕ). ws ++ j ∷ []) h.waits ∙ sym (available-opening brackets (closed_before brackets j) j (closed_before-closed j) opening) ∙ ap (λ (ps : List (ℕ × ℕ)). available brackets ps (j + 1)) (sym same);
+          room = room_more j waiting h (λ _. few);
+        },
+        same,
+      )
 
   partner-waiting : (j : ℕ) (waiting : List ℕ) → IsUnderWay j waiting
       → partner brackets (closed_before brackets j) j ≡ find_last (λ i. is_same_bracket (bracket_at brackets i) (bracket_at brackets j)) waiting
@@ -322,13 +328,15 @@ module _ (brackets : List (Option BidiMatchedOpeningBracket)) where
       let i = get_or waiting k 0 in
       let other = closing_or_opening (bracket_at brackets j) closing in
       let same = closed_before-more j ∙ with_closing-pair (closed_before brackets j) j i closing (partner-waiting j waiting h ∙ found) in
-      let waiting_all : AreWaiting j 0 waiting = subst (AreWaiting j 0) (sym h.waits) (available-waiting j) in
-      (record {
-        waits = sym (AreWaiting-below j 0 waiting k waiting_all fits) ∙ ap (filter (λ x. ltb x i)) h.waits
-            ∙ sym (available-pair brackets (closed_before brackets j) j (closed_before-closed j) i other)
-            ∙ ap (λ (ps : List (ℕ × ℕ)). available brackets ps (j + 1)) (sym same);
-        room = room_more j waiting h (λ opening. absurd (both_ways (is_opening (bracket_at brackets j)) other opening));
-      }, same)
+      let waiting_all : AreWaiting j 0 waiting = subst (AreWaiting j 0) (sym h.waits) (available-waiting j) in (
+        record {
+          waits = sym (AreWaiting-below j 0 waiting k waiting_all fits) ∙ ap (filter (λ x. ltb x i)) h.waits
+              ∙ sym (available-pair brackets (closed_before brackets j) j (closed_before-closed j) i other)
+              ∙ ap (λ (ps : List (ℕ × ℕ)). available brackets ps (j + 1)) (sym same);
+          room = room_more j waiting h (λ opening. absurd (both_ways (is_opening (bracket_at brackets j)) other opening));
+        },
+        same,
+      )
 
   pub IsUnderWay-entry : (j : ℕ) (waiting : List ℕ) (k : ℕ) → IsUnderWay j waiting → k < length waiting → IsWaiting j (get_or waiting k 0)
   IsUnderWay-entry j waiting k h fits =
@@ -498,9 +506,9 @@ closings-listed closings pairs n is =
     ap (λ (m : ℕ). filter_map (λ (i : ℕ). option_map (λ (c : ℕ). (i, c)) (get_or closings i None)) (range_with_len 0 m)) long
     ∙ filter_map-range (λ (i : ℕ). option_map (λ (c : ℕ). (i, c)) (get_or closings i None)) (λ i. find (λ (p : ℕ × ℕ). eqb p.0 i) pairs) 0 n
     (λ k from below.
-      ap (λ (cs : List (Option ℕ)). option_map (λ (c : ℕ). (k, c)) (get_or cs k None)) is
-      ∙ ap (option_map (λ (c : ℕ). (k, c))) (get_or-map-range_with_len (closing_in pairs) 0 n k k None (omega arith) (omega arith))
-      ∙ closing-back k pairs)
+    ap (λ (cs : List (Option ℕ)). option_map (λ (c : ℕ). (k, c)) (get_or cs k None)) is
+    ∙ ap (option_map (λ (c : ℕ). (k, c))) (get_or-map-range_with_len (closing_in pairs) 0 n k k None (omega arith) (omega arith))
+    ∙ closing-back k pairs)
 
 -- the counted brackets, one a class
 pub length-counted_brackets : (classes : List BidiClass) (brackets : List (Option BidiMatchedOpeningBracket)) → length brackets ≡ length classes → length (counted_brackets classes brackets) ≡ length classes

@@ -1,5 +1,5 @@
 -- The pass that finds bracket pairs, as the code keeps it: a stack of opening characters with their indexes, and for each index its closing.
-use Rattle.std.proofs.Common.{◌≡◌, ℕ, zero, suc, ◌+◌, ◌-◌, ◌<◌, ◌≤◌, Bool, true, false, not, cond, eqb, List, [], ◌∷◌, ◌++◌, map, length, get_or, take, set, reverse, replicate, find, filter_map, Option, Some, None, option_map, refl, sym, ap, subst, ◌∙◌, ◌⊎◌, arith, inl, inr}
+use Rattle.std.proofs.Common.{◌≡◌, ℕ, suc, ◌+◌, ◌-◌, ◌<◌, ◌≤◌, Bool, true, false, not, cond, eqb, List, [], ◌∷◌, ◌++◌, map, length, get_or, take, set, reverse, replicate, find, filter_map, Option, Some, None, option_map, refl, sym, ap, subst, ◌∙◌, ◌⊎◌, arith, inl, inr}
 use Rattle.std.specs.List.{range_with_len}
 use Rattle.std.proofs.lemmas.List.{length-map, length-reverse, length-replicate, get_or-replicate, map_push, take-map, get_or-map, get_or-reverse, reverse-append, map-append}
 use Rattle.std.proofs.lemmas.List.FromFn.{fill_by_all, length-map-range_with_len}
@@ -7,7 +7,7 @@ use Rattle.bidi_base.specs.declared.char_data.BidiClass.{BidiClass}
 use Rattle.bidi_base.specs.declared.data_source.BidiMatchedOpeningBracket.{BidiMatchedOpeningBracket}
 use Rattle.bidi_base.specs.Places.{indexes, find_last}
 use Rattle.bidi_base.specs.Brackets.{max_open_brackets, counted_brackets, bracket_at, is_opening, is_closing, is_same_bracket, bracket_pairs}
-use Rattle.bidi_base.proofs.PairsLemmas.{closed_before, IsWaiting, IsUnderWay, IsUnderWay-start, IsUnderWay-other, IsUnderWay-opening, IsUnderWay-unmatched, IsUnderWay-pair, IsUnderWay-entry, HasEnded, pairs_of-found, closing_in, closings-pair, closings-listed, length-counted_brackets, bracket_at-counted}
+use Rattle.bidi_base.proofs.PairsLemmas.{closed_before, IsUnderWay, IsUnderWay-start, IsUnderWay-other, IsUnderWay-opening, IsUnderWay-unmatched, IsUnderWay-pair, IsUnderWay-entry, HasEnded, pairs_of-found, closing_in, closings-pair, closings-listed, length-counted_brackets}
 
 -- the opening character of a bracket
 abbrev pub opening_of : Option BidiMatchedOpeningBracket → ℕ
@@ -42,9 +42,9 @@ find-same p q (x ∷ xs) same =
 
 find_last-same : (p q : ℕ → Bool) (xs : List ℕ) → ((k : ℕ) → k < length xs → p (get_or xs k 0) ≡ q (get_or xs k 0)) → find_last p xs ≡ find_last q xs
 find_last-same p q xs same = find-same p q (reverse xs) (λ k below.
-  let inside : k < length xs = omega (arith, length-reverse xs) in
-  let at = get_or-reverse xs k 0 inside in
-  ap p at ∙ same (length xs - 1 - k) (omega arith) ∙ ap q (sym at))
+    let inside : k < length xs = omega (arith, length-reverse xs) in
+    let at = get_or-reverse xs k 0 inside in
+    ap p at ∙ same (length xs - 1 - k) (omega arith) ∙ ap q (sym at))
 
 same_opening : (o : Option BidiMatchedOpeningBracket) (b : BidiMatchedOpeningBracket) → is_opening o ≡ true → eqb (opening_of o) b.opening ≡ is_same_bracket o (Some b)
 same_opening None b h = absurd (cc h)

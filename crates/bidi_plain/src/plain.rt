@@ -7,4 +7,5 @@ mod weak_types;
 
 pub use bracket_pairs::pairs;
 pub use implicit_levels::implicit;
+pub use neutrals::neutral;
 pub use weak_types::weak;

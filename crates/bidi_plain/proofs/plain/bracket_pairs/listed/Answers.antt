@@ -1,4 +1,4 @@
-use Rattle.std.proofs.Common.{◌≡◌, ℕ, suc, ◌+◌, List, ◌∷◌, [], ◌++◌, get_or, filter_map, Option, Some, None, option_map, sym, ap, ◌∙◌, add-one, append-nil, arith, rules}
+use Rattle.std.proofs.Common.{◌≡◌, ℕ, ◌+◌, List, ◌∷◌, [], ◌++◌, get_or, filter_map, Option, Some, None, option_map, sym, ap, ◌∙◌, add-one, append-nil, arith, rules}
 use Rattle.std.specs.List.{range_with_len, cons_option}
 use Rattle.std.proofs.lemmas.List.Elements.{filter_map-append}
 use Rattle.bidi_base.proofs.PlacesLemmas.{range_with_len-more}

@@ -1,14 +1,12 @@
-use Rattle.std.proofs.Common.{◌≡◌, ℕ, ◌+◌, ◌<◌, ◌≤◌, List, [], ◌∷◌, ◌++◌, length, get_or, set, take, filter_map, replicate, Option, Some, None, option_map, sym, ap, subst, ◌∙◌, inl, inr, arith, rules}
+use Rattle.std.proofs.Common.{◌≡◌, ℕ, ◌<◌, List, [], ◌∷◌, ◌++◌, length, get_or, filter_map, replicate, Option, Some, None, option_map, sym, ap, subst, ◌∙◌, inl, inr, arith, rules}
 use Rattle.std.specs.Prelude.{All, ◌==◌}
-use Rattle.std.specs.Result.{IfOk}
-use Rattle.std.specs.Vec.{vec_len}
 use Rattle.std.proofs.lemmas.List.{get_or_default}
 use Rattle.std.proofs.lemmas.Result.{IfOk-weaker}
 use Rattle.bidi_base.specs.declared.char_data.BidiClass.TheVariants.{L}
 use Rattle.bidi_base.specs.Brackets.{bracket_at, is_opening, bracket_pairs}
 use Rattle.bidi_base.specs.Places.{find_last, indexes}
 use Rattle.bidi_base.proofs.PairsLemmas.{bracket_at-counted, bracket_pairs-in_order}
-use Rattle.bidi_plain.proofs.BracketPass.{counted, IsPairing, IsPairing-start, IsPairing-none, IsPairing-opening, IsPairing-unmatched, IsPairing-pair, IsPairing-bound, IsPairing-end}
+use Rattle.bidi_plain.proofs.BracketPass.{counted, IsPairing-start, IsPairing-none, IsPairing-opening, IsPairing-unmatched, IsPairing-pair, IsPairing-bound, IsPairing-end}
 use Rattle.bidi_plain.proofs.plain.bracket_pairs.pairs.Goals as goal
 use Rattle.bidi_plain.proofs.plain.bracket_pairs.pairs.Goals.{in-Some+then-bracket+else-len-ge-MAX_OPEN_BRACKETS+in_ok-push, in-Some+else-bracket+in-Some-matching_entry, in-Some+else-bracket+in_default-matching_entry, in_default}
 use Rattle.bidi_plain.proofs.plain.bracket_pairs.pairs.Goals.{else-loop-place-test, then-loop-place-test+in-Some+then-bracket+then-len-ge-MAX_OPEN_BRACKETS}
