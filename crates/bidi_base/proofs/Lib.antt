@@ -13,7 +13,6 @@ pub mod LevelsLemmas
 pub mod MatchingLemmas
 pub mod NeutralLemmas
 pub mod OpenMatches
-pub mod OpenStack
 pub mod OpenersStack
 pub mod OrderLemmas
 pub mod PairsLemmas
