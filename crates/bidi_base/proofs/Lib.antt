@@ -4,12 +4,14 @@ pub mod EmbeddingsLemmas
 pub mod ExplicitLemmas
 pub mod GivesLemmas
 pub mod InPlace
+pub mod IsolateWalk
 pub mod IsolatesLemmas
 pub mod LevelsLemmas
 pub mod MatchingLemmas
 pub mod OpenStack
 pub mod OrderLemmas
 pub mod PlacesLemmas
+pub mod StoredSteps
 pub mod StrLemmas
 pub mod TableLemmas
 pub mod TextLemmas
