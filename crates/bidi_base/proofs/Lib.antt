@@ -1,6 +1,7 @@
 pub mod BracketsLemmas
 pub mod ClassesLemmas
 pub mod EmbeddingsLemmas
+mod Examples
 pub mod ExplicitLemmas
 pub mod GivesLemmas
 pub mod InPlace
@@ -10,6 +11,9 @@ pub mod LevelsLemmas
 pub mod MatchingLemmas
 pub mod OpenStack
 pub mod OrderLemmas
+pub mod PerCharTests
+pub mod PerUnit
+pub mod PlaceLemmas
 pub mod PlacesLemmas
 pub mod StoredSteps
 pub mod StrLemmas

@@ -3,5 +3,5 @@ use Rattle.bidi_base.specs.declared.data_source.TableBidiData.{TableBidiData}
 use Rattle.bidi_base.specs.Source.{Source, table_source}
 
 -- the source that a table is
-abbrev pub source_of : TableBidiData → Source
+unfoldable pub source_of : TableBidiData → Source
 source_of table = table_source table.ranges.now table.brackets.now
