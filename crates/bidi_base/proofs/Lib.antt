@@ -11,10 +11,12 @@ pub mod LevelsLemmas
 pub mod MatchingLemmas
 pub mod OpenStack
 pub mod OrderLemmas
+pub mod ParagraphsLemmas
 pub mod PerCharTests
 pub mod PerUnit
 pub mod PlaceLemmas
 pub mod PlacesLemmas
+pub mod ReadingLemmas
 pub mod StoredSteps
 pub mod StrLemmas
 pub mod TableLemmas

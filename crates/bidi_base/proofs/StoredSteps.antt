@@ -8,6 +8,7 @@ use Rattle.bidi_base.specs.declared.char_data.BidiClass.{BidiClass}
 use Rattle.bidi_base.specs.declared.char_data.BidiClass.TheVariants.{L, R, AL, LRI, RLI, FSI, PDI}
 use Rattle.bidi_base.specs.Classes.{is_strong, is_initiator, is_pdi}
 use Rattle.bidi_base.specs.Places.{class_at}
+use Rattle.bidi_base.specs.Reading.{innermost, outer, opened_by, decided_by, is_fsi}
 use Rattle.bidi_base.specs.Isolates.{deciding_class, resolved_fsi, stored_classes}
 use Rattle.bidi_base.proofs.IsolateWalk.{Kind, opening, closing, neither, kind_of, opens_one, closes_one, depth_by, depth_after, depth_after-append, depth_after-deeper, is_zero, ends_by, has_end, has_end-append, deciding_from, deciding_class-from, resolving_from, stored_by, stored_from, stored_classes-from, strong_kind}
 
@@ -20,27 +21,18 @@ abbrev pub open_initiators : List BidiClass → List ℕ
 open_initiators [] = []
 open_initiators (c ∷ cs) = onto_later (opens_one (kind_of c) && not (has_end 0 cs)) (map suc (open_initiators cs))
 
--- the innermost one
-abbrev pub innermost : List ℕ → Option ℕ
-innermost [] = None
-innermost (q ∷ []) = Some q
-innermost (q ∷ r ∷ qs) = innermost (r ∷ qs)
+-- what stays open after one more character of a kind, which has index n
+abbrev opened_kind : Kind → ℕ → List ℕ → List ℕ
+opened_kind opening n under = under ++ n ∷ []
+opened_kind closing n under = outer under
+opened_kind neither n under = under
 
--- all but the innermost one
-abbrev pub outer : List ℕ → List ℕ
-outer [] = []
-outer (q ∷ []) = []
-outer (q ∷ r ∷ qs) = q ∷ outer (r ∷ qs)
-
--- what stays open after one more character, which has index n
-abbrev pub opened_by : Kind → ℕ → List ℕ → List ℕ
-opened_by opening n under = under ++ n ∷ []
-opened_by closing n under = outer under
-opened_by neither n under = under
-
-abbrev pub is_fsi : BidiClass → Bool
-is_fsi FSI = true
-is_fsi _ = false
+opened_by-kind : (c : BidiClass) (n : ℕ) (under : List ℕ) → opened_by c n under ≡ opened_kind (kind_of c) n under
+opened_by-kind LRI n under = refl
+opened_by-kind RLI n under = refl
+opened_by-kind FSI n under = refl
+opened_by-kind PDI n under = refl
+opened_by-kind _ n under = refl
 
 -- the stored classes, once the innermost open isolate has met the class c
 abbrev pub met_by : BidiClass → Option ℕ → List BidiClass → List BidiClass
@@ -89,17 +81,17 @@ has_end-push xs c = has_end-append 0 xs (c ∷ []) ∙ ap (λ (b : Bool). has_en
     or_false false = refl
 
 -- one more character
-pub open_initiators-push : (xs : List BidiClass) (c : BidiClass) → open_initiators (xs ++ c ∷ []) ≡ opened_by (kind_of c) (length xs) (open_initiators xs)
-open_initiators-push [] c = first (kind_of c)
+open_initiators-push_kind : (xs : List BidiClass) (c : BidiClass) → open_initiators (xs ++ c ∷ []) ≡ opened_kind (kind_of c) (length xs) (open_initiators xs)
+open_initiators-push_kind [] c = first (kind_of c)
   where
-    first : (k : Kind) → onto_later (opens_one k && true) [] ≡ opened_by k 0 []
+    first : (k : Kind) → onto_later (opens_one k && true) [] ≡ opened_kind k 0 []
     first opening = refl
     first closing = refl
     first neither = refl
-open_initiators-push (x ∷ xs) c =
+open_initiators-push_kind (x ∷ xs) c =
     ap (λ (b : Bool). onto_later (opens_one (kind_of x) && not b) (map suc (open_initiators (xs ++ c ∷ [])))) (has_end-push xs c)
-    ∙ ap (λ (qs : List ℕ). onto_later (opens_one (kind_of x) && not (has_end 0 xs || ends_by (kind_of c) (depth_after 0 xs))) (map suc qs)) (open_initiators-push xs c)
-    ∙ ap (λ (d : ℕ). onto_later (opens_one (kind_of x) && not (has_end 0 xs || ends_by (kind_of c) d)) (map suc (opened_by (kind_of c) (length xs) (open_initiators xs)))) (open_depth xs)
+    ∙ ap (λ (qs : List ℕ). onto_later (opens_one (kind_of x) && not (has_end 0 xs || ends_by (kind_of c) (depth_after 0 xs))) (map suc qs)) (open_initiators-push_kind xs c)
+    ∙ ap (λ (d : ℕ). onto_later (opens_one (kind_of x) && not (has_end 0 xs || ends_by (kind_of c) d)) (map suc (opened_kind (kind_of c) (length xs) (open_initiators xs)))) (open_depth xs)
     ∙ one (kind_of c) (opens_one (kind_of x)) (has_end 0 xs) (length xs) (open_initiators xs)
   where
     or_false : (b : Bool) → (b || false) ≡ b
@@ -135,10 +127,13 @@ open_initiators-push (x ∷ xs) c =
         some true = ap (λ (rs : List ℕ). 0 ∷ rs) (outer-map (q ∷ qs))
         some false = outer-map (q ∷ qs)
 
-    one : (k : Kind) (b e : Bool) (n : ℕ) (qs : List ℕ) → onto_later (b && not (e || ends_by k (length qs))) (map suc (opened_by k n qs)) ≡ opened_by k (suc n) (onto_later (b && not e) (map suc qs))
+    one : (k : Kind) (b e : Bool) (n : ℕ) (qs : List ℕ) → onto_later (b && not (e || ends_by k (length qs))) (map suc (opened_kind k n qs)) ≡ opened_kind k (suc n) (onto_later (b && not e) (map suc qs))
     one opening b e n qs = ap (λ (a : Bool). onto_later (b && not a) (map suc (qs ++ n ∷ []))) (or_false e) ∙ pushed (b && not e) n qs
     one closing b e n qs = popped b e qs
     one neither b e n qs = ap (λ (a : Bool). onto_later (b && not a) (map suc qs)) (or_false e)
+
+pub open_initiators-push : (xs : List BidiClass) (c : BidiClass) → open_initiators (xs ++ c ∷ []) ≡ opened_by c (length xs) (open_initiators xs)
+open_initiators-push xs c = open_initiators-push_kind xs c ∙ sym (opened_by-kind c (length xs) (open_initiators xs))
 
 -- ---- the deciding character
 
@@ -152,14 +147,23 @@ deciding_from-append d (x ∷ xs) ys =
     ap (λ (o : Option BidiClass). cond (is_strong x && is_zero d) (Some x) o) (deciding_from-append (depth_by (kind_of x) d) xs ys)
     ∙ option_or-cond (is_strong x && is_zero d) x (deciding_from (depth_by (kind_of x) d) xs) (deciding_from (depth_after (depth_by (kind_of x) d) xs) ys)
 
--- the character that decides, if none did before: a strong one that meets no open isolate
-abbrev pub decided_by : BidiClass → List ℕ → Option BidiClass
-decided_by c under = cond (is_strong c && is_empty under) (Some c) None
+decided_by-empty : (c : BidiClass) (under : List ℕ) → cond (is_strong c && is_empty under) (Some c) None ≡ decided_by c under
+decided_by-empty c [] = by_strength (is_strong c)
+  where
+    by_strength : (b : Bool) → cond (b && true) (Some c) None ≡ cond b (Some c) None
+    by_strength true = refl
+    by_strength false = refl
+decided_by-empty c (q ∷ under) = by_strength (is_strong c)
+  where
+    by_strength : (b : Bool) → cond (b && false) (Some c) None ≡ None
+    by_strength true = refl
+    by_strength false = refl
 
 pub deciding_class-push : (xs : List BidiClass) (c : BidiClass) → deciding_class (xs ++ c ∷ []) ≡ option_or (deciding_class xs) (decided_by c (open_initiators xs))
 deciding_class-push xs c =
     deciding_class-from (xs ++ c ∷ []) ∙ deciding_from-append 0 xs (c ∷ [])
     ∙ ap (λ (b : Bool). option_or (deciding_from 0 xs) (cond (is_strong c && b) (Some c) None)) (is_zero-depth xs)
+    ∙ ap (option_or (deciding_from 0 xs)) (decided_by-empty c (open_initiators xs))
     ∙ ap (λ (o : Option BidiClass). option_or o (decided_by c (open_initiators xs))) (sym (deciding_class-from xs))
 
 pub deciding_class-nil : deciding_class [] ≡ None
@@ -262,17 +266,14 @@ first_met FSI c xs stored zero_depth = elim (cases_Bool (has_end 0 xs)) [
     and_true false = refl
 first_met x c xs stored zero_depth = kept c stored (opens_one (kind_of x) && not (has_end 0 xs)) x refl
 
+innermost-map : {X Y : Type 0} (f : X → Y) (xs : List X) → innermost (map f xs) ≡ option_map f (innermost xs)
+innermost-map f [] = refl
+innermost-map f (x ∷ []) = refl
+innermost-map f (x ∷ y ∷ xs) = innermost-map f (y ∷ xs)
+
 innermost-later : (b : Bool) (q : ℕ) (qs : List ℕ) → innermost (onto_later b (map suc (q ∷ qs))) ≡ option_map suc (innermost (q ∷ qs))
-innermost-later true q qs = innermost-map q qs
-  where
-    innermost-map : (q : ℕ) (qs : List ℕ) → innermost (map suc (q ∷ qs)) ≡ option_map suc (innermost (q ∷ qs))
-    innermost-map q [] = refl
-    innermost-map q (r ∷ qs) = innermost-map r qs
-innermost-later false q qs = innermost-map q qs
-  where
-    innermost-map : (q : ℕ) (qs : List ℕ) → innermost (map suc (q ∷ qs)) ≡ option_map suc (innermost (q ∷ qs))
-    innermost-map q [] = refl
-    innermost-map q (r ∷ qs) = innermost-map r qs
+innermost-later true q qs = innermost-map suc (q ∷ qs)
+innermost-later false q qs = innermost-map suc (q ∷ qs)
 
 later_met : (c y : BidiClass) (o : Option ℕ) (stored : List BidiClass) → met_by c (option_map suc o) (y ∷ stored) ≡ y ∷ met_by c o stored
 later_met c y None stored = refl

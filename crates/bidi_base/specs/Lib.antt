@@ -15,6 +15,7 @@ pub mod Neutral
 pub mod Order
 pub mod Paragraphs
 pub mod Places
+pub mod Reading
 pub mod Sequences
 pub mod Source
 pub mod Stored
