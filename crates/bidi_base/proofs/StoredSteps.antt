@@ -1,8 +1,9 @@
 -- A paragraph that is read from the front, one character more: its stored classes (X5c), its deciding character (P2) and its open isolates. The rules at what was read so far are what a pass holds, since an isolate with no matching PDI ends at the end.
 use Rattle.std.proofs.Common.{◌≡◌, ℕ, zero, suc, ◌+◌, ◌-◌, ◌<◌, Bool, true, false, not, ◌&&◌, ◌||◌, cond, List, [], ◌∷◌, ◌++◌, length, get_or, set, take, map, Option, Some, None, option_map, refl, sym, ap, ◌∙◌, arith, ◌⊎◌, inl, inr}
-use Rattle.std.specs.Prelude.{slice_get}
+use Rattle.std.specs.Prelude.{All}
 use Rattle.std.specs.Option.{option_or}
-use Rattle.std.proofs.lemmas.List.{append-nil, length-map, map-append, take-map, length-append}
+use Rattle.std.proofs.lemmas.List.{append-nil, length-map, map-append, take-map, length-append, length-set}
+use Rattle.std.proofs.lemmas.List.Elements.{All-nil, All-cons, All-map}
 use Rattle.std.proofs.lemmas.Bool.{cases_Bool, cond-true, cond-false, and_right}
 use Rattle.bidi_base.specs.declared.char_data.BidiClass.{BidiClass}
 use Rattle.bidi_base.specs.declared.char_data.BidiClass.TheVariants.{L, R, AL, LRI, RLI, FSI, PDI}
@@ -266,7 +267,7 @@ first_met FSI c xs stored zero_depth = elim (cases_Bool (has_end 0 xs)) [
     and_true false = refl
 first_met x c xs stored zero_depth = kept c stored (opens_one (kind_of x) && not (has_end 0 xs)) x refl
 
-innermost-map : {X Y : Type 0} (f : X → Y) (xs : List X) → innermost (map f xs) ≡ option_map f (innermost xs)
+pub innermost-map : {X Y : Type 0} (f : X → Y) (xs : List X) → innermost (map f xs) ≡ option_map f (innermost xs)
 innermost-map f [] = refl
 innermost-map f (x ∷ []) = refl
 innermost-map f (x ∷ y ∷ xs) = innermost-map f (y ∷ xs)
@@ -321,3 +322,23 @@ length-stored_classes xs = ap length (stored_classes-from xs) ∙ same xs
     same : (xs : List BidiClass) → length (stored_from xs) ≡ length xs
     same [] = refl
     same (x ∷ xs) = ap suc (same xs)
+
+pub length-met_by : (c : BidiClass) (o : Option ℕ) (stored : List BidiClass) → length (met_by c o stored) ≡ length stored
+length-met_by c None stored = refl
+length-met_by c (Some q) stored = by_test (is_strong c && is_fsi (class_at stored q))
+  where
+    by_test : (b : Bool) → length (cond b (set stored q (resolved_fsi (Some c))) stored) ≡ length stored
+    by_test true = length-set stored q (resolved_fsi (Some c))
+    by_test false = refl
+
+-- open initiators are indexes of the characters
+pub open_initiators-below : (xs : List BidiClass) → All (λ (q : ℕ). q < length xs) (open_initiators xs)
+open_initiators-below [] = All-nil (λ (q : ℕ). q < 0)
+open_initiators-below (x ∷ xs) = first (opens_one (kind_of x) && not (has_end 0 xs)) (open_initiators-below xs)
+  where
+    later : All (λ (q : ℕ). q < length xs) (open_initiators xs) → All (λ (q : ℕ). q < suc (length xs)) (map suc (open_initiators xs))
+    later h = All-map (λ (q : ℕ). q < suc (length xs)) suc (open_initiators xs) (λ k d within. omega (arith, h k d within))
+
+    first : (b : Bool) → All (λ (q : ℕ). q < length xs) (open_initiators xs) → All (λ (q : ℕ). q < suc (length xs)) (onto_later b (map suc (open_initiators xs)))
+    first true h = All-cons (λ (q : ℕ). q < suc (length xs)) 0 (map suc (open_initiators xs)) (omega arith) (later h)
+    first false h = later h

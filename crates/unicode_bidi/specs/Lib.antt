@@ -1,1 +1,2 @@
+pub mod ParagraphFlags
 pub mod ParagraphInfo

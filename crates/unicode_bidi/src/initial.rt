@@ -1,12 +1,17 @@
 // One walk over a text: the class of each character, with each FSI resolved (X5c), and the
 // paragraphs (P1) with their levels (P2, P3).
-ghost use Rattle.std.specs.Prelude.{◌≡◌, ℕ, ◌+◌, ◌<◌, ◌≤◌, Bool, true, false, not, ◌&&◌, ◌||◌, [], ◌∷◌, ◌++◌, length, map, unwrap_or, OnOk, IfOk, All, None, Some, Option, MatchOption};
+ghost use Rattle.std.specs.Prelude.{◌≡◌, ℕ, ◌+◌, ◌<◌, ◌≤◌, Bool, true, false, not, ◌&&◌, ◌||◌, [], ◌∷◌, ◌++◌, length, map, replicate, unwrap_or, OnOk, IfOk, All, None, Some, Option, MatchOption};
 ghost use Rattle.std.specs.Option.{option_or};
 ghost use Rattle.std.specs.declared.ops.Range.{Range};
-ghost use Rattle.bidi_base.specs.Classes.{is_strong as is_strong_class, is_initiator as is_initiator_class, is_pdi as is_pdi_class};
+ghost use Rattle.bidi_base.specs.Classes.{is_strong as is_strong_class, is_initiator as is_initiator_class, is_pdi as is_pdi_class, is_paragraph_separator};
 ghost use Rattle.bidi_base.specs.Direction.{may_turn as may_turn_class};
 ghost use Rattle.bidi_base.specs.Isolates.{level_by, resolved_fsi};
 ghost use Rattle.bidi_base.specs.Reading.{innermost, opened_by, decided_by, resolved_units, met_units};
+ghost use Rattle.bidi_base.specs.Paragraphs.{pieces_of, ranges_from};
+ghost use Rattle.bidi_base.specs.Stored.{text_classes, paragraph_levels};
+ghost use Rattle.bidi_base.specs.Text.{per_unit};
+ghost use Rattle.unicode_bidi.specs.ParagraphInfo.{ranges_of, levels_of};
+ghost use Rattle.unicode_bidi.specs.ParagraphFlags.{paragraph_flags};
 
 use crate::paragraph_info::ParagraphInfo;
 use bidi_base::char_data::BidiClass;
@@ -32,6 +37,13 @@ fn is_pdi(class: BidiClass) -> bool
     ensures { result ≡ is_pdi_class class }
 {
     matches!(class, BidiClass::PDI)
+}
+
+// Whether a character ends its paragraph, in a text that is split.
+fn is_separator(class: BidiClass) -> bool
+    ensures { result ≡ is_paragraph_separator class }
+{
+    matches!(class, BidiClass::B)
 }
 
 // Whether a class can make a paragraph of level 0 other than left to right throughout.
@@ -161,4 +173,106 @@ impl Reading {
         }
         Ok(())
     }
+
+    // Begins the next paragraph.
+    fn restart(&mut self, start: usize)
+        ensures start { self.new.start ≡ start }
+        ensures open { self.new.open.items ≡ [] }
+        ensures deciding { self.new.deciding ≡ None }
+        ensures flags { self.new.flags ≡ record { is_pure_ltr = true; has_isolates = false } }
+    {
+        self.start = start;
+        self.open.clear();
+        self.deciding = None;
+        self.flags = ParagraphFlags {
+            is_pure_ltr: true,
+            has_isolates: false,
+        };
+    }
+}
+
+/// What one walk over a text finds out.
+#[derive(Drop)]
+pub(crate) struct Initial {
+    /// The stored class of each unit.
+    pub(crate) original_classes: Vec<BidiClass>,
+    /// The paragraphs, in order.
+    pub(crate) paragraphs: Vec<ParagraphInfo>,
+    /// One entry a paragraph.
+    pub(crate) flags: Vec<ParagraphFlags>,
+}
+
+impl Initial {
+    // Ends the paragraph that was read at a unit.
+    fn close(
+        &mut self,
+        reading: &Reading,
+        end: usize,
+        base: Option<Level>,
+    ) -> Result<(), AllocError>
+        requires { reading.now.start ≤ end }
+        ensures classes { self.new.original_classes.items ≡ self.old.original_classes.items }
+        ensures ranges { OnOk result (ranges_of self.new.paragraphs.items ≡ ranges_of self.old.paragraphs.items ++ (reading.now.start, end) ∷ []) }
+        ensures levels { OnOk result (levels_of self.new.paragraphs.items ≡ levels_of self.old.paragraphs.items ++ unwrap_or base (level_by reading.now.deciding) ∷ []) }
+        ensures flags { OnOk result (self.new.flags.items ≡ self.old.flags.items ++ reading.now.flags ∷ []) }
+    {
+        let level = base.unwrap_or(level_of_class(reading.deciding));
+        self.paragraphs
+            .push(ParagraphInfo::from_range(reading.start..end, level))?;
+        self.flags.push(reading.flags)?;
+        Ok(())
+    }
+}
+
+// Writes a character's class for each of its units.
+fn append(classes: &mut Vec<BidiClass>, class: BidiClass, count: usize) -> Result<(), AllocError>
+    ensures { OnOk result (classes.new.items ≡ classes.old.items ++ replicate count class) }
+{
+    for _i in 0..count {
+        classes.push(class)?;
+    }
+    Ok(())
+}
+
+/// The stored classes of a text, and its paragraphs with the levels that `base` or their characters
+/// give them. With `split` false the whole text is one paragraph, even an empty one. Any base level
+/// will do. One walk; memory is taken for the answer and for the isolates that are open at once.
+pub(crate) fn compute<D: BidiDataSource, T: TextSource>(
+    alloc: Global,
+    data_source: &D,
+    text: T,
+    base: Option<Level>,
+    split: bool,
+) -> Result<Initial, AllocError>
+    ensures classes { let pieces = pieces_of split (D.source data_source.now) (T.characters text) in
+        IfOk result (λ i. i.original_classes.items ≡ per_unit T.units (T.characters text) (text_classes (D.source data_source.now) pieces)) }
+    ensures ranges { let pieces = pieces_of split (D.source data_source.now) (T.characters text) in
+        IfOk result (λ i. ranges_of i.paragraphs.items ≡ ranges_from T.units 0 pieces) }
+    ensures levels { let pieces = pieces_of split (D.source data_source.now) (T.characters text) in
+        IfOk result (λ i. levels_of i.paragraphs.items ≡ paragraph_levels (D.source data_source.now) base pieces) }
+    ensures flags { let pieces = pieces_of split (D.source data_source.now) (T.characters text) in
+        IfOk result (λ i. i.flags.items ≡ paragraph_flags (D.source data_source.now) pieces) }
+{
+    let mut found = Initial {
+        original_classes: Vec::with_capacity(alloc, text.len())?,
+        paragraphs: Vec::new(alloc),
+        flags: Vec::new(alloc),
+    };
+    let mut reading = Reading::new(alloc);
+    for (at, c) in text.char_indices() {
+        let class = data_source.bidi_class(c);
+        let len = T::char_len(c);
+        let end = at + len;
+        reading.read(found.original_classes.as_mut_slice(), class, at..end)?;
+        append(&mut found.original_classes, class, len)?;
+        if split && is_separator(class) {
+            found.close(&reading, end, base)?;
+            reading.restart(end);
+        }
+    }
+    let end = text.len();
+    if !split || reading.start < end {
+        found.close(&reading, end, base)?;
+    }
+    Ok(found)
 }
