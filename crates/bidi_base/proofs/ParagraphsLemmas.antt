@@ -1,23 +1,32 @@
 -- Paragraphs (P1): a text that is cut while it is read, and what the pieces and their ranges are.
-use Rattle.std.proofs.Common.{◌≡◌, ℕ, suc, ◌+◌, ◌<◌, ◌≤◌, Bool, true, false, ◌&&◌, ◌||◌, cond, if◌then◌else◌, List, [], ◌∷◌, ◌++◌, length, take, drop, flat_map, refl, sym, ap, subst, ◌∙◌, append_assoc, arith, inl, inr, ◌⊎◌, length-append}
+use Rattle.std.proofs.Common.{◌≡◌, ℕ, suc, ◌+◌, ◌<◌, ◌≤◌, Bool, true, false, ◌&&◌, ◌||◌, cond, if◌then◌else◌, List, [], ◌∷◌, ◌++◌, length, take, drop, map, flat_map, refl, sym, ap, subst, ◌∙◌, append_assoc, arith, inl, inr, ◌⊎◌, length-append}
 use Rattle.std.specs.Prelude.{All, IsTrue, ⊤}
 use Rattle.std.specs.List.{onto_first}
-use Rattle.std.proofs.lemmas.List.{append-nil}
+use Rattle.std.proofs.lemmas.List.{append-nil, length-map}
 use Rattle.std.proofs.lemmas.List.Concat.{flat_map-append}
 use Rattle.std.proofs.lemmas.List.Elements.{All-nil, All-cons, All-head, All-tail, All-push, All-append, All-map}
 use Rattle.std.proofs.lemmas.List.Sums.{sum_by-append, sum_by-cons}
 use Rattle.std.proofs.lemmas.Bool.{cases_Bool, cond-true, cond-false}
 use Rattle.bidi_base.specs.Classes.{is_paragraph_separator}
+use Rattle.bidi_base.specs.Isolates.{stored_classes}
 use Rattle.bidi_base.specs.Source.{Source}
+use Rattle.bidi_base.specs.Stored.{text_classes}
 use Rattle.bidi_base.specs.Text.{text_len, is_boundary, subrange, IsLine}
 use Rattle.bidi_base.specs.Paragraphs.{cut_after, each_separator, paragraphs_of, pieces_of, ranges_from, IsPartition, AllButLast, ends_with_separator, has_inner_separator, AreParagraphRanges}
 use Rattle.bidi_base.proofs.TextLemmas.{HasUnits, subrange-middle, is_boundary-append, length-le-text_len}
+use Rattle.bidi_base.proofs.StoredSteps.{length-stored_classes}
 
 -- ---- a text that is read from the front and cut after each character that stops
 
 -- all that some pieces hold
 abbrev pub joined : List (List ℕ) → List ℕ
 joined pieces = flat_map (λ piece. piece) pieces
+
+pub length-text_classes : (source : Source) (pieces : List (List ℕ)) → length (text_classes source pieces) ≡ length (joined pieces)
+unfolding text_classes
+length-text_classes source [] = refl
+length-text_classes source (p ∷ pieces) =
+    omega (arith, length-append (stored_classes (map source.class_of p)) (text_classes source pieces), length-append p (joined pieces), length-text_classes source pieces, length-stored_classes (map source.class_of p), length-map p source.class_of)
 
 module _ (stops : ℕ → Bool) where
   abbrev pub pieces_by : List ℕ → List (List ℕ)
@@ -230,3 +239,10 @@ paragraphs-AreParagraphRanges source len_of units chars =
   where
     zero_plus : (n : ℕ) → 0 + n ≡ n
     zero_plus n = omega arith
+
+pub paragraphs-joined : (source : Source) (chars : List ℕ) → joined (paragraphs_of (each_separator source) chars) ≡ chars
+paragraphs-joined source chars = pieces_by-joined (λ (c : ℕ). is_paragraph_separator (source.class_of c)) chars
+
+-- the stored classes of a text are one a character
+pub length-paragraph_classes : (source : Source) (chars : List ℕ) → length (text_classes source (paragraphs_of (each_separator source) chars)) ≡ length chars
+length-paragraph_classes source chars = length-text_classes source (paragraphs_of (each_separator source) chars) ∙ ap length (paragraphs-joined source chars)

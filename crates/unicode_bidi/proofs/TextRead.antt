@@ -22,7 +22,7 @@ use Rattle.bidi_base.specs.Text.{place, text_len, per_unit}
 use Rattle.bidi_base.proofs.TextLemmas.{HasUnits}
 use Rattle.bidi_base.proofs.PerUnit.{per_unit-push, length-per_unit}
 use Rattle.bidi_base.proofs.PlaceLemmas.{place-lt, place-mono}
-use Rattle.bidi_base.proofs.ParagraphsLemmas.{joined, IsCut, IsCut-start, IsCut-more, IsCut-stop, IsCut-last, IsCut-none, ranges_from-push}
+use Rattle.bidi_base.proofs.ParagraphsLemmas.{joined, length-text_classes, IsCut, IsCut-start, IsCut-more, IsCut-stop, IsCut-last, IsCut-none, ranges_from-push}
 use Rattle.bidi_base.proofs.ReadingLemmas.{char_units, char_units-take, met_units-char, innermost-All, opened_by-map, decided_by-map}
 use Rattle.bidi_base.proofs.StoredSteps.{open_initiators, open_initiators-push, met_by, innermost-map, stored_classes-push, stored_classes-nil, length-stored_classes, length-met_by, open_initiators-below, deciding_class-push, deciding_class-nil}
 use Rattle.unicode_bidi.specs.declared.initial.Initial.{Initial}
@@ -90,12 +90,6 @@ module _ (source : Source) (len_of : ℕ → ℕ) (chars : List ℕ) where
 
   joined-push : (done : List (List ℕ)) (p : List ℕ) → joined (done ++ p ∷ []) ≡ joined done ++ p
   joined-push done p = flat_map-append (λ (piece : List ℕ). piece) done (p ∷ []) ∙ ap (λ (cs : List ℕ). joined done ++ cs) (append-nil p)
-
-  length-text_classes : (done : List (List ℕ)) → length (text_classes source done) ≡ length (joined done)
-  unfolding text_classes
-  length-text_classes [] = refl
-  length-text_classes (p ∷ done) =
-      omega (arith, length-append (stored_classes (classes_of p)) (text_classes source done), length-append p (joined done), length-text_classes done, length-stored_classes (classes_of p), length-map p source.class_of)
 
   -- ---- the start
 
@@ -193,7 +187,7 @@ module _ (source : Source) (len_of : ℕ → ℕ) (chars : List ℕ) where
     classes_long =
         ap length h.classes
         ∙ length-per_unit len_of (take n chars) (text_classes source done ++ stored_classes (classes_of current))
-        (omega (arith, length-append (text_classes source done) (stored_classes (classes_of current)), length-text_classes done, length-stored_classes (classes_of current), length-map current source.class_of, long, length-take n chars))
+        (omega (arith, length-append (text_classes source done) (stored_classes (classes_of current)), length-text_classes source done, length-stored_classes (classes_of current), length-map current source.class_of, long, length-take n chars))
 
     -- the open initiators stand among them
     pub open_within : All (λ (r : Range ℕ). (r.start < r.end) × (r.end ≤ length found.original_classes.items)) reading.open.items
@@ -223,9 +217,9 @@ module _ (source : Source) (len_of : ℕ → ℕ) (chars : List ℕ) where
           let index : length (joined done) + q < n = omega (arith, long, length-map current source.class_of) in
           ap (met_units class (Some (units_after done q))) h.classes
           ∙ ap (λ (r : Range ℕ). met_units class (Some r) (per_unit len_of (take n chars) (text_classes source done ++ stored_classes (classes_of current))))
-          (sym (char_units-take len_of chars n (length (joined done) + q) index) ∙ ap (λ (m : ℕ). char_units len_of (take n chars) (m + q)) (sym (length-text_classes done)))
+          (sym (char_units-take len_of chars n (length (joined done) + q) index) ∙ ap (λ (m : ℕ). char_units len_of (take n chars) (m + q)) (sym (length-text_classes source done)))
           ∙ met_units-char len_of units (take n chars) (text_classes source done) (stored_classes (classes_of current)) class q
-          (omega (arith, length-text_classes done, length-stored_classes (classes_of current), length-map current source.class_of, long, length-take n chars)) (omega (arith, below, length-stored_classes (classes_of current)))
+          (omega (arith, length-text_classes source done, length-stored_classes (classes_of current), length-map current source.class_of, long, length-take n chars)) (omega (arith, below, length-stored_classes (classes_of current)))
 
       pub IsTextRead-more : (changed : List BidiClass) (range : Range ℕ) (longer : Initial) (after : Reading) → range ≡ char_units len_of chars n → changed ≡ met_units class (innermost reading.open.items) found.original_classes.items
           → longer.original_classes.items ≡ changed ++ replicate (len_of c) class → longer.paragraphs.items ≡ found.paragraphs.items → longer.flags.items ≡ found.flags.items
@@ -255,7 +249,7 @@ module _ (source : Source) (len_of : ℕ → ℕ) (chars : List ℕ) where
         where
           values_long : length (text_classes source done ++ met_by class (innermost (open_initiators (classes_of current))) (stored_classes (classes_of current))) ≡ length (take n chars)
           values_long =
-              omega (arith, length-append (text_classes source done) (met_by class (innermost (open_initiators (classes_of current))) (stored_classes (classes_of current))), length-text_classes done, length-met_by class (innermost (open_initiators (classes_of current))) (stored_classes (classes_of current)), length-stored_classes (classes_of current), length-map current source.class_of, long, length-take n chars)
+              omega (arith, length-append (text_classes source done) (met_by class (innermost (open_initiators (classes_of current))) (stored_classes (classes_of current))), length-text_classes source done, length-met_by class (innermost (open_initiators (classes_of current))) (stored_classes (classes_of current)), length-stored_classes (classes_of current), length-map current source.class_of, long, length-take n chars)
 
           last : n ≡ length (joined done) + length (classes_of current)
           last = omega (arith, long, length-map current source.class_of)

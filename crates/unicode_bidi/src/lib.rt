@@ -3,6 +3,7 @@
 
 mod info;
 mod initial;
+mod initial_info;
 mod paragraph_info;
 mod visual;
 
@@ -12,4 +13,5 @@ pub use bidi_base::level::{LTR_LEVEL, Level, RTL_LEVEL};
 pub use bidi_base::text::{TextSource, Utf8IndexLenIter};
 pub use bidi_base::{char_data, data_source, format_chars, level, sample, text};
 pub use info::BidiInfo;
+pub use initial_info::InitialInfo;
 pub use paragraph_info::ParagraphInfo;
