@@ -8,6 +8,7 @@ mod Examples
 pub mod ExplicitLemmas
 pub mod GivesLemmas
 pub mod InPlace
+pub mod IsolateWalk
 pub mod IsolatesLemmas
 pub mod LevelsLemmas
 pub mod MatchingLemmas
@@ -17,6 +18,7 @@ pub mod OpenersStack
 pub mod OrderLemmas
 pub mod PairsLemmas
 pub mod PassLemmas
+pub mod ParagraphsLemmas
 pub mod PerCharTests
 pub mod PerUnit
 pub mod PermutationLemmas
@@ -27,6 +29,8 @@ pub mod RunsLemmas
 pub mod SequencesLemmas
 pub mod StatusBounds
 pub mod StatusMachine
+pub mod ReadingLemmas
+pub mod StoredSteps
 pub mod StrLemmas
 pub mod SuccessorLemmas
 pub mod TableLemmas

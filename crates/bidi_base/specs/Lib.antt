@@ -17,6 +17,7 @@ pub mod Order
 pub mod Paragraphs
 pub mod Places
 pub mod SequencePass
+pub mod Reading
 pub mod Sequences
 pub mod Source
 pub mod StatusMachine
