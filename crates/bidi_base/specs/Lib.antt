@@ -16,8 +16,8 @@ pub mod Openers
 pub mod Order
 pub mod Paragraphs
 pub mod Places
-pub mod SequencePass
 pub mod Reading
+pub mod SequencePass
 pub mod Sequences
 pub mod Source
 pub mod StatusMachine
