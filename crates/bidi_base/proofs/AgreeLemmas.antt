@@ -8,7 +8,9 @@ use Rattle.bidi_base.specs.Classes.{is_initiator}
 use Rattle.bidi_base.specs.Levels.{direction_of}
 use Rattle.bidi_base.specs.Places.{class_at, chain, last_or}
 use Rattle.bidi_base.specs.Isolates.{matching_pdi}
-use Rattle.bidi_base.specs.Sequences.{RunSequence, is_kept_at, kept_places, next_kept, kept_before, level_at, level_or, have_one_level, resumed_at, successor, is_first, start_class, end_class, sequence_from, sequences, begins_run, run_starts}
+use Rattle.bidi_base.specs.Sequences.{RunSequence, is_kept_at, kept_places, next_kept, kept_before, level_at, level_or, have_one_level, resumed_at, successor, is_first, start_class, end_class, sequence_from, sequences, HasExplicitLevels, begins_run, run_starts}
+use Rattle.bidi_base.specs.Explicit.{explicit_level, explicit_levels}
+use Rattle.std.proofs.lemmas.List.FromFn.{get_or-map-range_with_len}
 use Rattle.bidi_base.proofs.PlacesLemmas.{IsLeast, IsGreatest}
 use Rattle.bidi_base.proofs.ChainLemmas.{filter_range-agree, chain-None, IsMaximal, IsMaximal-chain}
 use Rattle.bidi_base.proofs.SuccessorLemmas.{next_kept-IsLeast, kept_before-IsGreatest, IsLaterKept, successor-IsLaterKept, is_kept-pdi}
@@ -136,3 +138,10 @@ unfolding run_starts
 run_starts-agree [] levels other agree = refl
 run_starts-agree (c ∷ classes) levels other agree =
     ap {B = List ℕ} (λ xs. 0 ∷ xs) (filter_range-agree (begins_run (c ∷ classes) levels) (begins_run (c ∷ classes) other) 0 (length (c ∷ classes)) (λ k from below. begins_run-agree (c ∷ classes) levels other agree k (omega arith)))
+
+-- with the explicit levels at kept characters, the sequences are those of all explicit levels
+pub sequences-explicit_levels : (paragraph : ℕ) (classes : List BidiClass) (levels : List ℕ) → HasExplicitLevels paragraph classes levels → sequences paragraph classes levels ≡ sequences paragraph classes (explicit_levels paragraph classes)
+unfolding explicit_levels
+sequences-explicit_levels paragraph classes levels h =
+    sequences-agree classes levels (explicit_levels paragraph classes)
+    (λ p kept within. h.at_kept p within kept ∙ sym (get_or-map-range_with_len (explicit_level paragraph classes) 0 (length classes) p p 0 within (omega arith))) paragraph

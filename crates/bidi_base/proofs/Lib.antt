@@ -2,6 +2,7 @@ pub mod AgreeLemmas
 pub mod BracketsLemmas
 pub mod ChainLemmas
 pub mod ClassesLemmas
+pub mod ContextLemmas
 pub mod EmbeddingsLemmas
 mod Examples
 pub mod ExplicitLemmas
@@ -10,9 +11,11 @@ pub mod InPlace
 pub mod IsolatesLemmas
 pub mod LevelsLemmas
 pub mod MatchingLemmas
+pub mod NeutralLemmas
 pub mod OpenMatches
 pub mod OpenersStack
 pub mod OrderLemmas
+pub mod PairsLemmas
 pub mod PassLemmas
 pub mod PerCharTests
 pub mod PerUnit
@@ -31,3 +34,4 @@ pub mod TextLemmas
 pub mod UnitsLemmas
 pub mod VisualOrderLemmas
 pub mod WaitingLemmas
+pub mod WeakLemmas

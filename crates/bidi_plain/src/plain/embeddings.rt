@@ -1,10 +1,10 @@
 //! Explicit levels and overrides over a list (X1 to X8).
 
-ghost use Rattle.std.specs.Prelude.{◌≡◌, ◌+◌, ◌≤◌, ◌||◌, if◌then◌else◌, [], length, reverse, count_by, unwrap_or, IfOk, OnErr};
+ghost use Rattle.std.specs.Prelude.{◌≡◌, ◌≤◌, ◌||◌, if◌then◌else◌, [], length, reverse, unwrap_or, IfOk};
 ghost use Rattle.std.specs.Result.{OkIff};
-ghost use Rattle.bidi_base.specs.Classes.{is_initiator, is_paragraph_separator, is_removed};
+ghost use Rattle.bidi_base.specs.Classes.{is_paragraph_separator, is_removed};
 ghost use Rattle.bidi_base.specs.Explicit.{asked_level, override_of, status_inside, explicit_levels, explicit_classes};
-ghost use Rattle.bidi_base.specs.Openers.{outside_isolate, outside_embedding, left_open, then_open};
+ghost use Rattle.bidi_base.specs.Openers.{outside_isolate, left_open, then_open};
 
 use super::kinds::{is_embedding, is_initiator, is_removed};
 use bidi_base::char_data::{BidiClass, is_rtl};
@@ -224,6 +224,7 @@ pub fn explicit_levels(
     requires { para_level ≤ 125 }
     ensures levels { IfOk result (λ e. e.levels ≡ explicit_levels para_level classes.now) }
     ensures classes { IfOk result (λ e. e.classes ≡ explicit_classes para_level classes.now) }
+    ensures lengths { IfOk result (λ e. (length e.levels ≡ length classes.now) × (length e.classes ≡ length classes.now)) }
 {
     let mut openers = Openers::new(alloc);
     let mut levels = Vec::with_capacity(alloc, classes.len())?;

@@ -2,7 +2,7 @@ use Rattle.std.proofs.Common.{◌≡◌, is_some, Bool, true, false, map, string
 use Rattle.std.specs.List.{list_all}
 use Rattle.bidi_show.specs.Numbers.{level_of}
 use Rattle.bidi_show.proofs.ListsLemmas.{list_all-map}
-use Rattle.bidi_show.proofs.number.LevelWords.new.Goals as goal
+use Rattle.bidi_show.proofs.number.LevelWords.parse.Goals as goal
 
 pub returns-then-are_levels : goal.returns-then-are_levels
 returns-then-are_levels c =

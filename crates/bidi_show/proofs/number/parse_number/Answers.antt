@@ -1,6 +1,6 @@
 use Rattle.std.proofs.Common.{◌∙◌, sym}
 use Rattle.bidi_show.proofs.NumbersLemmas.{parse_short}
-use Rattle.bidi_show.proofs.number.number_of.Goals as goal
+use Rattle.bidi_show.proofs.number.parse_number.Goals as goal
 
 pub returns-then-is_digits : goal.returns-then-is_digits
 returns-then-is_digits c =
