@@ -1,0 +1,200 @@
+//! Rows of bracket pairs, neutrals and implicit levels over lists.
+
+use bidi_base::char_data::BidiClass::{AN, EN, L, NSM, ON, R};
+use bidi_base::data_source::BidiMatchedOpeningBracket;
+use bidi_base::level::Level;
+use bidi_plain::plain::{implicit, neutral, pairs};
+use std::test::Fail;
+
+fn open(opening: char) -> Option<BidiMatchedOpeningBracket> {
+    Some(BidiMatchedOpeningBracket {
+        opening,
+        is_open: true,
+    })
+}
+
+fn close(opening: char) -> Option<BidiMatchedOpeningBracket> {
+    Some(BidiMatchedOpeningBracket {
+        opening,
+        is_open: false,
+    })
+}
+
+#[test]
+fn crossed_brackets(rt: HostRuntime) -> Result<(), Fail> {
+    let found = pairs(
+        rt.alloc(),
+        &[ON; 4],
+        &[open('('), open('['), close('('), close('[')],
+    )?;
+    assert_eq!(rt; found.as_slice(), [(0, 2)].as_slice());
+    Ok(())
+}
+
+#[test]
+fn nearest_opening(rt: HostRuntime) -> Result<(), Fail> {
+    let found = pairs(rt.alloc(), &[ON; 3], &[open('('), open('('), close('(')])?;
+    assert_eq!(rt; found.as_slice(), [(1, 2)].as_slice());
+    Ok(())
+}
+
+#[test]
+fn order_of_openings(rt: HostRuntime) -> Result<(), Fail> {
+    let found = pairs(
+        rt.alloc(),
+        &[ON; 4],
+        &[open('('), open('['), close('['), close('(')],
+    )?;
+    assert_eq!(rt; found.as_slice(), [(0, 3), (1, 2)].as_slice());
+    Ok(())
+}
+
+#[test]
+fn class_that_is_no_other_neutral(rt: HostRuntime) -> Result<(), Fail> {
+    let found = pairs(rt.alloc(), &[R, ON], &[open('('), close('(')])?;
+    assert!(rt; found.is_empty());
+    Ok(())
+}
+
+#[test]
+fn closing_without_opening(rt: HostRuntime) -> Result<(), Fail> {
+    let found = pairs(rt.alloc(), &[ON; 3], &[open('['), close('('), close('[')])?;
+    assert_eq!(rt; found.as_slice(), [(0, 2)].as_slice());
+    Ok(())
+}
+
+#[test]
+fn sixty_three_openings(rt: HostRuntime) -> Result<(), Fail> {
+    let mut brackets = [open('{'); 66];
+    brackets[0] = open('(');
+    brackets[1] = close('(');
+    brackets[65] = close('{');
+    let found = pairs(rt.alloc(), &[ON; 66], &brackets)?;
+    assert_eq!(rt; found.as_slice(), [(0, 1), (64, 65)].as_slice());
+    Ok(())
+}
+
+#[test]
+fn sixty_four_openings(rt: HostRuntime) -> Result<(), Fail> {
+    let mut brackets = [open('{'); 67];
+    brackets[0] = open('(');
+    brackets[1] = close('(');
+    brackets[66] = close('{');
+    let found = pairs(rt.alloc(), &[ON; 67], &brackets)?;
+    assert_eq!(rt; found.as_slice(), [(0, 1)].as_slice());
+    Ok(())
+}
+
+#[test]
+fn marks_after_a_bracket(rt: HostRuntime) -> Result<(), Fail> {
+    let brackets = [None, open('('), None, close('('), None];
+    let after_r = neutral(
+        rt.alloc(),
+        Level::ltr(),
+        L,
+        L,
+        &[R, ON, R, ON, NSM],
+        &brackets,
+        &[R, ON, R, ON, ON],
+    )?;
+    assert_eq!(rt; after_r.as_slice(), [R, R, R, R, R].as_slice());
+    let after_l = neutral(
+        rt.alloc(),
+        Level::ltr(),
+        L,
+        L,
+        &[L, ON, R, ON, NSM],
+        &brackets,
+        &[L, ON, R, ON, ON],
+    )?;
+    assert_eq!(rt; after_l.as_slice(), [L, L, R, L, L].as_slice());
+    Ok(())
+}
+
+#[test]
+fn context_at_the_start(rt: HostRuntime) -> Result<(), Fail> {
+    let brackets = [open('('), None, close('(')];
+    let answer = neutral(
+        rt.alloc(),
+        Level::ltr(),
+        R,
+        L,
+        &[ON, R, ON],
+        &brackets,
+        &[ON, R, ON],
+    )?;
+    assert_eq!(rt; answer.as_slice(), [R, R, R].as_slice());
+    Ok(())
+}
+
+#[test]
+fn number_as_context(rt: HostRuntime) -> Result<(), Fail> {
+    let brackets = [None, open('('), None, close('(')];
+    let classes = [AN, ON, R, ON];
+    let answer = neutral(
+        rt.alloc(),
+        Level::ltr(),
+        L,
+        L,
+        &classes,
+        &brackets,
+        &classes,
+    )?;
+    assert_eq!(rt; answer.as_slice(), [AN, R, R, R].as_slice());
+    Ok(())
+}
+
+#[test]
+fn embedding_direction_first(rt: HostRuntime) -> Result<(), Fail> {
+    let brackets = [None, open('('), None, None, close('(')];
+    let classes = [R, ON, R, L, ON];
+    let answer = neutral(
+        rt.alloc(),
+        Level::ltr(),
+        L,
+        L,
+        &classes,
+        &brackets,
+        &classes,
+    )?;
+    assert_eq!(rt; answer.as_slice(), [R, L, R, L, L].as_slice());
+    Ok(())
+}
+
+#[test]
+fn number_beside_neutrals(rt: HostRuntime) -> Result<(), Fail> {
+    let brackets = [None; 3];
+    let classes = [R, ON, AN];
+    let answer = neutral(
+        rt.alloc(),
+        Level::ltr(),
+        L,
+        L,
+        &classes,
+        &brackets,
+        &classes,
+    )?;
+    assert_eq!(rt; answer.as_slice(), [R, R, AN].as_slice());
+    Ok(())
+}
+
+#[test]
+fn implicit_levels(rt: HostRuntime) -> Result<(), Fail> {
+    let classes = [L, R, AN, EN];
+    let even = implicit(rt.alloc(), Level::ltr(), &classes)?;
+    assert_eq!(rt;
+        even.as_slice(),
+        Level::vec(rt.alloc(), &[0, 1, 2, 2])?.as_slice()
+    );
+    let odd = implicit(rt.alloc(), Level::rtl(), &classes)?;
+    assert_eq!(rt;
+        odd.as_slice(),
+        Level::vec(rt.alloc(), &[2, 1, 2, 2])?.as_slice()
+    );
+    let deepest = implicit(rt.alloc(), Level::new(125)?, &classes)?;
+    assert_eq!(rt;
+        deepest.as_slice(),
+        Level::vec(rt.alloc(), &[126, 125, 126, 126])?.as_slice()
+    );
+    Ok(())
+}
