@@ -1,0 +1,3 @@
+mod ListsLemmas
+mod NumbersLemmas
+mod TextsLemmas

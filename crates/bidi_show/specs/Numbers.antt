@@ -1,0 +1,19 @@
+-- The numbers that words write.
+use Rattle.std.specs.Prelude.{ℕ, nat_le, ◌&&◌, if◌then◌else◌, List, length, Option, Some, None, is_some, filter_map}
+use Rattle.std.specs.List.{list_all}
+use Rattle.std.specs.Option.{option_and_then}
+use Rattle.std.specs.Char.{is_ascii_digit}
+use Rattle.std.specs.Str.Parse.{digits_value}
+
+-- the number that a word of one to three digits writes
+abbrev pub number_of : List ℕ → Option ℕ
+number_of word =
+    if nat_le 1 (length word) && nat_le (length word) 3 && list_all is_ascii_digit word then Some (digits_value 10 word) else None
+
+-- the level that a word writes: a number of at most 126
+abbrev pub level_of : List ℕ → Option ℕ
+level_of word = option_and_then (λ number. if nat_le number 126 then Some number else None) (number_of word)
+
+-- the levels that words write, where each of them writes one
+abbrev pub levels_of : List (List ℕ) → Option (List ℕ)
+levels_of words = if list_all (λ word. is_some (level_of word)) words then Some (filter_map level_of words) else None

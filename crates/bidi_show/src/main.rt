@@ -1,0 +1,49 @@
+//! Shows what the bidirectional algorithm makes of levels: `bidi_show map <level>..`.
+#![tactic(auto)]
+
+ghost use Rattle.std.specs.Prelude.{◌≡◌, IfErr};
+ghost use Rattle.bidi_show.specs.declared.fault.ShowFault.TheVariants.{Device};
+
+mod command;
+mod ends;
+mod failure_count;
+mod fault;
+mod number;
+mod run;
+mod streams;
+#[cfg(test)]
+mod tests;
+
+use fault::ShowFault;
+use run::run_over_streams;
+use std::process::ExitCode;
+use std::rt::Env;
+use std::{env, io};
+
+// The words after the program's name.
+fn arguments(rt: &(impl Env + AllocGlobal)) -> Result<Vec<String>, ShowFault>
+    ensures { IfErr result (λ fault. fault ≡ Device) }
+{
+    let Ok(words) = env::args(rt) else {
+        return Err(ShowFault::Device);
+    };
+    words
+        .skip(1)
+        .collect(rt.alloc())
+        .map_err(|_| ShowFault::Device)
+}
+
+fn serve(rt: &(impl Env + Input + Print + AllocGlobal)) -> Result<(), ShowFault> {
+    let words = arguments(rt)?;
+    run_over_streams(rt.alloc(), words.as_slice(), rt.reader(), io::writer(rt))
+}
+
+fn main(rt: HostRuntime) -> ExitCode {
+    match serve(&rt) {
+        Ok(()) => ExitCode::SUCCESS,
+        Err(fault) => {
+            let _ = eprintln!(rt; "bidi_show: {fault}");
+            ExitCode::from(fault.status())
+        }
+    }
+}
