@@ -1,9 +1,16 @@
-//! Rows of bracket pairs, neutrals and implicit levels over lists.
+//! `plain::pairs`, `plain::neutral` and `plain::implicit`, alone and one after the other.
 
-use bidi_base::char_data::BidiClass::{AN, EN, L, NSM, ON, R};
-use bidi_base::data_source::BidiMatchedOpeningBracket;
+ghost use Rattle.std.specs.Prelude.{◌≡◌, ◌≤◌, length, IsTrue};
+ghost use Rattle.std.specs.List.{list_all};
+ghost use Rattle.bidi_base.specs.Classes.{is_kept, is_l_or_r};
+
+use bidi_base::char_data::BidiClass::{self, AL, AN, CS, EN, ES, ET, L, NSM, ON, R};
+use bidi_base::data_source::{BidiDataSource, BidiMatchedOpeningBracket, TableBidiData};
 use bidi_base::level::Level;
-use bidi_plain::plain::{implicit, neutral, pairs};
+use bidi_base::sample;
+use bidi_plain::plain::{implicit, neutral, pairs, weak};
+use std::alloc::{AllocError, Global};
+use std::process::Abort;
 use std::test::Fail;
 
 fn open(opening: char) -> Option<BidiMatchedOpeningBracket> {
@@ -60,6 +67,22 @@ fn class_that_is_no_other_neutral(rt: HostRuntime) -> Result<(), Fail> {
 fn closing_without_opening(rt: HostRuntime) -> Result<(), Fail> {
     let found = pairs(rt.alloc(), &[ON; 3], &[open('['), close('('), close('[')])?;
     assert_eq!(rt; found.as_slice(), [(0, 2)].as_slice());
+    Ok(())
+}
+
+#[test]
+fn canonical_equivalents(rt: HostRuntime) -> Result<(), Fail> {
+    let Ok(source) = TableBidiData::new(&sample::RANGES, &sample::BRACKETS) else {
+        return Err(Fail::from("the sample is faultless"));
+    };
+    for (opening, closing) in [('\u{2329}', '\u{3009}'), ('\u{3008}', '\u{232A}')] {
+        let brackets = [
+            source.bidi_matched_opening_bracket(opening),
+            source.bidi_matched_opening_bracket(closing),
+        ];
+        let found = pairs(rt.alloc(), &[ON; 2], &brackets)?;
+        assert_eq!(rt; found.as_slice(), [(0, 1)].as_slice());
+    }
     Ok(())
 }
 
@@ -197,4 +220,69 @@ fn implicit_levels(rt: HostRuntime) -> Result<(), Fail> {
         Level::vec(rt.alloc(), &[126, 125, 126, 126])?.as_slice()
     );
     Ok(())
+}
+
+/// The levels of a sequence with one class at both its edges.
+fn levels(
+    alloc: Global,
+    level: Level,
+    edge: BidiClass,
+    classes: &[BidiClass],
+    brackets: &[Option<BidiMatchedOpeningBracket>],
+) -> Result<Vec<Level>, AllocError>
+    requires level { level ≤ 125 }
+    requires edge { IsTrue (is_l_or_r edge) }
+    requires lengths { length brackets.now ≡ length classes.now }
+    requires kept { IsTrue (list_all is_kept classes.now) }
+{
+    let resolved = weak(alloc, edge, classes)?;
+    let directed = neutral(alloc, level, edge, edge, classes, brackets, resolved.as_slice())?;
+    implicit(alloc, level, directed.as_slice())
+}
+
+fn check(
+    rt: &(impl AllocGlobal + Abort),
+    level: Level,
+    edge: BidiClass,
+    classes: &[BidiClass],
+    brackets: &[Option<BidiMatchedOpeningBracket>],
+    expected: &[u8],
+) -> Result<(), Fail>
+    requires level { level ≤ 125 }
+    requires edge { IsTrue (is_l_or_r edge) }
+    requires lengths { length brackets.now ≡ length classes.now }
+    requires kept { IsTrue (list_all is_kept classes.now) }
+{
+    let answer = levels(rt.alloc(), level, edge, classes, brackets)?;
+    assert_eq!(rt; answer.as_slice(), Level::vec(rt.alloc(), expected)?.as_slice());
+    Ok(())
+}
+
+#[test]
+fn numbers_in_right_to_left_text(rt: HostRuntime) -> Result<(), Fail> {
+    check(&rt, Level::rtl(), R, &[AL, EN, CS, EN], &[None; 4], &[1, 2, 2, 2])?;
+    let classes = [R, ET, EN, ES, EN, ET, CS, EN];
+    check(&rt, Level::rtl(), R, &classes, &[None; 8], &[1, 2, 2, 2, 2, 2, 1, 2])
+}
+
+#[test]
+fn nearest_strong_class_before_a_number(rt: HostRuntime) -> Result<(), Fail> {
+    check(&rt, Level::ltr(), L, &[AL, R, ET, EN], &[None; 4], &[1, 1, 2, 2])
+}
+
+#[test]
+fn brackets_in_left_to_right_text(rt: HostRuntime) -> Result<(), Fail> {
+    let number_before = [None, open('('), None, close('(')];
+    check(&rt, Level::ltr(), L, &[AN, ON, R, ON], &number_before, &[2, 1, 1, 1])?;
+    let both_inside = [None, open('('), None, None, close('(')];
+    check(&rt, Level::ltr(), L, &[R, ON, R, L, ON], &both_inside, &[1, 0, 1, 0, 0])?;
+    let closing_alone = [None, open('['), close('('), None, close('[')];
+    check(&rt, Level::ltr(), L, &[R, ON, ON, R, ON], &closing_alone, &[1, 1, 1, 1, 1])?;
+    let crossed = [None, open('('), open('['), None, close('('), close('[')];
+    check(&rt, Level::ltr(), L, &[R, ON, ON, R, ON, ON], &crossed, &[1, 1, 1, 1, 1, 0])
+}
+
+#[test]
+fn number_after_a_neutral(rt: HostRuntime) -> Result<(), Fail> {
+    check(&rt, Level::ltr(), L, &[R, ON, AN], &[None; 3], &[1, 1, 2])
 }

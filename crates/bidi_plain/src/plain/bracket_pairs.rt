@@ -61,7 +61,7 @@ fn counted_bracket(
 fn matching_entry(waiting: &[(char, usize)], opening: char) -> Option<usize>
     ensures found { IfSome result (λ k. (k < length waiting.now)
         × (find_last (λ (e : ℕ × ℕ). e.0 == opening) waiting.now
-            ≡ Some (slice_index_or waiting.now k (0, 0)))) }
+        ≡ Some (slice_index_or waiting.now k (0, 0)))) }
     ensures none { IfNone result (find_last (λ (e : ℕ × ℕ). e.0 == opening) waiting.now ≡ None) }
 {
     for entry in (0..waiting.len()).rev() {
@@ -76,7 +76,7 @@ fn matching_entry(waiting: &[(char, usize)], opening: char) -> Option<usize>
 fn listed(alloc: Global, closings: &[Option<usize>]) -> Result<Vec<(usize, usize)>, AllocError>
     ensures { IfOk result (λ v. v.items
         ≡ filter_map (λ i. option_map (λ c. (i, c)) (slice_index_or closings.now i None))
-            (indexes closings.now)) }
+        (indexes closings.now)) }
 {
     let mut pairs = Vec::new(alloc);
     for (opening, closing) in closings.iter().enumerate() {

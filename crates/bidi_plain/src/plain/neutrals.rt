@@ -1,7 +1,7 @@
 //! The neutrals of an isolating run sequence (N0 to N2). A class stands for a direction if it is L, R
 //! or a number, and numbers stand for R.
 
-ghost use Rattle.std.specs.Prelude.{◌≡◌, ◌==◌, ◌||◌, false, ◌<◌, ◌≤◌, length, slice_index_or, reverse, map, if◌then◌else◌, IsTrue, IfOk, is_some, unwrap_or};
+ghost use Rattle.std.specs.Prelude.{◌≡◌, ◌==◌, ◌||◌, false, ◌<◌, ◌≤◌, length, vec_len, slice_index_or, reverse, map, if◌then◌else◌, IsTrue, IfOk, is_some, unwrap_or};
 ghost use Rattle.std.specs.List.{list_all, list_any, prefix_len};
 ghost use Rattle.std.specs.Option.{option_map_or};
 ghost use Rattle.bidi_base.specs.Classes.{as_direction as as_direction_of, has_direction, is_kept, is_l_or_r, is_neutral, is_nsm, is_weak_resolved, same_class};
@@ -38,6 +38,7 @@ pub fn neutral(
     ensures classes { IfOk result (λ v. v.items
         ≡ neutral_classes level sos eos source.now brackets.now classes.now) }
     ensures directed { IfOk result (λ v. IsTrue (list_all has_direction v.items)) }
+    ensures len { IfOk result (λ v. vec_len v ≡ length classes.now) }
 {
     let pairs = pairs(alloc, classes, brackets)?;
     let mut resolved = Vec::from_slice(alloc, classes)?;
