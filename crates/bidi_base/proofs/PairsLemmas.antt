@@ -12,7 +12,7 @@ use Rattle.std.proofs.lemmas.List.Sums.{fold_push}
 use Rattle.bidi_base.specs.declared.char_data.BidiClass.{BidiClass}
 use Rattle.bidi_base.specs.declared.data_source.BidiMatchedOpeningBracket.{BidiMatchedOpeningBracket}
 use Rattle.bidi_base.specs.Places.{between, indexes, find_last}
-use Rattle.bidi_base.specs.Brackets.{max_open_brackets, counted_bracket, counted_brackets, bracket_at, is_opening, is_closing, is_same_bracket, is_taken, is_available, available, partner, with_closing, closed_pairs, bracket_limit, pairs_of, bracket_pairs}
+use Rattle.bidi_base.specs.Brackets.{max_open_brackets, counted_bracket, counted_brackets, bracket_at, is_opening, is_closing, is_same_bracket, is_taken, is_available, available, partner, with_closing, closed_pairs, bracket_limit, pairs_of, bracket_pairs, ArePairsWithin}
 use Rattle.bidi_base.proofs.PlacesLemmas.{range_with_len-more, IsLeast, find-between-is, find-between-is_None, find_last-range_with_len}
 use Rattle.bidi_base.proofs.BracketsLemmas.{AllClosedBefore, available-opening, available-pair, available-other}
 
@@ -441,7 +441,7 @@ module _ (brackets : List (Option BidiMatchedOpeningBracket)) where
   ]
 
   -- each pair begins before it ends, within the list
-  pub pairs_of-in_order : All (λ (p : ℕ × ℕ). (p.0 < p.1) × (p.1 < length brackets)) (pairs_of brackets)
+  pub pairs_of-in_order : ArePairsWithin (length brackets) (pairs_of brackets)
   unfolding pairs_of closed_pairs
   pairs_of-in_order =
       let n = length brackets in
@@ -525,7 +525,7 @@ bracket_at-counted (c ∷ classes) (b ∷ brackets) (suc k) d h fits = bracket_a
 
 -- the pairs of a sequence lie in it
 pub bracket_pairs-in_order : (classes : List BidiClass) (brackets : List (Option BidiMatchedOpeningBracket)) → length brackets ≡ length classes
-    → All (λ (p : ℕ × ℕ). (p.0 < p.1) × (p.1 < length classes)) (bracket_pairs classes brackets)
+    → ArePairsWithin (length classes) (bracket_pairs classes brackets)
 unfolding bracket_pairs
 bracket_pairs-in_order classes brackets h =
-    subst (λ (n : ℕ). All (λ (p : ℕ × ℕ). (p.0 < p.1) × (p.1 < n)) (pairs_of (counted_brackets classes brackets))) (length-counted_brackets classes brackets h) (pairs_of-in_order (counted_brackets classes brackets))
+    subst (λ (n : ℕ). ArePairsWithin n (pairs_of (counted_brackets classes brackets))) (length-counted_brackets classes brackets h) (pairs_of-in_order (counted_brackets classes brackets))

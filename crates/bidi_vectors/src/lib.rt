@@ -8,7 +8,11 @@ mod order_rows;
 #[cfg(test)]
 mod plain_explicit;
 #[cfg(test)]
+mod plain_neutral;
+#[cfg(test)]
 mod plain_sequences;
+#[cfg(test)]
+mod plain_weak;
 #[cfg(test)]
 mod source_rows;
 #[cfg(test)]

@@ -1,10 +1,10 @@
 //! The bracket pairs of an isolating run sequence (BD14 to BD16).
 
-ghost use Rattle.std.specs.Prelude.{◌≡◌, ◌==◌, ◌<◌, ◌≤◌, ℕ, length, slice_index_or, map, filter_map, option_map, IsTrue, IfOk, IfSome, IfNone, All, Some, None};
+ghost use Rattle.std.specs.Prelude.{◌≡◌, ◌==◌, ◌<◌, ℕ, length, slice_index_or, filter_map, option_map, IsTrue, IfOk, IfSome, IfNone};
 ghost use Rattle.std.specs.List.{list_all};
 ghost use Rattle.bidi_base.specs.Classes.{is_weak_resolved};
 ghost use Rattle.bidi_base.specs.Places.{find_last, indexes};
-ghost use Rattle.bidi_base.specs.Brackets.{bracket_pairs, counted_bracket as counted_bracket_of};
+ghost use Rattle.bidi_base.specs.Brackets.{bracket_pairs, ArePairsWithin, counted_bracket as counted_bracket_of};
 
 use bidi_base::char_data::BidiClass;
 use bidi_base::data_source::BidiMatchedOpeningBracket;
@@ -24,7 +24,7 @@ pub fn pairs(
     requires lengths { length brackets.now ≡ length classes.now }
     requires classes { IsTrue (list_all is_weak_resolved classes.now) }
     ensures pairs { IfOk result (λ v. v.items ≡ bracket_pairs classes.now brackets.now) }
-    ensures in_order { IfOk result (λ v. All (λ (p : ℕ × ℕ). (p.0 < p.1) × (p.1 < length classes.now)) v.items) }
+    ensures within { IfOk result (λ v. ArePairsWithin (length classes.now) v.items) }
 {
     let mut closings = vec![in alloc; None; classes.len()]?;
     let mut waiting = Vec::new(alloc);
@@ -60,7 +60,8 @@ fn counted_bracket(
 /// The topmost entry of the stack with this opening character.
 fn matching_entry(waiting: &[(char, usize)], opening: char) -> Option<usize>
     ensures found { IfSome result (λ k. (k < length waiting.now)
-        × (find_last (λ (e : ℕ × ℕ). e.0 == opening) waiting.now ≡ Some (slice_index_or waiting.now k (0, 0)))) }
+        × (find_last (λ (e : ℕ × ℕ). e.0 == opening) waiting.now
+        ≡ Some (slice_index_or waiting.now k (0, 0)))) }
     ensures none { IfNone result (find_last (λ (e : ℕ × ℕ). e.0 == opening) waiting.now ≡ None) }
 {
     for entry in (0..waiting.len()).rev() {
@@ -73,7 +74,9 @@ fn matching_entry(waiting: &[(char, usize)], opening: char) -> Option<usize>
 
 /// The openings that have a closing, each with it.
 fn listed(alloc: Global, closings: &[Option<usize>]) -> Result<Vec<(usize, usize)>, AllocError>
-    ensures { IfOk result (λ v. v.items ≡ filter_map (λ i. option_map (λ c. (i, c)) (slice_index_or closings.now i None)) (indexes closings.now)) }
+    ensures { IfOk result (λ v. v.items
+        ≡ filter_map (λ i. option_map (λ c. (i, c)) (slice_index_or closings.now i None))
+        (indexes closings.now)) }
 {
     let mut pairs = Vec::new(alloc);
     for (opening, closing) in closings.iter().enumerate() {

@@ -1,11 +1,12 @@
 //! The neutrals of an isolating run sequence (N0 to N2). A class stands for a direction if it is L, R
 //! or a number, and numbers stand for R.
 
-ghost use Rattle.std.specs.Prelude.{◌≡◌, ◌==◌, ◌||◌, false, ℕ, ◌+◌, ◌<◌, ◌≤◌, length, slice_range, slice_index_or, take, reverse, map, if◌then◌else◌, IsTrue, IfOk, All, is_some, unwrap_or};
+ghost use Rattle.std.specs.Prelude.{◌≡◌, ◌==◌, ◌||◌, false, ◌<◌, ◌≤◌, length, vec_len, slice_index_or, reverse, map, if◌then◌else◌, IsTrue, IfOk, is_some, unwrap_or};
 ghost use Rattle.std.specs.List.{list_all, list_any, prefix_len};
 ghost use Rattle.std.specs.Option.{option_map_or};
 ghost use Rattle.bidi_base.specs.Classes.{as_direction as as_direction_of, has_direction, is_kept, is_l_or_r, is_neutral, is_nsm, is_weak_resolved, same_class};
 ghost use Rattle.bidi_base.specs.Places.{class_at, indexes};
+ghost use Rattle.bidi_base.specs.Brackets.{ArePairsWithin};
 ghost use Rattle.bidi_base.specs.Neutral.{is_mark_after, n0, n1_n2, nearest_direction, neutral_classes, pair_direction as pair_direction_of};
 
 use super::bracket_pairs::pairs;
@@ -34,8 +35,10 @@ pub fn neutral(
     requires brackets_length { length brackets.now ≡ length classes.now }
     requires source { IsTrue (list_all is_kept source.now) }
     requires classes { IsTrue (list_all is_weak_resolved classes.now) }
-    ensures classes { IfOk result (λ v. v.items ≡ neutral_classes level sos eos source.now brackets.now classes.now) }
+    ensures classes { IfOk result (λ v. v.items
+        ≡ neutral_classes level sos eos source.now brackets.now classes.now) }
     ensures directed { IfOk result (λ v. IsTrue (list_all has_direction v.items)) }
+    ensures len { IfOk result (λ v. vec_len v ≡ length classes.now) }
 {
     let pairs = pairs(alloc, classes, brackets)?;
     let mut resolved = Vec::from_slice(alloc, classes)?;
@@ -61,9 +64,10 @@ fn resolve(
     requires embedding { IsTrue (is_l_or_r embedding) }
     requires sos { IsTrue (is_l_or_r sos) }
     requires lengths { length source.now ≡ length classes.old }
-    requires in_order { All (λ (p : ℕ × ℕ). (p.0 < p.1) × (p.1 < length classes.old)) pairs.now }
+    requires within { ArePairsWithin (length classes.old) pairs.now }
     requires classes { IsTrue (list_all is_weak_resolved classes.old) }
-    ensures classes { classes.new ≡ n1_n2 embedding sos eos (n0 embedding sos source.now pairs.now classes.old) }
+    ensures classes { classes.new
+        ≡ n1_n2 embedding sos eos (n0 embedding sos source.now pairs.now classes.old) }
     ensures directed { IsTrue (list_all has_direction classes.new) }
 {
     apply_n0(embedding, sos, source, pairs, classes);
@@ -79,7 +83,7 @@ fn apply_n0(
     classes: &mut [BidiClass],
 )
     requires lengths { length source.now ≡ length classes.old }
-    requires in_order { All (λ (p : ℕ × ℕ). (p.0 < p.1) × (p.1 < length classes.old)) pairs.now }
+    requires within { ArePairsWithin (length classes.old) pairs.now }
     ensures { classes.new ≡ n0 embedding sos source.now pairs.now classes.old }
 {
     for pair in pairs {
@@ -112,7 +116,8 @@ fn pair_direction(
 }
 
 fn has_direction(inside: &[BidiClass], direction: BidiClass) -> bool
-    ensures { result ≡ list_any (λ c. option_map_or (same_class direction) (as_direction_of c) false) inside.now }
+    ensures { result
+        ≡ list_any (λ c. option_map_or (same_class direction) (as_direction_of c) false) inside.now }
 {
     inside.iter().any(|class| stands_for(*class, direction))
 }
@@ -145,7 +150,8 @@ fn set_direction(
 )
     requires lengths { length source.now ≡ length classes.old }
     requires bracket { bracket < length classes.old }
-    ensures { classes.new ≡ map (λ k. if k == bracket || is_mark_after source.now bracket k then direction else class_at classes.old k) (indexes classes.old) }
+    ensures { classes.new ≡ map (λ k. if k == bracket || is_mark_after source.now bracket k
+        then direction else class_at classes.old k) (indexes classes.old) }
 {
     let end = bracket + 1 + marks(&source[bracket + 1..]);
     classes[bracket..end].fill(direction);
@@ -209,7 +215,8 @@ fn neutrals(classes: &[BidiClass]) -> usize
 
 /// The direction at a place, or eos past the end.
 fn direction_at(classes: &[BidiClass], place: usize, eos: BidiClass) -> BidiClass
-    ensures { result ≡ unwrap_or (as_direction_of (slice_index_or classes.now place BidiClass.ON)) eos }
+    ensures { result
+        ≡ unwrap_or (as_direction_of (slice_index_or classes.now place BidiClass.ON)) eos }
 {
     if place < classes.len() {
         as_direction(classes[place]).unwrap_or(eos)

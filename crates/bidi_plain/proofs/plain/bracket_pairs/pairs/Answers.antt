@@ -1,9 +1,9 @@
 use Rattle.std.proofs.Common.{◌≡◌, ℕ, ◌<◌, List, [], ◌∷◌, ◌++◌, length, get_or, filter_map, replicate, Option, Some, None, option_map, sym, ap, subst, ◌∙◌, inl, inr, arith, rules}
-use Rattle.std.specs.Prelude.{All, ◌==◌}
+use Rattle.std.specs.Prelude.{◌==◌}
 use Rattle.std.proofs.lemmas.List.{get_or_default}
 use Rattle.std.proofs.lemmas.Result.{IfOk-weaker}
 use Rattle.bidi_base.specs.declared.char_data.BidiClass.TheVariants.{L}
-use Rattle.bidi_base.specs.Brackets.{bracket_at, is_opening, bracket_pairs}
+use Rattle.bidi_base.specs.Brackets.{bracket_at, is_opening, bracket_pairs, ArePairsWithin}
 use Rattle.bidi_base.specs.Places.{find_last, indexes}
 use Rattle.bidi_base.proofs.PairsLemmas.{bracket_at-counted, bracket_pairs-in_order}
 use Rattle.bidi_plain.proofs.BracketPass.{counted, IsPairing-start, IsPairing-none, IsPairing-opening, IsPairing-unmatched, IsPairing-pair, IsPairing-bound, IsPairing-end}
@@ -75,9 +75,9 @@ returns-clause-pairs c =
     IfOk-weaker c.listed.result (λ v. v.items ≡ listing c.as_slice-2.result.now) (λ v. v.items ≡ bracket_pairs c.args.classes.now c.args.brackets.now)
     (λ v e. e ∙ ap listing c.as_slice-2.ensures.value ∙ listed_is c) c.listed.ensures
 
-pub returns-clause-in_order : goal.returns-clause-in_order
-returns-clause-in_order c =
+pub returns-clause-within : goal.returns-clause-within
+returns-clause-within c =
     let classes = c.args.classes.now in
-    IfOk-weaker c.listed.result (λ v. v.items ≡ bracket_pairs classes c.args.brackets.now) (λ v. All (λ (p : ℕ × ℕ). (p.0 < p.1) × (p.1 < length classes)) v.items)
-    (λ v e. subst (λ (ps : List (ℕ × ℕ)). All (λ (p : ℕ × ℕ). (p.0 < p.1) × (p.1 < length classes)) ps) (sym e) (bracket_pairs-in_order classes c.args.brackets.now c.requires.lengths))
+    IfOk-weaker c.listed.result (λ v. v.items ≡ bracket_pairs classes c.args.brackets.now) (λ v. ArePairsWithin (length classes) v.items)
+    (λ v e. subst (λ (ps : List (ℕ × ℕ)). ArePairsWithin (length classes) ps) (sym e) (bracket_pairs-in_order classes c.args.brackets.now c.requires.lengths))
     (returns-clause-pairs c)
