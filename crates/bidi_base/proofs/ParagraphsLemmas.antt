@@ -76,7 +76,7 @@ module _ (stops : ℕ → Bool) where
   IsCut-stop read done current c stop h = record {
     whole =
         append-nil (joined (done ++ (current ++ c ∷ []) ∷ [])) ∙ flat_map-append (λ (piece : List ℕ). piece) done ((current ++ c ∷ []) ∷ [])
-            ∙ ap (λ (cs : List ℕ). joined done ++ cs) (append-nil (current ++ c ∷ [])) ∙ sym (append_assoc (joined done) current (c ∷ [])) ∙ ap (λ (cs : List ℕ). cs ++ c ∷ []) h.whole;
+        ∙ ap (λ (cs : List ℕ). joined done ++ cs) (append-nil (current ++ c ∷ [])) ∙ sym (append_assoc (joined done) current (c ∷ [])) ∙ ap (λ (cs : List ℕ). cs ++ c ∷ []) h.whole;
     cut = λ rest. ap pieces_by (append_assoc read (c ∷ []) rest) ∙ h.cut (c ∷ rest) ∙ ap (λ (ps : List (List ℕ)). done ++ ps) (pieces_by-stop current c rest h.goes_on stop)
         ∙ sym (append_assoc done ((current ++ c ∷ []) ∷ []) (pieces_by rest));
     goes_on = tt;
@@ -91,7 +91,7 @@ module _ (stops : ℕ → Bool) where
   pub IsCut-none : (read : List ℕ) (done : List (List ℕ)) → IsCut read done [] → pieces_by read ≡ done
   IsCut-none read done h = ap pieces_by (sym (append-nil read)) ∙ h.cut [] ∙ append-nil done
 
--- ---- what the pieces are
+  -- ---- what the pieces are
 
   pub pieces_by-joined : (chars : List ℕ) → joined (pieces_by chars) ≡ chars
   pieces_by-joined [] = refl
@@ -175,9 +175,9 @@ module _ (len_of : ℕ → ℕ) where
     ranges_from-IsPartition from [] some = let none : from ≡ from + 0 = omega arith in none
     ranges_from-IsPartition from (p ∷ ps) some =
         let first : 0 < length p = All-head (λ (p : List ℕ). 0 < length p) p ps some in
-        let sum : from + text_len len_of p + text_len len_of (joined ps) ≡ from + text_len len_of (p ++ joined ps) = omega (arith, sum_by-append len_of p (joined ps)) in
-        (
-          refl, omega (arith, length-le-text_len len_of units p),
+        let sum : from + text_len len_of p + text_len len_of (joined ps) ≡ from + text_len len_of (p ++ joined ps) = omega (arith, sum_by-append len_of p (joined ps)) in (
+          refl,
+          omega (arith, length-le-text_len len_of units p),
           subst (λ (n : ℕ). IsPartition (from + text_len len_of p) n (ranges_from len_of (from + text_len len_of p) ps)) sum (ranges_from-IsPartition (from + text_len len_of p) ps (All-tail (λ (p : List ℕ). 0 < length p) p ps some)),
         )
 
@@ -212,13 +212,13 @@ module _ (len_of : ℕ → ℕ) where
         let sum : text_len len_of (front ++ p) ≡ text_len len_of front + text_len len_of p = sum_by-append len_of front p in
         All-cons (λ (r : ℕ × ℕ). IsLine len_of (front ++ (p ++ joined ps)) r.0 r.1) (text_len len_of front, text_len len_of front + text_len len_of p) (ranges_from len_of (text_len len_of front + text_len len_of p) ps)
         (
-          record {
-            ordered = omega arith;
-            begins = is_boundary-append len_of front (p ++ joined ps);
-            ends =
-                subst (λ (cs : List ℕ). is_boundary len_of cs (text_len len_of front + text_len len_of p) ≡ true) (append_assoc front p (joined ps))
-                    (subst (λ (n : ℕ). is_boundary len_of ((front ++ p) ++ joined ps) n ≡ true) sum (is_boundary-append len_of (front ++ p) (joined ps)));
-          }
+        record {
+          ordered = omega arith;
+          begins = is_boundary-append len_of front (p ++ joined ps);
+          ends =
+              subst (λ (cs : List ℕ). is_boundary len_of cs (text_len len_of front + text_len len_of p) ≡ true) (append_assoc front p (joined ps))
+              (subst (λ (n : ℕ). is_boundary len_of ((front ++ p) ++ joined ps) n ≡ true) sum (is_boundary-append len_of (front ++ p) (joined ps)));
+        }
         )
         (subst (λ (cs : List ℕ). All (λ (r : ℕ × ℕ). IsLine len_of cs r.0 r.1) (ranges_from len_of (text_len len_of front + text_len len_of p) ps)) (append_assoc front p (joined ps))
         (subst (λ (n : ℕ). All (λ (r : ℕ × ℕ). IsLine len_of ((front ++ p) ++ joined ps) r.0 r.1) (ranges_from len_of n ps)) sum (ranges-lines (front ++ p) ps)))

@@ -142,12 +142,12 @@ module _ (source : Source) (len_of : ℕ → ℕ) (chars : List ℕ) where
       ranges =
           let front : 0 + text_len len_of (joined done) ≡ text_len len_of (joined done) = omega arith in
           ranges ∙ ap (λ (rs : List (ℕ × ℕ)). rs ++ (reading.start, end) ∷ []) h.ranges
-              ∙ ap (λ (a : ℕ). ranges_from len_of 0 done ++ (a, end) ∷ []) (h.start ∙ sym front)
-              ∙ ap (λ (b : ℕ). ranges_from len_of 0 done ++ (0 + text_len len_of (joined done), b) ∷ []) (here ∙ read_to ∙ ap (λ (a : ℕ). a + text_len len_of current) (sym front))
-              ∙ sym (ranges_from-push len_of 0 done current);
+          ∙ ap (λ (a : ℕ). ranges_from len_of 0 done ++ (a, end) ∷ []) (h.start ∙ sym front)
+          ∙ ap (λ (b : ℕ). ranges_from len_of 0 done ++ (0 + text_len len_of (joined done), b) ∷ []) (here ∙ read_to ∙ ap (λ (a : ℕ). a + text_len len_of current) (sym front))
+          ∙ sym (ranges_from-push len_of 0 done current);
       levels =
           levels ∙ ap (λ (ls : List ℕ). ls ++ unwrap_or base (level_by reading.deciding) ∷ []) h.levels
-              ∙ ap (λ (d : Option BidiClass). paragraph_levels source base done ++ unwrap_or base (level_by d) ∷ []) h.deciding ∙ sym (paragraph_levels-push base done current);
+          ∙ ap (λ (d : Option BidiClass). paragraph_levels source base done ++ unwrap_or base (level_by d) ∷ []) h.deciding ∙ sym (paragraph_levels-push base done current);
       flags = flags ∙ ap (λ (fs : List ParagraphFlags). fs ++ reading.flags ∷ []) h.flags ∙ ap (λ (f : ParagraphFlags). paragraph_flags source done ++ f ∷ []) h.turns ∙ sym (paragraph_flags-push done current);
     }
 
@@ -156,7 +156,7 @@ module _ (source : Source) (len_of : ℕ → ℕ) (chars : List ℕ) where
     whole = sym (append-nil (joined done)) ∙ ap (λ (cs : List ℕ). joined done ++ cs) (sym none) ∙ h.whole;
     classes =
         h.classes ∙ ap (λ (cs : List ℕ). per_unit len_of (take n chars) (text_classes source done ++ stored_classes (classes_of cs))) none
-            ∙ ap (λ (cs : List BidiClass). per_unit len_of (take n chars) (text_classes source done ++ cs)) stored_classes-nil ∙ ap (per_unit len_of (take n chars)) (append-nil (text_classes source done));
+        ∙ ap (λ (cs : List BidiClass). per_unit len_of (take n chars) (text_classes source done ++ cs)) stored_classes-nil ∙ ap (per_unit len_of (take n chars)) (append-nil (text_classes source done));
     ranges = h.ranges;
     levels = h.levels;
     flags = h.flags;
@@ -230,20 +230,20 @@ module _ (source : Source) (len_of : ℕ → ℕ) (chars : List ℕ) where
         whole = sym (append_assoc (joined done) current (c ∷ [])) ∙ ap (λ (cs : List ℕ). cs ++ c ∷ []) h.whole ∙ sym read_more;
         classes =
             is_longer ∙ ap (λ (us : List BidiClass). us ++ replicate (len_of c) class) (is_changed ∙ ap (λ (o : Option (Range ℕ)). met_units class o found.original_classes.items) (ap innermost h.under ∙ innermost-map (units_after done) (open_initiators (classes_of current))) ∙ met (innermost (open_initiators (classes_of current))) refl)
-                ∙ sym (per_unit-push len_of (take n chars) (text_classes source done ++ met_by class (innermost (open_initiators (classes_of current))) (stored_classes (classes_of current))) c class values_long)
-                ∙ ap (per_unit len_of (take n chars ++ c ∷ [])) (append_assoc (text_classes source done) (met_by class (innermost (open_initiators (classes_of current))) (stored_classes (classes_of current))) (class ∷ []) ∙ ap (λ (cs : List BidiClass). text_classes source done ++ cs) (sym (stored_classes-push (classes_of current) class) ∙ ap stored_classes (sym classes_more)))
-                ∙ ap (λ (cs : List ℕ). per_unit len_of cs (text_classes source done ++ stored_classes (classes_of (current ++ c ∷ [])))) (sym read_more);
+            ∙ sym (per_unit-push len_of (take n chars) (text_classes source done ++ met_by class (innermost (open_initiators (classes_of current))) (stored_classes (classes_of current))) c class values_long)
+            ∙ ap (per_unit len_of (take n chars ++ c ∷ [])) (append_assoc (text_classes source done) (met_by class (innermost (open_initiators (classes_of current))) (stored_classes (classes_of current))) (class ∷ []) ∙ ap (λ (cs : List BidiClass). text_classes source done ++ cs) (sym (stored_classes-push (classes_of current) class) ∙ ap stored_classes (sym classes_more)))
+            ∙ ap (λ (cs : List ℕ). per_unit len_of cs (text_classes source done ++ stored_classes (classes_of (current ++ c ∷ [])))) (sym read_more);
         ranges = ap ranges_of same_paragraphs ∙ h.ranges;
         levels = ap levels_of same_paragraphs ∙ h.levels;
         flags = same_flags ∙ h.flags;
         start = same_start ∙ h.start;
         under =
             is_open ∙ ap (λ (rs : List (Range ℕ)). opened_by class range rs) h.under ∙ ap (λ (r : Range ℕ). opened_by class r (map (units_after done) (open_initiators (classes_of current)))) (is_range ∙ ap (char_units len_of chars) last)
-                ∙ opened_by-map (units_after done) class (length (classes_of current)) (open_initiators (classes_of current))
-                ∙ ap (map (units_after done)) (sym (open_initiators-push (classes_of current) class) ∙ ap open_initiators (sym classes_more));
+            ∙ opened_by-map (units_after done) class (length (classes_of current)) (open_initiators (classes_of current))
+            ∙ ap (map (units_after done)) (sym (open_initiators-push (classes_of current) class) ∙ ap open_initiators (sym classes_more));
         deciding =
             is_deciding ∙ ap (λ (rs : List (Range ℕ)). option_or reading.deciding (decided_by class rs)) h.under ∙ ap (option_or reading.deciding) (decided_by-map (units_after done) class (open_initiators (classes_of current)))
-                ∙ ap (λ (o : Option BidiClass). option_or o (decided_by class (open_initiators (classes_of current)))) h.deciding ∙ sym (deciding_class-push (classes_of current) class) ∙ ap deciding_class (sym classes_more);
+            ∙ ap (λ (o : Option BidiClass). option_or o (decided_by class (open_initiators (classes_of current)))) h.deciding ∙ sym (deciding_class-push (classes_of current) class) ∙ ap deciding_class (sym classes_more);
         turns = flags_same after.flags (flags_of (classes_of (current ++ c ∷ []))) pure isolates;
       }
         where

@@ -19,7 +19,7 @@ loop-at-init g c = (
   subst g.T.CharIndexIter.Iterator.can_next (sym c.into_iter-at-iterator.ensures.into_iter_gives) c.char_indices-at-items.ensures.can_next,
   subst (λ b. IsFinite (g.T.CharIndexIter.Iterator.remaining b)) (sym c.into_iter-at-iterator.ensures.into_iter_gives) c.char_indices-at-items.ensures.finite,
   IsRead-start _ _ _ c.args.split c.args.base _ c.new-reading.result c.in_ok-with_capacity.ensures.items c.new.ensures.items c.new-2.ensures.items
-  (record { here = c.new-reading.ensures.start; under = c.new-reading.ensures.open; deciding = c.new-reading.ensures.deciding; turns = c.new-reading.ensures.flags }),
+      (record { here = c.new-reading.ensures.start; under = c.new-reading.ensures.open; deciding = c.new-reading.ensures.deciding; turns = c.new-reading.ensures.flags }),
 )
 
 pub overflow_add-end : goal.overflow_add-end
@@ -89,12 +89,11 @@ loop-at-preserved-then-is_separator g c =
     let ended =
     IsTextDone-close source len cs c.args.base (n + 1) h.done (h.current ++ c.in-Some.c ∷ []) found c.read.new.self more c.close.new.self (c.in-Some.at + c.char_len-len.result) end
     c.close.ensures.classes c.in_ok-close.ensures.ranges c.in_ok-close.ensures.levels c.in_ok-close.ensures.flags in
-    let fresh : IsFresh c.restart.new.self (place len cs (n + 1)) = record { here = c.restart.ensures.start ∙ end; under = c.restart.ensures.open; deciding = c.restart.ensures.deciding; turns = c.restart.ensures.flags } in
-    (
+    let fresh : IsFresh c.restart.new.self (place len cs (n + 1)) = record { here = c.restart.ensures.start ∙ end; under = c.restart.ensures.open; deciding = c.restart.ensures.deciding; turns = c.restart.ensures.flags } in (
       c.in-Some.ensures.goes.keeps,
       (c.in-Some.ensures.goes.on c.loop-at.invariant.1).1,
       subst (λ m. IsRead source len cs c.args.split c.args.base m c.close.new.self c.restart.new.self) (sym (length_push c.loop-at.yielded (c.in-Some.at, c.in-Some.c)))
-      (IsRead-stop source len cs c.args.split c.args.base n c.in-Some.c c.loop-at.found c.loop-at.reading c.close.new.self c.restart.new.self h (take-turn cs n c.in-Some.c w.within w.is_char) ended fresh stop),
+          (IsRead-stop source len cs c.args.split c.args.base n c.in-Some.c c.loop-at.found c.loop-at.reading c.close.new.self c.restart.new.self h (take-turn cs n c.in-Some.c w.within w.is_char) ended fresh stop),
     )
 
 pub loop-at-preserved : goal.loop-at-preserved
@@ -123,12 +122,11 @@ loop-at-preserved g c =
     elim c.else-split.branch [
       | else-split-via-then-split+else-is_separator w ↦ and_right c.args.split (is_paragraph_separator (source.class_of c.in-Some.c)) (ap is_paragraph_separator (sym c.bidi_class-class.ensures) ∙ sym w.is_separator.ensures ∙ w.if-is_separator.false)
       | else-split-via-else-split w ↦ and_left c.args.split (is_paragraph_separator (source.class_of c.in-Some.c)) w.if-split.false
-    ] in
-    (
+    ] in (
       c.in-Some.ensures.goes.keeps,
       (c.in-Some.ensures.goes.on c.loop-at.invariant.1).1,
       subst (λ m. IsRead source len cs c.args.split c.args.base m found c.read.new.self) (sym (length_push c.loop-at.yielded (c.in-Some.at, c.in-Some.c)))
-      (IsRead-on source len cs c.args.split c.args.base n c.in-Some.c c.loop-at.found c.loop-at.reading found c.read.new.self h (take-turn cs n c.in-Some.c w.within w.is_char) more on),
+          (IsRead-on source len cs c.args.split c.args.base n c.in-Some.c c.loop-at.found c.loop-at.reading found c.read.new.self h (take-turn cs n c.in-Some.c w.within w.is_char) more on),
     )
 
 pub close-requires-then-not-split : goal.close-requires-then-not-split
