@@ -136,14 +136,25 @@ impl Level {
     pub fn is_ltr(&self) -> bool
         ensures { result ≡ is_even self.now }
     {
-        self.0 % 2 == 0
+        self.number() % 2 == 0
     }
 
     /// Whether the level is odd.
     pub fn is_rtl(&self) -> bool
         ensures { result ≡ is_odd self.now }
     {
-        self.0 % 2 == 1
+        self.number() % 2 == 1
+    }
+
+    // The level that many above this one, if it is at most `limit`.
+    fn raised(self, amount: u8, limit: u8) -> Result<Level, Error>
+        requires { limit ≤ 126 }
+        ensures { OkIff result (self + amount ≤ limit) (self + amount) }
+    {
+        match self.number().checked_add(amount) {
+            Some(number) if number <= limit => Ok(Level(number)),
+            _ => Err(Error::OutOfRangeNumber),
+        }
     }
 
     /// Adds to the level. Refused exactly where the sum passes 126, and then the level stays.
@@ -152,13 +163,8 @@ impl Level {
         ensures raised { OnOk result (self.new ≡ self.old + amount) }
         ensures kept { OnErr result (self.new ≡ self.old) }
     {
-        match self.0.checked_add(amount) {
-            Some(number) if number <= MAX_IMPLICIT_DEPTH => {
-                self.0 = number;
-                Ok(())
-            }
-            _ => Err(Error::OutOfRangeNumber),
-        }
+        *self = self.raised(amount, MAX_IMPLICIT_DEPTH)?;
+        Ok(())
     }
 
     /// Adds to the level. Refused exactly where the sum passes 125, and then the level stays.
@@ -167,13 +173,8 @@ impl Level {
         ensures raised { OnOk result (self.new ≡ self.old + amount) }
         ensures kept { OnErr result (self.new ≡ self.old) }
     {
-        match self.0.checked_add(amount) {
-            Some(number) if number <= MAX_EXPLICIT_DEPTH => {
-                self.0 = number;
-                Ok(())
-            }
-            _ => Err(Error::OutOfRangeNumber),
-        }
+        *self = self.raised(amount, MAX_EXPLICIT_DEPTH)?;
+        Ok(())
     }
 
     /// Subtracts from the level. Refused exactly where that would pass 0, and then the level stays.
@@ -182,9 +183,9 @@ impl Level {
         ensures lowered { OnOk result (self.new + amount ≡ self.old) }
         ensures kept { OnErr result (self.new ≡ self.old) }
     {
-        match self.0.checked_sub(amount) {
+        match self.number().checked_sub(amount) {
             Some(number) => {
-                self.0 = number;
+                *self = Level(number);
                 Ok(())
             }
             None => Err(Error::OutOfRangeNumber),
@@ -195,29 +196,21 @@ impl Level {
     pub fn new_explicit_next_ltr(&self) -> Result<Level, Error>
         ensures { OkIff result (next_even self.now ≤ 125) (next_even self.now) }
     {
-        Level::new_explicit(if self.is_rtl() {
-            self.0 + 1
-        } else {
-            self.0 + 2
-        })
+        Level::new_explicit(self.number() + if self.is_rtl() { 1 } else { 2 })
     }
 
     /// The least odd level greater than this (X2, X4, X5a). Refused exactly where it passes 125.
     pub fn new_explicit_next_rtl(&self) -> Result<Level, Error>
         ensures { OkIff result (next_odd self.now ≤ 125) (next_odd self.now) }
     {
-        Level::new_explicit(if self.is_rtl() {
-            self.0 + 2
-        } else {
-            self.0 + 1
-        })
+        Level::new_explicit(self.number() + if self.is_rtl() { 2 } else { 1 })
     }
 
     /// The least odd level at or above this. Refused exactly for 126.
     pub fn new_lowest_ge_rtl(&self) -> Result<Level, Error>
         ensures { OkIff result (odd_from self.now ≤ 126) (odd_from self.now) }
     {
-        Level::new(if self.is_rtl() { self.0 } else { self.0 + 1 })
+        Level::new(self.number() + if self.is_rtl() { 0 } else { 1 })
     }
 
     /// The level's direction as a class (BD3): R if it is odd, else L.
@@ -252,7 +245,7 @@ impl Level {
     pub fn matches_text(&self, text: &str) -> bool
         ensures { IsTrue result ↔ ((text.now ≡ codes "x") ⊎ (text.now ≡ decimal self.now)) }
     {
-        text == "x" || text == Buffer::new().format(self.0)
+        text == "x" || text == Buffer::new().format(self.number())
     }
 }
 
@@ -260,7 +253,7 @@ impl From<Level> for u8 {
     ghost from_gives = { λ l n. n ≡ l };
 
     fn from(level: Level) -> u8 {
-        level.0
+        level.number()
     }
 }
 
@@ -270,7 +263,7 @@ pub fn has_rtl(levels: &[Level]) -> bool
 {
     let mut all = 0u8;
     for level in levels {
-        all |= level.number();
+        all |= u8::from(*level);
     }
     all % 2 == 1
 }

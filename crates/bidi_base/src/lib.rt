@@ -4,4 +4,7 @@
 
 pub mod char_data;
 pub mod data_source;
+pub mod format_chars;
 pub mod level;
+pub mod sample;
+pub mod text;

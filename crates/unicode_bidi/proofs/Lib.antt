@@ -1,4 +1,5 @@
 pub mod Distinct
+pub mod Lanes
 pub mod Least
 pub mod Ordered
 pub mod Passes

@@ -4,8 +4,7 @@
 mod info;
 mod visual;
 
-pub use bidi_base::char_data;
-pub use bidi_base::level;
 pub use bidi_base::char_data::BidiClass;
 pub use bidi_base::level::{LTR_LEVEL, Level, RTL_LEVEL};
+pub use bidi_base::{char_data, level};
 pub use info::BidiInfo;

@@ -7,7 +7,7 @@ ghost use Rattle.bidi_base.specs.Levels.{has_rtl as has_rtl_of};
 ghost use Rattle.bidi_base.specs.Order.{visual_order, IsVisualOrder, order_by_reversals};
 ghost use Rattle.bidi_base.specs.Places.{indexes};
 
-use bidi_base::level::{Level, has_rtl};
+use bidi_base::level::{Level, MAX_IMPLICIT_DEPTH, has_rtl};
 use std::alloc::{AllocError, Global};
 use std::simd::prelude::*;
 
@@ -92,8 +92,58 @@ fn run_end(levels: &[Level], from: usize) -> usize
     at
 }
 
-// The least level of the stretch above `base` that begins at `from`: at the levels from `base` up to
-// it the whole stretch is turned, so one look at their number serves them all.
+// How many of the 16 items from `at` on come before the first at the level `base` or below.
+fn first_at_most(levels: &[Level], at: usize, base: u8) -> Option<usize>
+    requires { at + 16 ≤ length levels.now }
+    ensures none { IfNone result ((p : ℕ) → at ≤ p → p < at + 16 → base < slice_index levels.now p) }
+    ensures within { IfSome result (λ n. n < 16) }
+    ensures above { IfSome result (λ n. (p : ℕ) → at ≤ p → p < at + n → base < slice_index levels.now p) }
+    ensures stops { IfSome result (λ n. slice_index levels.now (at + n) ≤ base) }
+{
+    let low = load(levels, at).simd_le(u8x16::splat(base)).to_bitmask();
+    if low == 0 {
+        None
+    } else {
+        Some(low.trailing_zeros() as usize)
+    }
+}
+
+// The end of the stretch of items from `from` on whose levels are above `base`.
+fn stretch_end(levels: &[Level], from: usize, base: u8) -> usize
+    requires { from ≤ length levels.now }
+    ensures begins { from ≤ result }
+    ensures ends { result ≤ length levels.now }
+    ensures above { (p : ℕ) → from ≤ p → p < result → base < slice_index levels.now p }
+    ensures stops { result < length levels.now → slice_index levels.now result ≤ base }
+{
+    let mut at = from;
+    while levels.len() - at >= 16 {
+        if let Some(count) = first_at_most(levels, at, base) {
+            return at + count;
+        }
+        at += 16;
+    }
+    while at < levels.len() && number_at(levels, at) > base {
+        at += 1;
+    }
+    at
+}
+
+// A number that no level is below: the least of them, where there is one.
+fn least_of(levels: &[Level]) -> u8
+    ensures least { (p : ℕ) → p < length levels.now → result ≤ slice_index levels.now p }
+    ensures above { (base : ℕ) → base < 126 → ((p : ℕ) → p < length levels.now → base < slice_index levels.now p) → base < result }
+    ensures in_range { result ≤ 126 }
+{
+    let mut least = MAX_IMPLICIT_DEPTH;
+    for i in 0..levels.len() {
+        least = least.min(number_at(levels, i));
+    }
+    least
+}
+
+// The least level of the stretch above `base` that begins at `from`. At every level above `base` up
+// to that one the whole stretch is turned, so that their number tells how it ends up.
 fn least_above(levels: &[Level], from: usize, base: u8) -> u8
     requires begins { from < length levels.now }
     requires above { base < slice_index levels.now from }
@@ -101,19 +151,13 @@ fn least_above(levels: &[Level], from: usize, base: u8) -> u8
     ensures least { (end : ℕ) → end < length levels.now
         → ((p : ℕ) → from ≤ p → p ≤ end → base < slice_index levels.now p)
         → (p : ℕ) → from ≤ p → p ≤ end → result ≤ slice_index levels.now p }
-    ensures small { result ≤ 126 }
+    ensures in_range { result ≤ 126 }
 {
-    let mut least = number_at(levels, from);
-    let mut at = from + 1;
-    while at < levels.len() && least > base + 1 {
-        let number = number_at(levels, at);
-        if number <= base {
-            return least;
-        }
-        least = least.min(number);
-        at += 1;
+    if number_at(levels, from) == base + 1 {
+        return base + 1;
     }
-    least
+    let end = stretch_end(levels, from, base);
+    least_of(&levels[from..end])
 }
 
 // Arranges the stretch of items from `from` on whose levels are `base` or above, and gives its end.
@@ -154,25 +198,27 @@ fn arrange(levels: &[Level], order: &mut [usize], from: usize, base: u8) -> usiz
     at
 }
 
-// Writes each place's index into it.
-fn number(slots: &mut [usize])
-    ensures { slots.new ≡ range_with_len 0 (length slots.old) }
+// The indexes below `n`, upwards.
+fn indexes_below(alloc: Global, n: usize) -> Result<Vec<usize>, AllocError>
+    ensures { IfOk result (λ v. v.items ≡ range_with_len 0 n) }
 {
-    for i in 0..slots.len() {
-        slots[i] = i;
+    (0..n).collect(alloc)
+}
+
+// Brings the indexes of a line's items, upwards at first, into the visual order. At the levels up to
+// the least one the whole line is turned.
+fn arrange_line(levels: &[Level], order: &mut [usize])
+    requires { order.old ≡ range_with_len 0 (length levels.now) }
+    ensures { IsVisualOrder levels.now order.new }
+{
+    let least = least_of(levels);
+    arrange(levels, order, 0, least);
+    if least % 2 == 1 {
+        flip(order, 0, levels.len());
     }
 }
 
-// Each index below `n`, upwards.
-fn indices(alloc: Global, n: usize) -> Result<Vec<usize>, AllocError>
-    ensures { IfOk result (λ v. v.items ≡ range_with_len 0 n) }
-{
-    let mut order = vec![in alloc; 0usize; n]?;
-    number(order.as_mut_slice());
-    Ok(order)
-}
-
-// Brings the indexes of the items, upwards at first, into the visual order.
+// The same, where a line without an odd level stays as it is.
 fn settle(levels: &[Level], order: &mut [usize])
     requires { order.old ≡ range_with_len 0 (length levels.now) }
     ensures order { order.new ≡ visual_order levels.now }
@@ -181,7 +227,7 @@ fn settle(levels: &[Level], order: &mut [usize])
     ensures reversals { order.new ≡ order_by_reversals levels.now }
 {
     if has_rtl(levels) {
-        arrange(levels, order, 0, 0);
+        arrange_line(levels, order);
     }
 }
 
@@ -192,7 +238,7 @@ pub(crate) fn reorder_visual(alloc: Global, levels: &[Level]) -> Result<Vec<usiz
     ensures still { has_rtl_of levels.now ≡ false → IfOk result (λ v. v.items ≡ indexes levels.now) }
     ensures reversals { IfOk result (λ v. v.items ≡ order_by_reversals levels.now) }
 {
-    let mut order = indices(alloc, levels.len())?;
+    let mut order = indexes_below(alloc, levels.len())?;
     settle(levels, order.as_mut_slice());
     Ok(order)
 }

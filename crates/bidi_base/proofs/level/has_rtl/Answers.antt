@@ -16,6 +16,6 @@ either_odd a b =
 pub loop-level-preserved : goal.loop-level-preserved
 loop-level-preserved c =
     let item : ℕ = c.level-item.result in
-    either_odd c.loop-level.all c.number-all.result
-    ∙ ap₂ (λ a b. a || b) c.loop-level.invariant (ap is_odd (c.number-all.ensures.number ∙ c.level-item.is))
+    either_odd c.loop-level.all c.from-all.result
+    ∙ ap₂ (λ a b. a || b) c.loop-level.invariant (ap is_odd (c.from-all.ensures ∙ c.level-item.is))
     ∙ sym (list_any_more is_odd c.args.levels.now c.loop-level.level-index item c.loop-level-test.true)

@@ -101,8 +101,11 @@ loop-at-preserved-then-least-base-eq1 t c =
       at_least = all;
       before = λ p a. c.flip-then-least-base-eq1.ensures.before p (omega arith) ∙ c.arrange-end.ensures.before p (omega arith) ∙ c.loop-at.invariant.before p a;
       after = λ p a. c.flip-then-least-base-eq1.ensures.after p a ∙ c.arrange-end.ensures.after p a ∙ c.loop-at.invariant.after p (omega arith);
-      edge = λ a b d. absurd (omega (arith, edge_after _ _ _ c.loop-at.at _ c.least_above-least.ensures.above c.arrange-end.ensures.at_least
-          (λ k h. c.least_above-least.ensures.least c.arrange-end.result b h c.arrange-end.result (omega arith) (le_refl _)) (c.arrange-end.ensures.stops b)));
+      edge = λ a b d. absurd (omega (
+        arith,
+        edge_after _ _ _ c.loop-at.at _ c.least_above-least.ensures.above c.arrange-end.ensures.at_least
+            (λ k h. c.least_above-least.ensures.least c.arrange-end.result b h c.arrange-end.result (omega arith) (le_refl _)) (c.arrange-end.ensures.stops b),
+      ));
       arranged = arranged-joined _ _ _ _ _ _ _ c.loop-at.invariant.arranged
           (arranged-turned _ _ _ _ _ _ _ c.arrange-end.ensures.arranged c.arrange-end.ensures.at_least (omega arith) (omega arith) c.flip-then-least-base-eq1.ensures.inside)
           all (omega arith) (omega arith) (λ k. c.loop-at.invariant.edge k (omega arith) (omega arith))
@@ -123,8 +126,11 @@ loop-at-preserved t c =
       at_least = all;
       before = λ p a. c.arrange-end.ensures.before p (omega arith) ∙ c.loop-at.invariant.before p a;
       after = λ p a. c.arrange-end.ensures.after p a ∙ c.loop-at.invariant.after p (omega arith);
-      edge = λ a b d. absurd (omega (arith, edge_after _ _ _ c.loop-at.at _ c.least_above-least.ensures.above c.arrange-end.ensures.at_least
-          (λ k h. c.least_above-least.ensures.least c.arrange-end.result b h c.arrange-end.result (omega arith) (le_refl _)) (c.arrange-end.ensures.stops b)));
+      edge = λ a b d. absurd (omega (
+        arith,
+        edge_after _ _ _ c.loop-at.at _ c.least_above-least.ensures.above c.arrange-end.ensures.at_least
+            (λ k h. c.least_above-least.ensures.least c.arrange-end.result b h c.arrange-end.result (omega arith) (le_refl _)) (c.arrange-end.ensures.stops b),
+      ));
       arranged = arranged-joined _ _ _ _ _ _ _ c.loop-at.invariant.arranged
           (arranged-nested _ _ _ _ _ _ c.arrange-end.ensures.arranged c.arrange-end.ensures.at_least (omega arith) (omega arith))
           all (omega arith) (omega arith) (λ k. c.loop-at.invariant.edge k (omega arith) (omega arith))

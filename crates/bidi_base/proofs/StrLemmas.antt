@@ -1,0 +1,143 @@
+-- A text of UTF-8 as a list of characters: `chars bs`, with `len_utf8` for the lengths.
+use Rattle.std.proofs.Common.{◌≡◌, ℕ, ◌+◌, ◌-◌, ◌≤◌, Bool, true, false, ◌&&◌, List, [], ◌∷◌, ◌++◌, length, take, drop, Option, Some, None, option_map, slice_get, refl, sym, ◌∙◌, ap, arith, subst, length-append, length-take, length-drop}
+use Rattle.std.specs.Prelude.{slice_range}
+use Rattle.std.specs.Char.{encode_utf8, len_utf8}
+use Rattle.std.specs.Str.{chars, IsUtf8, IsCharBoundary, encode_utf8_all, all_scalars}
+use Rattle.std.specs.Str.Iter.{char_indices_steps, char_indices_rest, char_indices_offset}
+use Rattle.std.specs.declared.str.CharIndices.{CharIndices}
+use Rattle.std.specs.Iterator.{AlwaysYields}
+use Rattle.std.proofs.lemmas.List.{take-append-drop}
+use Rattle.std.proofs.lemmas.List.Sums.{sum_by-cons}
+use Rattle.std.proofs.lemmas.Str.{encodes-chars, encodes-append, chars-append, scalars-chars, length-encode, len_utf8_bounds, chars_past_char, chars-nil, IsUtf8-past_char, IsUtf8-take, IsCharBoundary-at_seam}
+use Rattle.std.proofs.lemmas.Iterator.{YieldsList}
+use Rattle.std.proofs.lemmas.Iterator.Splits.{YieldsList-from_shown_while}
+use Rattle.bidi_base.specs.Text.{text_len, char_indices, char_indices_from, indices_lengths_from, char_at, is_boundary, subrange, IsLine}
+use Rattle.bidi_base.proofs.TextLemmas.{HasUnits, cut_at, is_boundary-append, char_at-append, subrange-middle, char_at-None, char_at-zero}
+
+pub has_units : HasUnits len_utf8
+has_units c = (len_utf8_bounds c).0
+
+-- the lengths of the characters are those of their bytes
+pub text_len-encodes : (cs : List ℕ) → text_len len_utf8 cs ≡ length (encode_utf8_all cs)
+text_len-encodes [] = refl
+text_len-encodes (c ∷ cs) = omega (arith, sum_by-cons len_utf8 c cs, text_len-encodes cs, length-append (encode_utf8 c) (encode_utf8_all cs), length-encode c)
+
+pub text_len-chars : (bs : List ℕ) → IsUtf8 bs → text_len len_utf8 (chars bs) ≡ length bs
+text_len-chars bs u = text_len-encodes (chars bs) ∙ ap length (encodes-chars bs u)
+
+-- a text that is cut at a boundary is cut between two characters
+chars_cut : (bs : List ℕ) (i : ℕ) → IsUtf8 bs → IsCharBoundary bs i → chars bs ≡ chars (take i bs) ++ chars (drop i bs)
+chars_cut bs i u b = ap chars (sym (take-append-drop i bs)) ∙ chars-append (take i bs) (drop i bs) (IsUtf8-take bs i u b)
+
+text_len-front : (bs : List ℕ) (i : ℕ) → IsUtf8 bs → IsCharBoundary bs i → text_len len_utf8 (chars (take i bs)) ≡ i
+text_len-front bs i u b = omega (arith, text_len-chars (take i bs) (IsUtf8-take bs i u b), length-take i bs, b.0)
+
+pub is_boundary-from_str : (bs : List ℕ) (i : ℕ) → IsUtf8 bs → IsCharBoundary bs i → is_boundary len_utf8 (chars bs) i ≡ true
+is_boundary-from_str bs i u b =
+    let P : List ℕ → ℕ → Type 0 = λ cs n. is_boundary len_utf8 cs n ≡ true in
+    subst (λ cs. P cs i) (sym (chars_cut bs i u b))
+    (subst (λ n. P (chars (take i bs) ++ chars (drop i bs)) n) (text_len-front bs i u b) (is_boundary-append len_utf8 (chars (take i bs)) (chars (drop i bs))))
+
+and_right : (a b : Bool) → (a && b) ≡ true → b ≡ true
+and_right a b e = grind arith
+
+scalars_back : (xs ys : List ℕ) → all_scalars (xs ++ ys) ≡ true → all_scalars ys ≡ true
+scalars_back [] ys e = e
+scalars_back (x ∷ xs) ys e = scalars_back xs ys (and_right _ _ e)
+
+pub IsCharBoundary-from_is_boundary : (bs : List ℕ) (i : ℕ) → IsUtf8 bs → is_boundary len_utf8 (chars bs) i ≡ true → IsCharBoundary bs i
+IsCharBoundary-from_is_boundary bs i u e =
+    let w = cut_at len_utf8 (chars bs) i e in
+    let joined : bs ≡ encode_utf8_all w.front ++ encode_utf8_all w.back = sym (encodes-chars bs u) ∙ ap encode_utf8_all w.joined ∙ encodes-append w.front w.back in
+    let back : IsUtf8 (encode_utf8_all w.back) = (w.back, (scalars_back w.front w.back (sym (ap all_scalars w.joined) ∙ scalars-chars bs u), refl)) in
+    subst (λ n. IsCharBoundary bs n) (sym (text_len-encodes w.front) ∙ w.long) (IsCharBoundary-at_seam bs (encode_utf8_all w.front) (encode_utf8_all w.back) joined back)
+
+-- what stands at a boundary begins what follows it
+pub char_at-from_str : (bs : List ℕ) (i : ℕ) → IsUtf8 bs → IsCharBoundary bs i → char_at len_utf8 (chars bs) i ≡ char_at len_utf8 (chars (drop i bs)) 0
+char_at-from_str bs i u b =
+    ap (λ cs. char_at len_utf8 cs i) (chars_cut bs i u b)
+    ∙ ap (λ n. char_at len_utf8 (chars (take i bs) ++ chars (drop i bs)) n) (sym (text_len-front bs i u b))
+    ∙ char_at-append len_utf8 has_units (chars (take i bs)) (chars (drop i bs))
+
+-- three parts of a text, cut at the ends of a line
+three : (bs : List ℕ) (start end : ℕ) → start ≤ end → bs ≡ take start bs ++ (slice_range bs start end ++ drop (end - start) (drop start bs))
+three bs start end le = sym (take-append-drop start bs) ∙ ap (λ x. take start bs ++ x) (sym (take-append-drop (end - start) (drop start bs)))
+
+-- the characters of a line are those of its bytes
+pub subrange-from_str : (bs : List ℕ) (start end : ℕ) → IsUtf8 bs → IsLine len_utf8 (chars bs) start end → IsUtf8 (slice_range bs start end) → subrange len_utf8 (chars bs) start end ≡ chars (slice_range bs start end)
+subrange-from_str bs start end u line mid =
+    let xs : List ℕ = take start bs in
+    let ys : List ℕ = slice_range bs start end in
+    let zs : List ℕ = drop (end - start) (drop start bs) in
+    let begins = IsCharBoundary-from_is_boundary bs start u line.begins in
+    let ends = IsCharBoundary-from_is_boundary bs end u line.ends in
+    let front : text_len len_utf8 (chars xs) ≡ start = text_len-front bs start u begins in
+    let middle : text_len len_utf8 (chars ys) ≡ end - start = omega (arith, text_len-chars ys mid, length-take (end - start) (drop start bs), length-drop start bs, ends.0, line.ordered) in
+    let cs : chars bs ≡ chars xs ++ (chars ys ++ chars zs) =
+    ap chars (three bs start end line.ordered) ∙ chars-append xs (ys ++ zs) (IsUtf8-take bs start u begins) ∙ ap (λ x. chars xs ++ x) (chars-append ys zs mid) in
+    let sums : text_len len_utf8 (chars xs) + text_len len_utf8 (chars ys) ≡ end = omega (arith, front, middle, line.ordered) in
+    ap (λ x. subrange len_utf8 x start end) cs
+    ∙ subst (λ a. subrange len_utf8 (chars xs ++ (chars ys ++ chars zs)) a end ≡ chars ys) front
+    (subst (λ b. subrange len_utf8 (chars xs ++ (chars ys ++ chars zs)) (text_len len_utf8 (chars xs)) b ≡ chars ys) sums
+    (subrange-middle len_utf8 has_units (chars xs) (chars ys) (chars zs)))
+
+-- ---- what `char_indices` gives
+
+no_chars : (bs : List ℕ) → length bs ≡ 0 → (len : ℕ → ℕ) (n : ℕ) → length (char_indices_from len n (chars bs)) ≡ 0
+no_chars [] e len n = rw chars-nil refl
+no_chars (b ∷ bs) e len n = absurd (omega arith)
+
+abbrev left : CharIndices → List (ℕ × ℕ)
+left s = char_indices_from len_utf8 (char_indices_offset s) (chars (char_indices_rest s))
+
+one_char : (bs rest : List ℕ) (at c : ℕ) → IsUtf8 bs → bs ≡ encode_utf8 c ++ rest → char_indices_from len_utf8 at (chars bs) ≡ (at, c) ∷ char_indices_from len_utf8 (at + length (encode_utf8 c)) (chars rest)
+one_char bs rest at c u e = ap (char_indices_from len_utf8 at) (chars_past_char bs rest c u e) ∙ ap (λ n. (at, c) ∷ char_indices_from len_utf8 (at + n) (chars rest)) (sym (length-encode c))
+
+pub YieldsList-from_char_indices : (s : CharIndices) → IsUtf8 (char_indices_rest s) → YieldsList char_indices_steps (λ p. p) s (left s)
+YieldsList-from_char_indices s u =
+    YieldsList-from_shown_while char_indices_steps (λ p. p) left (λ t. IsUtf8 (char_indices_rest t))
+    (λ s t u h. no_chars (char_indices_rest s) h.0 len_utf8 (char_indices_offset s))
+    (λ s p t u h. (
+      IsUtf8-past_char (char_indices_rest s) (char_indices_rest t) p.1 u h.1,
+      one_char (char_indices_rest s) (char_indices_rest t) (char_indices_offset s) p.1 u h.1
+          ∙ ap (λ n. (char_indices_offset s, p.1) ∷ char_indices_from len_utf8 n (chars (char_indices_rest t))) (sym h.2)
+          ∙ ap (λ n. (n, p.1) ∷ left t) (sym h.0),
+    ))
+    s u
+
+pub char_indices_gives : (s : CharIndices) (bs : List ℕ) → IsUtf8 bs → char_indices_rest s ≡ bs → char_indices_offset s ≡ 0 → AlwaysYields char_indices_steps (λ p. p) s (char_indices len_utf8 (chars bs))
+char_indices_gives s bs u e z =
+    subst (λ x. AlwaysYields char_indices_steps (λ p. p) s (char_indices len_utf8 (chars x))) e
+    (subst (λ n. AlwaysYields char_indices_steps (λ p. p) s (char_indices_from len_utf8 n (chars (char_indices_rest s)))) z
+    (YieldsList-from_char_indices s (subst IsUtf8 (sym e) u)).runs)
+
+not_boundary : (b : Bool) (P : Type 0) → (b ≡ true → P) → (P → ⊥) → b ≡ false
+not_boundary true P f n = absurd (n (f refl))
+not_boundary false P f n = refl
+
+-- nothing stands inside a character
+pub char_at-inside : (bs : List ℕ) (i : ℕ) → IsUtf8 bs → ¬ (IsCharBoundary bs i) → char_at len_utf8 (chars bs) i ≡ None
+char_at-inside bs i u n = char_at-None len_utf8 has_units (chars bs) i (not_boundary _ _ (IsCharBoundary-from_is_boundary bs i u) n)
+
+-- what the first character of the rest says
+pub char_at-read : (bs rest : List ℕ) (i : ℕ) (o : Option ℕ) → IsUtf8 bs → IsCharBoundary bs i → rest ≡ drop i bs → o ≡ slice_get (chars rest) 0 → option_map (λ c. (c, len_utf8 c)) o ≡ char_at len_utf8 (chars bs) i
+char_at-read bs rest i o u b e is =
+    sym (char_at-from_str bs i u b ∙ char_at-zero len_utf8 (chars (drop i bs))
+    ∙ ap (λ x. option_map (λ c. (c, len_utf8 c)) (slice_get (chars x) 0)) (sym e) ∙ ap (option_map (λ c. (c, len_utf8 c))) (sym is))
+
+-- ---- what `Utf8IndexLenIter` has left
+
+abbrev pub lengths_left : CharIndices → List (ℕ × ℕ)
+lengths_left s = indices_lengths_from len_utf8 (char_indices_offset s) (chars (char_indices_rest s))
+
+pub lengths_end : (s : CharIndices) → length (char_indices_rest s) ≡ 0 → lengths_left s ≡ []
+lengths_end s e = none_left (char_indices_rest s) (char_indices_offset s) e where
+  none_left : (bs : List ℕ) (n : ℕ) → length bs ≡ 0 → indices_lengths_from len_utf8 n (chars bs) ≡ []
+  none_left [] n e = rw chars-nil refl
+  none_left (b ∷ bs) n e = absurd (omega arith)
+
+pub lengths_step : (s t : CharIndices) (p : ℕ × ℕ) → IsUtf8 (char_indices_rest s) → char_indices_steps s (Some p) t → lengths_left s ≡ (p.0, len_utf8 p.1) ∷ lengths_left t
+lengths_step s t p u h =
+    ap (indices_lengths_from len_utf8 (char_indices_offset s)) (chars_past_char (char_indices_rest s) (char_indices_rest t) p.1 u h.1)
+    ∙ ap (λ n. (n, len_utf8 p.1) ∷ indices_lengths_from len_utf8 (char_indices_offset s + len_utf8 p.1) (chars (char_indices_rest t))) (sym h.0)
+    ∙ ap (λ n. (p.0, len_utf8 p.1) ∷ indices_lengths_from len_utf8 n (chars (char_indices_rest t))) (omega (arith, h.2, length-encode p.1))

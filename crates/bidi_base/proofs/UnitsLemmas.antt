@@ -1,0 +1,126 @@
+-- What the test `is_per_char` says of entries that go with units.
+use Rattle.std.proofs.Common.{◌≡◌, ◌==◌, ◌↔◌, ℕ, zero, suc, ◌<◌, ◌≤◌, Bool, true, false, ◌&&◌, nat_le, List, [], ◌∷◌, ◌++◌, length, get_or, take, drop, refl, sym, ap, ◌∙◌, arith, length-append, length-take}
+use Rattle.std.proofs.Math.Seq.{take-append_seam, drop-append_seam}
+use Rattle.std.proofs.lemmas.List.{nil_from_length, take-append-drop, length-replicate}
+use Rattle.std.proofs.lemmas.Bool.Decides.{nat_tests}
+use Rattle.std.specs.List.{list_all}
+use Rattle.std.specs.Prelude.{replicate, IsTrue}
+use Rattle.bidi_base.specs.Text.{text_len, per_unit, per_char, all_same, is_per_char, IsPerChar}
+use Rattle.bidi_base.proofs.TextLemmas.{HasUnits}
+use Rattle.bidi_base.proofs.PerUnit.{length-per_unit, per_char-per_unit}
+
+pub all_same-first : {X : Type 0} (eq : X → X → Bool) (xs : List X) (first : X) → 1 ≤ length xs → first ≡ get_or xs 0 first → list_all (λ x. eq x first) xs ≡ all_same eq xs
+all_same-first eq [] first h e = absurd (omega arith)
+all_same-first eq (y ∷ ys) first h e = ap (λ z. list_all (λ x. eq x z) (y ∷ ys)) e
+
+-- ---- steps of `is_per_char`, where c is the first of the characters ds
+module _ {X : Type 0} (eq : X → X → Bool) (len_of : ℕ → ℕ) (ds cs : List ℕ) (c : ℕ) (units : List X) (first : ds ≡ c ∷ cs) where
+  pub step_short : length units < len_of c → is_per_char eq len_of ds units ≡ false
+  step_short h = rw first (short (len_of c) (length units) _ h)
+    where
+      short : (n m : ℕ) (b : Bool) → m < n → (nat_le n m && b) ≡ false
+      short n m b h = grind (arith, nat_tests)
+
+  pub step_unequal : all_same eq (take (len_of c) units) ≡ false → is_per_char eq len_of ds units ≡ false
+  step_unequal e = rw first (unequal _ _ _ e)
+    where
+      unequal : (a b d : Bool) → b ≡ false → (a && (b && d)) ≡ false
+      unequal a b d e = grind (arith, nat_tests)
+
+  pub step_on : len_of c ≤ length units → all_same eq (take (len_of c) units) ≡ true → is_per_char eq len_of ds units ≡ is_per_char eq len_of cs (drop (len_of c) units)
+  step_on h e = rw first (on (len_of c) (length units) _ _ h e)
+    where
+      on : (n m : ℕ) (b d : Bool) → n ≤ m → b ≡ true → (nat_le n m && (b && d)) ≡ d
+      on n m b d h e = grind (arith, nat_tests)
+
+-- ---- units that are those of some values
+
+pub per_unit-from_IsPerChar : {X : Type 0} (d : X) (len_of : ℕ → ℕ) → HasUnits len_of → (chars : List ℕ) (units : List X) → IsPerChar len_of chars units → units ≡ per_unit len_of chars (per_char d len_of chars units)
+per_unit-from_IsPerChar d len_of h chars units w =
+    let values : per_char d len_of chars units ≡ w.0 = ap (per_char d len_of chars) w.2 ∙ per_char-per_unit len_of h d chars w.0 w.1 in
+    w.2 ∙ ap (per_unit len_of chars) (sym values)
+
+pub length-from_IsPerChar : {X : Type 0} (len_of : ℕ → ℕ) (chars : List ℕ) (units : List X) → IsPerChar len_of chars units → length units ≡ text_len len_of chars
+length-from_IsPerChar len_of chars units w = ap length w.2 ∙ length-per_unit len_of chars w.0 w.1
+
+-- ---- where the test `eq` tells entries apart
+
+-- equal by the test is the same, and each entry equals itself
+pub record IsSameTest {X : Type 0} (eq : X → X → Bool) : Type 0 where
+  pub same : (x y : X) → eq x y ≡ true → x ≡ y
+  pub self : (x : X) → eq x x ≡ true
+
+both : (a b : Bool) → (a && b) ≡ true → (a ≡ true) × (b ≡ true)
+both a b e = grind arith
+
+le_true : (m n : ℕ) → nat_le m n ≡ true → m ≤ n
+le_true m n e = grind (arith, nat_tests)
+
+zero_true : (n : ℕ) → (n == 0) ≡ true → n ≡ 0
+zero_true n e = grind (arith, nat_tests)
+
+module _ {X : Type 0} (eq : X → X → Bool) (test : IsSameTest eq) where
+  replicate_from_all : (y : X) (xs : List X) → list_all (λ x. eq x y) xs ≡ true → xs ≡ replicate (length xs) y
+  replicate_from_all y [] e = refl
+  replicate_from_all y (x ∷ xs) e =
+      let w = both _ _ e in
+      ap (λ z. z ∷ xs) (test.same x y w.0) ∙ ap (λ zs. y ∷ zs) (replicate_from_all y xs w.1)
+
+  one_value : (n : ℕ) (units : List X) → 1 ≤ n → n ≤ length units → all_same eq (take n units) ≡ true → (v : X) × (take n units ≡ replicate n v)
+  one_value zero units pos le e = absurd (omega arith)
+  one_value (suc n) [] pos le e = absurd (omega arith)
+  one_value (suc n) (v ∷ units) pos le e =
+      let long : length (v ∷ take n units) ≡ suc n = omega (arith, length-take n units) in
+      (v, replicate_from_all v (v ∷ take n units) e ∙ ap (λ m. replicate m v) long)
+
+  -- the units are those of some values
+  pub IsPerChar-from_is_per_char : (len_of : ℕ → ℕ) → HasUnits len_of → (chars : List ℕ) (units : List X) → is_per_char eq len_of chars units ≡ true → IsPerChar len_of chars units
+  IsPerChar-from_is_per_char len_of h [] units e = ([], refl, nil_from_length units (zero_true (length units) e))
+  IsPerChar-from_is_per_char len_of h (c ∷ chars) units e =
+      let w = both _ _ e in
+      let v = both _ _ w.1 in
+      let first = one_value (len_of c) units (h c) (le_true (len_of c) (length units) w.0) v.0 in
+      let rest = IsPerChar-from_is_per_char len_of h chars (drop (len_of c) units) v.1 in
+      (first.0 ∷ rest.0, ap suc rest.1, sym (take-append-drop (len_of c) units) ∙ ap (λ xs. xs ++ drop (len_of c) units) first.1 ∙ ap (λ xs. replicate (len_of c) first.0 ++ xs) rest.2)
+
+  all_same-replicate : (n : ℕ) (x : X) → all_same eq (replicate n x) ≡ true
+  all_same-replicate zero x = refl
+  all_same-replicate (suc n) x = all (suc n)
+    where
+      two : (a b : Bool) → a ≡ true → b ≡ true → (a && b) ≡ true
+      two a b p q = grind arith
+
+      all : (n : ℕ) → list_all (λ y. eq y x) (replicate n x) ≡ true
+      all zero = refl
+      all (suc n) = two _ _ (test.self x) (all n)
+
+  pub is_per_char-per_unit : (len_of : ℕ → ℕ) (chars : List ℕ) (values : List X) → length values ≡ length chars → is_per_char eq len_of chars (per_unit len_of chars values) ≡ true
+  is_per_char-per_unit len_of [] values long = refl
+  is_per_char-per_unit len_of (c ∷ chars) [] long = absurd (omega arith)
+  is_per_char-per_unit len_of (c ∷ chars) (v ∷ values) long =
+      three (len_of c) (length (replicate (len_of c) v ++ per_unit len_of chars values)) _ _
+      (omega (arith, length-append (replicate (len_of c) v) (per_unit len_of chars values), length-replicate (len_of c) v))
+      (ap (all_same eq) front ∙ all_same-replicate (len_of c) v)
+      (ap (is_per_char eq len_of chars) back ∙ is_per_char-per_unit len_of chars values (omega arith))
+    where
+      three : (m n : ℕ) (a b : Bool) → m ≤ n → a ≡ true → b ≡ true → (nat_le m n && (a && b)) ≡ true
+      three m n a b h p q = grind (arith, nat_tests)
+
+      front : take (len_of c) (replicate (len_of c) v ++ per_unit len_of chars values) ≡ replicate (len_of c) v
+      front = ap (λ m. take m (replicate (len_of c) v ++ per_unit len_of chars values)) (sym (length-replicate (len_of c) v)) ∙ take-append_seam (replicate (len_of c) v) (per_unit len_of chars values)
+
+      back : drop (len_of c) (replicate (len_of c) v ++ per_unit len_of chars values) ≡ per_unit len_of chars values
+      back = ap (λ m. drop m (replicate (len_of c) v ++ per_unit len_of chars values)) (sym (length-replicate (len_of c) v)) ∙ drop-append_seam (replicate (len_of c) v) (per_unit len_of chars values)
+
+  pub is_per_char-from_IsPerChar : (len_of : ℕ → ℕ) (chars : List ℕ) (units : List X) → IsPerChar len_of chars units → is_per_char eq len_of chars units ≡ true
+  is_per_char-from_IsPerChar len_of chars units w = ap (is_per_char eq len_of chars) w.2 ∙ is_per_char-per_unit len_of chars w.0 w.1
+
+  -- the test says just that
+  pub is_per_char-is : (len_of : ℕ → ℕ) → HasUnits len_of → (chars : List ℕ) (units : List X) → IsTrue (is_per_char eq len_of chars units) ↔ IsPerChar len_of chars units
+  is_per_char-is len_of h chars units = (IsPerChar-from_is_per_char len_of h chars units, is_per_char-from_IsPerChar len_of chars units)
+
+  pub per_unit-from_is_per_char : (d : X) (len_of : ℕ → ℕ) → HasUnits len_of → (chars : List ℕ) (units : List X) → is_per_char eq len_of chars units ≡ true → units ≡ per_unit len_of chars (per_char d len_of chars units)
+  per_unit-from_is_per_char d len_of h chars units e = per_unit-from_IsPerChar d len_of h chars units (IsPerChar-from_is_per_char len_of h chars units e)
+
+  pub length-from_is_per_char : (len_of : ℕ → ℕ) → HasUnits len_of → (chars : List ℕ) (units : List X) → is_per_char eq len_of chars units ≡ true → length units ≡ text_len len_of chars
+  length-from_is_per_char len_of h chars units e = length-from_IsPerChar len_of chars units (IsPerChar-from_is_per_char len_of h chars units e)

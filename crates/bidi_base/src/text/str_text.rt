@@ -1,0 +1,123 @@
+//! Texts of UTF-8, whose units are bytes.
+
+ghost use Rattle.std.specs.Prelude.{◌≡◌, ℕ, ◌+◌, ◌<◌, ◌^◌, length};
+ghost use Rattle.std.specs.Char.{len_utf8};
+ghost use Rattle.std.specs.Str.{chars, IsUtf8};
+ghost use Rattle.std.specs.Str.Iter.{char_indices_rest, char_indices_offset};
+ghost use Rattle.std.specs.Iterator.{YieldsFirst, item_count};
+ghost use Rattle.bidi_base.specs.Text.{indices_lengths_from};
+
+use super::TextSource;
+use std::ops::Range;
+use std::str::{CharIndices, Chars};
+
+/// A text of UTF-8. Its units are bytes, so a character is 1 to 4 units long.
+#[derive(Clone, Copy)]
+pub struct StrText<'t> {
+    text: &'t str,
+}
+
+impl<'t> StrText<'t> {
+    /// The text of a string.
+    pub fn new(text: &'t str) -> StrText<'t>
+        ensures { result.text.now ≡ text.now }
+    {
+        StrText { text }
+    }
+
+    /// The string, as it was given.
+    pub fn as_str(self) -> &'t str
+        ensures { result.now ≡ self.entry.text.now }
+    {
+        self.text
+    }
+}
+
+/// Gives the place and the length in bytes of each character of a string, in order.
+#[derive(Debug, Drop)]
+pub struct Utf8IndexLenIter<'t> {
+    iter: CharIndices<'t>,
+}
+
+impl<'t> Utf8IndexLenIter<'t> {
+    /// Begins at the string's first character.
+    pub fn new(text: &'t str) -> Utf8IndexLenIter<'t>
+        ensures rest { char_indices_rest result.iter ≡ text.now }
+        ensures at { char_indices_offset result.iter ≡ 0 }
+    {
+        Utf8IndexLenIter {
+            iter: text.char_indices(),
+        }
+    }
+}
+
+impl<'t> Iterator for Utf8IndexLenIter<'t> {
+    type Item = (usize, usize);
+
+    ghost can_next = { λ s. IsUtf8 (char_indices_rest s.iter) × (char_indices_offset s.iter + length (char_indices_rest s.iter) < 2 ^ 64) };
+
+    ghost next_gives = { YieldsFirst (λ s. indices_lengths_from len_utf8 (char_indices_offset s.iter) (chars (char_indices_rest s.iter))) };
+
+    ghost remaining = { item_count (λ s. indices_lengths_from len_utf8 (char_indices_offset s.iter) (chars (char_indices_rest s.iter))) };
+
+    fn next(&mut self) -> Option<(usize, usize)> {
+        match self.iter.next() {
+            Some((at, c)) => Some((at, c.len_utf8())),
+            None => None,
+        }
+    }
+}
+
+impl<'t> TextSource for StrText<'t> {
+    type CharIter = Chars<'t>;
+
+    type CharIndexIter = CharIndices<'t>;
+
+    type IndexLenIter = Utf8IndexLenIter<'t>;
+
+    ghost characters = { λ t. chars t.text.now };
+
+    ghost units = { len_utf8 };
+
+    fn len(&self) -> usize {
+        self.as_str().len()
+    }
+
+    fn char_at(&self, index: usize) -> Option<(char, usize)> {
+        let text = self.as_str();
+        if !text.is_char_boundary(index) {
+            return None;
+        }
+        match text[index..].chars().next() {
+            Some(c) => Some((c, c.len_utf8())),
+            None => None,
+        }
+    }
+
+    fn subrange(self, range: Range<usize>) -> StrText<'t> {
+        let text = self.as_str();
+        StrText::new(&text[range])
+    }
+
+    fn chars(self) -> Chars<'t> {
+        self.as_str().chars()
+    }
+
+    fn char_indices(self) -> CharIndices<'t> {
+        self.as_str().char_indices()
+    }
+
+    fn indices_lengths(self) -> Utf8IndexLenIter<'t> {
+        Utf8IndexLenIter::new(self.as_str())
+    }
+
+    fn char_len(c: char) -> usize
+        ensures { result ≡ len_utf8 c }
+    {
+        c.len_utf8()
+    }
+
+    ghost use Rattle.std.proofs.lemmas.Str.{len_utf8_bounds};
+
+    ghost has_units = { λ c. (len_utf8_bounds c).0 };
+}

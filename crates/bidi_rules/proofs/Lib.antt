@@ -1,0 +1,2 @@
+pub mod StackLemmas
+pub mod WalkLemmas

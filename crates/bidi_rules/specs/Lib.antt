@@ -1,0 +1,2 @@
+pub mod RunSequence
+pub mod Status

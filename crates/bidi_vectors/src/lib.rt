@@ -1,0 +1,15 @@
+//! Worked rows of the Unicode Bidirectional Algorithm, as tests of the crates below.
+#![tactic(auto)]
+
+#[cfg(test)]
+mod level_rows;
+#[cfg(test)]
+mod order_rows;
+#[cfg(test)]
+mod plain_explicit;
+#[cfg(test)]
+mod plain_sequences;
+#[cfg(test)]
+mod source_rows;
+#[cfg(test)]
+mod text_rows;
