@@ -1,5 +1,6 @@
 pub mod BracketsLemmas
 pub mod ClassesLemmas
+pub mod DirectionWalk
 pub mod EmbeddingsLemmas
 mod Examples
 pub mod ExplicitLemmas
