@@ -1,5 +1,5 @@
 -- The test `is_per_char` at classes and at levels, whose `==` tells each two apart.
-use Rattle.std.proofs.Common.{◌≡◌, ◌==◌, ℕ, true, refl, rules, arith}
+use Rattle.std.proofs.Common.{◌≡◌, ◌==◌, ℕ, Bool, true, refl, rules, arith}
 use Rattle.std.proofs.lemmas.Bool.Decides.{nat_tests}
 use denote.Enum.Bare.{same_true}
 use Rattle.bidi_base.specs.contracts.char_data.BidiClass.{the_type}
@@ -9,14 +9,22 @@ use Rattle.bidi_base.specs.declared.char_data.BidiClass.{BidiClass}
 use Rattle.bidi_base.specs.declared.char_data.BidiClass.TheVariants.{L}
 use Rattle.bidi_base.proofs.UnitsLemmas.{IsSameTest}
 
-class_self : (x : BidiClass) → ghosts.eq x x ≡ true
+-- `==` of classes
+abbrev pub class_eq : BidiClass → BidiClass → Bool
+class_eq = ghosts.eq
+
+class_self : (x : BidiClass) → class_eq x x ≡ true
 class_self L = refl
 class_self _ = refl
 
-pub class_test : IsSameTest ghosts.eq
+pub class_test : IsSameTest class_eq
 class_test = record { same = λ x y e. same_true the_type (search rules) x y e; self = class_self }
 
-pub level_test : IsSameTest level_ghosts.eq
+-- `==` of levels
+abbrev pub level_eq : ℕ → ℕ → Bool
+level_eq = level_ghosts.eq
+
+pub level_test : IsSameTest level_eq
 level_test = record { same = λ x y e. same_number x y e; self = λ x. self_number x }
   where
     same_number : (m n : ℕ) → (m == n) ≡ true → m ≡ n

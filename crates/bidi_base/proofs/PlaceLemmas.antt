@@ -129,6 +129,13 @@ length-indices_lengths_from len_of from (c ∷ cs) = ap suc (length-indices_leng
 pub char_index-le : (len_of : ℕ → ℕ) (chars : List ℕ) (u : ℕ) → char_index len_of chars u ≤ length chars
 char_index-le len_of chars u = omega (arith, count_by-le-length (λ (e : ℕ × ℕ). nat_lt e.0 u) (char_indices len_of chars), length-char_indices_from len_of 0 chars)
 
+-- a line begins at the place of the character at index i, and ends at that of the one at j
+pub record IsLineAt (len_of : ℕ → ℕ) (chars : List ℕ) (start end i j : ℕ) : Type 0 where
+  pub begins : start ≡ place len_of chars i
+  pub ends : end ≡ place len_of chars j
+  pub ordered : i ≤ j
+  pub within : j ≤ length chars
+
 module _ (len_of : ℕ → ℕ) (h : HasUnits len_of) (chars : List ℕ) where
   pub place-char_index : (u : ℕ) → is_boundary len_of chars u ≡ true → place len_of chars (char_index len_of chars u) ≡ u
   place-char_index u e =
@@ -138,14 +145,7 @@ module _ (len_of : ℕ → ℕ) (h : HasUnits len_of) (chars : List ℕ) where
       let index : char_index len_of chars u ≡ length w.front = ap (char_index len_of chars) (sym whole) ∙ char_index-place len_of chars h (length w.front) short in
       ap (place len_of chars) index ∙ whole
 
-  -- the indexes of the ends of a line
-  pub record IsLineAt (start end i j : ℕ) : Type 0 where
-    pub begins : start ≡ place len_of chars i
-    pub ends : end ≡ place len_of chars j
-    pub ordered : i ≤ j
-    pub within : j ≤ length chars
-
-  pub line_places : (start end : ℕ) → IsLine len_of chars start end → IsLineAt start end (char_index len_of chars start) (char_index len_of chars end)
+  pub line_places : (start end : ℕ) → IsLine len_of chars start end → IsLineAt len_of chars start end (char_index len_of chars start) (char_index len_of chars end)
   line_places start end line =
       let first = place-char_index start line.begins in
       let last = place-char_index end line.ends in

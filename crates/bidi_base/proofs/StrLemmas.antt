@@ -1,5 +1,6 @@
 -- A text of UTF-8 as a list of characters: `chars bs`, with `len_utf8` for the lengths.
 use Rattle.std.proofs.Common.{◌≡◌, ℕ, ◌+◌, ◌-◌, ◌≤◌, Bool, true, false, ◌&&◌, List, [], ◌∷◌, ◌++◌, length, take, drop, Option, Some, None, option_map, slice_get, refl, sym, ◌∙◌, ap, arith, subst, length-append, length-take, length-drop}
+use Rattle.std.specs.Prelude.{slice_range}
 use Rattle.std.specs.Char.{encode_utf8, len_utf8}
 use Rattle.std.specs.Str.{chars, IsUtf8, IsCharBoundary, encode_utf8_all, all_scalars}
 use Rattle.std.specs.Str.Iter.{char_indices_steps, char_indices_rest, char_indices_offset}
@@ -59,24 +60,24 @@ char_at-from_str bs i u b =
     ∙ char_at-append len_utf8 has_units (chars (take i bs)) (chars (drop i bs))
 
 -- three parts of a text, cut at the ends of a line
-three : (bs : List ℕ) (m n : ℕ) → m ≤ n → bs ≡ take m bs ++ (take (n - m) (drop m bs) ++ drop (n - m) (drop m bs))
-three bs m n le = sym (take-append-drop m bs) ∙ ap (λ x. take m bs ++ x) (sym (take-append-drop (n - m) (drop m bs)))
+three : (bs : List ℕ) (start end : ℕ) → start ≤ end → bs ≡ take start bs ++ (slice_range bs start end ++ drop (end - start) (drop start bs))
+three bs start end le = sym (take-append-drop start bs) ∙ ap (λ x. take start bs ++ x) (sym (take-append-drop (end - start) (drop start bs)))
 
--- where the text xs ++ ys may be cut at the length of ys's front, so may ys
-pub subrange-from_str : (bs : List ℕ) (m n : ℕ) → IsUtf8 bs → IsLine len_utf8 (chars bs) m n → IsUtf8 (take (n - m) (drop m bs)) → subrange len_utf8 (chars bs) m n ≡ chars (take (n - m) (drop m bs))
-subrange-from_str bs m n u line mid =
-    let xs : List ℕ = take m bs in
-    let ys : List ℕ = take (n - m) (drop m bs) in
-    let zs : List ℕ = drop (n - m) (drop m bs) in
-    let begins = IsCharBoundary-from_is_boundary bs m u line.begins in
-    let ends = IsCharBoundary-from_is_boundary bs n u line.ends in
-    let front : text_len len_utf8 (chars xs) ≡ m = text_len-front bs m u begins in
-    let middle : text_len len_utf8 (chars ys) ≡ n - m = omega (arith, text_len-chars ys mid, length-take (n - m) (drop m bs), length-drop m bs, ends.0, line.ordered) in
+-- the characters of a line are those of its bytes
+pub subrange-from_str : (bs : List ℕ) (start end : ℕ) → IsUtf8 bs → IsLine len_utf8 (chars bs) start end → IsUtf8 (slice_range bs start end) → subrange len_utf8 (chars bs) start end ≡ chars (slice_range bs start end)
+subrange-from_str bs start end u line mid =
+    let xs : List ℕ = take start bs in
+    let ys : List ℕ = slice_range bs start end in
+    let zs : List ℕ = drop (end - start) (drop start bs) in
+    let begins = IsCharBoundary-from_is_boundary bs start u line.begins in
+    let ends = IsCharBoundary-from_is_boundary bs end u line.ends in
+    let front : text_len len_utf8 (chars xs) ≡ start = text_len-front bs start u begins in
+    let middle : text_len len_utf8 (chars ys) ≡ end - start = omega (arith, text_len-chars ys mid, length-take (end - start) (drop start bs), length-drop start bs, ends.0, line.ordered) in
     let cs : chars bs ≡ chars xs ++ (chars ys ++ chars zs) =
-    ap chars (three bs m n line.ordered) ∙ chars-append xs (ys ++ zs) (IsUtf8-take bs m u begins) ∙ ap (λ x. chars xs ++ x) (chars-append ys zs mid) in
-    let sums : text_len len_utf8 (chars xs) + text_len len_utf8 (chars ys) ≡ n = omega (arith, front, middle, line.ordered) in
-    ap (λ x. subrange len_utf8 x m n) cs
-    ∙ subst (λ a. subrange len_utf8 (chars xs ++ (chars ys ++ chars zs)) a n ≡ chars ys) front
+    ap chars (three bs start end line.ordered) ∙ chars-append xs (ys ++ zs) (IsUtf8-take bs start u begins) ∙ ap (λ x. chars xs ++ x) (chars-append ys zs mid) in
+    let sums : text_len len_utf8 (chars xs) + text_len len_utf8 (chars ys) ≡ end = omega (arith, front, middle, line.ordered) in
+    ap (λ x. subrange len_utf8 x start end) cs
+    ∙ subst (λ a. subrange len_utf8 (chars xs ++ (chars ys ++ chars zs)) a end ≡ chars ys) front
     (subst (λ b. subrange len_utf8 (chars xs ++ (chars ys ++ chars zs)) (text_len len_utf8 (chars xs)) b ≡ chars ys) sums
     (subrange-middle len_utf8 has_units (chars xs) (chars ys) (chars zs)))
 

@@ -63,27 +63,8 @@ table_fault-none ranges none =
     let found : find test (indexes ranges) ≡ None = subst (λ (ks : List ℕ). find test ks ≡ None) (indexes_between ranges) (find-between-is_None test 0 (length ranges) (λ k from h. ap is_some (none k h))) in
     ap (option_and_then (fault_at ranges)) found
 
--- the fault of a range by what its numbers are: of the range itself, then against the one before it
-tells : (first last before i : ℕ) → last < first → (if nat_lt last first then Some (Reversed i) else if nat_lt 0 i && nat_le first before then Some (NotAscending i) else None) ≡ Some (Reversed i)
-tells first last before i h = grind (arith, nat_tests)
-
-tells_second : (first last before i : ℕ) → first ≤ last → 0 < i → first ≤ before → (if nat_lt last first then Some (Reversed i) else if nat_lt 0 i && nat_le first before then Some (NotAscending i) else None) ≡ Some (NotAscending i)
-tells_second first last before i h k l = grind (arith, nat_tests)
-
-tells_nothing : (first last before i : ℕ) → first ≤ last → (0 < i → before < first) → (if nat_lt last first then Some (Reversed i) else if nat_lt 0 i && nat_le first before then Some (NotAscending i) else None) ≡ None
-tells_nothing first last before i h k = grind (arith, nat_tests)
-
 in_order : (first last before i : ℕ) → (if nat_lt last first then Some (Reversed i) else if nat_lt 0 i && nat_le first before then Some (NotAscending i) else None) ≡ None → (first ≤ last) × (0 < i → before < first)
 in_order first last before i h = (grind (arith, nat_tests), λ (k : 0 < i). grind (arith, nat_tests))
-
-pub fault_at-reversed : (ranges : List (ℕ × ℕ × BidiClass)) (i : ℕ) → (range_at ranges i).1 < (range_at ranges i).0 → fault_at ranges i ≡ Some (Reversed i)
-fault_at-reversed ranges i h = tells (range_at ranges i).0 (range_at ranges i).1 (range_at ranges (i - 1)).1 i h
-
-pub fault_at-not_ascending : (ranges : List (ℕ × ℕ × BidiClass)) (i : ℕ) → (range_at ranges i).0 ≤ (range_at ranges i).1 → 0 < i → (range_at ranges i).0 ≤ (range_at ranges (i - 1)).1 → fault_at ranges i ≡ Some (NotAscending i)
-fault_at-not_ascending ranges i h k l = tells_second (range_at ranges i).0 (range_at ranges i).1 (range_at ranges (i - 1)).1 i h k l
-
-pub fault_at-none : (ranges : List (ℕ × ℕ × BidiClass)) (i : ℕ) → (range_at ranges i).0 ≤ (range_at ranges i).1 → (0 < i → (range_at ranges (i - 1)).1 < (range_at ranges i).0) → fault_at ranges i ≡ None
-fault_at-none ranges i h k = tells_nothing (range_at ranges i).0 (range_at ranges i).1 (range_at ranges (i - 1)).1 i h k
 
 -- a range with no fault
 pub fault_at-in_order : (ranges : List (ℕ × ℕ × BidiClass)) (i : ℕ) → fault_at ranges i ≡ None → ((range_at ranges i).0 ≤ (range_at ranges i).1) × (0 < i → (range_at ranges (i - 1)).1 < (range_at ranges i).0)
@@ -197,18 +178,18 @@ put_mid-after start count xs x d n fits after =
     ∙ get_or-drop start xs (count + (n - start - count)) d
     ∙ ap (λ (k : ℕ). get_or xs k d) (let same : start + (count + (n - start - count)) ≡ n = omega arith in same)
 
--- the classes of ASCII by the ranges from `i` on, once the part that range `i` holds was filled
-pub ascii_filled : (ranges : List (ℕ × ℕ × BidiClass)) (i later end : ℕ) (classes part : List BidiClass) → later ≡ i + 1 → i < length ranges → end ≡ min ((range_at ranges i).1 + 1) 128 → (range_at ranges i).0 < end → length classes ≡ 128
+-- the classes of the first characters by the ranges from `i` on, once the part that range `i` holds was filled
+pub kept-filled : (kept : ℕ) (ranges : List (ℕ × ℕ × BidiClass)) (i later end : ℕ) (classes part : List BidiClass) → later ≡ i + 1 → i < length ranges → end ≡ min ((range_at ranges i).1 + 1) kept → (range_at ranges i).0 < end → length classes ≡ kept
     → part ≡ replicate (length (take (end - (range_at ranges i).0) (drop (range_at ranges i).0 classes))) (range_at ranges i).2
-    → ((n : ℕ) → n < 128 → get_or classes n L ≡ table_class (drop later ranges) n)
-    → (n : ℕ) → n < 128 → get_or (put_mid (range_at ranges i).0 (end - (range_at ranges i).0) classes part) n L ≡ table_class (drop i ranges) n
-ascii_filled ranges i later end classes part next below at_end some long filled so_far n ascii =
+    → ((n : ℕ) → n < kept → get_or classes n L ≡ table_class (drop later ranges) n)
+    → (n : ℕ) → n < kept → get_or (put_mid (range_at ranges i).0 (end - (range_at ranges i).0) classes part) n L ≡ table_class (drop i ranges) n
+kept-filled kept ranges i later end classes part next below at_end some long filled so_far n within =
     let r : ℕ × ℕ × BidiClass = range_at ranges i in
     let count : ℕ = end - r.0 in
     let counted : length (take count (drop r.0 classes)) ≡ count = length-take-le count (drop r.0 classes) (omega (arith, length-drop r.0 classes)) in
     let whole : part ≡ replicate count r.2 = filled ∙ ap (λ (k : ℕ). replicate k r.2) counted in
     let by_range : table_class (drop i ranges) n ≡ cond (in_range n r) r.2 (table_class (drop (i + 1) ranges) n) = table_class-drop ranges i n below in
-    let earlier : get_or classes n L ≡ table_class (drop (i + 1) ranges) n = so_far n ascii ∙ ap (λ (k : ℕ). table_class (drop k ranges) n) next in
+    let earlier : get_or classes n L ≡ table_class (drop (i + 1) ranges) n = so_far n within ∙ ap (λ (k : ℕ). table_class (drop k ranges) n) next in
     let as_found : get_or (put_mid r.0 count classes part) n L ≡ get_or (put_mid r.0 count classes (replicate count r.2)) n L = ap (λ (xs : List BidiClass). get_or (put_mid r.0 count classes xs) n L) whole in
     as_found ∙ (elim (cases_lt n r.0) [
       | inl before ↦

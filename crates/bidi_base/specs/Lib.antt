@@ -12,12 +12,15 @@ pub mod Levels
 pub mod Line
 pub mod Matching
 pub mod Neutral
+pub mod Openers
 pub mod Order
 pub mod Paragraphs
 pub mod Places
 pub mod Reading
+pub mod SequencePass
 pub mod Sequences
 pub mod Source
+pub mod StatusMachine
 pub mod Stored
 pub mod Table
 pub mod Text

@@ -7,9 +7,9 @@ use Rattle.bidi_show.specs.declared.command.Command.{Command}
 use Rattle.bidi_show.specs.declared.command.Command.TheVariants.{Map}
 
 -- a line of numbers in decimal, separated by one space
-abbrev pub number_line : List ℕ → List ℕ
-number_line numbers = join_with_byte (byte " ") (map decimal numbers) ++ codes "\n"
+abbrev pub line_of : List ℕ → List ℕ
+line_of numbers = join_with_byte (byte " ") (map decimal numbers) ++ codes "\n"
 
 -- what a command prints: for `map` the visual order of the levels
 abbrev pub answer_to : Command → List ℕ
-answer_to (Map levels) = number_line (visual_order levels)
+answer_to (Map levels) = line_of (visual_order levels)

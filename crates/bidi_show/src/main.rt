@@ -16,10 +16,9 @@ mod tests;
 
 use fault::ShowFault;
 use run::run_over_streams;
-use std::env;
-use std::io;
 use std::process::ExitCode;
 use std::rt::Env;
+use std::{env, io};
 
 // The words after the program's name.
 fn arguments(rt: &(impl Env + AllocGlobal)) -> Result<Vec<String>, ShowFault>

@@ -2,22 +2,22 @@
 ghost use Rattle.std.specs.Prelude.{◌≡◌, map, filter_map, is_some, IfOk, string_bytes};
 ghost use Rattle.std.specs.Char.{is_ascii_digit};
 ghost use Rattle.std.specs.List.{list_all};
-ghost use Rattle.bidi_show.specs.Numbers.{number_of as number_of_word, level_of as level_of_word, levels_of};
+ghost use Rattle.bidi_show.specs.Numbers.{number_of, level_of, levels_of};
 
-use unicode_bidi::Level;
 use std::alloc::{AllocError, Global};
 use std::marker::Model;
+use unicode_bidi::Level;
 
-/// Whether a word has digits alone.
+// Whether a word has digits alone.
 fn is_digits(word: &str) -> bool
     ensures { result ≡ list_all is_ascii_digit word.now }
 {
     word.bytes().all(|byte| byte.is_ascii_digit())
 }
 
-/// The number that a word of one to three digits writes, leading zeros allowed.
-pub fn number_of(word: &str) -> Option<u16>
-    ensures { result ≡ number_of_word word.now }
+// The number that a word of one to three digits writes, with or without leading zeros.
+fn parse_number(word: &str) -> Option<u16>
+    ensures { result ≡ number_of word.now }
 {
     if word.len() <= 3 && is_digits(word) {
         word.parse().ok()
@@ -27,27 +27,29 @@ pub fn number_of(word: &str) -> Option<u16>
 }
 
 /// The level that a word writes: a number of at most 126.
-pub fn level_of(word: &str) -> Option<Level>
-    ensures { result ≡ level_of_word word.now }
+pub fn parse_level(word: &str) -> Option<Level>
+    ensures { result ≡ level_of word.now }
 {
-    let number = number_of(word)?;
-    Level::new(u8::try_from(number).ok()?).ok()
+    let number = u8::try_from(parse_number(word)?).ok()?;
+    Level::new(number).ok()
 }
 
 // Whether each word writes a level.
 fn are_levels(words: &[String]) -> bool
-    ensures { result ≡ list_all (λ word. is_some (level_of_word (string_bytes word))) words.now }
+    ensures { result ≡ list_all (λ word. is_some (level_of (string_bytes word))) words.now }
 {
-    words.iter().all(|word| level_of(word.as_str()).is_some())
+    words
+        .iter()
+        .all(|word| parse_level(word.as_str()).is_some())
 }
 
 // The levels that words write.
 fn levels_in(alloc: Global, words: &[String]) -> Result<Vec<Level>, AllocError>
-    ensures { IfOk result (λ v. v.items ≡ filter_map (λ word. level_of_word (string_bytes word)) words.now) }
+    ensures { IfOk result (λ v. v.items ≡ filter_map (λ word. level_of (string_bytes word)) words.now) }
 {
     words
         .iter()
-        .filter_map(|word| level_of(word.as_str()))
+        .filter_map(|word| parse_level(word.as_str()))
         .collect(alloc)
 }
 
@@ -68,7 +70,7 @@ impl<'w> Model for LevelWords<'w> {
 
 impl<'w> LevelWords<'w> {
     /// These words, if each of them writes a level. It takes no memory.
-    pub fn new(words: &'w [String]) -> Option<LevelWords<'w>>
+    pub fn parse(words: &'w [String]) -> Option<LevelWords<'w>>
         ensures { result ≡ levels_of (map string_bytes words.now) }
     {
         if are_levels(words) {

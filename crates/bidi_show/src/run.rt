@@ -1,12 +1,12 @@
 //! A run of the program.
 ghost use Rattle.std.specs.Prelude.{◌≡◌, ◌≢◌, ◌+◌, ◌<◌, ◌↔◌, map, string_bytes, IfOk, OnOk, IfErr, IfSome, IsNone, IsErrOf};
 ghost use Rattle.std.specs.Io.KnownBytes.{Appends};
-ghost use Rattle.bidi_show.specs.Commands.{command_of as command_of_words};
+ghost use Rattle.bidi_show.specs.Commands.{command_of};
 ghost use Rattle.bidi_show.specs.Faults.{device_faults};
-ghost use Rattle.bidi_show.specs.Texts.{number_line as number_line_text, answer_to};
+ghost use Rattle.bidi_show.specs.Texts.{line_of, answer_to};
 ghost use Rattle.bidi_show.specs.declared.fault.ShowFault.TheVariants.{Usage, NotUtf8, Device};
 
-use crate::command::{Command, command_of};
+use crate::command::Command;
 use crate::ends::{ShowIn, ShowOut};
 use crate::failure_count::FailureCount;
 use crate::fault::ShowFault;
@@ -20,7 +20,7 @@ use unicode_bidi::BidiInfo;
 
 // A line of numbers, separated by one space.
 fn number_line(alloc: Global, numbers: &[usize]) -> Result<String, AllocError>
-    ensures { IfOk result (λ line. string_bytes line ≡ number_line_text numbers.now) }
+    ensures { IfOk result (λ line. string_bytes line ≡ line_of numbers.now) }
 {
     let mut line = String::new(alloc);
     let mut digits = Buffer::new();
@@ -60,24 +60,22 @@ pub fn run<R: ShowIn, W: ShowOut>(
     input: &mut R,
     output: &mut W,
 ) -> Result<(), ShowFault>
-    ensures usage {
-        IsErrOf result Usage ↔ IsNone (command_of_words (map string_bytes words.now)) }
+    ensures usage { IsErrOf result Usage ↔ IsNone (command_of (map string_bytes words.now)) }
     ensures utf8 { ¬ IsErrOf result NotUtf8 }
     ensures device { IsErrOf result Device ↔
         (R.failed_reads input.old + W.failed_writes output.old
-            < R.failed_reads input.new + W.failed_writes output.new) }
-    ensures counted {
-        R.failed_reads input.new + W.failed_writes output.new
+        < R.failed_reads input.new + W.failed_writes output.new) }
+    ensures counted { R.failed_reads input.new + W.failed_writes output.new
         ≡ R.failed_reads input.old + W.failed_writes output.old + device_faults result }
 
-    ensures written {
-        OnOk result (IfSome (command_of_words (map string_bytes words.now)) (λ command.
-            Appends (W.written output.old) (W.written output.new) (answer_to command))) }
-    ensures unwritten {
-        IfErr result (λ fault. fault ≢ Device → W.written output.new ≡ W.written output.old) }
+    ensures written { OnOk result (
+        IfSome (command_of (map string_bytes words.now)) (λ command.
+        Appends (W.written output.old) (W.written output.new) (answer_to command))) }
+    ensures unwritten { IfErr result (λ fault.
+        fault ≢ Device → W.written output.new ≡ W.written output.old) }
     ensures unread { input.new ≡ input.old }
 {
-    let Some(command) = command_of(words) else {
+    let Some(command) = Command::parse(words) else {
         return Err(ShowFault::Usage);
     };
     let text = answer(alloc, &command)?;
@@ -99,8 +97,7 @@ fn run_counted<I: Ledger, O: Ledger, R: Read + Drop, W: Write + Drop>(
     requires writes_name { writes.name ≡ O.name }
     requires writes_parts { writes.parts ≡ O.parts }
     requires writes_one { writes.parts ≡ 1 }
-    ensures usage {
-        IsErrOf result Usage ↔ IsNone (command_of_words (map string_bytes words.now)) }
+    ensures usage { IsErrOf result Usage ↔ IsNone (command_of (map string_bytes words.now)) }
     ensures utf8 { ¬ IsErrOf result NotUtf8 }
 {
     let mut input = StreamIn::new(reader, FailureCount::<I>::new(reads));
@@ -115,16 +112,8 @@ pub fn run_over_streams<R: Read + Drop, W: Write + Drop>(
     reader: R,
     writer: W,
 ) -> Result<(), ShowFault>
-    ensures usage {
-        IsErrOf result Usage ↔ IsNone (command_of_words (map string_bytes words.now)) }
+    ensures usage { IsErrOf result Usage ↔ IsNone (command_of (map string_bytes words.now)) }
     ensures utf8 { ¬ IsErrOf result NotUtf8 }
 {
-    run_counted::<Brand, Brand, R, W>(
-        alloc,
-        words,
-        reader,
-        writer,
-        Blank::new(1),
-        Blank::new(1),
-    )
+    run_counted::<Brand, Brand, R, W>(alloc, words, reader, writer, Blank::new(1), Blank::new(1))
 }

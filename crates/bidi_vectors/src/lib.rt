@@ -5,3 +5,11 @@
 mod level_rows;
 #[cfg(test)]
 mod order_rows;
+#[cfg(test)]
+mod plain_explicit;
+#[cfg(test)]
+mod plain_sequences;
+#[cfg(test)]
+mod source_rows;
+#[cfg(test)]
+mod text_rows;

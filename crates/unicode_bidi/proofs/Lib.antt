@@ -5,5 +5,5 @@ pub mod Ordered
 pub mod Passes
 pub mod Reversed
 pub mod Stretches
-pub mod Turning
 pub mod TextRead
+pub mod Turning

@@ -1,0 +1,147 @@
+-- Sequences and level runs read levels at kept characters alone.
+use Rattle.std.proofs.Common.{◌≡◌, ℕ, zero, suc, ◌+◌, ◌<◌, Bool, true, false, not, ◌&&◌, cond, eqb, max, List, [], ◌∷◌, length, map, Option, Some, None, refl, sym, ap, subst, ◌∙◌, arith, inl, inr}
+use Rattle.std.specs.Prelude.{filter, is_some, option_and_then}
+use Rattle.std.proofs.lemmas.Bool.{cases_Bool, and_left}
+use Rattle.std.proofs.lemmas.List.Elements.{filter_agree}
+use Rattle.bidi_base.specs.declared.char_data.BidiClass.{BidiClass}
+use Rattle.bidi_base.specs.Classes.{is_initiator}
+use Rattle.bidi_base.specs.Levels.{direction_of}
+use Rattle.bidi_base.specs.Places.{class_at, chain, last_or}
+use Rattle.bidi_base.specs.Isolates.{matching_pdi}
+use Rattle.bidi_base.specs.Sequences.{RunSequence, is_kept_at, kept_places, next_kept, kept_before, level_at, level_or, have_one_level, resumed_at, successor, is_first, start_class, end_class, sequence_from, sequences, HasExplicitLevels, begins_run, run_starts}
+use Rattle.bidi_base.specs.Explicit.{explicit_level, explicit_levels}
+use Rattle.std.proofs.lemmas.List.FromFn.{get_or-map-range_with_len}
+use Rattle.bidi_base.proofs.PlacesLemmas.{IsLeast, IsGreatest}
+use Rattle.bidi_base.proofs.ChainLemmas.{filter_range-agree, chain-None, IsMaximal, IsMaximal-chain}
+use Rattle.bidi_base.proofs.SuccessorLemmas.{next_kept-IsLeast, kept_before-IsGreatest, IsLaterKept, successor-IsLaterKept, is_kept-pdi}
+use Rattle.bidi_base.proofs.IsolatesLemmas.{matching_pdi-IsLeast, matching_pdi-is_pdi}
+use Rattle.bidi_base.proofs.EmbeddingsLemmas.{same_if}
+use Rattle.bidi_base.proofs.SequencesLemmas.{IsLinked-successor, places_from, is_first-none, is_first-from_none, AllFirst}
+use Rattle.bidi_base.proofs.PassLemmas.{AreSuccessors, AllFirst-filter}
+
+module _ (classes : List BidiClass) (levels other : List ℕ) (agree : (p : ℕ) → is_kept_at classes p ≡ true → p < length classes → level_at levels p ≡ level_at other p) where
+  one_level : (o : Option ℕ) (p : ℕ) → ((q : ℕ) → o ≡ Some q → level_at levels q ≡ level_at other q) → level_at levels p ≡ level_at other p → have_one_level levels o p ≡ have_one_level other o p
+  one_level None p there here = refl
+  one_level (Some q) p there here = ap (λ x. eqb x (level_at levels p)) (there q refl) ∙ ap (λ x. eqb (level_at other q) x) here
+
+  next_level : (p q : ℕ) → next_kept classes p ≡ Some q → level_at levels q ≡ level_at other q
+  next_level p q e =
+      let h : IsLeast (is_kept_at classes) (p + 1) (length classes) q = next_kept-IsLeast classes p q e in
+      agree q h.passes h.below
+
+  before_level : (p q : ℕ) → p < length classes → kept_before classes p ≡ Some q → level_at levels q ≡ level_at other q
+  before_level p q within e =
+      let h : IsGreatest (is_kept_at classes) 0 p q = kept_before-IsGreatest classes p q e in
+      agree q h.passes (omega (arith, h.below))
+
+  pub begins_run-agree : (p : ℕ) → p < length classes → begins_run classes levels p ≡ begins_run classes other p
+  unfolding begins_run
+  begins_run-agree p within = elim (cases_Bool (is_kept_at classes p)) [
+    | inl kept ↦ ap (λ b. is_kept_at classes p && is_some (kept_before classes p) && not b) (one_level (kept_before classes p) p (λ q e. before_level p q within e) (agree p kept within))
+    | inr gone ↦
+        and_left (is_kept_at classes p && is_some (kept_before classes p)) (not (have_one_level levels (kept_before classes p) p)) (and_left (is_kept_at classes p) (is_some (kept_before classes p)) gone)
+        ∙ sym (and_left (is_kept_at classes p && is_some (kept_before classes p)) (not (have_one_level other (kept_before classes p) p)) (and_left (is_kept_at classes p) (is_some (kept_before classes p)) gone))
+  ]
+
+  resumed_at-agree : (p : ℕ) → resumed_at classes levels p ≡ resumed_at classes other p
+  unfolding resumed_at
+  resumed_at-agree p = ap (λ (o : Option ℕ). cond (is_initiator (class_at classes p)) o None) (by_match (matching_pdi classes p) refl)
+    where
+      by_match : (o : Option ℕ) → matching_pdi classes p ≡ o
+          → option_and_then (λ q. cond (have_one_level levels (kept_before classes q) q) None (Some q)) o ≡ option_and_then (λ q. cond (have_one_level other (kept_before classes q) q) None (Some q)) o
+      by_match None e = refl
+      by_match (Some q) e =
+          let least = matching_pdi-IsLeast classes p q e in
+          ap (λ b. cond {A = Option ℕ} b None (Some q)) (one_level (kept_before classes q) q (λ r f. before_level q r least.below f) (agree q (is_kept-pdi (class_at classes q) (matching_pdi-is_pdi classes p q e)) least.below))
+
+  pub successor-agree : (p : ℕ) → is_kept_at classes p ≡ true → p < length classes → successor classes levels p ≡ successor classes other p
+  unfolding successor
+  successor-agree p kept within =
+      ap (λ b. cond b (next_kept classes p) (resumed_at classes levels p)) (one_level (next_kept classes p) p (λ q e. next_level p q e) (agree p kept within))
+      ∙ ap (λ (o : Option ℕ). cond (have_one_level other (next_kept classes p) p) (next_kept classes p) o) (resumed_at-agree p)
+
+  pub is_first-agree : (p : ℕ) → is_first classes levels p ≡ is_first classes other p
+  is_first-agree p = same_if (is_first classes levels p) (is_first classes other p)
+      (λ first. is_first-from_none classes other p (λ q kept within e. is_first-none classes levels p first q kept within (successor-agree q kept within ∙ e)))
+      (λ first. is_first-from_none classes levels p (λ q kept within e. is_first-none classes other p first q kept within (sym (successor-agree q kept within) ∙ e)))
+
+  chain-agree : (k p : ℕ) → is_kept_at classes p ≡ true → p < length classes → chain (successor classes levels) k (Some p) ≡ chain (successor classes other) k (Some p)
+  chain-agree zero p kept within = refl
+  chain-agree (suc k) p kept within = by_next (λ q there below. chain-agree k q there below) (successor classes levels p) refl
+    where
+      by_next : ((q : ℕ) → is_kept_at classes q ≡ true → q < length classes → chain (successor classes levels) k (Some q) ≡ chain (successor classes other) k (Some q)) → (o : Option ℕ) → successor classes levels p ≡ o
+          → p ∷ chain (successor classes levels) k o ≡ p ∷ chain (successor classes other) k (successor classes other p)
+      by_next rest None e =
+          ap {B = List ℕ} (λ xs. p ∷ xs) (chain-None (successor classes levels) k ∙ sym (chain-None (successor classes other) k))
+          ∙ ap {B = List ℕ} (λ o. p ∷ chain (successor classes other) k o) (sym e ∙ successor-agree p kept within)
+      by_next rest (Some q) e =
+          let h : IsLaterKept classes p q = successor-IsLaterKept classes levels p q e in
+          ap {B = List ℕ} (λ xs. p ∷ xs) (rest q h.kept h.within) ∙ ap {B = List ℕ} (λ o. p ∷ chain (successor classes other) k o) (sym e ∙ successor-agree p kept within)
+
+  level_or-agree : (paragraph : ℕ) (o : Option ℕ) → ((q : ℕ) → o ≡ Some q → level_at levels q ≡ level_at other q) → level_or paragraph levels o ≡ level_or paragraph other o
+  level_or-agree paragraph None there = refl
+  level_or-agree paragraph (Some q) there = there q refl
+
+  start_class-agree : (paragraph p : ℕ) → is_kept_at classes p ≡ true → p < length classes → start_class paragraph classes levels p ≡ start_class paragraph classes other p
+  unfolding start_class
+  start_class-agree paragraph p kept within =
+      ap (λ x. direction_of (max x (level_or paragraph levels (kept_before classes p)))) (agree p kept within)
+      ∙ ap (λ x. direction_of (max (level_at other p) x)) (level_or-agree paragraph (kept_before classes p) (λ q e. before_level p q within e))
+
+  end_class-agree : (paragraph p : ℕ) → is_kept_at classes p ≡ true → p < length classes → end_class paragraph classes levels p ≡ end_class paragraph classes other p
+  unfolding end_class
+  end_class-agree paragraph p kept within =
+      ap (λ x. direction_of (max x (level_or paragraph levels (cond (is_initiator (class_at classes p)) None (next_kept classes p))))) (agree p kept within)
+      ∙ ap (λ x. direction_of (max (level_at other p) x)) (level_or-agree paragraph (cond (is_initiator (class_at classes p)) None (next_kept classes p)) (after_level (is_initiator (class_at classes p)) (next_kept classes p) (λ q e. next_level p q e)))
+    where
+      after_level : (b : Bool) (o : Option ℕ) → ((q : ℕ) → o ≡ Some q → level_at levels q ≡ level_at other q) → (q : ℕ) → cond b None o ≡ Some q → level_at levels q ≡ level_at other q
+      after_level true o there q e = absurd (cc e)
+      after_level false o there q e = there q e
+
+  last_along : (p : ℕ) (ps : List ℕ) → is_kept_at classes p ≡ true → p < length classes → AreSuccessors classes levels (p ∷ ps) → (is_kept_at classes (last_or p ps) ≡ true) × (last_or p ps < length classes)
+  last_along p [] kept within follows = (kept, within)
+  last_along p (q ∷ ps) kept within follows =
+      let h : IsLaterKept classes p q = successor-IsLaterKept classes levels p q follows.0 in
+      last_along q ps h.kept h.within follows.1
+
+  last_kept : (p : ℕ) → is_kept_at classes p ≡ true → p < length classes → (is_kept_at classes (last_or p (places_from classes levels p)) ≡ true) × (last_or p (places_from classes levels p) < length classes)
+  last_kept p kept within = by_maximal (IsMaximal-chain (length classes) (is_kept_at classes) (successor classes levels) (IsLinked-successor classes levels) p kept within)
+    where
+      by_maximal : (ps : List ℕ) × IsMaximal (length classes) (is_kept_at classes) (successor classes levels) (IsLinked-successor classes levels) p ps → (is_kept_at classes (last_or p (places_from classes levels p)) ≡ true) × (last_or p (places_from classes levels p) < length classes)
+      by_maximal m = subst (λ (xs : List ℕ). (is_kept_at classes (last_or p xs) ≡ true) × (last_or p xs < length classes)) (sym m.1.is) (last_along p m.0 kept within m.1.follows)
+
+  abbrev with_classes : List ℕ → BidiClass → BidiClass → RunSequence
+  with_classes xs sos eos = record { places = xs; sos = sos; eos = eos }
+
+  sequence_from-agree : (paragraph p : ℕ) → is_kept_at classes p ≡ true → p < length classes → sequence_from paragraph classes levels p ≡ sequence_from paragraph classes other p
+  unfolding sequence_from
+  sequence_from-agree paragraph p kept within =
+      let last = last_kept p kept within in
+      ap (λ (c : BidiClass). with_classes (places_from classes levels p) c (end_class paragraph classes levels (last_or p (places_from classes levels p)))) (start_class-agree paragraph p kept within)
+      ∙ ap (λ (c : BidiClass). with_classes (places_from classes levels p) (start_class paragraph classes other p) c) (end_class-agree paragraph (last_or p (places_from classes levels p)) last.0 last.1)
+      ∙ ap (λ (xs : List ℕ). with_classes xs (start_class paragraph classes other p) (end_class paragraph classes other (last_or p xs))) (chain-agree (length classes) p kept within)
+
+  pub sequences-agree : (paragraph : ℕ) → sequences paragraph classes levels ≡ sequences paragraph classes other
+  unfolding sequences kept_places
+  sequences-agree paragraph =
+      ap (λ (ps : List ℕ). map (sequence_from paragraph classes levels) ps) (filter_agree (is_first classes levels) (is_first classes other) is_first-agree (kept_places classes))
+      ∙ all_agree (filter (is_first classes other) (kept_places classes)) (AllFirst-filter classes other 0 (length classes) (omega arith))
+    where
+      all_agree : (ps : List ℕ) → AllFirst classes other ps → map (sequence_from paragraph classes levels) ps ≡ map (sequence_from paragraph classes other) ps
+      all_agree [] h = refl
+      all_agree (p ∷ ps) h =
+          ap (λ (s : RunSequence). s ∷ map (sequence_from paragraph classes levels) ps) (sequence_from-agree paragraph p h.0 h.1)
+          ∙ ap {B = List RunSequence} (λ seqs. sequence_from paragraph classes other p ∷ seqs) (all_agree ps h.3)
+
+pub run_starts-agree : (classes : List BidiClass) (levels other : List ℕ) → ((p : ℕ) → is_kept_at classes p ≡ true → p < length classes → level_at levels p ≡ level_at other p) → run_starts classes levels ≡ run_starts classes other
+unfolding run_starts
+run_starts-agree [] levels other agree = refl
+run_starts-agree (c ∷ classes) levels other agree =
+    ap {B = List ℕ} (λ xs. 0 ∷ xs) (filter_range-agree (begins_run (c ∷ classes) levels) (begins_run (c ∷ classes) other) 0 (length (c ∷ classes)) (λ k from below. begins_run-agree (c ∷ classes) levels other agree k (omega arith)))
+
+-- with the explicit levels at kept characters, the sequences are those of all explicit levels
+pub sequences-explicit_levels : (paragraph : ℕ) (classes : List BidiClass) (levels : List ℕ) → HasExplicitLevels paragraph classes levels → sequences paragraph classes levels ≡ sequences paragraph classes (explicit_levels paragraph classes)
+unfolding explicit_levels
+sequences-explicit_levels paragraph classes levels h =
+    sequences-agree classes levels (explicit_levels paragraph classes)
+    (λ p kept within. h.at_kept p within kept ∙ sym (get_or-map-range_with_len (explicit_level paragraph classes) 0 (length classes) p p 0 within (omega arith))) paragraph

@@ -1,8 +1,0 @@
-use Rattle.std.proofs.Common.{◌≡◌, ℕ, ◌<◌, get_or, drop}
-use Rattle.bidi_base.specs.declared.char_data.BidiClass.TheVariants.{L}
-use Rattle.bidi_base.specs.Source.{table_class}
-use Rattle.bidi_base.proofs.data_source.ascii_classes.Given as goal
-
--- the classes by the ranges from `i` on
-abbrev pub invariant-loop-i : goal.invariant-loop-i
-invariant-loop-i l = (n : ℕ) → n < 128 → get_or l.classes n L ≡ table_class (drop l.i l.ranges) n

@@ -1,0 +1,47 @@
+-- A pass that lets isolating run sequences begin and go on (X10): which sequences wait for the PDI of an open isolate, and what has come to each.
+use Rattle.std.specs.Prelude.{ℕ, ◌-◌, ◌<◌, ◌==◌, if◌then◌else◌, Bool, List, [], ◌∷◌, ◌++◌, length, take, get_or, slice_set, Option, Some, None}
+use Rattle.bidi_base.specs.declared.char_data.BidiClass.{BidiClass}
+use Rattle.bidi_base.specs.Classes.{is_initiator, is_pdi}
+use Rattle.bidi_base.specs.Places.{class_at, first_or, last_or}
+use Rattle.bidi_base.specs.Sequences.{level_at}
+
+-- what waits once a character of this class was read, the innermost last: an initiator adds what waits for its PDI
+abbrev pub read_class : BidiClass → Option ℕ → List (Option ℕ) → List (Option ℕ)
+read_class c wait waits = if is_initiator c then waits ++ wait ∷ [] else if is_pdi c then take (length waits - 1) waits else waits
+
+-- the sequence that a character of this class goes on with where it begins a level run
+abbrev pub waiting_for : BidiClass → List (Option ℕ) → Option ℕ
+waiting_for c waits = if is_pdi c then last_or None waits else None
+
+-- what waits for the character before, which stands in the sequence at s, by whether both have one level
+abbrev pub wait_of : Bool → ℕ → Option ℕ
+wait_of same s = if same then None else Some s
+
+-- the sequence that a character of this class goes on with
+abbrev pub choice : Bool → ℕ → BidiClass → List (Option ℕ) → Option ℕ
+choice same s c waits = if same then Some s else waiting_for c waits
+
+-- the same for the character at p, by the last kept one before it, if there is one, and the sequence in which that stands
+abbrev pub waits_before : List BidiClass → List ℕ → Option (ℕ × ℕ) → ℕ → List (Option ℕ) → List (Option ℕ)
+waits_before classes levels None p waits = waits
+waits_before classes levels (Some e) p waits = read_class (class_at classes e.0) (wait_of (level_at levels e.0 == level_at levels p) e.1) waits
+
+abbrev pub choice_at : List BidiClass → List ℕ → Option (ℕ × ℕ) → ℕ → List (Option ℕ) → Option ℕ
+choice_at classes levels None p waits = None
+choice_at classes levels (Some e) p waits = choice (level_at levels e.0 == level_at levels p) e.1 (class_at classes p) waits
+
+-- an element comes to the list at s, or to a new one
+abbrev pub with_entry : {X : Type 0} → Option ℕ → X → List (List X) → List (List X)
+with_entry None x out = out ++ (x ∷ []) ∷ []
+with_entry (Some s) x out = slice_set out s (get_or out s [] ++ x ∷ [])
+
+-- where it came
+abbrev pub index_of : {X : Type 0} → Option ℕ → List X → ℕ
+index_of None out = length out
+index_of (Some s) out = s
+
+-- The places of a sequence: there is one at least, and the first and the last are in the text
+pub record ArePlaces (count : ℕ) (places : List ℕ) : Type 0 where
+  pub not_empty : 0 < length places
+  pub first : first_or 0 places < count
+  pub last : last_or 0 places < count

@@ -1,0 +1,145 @@
+-- A block of classes that pass a test: what is seen over it, and how a pass that rewrites block by block goes on.
+use Rattle.std.proofs.Common.{◌≡◌, ℕ, zero, suc, ◌+◌, ◌-◌, ◌<◌, ◌≤◌, Bool, true, false, List, [], ◌∷◌, ◌++◌, length, get_or, take, drop, replicate, reverse, refl, sym, ap, subst, ◌∙◌, arith, inl, inr, append-nil, add-one, length-take, length-drop, length-append, drop-drop, get_or-take, get_or-drop}
+use Rattle.std.proofs.lemmas.Bool.{cases_lt}
+use Rattle.std.proofs.lemmas.List.{length-replicate, get_or-replicate, drop_more, drop_all, take_rest, ext_get_or, length-take-le, get_or-append_right}
+use Rattle.std.proofs.lemmas.List.Sums.{prefix_len_passes, prefix_len_stops, prefix_len-le-length}
+use Rattle.std.proofs.lemmas.Slice.{take-put_mid, take-put_mid_below, drop-put_mid}
+use Rattle.std.specs.List.{prefix_len}
+use borrow.Rule.Slice.PartMut.{put_mid}
+use Rattle.bidi_base.specs.declared.char_data.BidiClass.{BidiClass}
+use Rattle.bidi_base.specs.declared.char_data.BidiClass.TheVariants.{L}
+use Rattle.bidi_base.specs.Places.{in_context}
+use Rattle.bidi_base.proofs.PlacesLemmas.{reverse-take_more, length-in_context, get_or-in_context}
+use Rattle.bidi_base.proofs.InPlace.{IsRewritten, IsRewritten-end}
+
+-- the n classes from i on pass the test, and the one behind them does not
+pub record IsBlock (test : BidiClass → Bool) (xs : List BidiClass) (i n : ℕ) : Type 0 where
+  pub room : i + n ≤ length xs
+  pub inside : (k : ℕ) → k < n → test (get_or xs (i + k) L) ≡ true
+  pub behind : i + n < length xs → test (get_or xs (i + n) L) ≡ false
+
+pub IsBlock-prefix_len : (test : BidiClass → Bool) (xs : List BidiClass) (i n : ℕ) → i ≤ length xs → n ≡ prefix_len test (drop i xs) → IsBlock test xs i n
+IsBlock-prefix_len test xs i n fits is =
+    let long : length (drop i xs) ≡ length xs - i = length-drop i xs in
+    let few : n ≤ length (drop i xs) = subst (λ (m : ℕ). m ≤ length (drop i xs)) (sym is) (prefix_len-le-length test (drop i xs)) in
+    record { room = omega arith; inside = inside_by; behind = behind_by }
+  where
+    inside_by : (k : ℕ) → k < n → test (get_or xs (i + k) L) ≡ true
+    inside_by k below =
+        ap test (sym (get_or-drop i xs k L)) ∙ prefix_len_passes test (drop i xs) k L (subst (λ (m : ℕ). k < m) is below)
+
+    behind_by : i + n < length xs → test (get_or xs (i + n) L) ≡ false
+    behind_by more =
+        let m = prefix_len test (drop i xs) in
+        let long : length (drop i xs) ≡ length xs - i = length-drop i xs in
+        let short : m < length (drop i xs) = omega (arith, is) in
+        ap test (ap (λ (k : ℕ). get_or xs (i + k) L) is ∙ sym (get_or-drop i xs m L)) ∙ prefix_len_stops test (drop i xs) L short
+
+-- the same from what a pass counts, behind i nothing being written yet
+pub IsBlock-counted : (test : BidiClass → Bool) (old now : List BidiClass) (i n : ℕ) → i ≤ length old → drop i now ≡ drop i old → n ≡ prefix_len test (take (length now - i) (drop i now)) → IsBlock test old i n
+IsBlock-counted test old now i n fits rest is =
+    IsBlock-prefix_len test old i n fits (is ∙ ap (prefix_len test) (take_rest now i ∙ rest))
+
+-- the length of the part that is filled
+pub length-part : (now : List BidiClass) (i n : ℕ) → i + n ≤ length now → length (take (i + n - i) (drop i now)) ≡ n
+length-part now i n room = omega (arith, length-take (i + n - i) (drop i now), length-drop i now)
+
+-- what is seen past classes of a block
+module _ {V : Type 0} (test : BidiClass → Bool) (look : List BidiClass → V) (passes : (c : BidiClass) (cs : List BidiClass) → test c ≡ true → look (c ∷ cs) ≡ look cs) (xs : List BidiClass) where
+  pub look-drop : (i n : ℕ) → i + n ≤ length xs → ((k : ℕ) → k < n → test (get_or xs (i + k) L) ≡ true) → look (drop i xs) ≡ look (drop (i + n) xs)
+  look-drop i zero room inside = ap (λ (j : ℕ). look (drop j xs)) (let same : i ≡ i + 0 = omega arith in same)
+  look-drop i (suc n) room inside =
+      let first : test (get_or xs i L) ≡ true = subst (λ (j : ℕ). test (get_or xs j L) ≡ true) (omega arith) (inside 0 (omega arith)) in
+      let place : i + 1 + n ≡ i + suc n = omega arith in
+      ap look (drop_more xs i L (omega arith))
+      ∙ passes (get_or xs i L) (drop (i + 1) xs) first
+      ∙ look-drop (i + 1) n (omega arith) (λ k below. subst (λ (j : ℕ). test (get_or xs j L) ≡ true) (omega arith) (inside (suc k) (omega arith)))
+      ∙ ap (λ (j : ℕ). look (drop j xs)) place
+
+  pub look-take : (i n : ℕ) → i + n ≤ length xs → ((k : ℕ) → k < n → test (get_or xs (i + k) L) ≡ true) → look (reverse (take (i + n) xs)) ≡ look (reverse (take i xs))
+  look-take i zero room inside = ap (λ (j : ℕ). look (reverse (take j xs))) (let same : i + 0 ≡ i = omega arith in same)
+  look-take i (suc n) room inside =
+      let place : i + suc n ≡ i + n + 1 = omega arith in
+      ap (λ (j : ℕ). look (reverse (take j xs))) place
+      ∙ ap look (reverse-take_more xs (i + n) L (omega arith))
+      ∙ passes (get_or xs (i + n) L) (reverse (take (i + n) xs)) (inside n (omega arith))
+      ∙ look-take i n (omega arith) (λ k below. inside k (omega arith))
+
+drop_later : (xs ys : List BidiClass) (i n : ℕ) → drop i xs ≡ drop i ys → drop (i + n) xs ≡ drop (i + n) ys
+drop_later xs ys i n e = sym (drop-drop n i xs) ∙ ap (drop n) e ∙ drop-drop n i ys
+
+pub read_later : (xs ys : List BidiClass) (i k : ℕ) → drop i xs ≡ drop i ys → get_or xs (i + k) L ≡ get_or ys (i + k) L
+read_later xs ys i k e = sym (get_or-drop i xs k L) ∙ ap (λ (zs : List BidiClass). get_or zs k L) e ∙ get_or-drop i ys k L
+
+module _ (rule : List BidiClass → BidiClass → List BidiClass → BidiClass) where
+  -- the rule's answer at k, in the list as it was
+  abbrev pub answer : List BidiClass → ℕ → BidiClass
+  answer old k = rule (reverse (take k old)) (get_or old k L) (drop (k + 1) old)
+
+  pub answer_is : (old : List BidiClass) (k : ℕ) → k < length old → get_or (in_context rule [] old) k L ≡ answer old k
+  answer_is old k fits =
+      get_or-in_context rule [] old k L L fits
+      ∙ ap (λ (before : List BidiClass). rule before (get_or old k L) (drop (suc k) old)) (append-nil (reverse (take k old)))
+      ∙ ap (λ n. rule (reverse (take k old)) (get_or old k L) (drop n old)) (sym (add-one k))
+
+  -- the n classes from i on now are the rule's answers
+  pub IsRewritten-block : (old now now1 : List BidiClass) (i n : ℕ) → IsRewritten rule old now i → i + n ≤ length old → take i now1 ≡ take i now → drop (i + n) now1 ≡ drop (i + n) old
+      → length now1 ≡ length old → ((k : ℕ) → k < n → get_or now1 (i + k) L ≡ answer old (i + k)) → IsRewritten rule old now1 (i + n)
+  IsRewritten-block old now now1 i n h room front rest long inside = record {
+    front = ext_get_or L (take (i + n) now1) (take (i + n) (in_context rule [] old)) (omega (arith, length-take-le (i + n) now1 (omega arith), length-take-le (i + n) (in_context rule [] old) (omega (arith, length-in_context rule [] old)))) each;
+    rest = rest;
+    long = long;
+  }
+    where
+      at : (k : ℕ) → k < i + n → get_or now1 k L ≡ get_or (in_context rule [] old) k L
+      at k below = elim (cases_lt k i) [
+        | inl before ↦
+            sym (get_or-take i now1 k L before) ∙ ap (λ (xs : List BidiClass). get_or xs k L) (front ∙ h.front) ∙ get_or-take i (in_context rule [] old) k L before
+        | inr after ↦
+            let place : i + (k - i) ≡ k = omega arith in
+            ap (λ (j : ℕ). get_or now1 j L) (sym place) ∙ inside (k - i) (omega arith) ∙ ap (answer old) place ∙ sym (answer_is old k (omega arith))
+      ]
+
+      each : (k : ℕ) → k < length (take (i + n) now1) → get_or (take (i + n) now1) k L ≡ get_or (take (i + n) (in_context rule [] old)) k L
+      each k below =
+          let inner : k < i + n = omega (arith, length-take-le (i + n) now1 (omega arith)) in
+          get_or-take (i + n) now1 k L inner ∙ at k inner ∙ sym (get_or-take (i + n) (in_context rule [] old) k L inner)
+
+  -- a block that was written over by one class
+  pub IsRewritten-filled : (old now : List BidiClass) (i n m : ℕ) (y : BidiClass) → IsRewritten rule old now i → i + n ≤ length old → m ≡ n
+      → ((k : ℕ) → k < n → answer old (i + k) ≡ y) → IsRewritten rule old (put_mid i m now (replicate n y)) (i + n)
+  IsRewritten-filled old now i n m y h room same answers =
+      let ys = replicate n y in
+      let filled : length ys ≡ n = length-replicate n y in
+      let long : length now ≡ length old = h.long in
+      let now1 = put_mid i m now ys in
+      let front : take (i + n) now1 ≡ take i now ++ ys = take-put_mid i m now ys (i + n) (omega arith) (omega arith) in
+      let rest : drop (i + n) now1 ≡ drop (i + n) now = drop-put_mid i m now ys (i + n) (omega arith) (omega arith) (omega arith) in
+      let size : length (take i now) ≡ i = length-take-le i now (omega arith) in
+      let long1 : length now1 ≡ length old =
+      omega (arith, ap length front, ap length rest, length-append (take i now) ys, length-take (i + n) now1, length-drop (i + n) now1, length-drop (i + n) now)
+      in
+      IsRewritten-block old now now1 i n h room
+      (take-put_mid_below i m now ys i (omega arith) (omega arith))
+      (rest ∙ drop_later now old i n h.rest)
+      long1
+      (λ k below.
+      sym (get_or-take (i + n) now1 (i + k) L (omega arith)) ∙ ap (λ (xs : List BidiClass). get_or xs (i + k) L) front
+      ∙ get_or-append_right (take i now) ys i (i + k) L size (omega arith)
+      ∙ ap (λ (j : ℕ). get_or ys j L) (let place : i + k - i ≡ k = omega arith in place)
+      ∙ get_or-replicate n k y L below ∙ sym (answers k below))
+
+  -- a block that stays
+  pub IsRewritten-unchanged : (old now : List BidiClass) (i n : ℕ) → IsRewritten rule old now i → i + n ≤ length old → ((k : ℕ) → k < n → answer old (i + k) ≡ get_or old (i + k) L)
+      → IsRewritten rule old now (i + n)
+  IsRewritten-unchanged old now i n h room answers =
+      IsRewritten-block old now now i n h room refl (drop_later now old i n h.rest) h.long
+      (λ k below. read_later now old i k h.rest ∙ sym (answers k below))
+
+  -- past the end nothing is left to do
+  pub IsRewritten-past : (old now : List BidiClass) (i j : ℕ) → length old ≤ i → i ≤ j → IsRewritten rule old now i → IsRewritten rule old now j
+  IsRewritten-past old now i j past later h = record {
+    front = ap (take j) (IsRewritten-end rule old now i past h);
+    rest = drop_all j now (omega (arith, h.long)) ∙ sym (drop_all j old (omega arith));
+    long = h.long;
+  }

@@ -1,0 +1,12 @@
+mod Blocks
+mod BracketPass
+mod BracketRules
+mod ExplicitPass
+mod ListPass
+mod NeutralBlocks
+mod OpenersLemmas
+mod Scans
+mod Separators
+mod StatusLemmas
+mod Terminators
+mod WeakRules

@@ -1,0 +1,266 @@
+-- The pass over a list of characters, one by one.
+use Rattle.std.proofs.Common.{◌≡◌, ℕ, zero, suc, ◌+◌, ◌-◌, ◌<◌, ◌≤◌, Bool, true, false, cond, eqb, List, [], ◌∷◌, ◌++◌, length, map, get_or, set, take, reverse, length-append, le_refl, Option, Some, None, refl, sym, ap, subst, ◌∙◌, arith, inl, inr, eqb-true, ne_eqb}
+use Rattle.std.specs.Prelude.{filter, IfSome}
+use Rattle.std.specs.List.{range_with_len}
+use Rattle.std.proofs.lemmas.Bool.{cases_Bool, cases_eq, cond-true, cond-false, eqb-false}
+use Rattle.std.proofs.lemmas.List.{reverse-append, reverse-reverse, take-append-le, take_all, get_or-set_same, length-set}
+use Rattle.bidi_base.specs.declared.char_data.BidiClass.{BidiClass}
+use Rattle.bidi_base.specs.Classes.{is_initiator, is_pdi}
+use Rattle.bidi_base.specs.Places.{class_at, last_or}
+use Rattle.bidi_base.specs.Isolates.{is_initiator_at, is_pdi_at}
+use Rattle.bidi_base.specs.Sequences.{with_ends, is_kept_at, next_kept, level_at, have_one_level, successor, is_first, sequences}
+use Rattle.bidi_base.specs.SequencePass.{read_class, waiting_for, wait_of, choice, waits_before, choice_at, with_entry, index_of, ArePlaces}
+use Rattle.bidi_base.proofs.ReadStack.{Member}
+use Rattle.bidi_base.proofs.SuccessorLemmas.{successor-IsLaterKept, have_one_level-from, next_kept-is, kept_before-is, kept_before-is_None, successor-run_step}
+use Rattle.bidi_base.proofs.PassLemmas.{AreSuccessors, IsBegunList, AllBegun}
+use Rattle.bidi_base.proofs.RunsLemmas.{BeginsRun, EndsRun}
+use Rattle.bidi_base.proofs.WaitingLemmas.{Member-append_right, IsWaiting, IsPass, IsPass-start, IsPass-end, IsPass-begin, IsPass-join, IsPass-removed, IsPass-stay, IsPass-skip, IsPass-initiator, IsPass-pdi, successor-waiting, is_first-no_pdi, is_first-none_open, is_first-not_waiting}
+
+-- taking away the last is taking away the first of the reverse
+split_last : {X : Type 0} (xs : List X) (v : X) (vs : List X) → reverse xs ≡ v ∷ vs → xs ≡ reverse vs ++ v ∷ []
+split_last xs v vs e = sym (reverse-reverse xs) ∙ ap reverse e ∙ reverse-append (v ∷ []) vs
+
+pub reverse_front : {X : Type 0} (xs : List X) (v : X) (vs : List X) → reverse xs ≡ v ∷ vs → reverse (take (length xs - 1) xs) ≡ vs
+reverse_front {X} xs v vs e =
+    let whole : xs ≡ reverse vs ++ v ∷ [] = split_last xs v vs e in
+    let count : length xs - 1 ≡ length (reverse vs) = omega (arith, ap length whole, length-append (reverse vs) (v ∷ [])) in
+    ap reverse
+    (ap (λ k. take k xs) count ∙ ap (take (length (reverse vs))) whole ∙ take-append-le (length (reverse vs)) (reverse vs) (v ∷ []) (le_refl _) ∙ take_all (length (reverse vs)) (reverse vs) (le_refl _))
+    ∙ reverse-reverse vs
+
+last_or-append : {X : Type 0} (d : X) (xs : List X) (v : X) → last_or d (xs ++ v ∷ []) ≡ v
+last_or-append d [] v = refl
+last_or-append d (x ∷ xs) v = last_or-append x xs v
+
+pub last_or-reverse : {X : Type 0} (d : X) (xs : List X) (v : X) (vs : List X) → reverse xs ≡ v ∷ vs → last_or d xs ≡ v
+last_or-reverse {X} d xs v vs e = ap (last_or d) (split_last xs v vs e) ∙ last_or-append d (reverse vs) v
+
+pub get_or_push : {X : Type 0} (xs : List X) (x d : X) → get_or (xs ++ x ∷ []) (length xs) d ≡ x
+get_or_push [] x d = refl
+get_or_push (y ∷ xs) x d = get_or_push xs x d
+
+nothing_kept : (f : ℕ → Bool) (low n : ℕ) → ((k : ℕ) → low ≤ k → k < low + n → f k ≡ false) → filter f (range_with_len low n) ≡ []
+nothing_kept f low zero none = refl
+nothing_kept f low (suc n) none =
+    cond-false (f low) (low ∷ filter f (range_with_len (low + 1) n)) (filter f (range_with_len (low + 1) n)) (none low (omega arith) (omega arith))
+    ∙ nothing_kept f (low + 1) n (λ k from below. none k (omega arith) (omega arith))
+
+pub reverse_none : {X : Type 0} (xs : List X) → reverse xs ≡ [] → xs ≡ []
+reverse_none xs e = sym (reverse-reverse xs) ∙ ap reverse e
+
+module _ (classes : List BidiClass) (levels : List ℕ) where
+  -- all before p came, l was the last of them that X9 keeps, and came to the sequence at s; what is open was read up to l
+  pub record IsGoing (p : ℕ) (out : List (List ℕ)) (waits : List (Option ℕ)) (l s : ℕ) : Type 0 where
+    pub kept : is_kept_at classes l ≡ true
+    pub before : l < p
+    pub none : (k : ℕ) → l < k → k < p → is_kept_at classes k ≡ false
+    pub within : s < length out
+    pub last : last_or 0 (get_or out s []) ≡ l
+    pub some : Member l (get_or out s [])
+    pub stack : List ℕ
+    pub pass : IsPass classes levels p l out stack (reverse waits)
+
+  abbrev pub IsStateAt : ℕ → List (List ℕ) → List (Option ℕ) → Option (ℕ × ℕ) → Type 0
+  IsStateAt p out waits None = (out ≡ []) × (waits ≡ []) × ((k : ℕ) → k < p → is_kept_at classes k ≡ false)
+  IsStateAt p out waits (Some e) = IsGoing p out waits e.0 e.1
+
+  pub IsStateAt-start : IsStateAt 0 [] [] None
+  IsStateAt-start = (refl, refl, λ k below. absurd (omega arith))
+
+  one_place : (p : ℕ) → is_kept_at classes p ≡ true → filter (is_kept_at classes) (range_with_len p 1) ≡ p ∷ []
+  one_place p kept = cond-true (is_kept_at classes p) (p ∷ []) [] kept
+
+  -- a character that X9 removes
+  pub IsStateAt-removed : (p : ℕ) (out : List (List ℕ)) (waits : List (Option ℕ)) (last : Option (ℕ × ℕ)) → IsStateAt p out waits last → is_kept_at classes p ≡ false → IsStateAt (p + 1) out waits last
+  IsStateAt-removed p out waits None h gone = (h.0, h.1, extended)
+    where
+      extended : (k : ℕ) → k < p + 1 → is_kept_at classes k ≡ false
+      extended k below = elim (cases_eq k p) [
+        | inl same ↦ subst (λ (x : ℕ). is_kept_at classes x ≡ false) (sym same) gone
+        | inr other ↦ h.2 k (omega arith)
+      ]
+  IsStateAt-removed p out waits (Some e) h gone =
+      record { kept = h.kept; before = omega (arith, h.before); none = extended; within = h.within; last = h.last; some = h.some; stack = h.stack; pass = IsPass-removed classes levels p 1 e.0 out h.stack (reverse waits) h.pass (cond-false (is_kept_at classes p) (p ∷ []) [] gone) }
+    where
+      extended : (k : ℕ) → e.0 < k → k < p + 1 → is_kept_at classes k ≡ false
+      extended k from below = elim (cases_eq k p) [
+        | inl same ↦ subst (λ (x : ℕ). is_kept_at classes x ≡ false) (sym same) gone
+        | inr other ↦ h.none k from (omega arith)
+      ]
+
+  -- the last one is read
+  record IsRead (p : ℕ) (out : List (List ℕ)) (waits : List (Option ℕ)) : Type 0 where
+    stack : List ℕ
+    pass : IsPass classes levels p p out stack (reverse waits)
+
+  reading : (p l s : ℕ) (out : List (List ℕ)) (waits : List (Option ℕ)) (w : Option ℕ) → IsGoing p out waits l s → IsWaiting classes levels out l w → IsRead p out (read_class (class_at classes l) w waits)
+  reading p l s out waits w h wait = elim (cases_Bool (is_initiator_at classes l)) [
+    | inl opens ↦
+        rw (cond-true (is_initiator (class_at classes l)) (waits ++ w ∷ []) (cond (is_pdi (class_at classes l)) (take (length waits - 1) waits) waits) opens)
+        (finish (waits ++ w ∷ []) (l ∷ h.stack) (w ∷ reverse waits) (IsPass-initiator classes levels p l out h.stack (reverse waits) w h.pass opens wait) (sym (reverse-append waits (w ∷ []))))
+    | inr other ↦
+        rw (cond-false (is_initiator (class_at classes l)) (waits ++ w ∷ []) (cond (is_pdi (class_at classes l)) (take (length waits - 1) waits) waits) other)
+        (elim (cases_Bool (is_pdi_at classes l)) [
+          | inl closes ↦ rw (cond-true (is_pdi (class_at classes l)) (take (length waits - 1) waits) waits closes) (popped other closes h.stack (reverse waits) refl h.pass)
+          | inr quiet ↦
+              rw (cond-false (is_pdi (class_at classes l)) (take (length waits - 1) waits) waits quiet)
+              (finish waits h.stack (reverse waits) (IsPass-stay classes levels p l out h.stack (reverse waits) h.pass other (inl quiet)) refl)
+        ])
+  ]
+    where
+      finish : (now : List (Option ℕ)) (st : List ℕ) (r : List (Option ℕ)) → IsPass classes levels p (l + 1) out st r → r ≡ reverse now → IsRead p out now
+      finish now st r pass e =
+          let n = p - (l + 1) in
+          let place : l + 1 + n ≡ p = omega (arith, h.before) in
+          let skipped : IsPass classes levels p (l + 1 + n) out st r = IsPass-skip classes levels n p (l + 1) out st r pass (λ k from below. h.none k (omega arith) (omega arith)) in
+          record { stack = st; pass = subst (λ (x : List (Option ℕ)). IsPass classes levels p p out st x) e (subst (λ (x : ℕ). IsPass classes levels p x out st r) place skipped) }
+
+      popped : is_initiator_at classes l ≡ false → is_pdi_at classes l ≡ true → (st : List ℕ) (r : List (Option ℕ)) → reverse waits ≡ r → IsPass classes levels p l out st r → IsRead p out (take (length waits - 1) waits)
+      popped other closes [] [] e pass =
+          let none : waits ≡ [] = reverse_none waits e in
+          finish (take (length waits - 1) waits) [] [] (IsPass-stay classes levels p l out [] [] pass other (inr refl)) (sym (ap (λ (x : List (Option ℕ)). reverse (take (length x - 1) x)) none))
+      popped other closes [] (v ∷ vs) e pass = absurd pass.waiting
+      popped other closes (i ∷ st) [] e pass = absurd pass.waiting
+      popped other closes (i ∷ st) (v ∷ vs) e pass = finish (take (length waits - 1) waits) st vs (IsPass-pdi classes levels p l i out st v vs pass closes) (sym (reverse_front waits v vs e))
+
+  -- a character that goes on with a sequence, or begins one
+  came_join : (p s : ℕ) (out : List (List ℕ)) (waits : List (Option ℕ)) → is_kept_at classes p ≡ true → p < length classes → IsRead p out waits → s < length out → successor classes levels (last_or 0 (get_or out s [])) ≡ Some p → IsGoing (p + 1) (with_entry (Some s) p out) waits p s
+  came_join p s out waits kept fits read within next =
+      let here : get_or (set out s (get_or out s [] ++ p ∷ [])) s [] ≡ get_or out s [] ++ p ∷ [] = get_or-set_same out s (get_or out s [] ++ p ∷ []) [] within in
+      record {
+        kept = kept;
+        before = omega arith;
+        none = λ k from below. absurd (omega arith);
+        within = omega (arith, length-set out s (get_or out s [] ++ p ∷ []));
+        last = ap (last_or 0) here ∙ last_or-append 0 (get_or out s []) p;
+        some = rw here (Member-append_right p (get_or out s []) (p ∷ []) (inl refl));
+        stack = read.stack;
+        pass = IsPass-join classes levels p 1 p p s [] out read.stack (reverse waits) read.pass (one_place p kept) tt within next;
+      }
+
+  came_begin : (p : ℕ) (out : List (List ℕ)) (waits : List (Option ℕ)) → is_kept_at classes p ≡ true → p < length classes → IsRead p out waits → is_first classes levels p ≡ true → IsGoing (p + 1) (with_entry None p out) waits p (length out)
+  came_begin p out waits kept fits read first =
+      let here : get_or (out ++ (p ∷ []) ∷ []) (length out) [] ≡ p ∷ [] = get_or_push out (p ∷ []) [] in
+      record {
+        kept = kept;
+        before = omega arith;
+        none = λ k from below. absurd (omega arith);
+        within = omega (arith, length-append out ((p ∷ []) ∷ []));
+        last = ap (last_or 0) here;
+        some = rw here (inl refl);
+        stack = read.stack;
+        pass = IsPass-begin classes levels p 1 p p [] out read.stack (reverse waits) read.pass (one_place p kept) (omega arith) tt first;
+      }
+
+  pass_none : (p : ℕ) → ((k : ℕ) → k < p → is_kept_at classes k ≡ false) → IsPass classes levels p p [] [] []
+  pass_none p none =
+      let place : 0 + p ≡ p = omega arith in
+      let moved : IsPass classes levels (0 + p) 0 [] [] [] = IsPass-removed classes levels 0 p 0 [] [] [] (IsPass-start classes levels) (nothing_kept (is_kept_at classes) 0 p (λ k from below. none k (omega arith))) in
+      let both : IsPass classes levels (0 + p) (0 + p) [] [] [] = IsPass-skip classes levels p (0 + p) 0 [] [] [] moved (λ k from below. none k (omega arith)) in
+      subst (λ (x : ℕ). IsPass classes levels x x [] [] []) place both
+
+  -- the first character that X9 keeps
+  pub IsStateAt-first : (p : ℕ) → ((k : ℕ) → k < p → is_kept_at classes k ≡ false) → is_kept_at classes p ≡ true → p < length classes → IsGoing (p + 1) (with_entry None p []) [] p 0
+  IsStateAt-first p none kept fits =
+      let pass : IsPass classes levels p p [] [] [] = pass_none p none in
+      let begins : BeginsRun classes levels p = ap (λ o. have_one_level levels o p) (kept_before-is_None classes p none) in
+      came_begin p [] [] kept fits (record { stack = []; pass = pass }) (is_first-none_open classes levels p p [] [] pass begins)
+
+  next_is : (p l s : ℕ) (out : List (List ℕ)) (waits : List (Option ℕ)) → IsGoing p out waits l s → is_kept_at classes p ≡ true → p < length classes → next_kept classes l ≡ Some p
+  next_is p l s out waits h kept fits = next_kept-is classes l p (record { from = omega (arith, h.before); below = fits; passes = kept; first = λ k from below. h.none k (omega arith) below })
+
+  -- any other
+  pub record IsNext (p l s : ℕ) (out : List (List ℕ)) (waits : List (Option ℕ)) (same : Bool) : Type 0 where
+    pub fits : IfSome (choice same s (class_at classes p) (read_class (class_at classes l) (wait_of same s) waits)) (λ r. r < length out)
+    pub state : IsGoing (p + 1) (with_entry (choice same s (class_at classes p) (read_class (class_at classes l) (wait_of same s) waits)) p out) (read_class (class_at classes l) (wait_of same s) waits) p
+        (index_of (choice same s (class_at classes p) (read_class (class_at classes l) (wait_of same s) waits)) out)
+
+  pub IsStateAt-next : (p l s : ℕ) (out : List (List ℕ)) (waits : List (Option ℕ)) (same : Bool) → IsGoing p out waits l s → is_kept_at classes p ≡ true → p < length classes → same ≡ eqb (level_at levels l) (level_at levels p) → IsNext p l s out waits same
+  IsStateAt-next p l s out waits true h kept fits e =
+      let level : level_at levels l ≡ level_at levels p = eqb-true (level_at levels l) (level_at levels p) (sym e) in
+      let next : next_kept classes l ≡ Some p = next_is p l s out waits h kept fits in
+      let read : IsRead p out (read_class (class_at classes l) None waits) = reading p l s out waits None h (have_one_level-from levels (next_kept classes l) l p next (sym level)) in
+      record { fits = h.within; state = came_join p s out (read_class (class_at classes l) None waits) kept fits read h.within (ap (successor classes levels) h.last ∙ successor-run_step classes levels l p (record { next = next; level = sym level })) }
+  IsStateAt-next p l s out waits false h kept fits e = by_pdi (is_pdi_at classes p) refl
+    where
+      now : List (Option ℕ)
+      now = read_class (class_at classes l) (Some s) waits
+
+      next : next_kept classes l ≡ Some p
+      next = next_is p l s out waits h kept fits
+
+      ends : EndsRun classes levels l
+      ends = ap (λ o. have_one_level levels o l) next ∙ ne_eqb (level_at levels p) (level_at levels l) (λ same. eqb-false (level_at levels l) (level_at levels p) (sym e) (sym same))
+
+      begins : BeginsRun classes levels p
+      begins = ap (λ o. have_one_level levels o p) (kept_before-is classes p l (record { from = omega arith; below = h.before; passes = h.kept; last = h.none })) ∙ sym e
+
+      read : IsRead p out now
+      read = reading p l s out waits (Some s) h (h.within, h.some, ends)
+
+      by_choice : (g : Option ℕ) → waiting_for (class_at classes p) now ≡ g → IfSome g (λ r. r < length out) → IsGoing (p + 1) (with_entry g p out) now p (index_of g out) → IsNext p l s out waits false
+      by_choice g is some state = record { fits = subst (λ (o : Option ℕ). IfSome o (λ r. r < length out)) (sym is) some; state = subst (λ (o : Option ℕ). IsGoing (p + 1) (with_entry o p out) now p (index_of o out)) (sym is) state }
+
+      by_top : is_pdi_at classes p ≡ true → (st : List ℕ) (r : List (Option ℕ)) → reverse now ≡ r → IsPass classes levels p p out st r → IsNext p l s out waits false
+      by_top closes [] [] f pass =
+          by_choice None (cond-true (is_pdi (class_at classes p)) (last_or None now) None closes ∙ ap (last_or None) (reverse_none now f)) tt (came_begin p out now kept fits read (is_first-none_open classes levels p p out [] pass begins))
+      by_top closes [] (v ∷ vs) f pass = absurd pass.waiting
+      by_top closes (i ∷ st) [] f pass = absurd pass.waiting
+      by_top closes (i ∷ st) (None ∷ vs) f pass =
+          by_choice None (cond-true (is_pdi (class_at classes p)) (last_or None now) None closes ∙ last_or-reverse None now None vs f) tt (came_begin p out now kept fits read (is_first-not_waiting classes levels p p i out st vs pass fits closes begins))
+      by_top closes (i ∷ st) (Some t ∷ vs) f pass =
+          by_choice (Some t) (cond-true (is_pdi (class_at classes p)) (last_or None now) None closes ∙ last_or-reverse None now (Some t) vs f) pass.waiting.0.0
+          (came_join p t out now kept fits read pass.waiting.0.0 (successor-waiting classes levels p p i t out st vs pass (le_refl _) fits closes begins))
+
+      by_pdi : (b : Bool) → is_pdi_at classes p ≡ b → IsNext p l s out waits false
+      by_pdi true closes = by_top closes read.stack (reverse now) refl read.pass
+      by_pdi false other = by_choice None (cond-false (is_pdi (class_at classes p)) (last_or None now) None other) tt (came_begin p out now kept fits read (is_first-no_pdi classes levels p other begins))
+
+  -- p has come to the sequence that it goes on with, or to a new one
+  pub record HasCome (p : ℕ) (out : List (List ℕ)) (g : Option ℕ) (now : List (Option ℕ)) : Type 0 where
+    pub fits : IfSome g (λ r. r < length out)
+    pub state : IsGoing (p + 1) (with_entry g p out) now p (index_of g out)
+
+  came_by : (p : ℕ) (out : List (List ℕ)) (waits : List (Option ℕ)) (last : Option (ℕ × ℕ)) → IsStateAt p out waits last → is_kept_at classes p ≡ true → p < length classes
+      → HasCome p out (choice_at classes levels last p (waits_before classes levels last p waits)) (waits_before classes levels last p waits)
+  came_by p out waits None h kept fits =
+      let state : IsGoing (p + 1) (with_entry None p []) [] p 0 = IsStateAt-first p h.2 kept fits in
+      subst (λ (x : List (Option ℕ)). HasCome p out None x) (sym h.1) (subst (λ (x : List (List ℕ)). HasCome p x None []) (sym h.0) (record { fits = tt; state = state }))
+  came_by p out waits (Some e) h kept fits =
+      let next : IsNext p e.0 e.1 out waits (eqb (level_at levels e.0) (level_at levels p)) = IsStateAt-next p e.0 e.1 out waits (eqb (level_at levels e.0) (level_at levels p)) h kept fits refl in
+      record { fits = next.fits; state = next.state }
+
+  pub HasCome-next : (p : ℕ) (out : List (List ℕ)) (waits now : List (Option ℕ)) (last : Option (ℕ × ℕ)) (g : Option ℕ) → IsStateAt p out waits last → is_kept_at classes p ≡ true → p < length classes
+      → now ≡ waits_before classes levels last p waits → g ≡ choice_at classes levels last p now → HasCome p out g now
+  HasCome-next p out waits now last g h kept fits read found =
+      subst (λ (x : Option ℕ). HasCome p out x now) (sym found) (subst (λ (x : List (Option ℕ)). HasCome p out (choice_at classes levels last p x) x) (sym read) (came_by p out waits last h kept fits))
+
+  pub IsStateAt-came : (p : ℕ) (out more : List (List ℕ)) (g : Option ℕ) (now : List (Option ℕ)) (s : ℕ) (last : Option (ℕ × ℕ)) → HasCome p out g now → more ≡ with_entry g p out → s ≡ index_of g out → last ≡ Some (p, s) → IsStateAt (p + 1) more now last
+  IsStateAt-came p out more g now s last came grown index e =
+      subst (λ (x : Option (ℕ × ℕ)). IsStateAt (p + 1) more now x) (sym e)
+      (subst (λ (x : ℕ). IsGoing (p + 1) more now p x) (sym index) (subst (λ (x : List (List ℕ)). IsGoing (p + 1) x now p (index_of g out)) (sym grown) came.state))
+
+  -- at the end these are the sequences
+  pub IsStateAt-end : (out : List (List ℕ)) (waits : List (Option ℕ)) (last : Option (ℕ × ℕ)) → IsStateAt (length classes) out waits last → (paragraph : ℕ) → map (with_ends paragraph classes levels) out ≡ sequences paragraph classes levels
+  IsStateAt-end out waits None h paragraph = ap (map (with_ends paragraph classes levels)) h.0 ∙ IsPass-end classes levels paragraph (length classes) [] [] [] (pass_none (length classes) h.2)
+  IsStateAt-end out waits (Some e) h paragraph = IsPass-end classes levels paragraph e.0 out h.stack (reverse waits) h.pass
+
+  begun : (p : ℕ) (out : List (List ℕ)) (waits : List (Option ℕ)) (last : Option (ℕ × ℕ)) → IsStateAt p out waits last → AllBegun classes levels out
+  begun p out waits None h = subst (λ (x : List (List ℕ)). AllBegun classes levels x) (sym h.0) tt
+  begun p out waits (Some e) h = h.pass.begun
+
+  last_in_text : (p : ℕ) (ps : List ℕ) → p < length classes → AreSuccessors classes levels (p ∷ ps) → last_or p ps < length classes
+  last_in_text p [] within follows = within
+  last_in_text p (q ∷ ps) within follows = last_in_text q ps (successor-IsLaterKept classes levels p q follows.0).within follows.1
+
+  begun_places : (xs : List ℕ) → IsBegunList classes levels xs → ArePlaces (length classes) xs
+  begun_places [] h = absurd h
+  begun_places (p ∷ ps) h = record { not_empty = omega arith; first = h.within; last = last_in_text p ps h.within h.follows }
+
+  places_at : (out : List (List ℕ)) → AllBegun classes levels out → (k : ℕ) → k < length out → ArePlaces (length classes) (get_or out k [])
+  places_at [] h k within = absurd (omega arith)
+  places_at (xs ∷ out) h zero within = begun_places xs h.0
+  places_at (xs ∷ out) h (suc k) within = places_at out h.1 k (omega arith)
+
+  pub IsStateAt-places : (p : ℕ) (out : List (List ℕ)) (waits : List (Option ℕ)) (last : Option (ℕ × ℕ)) → IsStateAt p out waits last → (k : ℕ) → k < length out → ArePlaces (length classes) (get_or out k [])
+  IsStateAt-places p out waits last h k within = places_at out (begun p out waits last h) k within

@@ -1,0 +1,106 @@
+-- W4 from the front, where the class before is read as the pass has left it.
+use Rattle.std.proofs.Common.{◌≡◌, ℕ, ◌+◌, ◌-◌, ◌<◌, ◌≤◌, List, [], ◌∷◌, length, get_or, take, drop, set, reverse, refl, sym, ap, ◌∙◌, arith, inl, inr}
+use Rattle.std.proofs.lemmas.Bool.{cases_lt}
+use Rattle.std.proofs.lemmas.List.{drop_more, drop_all, get_or-take}
+use Rattle.bidi_base.specs.declared.char_data.BidiClass.{BidiClass}
+use Rattle.bidi_base.specs.declared.char_data.BidiClass.TheVariants.{L, EN, AN, ES, CS}
+use Rattle.bidi_base.specs.Places.{in_context}
+use Rattle.bidi_base.specs.Weak.{w4_rule}
+use Rattle.bidi_base.proofs.PlacesLemmas.{reverse-take_more}
+use Rattle.bidi_base.proofs.InPlace.{IsRewritten, IsRewritten-read, IsRewritten-write, IsRewritten-keep, IsRewritten-end}
+use Rattle.bidi_plain.proofs.Blocks.{answer_is, read_later}
+
+-- the rule reads one class on each side
+neighbours : (b : BidiClass) (bs : List BidiClass) (c a : BidiClass) (as' : List BidiClass) → w4_rule (b ∷ bs) c (a ∷ as') ≡ w4_rule (b ∷ []) c (a ∷ [])
+neighbours EN bs ES EN as' = refl
+neighbours EN bs ES _ as' = refl
+neighbours EN bs CS EN as' = refl
+neighbours EN bs CS _ as' = refl
+neighbours EN bs _ a as' = refl
+neighbours AN bs CS AN as' = refl
+neighbours AN bs CS _ as' = refl
+neighbours AN bs _ a as' = refl
+neighbours _ bs c a as' = refl
+
+-- no number, no answer; and before a separator nothing changes, so it does not matter whether the class before it is the old one
+stays_before_ES : (bs : List BidiClass) (b : BidiClass) (as' : List BidiClass) → w4_rule bs b (ES ∷ as') ≡ b
+stays_before_ES [] b as' = refl
+stays_before_ES (EN ∷ bs) ES as' = refl
+stays_before_ES (EN ∷ bs) CS as' = refl
+stays_before_ES (EN ∷ bs) _ as' = refl
+stays_before_ES (AN ∷ bs) CS as' = refl
+stays_before_ES (AN ∷ bs) _ as' = refl
+stays_before_ES (_ ∷ bs) b as' = refl
+
+stays_before_CS : (bs : List BidiClass) (b : BidiClass) (as' : List BidiClass) → w4_rule bs b (CS ∷ as') ≡ b
+stays_before_CS [] b as' = refl
+stays_before_CS (EN ∷ bs) ES as' = refl
+stays_before_CS (EN ∷ bs) CS as' = refl
+stays_before_CS (EN ∷ bs) _ as' = refl
+stays_before_CS (AN ∷ bs) CS as' = refl
+stays_before_CS (AN ∷ bs) _ as' = refl
+stays_before_CS (_ ∷ bs) b as' = refl
+
+other_stays : (b c a : BidiClass) → (c ≡ ES → ⊥) → (c ≡ CS → ⊥) → w4_rule (b ∷ []) c (a ∷ []) ≡ c
+other_stays EN ES a es cs = absurd (es refl)
+other_stays EN CS a es cs = absurd (cs refl)
+other_stays EN _ a es cs = refl
+other_stays AN CS a es cs = absurd (cs refl)
+other_stays AN _ a es cs = refl
+other_stays _ c a es cs = refl
+
+read_before : (bs : List BidiClass) (b c : BidiClass) (cs : List BidiClass) (a : BidiClass) → w4_rule (w4_rule bs b (c ∷ cs) ∷ []) c (a ∷ []) ≡ w4_rule (b ∷ []) c (a ∷ [])
+read_before bs b ES cs a = ap (λ (x : BidiClass). w4_rule (x ∷ []) ES (a ∷ [])) (stays_before_ES bs b cs)
+read_before bs b CS cs a = ap (λ (x : BidiClass). w4_rule (x ∷ []) CS (a ∷ [])) (stays_before_CS bs b cs)
+read_before bs b c cs a = other_stays (w4_rule bs b (c ∷ cs)) c a (λ e. cc) (λ e. cc) ∙ sym (other_stays b c a (λ e. cc) (λ e. cc))
+
+alone : (bs : List BidiClass) (c : BidiClass) → w4_rule bs c [] ≡ c
+alone [] c = refl
+alone (EN ∷ bs) ES = refl
+alone (EN ∷ bs) CS = refl
+alone (EN ∷ bs) _ = refl
+alone (AN ∷ bs) CS = refl
+alone (AN ∷ bs) _ = refl
+alone (_ ∷ bs) c = refl
+
+module _ (old now : List BidiClass) where
+  pub separator_step : (i : ℕ) (y : BidiClass) → 1 ≤ i → i + 1 < length old → IsRewritten w4_rule old now i
+      → y ≡ w4_rule (get_or now (i - 1) L ∷ []) (get_or now i L) (get_or now (i + 1) L ∷ []) → IsRewritten w4_rule old (set now i y) (i + 1)
+  separator_step i y from inside h is =
+      let b = get_or old (i - 1) L in
+      let c = get_or old i L in
+      let a = get_or old (i + 1) L in
+      let bs = reverse (take (i - 1) old) in
+      let place : i - 1 + 1 ≡ i = omega arith in
+      let here : get_or now i L ≡ c = IsRewritten-read w4_rule old now i L h in
+      let next : get_or now (i + 1) L ≡ a = read_later now old i 1 h.rest in
+      let before : get_or now (i - 1) L ≡ w4_rule bs b (c ∷ drop (i + 1) old) =
+      sym (get_or-take i now (i - 1) L (omega arith)) ∙ ap (λ (xs : List BidiClass). get_or xs (i - 1) L) h.front ∙ get_or-take i (in_context w4_rule [] old) (i - 1) L (omega arith)
+      ∙ answer_is w4_rule old (i - 1) (omega arith)
+      ∙ ap (λ (j : ℕ). w4_rule bs b (drop j old)) place ∙ ap (w4_rule bs b) (drop_more old i L (omega arith))
+      in
+      let left : reverse (take i old) ≡ b ∷ bs = ap (λ (j : ℕ). reverse (take j old)) (sym place) ∙ reverse-take_more old (i - 1) L (omega arith) in
+      let right : drop (i + 1) old ≡ a ∷ drop (i + 1 + 1) old = drop_more old (i + 1) L inside in
+      IsRewritten-write w4_rule old now i y L (omega arith)
+      (
+      is
+      ∙ ap (λ (x : BidiClass). w4_rule (x ∷ []) (get_or now i L) (get_or now (i + 1) L ∷ [])) before
+      ∙ ap (λ (x : BidiClass). w4_rule (w4_rule bs b (c ∷ drop (i + 1) old) ∷ []) x (get_or now (i + 1) L ∷ [])) here
+      ∙ ap (λ (x : BidiClass). w4_rule (w4_rule bs b (c ∷ drop (i + 1) old) ∷ []) c (x ∷ [])) next
+      ∙ read_before bs b c (drop (i + 1) old) a
+      ∙ sym (neighbours b bs c a (drop (i + 1 + 1) old))
+      ∙ ap (λ (xs : List BidiClass). w4_rule xs c (a ∷ drop (i + 1 + 1) old)) (sym left)
+      ∙ ap (w4_rule (reverse (take i old)) c) (sym right)
+      )
+      h
+
+  -- the last class has none behind it
+  pub separators_end : (i : ℕ) → length old ≤ i + 1 → IsRewritten w4_rule old now i → now ≡ in_context w4_rule [] old
+  separators_end i past h = elim (cases_lt i (length old)) [
+    | inl last ↦
+        let c = get_or old i L in
+        let before = reverse (take i old) in
+        IsRewritten-end w4_rule old now (i + 1) past
+        (IsRewritten-keep w4_rule old now i L last (sym (alone before c) ∙ ap (w4_rule before c) (sym (drop_all (i + 1) old past))) h)
+    | inr after ↦ IsRewritten-end w4_rule old now i after h
+  ]

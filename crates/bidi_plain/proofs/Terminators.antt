@@ -1,0 +1,118 @@
+-- W5 block by block.
+use Rattle.std.proofs.Common.{◌≡◌, ℕ, suc, ◌+◌, ◌-◌, ◌<◌, ◌≤◌, Bool, true, false, not, ◌||◌, cond, List, ◌∷◌, length, get_or, take, drop, replicate, reverse, refl, sym, ap, subst, ◌∙◌, arith, inl, inr}
+use Rattle.std.proofs.lemmas.Bool.{cases_lt}
+use Rattle.std.proofs.lemmas.List.{drop_more, drop_all, get_or_past}
+use Rattle.std.specs.List.{prefix_len}
+use borrow.Rule.Slice.PartMut.{put_mid}
+use Rattle.bidi_base.specs.declared.char_data.BidiClass.{BidiClass}
+use Rattle.bidi_base.specs.declared.char_data.BidiClass.TheVariants.{L, EN, ET}
+use Rattle.bidi_base.specs.Classes.{is_et, is_en}
+use Rattle.bidi_base.specs.Places.{class_at, nearest_is}
+use Rattle.bidi_base.specs.Weak.{w5_rule}
+use Rattle.bidi_base.proofs.PlacesLemmas.{reverse-take_more}
+use Rattle.bidi_base.proofs.InPlace.{IsRewritten, IsRewritten-keep}
+use Rattle.bidi_plain.proofs.Blocks.{IsBlock, IsBlock-counted, length-part, read_later, look-drop, look-take, answer, IsRewritten-filled, IsRewritten-unchanged, IsRewritten-past}
+
+-- past the terminators a European number is next
+abbrev pub is_number_next : List BidiClass → Bool
+is_number_next = nearest_is (λ c. not (is_et c)) is_en
+
+passes : (c : BidiClass) (cs : List BidiClass) → is_et c ≡ true → is_number_next (c ∷ cs) ≡ is_number_next cs
+passes ET cs e = refl
+passes _ cs e = absurd (cc e)
+
+stops : (c : BidiClass) (cs : List BidiClass) → is_et c ≡ false → is_number_next (c ∷ cs) ≡ is_en c
+stops ET cs e = absurd (cc e)
+stops _ cs e = refl
+
+is_et-ET : (c : BidiClass) → is_et c ≡ true → c ≡ ET
+is_et-ET ET e = refl
+is_et-ET _ e = absurd (cc e)
+
+w5_rule-ET : (before : List BidiClass) (c : BidiClass) (after : List BidiClass) → is_et c ≡ true → w5_rule before c after ≡ cond (is_number_next before || is_number_next after) EN ET
+w5_rule-ET before ET after e = refl
+w5_rule-ET before _ after e = absurd (cc e)
+
+w5_rule-other : (before : List BidiClass) (c : BidiClass) (after : List BidiClass) → is_et c ≡ false → c ≡ w5_rule before c after
+w5_rule-other before ET after e = absurd (cc e)
+w5_rule-other before _ after e = refl
+
+-- the classes before `start` are done, and `after_number` says whether a European number stands before the next block of terminators
+pub record IsAtBlock (old now : List BidiClass) (after_number : Bool) (start : ℕ) : Type 0 where
+  pub rewritten : IsRewritten w5_rule old now start
+  pub number : start ≤ length old → after_number ≡ is_number_next (reverse (take start old))
+
+module _ (old : List BidiClass) (start n : ℕ) (block : IsBlock is_et old start n) where
+  before_number_is : is_en (class_at old (start + n)) ≡ is_number_next (drop (start + n) old)
+  before_number_is = elim (cases_lt (start + n) (length old)) [
+    | inl more ↦ sym (stops (get_or old (start + n) L) (drop (start + n + 1) old) (block.behind more)) ∙ ap is_number_next (sym (drop_more old (start + n) L more))
+    | inr past ↦ ap is_en (get_or_past old (start + n) L past) ∙ ap is_number_next (sym (drop_all (start + n) old past))
+  ]
+
+  -- what each terminator of the block becomes
+  answers : (after_number : Bool) → after_number ≡ is_number_next (reverse (take start old)) → (k : ℕ) → k < n
+      → answer w5_rule old (start + k) ≡ cond (after_number || is_en (class_at old (start + n))) EN ET
+  answers after_number number k below =
+      let room = block.room in
+      let place : start + k + 1 + (n - suc k) ≡ start + n = omega arith in
+      let before : is_number_next (reverse (take (start + k) old)) ≡ after_number =
+      look-take is_et is_number_next passes old start k (omega arith) (λ j less. block.inside j (omega arith)) ∙ sym number
+      in
+      let after : is_number_next (drop (start + k + 1) old) ≡ is_en (class_at old (start + n)) =
+      look-drop is_et is_number_next passes old (start + k + 1) (n - suc k) (omega arith)
+      (λ j less. subst (λ (p : ℕ). is_et (get_or old p L) ≡ true) (omega arith) (block.inside (k + 1 + j) (omega arith)))
+      ∙ ap (λ (p : ℕ). is_number_next (drop p old)) place ∙ sym before_number_is
+      in
+      w5_rule-ET (reverse (take (start + k) old)) (get_or old (start + k) L) (drop (start + k + 1) old) (block.inside k below)
+      ∙ ap (λ b. cond (b || is_number_next (drop (start + k + 1) old)) EN ET) before
+      ∙ ap (λ b. cond (after_number || b) EN ET) after
+
+  -- the class behind the block
+  behind : (now : List BidiClass) → IsRewritten w5_rule old now (start + n) → IsAtBlock old now (is_en (class_at old (start + n))) (start + n + 1)
+  behind now h = elim (cases_lt (start + n) (length old)) [
+    | inl more ↦
+        let x = get_or old (start + n) L in
+        let other : is_et x ≡ false = block.behind more in
+        record {
+          rewritten = IsRewritten-keep w5_rule old now (start + n) L more (w5_rule-other (reverse (take (start + n) old)) x (drop (start + n + 1) old) other) h;
+          number = λ fits. sym (stops x (reverse (take (start + n) old)) other) ∙ ap is_number_next (sym (reverse-take_more old (start + n) L more));
+        }
+    | inr past ↦ record { rewritten = IsRewritten-past w5_rule old now (start + n) (start + n + 1) past (omega arith) h; number = λ fits. absurd (omega arith) }
+  ]
+
+  pub IsAtBlock-filled : (now : List BidiClass) (after_number : Bool) (m : ℕ) → IsAtBlock old now after_number start → m ≡ n → (after_number || is_en (class_at old (start + n))) ≡ true
+      → IsAtBlock old (put_mid start m now (replicate n EN)) (is_en (class_at old (start + n))) (start + n + 1)
+  IsAtBlock-filled now after_number m h same beside =
+      let room = block.room in
+      behind (put_mid start m now (replicate n EN))
+      (IsRewritten-filled w5_rule old now start n m EN h.rewritten block.room same
+      (λ k below. answers after_number (h.number (omega arith)) k below ∙ ap (λ b. cond b EN ET) beside))
+
+  pub IsAtBlock-kept : (now : List BidiClass) (after_number : Bool) → IsAtBlock old now after_number start → (after_number || is_en (class_at old (start + n))) ≡ false
+      → IsAtBlock old now (is_en (class_at old (start + n))) (start + n + 1)
+  IsAtBlock-kept now after_number h alone =
+      let room = block.room in
+      behind now
+      (IsRewritten-unchanged w5_rule old now start n h.rewritten block.room
+      (λ k below. answers after_number (h.number (omega arith)) k below ∙ ap (λ b. cond b EN ET) alone ∙ sym (is_et-ET (get_or old (start + k) L) (block.inside k below))))
+
+-- the same two steps as the pass makes them, which counts the block and reads behind it in the slice as it is now
+module _ (old now : List BidiClass) (after_number before_number : Bool) (start n : ℕ) (h : IsAtBlock old now after_number start) (fits : start ≤ length old)
+    (counted : n ≡ prefix_len is_et (take (length now - start) (drop start now))) (next : before_number ≡ is_en (class_at now (start + n))) where
+  block : IsBlock is_et old start n
+  block = IsBlock-counted is_et old now start n fits h.rewritten.rest counted
+
+  next_is : before_number ≡ is_en (class_at old (start + n))
+  next_is = next ∙ ap is_en (read_later now old start n h.rewritten.rest)
+
+  pub step-filled : (ys : List BidiClass) → (after_number || before_number) ≡ true → ys ≡ replicate (length (take (start + n - start) (drop start now))) EN
+      → IsAtBlock old (put_mid start (start + n - start) now ys) before_number (start + n + 1)
+  step-filled ys beside filled =
+      let room : start + n ≤ length old = block.room in
+      let long : length now ≡ length old = h.rewritten.long in
+      let all : ys ≡ replicate n EN = filled ∙ ap (λ (m : ℕ). replicate m EN) (length-part now start n (omega arith)) in
+      let same : start + n - start ≡ n = omega arith in
+      rw (all, next_is) (IsAtBlock-filled old start n block now after_number (start + n - start) h same (ap (λ b. after_number || b) (sym next_is) ∙ beside))
+
+  pub step-kept : (after_number || before_number) ≡ false → IsAtBlock old now before_number (start + n + 1)
+  step-kept alone = rw next_is (IsAtBlock-kept old start n block now after_number h (ap (λ b. after_number || b) (sym next_is) ∙ alone))

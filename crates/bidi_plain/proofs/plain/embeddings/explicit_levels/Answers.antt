@@ -1,0 +1,35 @@
+use Rattle.std.proofs.Common.{◌||◌, cond, unwrap_or, length, ap, ◌∙◌, arith}
+use Rattle.bidi_base.specs.declared.char_data.BidiClass.{BidiClass}
+use Rattle.bidi_base.specs.Classes.{is_paragraph_separator, is_removed}
+use Rattle.bidi_base.specs.Explicit.{Status}
+use Rattle.bidi_base.specs.Places.{class_at}
+use Rattle.bidi_base.proofs.ExplicitLemmas.{length-explicit_levels, length-explicit_classes}
+use Rattle.bidi_plain.proofs.ExplicitPass.{IsExplicitSoFar-start, IsExplicitSoFar-more, IsExplicitSoFar-levels, IsExplicitSoFar-classes}
+use Rattle.bidi_plain.proofs.plain.embeddings.explicit_levels.Goals as goal
+
+pub loop-class-init : goal.loop-class-init
+loop-class-init c =
+    IsExplicitSoFar-start c.args.para_level c.args.classes.now c.new-openers.result c.in_ok-levels.levels.items c.in_ok-overridden.overridden.items c.new-openers.ensures c.in_ok-levels.ensures.items c.in_ok-overridden.ensures.items
+
+pub loop-class-preserved : goal.loop-class-preserved
+loop-class-preserved c =
+    let class : BidiClass = class_at c.args.classes.now c.loop-class.class-index in
+    rw (c.in_ok-push.ensures.items, c.in_ok-push-2.ensures.items)
+    (IsExplicitSoFar-more c.args.para_level c.args.classes.now c.loop-class.class-index c.loop-class.openers c.close.new.self c.open.new.self c.loop-class.levels.items c.loop-class.overridden.items c.status-status.result
+    c.level_of.result c.class_of.result c.loop-class-test.true c.loop-class.invariant c.close.ensures c.in_ok-open.ensures c.status-status.ensures
+    (c.level_of.ensures ∙ ap (λ (s : Status). cond (is_paragraph_separator class) c.args.para_level s.level) c.status.view_is)
+    (c.class_of.ensures ∙ ap (λ (s : Status). cond (is_paragraph_separator class || is_removed class) class (unwrap_or s.override class)) c.status.view_is))
+
+pub returns-clause-levels : goal.returns-clause-levels
+returns-clause-levels c =
+    IsExplicitSoFar-levels c.args.para_level c.args.classes.now c.loop-class.class-index c.loop-class.openers c.loop-class.levels.items c.loop-class.overridden.items (omega arith) c.loop-class.invariant
+
+pub returns-clause-classes : goal.returns-clause-classes
+returns-clause-classes c =
+    IsExplicitSoFar-classes c.args.para_level c.args.classes.now c.loop-class.class-index c.loop-class.openers c.loop-class.levels.items c.loop-class.overridden.items (omega arith) c.loop-class.invariant
+
+pub returns-clause-lengths : goal.returns-clause-lengths
+returns-clause-lengths c = (
+  ap length (returns-clause-levels c) ∙ length-explicit_levels c.args.para_level c.args.classes.now,
+  ap length (returns-clause-classes c) ∙ length-explicit_classes c.args.para_level c.args.classes.now,
+)

@@ -1,0 +1,9 @@
+use Rattle.std.proofs.Common.{not}
+use Rattle.bidi_base.specs.Classes.{is_nsm}
+use Rattle.bidi_base.specs.Weak.{w1_rule}
+use Rattle.bidi_plain.proofs.Scans.{IsScanned}
+use Rattle.bidi_plain.proofs.plain.weak_types.apply_w1.Given as goal
+
+abbrev pub invariant-loop-class : goal.invariant-loop-class
+invariant-loop-class l =
+    IsScanned (w1_rule l.fn.sos) (λ c. not (is_nsm c)) l.fn.sos l.fn.classes l.classes l.previous l.class-index

@@ -1,0 +1,7 @@
+use Rattle.bidi_base.specs.Classes.{is_strong}
+use Rattle.bidi_base.specs.Weak.{w2_rule}
+use Rattle.bidi_plain.proofs.Scans.{IsScanned}
+use Rattle.bidi_plain.proofs.plain.weak_types.apply_w2.Given as goal
+
+abbrev pub invariant-loop-class : goal.invariant-loop-class
+invariant-loop-class l = IsScanned (w2_rule l.fn.sos) is_strong l.fn.sos l.fn.classes l.classes l.strong l.class-index

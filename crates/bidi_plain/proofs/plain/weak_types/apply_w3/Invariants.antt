@@ -1,0 +1,6 @@
+use Rattle.std.proofs.Common.{◌≡◌, ◌++◌, map, take, drop}
+use Rattle.bidi_base.specs.Weak.{w3_rule}
+use Rattle.bidi_plain.proofs.plain.weak_types.apply_w3.Given as goal
+
+abbrev pub invariant-loop-class : goal.invariant-loop-class
+invariant-loop-class l = l.classes ≡ map w3_rule (take l.class-index l.fn.classes) ++ drop l.class-index l.fn.classes

@@ -1,0 +1,226 @@
+//! The neutrals of an isolating run sequence (N0 to N2). A class stands for a direction if it is L, R
+//! or a number, and numbers stand for R.
+
+ghost use Rattle.std.specs.Prelude.{◌≡◌, ◌==◌, ◌||◌, false, ℕ, ◌+◌, ◌<◌, ◌≤◌, length, slice_range, slice_index_or, take, reverse, map, if◌then◌else◌, IsTrue, IfOk, All, is_some, unwrap_or};
+ghost use Rattle.std.specs.List.{list_all, list_any, prefix_len};
+ghost use Rattle.std.specs.Option.{option_map_or};
+ghost use Rattle.bidi_base.specs.Classes.{as_direction as as_direction_of, has_direction, is_kept, is_l_or_r, is_neutral, is_nsm, is_weak_resolved, same_class};
+ghost use Rattle.bidi_base.specs.Places.{class_at, indexes};
+ghost use Rattle.bidi_base.specs.Neutral.{is_mark_after, n0, n1_n2, nearest_direction, neutral_classes, pair_direction as pair_direction_of};
+
+use super::bracket_pairs::pairs;
+use bidi_base::char_data::BidiClass::{self, AN, B, EN, FSI, L, LRI, NSM, ON, PDI, R, RLI, S, WS};
+use bidi_base::data_source::BidiMatchedOpeningBracket;
+use bidi_base::level::Level;
+use std::alloc::{AllocError, Global};
+
+/// The classes of a sequence after N0 to N2, each of them L, R, EN or AN. `level` is the explicit
+/// level of the sequence, at most 125, `sos` and `eos` are L or R, `source` has the classes that the
+/// data source gives and `classes` those after W7.
+#[tactic(auto, unfolding(bidi_base::specs::Neutral::neutral_classes))]
+pub fn neutral(
+    alloc: Global,
+    level: Level,
+    sos: BidiClass,
+    eos: BidiClass,
+    source: &[BidiClass],
+    brackets: &[Option<BidiMatchedOpeningBracket>],
+    classes: &[BidiClass],
+) -> Result<Vec<BidiClass>, AllocError>
+    requires level { level ≤ 125 }
+    requires sos { IsTrue (is_l_or_r sos) }
+    requires eos { IsTrue (is_l_or_r eos) }
+    requires source_length { length source.now ≡ length classes.now }
+    requires brackets_length { length brackets.now ≡ length classes.now }
+    requires source { IsTrue (list_all is_kept source.now) }
+    requires classes { IsTrue (list_all is_weak_resolved classes.now) }
+    ensures classes { IfOk result (λ v. v.items ≡ neutral_classes level sos eos source.now brackets.now classes.now) }
+    ensures directed { IfOk result (λ v. IsTrue (list_all has_direction v.items)) }
+{
+    let pairs = pairs(alloc, classes, brackets)?;
+    let mut resolved = Vec::from_slice(alloc, classes)?;
+    resolve(
+        level.bidi_class(),
+        sos,
+        eos,
+        source,
+        pairs.as_slice(),
+        resolved.as_mut_slice(),
+    );
+    Ok(resolved)
+}
+
+fn resolve(
+    embedding: BidiClass,
+    sos: BidiClass,
+    eos: BidiClass,
+    source: &[BidiClass],
+    pairs: &[(usize, usize)],
+    classes: &mut [BidiClass],
+)
+    requires embedding { IsTrue (is_l_or_r embedding) }
+    requires sos { IsTrue (is_l_or_r sos) }
+    requires lengths { length source.now ≡ length classes.old }
+    requires in_order { All (λ (p : ℕ × ℕ). (p.0 < p.1) × (p.1 < length classes.old)) pairs.now }
+    requires classes { IsTrue (list_all is_weak_resolved classes.old) }
+    ensures classes { classes.new ≡ n1_n2 embedding sos eos (n0 embedding sos source.now pairs.now classes.old) }
+    ensures directed { IsTrue (list_all has_direction classes.new) }
+{
+    apply_n0(embedding, sos, source, pairs, classes);
+    apply_n1_n2(embedding, sos, eos, classes);
+}
+
+/// N0: the bracket pairs one by one, in the order of their openings.
+fn apply_n0(
+    embedding: BidiClass,
+    sos: BidiClass,
+    source: &[BidiClass],
+    pairs: &[(usize, usize)],
+    classes: &mut [BidiClass],
+)
+    requires lengths { length source.now ≡ length classes.old }
+    requires in_order { All (λ (p : ℕ × ℕ). (p.0 < p.1) × (p.1 < length classes.old)) pairs.now }
+    ensures { classes.new ≡ n0 embedding sos source.now pairs.now classes.old }
+{
+    for pair in pairs {
+        if let Some(direction) = pair_direction(embedding, sos, classes, *pair) {
+            set_direction(source, classes, pair.0, direction);
+            set_direction(source, classes, pair.1, direction);
+        }
+    }
+}
+
+/// What a pair of brackets takes: the embedding direction if it stands inside (N0 b), otherwise,
+/// if the opposite one does, that of the context before the pair (N0 c), and else none (N0 d).
+fn pair_direction(
+    embedding: BidiClass,
+    sos: BidiClass,
+    classes: &[BidiClass],
+    pair: (usize, usize),
+) -> Option<BidiClass>
+    requires { (pair.0 < pair.1) × (pair.1 < length classes.now) }
+    ensures { result ≡ pair_direction_of embedding sos classes.now pair }
+{
+    let inside = &classes[pair.0 + 1..pair.1];
+    if has_direction(inside, embedding) {
+        Some(embedding)
+    } else if has_any_direction(inside) {
+        Some(context(sos, &classes[..pair.0]))
+    } else {
+        None
+    }
+}
+
+fn has_direction(inside: &[BidiClass], direction: BidiClass) -> bool
+    ensures { result ≡ list_any (λ c. option_map_or (same_class direction) (as_direction_of c) false) inside.now }
+{
+    inside.iter().any(|class| stands_for(*class, direction))
+}
+
+fn has_any_direction(inside: &[BidiClass]) -> bool
+    ensures { result ≡ list_any (λ c. is_some (as_direction_of c)) inside.now }
+{
+    inside.iter().any(|class| as_direction(*class).is_some())
+}
+
+/// The nearest direction before a pair, looked for backwards, else sos.
+fn context(sos: BidiClass, before: &[BidiClass]) -> BidiClass
+    ensures { result ≡ nearest_direction sos (reverse before.now) }
+{
+    for class in before.iter().rev() {
+        if let Some(direction) = as_direction(*class) {
+            return direction;
+        }
+    }
+    sos
+}
+
+/// Gives a bracket a direction, and the characters directly after it that are nonspacing marks by
+/// their source classes.
+fn set_direction(
+    source: &[BidiClass],
+    classes: &mut [BidiClass],
+    bracket: usize,
+    direction: BidiClass,
+)
+    requires lengths { length source.now ≡ length classes.old }
+    requires bracket { bracket < length classes.old }
+    ensures { classes.new ≡ map (λ k. if k == bracket || is_mark_after source.now bracket k then direction else class_at classes.old k) (indexes classes.old) }
+{
+    let end = bracket + 1 + marks(&source[bracket + 1..]);
+    classes[bracket..end].fill(direction);
+}
+
+/// How many nonspacing marks the list begins with.
+fn marks(source: &[BidiClass]) -> usize
+    ensures count { result ≡ prefix_len is_nsm source.now }
+    ensures within { result ≤ length source.now }
+{
+    source.iter().take_while(|class| **class == NSM).count()
+}
+
+/// The direction that a class stands for.
+fn as_direction(class: BidiClass) -> Option<BidiClass>
+    ensures { result ≡ as_direction_of class }
+{
+    match class {
+        L => Some(L),
+        R | EN | AN => Some(R),
+        _ => None,
+    }
+}
+
+fn stands_for(class: BidiClass, direction: BidiClass) -> bool
+    ensures { result ≡ option_map_or (same_class direction) (as_direction_of class) false }
+{
+    match as_direction(class) {
+        Some(found) => direction == found,
+        None => false,
+    }
+}
+
+/// N1 and N2: a sequence of neutrals takes the direction on both its sides, where sos and eos stand
+/// at the ends, and the embedding direction where the two differ.
+fn apply_n1_n2(embedding: BidiClass, sos: BidiClass, eos: BidiClass, classes: &mut [BidiClass])
+    requires { IsTrue (list_all is_weak_resolved classes.old) }
+    ensures { classes.new ≡ n1_n2 embedding sos eos classes.old }
+{
+    let mut left = sos;
+    let mut start = 0;
+    while start < classes.len() {
+        let end = start + neutrals(&classes[start..]);
+        let right = direction_at(classes, end, eos);
+        classes[start..end].fill(common_direction(embedding, left, right));
+        left = right;
+        start = end + 1;
+    }
+}
+
+/// How many neutrals the list begins with.
+fn neutrals(classes: &[BidiClass]) -> usize
+    ensures count { result ≡ prefix_len is_neutral classes.now }
+    ensures within { result ≤ length classes.now }
+{
+    classes
+        .iter()
+        .take_while(|class| matches!(class, B | S | WS | ON | LRI | RLI | FSI | PDI))
+        .count()
+}
+
+/// The direction at a place, or eos past the end.
+fn direction_at(classes: &[BidiClass], place: usize, eos: BidiClass) -> BidiClass
+    ensures { result ≡ unwrap_or (as_direction_of (slice_index_or classes.now place BidiClass.ON)) eos }
+{
+    if place < classes.len() {
+        as_direction(classes[place]).unwrap_or(eos)
+    } else {
+        eos
+    }
+}
+
+/// What neutrals between two directions take.
+fn common_direction(embedding: BidiClass, left: BidiClass, right: BidiClass) -> BidiClass
+    ensures { result ≡ (if same_class left right then left else embedding) }
+{
+    if left == right { left } else { embedding }
+}

@@ -1,0 +1,166 @@
+-- Ranges in order, and the walks over the units of some of them.
+use Rattle.std.proofs.Common.{◌≡◌, ℕ, zero, suc, ◌+◌, ◌-◌, ◌<◌, ◌≤◌, true, ◌&&◌, leb, ltb, List, [], ◌∷◌, ◌++◌, length, map, get_or, take, drop, reverse, Some, append_assoc, append-nil, refl, sym, ap, subst, ◌∙◌, arith, leb-true, ltb-true, le_refl}
+use Rattle.std.specs.Prelude.{IsTrue}
+use Rattle.std.specs.List.{range_with_len}
+use Rattle.std.proofs.lemmas.Bool.{and_parts, and_from, le-leb}
+use Rattle.std.proofs.lemmas.List.{map-append, reverse-append, get_or-map}
+use Rattle.std.proofs.lemmas.Slice.{between_to_end}
+use Rattle.std.proofs.lemmas.Grind.{flat_map-append}
+use Rattle.std.specs.Iterator.{MakesProgress, item_count}
+use Rattle.std.specs.declared.ops.Range.{Range}
+use Rattle.bidi_base.specs.Places.{between}
+use Rattle.bidi_base.specs.declared.char_data.BidiClass.{BidiClass}
+use Rattle.bidi_base.specs.Classes.{is_l_or_r}
+use Rattle.bidi_base.specs.Units.{bounds, are_ordered_from, are_ordered, is_run_sequence, units_in_runs, units_from, units_below}
+use Rattle.bidi_base.proofs.PlacesLemmas.{range_with_len-more}
+
+-- what one range says
+pub record IsOrderedFront (low : ℕ) (r : ℕ × ℕ) (runs : List (ℕ × ℕ)) : Type 0 where
+  pub from : low ≤ r.0
+  pub not_empty : r.0 < r.1
+  pub later : are_ordered_from r.1 runs ≡ true
+
+pub are_ordered-front : (low : ℕ) (r : ℕ × ℕ) (runs : List (ℕ × ℕ)) → are_ordered_from low (r ∷ runs) ≡ true → IsOrderedFront low r runs
+are_ordered-front low r runs h =
+    let parts = and_parts (leb low r.0) (ltb r.0 r.1 && are_ordered_from r.1 runs) h in
+    let others = and_parts (ltb r.0 r.1) (are_ordered_from r.1 runs) parts.1 in
+    record { from = leb-true _ _ parts.0; not_empty = ltb-true _ _ others.0; later = others.1 }
+
+pub are_ordered-lower : (low from : ℕ) (runs : List (ℕ × ℕ)) → low ≤ from → are_ordered_from from runs ≡ true → are_ordered_from low runs ≡ true
+are_ordered-lower low from [] order h = refl
+are_ordered-lower low from (r ∷ runs) order h =
+    let f = are_ordered-front from r runs h in
+    and_from _ _ (le-leb low r.0 (omega (arith, f.from))) (and_parts (leb from r.0) (ltb r.0 r.1 && are_ordered_from r.1 runs) h).1
+
+pub are_ordered-take : (low k : ℕ) (runs : List (ℕ × ℕ)) → are_ordered_from low runs ≡ true → are_ordered_from low (take k runs) ≡ true
+are_ordered-take low zero runs h = refl
+are_ordered-take low (suc k) [] h = refl
+are_ordered-take low (suc k) (r ∷ runs) h =
+    let parts = and_parts (leb low r.0) (ltb r.0 r.1 && are_ordered_from r.1 runs) h in
+    let others = and_parts (ltb r.0 r.1) (are_ordered_from r.1 runs) parts.1 in
+    and_from _ _ parts.0 (and_from _ _ others.0 (are_ordered-take r.1 k runs others.1))
+
+pub are_ordered-drop : (low k : ℕ) (runs : List (ℕ × ℕ)) → are_ordered_from low runs ≡ true → are_ordered_from low (drop k runs) ≡ true
+are_ordered-drop low zero runs h = h
+are_ordered-drop low (suc k) [] h = refl
+are_ordered-drop low (suc k) (r ∷ runs) h =
+    let f = are_ordered-front low r runs h in
+    are_ordered-lower low r.1 (drop k runs) (omega (arith, f.from, f.not_empty)) (are_ordered-drop r.1 k runs f.later)
+
+-- the ranges before the last, and the last
+pub are_ordered-last : (low : ℕ) (runs : List (ℕ × ℕ)) (r : ℕ × ℕ) → are_ordered_from low (runs ++ r ∷ []) ≡ true → (are_ordered_from low runs ≡ true) × (r.0 < r.1)
+are_ordered-last low [] r h = (refl, (are_ordered-front low r [] h).not_empty)
+are_ordered-last low (q ∷ runs) r h =
+    let parts = and_parts (leb low q.0) (ltb q.0 q.1 && are_ordered_from q.1 (runs ++ r ∷ [])) h in
+    let others = and_parts (ltb q.0 q.1) (are_ordered_from q.1 (runs ++ r ∷ [])) parts.1 in
+    let rest = are_ordered-last q.1 runs r others.1 in
+    (and_from _ _ parts.0 (and_from _ _ others.0 rest.0), rest.1)
+
+-- the first number of a range, and the last
+pub between-first : (low high : ℕ) → low < high → between low high ≡ low ∷ between (low + 1) high
+between-first low high order =
+    let count : high - low ≡ suc (high - (low + 1)) = omega arith in
+    ap (range_with_len low) count
+
+pub between-last : (low high : ℕ) → low < high → between low high ≡ between low (high - 1) ++ (high - 1) ∷ []
+between-last low high order =
+    let count : high - low ≡ suc (high - 1 - low) = omega arith in
+    let place : low + (high - 1 - low) ≡ high - 1 = omega arith in
+    ap (range_with_len low) count
+    ∙ range_with_len-more low (high - 1 - low)
+    ∙ ap (λ n. range_with_len low (high - 1 - low) ++ n ∷ []) place
+
+pub between-none : (low high : ℕ) → high ≤ low → between low high ≡ []
+between-none low high order = let none : high - low ≡ 0 = omega arith in ap (range_with_len low) none
+
+-- upwards: the next unit of a range, or the first one of the next range
+pub forwards_unit : (at end : ℕ) (later : List (ℕ × ℕ)) → at < end → between at end ++ units_in_runs later ≡ at ∷ (between (at + 1) end ++ units_in_runs later)
+forwards_unit at end later order = ap (λ (xs : List ℕ). xs ++ units_in_runs later) (between-first at end order)
+
+pub forwards_run : (at end : ℕ) (all later : List (ℕ × ℕ)) (r : ℕ × ℕ) → end ≤ at → are_ordered all ≡ true → all ≡ r ∷ later → between at end ++ units_in_runs all ≡ r.0 ∷ (between (r.0 + 1) r.1 ++ units_in_runs later)
+forwards_run at end all later r order h e =
+    let f = are_ordered-front 0 r later (subst (λ (xs : List (ℕ × ℕ)). are_ordered xs ≡ true) e h) in
+    ap (λ (xs : List ℕ). xs ++ units_in_runs all) (between-none at end order)
+    ∙ ap units_in_runs e
+    ∙ ap (λ (xs : List ℕ). xs ++ units_in_runs later) (between-first r.0 r.1 f.not_empty)
+
+-- downwards
+reverse_push : {X : Type 0} (xs : List X) (x : X) → reverse (xs ++ x ∷ []) ≡ x ∷ reverse xs
+reverse_push xs x = reverse-append xs (x ∷ [])
+
+pub backwards_unit : (start at : ℕ) (earlier : List (ℕ × ℕ)) → start < at → reverse (units_in_runs earlier ++ between start at) ≡ (at - 1) ∷ reverse (units_in_runs earlier ++ between start (at - 1))
+backwards_unit start at earlier order =
+    ap (λ (xs : List ℕ). reverse (units_in_runs earlier ++ xs)) (between-last start at order)
+    ∙ ap reverse (sym (append_assoc (units_in_runs earlier) (between start (at - 1)) ((at - 1) ∷ [])))
+    ∙ reverse_push (units_in_runs earlier ++ between start (at - 1)) (at - 1)
+
+units_in_runs-last : (runs : List (ℕ × ℕ)) (r : ℕ × ℕ) → units_in_runs (runs ++ r ∷ []) ≡ units_in_runs runs ++ between r.0 r.1
+units_in_runs-last runs r = flat_map-append (λ (q : ℕ × ℕ). between q.0 q.1) runs (r ∷ []) ∙ ap (λ (xs : List ℕ). units_in_runs runs ++ xs) (append-nil (between r.0 r.1))
+
+pub backwards_run : (start at : ℕ) (all earlier : List (ℕ × ℕ)) (r : ℕ × ℕ) → at ≤ start → are_ordered all ≡ true → all ≡ earlier ++ r ∷ []
+    → reverse (units_in_runs all ++ between start at) ≡ (r.1 - 1) ∷ reverse (units_in_runs earlier ++ between r.0 (r.1 - 1))
+backwards_run start at all earlier r order h e =
+    let last = are_ordered-last 0 earlier r (subst (λ (xs : List (ℕ × ℕ)). are_ordered xs ≡ true) e h) in
+    ap (λ (xs : List ℕ). reverse (units_in_runs all ++ xs)) (between-none start at order)
+    ∙ ap reverse (append-nil (units_in_runs all) ∙ ap units_in_runs e ∙ units_in_runs-last earlier r)
+    ∙ backwards_unit r.0 r.1 earlier last.1
+
+-- a step of an iterator that gives the list `rest`
+pub walks_on : {S : Type 0} (can : S → Type 0) (rest : S → List ℕ) (s t : S) (x : ℕ) → rest s ≡ x ∷ rest t → can t → MakesProgress can (item_count rest) s (Some x) t
+walks_on can rest s t x e ready = record { on = λ _. (ready, tt, omega (arith, ap length e)); keeps = ready; rests = λ _. tt }
+
+-- the ranges after one, and those before it
+pub later_ranges : (runs later : List (Range ℕ)) (run : Range ℕ) → runs ≡ run ∷ later → IsTrue (are_ordered (map bounds runs)) → IsTrue (are_ordered (map bounds later))
+later_ranges runs later run e h =
+    let f = are_ordered-front 0 (bounds run) (map bounds later) (subst (λ (xs : List (Range ℕ)). are_ordered (map bounds xs) ≡ true) e h) in
+    are_ordered-lower 0 (bounds run).1 (map bounds later) (omega arith) f.later
+
+pub earlier_ranges : (runs earlier : List (Range ℕ)) (run : Range ℕ) → runs ≡ earlier ++ run ∷ [] → IsTrue (are_ordered (map bounds runs)) → IsTrue (are_ordered (map bounds earlier)) × (run.start < run.end)
+earlier_ranges runs earlier run e h =
+    are_ordered-last 0 (map bounds earlier) (bounds run)
+    (subst (λ (xs : List (ℕ × ℕ)). are_ordered xs ≡ true) (map-append bounds earlier (run ∷ [])) (subst (λ (xs : List (Range ℕ)). are_ordered (map bounds xs) ≡ true) e h))
+
+-- where a walk upwards begins: `read` is the slice of the ranges, and `run` the one at an index
+map-drop : {X Y : Type 0} (f : X → Y) (k : ℕ) (xs : List X) → map f (drop k xs) ≡ drop k (map f xs)
+map-drop f zero xs = refl
+map-drop f (suc k) [] = refl
+map-drop f (suc k) (x ∷ xs) = map-drop f k xs
+
+map-take : {X Y : Type 0} (f : X → Y) (k : ℕ) (xs : List X) → map f (take k xs) ≡ take k (map f xs)
+map-take f zero xs = refl
+map-take f (suc k) [] = refl
+map-take {Y = Y} f (suc k) (x ∷ xs) = ap {B = List Y} (λ ys. f x ∷ ys) (map-take f k xs)
+
+range_at : (runs : List (Range ℕ)) (run : Range ℕ) (k : ℕ) → run ≡ get_or runs k run → k < length runs → get_or (map bounds runs) k (0, 0) ≡ bounds run
+range_at runs run k e fits = get_or-map bounds runs k run (0, 0) fits ∙ ap bounds (sym e)
+
+part_after : (runs read : List (Range ℕ)) (k : ℕ) → read ≡ runs → map bounds (take (length read - k) (drop k read)) ≡ drop k (map bounds runs)
+part_after runs read k e =
+    ap (map bounds) (between_to_end read k (length read) (le_refl (length read)))
+    ∙ ap (λ (xs : List (Range ℕ)). map bounds (drop k xs)) e
+    ∙ map-drop bounds k runs
+
+part_before : (runs read : List (Range ℕ)) (k : ℕ) → read ≡ runs → map bounds (take k read) ≡ take k (map bounds runs)
+part_before runs read k e = ap (λ (xs : List (Range ℕ)). map bounds (take k xs)) e ∙ map-take bounds k runs
+
+pub forwards-in_order : (runs read : List (Range ℕ)) (k : ℕ) → read ≡ runs → IsTrue (are_ordered (map bounds runs)) → IsTrue (are_ordered (map bounds (take (length read - k) (drop k read))))
+forwards-in_order runs read k e h = subst (λ (xs : List (ℕ × ℕ)). IsTrue (are_ordered xs)) (sym (part_after runs read k e)) (are_ordered-drop 0 k (map bounds runs) h)
+
+pub backwards-in_order : (runs read : List (Range ℕ)) (k : ℕ) → read ≡ runs → IsTrue (are_ordered (map bounds runs)) → IsTrue (are_ordered (map bounds (take k read)))
+backwards-in_order runs read k e h = subst (λ (xs : List (ℕ × ℕ)). IsTrue (are_ordered xs)) (sym (part_before runs read k e)) (are_ordered-take 0 k (map bounds runs) h)
+
+pub forwards-start : (runs read : List (Range ℕ)) (run : Range ℕ) (pos k : ℕ) → read ≡ runs → run ≡ get_or runs k run → k < length runs
+    → between pos run.end ++ units_in_runs (map bounds (take (length read - (k + 1)) (drop (k + 1) read))) ≡ units_from (map bounds runs) pos k
+forwards-start runs read run pos k e is fits =
+    ap (λ (xs : List (ℕ × ℕ)). between pos run.end ++ units_in_runs xs) (part_after runs read (k + 1) e)
+    ∙ ap (λ (r : ℕ × ℕ). between pos r.1 ++ units_in_runs (drop (k + 1) (map bounds runs))) (sym (range_at runs run k is fits))
+
+pub backwards-start : (runs read : List (Range ℕ)) (run : Range ℕ) (pos k : ℕ) → read ≡ runs → run ≡ get_or runs k run → k < length runs
+    → reverse (units_in_runs (map bounds (take k read)) ++ between run.start pos) ≡ units_below (map bounds runs) pos k
+backwards-start runs read run pos k e is fits =
+    ap (λ (xs : List (ℕ × ℕ)). reverse (units_in_runs xs ++ between run.start pos)) (part_before runs read k e)
+    ∙ ap (λ (r : ℕ × ℕ). reverse (units_in_runs (take k (map bounds runs)) ++ between r.0 pos)) (sym (range_at runs run k is fits))
+
+-- what a sequence has
+pub is_run_sequence-ordered : (runs : List (ℕ × ℕ)) (sos eos : BidiClass) → IsTrue (is_run_sequence runs sos eos) → IsTrue (are_ordered runs)
+is_run_sequence-ordered runs sos eos h = (and_parts (are_ordered runs) (is_l_or_r sos && is_l_or_r eos) (and_parts (ltb 0 (length runs)) (are_ordered runs && (is_l_or_r sos && is_l_or_r eos)) h).1).0

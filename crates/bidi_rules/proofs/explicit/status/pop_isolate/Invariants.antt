@@ -1,0 +1,10 @@
+use Rattle.std.proofs.Common.{◌≡◌, length, map, reverse}
+use Rattle.bidi_base.specs.StatusMachine.{drop_isolate}
+use Rattle.bidi_rules.specs.Status.{seen}
+use Rattle.bidi_rules.proofs.explicit.status.pop_isolate.Given as goal
+
+abbrev pub invariant-loop-entry : goal.invariant-loop-entry
+invariant-loop-entry l = drop_isolate (map seen (reverse l.stack.items)) ≡ drop_isolate (map seen (reverse l.fn.stack.items))
+
+abbrev pub decreases-loop-entry : goal.decreases-loop-entry
+decreases-loop-entry l = length l.stack.items

@@ -1,0 +1,29 @@
+-- The next unit downwards: of the range that the walk is in, or the last one of the range before it.
+use Rattle.std.proofs.Common.{map, [], ◌∷◌, ap, ◌∙◌, arith}
+use Rattle.std.proofs.lemmas.List.{map-append}
+use Rattle.bidi_base.specs.Units.{bounds}
+use Rattle.bidi_rules.specs.RunSequence.{backwards_left}
+use Rattle.bidi_rules.proofs.WalkLemmas.{backwards_unit, backwards_run, earlier_ranges, walks_on}
+use Rattle.bidi_rules.proofs.prepare.sequence.BackwardsFromIterator.next.Goals as goal
+
+pub returns-then-self-clause-steps : goal.returns-then-self-clause-steps
+returns-then-self-clause-steps c = backwards_unit c.args.self.now.start c.args.self.now.at (map bounds c.args.self.now.earlier.now) c.if-self.true
+
+pub returns-then-self-clause-goes : goal.returns-then-self-clause-goes
+returns-then-self-clause-goes c = walks_on _ backwards_left c.args.self.now _ _ (returns-then-self-clause-steps c) tt
+
+pub overflow_sub-unit : goal.overflow_sub-unit
+overflow_sub-unit c =
+    let parts = earlier_ranges c.args.self.now.earlier.now c.in_ok-run.earlier.now c.in_ok-run.run'.now c.in_ok-run.ensures.cases.0 c.args.self.now.in_order in
+    omega (arith, parts.1)
+
+pub invariant_of-self-2 : goal.invariant_of-self-2
+invariant_of-self-2 c = record { in_order = (earlier_ranges c.args.self.now.earlier.now c.in_ok-run.earlier.now c.in_ok-run.run'.now c.in_ok-run.ensures.cases.0 c.args.self.now.in_order).0 }
+
+pub returns-clause-steps : goal.returns-clause-steps
+returns-clause-steps c =
+    backwards_run c.args.self.now.start c.args.self.now.at (map bounds c.args.self.now.earlier.now) (map bounds c.in_ok-run.earlier.now) (bounds c.in_ok-run.run'.now) c.if-self.false c.args.self.now.in_order
+    (ap (map bounds) c.in_ok-run.ensures.cases.0 ∙ map-append bounds c.in_ok-run.earlier.now (c.in_ok-run.run'.now ∷ []))
+
+pub returns-clause-goes : goal.returns-clause-goes
+returns-clause-goes c = walks_on _ backwards_left c.args.self.now _ _ (returns-clause-steps c) tt

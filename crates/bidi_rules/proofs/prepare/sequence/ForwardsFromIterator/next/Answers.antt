@@ -1,0 +1,16 @@
+-- The next unit: of the range that the walk is in, or the first one of the next range.
+use Rattle.std.proofs.Common.{map, ap}
+use Rattle.bidi_base.specs.Units.{bounds}
+use Rattle.bidi_rules.specs.RunSequence.{forwards_left}
+use Rattle.bidi_rules.proofs.WalkLemmas.{forwards_run, later_ranges, walks_on}
+use Rattle.bidi_rules.proofs.prepare.sequence.ForwardsFromIterator.next.Goals as goal
+
+pub invariant_of-self-2 : goal.invariant_of-self-2
+invariant_of-self-2 c = record { in_order = later_ranges c.args.self.now.later.now c.in_ok-run.later.now c.in_ok-run.run'.now c.in_ok-run.ensures.cases.0 c.args.self.now.in_order }
+
+pub returns-clause-steps : goal.returns-clause-steps
+returns-clause-steps c =
+    forwards_run c.args.self.now.at c.args.self.now.end (map bounds c.args.self.now.later.now) (map bounds c.in_ok-run.later.now) (bounds c.in_ok-run.run'.now) c.if-self.false c.args.self.now.in_order (ap (map bounds) c.in_ok-run.ensures.cases.0)
+
+pub returns-clause-goes : goal.returns-clause-goes
+returns-clause-goes c = walks_on _ forwards_left c.args.self.now _ _ (returns-clause-steps c) tt

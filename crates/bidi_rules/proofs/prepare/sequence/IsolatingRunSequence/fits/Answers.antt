@@ -1,0 +1,39 @@
+-- The ranges fit if each does, in the order of the list.
+use Rattle.std.proofs.Common.{◌≡◌, ℕ, ◌<◌, ◌≤◌, false, List, length, map, get_or, take, refl, sym, ap, subst, ◌∙◌, arith}
+use Rattle.std.specs.Prelude.{All}
+use Rattle.std.specs.declared.ops.Range.{Range}
+use Rattle.std.proofs.lemmas.Bool.{both_ways}
+use Rattle.std.proofs.lemmas.List.{take_all, get_or-map, length-map}
+use Rattle.std.proofs.lemmas.List.Elements.{All-map, All-more, All-get_or}
+use Rattle.bidi_base.specs.Text.{IsLine}
+use Rattle.bidi_base.specs.Units.{bounds, AreLines}
+use Rattle.bidi_rules.proofs.prepare.sequence.IsolatingRunSequence.fits.Goals as goal
+
+one_of : (len_of : ℕ → ℕ) (chars : List ℕ) (runs read : List (Range ℕ)) (k : ℕ) (d : Range ℕ) → read ≡ runs → k < length read → AreLines len_of chars (map bounds runs) → IsLine len_of chars (get_or read k d).start (get_or read k d).end
+one_of len_of chars runs read k d e fits all =
+    let within : k < length runs = subst (λ (xs : List (Range ℕ)). k < length xs) e fits in
+    subst (λ (r : ℕ × ℕ). IsLine len_of chars r.0 r.1) (get_or-map bounds runs k d (bounds d) within ∙ ap (λ (xs : List (Range ℕ)). bounds (get_or xs k d)) (sym e))
+    (All-get_or (λ (r : ℕ × ℕ). IsLine len_of chars r.0 r.1) (map bounds runs) k (bounds d) (omega (arith, within, length-map runs bounds)) all)
+
+all_of : (len_of : ℕ → ℕ) (chars : List ℕ) (runs read : List (Range ℕ)) (k : ℕ) → read ≡ runs → length read ≤ k → All (λ (r : Range ℕ). IsLine len_of chars r.start r.end) (take k read) → AreLines len_of chars (map bounds runs)
+all_of len_of chars runs read k e past all =
+    All-map (λ (r : ℕ × ℕ). IsLine len_of chars r.0 r.1) bounds runs
+    (subst (λ (xs : List (Range ℕ)). All (λ (r : Range ℕ). IsLine len_of chars r.start r.end) xs) (take_all k read past ∙ e) all)
+
+pub returns-then-not-is_line : goal.returns-then-not-is_line
+returns-then-not-is_line g c = (
+  λ h. absurd (both_ways false refl h),
+  λ all. absurd
+      (both_ways c.is_line.result c.if-not-is_line.true
+      (c.is_line.ensures.1 (one_of g.T.TextSource.units (g.T.TextSource.characters c.args.text) c.args.self.now.runs.items c.deref-run-items.result.now c.loop-run.run-index _ c.deref-run-items.ensures.value c.loop-run-test.true all))),
+)
+
+pub loop-run-preserved : goal.loop-run-preserved
+loop-run-preserved g c =
+    All-more (λ (r : Range ℕ). IsLine g.T.TextSource.units (g.T.TextSource.characters c.args.text) r.start r.end) c.deref-run-items.result.now c.loop-run.run-index _ c.loop-run-test.true c.loop-run.invariant (c.is_line.ensures.0 c.if-not-is_line.false)
+
+pub returns : goal.returns
+returns g c = (
+  λ _. all_of g.T.TextSource.units (g.T.TextSource.characters c.args.text) c.args.self.now.runs.items c.deref-run-items.result.now c.loop-run.run-index c.deref-run-items.ensures.value c.loop-run-test.false c.loop-run.invariant,
+  λ _. refl,
+)

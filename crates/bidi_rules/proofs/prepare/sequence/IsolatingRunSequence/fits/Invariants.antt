@@ -1,0 +1,9 @@
+-- All ranges so far fit.
+use Rattle.std.proofs.Common.{ℕ, take}
+use Rattle.std.specs.Prelude.{All}
+use Rattle.std.specs.declared.ops.Range.{Range}
+use Rattle.bidi_base.specs.Text.{IsLine}
+use Rattle.bidi_rules.proofs.prepare.sequence.IsolatingRunSequence.fits.Given as goal
+
+abbrev pub invariant-loop-run : goal.invariant-loop-run
+invariant-loop-run g l = All (λ (r : Range ℕ). IsLine g.T.TextSource.units (g.T.TextSource.characters l.text) r.start r.end) (take l.run-index l.run-items)

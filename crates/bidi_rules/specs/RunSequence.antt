@@ -1,0 +1,31 @@
+-- What contracts see of an isolating run sequence in code, and of the walks over its units.
+use Rattle.std.specs.Prelude.{ℕ, List, ◌++◌, map, reverse}
+use Rattle.std.specs.declared.ops.Range.{Range}
+use Rattle.bidi_base.specs.declared.char_data.BidiClass.{BidiClass}
+use Rattle.bidi_base.specs.Places.{between}
+use Rattle.bidi_base.specs.Units.{bounds, units_in_runs}
+use Rattle.bidi_rules.specs.declared.prepare.sequence.IsolatingRunSequence.{IsolatingRunSequence}
+use Rattle.bidi_rules.specs.declared.prepare.sequence.ForwardsFrom.{ForwardsFrom}
+use Rattle.bidi_rules.specs.declared.prepare.sequence.BackwardsFrom.{BackwardsFrom}
+
+-- its level runs
+abbrev pub runs : IsolatingRunSequence → List (Range ℕ)
+runs s = s.runs.items
+
+-- the same as pairs of their ends
+abbrev pub run_bounds : IsolatingRunSequence → List (ℕ × ℕ)
+run_bounds s = map bounds s.runs.items
+
+-- the classes before its first character and after its last
+abbrev pub sos : IsolatingRunSequence → BidiClass
+sos s = s.sos
+
+abbrev pub eos : IsolatingRunSequence → BidiClass
+eos s = s.eos
+
+-- the units that a walk still has to give
+abbrev pub forwards_left : ForwardsFrom → List ℕ
+forwards_left w = between w.at w.end ++ units_in_runs (map bounds w.later.now)
+
+abbrev pub backwards_left : BackwardsFrom → List ℕ
+backwards_left w = reverse (units_in_runs (map bounds w.earlier.now) ++ between w.start w.at)

@@ -1,0 +1,6 @@
+//! The rules of the bidirectional algorithm as passes in place, over the code units of one
+//! paragraph: explicit levels, isolating run sequences, and what is resolved within each.
+#![tactic(auto)]
+
+pub mod explicit;
+pub mod prepare;

@@ -1,0 +1,39 @@
+//! What X9 removes, level runs, and isolating run sequences (BD7, BD13, X9, X10).
+
+ghost use Rattle.std.specs.Prelude.{◌≡◌};
+ghost use Rattle.bidi_base.specs.Classes.{is_removed, is_kept};
+
+mod sequence;
+
+use bidi_base::char_data::BidiClass;
+pub use sequence::{BackwardsFrom, ForwardsFrom, IsolatingRunSequence};
+use std::ops::Range;
+
+/// A level run (BD7), as the units from its start to its end.
+pub type LevelRun = Range<usize>;
+
+pub type LevelRunVec = Vec<LevelRun>;
+
+pub type IsolatingRunSequenceVec = Vec<IsolatingRunSequence>;
+
+/// Whether X9 removes characters of this class.
+pub fn removed_by_x9(class: BidiClass) -> bool
+    ensures { result ≡ is_removed class }
+{
+    matches!(
+        class,
+        BidiClass::RLE
+            | BidiClass::LRE
+            | BidiClass::RLO
+            | BidiClass::LRO
+            | BidiClass::PDF
+            | BidiClass::BN
+    )
+}
+
+/// Whether X9 keeps characters of this class.
+pub fn not_removed_by_x9(class: &BidiClass) -> bool
+    ensures { result ≡ is_kept class.now }
+{
+    !removed_by_x9(*class)
+}
