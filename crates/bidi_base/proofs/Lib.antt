@@ -2,6 +2,7 @@ pub mod AgreeLemmas
 pub mod BracketsLemmas
 pub mod ChainLemmas
 pub mod ClassesLemmas
+pub mod DirectionWalk
 pub mod ContextLemmas
 pub mod EmbeddingsLemmas
 mod Examples

@@ -3,7 +3,7 @@
 ghost use Rattle.std.specs.Prelude.{◌≡◌, ℕ, ◌+◌, ◌<◌, ◌≤◌, Bool, true, false, not, ◌&&◌, ◌||◌, [], ◌∷◌, ◌++◌, length, map, replicate, unwrap_or, OnOk, IfOk, All, None, Some, Option, MatchOption};
 ghost use Rattle.std.specs.Option.{option_or};
 ghost use Rattle.std.specs.declared.ops.Range.{Range};
-ghost use Rattle.bidi_base.specs.Classes.{is_strong as is_strong_class, is_initiator as is_initiator_class, is_pdi as is_pdi_class, is_paragraph_separator};
+ghost use Rattle.bidi_base.specs.Classes.{is_initiator as is_initiator_class};
 ghost use Rattle.bidi_base.specs.Direction.{may_turn as may_turn_class};
 ghost use Rattle.bidi_base.specs.Isolates.{level_by, resolved_fsi};
 ghost use Rattle.bidi_base.specs.Reading.{innermost, opened_by, decided_by, resolved_units, met_units};
@@ -13,6 +13,7 @@ ghost use Rattle.bidi_base.specs.Text.{per_unit};
 ghost use Rattle.unicode_bidi.specs.ParagraphInfo.{ranges_of, levels_of};
 ghost use Rattle.unicode_bidi.specs.ParagraphFlags.{paragraph_flags};
 
+use crate::classes::{is_initiator, is_pdi, is_separator, is_strong};
 use crate::paragraph_info::ParagraphInfo;
 use bidi_base::char_data::BidiClass;
 use bidi_base::data_source::BidiDataSource;
@@ -20,31 +21,6 @@ use bidi_base::level::{LTR_LEVEL, Level, RTL_LEVEL};
 use bidi_base::text::TextSource;
 use std::alloc::{AllocError, Global};
 use std::ops::Range;
-
-fn is_strong(class: BidiClass) -> bool
-    ensures { result ≡ is_strong_class class }
-{
-    matches!(class, BidiClass::L | BidiClass::R | BidiClass::AL)
-}
-
-fn is_initiator(class: BidiClass) -> bool
-    ensures { result ≡ is_initiator_class class }
-{
-    matches!(class, BidiClass::LRI | BidiClass::RLI | BidiClass::FSI)
-}
-
-fn is_pdi(class: BidiClass) -> bool
-    ensures { result ≡ is_pdi_class class }
-{
-    matches!(class, BidiClass::PDI)
-}
-
-// Whether a character ends its paragraph, in a text that is split.
-fn is_separator(class: BidiClass) -> bool
-    ensures { result ≡ is_paragraph_separator class }
-{
-    matches!(class, BidiClass::B)
-}
 
 // Whether a class can make a paragraph of level 0 other than left to right throughout.
 fn may_turn(class: BidiClass) -> bool

@@ -1,12 +1,17 @@
 //! The Unicode Bidirectional Algorithm (UAX #9), proved.
 #![tactic(auto)]
 
+mod base_direction;
+mod classes;
 mod info;
 mod initial;
 mod initial_info;
 mod paragraph_info;
 mod visual;
 
+pub use base_direction::{
+    get_base_direction_full_with_data_source, get_base_direction_with_data_source,
+};
 pub use bidi_base::char_data::{BidiClass, Direction};
 pub use bidi_base::data_source::BidiDataSource;
 pub use bidi_base::level::{LTR_LEVEL, Level, RTL_LEVEL};
