@@ -2,8 +2,8 @@ pub mod AgreeLemmas
 pub mod BracketsLemmas
 pub mod ChainLemmas
 pub mod ClassesLemmas
-pub mod DirectionWalk
 pub mod ContextLemmas
+pub mod DirectionWalk
 pub mod EmbeddingsLemmas
 mod Examples
 pub mod ExplicitLemmas
