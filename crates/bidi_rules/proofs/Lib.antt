@@ -1,4 +1,5 @@
 pub mod ExplicitUnits
 pub mod RunCutting
+pub mod RunReading
 pub mod StackLemmas
 pub mod WalkLemmas
