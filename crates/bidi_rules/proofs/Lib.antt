@@ -2,6 +2,7 @@ pub mod ExplicitUnits
 pub mod KeptRangeLemmas
 pub mod LevelRunLemmas
 pub mod RunCutting
+pub mod RunJoined
 pub mod RunJoining
 pub mod RunPass
 pub mod RunReading

@@ -31,13 +31,13 @@ use Rattle.bidi_rules.proofs.RunUnits.{NoneKept, IsLast}
 use Rattle.bidi_rules.proofs.RunPass.{with_places, index_in, IsAt, IsAt-start, IsAt-end, IsAt-read, HasCome, HasCome-run, IsWaiting-in_run}
 
 -- the first kept character of a run
-record IsFirst (classes : List BidiClass) (a b f : ℕ) : Type 0 where
-  from : a ≤ f
-  below : f < b
-  kept : is_kept_at classes f ≡ true
-  none : NoneKept classes a f
+pub record IsFirst (classes : List BidiClass) (a b f : ℕ) : Type 0 where
+  pub from : a ≤ f
+  pub below : f < b
+  pub kept : is_kept_at classes f ≡ true
+  pub none : NoneKept classes a f
 
-first_of : (classes : List BidiClass) (a b l : ℕ) → IsLast classes a b l → (f : ℕ) × IsFirst classes a b f
+pub first_of : (classes : List BidiClass) (a b l : ℕ) → IsLast classes a b l → (f : ℕ) × IsFirst classes a b f
 first_of classes a b l last = by_result (find (is_kept_at classes) (between a b)) refl
   where
     by_result : (o : Option ℕ) → find (is_kept_at classes) (between a b) ≡ o → (f : ℕ) × IsFirst classes a b f
@@ -46,16 +46,16 @@ first_of classes a b l last = by_result (find (is_kept_at classes) (between a b)
 
 module _ (classes : List BidiClass) (levels : List ℕ) (paragraph : ℕ) where
   -- where a run begins a character is kept, but for the front of the paragraph
-  begins_kept : (a : ℕ) → begins_run classes levels a ≡ true → is_kept_at classes a ≡ true
+  pub begins_kept : (a : ℕ) → begins_run classes levels a ≡ true → is_kept_at classes a ≡ true
   unfolding begins_run
   begins_kept a e = (and_parts _ _ (and_parts _ _ e).0).0
 
-  begins_after : (a : ℕ) → begins_run classes levels a ≡ true → is_some (kept_before classes a) ≡ true
+  pub begins_after : (a : ℕ) → begins_run classes levels a ≡ true → is_some (kept_before classes a) ≡ true
   unfolding begins_run
   begins_after a e = (and_parts _ _ (and_parts _ _ e).0).1
 
   -- nothing kept stands before the first kept character of a run
-  first_at : (a b f : ℕ) → IsLevelRun classes levels a b → IsFirst classes a b f → (f ≡ a) ⊎ (a ≡ 0)
+  pub first_at : (a b f : ℕ) → IsLevelRun classes levels a b → IsFirst classes a b f → (f ≡ a) ⊎ (a ≡ 0)
   first_at a b f range first = elim (cases_eq f a) [
     | inl same ↦ inl same
     | inr other ↦ elim range.starts [
@@ -64,7 +64,7 @@ module _ (classes : List BidiClass) (levels : List ℕ) (paragraph : ℕ) where
     ]
   ]
 
-  kept_before-first : (a b f : ℕ) → IsLevelRun classes levels a b → IsFirst classes a b f → kept_before classes f ≡ kept_before classes a
+  pub kept_before-first : (a b f : ℕ) → IsLevelRun classes levels a b → IsFirst classes a b f → kept_before classes f ≡ kept_before classes a
   kept_before-first a b f range first = elim (first_at a b f range first) [
     | inl same ↦ ap (kept_before classes) same
     | inr zero_is ↦
@@ -77,33 +77,33 @@ module _ (classes : List BidiClass) (levels : List ℕ) (paragraph : ℕ) where
   last_level level p [] h = h.0
   last_level level p (q ∷ ps) h = last_level level q ps h.1
 
-  abbrev rest_of : ℕ → ℕ → List ℕ
+  abbrev pub rest_of : ℕ → ℕ → List ℕ
   rest_of f b = filter (is_kept_at classes) (range_with_len (f + 1) (b - (f + 1)))
 
-  front_is : (a b f : ℕ) → IsLevelRun classes levels a b → IsFirst classes a b f → filter (is_kept_at classes) (range_with_len a (b - a)) ≡ f ∷ rest_of f b
+  pub front_is : (a b f : ℕ) → IsLevelRun classes levels a b → IsFirst classes a b f → filter (is_kept_at classes) (range_with_len a (b - a)) ≡ f ∷ rest_of f b
   front_is a b f range first =
       let top : a + (b - a) ≡ b = omega (arith, range.not_empty) in
       filter_range-first (is_kept_at classes) a (b - a) f first.kept first.from (omega (arith, first.below)) (λ k low high. first.none k low high)
       ∙ ap (λ (x : ℕ). f ∷ filter (is_kept_at classes) (range_with_len (f + 1) (x - (f + 1)))) top
 
-  last_is : (a b f l : ℕ) → IsLevelRun classes levels a b → IsFirst classes a b f → IsLast classes a b l → last_or f (rest_of f b) ≡ l
+  pub last_is : (a b f l : ℕ) → IsLevelRun classes levels a b → IsFirst classes a b f → IsLast classes a b l → last_or f (rest_of f b) ≡ l
   last_is a b f l range first last =
       last_or-range (is_kept_at classes) a (b - a) f l (rest_of f b) (front_is a b f range first) last.kept last.from (omega (arith, last.below)) (λ k after below. last.none k (omega arith) (omega (arith, range.not_empty)))
 
-  one_level : (a b f l : ℕ) → IsLevelRun classes levels a b → IsFirst classes a b f → IsLast classes a b l → level_at levels f ≡ level_at levels l
+  pub one_level : (a b f l : ℕ) → IsLevelRun classes levels a b → IsFirst classes a b f → IsLast classes a b l → level_at levels f ≡ level_at levels l
   one_level a b f l range first last =
       let run : IsRun classes levels f (rest_of f b) = IsRun-IsLevelRun classes levels a b f (rest_of f b) range (front_is a b f range first) in
       sym (ap (level_at levels) (sym (last_is a b f l range first last)) ∙ last_level (level_at levels f) f (rest_of f b) (AllOfLevel-run classes levels f (rest_of f b) run.steps))
 
   -- the kept character before the next run
-  kept_before-next_run : (a b l : ℕ) → IsLast classes a b l → kept_before classes b ≡ Some l
+  pub kept_before-next_run : (a b l : ℕ) → IsLast classes a b l → kept_before classes b ≡ Some l
   kept_before-next_run a b l last = kept_before-is classes b l (record { from = omega arith; below = last.below; passes = last.kept; last = λ m after below. last.none m (omega arith) below })
 
   -- the level beyond the last character of a run, as the pass finds it
   abbrev pub level_beyond : ℕ → ℕ → ℕ
   level_beyond l b = if is_initiator (class_at classes l) then paragraph else (if eqb b (length classes) then paragraph else level_at levels b)
 
-  end_is : (a b l : ℕ) → IsLevelRun classes levels a b → IsLast classes a b l → end_class paragraph classes levels l ≡ direction_of (max (level_at levels l) (level_beyond l b))
+  pub end_is : (a b l : ℕ) → IsLevelRun classes levels a b → IsLast classes a b l → end_class paragraph classes levels l ≡ direction_of (max (level_at levels l) (level_beyond l b))
   unfolding end_class
   end_is a b l range last = elim (cases_Bool (is_initiator (class_at classes l))) [
     | inl opens ↦
@@ -137,7 +137,7 @@ module _ (classes : List BidiClass) (levels : List ℕ) (paragraph : ℕ) where
       (read_all b n (m + 1) w out (read_class (class_at classes m) (w m) waits) next (λ k from below. wait k (omega arith) (omega arith)))
 
   -- a run came, and its characters were read
-  came : (a b f l s : ℕ) (out : List (List ℕ)) (waits now : List (Option ℕ)) → IsLevelRun classes levels a b → IsFirst classes a b f → IsLast classes a b l → HasCome classes levels a b f (rest_of f b) out waits (waiting_for (class_at classes f) waits)
+  pub came : (a b f l s : ℕ) (out : List (List ℕ)) (waits now : List (Option ℕ)) → IsLevelRun classes levels a b → IsFirst classes a b f → IsLast classes a b l → HasCome classes levels a b f (rest_of f b) out waits (waiting_for (class_at classes f) waits)
       → s ≡ index_in (waiting_for (class_at classes f) waits) out → now ≡ read_range classes (l + 1) s a b waits → IsAt classes levels b b (with_places (waiting_for (class_at classes f) waits) (f ∷ rest_of f b) out) now
   came a b f l s out waits now range first last c at read =
       subst (λ (x : List (Option ℕ)). IsAt classes levels b b more x) (sym read) (subst (λ (x : ℕ). IsAt classes levels b x more (read_range classes (l + 1) s a b waits)) top all)
