@@ -1,4 +1,11 @@
 pub mod ExplicitUnits
+pub mod KeptRangeLemmas
+pub mod LevelRunLemmas
 pub mod RunCutting
+pub mod RunJoined
+pub mod RunJoining
+pub mod RunPass
+pub mod RunReading
+pub mod RunUnits
 pub mod StackLemmas
 pub mod WalkLemmas

@@ -1,3 +1,4 @@
 pub mod ExplicitPass
+pub mod Joining
 pub mod RunSequence
 pub mod Status
