@@ -1,2 +1,3 @@
 pub mod StackLemmas
 pub mod WalkLemmas
+pub mod WeakPassLemmas

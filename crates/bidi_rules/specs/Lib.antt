@@ -1,2 +1,3 @@
 pub mod RunSequence
 pub mod Status
+pub mod WeakPass

@@ -1,0 +1,3 @@
+//! The weak types in place (W1 to W7).
+
+mod steps;
