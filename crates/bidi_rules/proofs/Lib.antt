@@ -1,3 +1,7 @@
+pub mod InRuns
+pub mod Marks
 pub mod StackLemmas
 pub mod WalkLemmas
 pub mod WeakPassLemmas
+pub mod WeakWalkLemmas
+pub mod WrittenOver

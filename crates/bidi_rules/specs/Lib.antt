@@ -1,3 +1,4 @@
 pub mod RunSequence
 pub mod Status
 pub mod WeakPass
+pub mod WeakWalk
