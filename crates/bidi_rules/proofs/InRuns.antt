@@ -2,7 +2,7 @@
 use Rattle.std.proofs.Common.{◌≡◌, ℕ, zero, suc, ◌+◌, ◌<◌, ◌≤◌, Bool, true, false, ◌&&◌, ◌||◌, leb, ltb, List, [], ◌∷◌, length, get_or, take, drop, refl, sym, ap, ◌∙◌, arith, inl, inr}
 use Rattle.std.specs.List.{list_any}
 use Rattle.std.proofs.lemmas.Bool.{cases_lt, cases_Bool, and_parts, and_from, and_left, and_right, or_cases, or_from, or_left, or_right, lt-ltb, le-ltb, le-leb, lt-leb, leb-true, ltb-true, both_ways}
-use Rattle.std.proofs.lemmas.List.Folds.{list_any_more}
+use Rattle.std.proofs.lemmas.List.Folds.{list_any_more, list_any_at}
 use Rattle.bidi_base.specs.Units.{are_ordered_from, are_ordered, in_runs}
 use Rattle.bidi_rules.proofs.WalkLemmas.{are_ordered-front, are_ordered-lower}
 
@@ -58,6 +58,9 @@ in_runs-take low (suc index) (r ∷ runs) k h fits before =
 
 pub in_runs-more : (index : ℕ) (runs : List (ℕ × ℕ)) (k : ℕ) → index < length runs → in_runs (take (index + 1) runs) k ≡ (in_runs (take index runs) k || in_run (get_or runs index (0, 0)) k)
 in_runs-more index runs k fits = list_any_more (λ (r : ℕ × ℕ). in_run r k) runs index (0, 0) fits
+
+pub in_runs-at : (index : ℕ) (runs : List (ℕ × ℕ)) (k : ℕ) → index < length runs → (get_or runs index (0, 0)).0 ≤ k → k < (get_or runs index (0, 0)).1 → in_runs runs k ≡ true
+in_runs-at index runs k fits from below = list_any_at (λ (r : ℕ × ℕ). in_run r k) runs index (0, 0) fits (in_run-inside (get_or runs index (0, 0)) k from below)
 
 -- the ranges in order, one behind another
 pub run_some : (low index : ℕ) (runs : List (ℕ × ℕ)) → are_ordered_from low runs ≡ true → index < length runs → (get_or runs index (0, 0)).0 < (get_or runs index (0, 0)).1

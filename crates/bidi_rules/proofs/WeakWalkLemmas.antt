@@ -61,6 +61,16 @@ joins-waits ET Terminators h = (refl, refl)
 joins-waits ET _ h = absurd (cc h)
 joins-waits _ before h = absurd (cc h)
 
+-- the same walk, by its parts
+pub IsUnderWay-same : (p : Pass) (now now' : List BidiClass) (w w' : Walk) (i : ℕ) → now' ≡ now → w'.mark ≡ w.mark → w'.after_al ≡ w.after_al → w'.after_l ≡ w.after_l → w'.before ≡ w.before → w'.first ≡ w.first → w'.first_run ≡ w.first_run
+    → IsUnderWay p now w i → IsUnderWay p now' w' i
+IsUnderWay-same p now now' w w' i n a b d e f g h =
+    by_parts now' w'.mark w'.after_al w'.after_l w'.before w'.first w'.first_run n a b d e f g
+  where
+    by_parts : (now' : List BidiClass) (mark : BidiClass) (after_al after_l : Bool) (before : Before) (first first_run : ℕ) → now' ≡ now → mark ≡ w.mark → after_al ≡ w.after_al → after_l ≡ w.after_l → before ≡ w.before → first ≡ w.first → first_run ≡ w.first_run
+        → IsUnderWay p now' (record { mark = mark; after_al = after_al; after_l = after_l; before = before; first = first; first_run = first_run }) i
+    by_parts now' mark after_al after_l before first first_run n a b d e f g = rw (n, a, b, d, e, f, g) h
+
 -- the walk before the first unit
 abbrev pub first_walk : BidiClass → Walk
 first_walk sos = record { mark = carried sos; after_al = is_al sos; after_l = is_l sos; before = Other; first = 0; first_run = 0 }

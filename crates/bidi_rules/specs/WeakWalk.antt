@@ -69,6 +69,19 @@ pub record IsUnderWay (p : Pass) (now : List BidiClass) (w : Walk) (i : ℕ) : T
   pub long : length now ≡ length p.old
   pub run : w.first_run < length p.runs
 
+-- these units, in the run at an index, have the next character of the pass
+pub record IsNext (p : Pass) (runs : List (ℕ × ℕ)) (run from to : ℕ) : Type 0 where
+  pub runs_are : p.runs ≡ runs
+  pub marks_are : AreMarks p
+  pub character : IsCharacter p from to
+  pub run_fits : run < length runs
+  pub run_starts : (get_or runs run (0, 0)).0 ≤ from
+  pub run_ends : to ≤ (get_or runs run (0, 0)).1
+
+-- one character more takes each pass on
+abbrev pub Reads : List (ℕ × ℕ) → ℕ → ℕ → ℕ → Walk → Walk → List BidiClass → List BidiClass → Type 0
+Reads runs run from to before after old new = (p : Pass) → IsNext p runs run from to → IsUnderWay p old before from → IsUnderWay p new after to
+
 -- what holds once all units are read and nothing waits
 pub record IsOver (p : Pass) (now : List BidiClass) : Type 0 where
   pub answers : at_places L now (marks p 0 (length p.old)) ≡ weak_classes p.sos (at_places L p.old (marks p 0 (length p.old)))
