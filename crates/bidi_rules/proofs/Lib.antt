@@ -4,4 +4,5 @@ pub mod StackLemmas
 pub mod WalkLemmas
 pub mod WeakPassLemmas
 pub mod WeakWalkLemmas
+pub mod WeakWalkText
 pub mod WrittenOver

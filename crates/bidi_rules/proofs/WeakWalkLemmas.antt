@@ -11,7 +11,7 @@ use Rattle.bidi_rules.specs.declared.implicit.weak.Walk.{Walk}
 use Rattle.bidi_rules.specs.declared.implicit.weak.steps.Before.{Before}
 use Rattle.bidi_rules.specs.declared.implicit.weak.steps.Before.TheVariants.{Other, Terminators}
 use Rattle.bidi_rules.specs.WeakPass.{marked, w2_w3, is_after_al, after_w3, waits, next_before, joins, settled, resolved, w7_by, is_after_l, after_w7}
-use Rattle.bidi_rules.specs.WeakWalk.{is_seen, seen, marks, IsWrittenOver, Pass, AreMarks, IsCharacter, AreHeld, IsUnderWay, IsOver}
+use Rattle.bidi_rules.specs.WeakWalk.{first_walk, is_seen, seen, marks, IsWrittenOver, Pass, AreMarks, IsCharacter, AreHeld, IsUnderWay, IsOver}
 use Rattle.bidi_rules.proofs.InRuns.{in_runs-drop}
 use Rattle.bidi_rules.proofs.Marks.{at_places-append, marked-none, marked-parts, marked-empty, marked-one, at_marked-same, at_marked-all}
 use Rattle.bidi_rules.proofs.WeakPassLemmas.{weak_classes-pass}
@@ -70,10 +70,6 @@ IsUnderWay-same p now now' w w' i n a b d e f g h =
     by_parts : (now' : List BidiClass) (mark : BidiClass) (after_al after_l : Bool) (before : Before) (first first_run : ℕ) → now' ≡ now → mark ≡ w.mark → after_al ≡ w.after_al → after_l ≡ w.after_l → before ≡ w.before → first ≡ w.first → first_run ≡ w.first_run
         → IsUnderWay p now' (record { mark = mark; after_al = after_al; after_l = after_l; before = before; first = first; first_run = first_run }) i
     by_parts now' mark after_al after_l before first first_run n a b d e f g = rw (n, a, b, d, e, f, g) h
-
--- the walk before the first unit
-abbrev pub first_walk : BidiClass → Walk
-first_walk sos = record { mark = carried sos; after_al = is_al sos; after_l = is_l sos; before = Other; first = 0; first_run = 0 }
 
 pub IsUnderWay-start : (p : Pass) → 0 < length p.runs → IsUnderWay p p.old (first_walk p.sos) 0
 IsUnderWay-start p some = record {

@@ -2,12 +2,18 @@
 use Rattle.std.specs.Prelude.{◌≡◌, ℕ, ◌+◌, ◌<◌, ◌≤◌, Bool, true, false, ◌&&◌, List, ◌++◌, length, filter, get_or}
 use Rattle.bidi_base.specs.declared.char_data.BidiClass.{BidiClass}
 use Rattle.bidi_base.specs.declared.char_data.BidiClass.TheVariants.{L}
-use Rattle.bidi_base.specs.Classes.{is_read}
+use Rattle.bidi_base.specs.Classes.{is_al, is_l, is_read}
 use Rattle.bidi_base.specs.Places.{between, at_places, class_at}
+use Rattle.bidi_base.specs.Text.{place}
 use Rattle.bidi_base.specs.Units.{in_runs}
-use Rattle.bidi_base.specs.Weak.{weak_classes}
+use Rattle.bidi_base.specs.Weak.{carried, weak_classes}
 use Rattle.bidi_rules.specs.declared.implicit.weak.Walk.{Walk}
+use Rattle.bidi_rules.specs.declared.implicit.weak.steps.Before.TheVariants.{Other}
 use Rattle.bidi_rules.specs.WeakPass.{after_w3, after_w7, waits}
+
+-- the walk before the first unit
+abbrev pub first_walk : BidiClass → Walk
+first_walk sos = record { mark = carried sos; after_al = is_al sos; after_l = is_l sos; before = Other; first = 0; first_run = 0 }
 
 -- a unit of some ranges whose class is read
 abbrev pub is_seen : List (ℕ × ℕ) → List BidiClass → ℕ → Bool
@@ -69,6 +75,11 @@ pub record IsUnderWay (p : Pass) (now : List BidiClass) (w : Walk) (i : ℕ) : T
   pub long : length now ≡ length p.old
   pub run : w.first_run < length p.runs
 
+-- a pass over a text: each of its characters stands on the units from its place to the next
+pub record IsPassOver (len_of : ℕ → ℕ) (chars : List ℕ) (p : Pass) : Type 0 where
+  pub marks_are : AreMarks p
+  pub characters : (k : ℕ) → k < length chars → IsCharacter p (place len_of chars k) (place len_of chars (k + 1))
+
 -- these units, in the run at an index, have the next character of the pass
 pub record IsNext (p : Pass) (runs : List (ℕ × ℕ)) (run from to : ℕ) : Type 0 where
   pub runs_are : p.runs ≡ runs
@@ -81,6 +92,10 @@ pub record IsNext (p : Pass) (runs : List (ℕ × ℕ)) (run from to : ℕ) : Ty
 -- one character more takes each pass on
 abbrev pub Reads : List (ℕ × ℕ) → ℕ → ℕ → ℕ → Walk → Walk → List BidiClass → List BidiClass → Type 0
 Reads runs run from to before after old new = (p : Pass) → IsNext p runs run from to → IsUnderWay p old before from → IsUnderWay p new after to
+
+-- the characters of a text on these units take each pass over it on
+abbrev pub ReadsTo : (ℕ → ℕ) → List ℕ → List (ℕ × ℕ) → ℕ → ℕ → Walk → Walk → List BidiClass → List BidiClass → Type 0
+ReadsTo len_of chars runs from to before after old new = (p : Pass) → p.runs ≡ runs → IsPassOver len_of chars p → IsUnderWay p old before from → IsUnderWay p new after to
 
 -- what holds once all units are read and nothing waits
 pub record IsOver (p : Pass) (now : List BidiClass) : Type 0 where

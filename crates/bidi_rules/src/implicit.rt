@@ -3,4 +3,4 @@
 
 mod weak;
 
-
+pub use weak::resolve_weak;

@@ -30,16 +30,16 @@ settled_by p runs run from to next w now now1 h v held is ordered some none =
     (IsWrittenOver-settled p next.marks_are now w from h held now1 (subst (λ (rs : List (ℕ × ℕ)). are_ordered rs ≡ true) (sym next.runs_are) ordered)
     (λ t. subst (λ (rs : List (ℕ × ℕ)). IsWrittenOver (is_seen (drop w.first_run rs) now) held w.first from now now1) (sym next.runs_are) (some t)) none)
 
-pub returns-then-not-is_read : goal.returns-then-not-is_read
-returns-then-not-is_read c =
+pub returns-then-not-is_read-clause-reads : goal.returns-then-not-is_read-clause-reads
+returns-then-not-is_read-clause-reads c =
     λ p next h.
     let i = c.args.start in
     let reads : class_at c.args.classes.now i ≡ class_at p.old i = h.unwritten i h.order in
     IsUnderWay-removed p next.marks_are c.args.classes.now c.args.self.now i h c.args.end next.character
     (and_right (in_runs p.runs i) (is_read (class_at p.old i)) (ap is_read (sym reads) ∙ sym c.is_read.ensures ∙ c.if-not-is_read.true))
 
-pub returns : goal.returns
-returns c =
+pub returns-clause-reads : goal.returns-clause-reads
+returns-clause-reads c =
     λ p next h.
     let w = c.args.self.now in
     let i = c.args.start in
