@@ -109,3 +109,10 @@ gap_after low (suc index) (r ∷ runs) k n h fits past before =
         let f = are_ordered-front end r runs h in
         let past : r.1 ≤ (get_or runs index (0, 0)).0 = start_after r.1 index runs f.later (omega arith) in
         omega (arith, f.from, f.not_empty)
+
+-- a range ends where the next one starts, or before
+pub next_start : (low index : ℕ) (runs : List (ℕ × ℕ)) (n : ℕ) → are_ordered_from low runs ≡ true → index < length runs → (get_or runs index (0, 0)).1 ≤ n → (get_or runs index (0, 0)).1 ≤ start_or runs (suc index) n
+next_start low index [] n h fits within = absurd (omega arith)
+next_start low zero (r ∷ []) n h fits within = within
+next_start low zero (r ∷ q ∷ runs) n h fits within = (are_ordered-front r.1 q runs (are_ordered-front low r (q ∷ runs) h).later).from
+next_start low (suc index) (r ∷ runs) n h fits within = next_start r.1 index runs n (are_ordered-front low r runs h).later (omega arith) within

@@ -1,5 +1,6 @@
 pub mod InRuns
 pub mod Marks
+pub mod PassOverText
 pub mod StackLemmas
 pub mod WalkLemmas
 pub mod WeakPassLemmas
