@@ -7,5 +7,12 @@ pub mod RunJoining
 pub mod RunPass
 pub mod RunReading
 pub mod RunUnits
+pub mod InRuns
+pub mod Marks
+pub mod PassOverText
 pub mod StackLemmas
 pub mod WalkLemmas
+pub mod WeakPassLemmas
+pub mod WeakWalkLemmas
+pub mod WeakWalkText
+pub mod WrittenOver

@@ -135,7 +135,7 @@ map-take {Y = Y} f (suc k) (x ∷ xs) = ap {B = List Y} (λ ys. f x ∷ ys) (map
 range_at : (runs : List (Range ℕ)) (run : Range ℕ) (k : ℕ) → run ≡ get_or runs k run → k < length runs → get_or (map bounds runs) k (0, 0) ≡ bounds run
 range_at runs run k e fits = get_or-map bounds runs k run (0, 0) fits ∙ ap bounds (sym e)
 
-part_after : (runs read : List (Range ℕ)) (k : ℕ) → read ≡ runs → map bounds (take (length read - k) (drop k read)) ≡ drop k (map bounds runs)
+pub part_after : (runs read : List (Range ℕ)) (k : ℕ) → read ≡ runs → map bounds (take (length read - k) (drop k read)) ≡ drop k (map bounds runs)
 part_after runs read k e =
     ap (map bounds) (between_to_end read k (length read) (le_refl (length read)))
     ∙ ap (λ (xs : List (Range ℕ)). map bounds (drop k xs)) e
