@@ -74,12 +74,12 @@ module _ (len_of : ℕ → ℕ) (h : HasUnits len_of) (chars : List ℕ) where
   -- no character begins inside one
   no_boundary : (k u : ℕ) → place len_of chars k < u → u < place len_of chars (k + 1) → is_boundary len_of chars u ≡ false
   no_boundary k u from below = false_from_ne_true (is_boundary len_of chars u) (λ begins.
-    let at = place-char_index len_of h chars u begins in
-    let j = char_index len_of chars u in
-    elim (cases_lt k j) [
-      | inl after ↦ let past = place-mono len_of chars (k + 1) j (omega arith) in omega arith
-      | inr before ↦ let past = place-mono len_of chars j k before in omega arith
-    ])
+      let at = place-char_index len_of h chars u begins in
+      let j = char_index len_of chars u in
+      elim (cases_lt k j) [
+        | inl after ↦ let past = place-mono len_of chars (k + 1) j (omega arith) in omega arith
+        | inr before ↦ let past = place-mono len_of chars j k before in omega arith
+      ])
 
   -- entries that are equal within each character
   module _ (old : List BidiClass) (per : IsPerChar len_of chars old) where
@@ -253,14 +253,14 @@ module _ (len_of : ℕ → ℕ) (h : HasUnits len_of) (chars : List ℕ) where
               values,
               many,
               ext_get_or L new (per_unit len_of chars values) (omega arith) (λ u below.
-                let w = unit_of len_of chars u (omega arith) in
-                let more = place-more len_of chars w.index 0 w.within in
-                let short = w.below in
-                ap (class_at new) w.at_place
-                ∙ even w.index w.within w.offset (omega arith)
-                ∙ sym (get_or-per_char L len_of chars new w.index L w.within)
-                ∙ sym (get_or-per_unit len_of chars values w.index w.offset 0 L many w.within short)
-                ∙ sym (ap (class_at (per_unit len_of chars values)) w.at_place)),
+                  let w = unit_of len_of chars u (omega arith) in
+                  let more = place-more len_of chars w.index 0 w.within in
+                  let short = w.below in
+                  ap (class_at new) w.at_place
+                  ∙ even w.index w.within w.offset (omega arith)
+                  ∙ sym (get_or-per_char L len_of chars new w.index L w.within)
+                  ∙ sym (get_or-per_unit len_of chars values w.index w.offset 0 L many w.within short)
+                  ∙ sym (ap (class_at (per_unit len_of chars values)) w.at_place)),
             )
 
 -- ---- from run to run

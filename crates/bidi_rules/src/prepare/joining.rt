@@ -187,7 +187,14 @@ pub fn isolating_run_sequences<T: TextSource>(
         let end = runs[run].end;
         let last = kept_end(original_classes, start, end);
         if last == start {
-            put_run(alloc, out, None, start..end, para_level.bidi_class(), para_level.bidi_class())?;
+            put_run(
+                alloc,
+                out,
+                None,
+                start..end,
+                para_level.bidi_class(),
+                para_level.bidi_class(),
+            )?;
             return Ok(());
         }
         let level = levels[last - 1];
@@ -205,7 +212,15 @@ pub fn isolating_run_sequences<T: TextSource>(
             side(level, after),
         )?;
         if has_isolate_controls {
-            read_run(&mut waits, text, original_classes, start, end, last, sequence)?;
+            read_run(
+                &mut waits,
+                text,
+                original_classes,
+                start,
+                end,
+                last,
+                sequence,
+            )?;
         }
         before = level;
     }

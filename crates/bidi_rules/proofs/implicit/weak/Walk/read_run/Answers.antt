@@ -106,11 +106,11 @@ loop-offset-preserved g c =
       (c.in-Some.ensures.goes.on c.loop-offset.invariant.1).1,
       c.read.ensures.first_run,
       rw length_push
-      (subst (λ (u : ℕ). ReadsTo len_of chars runs r.0 u c.args.self.now c.read.new.self c.args.classes.now c.read.new.classes) (sym end)
-      (ReadsTo-more len_of chars runs c.args.run (r.0 + c.in-Some.offset) (r.0 + c.in-Some.offset + c.in-Some.len) c.args.self.now c.loop-offset.self c.read.new.self c.args.classes.now c.loop-offset.classes c.read.new.classes (omega (arith, c.requires.run, length-map c.args.runs.now bounds))
-      (subst (λ (u : ℕ). IsCharIn len_of chars r.0 r.1 (u + c.in-Some.offset) (u + c.in-Some.offset + c.in-Some.len)) first here)
-      (subst (λ (u : ℕ). Reads runs c.args.run (u + c.in-Some.offset) (u + c.in-Some.offset + c.in-Some.len) c.loop-offset.self c.read.new.self c.loop-offset.classes c.read.new.classes) first c.read.ensures.reads)
-      (subst (λ (u : ℕ). ReadsTo len_of chars runs r.0 u c.args.self.now c.loop-offset.self c.args.classes.now c.loop-offset.classes) at c.loop-offset.invariant.3))),
+          (subst (λ (u : ℕ). ReadsTo len_of chars runs r.0 u c.args.self.now c.read.new.self c.args.classes.now c.read.new.classes) (sym end)
+          (ReadsTo-more len_of chars runs c.args.run (r.0 + c.in-Some.offset) (r.0 + c.in-Some.offset + c.in-Some.len) c.args.self.now c.loop-offset.self c.read.new.self c.args.classes.now c.loop-offset.classes c.read.new.classes (omega (arith, c.requires.run, length-map c.args.runs.now bounds))
+          (subst (λ (u : ℕ). IsCharIn len_of chars r.0 r.1 (u + c.in-Some.offset) (u + c.in-Some.offset + c.in-Some.len)) first here)
+          (subst (λ (u : ℕ). Reads runs c.args.run (u + c.in-Some.offset) (u + c.in-Some.offset + c.in-Some.len) c.loop-offset.self c.read.new.self c.loop-offset.classes c.read.new.classes) first c.read.ensures.reads)
+          (subst (λ (u : ℕ). ReadsTo len_of chars runs r.0 u c.args.self.now c.loop-offset.self c.args.classes.now c.loop-offset.classes) at c.loop-offset.invariant.3))),
     )
 
 pub returns-clause-reads : goal.returns-clause-reads
