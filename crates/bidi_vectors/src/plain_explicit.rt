@@ -1,7 +1,9 @@
 //! `plain::explicit_levels`: a paragraph level and classes, the levels, and the classes after X1 to
 //! X8.
 
-use bidi_base::char_data::BidiClass::{self, B, BN, EN, FSI, L, LRE, LRI, PDF, PDI, R, RLE, RLI, RLO};
+use bidi_base::char_data::BidiClass::{
+    self, B, BN, EN, FSI, L, LRE, LRI, PDF, PDI, R, RLE, RLI, RLO,
+};
 use bidi_base::level::Level;
 use bidi_plain::plain::explicit_levels;
 use std::process::Abort;
@@ -15,7 +17,10 @@ fn check(
     overridden: &[BidiClass],
 ) -> Result<(), Fail> {
     let explicit = explicit_levels(rt.alloc(), Level::new_explicit(para_level)?, classes)?;
-    assert_eq!(rt; explicit.levels(), Level::vec(rt.alloc(), levels)?.as_slice());
+    assert_eq!(rt;
+        explicit.levels(),
+        Level::vec(rt.alloc(), levels)?.as_slice()
+    );
     assert_eq!(rt; explicit.classes(), overridden);
     Ok(())
 }

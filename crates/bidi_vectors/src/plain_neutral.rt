@@ -236,7 +236,15 @@ fn levels(
     requires kept { IsTrue (list_all is_kept classes.now) }
 {
     let resolved = weak(alloc, edge, classes)?;
-    let directed = neutral(alloc, level, edge, edge, classes, brackets, resolved.as_slice())?;
+    let directed = neutral(
+        alloc,
+        level,
+        edge,
+        edge,
+        classes,
+        brackets,
+        resolved.as_slice(),
+    )?;
     implicit(alloc, level, directed.as_slice())
 }
 
@@ -254,32 +262,84 @@ fn check(
     requires kept { IsTrue (list_all is_kept classes.now) }
 {
     let answer = levels(rt.alloc(), level, edge, classes, brackets)?;
-    assert_eq!(rt; answer.as_slice(), Level::vec(rt.alloc(), expected)?.as_slice());
+    assert_eq!(rt;
+        answer.as_slice(),
+        Level::vec(rt.alloc(), expected)?.as_slice()
+    );
     Ok(())
 }
 
 #[test]
 fn numbers_in_right_to_left_text(rt: HostRuntime) -> Result<(), Fail> {
-    check(&rt, Level::rtl(), R, &[AL, EN, CS, EN], &[None; 4], &[1, 2, 2, 2])?;
+    check(
+        &rt,
+        Level::rtl(),
+        R,
+        &[AL, EN, CS, EN],
+        &[None; 4],
+        &[1, 2, 2, 2],
+    )?;
     let classes = [R, ET, EN, ES, EN, ET, CS, EN];
-    check(&rt, Level::rtl(), R, &classes, &[None; 8], &[1, 2, 2, 2, 2, 2, 1, 2])
+    check(
+        &rt,
+        Level::rtl(),
+        R,
+        &classes,
+        &[None; 8],
+        &[1, 2, 2, 2, 2, 2, 1, 2],
+    )
 }
 
 #[test]
 fn nearest_strong_class_before_a_number(rt: HostRuntime) -> Result<(), Fail> {
-    check(&rt, Level::ltr(), L, &[AL, R, ET, EN], &[None; 4], &[1, 1, 2, 2])
+    check(
+        &rt,
+        Level::ltr(),
+        L,
+        &[AL, R, ET, EN],
+        &[None; 4],
+        &[1, 1, 2, 2],
+    )
 }
 
 #[test]
 fn brackets_in_left_to_right_text(rt: HostRuntime) -> Result<(), Fail> {
     let number_before = [None, open('('), None, close('(')];
-    check(&rt, Level::ltr(), L, &[AN, ON, R, ON], &number_before, &[2, 1, 1, 1])?;
+    check(
+        &rt,
+        Level::ltr(),
+        L,
+        &[AN, ON, R, ON],
+        &number_before,
+        &[2, 1, 1, 1],
+    )?;
     let both_inside = [None, open('('), None, None, close('(')];
-    check(&rt, Level::ltr(), L, &[R, ON, R, L, ON], &both_inside, &[1, 0, 1, 0, 0])?;
+    check(
+        &rt,
+        Level::ltr(),
+        L,
+        &[R, ON, R, L, ON],
+        &both_inside,
+        &[1, 0, 1, 0, 0],
+    )?;
     let closing_alone = [None, open('['), close('('), None, close('[')];
-    check(&rt, Level::ltr(), L, &[R, ON, ON, R, ON], &closing_alone, &[1, 1, 1, 1, 1])?;
+    check(
+        &rt,
+        Level::ltr(),
+        L,
+        &[R, ON, ON, R, ON],
+        &closing_alone,
+        &[1, 1, 1, 1, 1],
+    )?;
     let crossed = [None, open('('), open('['), None, close('('), close('[')];
-    check(&rt, Level::ltr(), L, &[R, ON, ON, R, ON, ON], &crossed, &[1, 1, 1, 1, 1, 0])
+    check(
+        &rt,
+        Level::ltr(),
+        L,
+        &[R, ON, ON, R, ON, ON],
+        &crossed,
+        &[1, 1, 1, 1, 1, 0],
+    )
 }
 
 #[test]

@@ -15,7 +15,10 @@ fn check(
 ) -> Result<(), Fail> {
     let para_level = Level::new_explicit(para_level)?;
     let explicit = explicit_levels(rt.alloc(), para_level, classes)?;
-    assert_eq!(rt; explicit.levels(), Level::vec(rt.alloc(), levels)?.as_slice());
+    assert_eq!(rt;
+        explicit.levels(),
+        Level::vec(rt.alloc(), levels)?.as_slice()
+    );
     let found = sequences(rt.alloc(), para_level, classes, explicit.levels())?;
     assert_eq!(rt; found.len(), wanted.len());
     for (sequence, (places, sos, eos)) in found.iter().zip(wanted) {
