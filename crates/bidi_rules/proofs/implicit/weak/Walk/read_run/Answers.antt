@@ -1,13 +1,13 @@
-use Rattle.std.proofs.Common.{◌≡◌, ◌<◌, ◌≤◌, ◌+◌, ℕ, List, Option, length, map, get_or, sym, ap, subst, ◌∙◌, arith}
+use Rattle.std.proofs.Common.{◌≡◌, ◌<◌, ◌+◌, ℕ, List, Option, length, map, get_or, sym, ap, subst, arith}
 use Rattle.std.specs.Iterator.{Count}
 use Rattle.std.proofs.lemmas.List.{get_or-map, length-map, length_push}
 use Rattle.std.specs.declared.ops.Range.{Range}
-use Rattle.bidi_base.specs.Text.{place, text_len, subrange, indices_lengths, IsLine, Gives}
+use Rattle.bidi_base.specs.Text.{place, subrange, indices_lengths, IsLine, Gives}
 use Rattle.bidi_base.specs.Units.{bounds}
 use Rattle.bidi_base.proofs.TextLemmas.{HasUnits, is_boundary-le}
 use Rattle.bidi_base.proofs.PlaceLemmas.{LengthTurn, length_turn, length_end, place-end, text_len-subrange}
 use Rattle.bidi_rules.specs.WeakWalk.{Reads, ReadsTo}
-use Rattle.bidi_rules.proofs.WeakWalkText.{IsCharIn, line_turn, line_next, line_here, ReadsTo-more, ReadsTo-none}
+use Rattle.bidi_rules.proofs.WeakWalkText.{IsCharIn, line_turn, line_next, line_here, ReadsTo-more}
 use Rattle.bidi_rules.proofs.implicit.weak.Walk.read_run.Goals as goal
 
 -- the run at an index as a pair
@@ -106,11 +106,11 @@ loop-offset-preserved g c =
       (c.in-Some.ensures.goes.on c.loop-offset.invariant.1).1,
       c.read.ensures.first_run,
       rw length_push
-      (subst (λ (u : ℕ). ReadsTo len_of chars runs r.0 u c.args.self.now c.read.new.self c.args.classes.now c.read.new.classes) (sym end)
-      (ReadsTo-more len_of chars runs c.args.run (r.0 + c.in-Some.offset) (r.0 + c.in-Some.offset + c.in-Some.len) c.args.self.now c.loop-offset.self c.read.new.self c.args.classes.now c.loop-offset.classes c.read.new.classes (omega (arith, c.requires.run, length-map c.args.runs.now bounds))
-      (subst (λ (u : ℕ). IsCharIn len_of chars r.0 r.1 (u + c.in-Some.offset) (u + c.in-Some.offset + c.in-Some.len)) first here)
-      (subst (λ (u : ℕ). Reads runs c.args.run (u + c.in-Some.offset) (u + c.in-Some.offset + c.in-Some.len) c.loop-offset.self c.read.new.self c.loop-offset.classes c.read.new.classes) first c.read.ensures.reads)
-      (subst (λ (u : ℕ). ReadsTo len_of chars runs r.0 u c.args.self.now c.loop-offset.self c.args.classes.now c.loop-offset.classes) at c.loop-offset.invariant.3))),
+          (subst (λ (u : ℕ). ReadsTo len_of chars runs r.0 u c.args.self.now c.read.new.self c.args.classes.now c.read.new.classes) (sym end)
+          (ReadsTo-more len_of chars runs c.args.run (r.0 + c.in-Some.offset) (r.0 + c.in-Some.offset + c.in-Some.len) c.args.self.now c.loop-offset.self c.read.new.self c.args.classes.now c.loop-offset.classes c.read.new.classes (omega (arith, c.requires.run, length-map c.args.runs.now bounds))
+          (subst (λ (u : ℕ). IsCharIn len_of chars r.0 r.1 (u + c.in-Some.offset) (u + c.in-Some.offset + c.in-Some.len)) first here)
+          (subst (λ (u : ℕ). Reads runs c.args.run (u + c.in-Some.offset) (u + c.in-Some.offset + c.in-Some.len) c.loop-offset.self c.read.new.self c.loop-offset.classes c.read.new.classes) first c.read.ensures.reads)
+          (subst (λ (u : ℕ). ReadsTo len_of chars runs r.0 u c.args.self.now c.loop-offset.self c.args.classes.now c.loop-offset.classes) at c.loop-offset.invariant.3))),
     )
 
 pub returns-clause-reads : goal.returns-clause-reads
