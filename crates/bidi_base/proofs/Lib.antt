@@ -2,17 +2,23 @@ pub mod AgreeLemmas
 pub mod BracketsLemmas
 pub mod ChainLemmas
 pub mod ClassesLemmas
+pub mod ContextLemmas
+pub mod DirectionWalk
 pub mod EmbeddingsLemmas
 mod Examples
 pub mod ExplicitLemmas
 pub mod GivesLemmas
 pub mod InPlace
+pub mod IsolateWalk
 pub mod IsolatesLemmas
 pub mod LevelsLemmas
 pub mod MatchingLemmas
+pub mod NeutralLemmas
 pub mod OpenMatches
 pub mod OpenersStack
 pub mod OrderLemmas
+pub mod PairsLemmas
+pub mod ParagraphsLemmas
 pub mod PassLemmas
 pub mod PerCharTests
 pub mod PerUnit
@@ -20,10 +26,12 @@ pub mod PermutationLemmas
 pub mod PlaceLemmas
 pub mod PlacesLemmas
 pub mod ReadStack
+pub mod ReadingLemmas
 pub mod RunsLemmas
 pub mod SequencesLemmas
 pub mod StatusBounds
 pub mod StatusMachine
+pub mod StoredSteps
 pub mod StrLemmas
 pub mod SuccessorLemmas
 pub mod TableLemmas

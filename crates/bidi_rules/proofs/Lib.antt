@@ -1,6 +1,15 @@
+pub mod ExplicitUnits
 pub mod InRuns
+pub mod KeptRangeLemmas
+pub mod LevelRunLemmas
 pub mod Marks
 pub mod PassOverText
+pub mod RunCutting
+pub mod RunJoined
+pub mod RunJoining
+pub mod RunPass
+pub mod RunReading
+pub mod RunUnits
 pub mod StackLemmas
 pub mod WalkLemmas
 pub mod WeakPassLemmas

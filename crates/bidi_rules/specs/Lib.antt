@@ -1,3 +1,5 @@
+pub mod ExplicitPass
+pub mod Joining
 pub mod RunSequence
 pub mod Status
 pub mod WeakPass

@@ -5,4 +5,5 @@ pub mod Ordered
 pub mod Passes
 pub mod Reversed
 pub mod Stretches
+pub mod TextRead
 pub mod Turning
