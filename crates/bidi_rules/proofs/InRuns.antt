@@ -1,10 +1,9 @@
 -- The units in some ranges that are in order.
-use Rattle.std.proofs.Common.{◌≡◌, ℕ, zero, suc, ◌+◌, ◌<◌, ◌≤◌, Bool, true, false, ◌&&◌, ◌||◌, leb, ltb, List, [], ◌∷◌, length, get_or, take, drop, refl, sym, ap, ◌∙◌, arith, inl, inr}
-use Rattle.std.specs.List.{list_any}
-use Rattle.std.proofs.lemmas.Bool.{cases_lt, cases_Bool, and_parts, and_from, and_left, and_right, or_cases, or_from, or_left, or_right, lt-ltb, le-ltb, le-leb, lt-leb, leb-true, ltb-true, both_ways}
+use Rattle.std.proofs.Common.{◌≡◌, ℕ, zero, suc, ◌+◌, ◌<◌, ◌≤◌, Bool, true, false, ◌&&◌, ◌||◌, leb, ltb, List, [], ◌∷◌, length, get_or, take, drop, refl, sym, ap, ◌∙◌, arith}
+use Rattle.std.proofs.lemmas.Bool.{and_parts, and_from, and_left, and_right, or_from, lt-ltb, le-ltb, le-leb, lt-leb, leb-true, ltb-true}
 use Rattle.std.proofs.lemmas.List.Folds.{list_any_more, list_any_at}
-use Rattle.bidi_base.specs.Units.{are_ordered_from, are_ordered, in_runs}
-use Rattle.bidi_rules.proofs.WalkLemmas.{are_ordered-front, are_ordered-lower}
+use Rattle.bidi_base.specs.Units.{are_ordered_from, in_runs}
+use Rattle.bidi_rules.proofs.WalkLemmas.{are_ordered-front}
 
 -- one range
 abbrev pub in_run : ℕ × ℕ → ℕ → Bool

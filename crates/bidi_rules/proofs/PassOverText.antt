@@ -1,23 +1,23 @@
 -- The weak pass over a text: where its characters begin, and what is said of them at the end.
-use Rattle.std.proofs.Common.{◌≡◌, ℕ, zero, suc, ◌+◌, ◌-◌, ◌<◌, ◌≤◌, ◌&&◌, ◌||◌, Bool, true, false, cond, List, [], ◌∷◌, ◌++◌, length, map, get_or, drop, refl, sym, ap, subst, ◌∙◌, arith, inl, inr}
+use Rattle.std.proofs.Common.{◌≡◌, ℕ, zero, suc, ◌+◌, ◌-◌, ◌<◌, ◌≤◌, ◌&&◌, ◌||◌, Bool, true, false, List, [], ◌∷◌, ◌++◌, length, map, get_or, drop, refl, sym, ap, subst, ◌∙◌, arith, inl, inr}
 use Rattle.std.specs.Prelude.{filter, flat_map}
 use Rattle.std.specs.List.{range_with_len}
-use Rattle.std.proofs.lemmas.Bool.{cond-true, cond-false, cases_Bool, cases_lt, cases_eq, both_ways, and_parts, and_from, and_left, and_right, or_cases, or_from, false_from_ne_true}
+use Rattle.std.proofs.lemmas.Bool.{cond-true, cond-false, cases_Bool, cases_lt, cases_eq, both_ways, and_parts, and_left, and_right, or_cases, or_from, false_from_ne_true}
 use Rattle.std.proofs.lemmas.List.{map-append, ext_get_or}
 use Rattle.std.proofs.lemmas.List.Elements.{All-head, All-tail, All-get_or, filter-append}
 use Rattle.bidi_base.specs.declared.char_data.BidiClass.{BidiClass}
 use Rattle.bidi_base.specs.declared.char_data.BidiClass.TheVariants.{L, BN, ON}
 use Rattle.bidi_base.specs.Classes.{is_read}
 use Rattle.bidi_base.specs.Places.{between, at_places, class_at}
-use Rattle.bidi_base.specs.Text.{text_len, place, is_boundary, IsLine, char_index, per_unit, per_char, is_per_char, IsPerChar}
+use Rattle.bidi_base.specs.Text.{text_len, place, is_boundary, IsLine, char_index, per_unit, per_char, IsPerChar}
 use Rattle.bidi_base.specs.Units.{are_ordered_from, are_ordered, in_runs, chars_in_runs, read_in_runs, AreLines}
 use Rattle.bidi_base.specs.Weak.{weak_classes}
 use Rattle.bidi_base.proofs.TextLemmas.{HasUnits, is_boundary-le}
-use Rattle.bidi_base.proofs.PlaceLemmas.{place-zero, place-more, place-le, place-end, place-mono, place-lt, is_boundary-place, place-char_index, line_places, unit_of}
+use Rattle.bidi_base.proofs.PlaceLemmas.{place-more, place-le, place-mono, place-lt, is_boundary-place, place-char_index, line_places, unit_of}
 use Rattle.bidi_base.proofs.PerUnit.{length-per_unit, length-per_char, get_or-per_unit, get_or-per_char}
-use Rattle.bidi_base.proofs.UnitsLemmas.{IsSameTest, is_per_char-per_unit, length-from_IsPerChar}
+use Rattle.bidi_base.proofs.UnitsLemmas.{length-from_IsPerChar}
 use Rattle.bidi_rules.specs.WeakPass.{waits}
-use Rattle.bidi_rules.specs.WeakWalk.{first_walk, is_seen, seen, marks, IsWrittenOver, Pass, AreMarks, IsCharacter, IsPassOver, IsUnderWay, IsOver, ReadsTo}
+use Rattle.bidi_rules.specs.WeakWalk.{first_walk, is_seen, seen, marks, IsWrittenOver, Pass, IsCharacter, IsPassOver, IsUnderWay, IsOver, ReadsTo}
 use Rattle.bidi_rules.proofs.InRuns.{in_run, in_run-inside, in_run-below, in_run-above, in_run-true, in_runs-below, run_some, start_or, start_or-at, start_or-past, gap_before, gap_after, next_start}
 use Rattle.bidi_rules.proofs.Marks.{marked, marked-none, marked-parts, marked-empty, marked-one}
 use Rattle.bidi_rules.proofs.WalkLemmas.{are_ordered-front}

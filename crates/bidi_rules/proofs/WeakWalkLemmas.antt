@@ -3,15 +3,15 @@ use Rattle.std.proofs.Common.{◌≡◌, ℕ, suc, ◌+◌, ◌<◌, ◌≤◌, 
 use Rattle.std.proofs.lemmas.Bool.{cond-true, cond-false, cases_Bool, cases_lt, cases_eq, both_ways, and_parts}
 use Rattle.bidi_base.specs.declared.char_data.BidiClass.{BidiClass}
 use Rattle.bidi_base.specs.declared.char_data.BidiClass.TheVariants.{L, ET, ON}
-use Rattle.bidi_base.specs.Classes.{is_al, is_l, is_read}
+use Rattle.bidi_base.specs.Classes.{is_read}
 use Rattle.bidi_base.specs.Places.{at_places, class_at}
 use Rattle.bidi_base.specs.Units.{are_ordered, in_runs}
 use Rattle.bidi_base.specs.Weak.{carried, weak_classes}
 use Rattle.bidi_rules.specs.declared.implicit.weak.Walk.{Walk}
 use Rattle.bidi_rules.specs.declared.implicit.weak.steps.Before.{Before}
-use Rattle.bidi_rules.specs.declared.implicit.weak.steps.Before.TheVariants.{Other, Terminators}
+use Rattle.bidi_rules.specs.declared.implicit.weak.steps.Before.TheVariants.{Terminators}
 use Rattle.bidi_rules.specs.WeakPass.{marked, w2_w3, is_after_al, after_w3, waits, next_before, joins, settled, resolved, w7_by, is_after_l, after_w7}
-use Rattle.bidi_rules.specs.WeakWalk.{first_walk, is_seen, seen, marks, IsWrittenOver, Pass, AreMarks, IsCharacter, AreHeld, IsUnderWay, IsOver}
+use Rattle.bidi_rules.specs.WeakWalk.{first_walk, is_seen, seen, marks, IsWrittenOver, Pass, AreMarks, IsCharacter, IsUnderWay, IsOver}
 use Rattle.bidi_rules.proofs.InRuns.{in_runs-drop}
 use Rattle.bidi_rules.proofs.Marks.{at_places-append, marked-none, marked-parts, marked-empty, marked-one, at_marked-same, at_marked-all}
 use Rattle.bidi_rules.proofs.WeakPassLemmas.{weak_classes-pass}

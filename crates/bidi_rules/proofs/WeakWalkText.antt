@@ -1,12 +1,11 @@
 -- The weak pass over the characters of a text.
-use Rattle.std.proofs.Common.{◌≡◌, ℕ, zero, suc, ◌+◌, ◌-◌, ◌<◌, ◌≤◌, ◌&&◌, ◌||◌, Bool, true, false, List, [], ◌∷◌, ◌++◌, length, map, get_or, take, drop, refl, sym, ap, subst, ◌∙◌, arith, inl, inr, length-take, length-drop}
-use Rattle.std.specs.Prelude.{slice_range}
+use Rattle.std.proofs.Common.{◌≡◌, ℕ, ◌+◌, ◌-◌, ◌<◌, ◌≤◌, List, length, get_or, drop, sym, ap, subst, ◌∙◌, arith, length-take}
 use Rattle.bidi_base.specs.declared.char_data.BidiClass.{BidiClass}
-use Rattle.bidi_base.specs.Text.{text_len, place, is_boundary, IsLine, char_index, subrange}
+use Rattle.bidi_base.specs.Text.{place, IsLine, char_index, subrange}
 use Rattle.bidi_base.proofs.TextLemmas.{HasUnits}
-use Rattle.bidi_base.proofs.PlaceLemmas.{place-slice_range, line_places, text_len-subrange, place-zero, LengthTurn}
+use Rattle.bidi_base.proofs.PlaceLemmas.{place-slice_range, line_places, text_len-subrange, LengthTurn}
 use Rattle.bidi_rules.specs.declared.implicit.weak.Walk.{Walk}
-use Rattle.bidi_rules.specs.WeakWalk.{Pass, IsCharacter, IsPassOver, IsNext, IsUnderWay, Reads, ReadsTo}
+use Rattle.bidi_rules.specs.WeakWalk.{IsCharacter, IsUnderWay, Reads, ReadsTo}
 
 -- ---- the characters of a line
 

@@ -140,6 +140,7 @@ impl Walk {
         self.after_l = comes_after_l(self.after_l, strong);
         self.before = next;
     }
+
     /// Reads the characters of the run at the index `run`.
     fn read_run<T: TextSource>(
         &mut self,
@@ -168,7 +169,9 @@ impl Walk {
 /// The weak types of a sequence, in place: W1 to W7 over its characters that are not BN.
 ///
 /// Each unit of `processing_classes` has the class of its character, and the sequence fits the
-/// text. BN stays, and so do the units outside the sequence.
+/// text. BN stays, and so do the units outside the sequence. No memory is taken: one walk looks at
+/// each character once, and goes over the units of terminators and separators that wait for the
+/// character behind them once more.
 pub fn resolve_weak<T: TextSource>(
     text: T,
     sequence: &IsolatingRunSequence,

@@ -148,8 +148,7 @@ pub fn comes_after_al(after_al: bool, class: BidiClass) -> bool
     ensures { result ≡ is_after_al after_al class }
 {
     match class {
-        AL => true,
-        L | R => false,
+        L | R | AL => is_arabic_letter(class),
         _ => after_al,
     }
 }
@@ -159,8 +158,7 @@ pub fn comes_after_l(after_l: bool, class: BidiClass) -> bool
     ensures { result ≡ is_after_l after_l class }
 {
     match class {
-        L => true,
-        R => false,
+        L | R => is_left(class),
         _ => after_l,
     }
 }

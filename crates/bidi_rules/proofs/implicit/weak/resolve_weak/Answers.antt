@@ -1,5 +1,5 @@
 -- The runs one after another, and what waits at the end.
-use Rattle.std.proofs.Common.{◌≡◌, ◌<◌, ◌≤◌, ◌&&◌, ℕ, true, false, ltb, List, length, map, drop, refl, sym, ap, subst, ◌∙◌, arith, ltb-true}
+use Rattle.std.proofs.Common.{◌≡◌, ◌<◌, ◌≤◌, ◌&&◌, ℕ, true, false, ltb, List, length, map, drop, refl, sym, subst, ◌∙◌, arith, ltb-true}
 use Rattle.std.proofs.lemmas.Bool.{and_parts}
 use Rattle.std.proofs.lemmas.List.{length-map}
 use Rattle.std.specs.declared.ops.Range.{Range}
@@ -17,7 +17,7 @@ use Rattle.bidi_rules.specs.declared.implicit.weak.Walk.{Walk}
 use Rattle.bidi_rules.specs.declared.prepare.sequence.IsolatingRunSequence.{IsolatingRunSequence}
 use Rattle.bidi_rules.specs.RunSequence.{runs, sos}
 use Rattle.bidi_rules.specs.WeakPass.{waits}
-use Rattle.bidi_rules.specs.WeakWalk.{is_seen, IsWrittenOver, IsOver, IsUnderWay, first_walk}
+use Rattle.bidi_rules.specs.WeakWalk.{is_seen, IsWrittenOver, IsOver, IsUnderWay}
 use Rattle.bidi_rules.proofs.InRuns.{start_or}
 use Rattle.bidi_rules.proofs.PassOverText.{text_pass, answers-text, removed-text, outside-text, IsPerChar-text, IsUnderWay-first_run, IsUnderWay-next_run, IsOver-last_run}
 use Rattle.bidi_rules.proofs.WalkLemmas.{is_run_sequence-ordered}

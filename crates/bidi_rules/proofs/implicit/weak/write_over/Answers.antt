@@ -1,4 +1,4 @@
-use Rattle.std.proofs.Common.{◌≡◌, ◌<◌, ℕ, Bool, true, false, length, get_or, sym, ◌∙◌, ap, arith}
+use Rattle.std.proofs.Common.{◌≡◌, ℕ, Bool, get_or, sym, ◌∙◌, ap, arith}
 use Rattle.bidi_base.specs.declared.char_data.BidiClass.TheVariants.{L}
 use Rattle.bidi_base.specs.Classes.{is_read}
 use Rattle.bidi_rules.proofs.WrittenOver.{IsWrittenOver-skip, IsWrittenOver-set, IsWrittenOver-end}

@@ -1,13 +1,13 @@
-use Rattle.std.proofs.Common.{◌≡◌, ◌<◌, ◌≤◌, ◌+◌, ℕ, List, Option, length, map, get_or, sym, ap, subst, ◌∙◌, arith}
+use Rattle.std.proofs.Common.{◌≡◌, ◌<◌, ◌+◌, ℕ, List, Option, length, map, get_or, sym, ap, subst, arith}
 use Rattle.std.specs.Iterator.{Count}
 use Rattle.std.proofs.lemmas.List.{get_or-map, length-map, length_push}
 use Rattle.std.specs.declared.ops.Range.{Range}
-use Rattle.bidi_base.specs.Text.{place, text_len, subrange, indices_lengths, IsLine, Gives}
+use Rattle.bidi_base.specs.Text.{place, subrange, indices_lengths, IsLine, Gives}
 use Rattle.bidi_base.specs.Units.{bounds}
 use Rattle.bidi_base.proofs.TextLemmas.{HasUnits, is_boundary-le}
 use Rattle.bidi_base.proofs.PlaceLemmas.{LengthTurn, length_turn, length_end, place-end, text_len-subrange}
 use Rattle.bidi_rules.specs.WeakWalk.{Reads, ReadsTo}
-use Rattle.bidi_rules.proofs.WeakWalkText.{IsCharIn, line_turn, line_next, line_here, ReadsTo-more, ReadsTo-none}
+use Rattle.bidi_rules.proofs.WeakWalkText.{IsCharIn, line_turn, line_next, line_here, ReadsTo-more}
 use Rattle.bidi_rules.proofs.implicit.weak.Walk.read_run.Goals as goal
 
 -- the run at an index as a pair

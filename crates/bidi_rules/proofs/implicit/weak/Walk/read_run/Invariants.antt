@@ -1,6 +1,6 @@
 -- The characters of the run that came are read.
 use Rattle.std.proofs.Common.{◌+◌, ◌≤◌, length, map, get_or}
-use Rattle.bidi_base.specs.Text.{place, text_len, subrange}
+use Rattle.bidi_base.specs.Text.{place, subrange}
 use Rattle.bidi_base.specs.Units.{bounds}
 use Rattle.bidi_rules.specs.WeakWalk.{ReadsTo}
 use Rattle.bidi_rules.proofs.implicit.weak.Walk.read_run.Given as goal
