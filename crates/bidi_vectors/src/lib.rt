@@ -5,3 +5,5 @@
 mod level_rows;
 #[cfg(test)]
 mod order_rows;
+#[cfg(test)]
+mod run_rows;

@@ -1,8 +1,12 @@
 pub mod Distinct
+pub mod FoundRuns
 pub mod Lanes
 pub mod Least
 pub mod Ordered
 pub mod Passes
+pub mod Pieces
 pub mod Reversed
+pub mod RunsLemmas
 pub mod Stretches
 pub mod Turning
+pub mod VisualRuns

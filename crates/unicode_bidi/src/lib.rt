@@ -1,8 +1,10 @@
 //! The Unicode Bidirectional Algorithm (UAX #9), proved.
 #![tactic(auto)]
 
+pub mod deprecated;
 mod info;
 mod visual;
+mod visual_runs;
 
 pub use bidi_base::char_data::BidiClass;
 pub use bidi_base::level::{LTR_LEVEL, Level, RTL_LEVEL};
