@@ -1,7 +1,11 @@
+pub mod DirectionLemmas
 pub mod Distinct
 pub mod FoundRuns
+pub mod Gathered
 pub mod Lanes
 pub mod Least
+pub mod LineInText
+pub mod LineLevels
 pub mod Ordered
 pub mod Passes
 pub mod Pieces

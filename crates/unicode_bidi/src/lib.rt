@@ -3,6 +3,8 @@
 
 pub mod deprecated;
 mod info;
+mod level_direction;
+mod lines;
 mod visual;
 mod visual_runs;
 
