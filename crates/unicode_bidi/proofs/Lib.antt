@@ -1,3 +1,4 @@
+pub mod CharRuns
 pub mod DirectionLemmas
 pub mod Distinct
 pub mod FoundRuns
@@ -6,11 +7,15 @@ pub mod Lanes
 pub mod Least
 pub mod LineInText
 pub mod LineLevels
+pub mod LineText
 pub mod Ordered
 pub mod Passes
 pub mod Pieces
 pub mod Reversed
+pub mod RunText
 pub mod RunsLemmas
 pub mod Stretches
+pub mod TextOfLine
 pub mod Turning
 pub mod VisualRuns
+pub mod WrittenRuns

@@ -4,6 +4,7 @@
 pub mod deprecated;
 mod info;
 mod level_direction;
+mod line_text;
 mod lines;
 mod visual;
 mod visual_runs;

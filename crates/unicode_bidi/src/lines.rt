@@ -1,9 +1,9 @@
 // The levels of a line (L1).
-ghost use Rattle.std.specs.Prelude.{◌≡◌, ℕ, ◌+◌, ◌<◌, ◌≤◌, ◌&&◌, ◌||◌, not, nat_lt, if◌then◌else◌, length, slice_index, slice_range, take, IfOk, map};
+ghost use Rattle.std.specs.Prelude.{◌≡◌, ℕ, ◌+◌, ◌<◌, ◌≤◌, ◌&&◌, ◌||◌, not, nat_lt, if◌then◌else◌, length, slice_index, take, IfOk, map};
 ghost use Rattle.bidi_base.specs.Classes.{is_separator as is_separator_of, is_removed as is_removed_of};
 ghost use Rattle.bidi_base.specs.Display.{run_of, visual_runs, AreVisualRuns};
 ghost use Rattle.bidi_base.specs.Levels.{is_odd, has_rtl as has_rtl_of};
-ghost use Rattle.bidi_base.specs.Line.{is_blank as is_blank_of, line_levels, levels_with_line as levels_with_line_of};
+ghost use Rattle.bidi_base.specs.Line.{is_blank as is_blank_of, line_levels, levels_of_line as levels_of_line_of, levels_with_line as levels_with_line_of};
 ghost use Rattle.bidi_base.specs.Places.{class_at};
 ghost use Rattle.bidi_base.specs.Text.{text_len, per_char};
 
@@ -147,6 +147,24 @@ fn reset_line(level: Level, classes: &[BidiClass], levels: &mut [Level], line: R
     );
 }
 
+// The levels of a line's units after L1, from the stored classes and levels of the whole text.
+pub(crate) fn levels_of_line(
+    alloc: Global,
+    level: Level,
+    classes: &[BidiClass],
+    levels: &[Level],
+    line: Range<usize>,
+) -> Result<Vec<Level>, AllocError>
+    requires same_len { length levels.now ≡ length classes.now }
+    requires ordered { line.start ≤ line.end }
+    requires within { line.end ≤ length levels.now }
+    ensures { IfOk result (λ v. v.items ≡ levels_of_line_of level classes.now levels.now line.start line.end) }
+{
+    let mut shown = Vec::from_slice(alloc, &levels[line.start..line.end])?;
+    reset_levels(level, &classes[line.start..line.end], shown.as_mut_slice());
+    Ok(shown)
+}
+
 // The levels of a text's units, those of a line after L1, from the stored classes and levels of the
 // whole text. The level handed in is the line's paragraph's.
 pub(crate) fn levels_with_line(
@@ -178,10 +196,8 @@ pub(crate) fn levels_and_runs(
     requires ordered { line.start ≤ line.end }
     requires within { line.end ≤ length levels.now }
     ensures levels { IfOk result (λ r. r.0.items ≡ levels_with_line_of level classes.now levels.now line.start line.end) }
-    ensures runs { IfOk result (λ r. map run_of r.1.items
-        ≡ visual_runs line.start (line_levels level (slice_range classes.now line.start line.end) (slice_range levels.now line.start line.end))) }
-    ensures visual { IfOk result (λ r.
-        AreVisualRuns line.start (line_levels level (slice_range classes.now line.start line.end) (slice_range levels.now line.start line.end)) (map run_of r.1.items)) }
+    ensures runs { IfOk result (λ r. map run_of r.1.items ≡ visual_runs line.start (levels_of_line_of level classes.now levels.now line.start line.end)) }
+    ensures visual { IfOk result (λ r. AreVisualRuns line.start (levels_of_line_of level classes.now levels.now line.start line.end) (map run_of r.1.items)) }
 {
     let (start, end) = (line.start, line.end);
     let shown = levels_with_line(alloc, level, classes, levels, line)?;
