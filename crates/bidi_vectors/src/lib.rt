@@ -14,6 +14,8 @@ mod plain_sequences;
 #[cfg(test)]
 mod plain_weak;
 #[cfg(test)]
+mod run_rows;
+#[cfg(test)]
 mod source_rows;
 #[cfg(test)]
 mod text_rows;

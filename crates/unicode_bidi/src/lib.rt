@@ -1,13 +1,18 @@
 //! The Unicode Bidirectional Algorithm (UAX #9), proved.
 #![tactic(auto)]
 
+pub mod deprecated;
 mod base_direction;
 mod classes;
 mod info;
 mod initial;
 mod initial_info;
+mod level_direction;
+mod line_text;
+mod lines;
 mod paragraph_info;
 mod visual;
+mod visual_runs;
 
 pub use base_direction::{
     get_base_direction_full_with_data_source, get_base_direction_with_data_source,

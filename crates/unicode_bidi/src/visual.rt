@@ -68,7 +68,7 @@ fn first_other(levels: &[Level], at: usize, level: u8) -> Option<usize>
 }
 
 // The end of the stretch of items from `from` on that have its level.
-fn run_end(levels: &[Level], from: usize) -> usize
+pub(crate) fn run_end(levels: &[Level], from: usize) -> usize
     requires { from < length levels.now }
     ensures begins { from < result }
     ensures ends { result ≤ length levels.now }

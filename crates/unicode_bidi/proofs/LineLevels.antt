@@ -1,0 +1,428 @@
+-- L1 along a line: the level that each place takes, and what a pass over the line keeps true.
+use Rattle.std.proofs.Common.{◌≡◌, ℕ, zero, suc, ◌+◌, ◌-◌, ◌<◌, ◌≤◌, cond, if◌then◌else◌, ◌&&◌, ◌||◌, Bool, true, false, not, nat_lt, List, [], ◌∷◌, length, get_or, drop, set, All, refl, sym, ap, ap₂, subst, ◌∙◌, arith, inl, inr, drop-cons, get_or-set_other, get_or-set_same, length-set, ◌≢◌}
+use Rattle.std.proofs.lemmas.Bool.{cases_lt, cond-true, cond-false, both_ways, ltb-true, ltb-false}
+use Rattle.std.proofs.lemmas.List.{get_or_default}
+use Rattle.std.proofs.lemmas.List.Folds.{list_any_at, list_any_none}
+use Rattle.bidi_base.specs.declared.char_data.BidiClass.{BidiClass}
+use Rattle.bidi_base.specs.declared.char_data.BidiClass.TheVariants.{L, BN, B, S, LRE, LRO, RLE, RLO, PDF}
+use Rattle.bidi_base.specs.Classes.{is_removed, is_separator}
+use Rattle.bidi_base.specs.Levels.{is_odd, has_rtl}
+use Rattle.bidi_base.specs.Line.{is_blank, is_reset, line_levels_after, line_levels}
+use Rattle.bidi_base.specs.Places.{class_at}
+
+-- ---- classes
+
+pub is_separator-blank : (c : BidiClass) → is_blank c ≡ true → is_separator c ≡ false
+is_separator-blank B e = absurd (cc e)
+is_separator-blank S e = absurd (cc e)
+is_separator-blank _ e = refl
+
+pub is_blank-removed : (c : BidiClass) → is_removed c ≡ true → is_blank c ≡ true
+is_blank-removed RLE e = refl
+is_blank-removed LRE e = refl
+is_blank-removed RLO e = refl
+is_blank-removed LRO e = refl
+is_blank-removed PDF e = refl
+is_blank-removed BN e = refl
+is_blank-removed _ e = absurd (cc e)
+
+pub is_removed-not_blank : (c : BidiClass) → is_blank c ≡ false → is_removed c ≡ false
+is_removed-not_blank c e = not_removed (is_removed c) refl
+  where
+    not_removed : (b : Bool) → is_removed c ≡ b → b ≡ false
+    not_removed true r = sym (is_blank-removed c r) ∙ e
+    not_removed false r = refl
+
+-- ---- what is reset
+
+step : (s b r : Bool) → s ≡ false → b ≡ true → (s || (b && r)) ≡ r
+step s b r p q = grind arith
+
+-- a blank is reset if what follows is
+pub is_reset-blank : (c : BidiClass) (after : List BidiClass) → is_blank c ≡ true → is_reset (c ∷ after) ≡ is_reset after
+is_reset-blank c after e = step (is_separator c) (is_blank c) (is_reset after) (is_separator-blank c e) e
+
+stop : (s b r : Bool) → s ≡ false → b ≡ false → (s || (b && r)) ≡ false
+stop s b r p q = grind arith
+
+at_once : (s b r : Bool) → s ≡ true → (s || (b && r)) ≡ true
+at_once s b r p = grind arith
+
+module _ (classes : List BidiClass) where
+  first : (i : ℕ) → i < length classes → is_reset (drop i classes) ≡ is_reset (class_at classes i ∷ drop (suc i) classes)
+  first i fits = ap is_reset (drop-cons classes i L fits)
+
+  pub is_reset-at_blank : (i : ℕ) → i < length classes → is_blank (class_at classes i) ≡ true → is_reset (drop i classes) ≡ is_reset (drop (suc i) classes)
+  is_reset-at_blank i fits e = first i fits ∙ is_reset-blank (class_at classes i) (drop (suc i) classes) e
+
+  pub is_reset-at_separator : (i : ℕ) → i < length classes → is_separator (class_at classes i) ≡ true → is_reset (drop i classes) ≡ true
+  is_reset-at_separator i fits e = first i fits ∙ at_once (is_separator (class_at classes i)) (is_blank (class_at classes i)) (is_reset (drop (suc i) classes)) e
+
+  pub is_reset-at_other : (i : ℕ) → i < length classes → is_separator (class_at classes i) ≡ false → is_blank (class_at classes i) ≡ false → is_reset (drop i classes) ≡ false
+  is_reset-at_other i fits p q = first i fits ∙ stop (is_separator (class_at classes i)) (is_blank (class_at classes i)) (is_reset (drop (suc i) classes)) p q
+
+  -- blanks up to i are reset if what follows them is
+  pub is_reset-blanks : (n k : ℕ) → k + n ≤ length classes → ((j : ℕ) → k ≤ j → j < k + n → is_blank (class_at classes j) ≡ true) → is_reset (drop k classes) ≡ is_reset (drop (k + n) classes)
+  is_reset-blanks zero k fits blank = ap (λ j. is_reset (drop j classes)) (let e : k ≡ k + zero = omega arith in e)
+  is_reset-blanks (suc n) k fits blank =
+      is_reset-at_blank k (omega arith) (blank k (omega arith) (omega arith))
+      ∙ is_reset-blanks n (suc k) (omega arith) (λ j from below. blank j (omega arith) (omega arith))
+      ∙ ap (λ j. is_reset (drop j classes)) (let e : suc k + n ≡ k + suc n = omega arith in e)
+
+-- ---- the level at a place
+
+-- the level before an index, where `before` stands before the list
+abbrev pub level_before : ℕ → List ℕ → ℕ → ℕ
+level_before before levels zero = before
+level_before before levels (suc i) = get_or levels i 0
+
+pub level_before-more : (before : ℕ) (levels : List ℕ) (i : ℕ) → level_before before levels (i + 1) ≡ get_or levels i 0
+level_before-more before levels i = ap (level_before before levels) (let e : i + 1 ≡ suc i = omega arith in e)
+
+pub level_before-same : (before : ℕ) (xs ys : List ℕ) (i : ℕ) → ((k : ℕ) → k < i → get_or xs k 0 ≡ get_or ys k 0) → level_before before xs i ≡ level_before before ys i
+level_before-same before xs ys zero h = refl
+level_before-same before xs ys (suc i) h = h i (omega arith)
+
+-- the level of a character that is not reset
+abbrev pub kept_level : ℕ → List BidiClass → List ℕ → List ℕ → ℕ → ℕ
+kept_level before classes old new i = if is_removed (class_at classes i) then level_before before new i else get_or old i 0
+
+-- `new` has at i the level that L1 gives
+abbrev pub HasLineLevel : ℕ → ℕ → List BidiClass → List ℕ → List ℕ → ℕ → Type 0
+HasLineLevel level before classes old new i = get_or new i 0 ≡ (if is_reset (drop i classes) then level else kept_level before classes old new i)
+
+-- a list with these levels everywhere is the line's
+line_levels_after-is : (level before : ℕ) (classes : List BidiClass) (old new : List ℕ) → length old ≡ length classes → length new ≡ length classes
+    → ((i : ℕ) → i < length classes → HasLineLevel level before classes old new i) → new ≡ line_levels_after level before classes old
+unfolding line_levels_after
+line_levels_after-is level before [] old [] e f h = refl
+line_levels_after-is level before [] old (n ∷ new) e f h = absurd (omega arith)
+line_levels_after-is level before (c ∷ classes) [] new e f h = absurd (omega arith)
+line_levels_after-is level before (c ∷ classes) (o ∷ old) [] e f h = absurd (omega arith)
+line_levels_after-is level before (c ∷ classes) (o ∷ old) (n ∷ new) e f h =
+    let here : n ≡ (if is_reset (c ∷ classes) then level else if is_removed c then before else o) = h zero (omega arith) in
+    ap (λ (l : List ℕ). n ∷ l) (line_levels_after-is level n classes old new (omega arith) (omega arith) (later n h))
+    ∙ ap (λ (x : ℕ). x ∷ line_levels_after level x classes old) here
+  where
+    later : (n : ℕ) → ((i : ℕ) → i < suc (length classes) → HasLineLevel level before (c ∷ classes) (o ∷ old) (n ∷ new) i) → (i : ℕ) → i < length classes → HasLineLevel level n classes old new i
+    later n h zero fits = h (suc zero) (omega arith)
+    later n h (suc i) fits = h (suc (suc i)) (omega arith)
+
+pub line_levels-is : (level : ℕ) (classes : List BidiClass) (old new : List ℕ) → length old ≡ length classes → length new ≡ length classes
+    → ((i : ℕ) → i < length classes → HasLineLevel level level classes old new i) → new ≡ line_levels level classes old
+unfolding line_levels
+line_levels-is level classes old new e f h = line_levels_after-is level level classes old new e f h
+
+pub length-line_levels_after : (level before : ℕ) (classes : List BidiClass) (levels : List ℕ) → length levels ≡ length classes → length (line_levels_after level before classes levels) ≡ length classes
+unfolding line_levels_after
+length-line_levels_after level before [] levels e = refl
+length-line_levels_after level before (c ∷ classes) [] e = absurd (omega arith)
+length-line_levels_after level before (c ∷ classes) (o ∷ levels) e =
+    ap suc (length-line_levels_after level (if is_reset (c ∷ classes) then level else if is_removed c then before else o) classes levels (omega arith))
+
+pub length-line_levels : (level : ℕ) (classes : List BidiClass) (levels : List ℕ) → length levels ≡ length classes → length (line_levels level classes levels) ≡ length classes
+unfolding line_levels
+length-line_levels level classes levels e = length-line_levels_after level level classes levels e
+
+-- and the line's list has them
+line_levels_after-at : (level before : ℕ) (classes : List BidiClass) (levels : List ℕ) (i : ℕ) → i < length classes → length levels ≡ length classes
+    → HasLineLevel level before classes levels (line_levels_after level before classes levels) i
+unfolding line_levels_after
+line_levels_after-at level before [] levels i fits e = absurd (omega arith)
+line_levels_after-at level before (c ∷ classes) [] i fits e = absurd (omega arith)
+line_levels_after-at level before (c ∷ classes) (o ∷ levels) zero fits e = refl
+line_levels_after-at level before (c ∷ classes) (o ∷ levels) (suc zero) fits e =
+    line_levels_after-at level (if is_reset (c ∷ classes) then level else if is_removed c then before else o) classes levels zero (omega arith) (omega arith)
+line_levels_after-at level before (c ∷ classes) (o ∷ levels) (suc (suc i)) fits e =
+    line_levels_after-at level (if is_reset (c ∷ classes) then level else if is_removed c then before else o) classes levels (suc i) (omega arith) (omega arith)
+
+pub line_levels-at : (level : ℕ) (classes : List BidiClass) (levels : List ℕ) (i : ℕ) → i < length classes → length levels ≡ length classes
+    → HasLineLevel level level classes levels (line_levels level classes levels) i
+unfolding line_levels
+line_levels-at level classes levels i fits e = line_levels_after-at level level classes levels i fits e
+
+-- ---- a pass over the line
+
+-- The levels up to i are looked at. Those before `blank_start` are done. From there to i stand blanks, whose
+-- levels are those that stay if what follows is not reset. `before` is the level before i.
+pub record IsResetTo (level : ℕ) (classes : List BidiClass) (old new : List ℕ) (blank_start before i : ℕ) : Type 0 where
+  pub ordered : blank_start ≤ i
+  pub long : length new ≡ length old
+  pub done : (k : ℕ) → k < blank_start → HasLineLevel level level classes old new k
+  pub blank : (k : ℕ) → blank_start ≤ k → k < i → is_blank (class_at classes k) ≡ true
+  pub pending : (k : ℕ) → blank_start ≤ k → k < i → get_or new k 0 ≡ kept_level level classes old new k
+  pub rest : (k : ℕ) → i ≤ k → get_or new k 0 ≡ get_or old k 0
+  pub last : before ≡ level_before level new i
+
+pub IsResetTo-start : (level : ℕ) (classes : List BidiClass) (levels : List ℕ) → IsResetTo level classes levels levels 0 level 0
+IsResetTo-start level classes levels = record {
+  ordered = omega arith;
+  long = refl;
+  done = λ k below. absurd (omega arith);
+  blank = λ k from below. absurd (omega arith);
+  pending = λ k from below. absurd (omega arith);
+  rest = λ k from. refl;
+  last = refl;
+}
+
+-- what stays where the entries below k stay
+stays : (level : ℕ) (classes : List BidiClass) (old xs ys : List ℕ) (k : ℕ) → ((j : ℕ) → j < k → get_or xs j 0 ≡ get_or ys j 0) → kept_level level classes old xs k ≡ kept_level level classes old ys k
+stays level classes old xs ys k h = ap (λ x. if is_removed (class_at classes k) then x else get_or old k 0) (level_before-same level xs ys k h)
+
+done_stays : (level : ℕ) (classes : List BidiClass) (old xs ys : List ℕ) (k : ℕ) → ((j : ℕ) → j < suc k → get_or xs j 0 ≡ get_or ys j 0) → HasLineLevel level level classes old xs k → HasLineLevel level level classes old ys k
+done_stays level classes old xs ys k h here =
+    sym (h k (omega arith)) ∙ here ∙ ap (λ x. if is_reset (drop k classes) then level else x) (stays level classes old xs ys k (λ j below. h j (omega arith)))
+
+module _ (level : ℕ) (classes : List BidiClass) (old new : List ℕ) (blank_start before i own : ℕ) where
+  -- a removed character takes the level before it
+  pub IsResetTo-removed : i < length old → is_removed (class_at classes i) ≡ true → IsResetTo level classes old new blank_start before i → IsResetTo level classes old (set new i before) blank_start before (i + 1)
+  IsResetTo-removed fits removed h = record {
+    ordered = omega (arith, h.ordered);
+    long = length-set new i before ∙ h.long;
+    done = λ k below. done_stays level classes old new (set new i before) k (λ j under. sym (other j (omega (arith, h.ordered)))) (h.done k below);
+    blank = λ k from below. elim (cases_lt k i) [
+      | inl earlier ↦ h.blank k from earlier
+      | inr here ↦ subst (λ (n : ℕ). is_blank (class_at classes n) ≡ true) (let e : i ≡ k = omega arith in e) (is_blank-removed (class_at classes i) removed)
+    ];
+    pending = λ k from below. elim (cases_lt k i) [
+      | inl earlier ↦ other k earlier ∙ h.pending k from earlier ∙ stays level classes old new (set new i before) k (λ j under. sym (other j (omega arith)))
+      | inr here ↦ subst (λ (n : ℕ). get_or (set new i before) n 0 ≡ kept_level level classes old (set new i before) n) (let e : i ≡ k = omega arith in e) at_i
+    ];
+    rest = λ k from. later k from ∙ h.rest k (omega arith);
+    last = sym (level_before-more level (set new i before) i ∙ written);
+  }
+    where
+      inside : i < length new
+      inside = omega (arith, h.long)
+
+      written : get_or (set new i before) i 0 ≡ before
+      written = let fits : i < length new = inside in rw get_or-set_same refl
+
+      other : (k : ℕ) → k < i → get_or (set new i before) k 0 ≡ get_or new k 0
+      other k below = let ne : k ≢ i = omega arith in rw get_or-set_other refl
+
+      later : (k : ℕ) → i + 1 ≤ k → get_or (set new i before) k 0 ≡ get_or new k 0
+      later k from = let ne : k ≢ i = omega arith in rw get_or-set_other refl
+
+      at_i : get_or (set new i before) i 0 ≡ kept_level level classes old (set new i before) i
+      at_i =
+          written ∙ h.last ∙ level_before-same level new (set new i before) i (λ k below. sym (other k below))
+          ∙ sym (cond-true (is_removed (class_at classes i)) (level_before level (set new i before) i) (get_or old i 0) removed)
+
+  -- another blank keeps its level for now
+  pub IsResetTo-blank : i < length old → own ≡ get_or new i 0 → is_removed (class_at classes i) ≡ false → is_blank (class_at classes i) ≡ true → IsResetTo level classes old new blank_start before i → IsResetTo level classes old new blank_start own (i + 1)
+  IsResetTo-blank fits read kept here h = record {
+    ordered = omega (arith, h.ordered);
+    long = h.long;
+    done = h.done;
+    blank = λ k from below. elim (cases_lt k i) [
+      | inl earlier ↦ h.blank k from earlier
+      | inr same ↦ subst (λ (n : ℕ). is_blank (class_at classes n) ≡ true) (let e : i ≡ k = omega arith in e) here
+    ];
+    pending = λ k from below. elim (cases_lt k i) [
+      | inl earlier ↦ h.pending k from earlier
+      | inr same ↦ subst (λ (n : ℕ). get_or new n 0 ≡ kept_level level classes old new n) (let e : i ≡ k = omega arith in e)
+          (h.rest i (omega arith) ∙ sym (cond-false (is_removed (class_at classes i)) (level_before level new i) (get_or old i 0) kept))
+    ];
+    rest = λ k from. h.rest k (omega arith);
+    last = read ∙ sym (level_before-more level new i);
+  }
+
+  -- any other character keeps its level, and so do the blanks before it
+  pub IsResetTo-other : i < length classes → own ≡ get_or new i 0 → is_separator (class_at classes i) ≡ false → is_blank (class_at classes i) ≡ false → IsResetTo level classes old new blank_start before i → IsResetTo level classes old new (i + 1) own (i + 1)
+  IsResetTo-other fits read apart other h = record {
+    ordered = omega arith;
+    long = h.long;
+    done = λ k below. elim (cases_lt k blank_start) [
+      | inl earlier ↦ h.done k earlier
+      | inr from ↦ elim (cases_lt k i) [
+        | inl pending ↦
+            let n : k + (i - k) ≡ i = omega arith in
+            let stays : is_reset (drop k classes) ≡ false =
+            is_reset-blanks classes (i - k) k (omega arith) (λ j low high. h.blank j (omega arith) (omega arith)) ∙ ap (λ j. is_reset (drop j classes)) n ∙ is_reset-at_other classes i fits apart other in
+            h.pending k from pending ∙ sym (cond-false (is_reset (drop k classes)) level (kept_level level classes old new k) stays)
+        | inr same ↦ subst (λ (n : ℕ). HasLineLevel level level classes old new n) (let e : i ≡ k = omega arith in e)
+            (h.rest i (omega arith)
+            ∙ sym (cond-false (is_removed (class_at classes i)) (level_before level new i) (get_or old i 0) (is_removed-not_blank (class_at classes i) other))
+            ∙ sym (cond-false (is_reset (drop i classes)) level (kept_level level classes old new i) (is_reset-at_other classes i fits apart other)))
+      ]
+    ];
+    blank = λ k from below. absurd (omega arith);
+    pending = λ k from below. absurd (omega arith);
+    rest = λ k from. h.rest k (omega arith);
+    last = read ∙ sym (level_before-more level new i);
+  }
+
+-- the part from `from` to `to` of a list is written with one level
+pub record IsFilled (old new : List ℕ) (from to level : ℕ) : Type 0 where
+  pub long : length new ≡ length old
+  pub before : (k : ℕ) → k < from → get_or new k 0 ≡ get_or old k 0
+  pub inside : (k : ℕ) → from ≤ k → k < to → get_or new k 0 ≡ level
+  pub after : (k : ℕ) → to ≤ k → get_or new k 0 ≡ get_or old k 0
+
+module _ (level : ℕ) (classes : List BidiClass) (old new next : List ℕ) (blank_start before i : ℕ) where
+  -- what is before `to` is done, where the blanks are reset
+  all_done : (to : ℕ) → i ≤ to → ((k : ℕ) → blank_start ≤ k → k < to → is_reset (drop k classes) ≡ true) → IsFilled new next blank_start to level → IsResetTo level classes old new blank_start before i
+      → (k : ℕ) → k < to → HasLineLevel level level classes old next k
+  all_done to past reset f h k below = elim (cases_lt k blank_start) [
+    | inl earlier ↦ done_stays level classes old new next k (λ j under. sym (f.before j (omega arith))) (h.done k earlier)
+    | inr from ↦ f.inside k from below ∙ sym (cond-true (is_reset (drop k classes)) level (kept_level level classes old next k) (reset k from below))
+  ]
+
+  -- a separator is reset, with the blanks before it
+  pub IsResetTo-separator : i < length classes → is_separator (class_at classes i) ≡ true → IsFilled new next blank_start (i + 1) level → IsResetTo level classes old new blank_start before i → IsResetTo level classes old next (i + 1) level (i + 1)
+  IsResetTo-separator fits apart f h = record {
+    ordered = omega arith;
+    long = f.long ∙ h.long;
+    done = all_done (i + 1) (omega arith) reset f h;
+    blank = λ k from below. absurd (omega arith);
+    pending = λ k from below. absurd (omega arith);
+    rest = λ k from. f.after k from ∙ h.rest k (omega arith);
+    last = sym (level_before-more level next i ∙ f.inside i h.ordered (omega arith));
+  }
+    where
+      reset : (k : ℕ) → blank_start ≤ k → k < i + 1 → is_reset (drop k classes) ≡ true
+      reset k from below =
+          let n : k + (i - k) ≡ i = omega arith in
+          is_reset-blanks classes (i - k) k (omega arith) (λ j low high. h.blank j (omega arith) (omega arith)) ∙ ap (λ j. is_reset (drop j classes)) n ∙ is_reset-at_separator classes i fits apart
+
+  -- at the line's end the blanks are reset
+  pub IsResetTo-end : i ≡ length classes → length old ≡ length classes → IsFilled new next blank_start (length classes) level → IsResetTo level classes old new blank_start before i → next ≡ line_levels level classes old
+  IsResetTo-end e same f h = line_levels-is level classes old next same (f.long ∙ h.long ∙ same) (all_done (length classes) (omega arith) reset f h)
+    where
+      none : (xs : List BidiClass) → is_reset (drop (length xs) xs) ≡ true
+      none [] = refl
+      none (x ∷ xs) = none xs
+
+      reset : (k : ℕ) → blank_start ≤ k → k < length classes → is_reset (drop k classes) ≡ true
+      reset k from below =
+          let n : k + (length classes - k) ≡ length classes = omega arith in
+          is_reset-blanks classes (length classes - k) k (omega arith) (λ j low high. h.blank j (omega arith) (omega arith)) ∙ ap (λ j. is_reset (drop j classes)) n ∙ none classes
+
+-- ---- whether some level is odd
+
+-- a character that is not removed shows an odd level: the one handed in, or its own
+abbrev pub shows_rtl : ℕ → List BidiClass → List ℕ → ℕ → Bool
+shows_rtl level classes levels k =
+    if is_reset (drop k classes) then is_odd level else (not (is_removed (class_at classes k)) && is_odd (get_or levels k 0))
+
+module _ (level : ℕ) (classes : List BidiClass) (levels : List ℕ) (same : length levels ≡ length classes) where
+  -- one such character settles it
+  pub has_rtl-shown : (k : ℕ) → k < length classes → shows_rtl level classes levels k ≡ true → has_rtl (line_levels level classes levels) ≡ true
+  has_rtl-shown k fits e =
+      list_any_at is_odd (line_levels level classes levels) k 0 (omega (arith, length-line_levels level classes levels same))
+      (ap is_odd (line_levels-at level classes levels k fits same)
+      ∙ odd_of (is_reset (drop k classes)) (is_removed (class_at classes k)) (level_before level (line_levels level classes levels) k) (get_or levels k 0) e)
+    where
+      odd_of : (reset removed : Bool) (before own : ℕ) → (if reset then is_odd level else (not removed && is_odd own)) ≡ true → is_odd (if reset then level else if removed then before else own) ≡ true
+      odd_of true removed before own e = e
+      odd_of false true before own e = absurd (cc e)
+      odd_of false false before own e = e
+
+  -- and so does a removed one at the line's start
+  pub has_rtl-first : 0 < length classes → is_removed (class_at classes 0) ≡ true → is_odd level ≡ true → has_rtl (line_levels level classes levels) ≡ true
+  has_rtl-first some removed odd =
+      list_any_at is_odd (line_levels level classes levels) 0 0 (omega (arith, length-line_levels level classes levels same))
+      (ap is_odd (line_levels-at level classes levels 0 some same) ∙ odd_of (is_reset (drop 0 classes)) (is_removed (class_at classes 0)) removed)
+    where
+      odd_of : (reset removed : Bool) → removed ≡ true → is_odd (if reset then level else if removed then level else get_or levels 0 0) ≡ true
+      odd_of true removed e = odd
+      odd_of false true e = odd
+      odd_of false false e = absurd (cc e)
+
+  -- where there is none, no level is odd
+  pub has_rtl-none : ((k : ℕ) → k < length classes → shows_rtl level classes levels k ≡ false) → (0 < length classes → is_removed (class_at classes 0) ≡ true → is_odd level ≡ false) → has_rtl (line_levels level classes levels) ≡ false
+  has_rtl-none none start = list_any_none is_odd (line_levels level classes levels) each
+    where
+      long : length (line_levels level classes levels) ≡ length classes
+      long = length-line_levels level classes levels same
+
+      even_of : (reset removed : Bool) (before own : ℕ) → (if reset then is_odd level else (not removed && is_odd own)) ≡ false → (removed ≡ true → is_odd before ≡ false) → is_odd (if reset then level else if removed then before else own) ≡ false
+      even_of true removed before own e h = e
+      even_of false true before own e h = h refl
+      even_of false false before own e h = e
+
+      even_at : (k : ℕ) → k < length classes → is_odd (get_or (line_levels level classes levels) k 0) ≡ false
+      even_at zero fits =
+          ap is_odd (line_levels-at level classes levels zero fits same)
+          ∙ even_of (is_reset (drop zero classes)) (is_removed (class_at classes zero)) level (get_or levels zero 0) (none zero fits) (start fits)
+      even_at (suc k) fits =
+          ap is_odd (line_levels-at level classes levels (suc k) fits same)
+          ∙ even_of (is_reset (drop (suc k) classes)) (is_removed (class_at classes (suc k))) (get_or (line_levels level classes levels) k 0) (get_or levels (suc k) 0) (none (suc k) fits) (λ _. even_at k (omega arith))
+
+      each : All (λ x. is_odd x ≡ false) (line_levels level classes levels)
+      each k d fits = subst (λ (x : ℕ). is_odd x ≡ false) (get_or_default (line_levels level classes levels) k 0 d fits) (even_at k (omega (arith, long)))
+
+  -- where neither the level handed in is odd nor a stored one
+  pub has_rtl-even : is_odd level ≡ false → has_rtl levels ≡ false → has_rtl (line_levels level classes levels) ≡ false
+  has_rtl-even even stored = has_rtl-none (λ k fits. none_of (is_reset (drop k classes)) (is_removed (class_at classes k)) (is_odd level) (is_odd (get_or levels k 0)) even (own k fits)) (λ some removed. even)
+    where
+      none_of : (reset removed a b : Bool) → a ≡ false → b ≡ false → (if reset then a else (not removed && b)) ≡ false
+      none_of reset removed a b p q = grind arith
+
+      own : (k : ℕ) → k < length classes → is_odd (get_or levels k 0) ≡ false
+      own k fits = not_true (is_odd (get_or levels k 0)) (λ odd. both_ways (has_rtl levels) stored (list_any_at is_odd levels k 0 (omega (arith, same)) odd))
+        where
+          not_true : (b : Bool) → (b ≡ true → ⊥) → b ≡ false
+          not_true true h = absurd (h refl)
+          not_true false h = refl
+
+  -- what the last test says, once no character shows an odd level
+  pub has_rtl-end : (first : Bool) → ((k : ℕ) → k < length classes → shows_rtl level classes levels k ≡ false)
+      → first ≡ (is_odd level && (nat_lt 0 (length classes) && is_removed (class_at classes 0))) → first ≡ has_rtl (line_levels level classes levels)
+  has_rtl-end first none e = by (is_odd level) (nat_lt 0 (length classes)) (is_removed (class_at classes 0)) refl refl refl
+    where
+      by : (a b c : Bool) → is_odd level ≡ a → nat_lt 0 (length classes) ≡ b → is_removed (class_at classes 0) ≡ c → first ≡ has_rtl (line_levels level classes levels)
+      by true true true p q r = e ∙ all_true (is_odd level) (nat_lt 0 (length classes)) (is_removed (class_at classes 0)) p q r ∙ sym (has_rtl-first (ltb-true 0 (length classes) q) r p)
+        where
+          all_true : (a b c : Bool) → a ≡ true → b ≡ true → c ≡ true → (a && (b && c)) ≡ true
+          all_true a b c p q r = grind arith
+      by false b c p q r = e ∙ left (is_odd level) (nat_lt 0 (length classes) && is_removed (class_at classes 0)) p ∙ sym (has_rtl-none none (λ some removed. p))
+        where
+          left : (a b : Bool) → a ≡ false → (a && b) ≡ false
+          left a b p = grind arith
+      by true false c p q r = e ∙ middle (is_odd level) (nat_lt 0 (length classes)) (is_removed (class_at classes 0)) q ∙ sym (has_rtl-none none (λ some removed. absurd (omega (arith, ltb-false 0 (length classes) q))))
+        where
+          middle : (a b c : Bool) → b ≡ false → (a && (b && c)) ≡ false
+          middle a b c p = grind arith
+      by true true false p q r = e ∙ right (is_odd level) (nat_lt 0 (length classes)) (is_removed (class_at classes 0)) r ∙ sym (has_rtl-none none (λ some removed. absurd (both_ways (is_removed (class_at classes 0)) r removed)))
+        where
+          right : (a b c : Bool) → c ≡ false → (a && (b && c)) ≡ false
+          right a b c p = grind arith
+
+-- ---- a pass from the line's end
+
+-- the units from `at` on are looked at: none shows an odd level
+pub record IsQuietFrom (level : ℕ) (classes : List BidiClass) (levels : List ℕ) (reset : Bool) (at : ℕ) : Type 0 where
+  pub within : at ≤ length classes
+  pub reset_next : reset ≡ is_reset (drop at classes)
+  pub none : (k : ℕ) → at ≤ k → k < length classes → shows_rtl level classes levels k ≡ false
+
+module _ (level : ℕ) (classes : List BidiClass) (levels : List ℕ) where
+  pub IsQuietFrom-start : IsQuietFrom level classes levels true (length classes)
+  IsQuietFrom-start = record { within = omega arith; reset_next = sym (at_end classes); none = λ k from below. absurd (omega arith) }
+    where
+      at_end : (xs : List BidiClass) → is_reset (drop (length xs) xs) ≡ true
+      at_end [] = refl
+      at_end (x ∷ xs) = at_end xs
+
+  -- the unit before it
+  pub reset-before : (at : ℕ) (next reset : Bool) → at < length classes → next ≡ is_reset (drop (at + 1) classes) → reset ≡ (is_separator (class_at classes at) || (is_blank (class_at classes at) && next)) → reset ≡ is_reset (drop at classes)
+  reset-before at next reset fits e f =
+      f ∙ ap (λ r. is_separator (class_at classes at) || (is_blank (class_at classes at) && r)) (e ∙ ap (λ n. is_reset (drop n classes)) (let n : at + 1 ≡ suc at = omega arith in n))
+      ∙ sym (ap is_reset (drop-cons classes at L fits))
+
+  -- what is read at a unit
+  pub shows_rtl-at : (at : ℕ) (reset shows : Bool) (own : ℕ) → reset ≡ is_reset (drop at classes) → own ≡ get_or levels at 0
+      → shows ≡ (if reset then is_odd level else (not (is_removed (class_at classes at)) && is_odd own)) → shows ≡ shows_rtl level classes levels at
+  shows_rtl-at at reset shows own e f g =
+      g ∙ ap₂ (λ r x. if r then is_odd level else (not (is_removed (class_at classes at)) && is_odd x)) e f
+
+  pub IsQuietFrom-more : (at : ℕ) (next reset : Bool) → at < length classes → reset ≡ is_reset (drop at classes) → shows_rtl level classes levels at ≡ false → IsQuietFrom level classes levels next (at + 1) → IsQuietFrom level classes levels reset at
+  IsQuietFrom-more at next reset fits e here h = record { within = omega arith; reset_next = e; none = each }
+    where
+      each : (k : ℕ) → at ≤ k → k < length classes → shows_rtl level classes levels k ≡ false
+      each k from below = elim (cases_lt at k) [
+        | inl past ↦ h.none k (omega arith) below
+        | inr same ↦ subst (λ (n : ℕ). shows_rtl level classes levels n ≡ false) (let e : at ≡ k = omega arith in e) here
+      ]

@@ -1,0 +1,127 @@
+-- Lists made of pieces: what holds of each pair in them, and their permutations.
+use Rattle.std.proofs.Common.{◌≡◌, ℕ, zero, suc, ◌+◌, ◌-◌, ◌<◌, ◌≤◌, List, [], ◌∷◌, ◌++◌, map, flat_map, reverse, length, get_or, swap, set, AllPairs, All, refl, ap, ◌∙◌, arith, append_assoc}
+use Rattle.std.specs.List.{range_with_len}
+use Rattle.std.specs.List.Sorted.{IsPermutation}
+use Rattle.std.proofs.lemmas.List.{get_or-reverse, length-reverse}
+use Rattle.std.proofs.lemmas.List.Elements.{All-append, All-head, All-tail}
+use Rattle.std.proofs.lemmas.List.Kept.{AllPairs-cons}
+use Rattle.std.proofs.lemmas.List.FromFn.{length-range_with_len, get_or-range_with_len}
+use Rattle.std.proofs.lemmas.List.Sorted.{IsPermutation-refl, IsPermutation-sym, IsPermutation-keeps, IsPermutation-trans, IsPermutation-append, IsPermutation-append_left, IsPermutation-append_right, IsPermutation-append_comm}
+use Rattle.bidi_base.specs.Places.{between, at_places}
+
+module _ {X : Type 0} (R : X → X → Type 0) where
+  pub AllPairs-tail : (x : X) (xs : List X) → AllPairs R (x ∷ xs) → AllPairs R xs
+  AllPairs-tail x xs h i j d before fits = h (suc i) (suc j) d (omega arith) (omega arith)
+
+  pub AllPairs-head : (x : X) (xs : List X) → AllPairs R (x ∷ xs) → All (R x) xs
+  AllPairs-head x xs h k d fits = h zero (suc k) d (omega arith) (omega arith)
+
+  pub AllPairs-append : (xs ys : List X) → AllPairs R xs → AllPairs R ys → All (λ x. All (R x) ys) xs → AllPairs R (xs ++ ys)
+  AllPairs-append [] ys h k across = k
+  AllPairs-append (x ∷ xs) ys h k across =
+      AllPairs-cons R x (xs ++ ys) (All-append (R x) xs ys (AllPairs-head x xs h) (All-head (λ x. All (R x) ys) x xs across))
+      (AllPairs-append xs ys (AllPairs-tail x xs h) k (All-tail (λ x. All (R x) ys) x xs across))
+
+  pub AllPairs-map : {Y : Type 0} (f : Y → X) (ys : List Y) → AllPairs (λ a b. R (f a) (f b)) ys → AllPairs R (map f ys)
+  AllPairs-map f [] h = λ i j d before fits. absurd (omega arith)
+  AllPairs-map {Y} f (y ∷ ys) h =
+      AllPairs-cons R (f y) (map f ys) (each ys (λ k d fits. h zero (suc k) d (omega arith) (omega arith)))
+      (AllPairs-map f ys (λ i j d before fits. h (suc i) (suc j) d (omega arith) (omega arith)))
+    where
+      each : (zs : List Y) → All (λ z. R (f y) (f z)) zs → All (R (f y)) (map f zs)
+      each [] a k d fits = absurd (omega arith)
+      each (z ∷ zs) a zero d fits = a zero z (omega arith)
+      each (z ∷ zs) a (suc k) d fits = each zs (λ m e b. a (suc m) e (omega arith)) k d (omega arith)
+
+  pub AllPairs-reverse : (xs : List X) → AllPairs (λ a b. R b a) xs → AllPairs R (reverse xs)
+  AllPairs-reverse xs h i j d before fits =
+      let long : length (reverse xs) ≡ length xs = length-reverse xs in
+      rw (get_or-reverse xs i d (omega arith), get_or-reverse xs j d (omega arith))
+      (h (length xs - 1 - j) (length xs - 1 - i) d (omega arith) (omega arith))
+
+pub All-flat_map : {A X : Type 0} (P : X → Type 0) (f : A → List X) (parts : List A) → All (λ a. All P (f a)) parts → All P (flat_map f parts)
+All-flat_map P f [] h = λ k d fits. absurd (omega arith)
+All-flat_map P f (a ∷ parts) h = All-append P (f a) (flat_map f parts) (All-head (λ a. All P (f a)) a parts h) (All-flat_map P f parts (All-tail (λ a. All P (f a)) a parts h))
+
+-- pieces in order, one before the other
+pub AllPairs-flat_map : {A X : Type 0} (R : X → X → Type 0) (f : A → List X) (parts : List A)
+    → All (λ a. AllPairs R (f a)) parts → AllPairs (λ a b. All (λ x. All (R x) (f b)) (f a)) parts → AllPairs R (flat_map f parts)
+AllPairs-flat_map R f [] each across = λ i j d before fits. absurd (omega arith)
+AllPairs-flat_map {A} {X} R f (a ∷ parts) each across =
+    AllPairs-append R (f a) (flat_map f parts) (All-head (λ a. AllPairs R (f a)) a parts each)
+    (AllPairs-flat_map R f parts (All-tail (λ a. AllPairs R (f a)) a parts each) (AllPairs-tail (λ a b. All (λ x. All (R x) (f b)) (f a)) a parts across))
+    first
+  where
+    first : All (λ x. All (R x) (flat_map f parts)) (f a)
+    first k d fits = All-flat_map (R (get_or (f a) k d)) f parts (λ j e inside. across zero (suc j) e (omega arith) (omega arith) k d fits)
+
+-- the numbers from a up to b
+pub length-between : (a b : ℕ) → length (between a b) ≡ b - a
+length-between a b = length-range_with_len a (b - a)
+
+pub get_or-between : (a b k d : ℕ) → k < b - a → get_or (between a b) k d ≡ a + k
+get_or-between a b k d fits = get_or-range_with_len a (b - a) k d fits
+
+pub All-between : (P : ℕ → Type 0) (a b : ℕ) → ((u : ℕ) → a ≤ u → u < b → P u) → All P (between a b)
+All-between P a b h k d fits =
+    let long : length (between a b) ≡ b - a = length-between a b in
+    rw (get_or-between a b k d (omega arith)) (h (a + k) (omega arith) (omega arith))
+
+pub AllPairs-between : (R : ℕ → ℕ → Type 0) (a b : ℕ) → ((u w : ℕ) → a ≤ u → u < w → w < b → R u w) → AllPairs R (between a b)
+AllPairs-between R a b h i j d before fits =
+    let long : length (between a b) ≡ b - a = length-between a b in
+    rw (get_or-between a b i d (omega arith), get_or-between a b j d (omega arith)) (h (a + i) (a + j) (omega arith) (omega arith) (omega arith))
+
+range-append : (a m n b : ℕ) → a + m ≡ b → range_with_len a m ++ range_with_len b n ≡ range_with_len a (m + n)
+range-append a zero n b e =
+    let same : b ≡ a = omega arith in
+    let none : zero + n ≡ n = omega arith in
+    rw (same, none) refl
+range-append a (suc m) n b e =
+    let more : suc m + n ≡ suc (m + n) = omega arith in
+    rw more (ap {B = List ℕ} (λ l. a ∷ l) (range-append (a + 1) m n b (omega arith)))
+
+pub between-append : (a b c : ℕ) → a ≤ b → b ≤ c → between a b ++ between b c ≡ between a c
+between-append a b c h k =
+    let all : (b - a) + (c - b) ≡ c - a = omega arith in
+    range-append a (b - a) (c - b) b (omega arith) ∙ ap (range_with_len a) all
+
+-- the elements at places
+pub at_places-map : {X : Type 0} (d : X) (xs : List X) (ps : List ℕ) → at_places d xs ps ≡ map (λ p. get_or xs p d) ps
+at_places-map d xs [] = refl
+at_places-map d xs (p ∷ ps) = ap (λ l. get_or xs p d ∷ l) (at_places-map d xs ps)
+
+-- ---- permutations
+
+-- a, b and what follows, with b first
+two_fronts : {B : Type 0} (a b rest : List B) → IsPermutation (a ++ (b ++ rest)) (b ++ (a ++ rest))
+two_fronts a b rest = rw (← append_assoc a b rest, ← append_assoc b a rest) (IsPermutation-append_left rest (a ++ b) (b ++ a) (IsPermutation-append_comm a b))
+
+-- one piece in the place of another
+IsPermutation-flat_map-set : {A B : Type 0} (f : A → List B) (xs : List A) (i : ℕ) (x d : A) → i < length xs → IsPermutation (f (get_or xs i d) ++ flat_map f (set xs i x)) (f x ++ flat_map f xs)
+IsPermutation-flat_map-set f [] i x d fits = absurd (omega arith)
+IsPermutation-flat_map-set f (y ∷ xs) zero x d fits = two_fronts (f y) (f x) (flat_map f xs)
+IsPermutation-flat_map-set f (y ∷ xs) (suc i) x d fits =
+    IsPermutation-trans _ _ _ (two_fronts (f (get_or xs i d)) (f y) (flat_map f (set xs i x)))
+    (IsPermutation-trans _ _ _ (IsPermutation-append_right (f y) _ _ (IsPermutation-flat_map-set f xs i x d (omega arith))) (two_fronts (f y) (f x) (flat_map f xs)))
+
+-- two pieces in each other's place
+IsPermutation-flat_map-swap : {A B : Type 0} (f : A → List B) (xs : List A) (i j : ℕ) (d : A) → i < length xs → j < length xs → IsPermutation (flat_map f xs) (flat_map f (set (set xs i (get_or xs j d)) j (get_or xs i d)))
+IsPermutation-flat_map-swap f [] i j d fits fits' = absurd (omega arith)
+IsPermutation-flat_map-swap f (x ∷ xs) zero zero d fits fits' = IsPermutation-refl _
+IsPermutation-flat_map-swap f (x ∷ xs) zero (suc j) d fits fits' = IsPermutation-sym _ _ (IsPermutation-flat_map-set f xs j x d (omega arith))
+IsPermutation-flat_map-swap f (x ∷ xs) (suc i) zero d fits fits' = IsPermutation-sym _ _ (IsPermutation-flat_map-set f xs i x d (omega arith))
+IsPermutation-flat_map-swap f (x ∷ xs) (suc i) (suc j) d fits fits' = IsPermutation-append_right (f x) _ _ (IsPermutation-flat_map-swap f xs i j d (omega arith) (omega arith))
+
+-- pieces in another order
+pub IsPermutation-flat_map : {A B : Type 0} (f : A → List B) (xs ys : List A) → IsPermutation xs ys → IsPermutation (flat_map f xs) (flat_map f ys)
+IsPermutation-flat_map {A} f xs ys h = IsPermutation-keeps xs (λ l. IsPermutation (flat_map f xs) (flat_map f l)) (IsPermutation-refl (flat_map f xs)) step ys h
+  where
+    step : (l : List A) (i j : ℕ) → i < length l → j < length l → IsPermutation (flat_map f xs) (flat_map f l) → IsPermutation (flat_map f xs) (flat_map f (swap l i j))
+    step [] i j fits fits' k = k
+    step (d ∷ l) i j fits fits' k = IsPermutation-trans _ _ _ k (IsPermutation-flat_map-swap f (d ∷ l) i j d fits fits')
+
+-- and each piece in another order
+pub IsPermutation-flat_map_each : {A B : Type 0} (f g : A → List B) → ((x : A) → IsPermutation (f x) (g x)) → (xs : List A) → IsPermutation (flat_map f xs) (flat_map g xs)
+IsPermutation-flat_map_each f g each [] = IsPermutation-refl []
+IsPermutation-flat_map_each f g each (x ∷ xs) = IsPermutation-append (f x) (g x) (flat_map f xs) (flat_map g xs) (each x) (IsPermutation-flat_map_each f g each xs)

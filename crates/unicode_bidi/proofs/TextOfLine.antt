@@ -1,0 +1,119 @@
+-- A line of a text whose classes and levels are one a unit, equal within each character: its levels, its runs and its text are those of its characters.
+use Rattle.std.proofs.Common.{◌≡◌, ℕ, ◌+◌, ◌-◌, ◌<◌, ◌≤◌, List, length, get_or, map, flat_map, All, sym, ap, ap₂, subst, ◌∙◌, arith, false}
+use Rattle.std.specs.Prelude.{slice_range}
+use Rattle.std.specs.declared.ops.Range.{Range}
+use Rattle.std.proofs.lemmas.List.{get_or-map, length-map}
+use Rattle.bidi_base.specs.declared.char_data.BidiClass.{BidiClass}
+use Rattle.bidi_base.specs.declared.char_data.BidiClass.TheVariants.{L}
+use Rattle.bidi_base.specs.Display.{Run, run_of, run_text_in, visual_runs, reordered_text, line_text, IsLevelRun, AreVisualRuns}
+use Rattle.bidi_base.specs.Levels.{is_odd, has_rtl}
+use Rattle.bidi_base.specs.Line.{line_levels, levels_of_line}
+use Rattle.bidi_base.specs.Text.{place, text_len, char_index, subrange, per_unit, per_char, IsLine, IsPerChar}
+use Rattle.bidi_base.proofs.TextLemmas.{HasUnits}
+use Rattle.bidi_base.proofs.PlaceLemmas.{place-le, place-end, place-slice_range, line_places, text_len-subrange, IsLineAt, IsLine-places}
+use Rattle.bidi_base.proofs.PerUnit.{length-per_char}
+use Rattle.bidi_base.proofs.UnitsLemmas.{per_unit-from_IsPerChar, length-from_IsPerChar}
+use Rattle.unicode_bidi.proofs.CharRuns.{units_of, place_from, visual_runs-units}
+use Rattle.unicode_bidi.proofs.LineInText.{length-part, length-line, slice_range-per_unit, line_levels-per_unit, list_any-per_unit}
+use Rattle.unicode_bidi.proofs.LineText.{reordered_text-line}
+use Rattle.unicode_bidi.proofs.Ordered.{none_odd}
+use Rattle.unicode_bidi.proofs.RunText.{reordered_text-still}
+use Rattle.unicode_bidi.proofs.VisualRuns.{visual_runs-are}
+
+-- each run is a level run, where it begins
+pub runs_begin : (start : ℕ) (levels : List ℕ) (ranges : List (Range ℕ)) → AreVisualRuns start levels (map run_of ranges)
+    → All (λ r. (start ≤ r.start) × (r.start < start + length levels)) ranges
+runs_begin start levels ranges h k d fits =
+    let long : length (map run_of ranges) ≡ length ranges = length-map ranges run_of in
+    let here : IsLevelRun start levels (run_of (get_or ranges k d)) = subst (IsLevelRun start levels) (get_or-map run_of ranges k d (0, 0) fits) (h.are_runs k (0, 0) (omega arith)) in
+    (here.starts_within, omega (arith, here.not_empty, here.ends_within))
+
+-- the text of `len_of` and `chars`, and one class and one level a unit
+module _ (len_of : ℕ → ℕ) (h : HasUnits len_of) (chars : List ℕ) (level : ℕ) (classes : List BidiClass) (levels : List ℕ) (start end : ℕ)
+    (of_classes : IsPerChar len_of chars classes) (of_levels : IsPerChar len_of chars levels) (line : IsLine len_of chars start end) where
+  ends : IsLineAt len_of h chars start end (char_index len_of chars start) (char_index len_of chars end)
+  ends = line_places len_of h chars start end line
+
+  pub line-same_len : length levels ≡ length classes
+  line-same_len = length-from_IsPerChar len_of chars levels of_levels ∙ sym (length-from_IsPerChar len_of chars classes of_classes)
+
+  pub line-within : end ≤ length levels
+  line-within = omega (arith, ends.ends, place-le len_of chars (char_index len_of chars end), length-from_IsPerChar len_of chars levels of_levels)
+
+  pub length-levels_of_line : length (levels_of_line level classes levels start end) ≡ end - start
+  length-levels_of_line = length-line level classes levels start end line-same_len line.ordered line-within
+
+  -- the levels of the line's characters
+  abbrev of_chars : List ℕ
+  of_chars = levels_of_line level (per_char L len_of chars classes) (per_char 0 len_of chars levels) (char_index len_of chars start) (char_index len_of chars end)
+
+  part_long : {X : Type 0} (values : List X) → length values ≡ length chars → length (slice_range values (char_index len_of chars start) (char_index len_of chars end)) ≡ length (subrange len_of chars start end)
+  part_long values e =
+      length-part values (char_index len_of chars start) (char_index len_of chars end) (omega (arith, ends.within))
+      ∙ sym (length-part chars (char_index len_of chars start) (char_index len_of chars end) ends.within)
+
+  length-of_chars : length of_chars ≡ char_index len_of chars end - char_index len_of chars start
+  length-of_chars =
+      length-line level (per_char L len_of chars classes) (per_char 0 len_of chars levels) (char_index len_of chars start) (char_index len_of chars end)
+      (length-per_char 0 len_of chars levels ∙ sym (length-per_char L len_of chars classes)) ends.ordered (omega (arith, ends.within, length-per_char 0 len_of chars levels))
+
+  -- L1 on the line's units is L1 on its characters
+  pub levels_of_line-per_unit : levels_of_line level classes levels start end
+      ≡ per_unit len_of (subrange len_of chars start end) (levels_of_line level (per_char L len_of chars classes) (per_char 0 len_of chars levels) (char_index len_of chars start) (char_index len_of chars end))
+  levels_of_line-per_unit =
+      ap₂ (λ ks ls. levels_of_line level ks ls start end) (per_unit-from_IsPerChar L len_of h chars classes of_classes) (per_unit-from_IsPerChar 0 len_of h chars levels of_levels)
+      ∙ ap₂ (levels_of_line level (per_unit len_of chars (per_char L len_of chars classes)) (per_unit len_of chars (per_char 0 len_of chars levels))) ends.begins ends.ends
+      ∙ ap₂ (line_levels level)
+      (slice_range-per_unit len_of chars (per_char L len_of chars classes) (char_index len_of chars start) (char_index len_of chars end) ends.ordered ends.within (length-per_char L len_of chars classes))
+      (slice_range-per_unit len_of chars (per_char 0 len_of chars levels) (char_index len_of chars start) (char_index len_of chars end) ends.ordered ends.within (length-per_char 0 len_of chars levels))
+      ∙ line_levels-per_unit len_of h level (subrange len_of chars start end)
+      (slice_range (per_char L len_of chars classes) (char_index len_of chars start) (char_index len_of chars end))
+      (slice_range (per_char 0 len_of chars levels) (char_index len_of chars start) (char_index len_of chars end))
+      (part_long (per_char L len_of chars classes) (length-per_char L len_of chars classes)) (part_long (per_char 0 len_of chars levels) (length-per_char 0 len_of chars levels))
+
+  of_chars_long : length of_chars ≡ length (subrange len_of chars start end)
+  of_chars_long = length-of_chars ∙ sym (length-part chars (char_index len_of chars start) (char_index len_of chars end) ends.within)
+
+  -- the ends of the runs cut no character
+  pub runs_at_boundaries : (ranges : List (Range ℕ)) → map run_of ranges ≡ visual_runs start (levels_of_line level classes levels start end) → All (λ r. IsLine len_of chars r.start r.end) ranges
+  runs_at_boundaries ranges e k d fits =
+      let long : length (map run_of ranges) ≡ length ranges = length-map ranges run_of in
+      let same : map run_of ranges ≡ map (units_of (place_from start len_of (subrange len_of chars start end))) (visual_runs 0 of_chars) =
+      e ∙ ap (visual_runs start) levels_of_line-per_unit ∙ visual_runs-units start len_of h (subrange len_of chars start end) of_chars of_chars_long in
+      let runs : AreVisualRuns 0 of_chars (visual_runs 0 of_chars) = visual_runs-are 0 of_chars in
+      let inside : k < length (visual_runs 0 of_chars) = omega (arith, ap length same, length-map (visual_runs 0 of_chars) (units_of (place_from start len_of (subrange len_of chars start end)))) in
+      let r : Run = get_or (visual_runs 0 of_chars) k (0, 0) in
+      let here : IsLevelRun 0 of_chars r = runs.are_runs k (0, 0) inside in
+      let ends_here : char_index len_of chars start + r.1 ≤ char_index len_of chars end = omega (arith, here.ends_within, length-of_chars, ends.ordered) in
+      let there : run_of (get_or ranges k d) ≡ units_of (place_from start len_of (subrange len_of chars start end)) r =
+      sym (get_or-map run_of ranges k d (0, 0) fits) ∙ ap (λ (l : List Run). get_or l k (0, 0)) same ∙ get_or-map (units_of (place_from start len_of (subrange len_of chars start end))) (visual_runs 0 of_chars) k (0, 0) (0, 0) inside in
+      let at : (n : ℕ) → char_index len_of chars start + n ≤ char_index len_of chars end → place_from start len_of (subrange len_of chars start end) n ≡ place len_of chars (char_index len_of chars start + n) =
+      λ n fits. omega (arith, ends.begins, place-slice_range len_of chars (char_index len_of chars start) (char_index len_of chars end) n fits ends.within) in
+      let begin : (get_or ranges k d).start ≡ place len_of chars (char_index len_of chars start + r.0) = ap (λ (q : Run). q.0) there ∙ at r.0 (omega (arith, here.not_empty, ends_here)) in
+      let stop : (get_or ranges k d).end ≡ place len_of chars (char_index len_of chars start + r.1) = ap (λ (q : Run). q.1) there ∙ at r.1 ends_here in
+      subst (λ (a : ℕ). IsLine len_of chars a (get_or ranges k d).end) (sym begin)
+      (subst (λ (b : ℕ). IsLine len_of chars (place len_of chars (char_index len_of chars start + r.0)) b) (sym stop)
+      (IsLine-places len_of chars (char_index len_of chars start + r.0) (char_index len_of chars start + r.1) (omega (arith, here.not_empty))))
+
+  -- the runs, written one after the other, are the text of the line
+  pub flat_map-runs : (encode : ℕ → List ℕ) (units : List ℕ) (runs : List Run) → length units ≡ text_len len_of chars → runs ≡ visual_runs start (levels_of_line level classes levels start end)
+      → flat_map (run_text_in len_of encode chars units start (levels_of_line level classes levels start end)) runs
+      ≡ line_text len_of encode chars units level (per_char L len_of chars classes) (per_char 0 len_of chars levels) start end
+  unfolding line_text
+  flat_map-runs encode units runs long e =
+      ap (flat_map (run_text_in len_of encode chars units start (levels_of_line level classes levels start end))) e
+      ∙ ap (λ (ls : List ℕ). flat_map (run_text_in len_of encode chars units start ls) (visual_runs start ls)) levels_of_line-per_unit
+      ∙ ap (λ (u : ℕ). flat_map (run_text_in len_of encode chars units u (per_unit len_of (subrange len_of chars start end) of_chars)) (visual_runs u (per_unit len_of (subrange len_of chars start end) of_chars))) ends.begins
+      ∙ sym (reordered_text-line len_of h encode chars units of_chars (char_index len_of chars start) (char_index len_of chars end) ends.ordered ends.within
+      (long ∙ sym (place-end len_of chars (length chars) (omega arith))) length-of_chars)
+      ∙ ap₂ (λ (a b : ℕ). reordered_text len_of encode (subrange len_of chars start end) (slice_range units a b) of_chars) (sym ends.begins) (sym ends.ends)
+
+  -- where no level is odd the text stays as it is
+  pub line_text-still : (encode : ℕ → List ℕ) (units : List ℕ) → length units ≡ text_len len_of chars → has_rtl (levels_of_line level classes levels start end) ≡ false
+      → line_text len_of encode chars units level (per_char L len_of chars classes) (per_char 0 len_of chars levels) start end ≡ slice_range units start end
+  unfolding line_text
+  line_text-still encode units long even =
+      let within : end ≤ length units = omega (arith, long, line-within, length-from_IsPerChar len_of chars levels of_levels) in
+      reordered_text-still len_of encode (subrange len_of chars start end) (slice_range units start end) of_chars of_chars_long
+      (length-part units start end within ∙ sym (text_len-subrange len_of h chars start end line))
+      (none_odd of_chars (sym (ap has_rtl levels_of_line-per_unit ∙ list_any-per_unit is_odd len_of h (subrange len_of chars start end) of_chars of_chars_long) ∙ even))

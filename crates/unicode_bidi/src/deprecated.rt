@@ -1,0 +1,25 @@
+//! Calls for users of older versions.
+
+ghost use Rattle.std.specs.Prelude.{◌≡◌, ◌<◌, ◌≤◌, length, slice_range, IfOk, map};
+ghost use Rattle.bidi_base.specs.Display.{run_of, visual_runs as visual_runs_from, AreVisualRuns};
+
+use crate::visual_runs::visual_runs_of;
+use bidi_base::level::Level;
+use std::alloc::{AllocError, Global};
+use std::ops::Range;
+
+/// The level runs of a line (BD7), in units of the text, from left to right by L2. `levels` has one
+/// level for each unit of the text, of which the line is a part that is not empty. They are taken as
+/// they are, without L1: `visual_runs` of `BidiInfo` applies it.
+pub fn visual_runs(
+    alloc: Global,
+    line: Range<usize>,
+    levels: &[Level],
+) -> Result<Vec<Range<usize>>, AllocError>
+    requires not_empty { line.start < line.end }
+    requires within { line.end ≤ length levels.now }
+    ensures runs { IfOk result (λ v. map run_of v.items ≡ visual_runs_from line.start (slice_range levels.now line.start line.end)) }
+    ensures visual { IfOk result (λ v. AreVisualRuns line.start (slice_range levels.now line.start line.end) (map run_of v.items)) }
+{
+    visual_runs_of(alloc, &levels[line.start..line.end], line.start)
+}

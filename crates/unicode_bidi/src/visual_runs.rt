@@ -1,0 +1,81 @@
+// The visual runs of a line (L2).
+ghost use Rattle.std.specs.Prelude.{◌≡◌, ◌+◌, ◌<◌, ◌≤◌, length, IfOk, All, map};
+ghost use Rattle.bidi_base.specs.Display.{run_of, level_runs, run_level, visual_runs, AreVisualRuns};
+ghost use Rattle.bidi_base.specs.Places.{at_places};
+
+use crate::visual::{reorder_visual, run_end};
+use bidi_base::level::{Level, has_rtl};
+use std::alloc::{AllocError, Global};
+use std::ops::Range;
+
+// The level runs of a line that starts at the unit `start`, upwards.
+fn runs_upwards(
+    alloc: Global,
+    levels: &[Level],
+    start: usize,
+) -> Result<Vec<Range<usize>>, AllocError>
+    requires { start + length levels.now ≤ usize.MAX }
+    ensures { IfOk result (λ v. map run_of v.items ≡ level_runs start levels.now) }
+{
+    let mut runs = Vec::new(alloc);
+    let mut at = 0;
+    while at < levels.len() {
+        let end = run_end(levels, at);
+        runs.push(start + at..start + end)?;
+        at = end;
+    }
+    Ok(runs)
+}
+
+// The level of each run.
+fn levels_of_runs(
+    alloc: Global,
+    levels: &[Level],
+    start: usize,
+    runs: &[Range<usize>],
+) -> Result<Vec<Level>, AllocError>
+    requires { All (λ r. start ≤ r.start × r.start < start + length levels.now) runs.now }
+    ensures { IfOk result (λ v. v.items ≡ map (run_level start levels.now) (map run_of runs.now)) }
+{
+    let mut of_runs = Vec::with_capacity(alloc, runs.len())?;
+    for run in runs {
+        of_runs.push(levels[run.start - start])?;
+    }
+    Ok(of_runs)
+}
+
+// The runs at these indexes.
+fn runs_at(
+    alloc: Global,
+    runs: &[Range<usize>],
+    order: &[usize],
+) -> Result<Vec<Range<usize>>, AllocError>
+    requires { All (λ k. k < length runs.now) order.now }
+    ensures { IfOk result (λ v. map run_of v.items ≡ at_places (0, 0) (map run_of runs.now) order.now) }
+{
+    let mut ordered = Vec::with_capacity(alloc, order.len())?;
+    for k in order {
+        ordered.push(runs[*k].start..runs[*k].end)?;
+    }
+    Ok(ordered)
+}
+
+// The level runs of a line that starts at the unit `start`, from left to right. The levels are those
+// of the line's units after L1.
+pub(crate) fn visual_runs_of(
+    alloc: Global,
+    levels: &[Level],
+    start: usize,
+) -> Result<Vec<Range<usize>>, AllocError>
+    requires { start + length levels.now ≤ usize.MAX }
+    ensures runs { IfOk result (λ v. map run_of v.items ≡ visual_runs start levels.now) }
+    ensures visual { IfOk result (λ v. AreVisualRuns start levels.now (map run_of v.items)) }
+{
+    let runs = runs_upwards(alloc, levels, start)?;
+    let of_runs = levels_of_runs(alloc, levels, start, runs.as_slice())?;
+    if !has_rtl(of_runs.as_slice()) {
+        return Ok(runs);
+    }
+    let order = reorder_visual(alloc, of_runs.as_slice())?;
+    runs_at(alloc, runs.as_slice(), order.as_slice())
+}
