@@ -8,6 +8,8 @@ pub mod ExplicitLemmas
 pub mod GivesLemmas
 pub mod InPlace
 pub mod IsolatesLemmas
+pub mod LevelTableLemmas
+pub mod LevelsInLemmas
 pub mod LevelsLemmas
 pub mod MatchingLemmas
 pub mod OpenMatches
@@ -20,10 +22,13 @@ pub mod PermutationLemmas
 pub mod PlaceLemmas
 pub mod PlacesLemmas
 pub mod ReadStack
+pub mod ResolvedLemmas
 pub mod RunsLemmas
+pub mod SequencePlaces
 pub mod SequencesLemmas
 pub mod StatusBounds
 pub mod StatusMachine
+pub mod StoredLemmas
 pub mod StrLemmas
 pub mod SuccessorLemmas
 pub mod TableLemmas
