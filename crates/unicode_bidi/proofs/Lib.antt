@@ -6,3 +6,4 @@ pub mod Passes
 pub mod Reversed
 pub mod Stretches
 pub mod Turning
+pub mod Written

@@ -2,6 +2,7 @@
 #![tactic(auto)]
 
 mod info;
+mod paragraph_levels;
 mod visual;
 
 pub use bidi_base::char_data::BidiClass;
