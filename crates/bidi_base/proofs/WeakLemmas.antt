@@ -1,29 +1,14 @@
 -- The classes that W1 to W7 leave: of kept classes, those with a direction and the neutrals.
-use Rattle.std.proofs.Common.{◌≡◌, Bool, true, false, not, ◌&&◌, ◌||◌, cond, List, [], ◌∷◌, map, refl, ap, ◌∙◌, inl, inr}
+use Rattle.std.proofs.Common.{◌≡◌, Bool, true, false, not, ◌&&◌, ◌||◌, cond, List, [], ◌∷◌, refl, ap, ◌∙◌, inl, inr}
 use Rattle.std.specs.List.{list_all}
 use Rattle.std.proofs.lemmas.Bool.{cases_Bool, and_parts, and_from, cond-true, cond-false}
 use Rattle.bidi_base.specs.declared.char_data.BidiClass.{BidiClass}
 use Rattle.bidi_base.specs.declared.char_data.BidiClass.TheVariants.{L, R, AL, EN, ES, ET, AN, CS, NSM, LRI, RLI, FSI, PDI}
 use Rattle.bidi_base.specs.Classes.{is_kept, is_nsm, is_al, is_en, is_et, is_l, is_l_or_r, is_strong, is_weak_resolved}
-use Rattle.bidi_base.specs.Places.{nearest, nearest_is, in_context}
+use Rattle.bidi_base.specs.Places.{nearest, nearest_is}
 use Rattle.bidi_base.specs.Weak.{carried, w1_rule, w2_rule, w3_rule, w4_rule, w5_rule, w6_rule, w7_rule, w1, w2, w3, w4, w5, w6, weak_classes}
+use Rattle.bidi_base.proofs.ContextLemmas.{list_all-in_context, list_all-mapped}
 use Rattle.bidi_base.proofs.PlacesLemmas.{nearest-more}
-
--- what holds of each answer of a rule in context
-list_all-in_context : (rule : List BidiClass → BidiClass → List BidiClass → BidiClass) (p q : BidiClass → Bool)
-    → ((before : List BidiClass) (c : BidiClass) (after : List BidiClass) → list_all p before ≡ true → p c ≡ true → q (rule before c after) ≡ true)
-    → (before xs : List BidiClass) → list_all p before ≡ true → list_all p xs ≡ true → list_all q (in_context rule before xs) ≡ true
-list_all-in_context rule p q answers before [] h k = refl
-list_all-in_context rule p q answers before (x ∷ xs) h k =
-    let parts = and_parts (p x) (list_all p xs) k in
-    and_from (q (rule before x xs)) (list_all q (in_context rule (x ∷ before) xs)) (answers before x xs h parts.0)
-    (list_all-in_context rule p q answers (x ∷ before) xs (and_from (p x) (list_all p before) parts.0 h) parts.1)
-
-list_all-mapped : (f : BidiClass → BidiClass) (p q : BidiClass → Bool) → ((c : BidiClass) → p c ≡ true → q (f c) ≡ true) → (xs : List BidiClass) → list_all p xs ≡ true → list_all q (map f xs) ≡ true
-list_all-mapped f p q answers [] h = refl
-list_all-mapped f p q answers (x ∷ xs) h =
-    let parts = and_parts (p x) (list_all p xs) h in
-    and_from (q (f x)) (list_all q (map f xs)) (answers x parts.0) (list_all-mapped f p q answers xs parts.1)
 
 -- after W1 no nonspacing mark is left, after W3 no Arabic letter, after W6 no separator and no terminator
 abbrev is_after_w1 : BidiClass → Bool

@@ -16,6 +16,7 @@ pub mod Openers
 pub mod Order
 pub mod Paragraphs
 pub mod Places
+pub mod Reading
 pub mod SequencePass
 pub mod Sequences
 pub mod Source

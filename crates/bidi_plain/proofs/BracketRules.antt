@@ -192,10 +192,10 @@ with_bracket-both source classes pair d =
     fill_by_all (λ k. cond (goes_with_pair source pair k) d (class_at classes k)) (with_bracket source pair.1 first d) (length classes) L
     (length-with_bracket source first pair.1 d ∙ long)
     (λ k fits.
-      get_or-map-range_with_len (λ j. cond (eqb j pair.1 || is_mark_after source pair.1 j) d (class_at first j)) 0 (length first) k k L (omega arith) (omega arith)
-      ∙ ap (λ (x : BidiClass). cond (eqb k pair.1 || is_mark_after source pair.1 k) d x)
-      (get_or-map-range_with_len (λ j. cond (eqb j pair.0 || is_mark_after source pair.0 j) d (class_at classes j)) 0 (length classes) k k L fits (omega arith))
-      ∙ twice (eqb k pair.0) (eqb k pair.1) (is_mark_after source pair.0 k) (is_mark_after source pair.1 k) d (class_at classes k))
+    get_or-map-range_with_len (λ j. cond (eqb j pair.1 || is_mark_after source pair.1 j) d (class_at first j)) 0 (length first) k k L (omega arith) (omega arith)
+    ∙ ap (λ (x : BidiClass). cond (eqb k pair.1 || is_mark_after source pair.1 k) d x)
+    (get_or-map-range_with_len (λ j. cond (eqb j pair.0 || is_mark_after source pair.0 j) d (class_at classes j)) 0 (length classes) k k L fits (omega arith))
+    ∙ twice (eqb k pair.0) (eqb k pair.1) (is_mark_after source pair.0 k) (is_mark_after source pair.1 k) d (class_at classes k))
 
 -- N0 for one pair, by what it takes
 pub n0_pair-Some : (e sos : BidiClass) (source classes : List BidiClass) (pair : ℕ × ℕ) (d : BidiClass) → pair_direction e sos classes pair ≡ Some d

@@ -1,4 +1,5 @@
 mod Blocks
+mod BracketPass
 mod BracketRules
 mod ExplicitPass
 mod ListPass

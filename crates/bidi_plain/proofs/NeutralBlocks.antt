@@ -1,5 +1,5 @@
 -- N1 and N2 block by block.
-use Rattle.std.proofs.Common.{◌≡◌, ℕ, suc, ◌+◌, ◌-◌, ◌<◌, ◌≤◌, Bool, true, false, not, ◌||◌, cond, List, [], ◌∷◌, length, get_or, take, drop, replicate, reverse, unwrap_or, refl, sym, ap, subst, ◌∙◌, arith, inl, inr}
+use Rattle.std.proofs.Common.{◌≡◌, ℕ, suc, ◌+◌, ◌-◌, ◌<◌, ◌≤◌, true, false, cond, List, ◌∷◌, length, get_or, take, drop, replicate, reverse, unwrap_or, refl, sym, ap, subst, ◌∙◌, arith, inl, inr}
 use Rattle.std.proofs.lemmas.Bool.{cases_lt, cond-true, cond-false, or_cases, both_ways, true_from_ne_false}
 use Rattle.std.proofs.lemmas.List.{drop_more, drop_all, get_or_past, get_or_default}
 use Rattle.std.proofs.lemmas.List.Folds.{list_all_at}
@@ -10,7 +10,7 @@ use Rattle.bidi_base.specs.declared.char_data.BidiClass.TheVariants.{L, R, EN, A
 use Rattle.bidi_base.specs.Classes.{as_direction, has_direction, is_neutral, is_weak_resolved, same_class}
 use Rattle.bidi_base.specs.Neutral.{nearest_direction, n1_rule}
 use Rattle.bidi_base.proofs.PlacesLemmas.{reverse-take_more}
-use Rattle.bidi_base.proofs.InPlace.{IsRewritten, IsRewritten-start, IsRewritten-keep, IsRewritten-end}
+use Rattle.bidi_base.proofs.InPlace.{IsRewritten, IsRewritten-start, IsRewritten-keep}
 use Rattle.bidi_plain.proofs.Blocks.{IsBlock, IsBlock-counted, length-part, read_later, look-drop, look-take, answer, IsRewritten-filled, IsRewritten-past}
 
 passes : (d c : BidiClass) (cs : List BidiClass) → is_neutral c ≡ true → nearest_direction d (c ∷ cs) ≡ nearest_direction d cs

@@ -1,5 +1,6 @@
 //! The rules over lists of characters. Each call answers fresh vectors.
 
+mod bracket_pairs;
 mod embeddings;
 mod implicit_levels;
 mod kinds;
@@ -7,7 +8,9 @@ mod neutrals;
 mod run_sequences;
 mod weak_types;
 
+pub use bracket_pairs::pairs;
 pub use embeddings::{Explicit, explicit_levels};
 pub use implicit_levels::implicit;
+pub use neutrals::neutral;
 pub use run_sequences::{PlainSequence, sequences};
 pub use weak_types::weak;

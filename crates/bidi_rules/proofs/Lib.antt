@@ -1,2 +1,4 @@
+pub mod ExplicitUnits
+pub mod RunCutting
 pub mod StackLemmas
 pub mod WalkLemmas

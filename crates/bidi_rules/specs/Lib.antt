@@ -1,2 +1,3 @@
+pub mod ExplicitPass
 pub mod RunSequence
 pub mod Status

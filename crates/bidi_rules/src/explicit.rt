@@ -1,3 +1,139 @@
-//! Explicit levels and directions (X1 to X8), and level runs.
+//! Explicit levels and directions (X1 to X8), and level runs (BD7), in place over the units of one
+//! paragraph.
+
+ghost use Rattle.std.specs.Prelude.{◌≡◌, ℕ, ◌+◌, ◌≤◌, ◌||◌, [], if◌then◌else◌, length, map, unwrap_or, IsTrue, OnOk, IfOk};
+ghost use Rattle.bidi_base.specs.declared.char_data.BidiClass.TheVariants.{L, BN};
+ghost use Rattle.bidi_base.specs.Classes.{is_paragraph_separator, is_removed};
+ghost use Rattle.bidi_base.specs.Explicit.{explicit_levels, processing_classes as processing_classes_of};
+ghost use Rattle.bidi_base.specs.Text.{per_unit, per_char, is_per_char};
+ghost use Rattle.bidi_base.specs.Units.{bounds, level_run_ranges};
+ghost use Rattle.bidi_rules.specs.ExplicitPass.{filled, runs_before, run_start as run_start_after};
 
 mod status;
+
+use crate::prepare::{LevelRunVec, not_removed_by_x9};
+use bidi_base::char_data::BidiClass;
+use bidi_base::level::Level;
+use bidi_base::text::TextSource;
+use status::StatusStack;
+use std::alloc::{AllocError, Global};
+
+// The level of a character, where `level` holds at its place (X8).
+fn own_level(para_level: Level, class: BidiClass, level: Level) -> Level
+    ensures { result ≡ (if is_paragraph_separator class then para_level else level) }
+{
+    match class {
+        BidiClass::B => para_level,
+        _ => level,
+    }
+}
+
+// The class of a character under an override (X6), and BN for what X9 removes.
+fn own_class(class: BidiClass, override_class: Option<BidiClass>) -> BidiClass
+    ensures { result ≡ (if is_removed class then BN else if is_paragraph_separator class || is_removed class then class else unwrap_or override_class class) }
+{
+    match class {
+        BidiClass::LRE
+        | BidiClass::LRO
+        | BidiClass::RLE
+        | BidiClass::RLO
+        | BidiClass::PDF
+        | BidiClass::BN => BidiClass::BN,
+        BidiClass::B => class,
+        _ => match override_class {
+            Some(put) => put,
+            None => class,
+        },
+    }
+}
+
+// Writes the level and the class of a character to each of its units.
+fn write(
+    levels: &mut [Level],
+    classes: &mut [BidiClass],
+    start: usize,
+    len: usize,
+    level: Level,
+    class: BidiClass,
+)
+    requires levels { start + len ≤ length levels.old }
+    requires classes { start + len ≤ length classes.old }
+    ensures levels { levels.new ≡ filled start len level levels.old }
+    ensures classes { classes.new ≡ filled start len class classes.old }
+{
+    levels[start..start + len].fill(level);
+    classes[start..start + len].fill(class);
+}
+
+// Ends the level run that began at `run_start`, where the kept character at `start` has another
+// level than the kept one before it. Answers where the run of that character starts.
+fn cut_run(
+    runs: &mut LevelRunVec,
+    run_start: usize,
+    start: usize,
+    last_level: Option<Level>,
+    level: Level,
+) -> Result<usize, AllocError>
+    ensures runs { OnOk result (map bounds runs.new.items ≡ runs_before last_level level run_start start (map bounds runs.old.items)) }
+    ensures start { IfOk result (λ s. s ≡ run_start_after last_level level run_start start) }
+{
+    match last_level {
+        Some(last) if last != level => {
+            runs.push(run_start..start)?;
+            Ok(start)
+        }
+        _ => Ok(run_start),
+    }
+}
+
+/// The explicit levels of a paragraph, its classes under overrides, and its level runs.
+///
+/// `original_classes` has the stored classes. Each unit of `levels` gets the explicit level of its
+/// character, whatever it held, and each unit of `processing_classes` the class, which is BN for
+/// what X9 removes. A new run begins exactly at a character that X9 keeps and whose level differs
+/// from that of the kept character before it; the runs cover the text. After a refusal the slices
+/// and the runs hold any values.
+pub fn compute<T: TextSource>(
+    _alloc: Global,
+    text: T,
+    para_level: Level,
+    original_classes: &[BidiClass],
+    levels: &mut [Level],
+    processing_classes: &mut [BidiClass],
+    runs: &mut LevelRunVec,
+) -> Result<(), AllocError>
+    requires explicit { para_level ≤ 125 }
+    requires original { IsTrue (is_per_char ⟦<BidiClass as PartialEq>⟧.eq T.units (T.characters text) original_classes.now) }
+    requires levels { length levels.old ≡ length original_classes.now }
+    requires processing { processing_classes.old ≡ original_classes.now }
+    requires runs { runs.old.items ≡ [] }
+    ensures levels { let stored = per_char L T.units (T.characters text) original_classes.now in OnOk result (levels.new ≡ per_unit T.units (T.characters text) (explicit_levels para_level stored)) }
+    ensures classes { let stored = per_char L T.units (T.characters text) original_classes.now in OnOk result (processing_classes.new ≡ per_unit T.units (T.characters text) (processing_classes_of para_level stored)) }
+    ensures runs { let stored = per_char L T.units (T.characters text) original_classes.now in OnOk result (map bounds runs.new.items ≡ level_run_ranges T.units (T.characters text) stored (explicit_levels para_level stored)) }
+{
+    let units = text.len();
+    let mut stack = StatusStack::new(para_level);
+    let mut run_start = 0;
+    let mut last_level = None;
+    for (start, len) in text.indices_lengths() {
+        let class = original_classes[start];
+        let status = stack.read(class);
+        let level = own_level(para_level, class, status.level);
+        write(
+            levels,
+            processing_classes,
+            start,
+            len,
+            level,
+            own_class(class, status.override_class),
+        );
+        if not_removed_by_x9(&class) {
+            run_start = cut_run(runs, run_start, start, last_level, level)?;
+            last_level = Some(level);
+        }
+    }
+    if units > 0 {
+        runs.push(run_start..units)?;
+    }
+    Ok(())
+}

@@ -19,7 +19,8 @@ pub trait ShowIn {
     fn read(&mut self, buffer: &mut [u8]) -> Result<usize, Failed>
         ensures within { IfOk result (λ count. count ≤ length buffer.new) }
         ensures taken { ReadConsumes (left self.old) (left self.new) result buffer.new }
-        ensures counted { failed_reads self.new ≡ (if is_ok result then failed_reads self.old else failed_reads self.old + 1) };
+        ensures counted { failed_reads self.new
+            ≡ (if is_ok result then failed_reads self.old else failed_reads self.old + 1) };
 }
 
 /// An end that bytes go to.
@@ -34,5 +35,6 @@ pub trait ShowOut {
     /// open how many went out.
     fn put(&mut self, bytes: &[u8]) -> Result<(), Failed>
         ensures appended { OnOk result (Appends (written self.old) (written self.new) bytes.now) }
-        ensures counted { failed_writes self.new ≡ (if is_ok result then failed_writes self.old else failed_writes self.old + 1) };
+        ensures counted { failed_writes self.new
+            ≡ (if is_ok result then failed_writes self.old else failed_writes self.old + 1) };
 }

@@ -45,7 +45,8 @@ fn are_levels(words: &[String]) -> bool
 
 // The levels that words write.
 fn levels_in(alloc: Global, words: &[String]) -> Result<Vec<Level>, AllocError>
-    ensures { IfOk result (λ v. v.items ≡ filter_map (λ word. level_of (string_bytes word)) words.now) }
+    ensures { IfOk result (λ v.
+        v.items ≡ filter_map (λ word. level_of (string_bytes word)) words.now) }
 {
     words
         .iter()

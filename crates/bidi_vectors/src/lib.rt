@@ -6,6 +6,14 @@ mod level_rows;
 #[cfg(test)]
 mod order_rows;
 #[cfg(test)]
+mod plain_explicit;
+#[cfg(test)]
+mod plain_neutral;
+#[cfg(test)]
+mod plain_sequences;
+#[cfg(test)]
+mod plain_weak;
+#[cfg(test)]
 mod source_rows;
 #[cfg(test)]
 mod text_rows;

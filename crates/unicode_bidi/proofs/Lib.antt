@@ -5,5 +5,6 @@ pub mod Ordered
 pub mod Passes
 pub mod Reversed
 pub mod Stretches
+pub mod TextRead
 pub mod Turning
 pub mod Written

@@ -1,0 +1,3 @@
+pub mod InitialInfo
+pub mod ParagraphFlags
+pub mod ParagraphInfo

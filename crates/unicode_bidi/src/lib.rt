@@ -1,11 +1,23 @@
 //! The Unicode Bidirectional Algorithm (UAX #9), proved.
 #![tactic(auto)]
 
+mod base_direction;
+mod classes;
 mod info;
+mod initial;
+mod initial_info;
+mod paragraph_info;
 mod paragraph_levels;
 mod visual;
 
-pub use bidi_base::char_data::BidiClass;
+pub use base_direction::{
+    get_base_direction_full_with_data_source, get_base_direction_with_data_source,
+};
+pub use bidi_base::char_data::{BidiClass, Direction};
+pub use bidi_base::data_source::BidiDataSource;
 pub use bidi_base::level::{LTR_LEVEL, Level, RTL_LEVEL};
-pub use bidi_base::{char_data, level};
+pub use bidi_base::text::{TextSource, Utf8IndexLenIter};
+pub use bidi_base::{char_data, data_source, format_chars, level, sample, text};
 pub use info::BidiInfo;
+pub use initial_info::InitialInfo;
+pub use paragraph_info::ParagraphInfo;

@@ -1,6 +1,6 @@
 //! Explicit levels and overrides over a list (X1 to X8).
 
-ghost use Rattle.std.specs.Prelude.{◌≡◌, ◌≤◌, ◌||◌, if◌then◌else◌, [], reverse, unwrap_or, IfOk};
+ghost use Rattle.std.specs.Prelude.{◌≡◌, ◌≤◌, ◌||◌, if◌then◌else◌, [], length, reverse, unwrap_or, IfOk};
 ghost use Rattle.std.specs.Result.{OkIff};
 ghost use Rattle.bidi_base.specs.Classes.{is_paragraph_separator, is_removed};
 ghost use Rattle.bidi_base.specs.Explicit.{asked_level, override_of, status_inside, explicit_levels, explicit_classes};
@@ -180,7 +180,8 @@ impl Openers {
 
     /// What holds inside them.
     fn status(&self, para_level: Level) -> Status
-        ensures { result ≡ status_inside (record { level = para_level; override = None }) (reverse self.now) }
+        ensures { result
+            ≡ status_inside (record { level = para_level; override = None }) (reverse self.now) }
     {
         status_inside(
             Status {
@@ -203,9 +204,13 @@ fn level_of(class: BidiClass, para_level: Level, level: Level) -> Level
     }
 }
 
-/// The class of a character where an override holds (X6): separators and what X9 removes keep theirs.
+/// The class of a character where an override holds (X6): separators and what X9 removes keep
+/// theirs.
 fn class_of(class: BidiClass, override_class: Option<BidiClass>) -> BidiClass
-    ensures { result ≡ (if is_paragraph_separator class || is_removed class then class else unwrap_or override_class class) }
+    ensures { result
+        ≡ (if is_paragraph_separator class || is_removed class
+        then class
+        else unwrap_or override_class class) }
 {
     if class == BidiClass::B || is_removed(class) {
         class
@@ -214,8 +219,9 @@ fn class_of(class: BidiClass, override_class: Option<BidiClass>) -> BidiClass
     }
 }
 
-/// The explicit levels of a paragraph, and the classes under overrides, from its stored classes
-/// (X1 to X8). A paragraph separator has the paragraph level and closes nothing.
+/// The explicit levels of a paragraph, and the classes under overrides, from its paragraph level
+/// (0 to 125) and its stored classes (X1 to X8). A paragraph separator has the paragraph level and
+/// closes nothing; what X9 removes has the level of its place. Refused only for want of memory.
 pub fn explicit_levels(
     alloc: Global,
     para_level: Level,
@@ -224,6 +230,8 @@ pub fn explicit_levels(
     requires { para_level ≤ 125 }
     ensures levels { IfOk result (λ e. e.levels ≡ explicit_levels para_level classes.now) }
     ensures classes { IfOk result (λ e. e.classes ≡ explicit_classes para_level classes.now) }
+    ensures lengths { IfOk result (λ e.
+        (length e.levels ≡ length classes.now) × (length e.classes ≡ length classes.now)) }
 {
     let mut openers = Openers::new(alloc);
     let mut levels = Vec::with_capacity(alloc, classes.len())?;

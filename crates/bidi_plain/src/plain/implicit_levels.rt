@@ -1,9 +1,8 @@
 //! The implicit levels of an isolating run sequence (I1, I2).
 
-ghost use Rattle.std.specs.Prelude.{◌≡◌, ◌+◌, ◌≤◌, if◌then◌else◌, IsTrue, IfOk};
+ghost use Rattle.std.specs.Prelude.{◌≡◌, ◌≤◌, length, vec_len, IsTrue, IfOk};
 ghost use Rattle.std.specs.List.{list_all};
 ghost use Rattle.bidi_base.specs.Classes.{has_direction};
-ghost use Rattle.bidi_base.specs.Levels.{is_odd};
 ghost use Rattle.bidi_base.specs.Implicit.{added_at_even, added_at_odd, implicit_level as implicit_level_of, implicit_levels};
 
 use bidi_base::char_data::BidiClass::{self, AN, EN, L, R};
@@ -19,7 +18,8 @@ pub fn implicit(
 ) -> Result<Vec<Level>, AllocError>
     requires level { level ≤ 125 }
     requires classes { IsTrue (list_all has_direction classes.now) }
-    ensures { IfOk result (λ v. v.items ≡ implicit_levels level classes.now) }
+    ensures levels { IfOk result (λ v. v.items ≡ implicit_levels level classes.now) }
+    ensures len { IfOk result (λ v. vec_len v ≡ length classes.now) }
 {
     classes
         .iter()

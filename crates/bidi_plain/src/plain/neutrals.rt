@@ -1,14 +1,78 @@
 //! The neutrals of an isolating run sequence (N0 to N2). A class stands for a direction if it is L, R
 //! or a number, and numbers stand for R.
 
-ghost use Rattle.std.specs.Prelude.{◌≡◌, ◌==◌, ◌||◌, false, ℕ, ◌+◌, ◌<◌, ◌≤◌, length, slice_range, slice_index_or, take, reverse, map, if◌then◌else◌, IsTrue, All, is_some, unwrap_or};
+ghost use Rattle.std.specs.Prelude.{◌≡◌, ◌==◌, ◌||◌, false, ◌<◌, ◌≤◌, length, vec_len, slice_index_or, reverse, map, if◌then◌else◌, IsTrue, IfOk, is_some, unwrap_or};
 ghost use Rattle.std.specs.List.{list_all, list_any, prefix_len};
 ghost use Rattle.std.specs.Option.{option_map_or};
-ghost use Rattle.bidi_base.specs.Classes.{as_direction as as_direction_of, is_neutral, is_nsm, is_weak_resolved, same_class};
+ghost use Rattle.bidi_base.specs.Classes.{as_direction as as_direction_of, has_direction, is_kept, is_l_or_r, is_neutral, is_nsm, is_weak_resolved, same_class};
 ghost use Rattle.bidi_base.specs.Places.{class_at, indexes};
-ghost use Rattle.bidi_base.specs.Neutral.{is_mark_after, n0, n1_n2, nearest_direction, pair_direction as pair_direction_of};
+ghost use Rattle.bidi_base.specs.Brackets.{ArePairsWithin};
+ghost use Rattle.bidi_base.specs.Neutral.{is_mark_after, n0, n1_n2, nearest_direction, neutral_classes, pair_direction as pair_direction_of};
 
+use super::bracket_pairs::pairs;
 use bidi_base::char_data::BidiClass::{self, AN, B, EN, FSI, L, LRI, NSM, ON, PDI, R, RLI, S, WS};
+use bidi_base::data_source::BidiMatchedOpeningBracket;
+use bidi_base::level::Level;
+use std::alloc::{AllocError, Global};
+
+/// The classes of a sequence after N0 to N2, each of them L, R, EN or AN. `level` is the explicit
+/// level of the sequence, at most 125, `sos` and `eos` are L or R, `source` has the classes that the
+/// data source gives and `classes` those after W7.
+#[tactic(auto, unfolding(bidi_base::specs::Neutral::neutral_classes))]
+pub fn neutral(
+    alloc: Global,
+    level: Level,
+    sos: BidiClass,
+    eos: BidiClass,
+    source: &[BidiClass],
+    brackets: &[Option<BidiMatchedOpeningBracket>],
+    classes: &[BidiClass],
+) -> Result<Vec<BidiClass>, AllocError>
+    requires level { level ≤ 125 }
+    requires sos { IsTrue (is_l_or_r sos) }
+    requires eos { IsTrue (is_l_or_r eos) }
+    requires source_length { length source.now ≡ length classes.now }
+    requires brackets_length { length brackets.now ≡ length classes.now }
+    requires source { IsTrue (list_all is_kept source.now) }
+    requires classes { IsTrue (list_all is_weak_resolved classes.now) }
+    ensures classes { IfOk result (λ v. v.items
+        ≡ neutral_classes level sos eos source.now brackets.now classes.now) }
+    ensures directed { IfOk result (λ v. IsTrue (list_all has_direction v.items)) }
+    ensures len { IfOk result (λ v. vec_len v ≡ length classes.now) }
+{
+    let pairs = pairs(alloc, classes, brackets)?;
+    let mut resolved = Vec::from_slice(alloc, classes)?;
+    resolve(
+        level.bidi_class(),
+        sos,
+        eos,
+        source,
+        pairs.as_slice(),
+        resolved.as_mut_slice(),
+    );
+    Ok(resolved)
+}
+
+fn resolve(
+    embedding: BidiClass,
+    sos: BidiClass,
+    eos: BidiClass,
+    source: &[BidiClass],
+    pairs: &[(usize, usize)],
+    classes: &mut [BidiClass],
+)
+    requires embedding { IsTrue (is_l_or_r embedding) }
+    requires sos { IsTrue (is_l_or_r sos) }
+    requires lengths { length source.now ≡ length classes.old }
+    requires within { ArePairsWithin (length classes.old) pairs.now }
+    requires classes { IsTrue (list_all is_weak_resolved classes.old) }
+    ensures classes { classes.new
+        ≡ n1_n2 embedding sos eos (n0 embedding sos source.now pairs.now classes.old) }
+    ensures directed { IsTrue (list_all has_direction classes.new) }
+{
+    apply_n0(embedding, sos, source, pairs, classes);
+    apply_n1_n2(embedding, sos, eos, classes);
+}
 
 /// N0: the bracket pairs one by one, in the order of their openings.
 fn apply_n0(
@@ -19,7 +83,7 @@ fn apply_n0(
     classes: &mut [BidiClass],
 )
     requires lengths { length source.now ≡ length classes.old }
-    requires in_order { All (λ (p : ℕ × ℕ). (p.0 < p.1) × (p.1 < length classes.old)) pairs.now }
+    requires within { ArePairsWithin (length classes.old) pairs.now }
     ensures { classes.new ≡ n0 embedding sos source.now pairs.now classes.old }
 {
     for pair in pairs {
@@ -52,7 +116,8 @@ fn pair_direction(
 }
 
 fn has_direction(inside: &[BidiClass], direction: BidiClass) -> bool
-    ensures { result ≡ list_any (λ c. option_map_or (same_class direction) (as_direction_of c) false) inside.now }
+    ensures { result
+        ≡ list_any (λ c. option_map_or (same_class direction) (as_direction_of c) false) inside.now }
 {
     inside.iter().any(|class| stands_for(*class, direction))
 }
@@ -77,10 +142,16 @@ fn context(sos: BidiClass, before: &[BidiClass]) -> BidiClass
 
 /// Gives a bracket a direction, and the characters directly after it that are nonspacing marks by
 /// their source classes.
-fn set_direction(source: &[BidiClass], classes: &mut [BidiClass], bracket: usize, direction: BidiClass)
+fn set_direction(
+    source: &[BidiClass],
+    classes: &mut [BidiClass],
+    bracket: usize,
+    direction: BidiClass,
+)
     requires lengths { length source.now ≡ length classes.old }
     requires bracket { bracket < length classes.old }
-    ensures { classes.new ≡ map (λ k. if k == bracket || is_mark_after source.now bracket k then direction else class_at classes.old k) (indexes classes.old) }
+    ensures { classes.new ≡ map (λ k. if k == bracket || is_mark_after source.now bracket k
+        then direction else class_at classes.old k) (indexes classes.old) }
 {
     let end = bracket + 1 + marks(&source[bracket + 1..]);
     classes[bracket..end].fill(direction);
@@ -144,7 +215,8 @@ fn neutrals(classes: &[BidiClass]) -> usize
 
 /// The direction at a place, or eos past the end.
 fn direction_at(classes: &[BidiClass], place: usize, eos: BidiClass) -> BidiClass
-    ensures { result ≡ unwrap_or (as_direction_of (slice_index_or classes.now place BidiClass.ON)) eos }
+    ensures { result
+        ≡ unwrap_or (as_direction_of (slice_index_or classes.now place BidiClass.ON)) eos }
 {
     if place < classes.len() {
         as_direction(classes[place]).unwrap_or(eos)

@@ -74,8 +74,8 @@ fn read_class(
 }
 
 /// The sequence that waits for a character of this class, where that begins a level run.
-fn sequence_for(waiting: &Waiting, class: BidiClass) -> Option<usize>
-    ensures { result ≡ waiting_for class waiting.now.items }
+fn sequence_for(waiting: &[Option<usize>], class: BidiClass) -> Option<usize>
+    ensures { result ≡ waiting_for class waiting.now }
 {
     match class {
         BidiClass::PDI => match waiting.last() {
@@ -99,7 +99,8 @@ fn go_on(
     requires lengths { length levels.now ≡ length classes.now }
     requires last { IfSome last (λ e. e.0 < length classes.now) }
     requires place { place < length classes.now }
-    ensures read { IfOk result (λ _. waiting.new.items ≡ waits_before classes.now levels.now last place waiting.old.items) }
+    ensures read { IfOk result (λ _.
+        waiting.new.items ≡ waits_before classes.now levels.now last place waiting.old.items) }
     ensures found { IfOk result (λ s. s ≡ choice_at classes.now levels.now last place waiting.new.items) }
 {
     match last {
@@ -124,7 +125,9 @@ fn put(
 ) -> Result<usize, AllocError>
     requires { IfSome s (λ s. s < length sequences.old.items) }
     ensures index { IfOk result (λ r. r ≡ index_of s (map (λ v. v.items) sequences.old.items)) }
-    ensures grown { IfOk result (λ _. map (λ v. v.items) sequences.new.items ≡ with_entry s place (map (λ v. v.items) sequences.old.items)) }
+    ensures grown { IfOk result (λ _.
+        map (λ v. v.items) sequences.new.items
+        ≡ with_entry s place (map (λ v. v.items) sequences.old.items)) }
 {
     match s {
         Some(s) => {
@@ -148,7 +151,9 @@ fn sequence_places(
     levels: &[Level],
 ) -> Result<Vec<Vec<usize>>, AllocError>
     requires { length levels.now ≡ length classes.now }
-    ensures all { IfOk result (λ v. (paragraph : ℕ) → map (λ places. with_ends paragraph classes.now levels.now places.items) v.items ≡ sequences paragraph classes.now levels.now) }
+    ensures all { IfOk result (λ v. (paragraph : ℕ) →
+        map (λ places. with_ends paragraph classes.now levels.now places.items) v.items
+        ≡ sequences paragraph classes.now levels.now) }
     ensures places { IfOk result (λ v. All (λ places. ArePlaces (length classes.now) places.items) v.items) }
 {
     let mut sequences: Vec<Vec<usize>> = Vec::new(alloc);
@@ -253,7 +258,8 @@ fn with_ends(
 }
 
 /// The isolating run sequences of a paragraph, in the order of their first characters, from its
-/// stored classes and its explicit levels (BD13, X10). Levels of what X9 removes are not read.
+/// paragraph level (0 to 125), its stored classes and their explicit levels (BD13, X10). Levels of
+/// what X9 removes are not read. Refused only for want of memory.
 pub fn sequences(
     alloc: Global,
     para_level: Level,
@@ -262,7 +268,9 @@ pub fn sequences(
 ) -> Result<Vec<PlainSequence>, AllocError>
     requires { length levels.now ≡ length classes.now }
     ensures given { IfOk result (λ v. v.items ≡ sequences para_level classes.now levels.now) }
-    ensures explicit { IfOk result (λ v. HasExplicitLevels para_level classes.now levels.now → v.items ≡ sequences para_level classes.now (explicit_levels para_level classes.now)) }
+    // Levels that are explicit ones where X9 keeps characters stand for all explicit levels.
+    ensures explicit { IfOk result (λ v. HasExplicitLevels para_level classes.now levels.now →
+        v.items ≡ sequences para_level classes.now (explicit_levels para_level classes.now)) }
 {
     let found = sequence_places(alloc, classes, levels)?;
     let mut sequences = Vec::with_capacity(alloc, found.len())?;

@@ -1,7 +1,7 @@
 //! The weak types of an isolating run sequence (W1 to W7), one function a rule. Each rule goes over
 //! the whole sequence before the next one begins.
 
-ghost use Rattle.std.specs.Prelude.{◌≡◌, ◌≤◌, [], ◌∷◌, length, IsTrue, IfOk};
+ghost use Rattle.std.specs.Prelude.{◌≡◌, ◌≤◌, [], ◌∷◌, length, vec_len, IsTrue, IfOk};
 ghost use Rattle.std.specs.List.{list_all, prefix_len};
 ghost use Rattle.bidi_base.specs.Classes.{is_en, is_et, is_kept, is_l_or_r, is_weak_resolved};
 ghost use Rattle.bidi_base.specs.Places.{class_at};
@@ -22,6 +22,7 @@ pub fn weak(
     requires kept { IsTrue (list_all is_kept classes.now) }
     ensures classes { IfOk result (λ v. v.items ≡ weak_classes sos classes.now) }
     ensures resolved { IfOk result (λ v. IsTrue (list_all is_weak_resolved v.items)) }
+    ensures len { IfOk result (λ v. vec_len v ≡ length classes.now) }
 {
     let mut resolved = Vec::from_slice(alloc, classes)?;
     resolve(sos, resolved.as_mut_slice());

@@ -114,8 +114,8 @@ impl StatusStack {
         status
     }
 
-    // The innermost entry.
-    fn top(&self) -> StatusEntry
+    /// What holds where the stack stands.
+    pub fn top(&self) -> StatusEntry
         ensures { seen result ≡ self.now.top }
     {
         let stack = self.stack.as_slice();

@@ -1,8 +1,9 @@
-use Rattle.std.proofs.Common.{◌||◌, cond, unwrap_or, ap, ◌∙◌, arith}
+use Rattle.std.proofs.Common.{◌||◌, cond, unwrap_or, length, ap, ◌∙◌, arith}
 use Rattle.bidi_base.specs.declared.char_data.BidiClass.{BidiClass}
 use Rattle.bidi_base.specs.Classes.{is_paragraph_separator, is_removed}
 use Rattle.bidi_base.specs.Explicit.{Status}
 use Rattle.bidi_base.specs.Places.{class_at}
+use Rattle.bidi_base.proofs.ExplicitLemmas.{length-explicit_levels, length-explicit_classes}
 use Rattle.bidi_plain.proofs.ExplicitPass.{IsExplicitSoFar-start, IsExplicitSoFar-more, IsExplicitSoFar-levels, IsExplicitSoFar-classes}
 use Rattle.bidi_plain.proofs.plain.embeddings.explicit_levels.Goals as goal
 
@@ -26,3 +27,9 @@ returns-clause-levels c =
 pub returns-clause-classes : goal.returns-clause-classes
 returns-clause-classes c =
     IsExplicitSoFar-classes c.args.para_level c.args.classes.now c.loop-class.class-index c.loop-class.openers c.loop-class.levels.items c.loop-class.overridden.items (omega arith) c.loop-class.invariant
+
+pub returns-clause-lengths : goal.returns-clause-lengths
+returns-clause-lengths c = (
+  ap length (returns-clause-levels c) ∙ length-explicit_levels c.args.para_level c.args.classes.now,
+  ap length (returns-clause-classes c) ∙ length-explicit_classes c.args.para_level c.args.classes.now,
+)

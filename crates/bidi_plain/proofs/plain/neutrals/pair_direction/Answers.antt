@@ -1,4 +1,4 @@
-use Rattle.std.proofs.Common.{◌≡◌, ◌+◌, true, false, Some, slice_range, is_some, refl, sym, ap, ◌∙◌}
+use Rattle.std.proofs.Common.{◌+◌, true, false, Some, slice_range, is_some, refl, sym, ap, ◌∙◌}
 use Rattle.std.specs.List.{list_any}
 use Rattle.bidi_base.specs.Classes.{as_direction}
 use Rattle.bidi_plain.proofs.BracketRules.{pair_direction-tests}

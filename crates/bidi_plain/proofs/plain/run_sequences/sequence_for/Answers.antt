@@ -18,7 +18,4 @@ at_end xs w e =
     sym (last_is None xs (length xs - 1) w (omega arith) (sym e))
 
 pub returns-in-Some : goal.returns-in-Some
-returns-in-Some c =
-    at_end c.deref.result.now c.in-Some.wait.now c.in-Some.ensures.value
-    ∙ ap (last_or None) c.deref.ensures.value
-    ∙ ap (λ k. waiting_for k c.args.waiting.now.items) (sym c.in-PDI.is)
+returns-in-Some c = at_end c.args.waiting.now c.in-Some.wait.now c.in-Some.ensures.value ∙ ap (λ k. waiting_for k c.args.waiting.now) (sym c.in-PDI.is)

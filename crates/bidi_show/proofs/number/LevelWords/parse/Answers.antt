@@ -1,4 +1,4 @@
-use Rattle.std.proofs.Common.{◌≡◌, is_some, Bool, true, false, map, string_bytes, ◌∙◌, sym}
+use Rattle.std.proofs.Common.{◌≡◌, is_some, true, false, map, string_bytes, ◌∙◌, sym}
 use Rattle.std.specs.List.{list_all}
 use Rattle.bidi_show.specs.Numbers.{level_of}
 use Rattle.bidi_show.proofs.ListsLemmas.{list_all-map}

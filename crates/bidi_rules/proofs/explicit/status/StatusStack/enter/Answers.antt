@@ -1,5 +1,5 @@
 -- An opener that fits is pushed, and any other is counted.
-use Rattle.std.proofs.Common.{◌≡◌, ℕ, ◌+◌, cond, reverse, sym, ap, ◌∙◌, arith}
+use Rattle.std.proofs.Common.{◌≡◌, ℕ, ◌+◌, cond, reverse, sym, ◌∙◌, arith}
 use Rattle.std.proofs.lemmas.Bool.{cond-true, cond-false}
 use Rattle.bidi_base.specs.Classes.{is_initiator}
 use Rattle.bidi_base.specs.Explicit.{asked_level}

@@ -24,8 +24,8 @@ pub returns-then-not-is_line : goal.returns-then-not-is_line
 returns-then-not-is_line g c = (
   λ h. absurd (both_ways false refl h),
   λ all. absurd
-  (both_ways c.is_line.result c.if-not-is_line.true
-  (c.is_line.ensures.1 (one_of g.T.TextSource.units (g.T.TextSource.characters c.args.text) c.args.self.now.runs.items c.deref-run-items.result.now c.loop-run.run-index _ c.deref-run-items.ensures.value c.loop-run-test.true all))),
+      (both_ways c.is_line.result c.if-not-is_line.true
+      (c.is_line.ensures.1 (one_of g.T.TextSource.units (g.T.TextSource.characters c.args.text) c.args.self.now.runs.items c.deref-run-items.result.now c.loop-run.run-index _ c.deref-run-items.ensures.value c.loop-run-test.true all))),
 )
 
 pub loop-run-preserved : goal.loop-run-preserved

@@ -1,0 +1,205 @@
+-- The base direction of a text in one walk, which counts the isolates that are open.
+use Rattle.std.proofs.Common.{◌≡◌, ◌↔◌, ℕ, zero, suc, ◌+◌, ◌-◌, ◌≤◌, Bool, true, false, ◌&&◌, cond, if◌then◌else◌, List, [], ◌∷◌, drop, map, find, Option, Some, None, is_some, refl, sym, ap, ◌∙◌, ◌⊎◌, inl, inr, arith}
+use Rattle.std.specs.Prelude.{option_and_then}
+use Rattle.std.specs.List.{onto_first}
+use Rattle.std.specs.Option.{option_or}
+use Rattle.std.proofs.lemmas.Bool.{cond-true, cond-false, and_from, and_left, and_right}
+use Rattle.bidi_base.specs.declared.char_data.BidiClass.{BidiClass}
+use Rattle.bidi_base.specs.declared.char_data.BidiClass.TheVariants.{B, LRI, RLI, FSI, PDI}
+use Rattle.bidi_base.specs.declared.char_data.Direction.{Direction}
+use Rattle.bidi_base.specs.declared.char_data.Direction.TheVariants.{Rtl, Mixed}
+use Rattle.bidi_base.specs.Classes.{is_strong, is_initiator, is_pdi, is_paragraph_separator}
+use Rattle.bidi_base.specs.Direction.{direction_by, base_direction, full_base_direction}
+use Rattle.bidi_base.specs.Isolates.{deciding_class, level_by, paragraph_level}
+use Rattle.bidi_base.specs.Paragraphs.{cut_after, paragraphs_of, each_separator}
+use Rattle.bidi_base.specs.Places.{first_or}
+use Rattle.bidi_base.specs.Source.{Source}
+use Rattle.bidi_base.proofs.IsolatesLemmas.{direction_by-Rtl}
+use Rattle.bidi_base.proofs.IsolateWalk.{kind_of, depth_by, is_zero, deciding_from, deciding_class-from}
+
+-- the direction that is found where d isolates are open, and no character has decided
+abbrev pub direction_from : Bool → ℕ → List BidiClass → Direction
+direction_from full d [] = Mixed
+direction_from full d (c ∷ cs) =
+    cond (is_strong c && is_zero d) (direction_by (Some c))
+    (cond (is_paragraph_separator c) (cond full (direction_from full 0 cs) Mixed) (direction_from full (depth_by (kind_of c) d) cs))
+
+-- what a pass counts
+pub depth_by-counted : (c : BidiClass) (d : ℕ) → (if is_initiator c then d + 1 else if is_pdi c then d - 1 else d) ≡ depth_by (kind_of c) d
+depth_by-counted LRI d = let more : d + 1 ≡ suc d = omega arith in more
+depth_by-counted RLI d = let more : d + 1 ≡ suc d = omega arith in more
+depth_by-counted FSI d = let more : d + 1 ≡ suc d = omega arith in more
+depth_by-counted PDI zero = let none : 0 - 1 ≡ 0 = omega arith in none
+depth_by-counted PDI (suc d) = let less : suc d - 1 ≡ d = omega arith in less
+depth_by-counted _ d = refl
+
+-- ---- pieces of a list of classes
+
+first_piece : List BidiClass → List BidiClass
+first_piece [] = []
+first_piece (c ∷ cs) = c ∷ cond (is_paragraph_separator c) [] (first_piece cs)
+
+-- the pieces from the next separator on
+class_pieces : List BidiClass → List (List BidiClass)
+class_pieces [] = []
+class_pieces (c ∷ cs) = cond (is_paragraph_separator c) ((c ∷ []) ∷ class_pieces cs) (onto_first c (class_pieces cs))
+
+other_pieces : List BidiClass → List (List BidiClass)
+other_pieces [] = []
+other_pieces (c ∷ cs) = cond (is_paragraph_separator c) (class_pieces cs) (other_pieces cs)
+
+class_pieces-first : (c : BidiClass) (cs : List BidiClass) → class_pieces (c ∷ cs) ≡ first_piece (c ∷ cs) ∷ other_pieces (c ∷ cs)
+unfolding first_piece class_pieces other_pieces
+class_pieces-first c [] = by_test (is_paragraph_separator c)
+  where
+    by_test : (b : Bool) → cond b ((c ∷ []) ∷ []) ((c ∷ []) ∷ []) ≡ (c ∷ cond b [] []) ∷ cond b [] []
+    by_test true = refl
+    by_test false = refl
+class_pieces-first c (d ∷ cs) = by_test (is_paragraph_separator c) (class_pieces-first d cs)
+  where
+    by_test : (b : Bool) → class_pieces (d ∷ cs) ≡ first_piece (d ∷ cs) ∷ other_pieces (d ∷ cs)
+        → cond b ((c ∷ []) ∷ class_pieces (d ∷ cs)) (onto_first c (class_pieces (d ∷ cs))) ≡ (c ∷ cond b [] (first_piece (d ∷ cs))) ∷ cond b (class_pieces (d ∷ cs)) (other_pieces (d ∷ cs))
+    by_test true e = refl
+    by_test false e = ap (onto_first c) e
+
+pieces-map : (source : Source) (chars : List ℕ) → map (map source.class_of) (paragraphs_of (each_separator source) chars) ≡ class_pieces (map source.class_of chars)
+unfolding class_pieces
+pieces-map source [] = refl
+pieces-map source (c ∷ cs) = by_test (is_paragraph_separator (source.class_of c)) ∙ ap (λ ps. cond (is_paragraph_separator (source.class_of c)) ((source.class_of c ∷ []) ∷ ps) (onto_first (source.class_of c) ps)) (pieces-map source cs)
+  where
+    onto-map : (ps : List (List ℕ)) → map (map source.class_of) (onto_first c ps) ≡ onto_first (source.class_of c) (map (map source.class_of) ps)
+    onto-map [] = refl
+    onto-map (p ∷ ps) = refl
+
+    by_test : (b : Bool) → map (map source.class_of) (cond b ((c ∷ []) ∷ paragraphs_of (each_separator source) cs) (onto_first c (paragraphs_of (each_separator source) cs)))
+        ≡ cond b ((source.class_of c ∷ []) ∷ map (map source.class_of) (paragraphs_of (each_separator source) cs)) (onto_first (source.class_of c) (map (map source.class_of) (paragraphs_of (each_separator source) cs)))
+    by_test true = refl
+    by_test false = onto-map (paragraphs_of (each_separator source) cs)
+
+-- ---- the first paragraph
+
+first_direction : (d : ℕ) (cs : List BidiClass) → direction_by (deciding_from d (first_piece cs)) ≡ direction_from false d cs
+unfolding first_piece
+first_direction d [] = refl
+first_direction d (c ∷ cs) = by_tests (is_strong c && is_zero d) (is_paragraph_separator c) (first_direction (depth_by (kind_of c) d) cs)
+  where
+    by_tests : (s b : Bool) → direction_by (deciding_from (depth_by (kind_of c) d) (first_piece cs)) ≡ direction_from false (depth_by (kind_of c) d) cs
+        → direction_by (cond s (Some c) (deciding_from (depth_by (kind_of c) d) (cond b [] (first_piece cs)))) ≡ cond s (direction_by (Some c)) (cond b Mixed (direction_from false (depth_by (kind_of c) d) cs))
+    by_tests true b e = refl
+    by_tests false true e = refl
+    by_tests false false e = e
+
+first_or-pieces : (cs : List BidiClass) → first_or [] (class_pieces cs) ≡ first_piece cs
+unfolding first_piece class_pieces
+first_or-pieces [] = refl
+first_or-pieces (c ∷ cs) = ap (first_or []) (class_pieces-first c cs)
+
+-- ---- any paragraph
+
+-- what decides first, where the current paragraph has not decided yet
+found_in : List (List BidiClass) → Option BidiClass
+found_in ps = option_and_then deciding_class (find (λ p. is_some (deciding_class p)) ps)
+
+found_in-cons : (p : List BidiClass) (ps : List (List BidiClass)) → found_in (p ∷ ps) ≡ option_or (deciding_class p) (found_in ps)
+unfolding found_in
+found_in-cons p ps = by_deciding (deciding_class p) refl
+  where
+    by_deciding : (o : Option BidiClass) → deciding_class p ≡ o → option_and_then deciding_class (cond (is_some (deciding_class p)) (Some p) (find (λ p. is_some (deciding_class p)) ps)) ≡ option_or (deciding_class p) (option_and_then deciding_class (find (λ p. is_some (deciding_class p)) ps))
+    by_deciding None e =
+        ap (λ (o : Option BidiClass). option_and_then deciding_class (cond (is_some o) (Some p) (find (λ p. is_some (deciding_class p)) ps))) e
+        ∙ sym (ap (λ (o : Option BidiClass). option_or o (option_and_then deciding_class (find (λ p. is_some (deciding_class p)) ps))) e)
+    by_deciding (Some c) e =
+        ap (λ (o : Option BidiClass). option_and_then deciding_class (cond (is_some o) (Some p) (find (λ p. is_some (deciding_class p)) ps))) e ∙ e
+        ∙ sym (ap (λ (o : Option BidiClass). option_or o (option_and_then deciding_class (find (λ p. is_some (deciding_class p)) ps))) e)
+
+found_from : (cs : List BidiClass) → found_in (class_pieces cs) ≡ option_or (deciding_from 0 (first_piece cs)) (found_in (other_pieces cs))
+unfolding first_piece class_pieces other_pieces found_in
+found_from [] = refl
+found_from (c ∷ cs) =
+    ap found_in (class_pieces-first c cs) ∙ found_in-cons (first_piece (c ∷ cs)) (other_pieces (c ∷ cs)) ∙ ap (λ (o : Option BidiClass). option_or o (found_in (other_pieces (c ∷ cs)))) (deciding_class-from (first_piece (c ∷ cs)))
+
+full_direction : (d : ℕ) (cs : List BidiClass) → direction_by (option_or (deciding_from d (first_piece cs)) (found_in (other_pieces cs))) ≡ direction_from true d cs
+unfolding first_piece other_pieces found_in
+full_direction d [] = refl
+full_direction d (c ∷ cs) = by_tests (is_strong c && is_zero d) (is_paragraph_separator c) (full_direction (depth_by (kind_of c) d) cs) (ap direction_by (found_from cs) ∙ full_direction 0 cs)
+  where
+    by_tests : (s b : Bool) → direction_by (option_or (deciding_from (depth_by (kind_of c) d) (first_piece cs)) (found_in (other_pieces cs))) ≡ direction_from true (depth_by (kind_of c) d) cs → direction_by (found_in (class_pieces cs)) ≡ direction_from true 0 cs
+        → direction_by (option_or (cond s (Some c) (deciding_from (depth_by (kind_of c) d) (cond b [] (first_piece cs)))) (found_in (cond b (class_pieces cs) (other_pieces cs))))
+        ≡ cond s (direction_by (Some c)) (cond b (direction_from true 0 cs) (direction_from true (depth_by (kind_of c) d) cs))
+    by_tests true b e f = refl
+    by_tests false true e f = f
+    by_tests false false e f = e
+
+-- ---- what the walk answers
+
+pub direction_from-is : (source : Source) (chars : List ℕ) (full : Bool)
+    → direction_from full 0 (map source.class_of chars) ≡ (if full then full_base_direction (map (map source.class_of) (paragraphs_of (each_separator source) chars)) else base_direction (map (map source.class_of) (paragraphs_of (each_separator source) chars)))
+unfolding base_direction full_base_direction found_in
+direction_from-is source chars true =
+    sym (full_direction 0 (map source.class_of chars)) ∙ ap direction_by (sym (found_from (map source.class_of chars))) ∙ ap (λ ps. direction_by (found_in ps)) (sym (pieces-map source chars))
+direction_from-is source chars false =
+    sym (first_direction 0 (map source.class_of chars)) ∙ ap direction_by (sym (deciding_class-from (first_piece (map source.class_of chars))))
+    ∙ ap (λ (cs : List BidiClass). direction_by (deciding_class cs)) (sym (first_or-pieces (map source.class_of chars)))
+    ∙ ap (λ ps. direction_by (deciding_class (first_or [] ps))) (sym (pieces-map source chars))
+
+-- the base direction is right to left exactly if the first paragraph's own level is 1
+pub base_direction-Rtl : (paragraphs : List (List BidiClass)) → (base_direction paragraphs ≡ Rtl) ↔ (paragraph_level None (first_or [] paragraphs) ≡ 1)
+unfolding base_direction paragraph_level
+base_direction-Rtl paragraphs = direction_by-Rtl (deciding_class (first_or [] paragraphs))
+
+-- ---- one character of the walk
+
+is_zero-one : (d : ℕ) → d ≡ 0 → is_zero d ≡ true
+is_zero-one zero e = refl
+is_zero-one (suc d) e = absurd (omega arith)
+
+is_zero-none : (d : ℕ) → (d ≡ 0 → ⊥) → is_zero d ≡ false
+is_zero-none zero h = absurd (h refl)
+is_zero-none (suc d) h = refl
+
+separator_weak : (c : BidiClass) → is_paragraph_separator c ≡ true → is_strong c ≡ false
+separator_weak B e = refl
+separator_weak _ e = absurd (cc e)
+
+module _ (f : ℕ → BidiClass) (chars : List ℕ) (n c : ℕ) (class : BidiClass) (next : drop n chars ≡ c ∷ drop (n + 1) chars) (is : class ≡ f c) (d : ℕ) where
+  direction_step : (full : Bool) → direction_from full d (map f (drop n chars))
+      ≡ cond (is_strong class && is_zero d) (direction_by (Some class)) (cond (is_paragraph_separator class) (cond full (direction_from full 0 (map f (drop (n + 1) chars))) Mixed) (direction_from full (depth_by (kind_of class) d) (map f (drop (n + 1) chars))))
+  direction_step full =
+      ap (λ (cs : List ℕ). direction_from full d (map f cs)) next
+      ∙ ap (λ (x : BidiClass). direction_from full d (x ∷ map f (drop (n + 1) chars))) (sym is)
+
+  -- it decides
+  pub direction-decided : (full : Bool) → d ≡ 0 → is_strong class ≡ true → direction_by (Some class) ≡ direction_from full d (map f (drop n chars))
+  direction-decided full none strong = sym (direction_step full ∙ cond-true (is_strong class && is_zero d) _ _ (and_from (is_strong class) (is_zero d) strong (is_zero-one d none)))
+
+  weak : is_paragraph_separator class ≡ true → (is_strong class && is_zero d) ≡ false
+  weak separator = and_left (is_strong class) (is_zero d) (separator_weak class separator)
+
+  -- it ends the first paragraph
+  pub direction-ended : (full : Bool) → full ≡ false → is_paragraph_separator class ≡ true → Mixed ≡ direction_from full d (map f (drop n chars))
+  direction-ended full first separator =
+      sym (direction_step full ∙ cond-false (is_strong class && is_zero d) _ _ (weak separator) ∙ cond-true (is_paragraph_separator class) _ _ separator ∙ cond-false full _ _ first)
+
+  -- it ends another one
+  pub direction-next : (full : Bool) → full ≡ true → is_paragraph_separator class ≡ true → direction_from full d (map f (drop n chars)) ≡ direction_from full 0 (map f (drop (n + 1) chars))
+  direction-next full all separator =
+      direction_step full ∙ cond-false (is_strong class && is_zero d) _ _ (weak separator) ∙ cond-true (is_paragraph_separator class) _ _ separator ∙ cond-true full _ _ all
+
+  -- it goes on
+  pub direction-on : (full : Bool) (e : ℕ) → e ≡ (if is_initiator class then d + 1 else if is_pdi class then d - 1 else d) → (is_strong class ≡ false) ⊎ (d ≡ 0 → ⊥) → is_paragraph_separator class ≡ false
+      → direction_from full d (map f (drop n chars)) ≡ direction_from full e (map f (drop (n + 1) chars))
+  direction-on full e counted undecided other =
+      direction_step full ∙ cond-false (is_strong class && is_zero d) _ _ (open_or_weak undecided) ∙ cond-false (is_paragraph_separator class) _ _ other
+      ∙ ap (λ (k : ℕ). direction_from full k (map f (drop (n + 1) chars))) (sym (counted ∙ depth_by-counted class d))
+    where
+      open_or_weak : (is_strong class ≡ false) ⊎ (d ≡ 0 → ⊥) → (is_strong class && is_zero d) ≡ false
+      open_or_weak (inl none) = and_left (is_strong class) (is_zero d) none
+      open_or_weak (inr deep) = and_right (is_strong class) (is_zero d) (is_zero-none d deep)
+
+pub depth-le : (class : BidiClass) (d n : ℕ) → d ≤ n → (if is_initiator class then d + 1 else if is_pdi class then d - 1 else d) ≤ n + 1
+depth-le class d n order = by_tests (is_initiator class) (is_pdi class)
+  where
+    by_tests : (b p : Bool) → cond b (d + 1) (cond p (d - 1) d) ≤ n + 1
+    by_tests true p = omega arith
+    by_tests false true = omega arith
+    by_tests false false = omega arith

@@ -1,0 +1,422 @@
+-- Isolates in one walk from the front, which counts those that are open: the matching PDI (BD9), the deciding character (P2), and what an FSI becomes (X5c).
+use Rattle.std.proofs.Common.{◌≡◌, ℕ, zero, suc, ◌+◌, ◌-◌, ◌<◌, ◌≤◌, Bool, true, false, not, ◌&&◌, ◌||◌, cond, ltb, List, [], ◌∷◌, ◌++◌, length, get_or, take, drop, map, find, Option, Some, None, unwrap_or, option_map, refl, sym, ap, subst, ◌∙◌, arith, ◌⊎◌, inl, inr, eq-eqb, ne_eqb, lt-ltb, le-ltb, length-drop}
+use Rattle.std.specs.Prelude.{slice_range}
+use Rattle.std.specs.List.{range_with_len, list_any}
+use Rattle.std.proofs.lemmas.List.{drop-drop, get_or-drop, take_more}
+use Rattle.std.proofs.lemmas.Bool.{cases_Bool, cases_lt, ltb-true, cond-true, cond-false, and_left, and_right, or_from}
+use Rattle.bidi_base.specs.declared.char_data.BidiClass.{BidiClass}
+use Rattle.bidi_base.specs.declared.char_data.BidiClass.TheVariants.{L, LRI, RLI, FSI, PDI}
+use Rattle.bidi_base.specs.Classes.{is_strong, is_initiator, is_pdi}
+use Rattle.bidi_base.specs.Places.{class_at, indexes, between, count_between}
+use Rattle.bidi_base.specs.Matching.{is_closed_at, is_before, match_of}
+use Rattle.bidi_base.specs.Isolates.{is_initiator_at, is_pdi_at, matching_pdi, is_inside, is_isolated, deciding_class, isolated_classes, resolved_fsi, stored_class, stored_classes}
+use Rattle.bidi_base.proofs.MatchingLemmas.{count_between-more, count_between-none}
+
+-- what a character does to the number of open isolates
+pub data Kind : Type 0 where
+  opening : Kind
+  closing : Kind
+  neither : Kind
+
+abbrev pub kind_of : BidiClass → Kind
+kind_of LRI = opening
+kind_of RLI = opening
+kind_of FSI = opening
+kind_of PDI = closing
+kind_of _ = neither
+
+abbrev pub opens_one : Kind → Bool
+opens_one opening = true
+opens_one closing = false
+opens_one neither = false
+
+abbrev pub closes_one : Kind → Bool
+closes_one opening = false
+closes_one closing = true
+closes_one neither = false
+
+pub is_initiator-kind : (c : BidiClass) → is_initiator c ≡ opens_one (kind_of c)
+is_initiator-kind LRI = refl
+is_initiator-kind RLI = refl
+is_initiator-kind FSI = refl
+is_initiator-kind PDI = refl
+is_initiator-kind _ = refl
+
+pub is_pdi-kind : (c : BidiClass) → is_pdi c ≡ closes_one (kind_of c)
+is_pdi-kind LRI = refl
+is_pdi-kind RLI = refl
+is_pdi-kind FSI = refl
+is_pdi-kind PDI = refl
+is_pdi-kind _ = refl
+
+-- the number of open isolates after a character, where d are open before it
+abbrev pub depth_by : Kind → ℕ → ℕ
+depth_by opening d = suc d
+depth_by closing zero = zero
+depth_by closing (suc d) = d
+depth_by neither d = d
+
+-- and after some characters
+abbrev pub depth_after : ℕ → List BidiClass → ℕ
+depth_after d [] = d
+depth_after d (c ∷ cs) = depth_after (depth_by (kind_of c) d) cs
+
+abbrev pub is_zero : ℕ → Bool
+is_zero zero = true
+is_zero (suc n) = false
+
+-- the character is a PDI that no open isolate awaits
+abbrev pub ends_by : Kind → ℕ → Bool
+ends_by opening d = false
+ends_by closing d = is_zero d
+ends_by neither d = false
+
+-- some character is
+abbrev pub has_end : ℕ → List BidiClass → Bool
+has_end d [] = false
+has_end d (c ∷ cs) = ends_by (kind_of c) d || has_end (depth_by (kind_of c) d) cs
+
+-- the index of the first that is, where the first character has index p
+abbrev pub end_from : ℕ → ℕ → List BidiClass → Option ℕ
+end_from d p [] = None
+end_from d p (c ∷ cs) = cond (ends_by (kind_of c) d) (Some p) (end_from (depth_by (kind_of c) d) (suc p) cs)
+
+-- the first strong character at which no isolate is open
+abbrev pub deciding_from : ℕ → List BidiClass → Option BidiClass
+deciding_from d [] = None
+deciding_from d (c ∷ cs) = cond (is_strong c && is_zero d) (Some c) (deciding_from (depth_by (kind_of c) d) cs)
+
+-- the same before the first PDI that no open isolate awaits
+abbrev pub resolving_from : ℕ → List BidiClass → Option BidiClass
+resolving_from d [] = None
+resolving_from d (c ∷ cs) = cond (ends_by (kind_of c) d) None (cond (is_strong c && is_zero d) (Some c) (resolving_from (depth_by (kind_of c) d) cs))
+
+-- a class with an FSI resolved by the deciding character inside it
+abbrev pub stored_by : BidiClass → Option BidiClass → BidiClass
+stored_by FSI deciding = resolved_fsi deciding
+stored_by c deciding = c
+
+abbrev pub stored_from : List BidiClass → List BidiClass
+stored_from [] = []
+stored_from (c ∷ cs) = stored_by c (resolving_from 0 cs) ∷ stored_from cs
+
+-- ---- what is left of a list at an index
+
+record IsAt (xs : List BidiClass) (p : ℕ) (x : BidiClass) (rest : List BidiClass) : Type 0 where
+  is : class_at xs p ≡ x
+  next : drop (suc p) xs ≡ rest
+
+at_front : (xs : List BidiClass) (p : ℕ) (x : BidiClass) (rest : List BidiClass) → drop p xs ≡ x ∷ rest → IsAt xs p x rest
+at_front xs p x rest e =
+    let here : p + 0 ≡ p = omega arith in
+    let more : p + 1 ≡ suc p = omega arith in
+    record {
+      is = sym (ap (λ (n : ℕ). class_at xs n) here) ∙ sym (get_or-drop p xs 0 L) ∙ ap (λ (ys : List BidiClass). class_at ys 0) e;
+      next = sym (ap (λ (n : ℕ). drop n xs) more) ∙ sym (drop-drop 1 p xs) ∙ ap (drop 1) e;
+    }
+
+-- ---- the matching PDI
+
+-- of the indexes after q and below p, d more open than close
+record IsUnder (classes : List BidiClass) (q p d : ℕ) : Type 0 where
+  later : q < p
+  counts : count_between (is_initiator_at classes) (q + 1) p ≡ count_between (is_pdi_at classes) (q + 1) p + d
+
+counted : (b c : Bool) → b ≡ c → cond {A = ℕ} b 1 0 ≡ cond c 1 0
+counted b c e = ap (λ (x : Bool). cond {A = ℕ} x 1 0) e
+
+module _ (classes : List BidiClass) (q p d : ℕ) (x : BidiClass) (here : class_at classes p ≡ x) (h : IsUnder classes q p d) where
+  openings_more : count_between (is_initiator_at classes) (q + 1) (p + 1) ≡ count_between (is_initiator_at classes) (q + 1) p + cond (opens_one (kind_of x)) 1 0
+  openings_more =
+      let more : count_between (is_initiator_at classes) (q + 1) (p + 1) ≡ count_between (is_initiator_at classes) (q + 1) p + cond (is_initiator_at classes p) 1 0 = count_between-more (is_initiator_at classes) (q + 1) p (omega (arith, h.later)) in
+      let same : cond {A = ℕ} (is_initiator_at classes p) 1 0 ≡ cond (opens_one (kind_of x)) 1 0 = counted (is_initiator_at classes p) (opens_one (kind_of x)) (ap is_initiator here ∙ is_initiator-kind x) in
+      omega arith
+
+  closings_more : count_between (is_pdi_at classes) (q + 1) (p + 1) ≡ count_between (is_pdi_at classes) (q + 1) p + cond (closes_one (kind_of x)) 1 0
+  closings_more =
+      let more : count_between (is_pdi_at classes) (q + 1) (p + 1) ≡ count_between (is_pdi_at classes) (q + 1) p + cond (is_pdi_at classes p) 1 0 = count_between-more (is_pdi_at classes) (q + 1) p (omega (arith, h.later)) in
+      let same : cond {A = ℕ} (is_pdi_at classes p) 1 0 ≡ cond (closes_one (kind_of x)) 1 0 = counted (is_pdi_at classes p) (closes_one (kind_of x)) (ap is_pdi here ∙ is_pdi-kind x) in
+      omega arith
+
+  tested : (k : Kind) (e : ℕ) → count_between (is_initiator_at classes) (q + 1) (p + 1) ≡ count_between (is_initiator_at classes) (q + 1) p + cond (opens_one k) 1 0
+      → count_between (is_pdi_at classes) (q + 1) (p + 1) ≡ count_between (is_pdi_at classes) (q + 1) p + cond (closes_one k) 1 0
+      → count_between (is_initiator_at classes) (q + 1) p ≡ count_between (is_pdi_at classes) (q + 1) p + e
+      → (is_closed_at (is_initiator_at classes) (is_pdi_at classes) q p ≡ ends_by k e) × (ends_by k e ≡ false → count_between (is_initiator_at classes) (q + 1) (p + 1) ≡ count_between (is_pdi_at classes) (q + 1) (p + 1) + depth_by k e)
+  tested opening e o c under = (ne_eqb _ _ (λ same. omega arith), λ more. omega arith)
+  tested closing zero o c under = (eq-eqb _ _ (omega arith), λ more. absurd (cc more))
+  tested closing (suc e) o c under = (ne_eqb _ _ (λ same. omega arith), λ more. omega arith)
+  tested neither e o c under = (ne_eqb _ _ (λ same. omega arith), λ more. omega arith)
+
+  closed_here : is_closed_at (is_initiator_at classes) (is_pdi_at classes) q p ≡ ends_by (kind_of x) d
+  closed_here = (tested (kind_of x) d openings_more closings_more h.counts).0
+
+  under_more : ends_by (kind_of x) d ≡ false → IsUnder classes q (p + 1) (depth_by (kind_of x) d)
+  under_more more = record { later = omega (arith, h.later); counts = (tested (kind_of x) d openings_more closings_more h.counts).1 more }
+
+find_end : (classes : List BidiClass) (q p d : ℕ) (rest : List BidiClass) → drop p classes ≡ rest → IsUnder classes q p d → find (is_closed_at (is_initiator_at classes) (is_pdi_at classes) q) (range_with_len p (length rest)) ≡ end_from d p rest
+find_end classes q p d [] e h = refl
+find_end classes q p d (x ∷ rest) e h =
+    let at : IsAt classes p x rest = at_front classes p x rest e in
+    let closed : is_closed_at (is_initiator_at classes) (is_pdi_at classes) q p ≡ ends_by (kind_of x) d = closed_here classes q p d x at.is h in
+    let found : Option ℕ = find (is_closed_at (is_initiator_at classes) (is_pdi_at classes) q) (range_with_len (p + 1) (length rest)) in
+    let more : p + 1 ≡ suc p = omega arith in
+    ap (λ (b : Bool). cond b (Some p) found) closed
+    ∙ elim (cases_Bool (ends_by (kind_of x) d)) [
+      | inl ends ↦ cond-true (ends_by (kind_of x) d) (Some p) found ends ∙ sym (cond-true (ends_by (kind_of x) d) (Some p) (end_from (depth_by (kind_of x) d) (suc p) rest) ends)
+      | inr on ↦
+          ap (λ (o : Option ℕ). cond (ends_by (kind_of x) d) (Some p) o)
+          (find_end classes q (p + 1) (depth_by (kind_of x) d) rest (ap (λ (n : ℕ). drop n classes) more ∙ at.next) (under_more classes q p d x at.is h on) ∙ ap (λ (n : ℕ). end_from (depth_by (kind_of x) d) n rest) more)
+    ]
+
+-- the match of q is the first PDI after q that no open isolate awaits
+pub matching_pdi-end_from : (classes : List BidiClass) (q : ℕ) → matching_pdi classes q ≡ end_from 0 (q + 1) (drop (q + 1) classes)
+unfolding matching_pdi match_of
+matching_pdi-end_from classes q =
+    let long : length classes - (q + 1) ≡ length (drop (q + 1) classes) = sym (length-drop (q + 1) classes) in
+    ap (λ (n : ℕ). find (is_closed_at (is_initiator_at classes) (is_pdi_at classes) q) (range_with_len (q + 1) n)) long
+    ∙ find_end classes q (q + 1) 0 (drop (q + 1) classes) refl (record { later = omega arith; counts = omega (arith, count_between-none (is_initiator_at classes) (q + 1), count_between-none (is_pdi_at classes) (q + 1)) })
+
+-- ---- what stands in an isolate
+
+-- one character on
+before_one : (k : Kind) (d u n : ℕ) (xs front : List BidiClass) → is_before (u + n) (end_from (depth_by k d) (suc u) xs) ≡ not (has_end (depth_by k d) front)
+    → is_before (u + n) (cond (ends_by k d) (Some u) (end_from (depth_by k d) (suc u) xs)) ≡ not (ends_by k d || has_end (depth_by k d) front)
+before_one k d u n xs front rest = elim (cases_Bool (ends_by k d)) [
+  | inl ends ↦
+      ap (is_before (u + n)) (cond-true (ends_by k d) (Some u) (end_from (depth_by k d) (suc u) xs) ends) ∙ le-ltb (u + n) u (omega arith)
+      ∙ sym (ap (λ (b : Bool). not (b || has_end (depth_by k d) front)) ends)
+  | inr on ↦
+      ap (is_before (u + n)) (cond-false (ends_by k d) (Some u) (end_from (depth_by k d) (suc u) xs) on) ∙ rest
+      ∙ sym (ap (λ (b : Bool). not (b || has_end (depth_by k d) front)) on)
+]
+
+-- a walk that starts later finds only later ends
+end_from-later : (d p u : ℕ) (xs : List BidiClass) → p < u → is_before p (end_from d u xs) ≡ true
+end_from-later d p u [] order = refl
+end_from-later d p u (x ∷ xs) order = elim (cases_Bool (ends_by (kind_of x) d)) [
+  | inl ends ↦ ap (is_before p) (cond-true (ends_by (kind_of x) d) (Some u) (end_from (depth_by (kind_of x) d) (suc u) xs) ends) ∙ lt-ltb p u order
+  | inr on ↦ ap (is_before p) (cond-false (ends_by (kind_of x) d) (Some u) (end_from (depth_by (kind_of x) d) (suc u) xs) on) ∙ end_from-later (depth_by (kind_of x) d) p (suc u) xs (omega arith)
+]
+
+-- the index u + n is before the first end exactly if there is no end up to it
+before_end : (d u n : ℕ) (xs : List BidiClass) → is_before (u + n) (end_from d u xs) ≡ not (has_end d (take (suc n) xs))
+before_end d u n [] = refl
+before_end d u zero (x ∷ xs) = before_one (kind_of x) d u 0 xs [] (end_from-later (depth_by (kind_of x) d) (u + 0) (suc u) xs (omega arith))
+before_end d u (suc n) (x ∷ xs) =
+    let place : u + suc n ≡ suc u + n = omega arith in
+    before_one (kind_of x) d u (suc n) xs (take (suc n) xs) (ap (λ (k : ℕ). is_before k (end_from (depth_by (kind_of x) d) (suc u) xs)) place ∙ before_end (depth_by (kind_of x) d) (suc u) n xs)
+
+-- the characters read leave an isolate open
+abbrev pub is_open_after : List BidiClass → Bool
+is_open_after [] = false
+is_open_after (c ∷ cs) = (opens_one (kind_of c) && not (has_end 0 cs)) || is_open_after cs
+
+-- how an end is found in characters that were read one by one
+pub depth_after-append : (d : ℕ) (xs ys : List BidiClass) → depth_after d (xs ++ ys) ≡ depth_after (depth_after d xs) ys
+depth_after-append d [] ys = refl
+depth_after-append d (x ∷ xs) ys = depth_after-append (depth_by (kind_of x) d) xs ys
+
+pub has_end-append : (d : ℕ) (xs ys : List BidiClass) → has_end d (xs ++ ys) ≡ (has_end d xs || has_end (depth_after d xs) ys)
+has_end-append d [] ys = refl
+has_end-append d (x ∷ xs) ys =
+    ap (λ (b : Bool). ends_by (kind_of x) d || b) (has_end-append (depth_by (kind_of x) d) xs ys)
+    ∙ sym (or_assoc (ends_by (kind_of x) d) (has_end (depth_by (kind_of x) d) xs) (has_end (depth_after (depth_by (kind_of x) d) xs) ys))
+  where
+    or_assoc : (a b c : Bool) → ((a || b) || c) ≡ (a || (b || c))
+    or_assoc true b c = refl
+    or_assoc false b c = refl
+
+-- one more open isolate stays open until the first end
+pub depth_after-deeper : (d : ℕ) (xs : List BidiClass) → depth_after (suc d) xs ≡ cond (has_end d xs) (depth_after d xs) (suc (depth_after d xs))
+depth_after-deeper d [] = refl
+depth_after-deeper d (x ∷ xs) = deeper (kind_of x) d (λ e. depth_after-deeper e xs)
+  where
+    deeper : (k : Kind) (d : ℕ) → ((e : ℕ) → depth_after (suc e) xs ≡ cond (has_end e xs) (depth_after e xs) (suc (depth_after e xs)))
+        → depth_after (depth_by k (suc d)) xs ≡ cond (ends_by k d || has_end (depth_by k d) xs) (depth_after (depth_by k d) xs) (suc (depth_after (depth_by k d) xs))
+    deeper opening d rest = rest (suc d)
+    deeper closing zero rest = refl
+    deeper closing (suc d) rest = rest d
+    deeper neither d rest = rest d
+
+-- an isolate is open exactly if their number is not zero
+pub is_open_after-depth : (xs : List BidiClass) → is_open_after xs ≡ not (is_zero (depth_after 0 xs))
+is_open_after-depth [] = refl
+is_open_after-depth (x ∷ xs) = one (kind_of x) (is_open_after-depth xs) (depth_after-deeper 0 xs)
+  where
+    one : (k : Kind) → is_open_after xs ≡ not (is_zero (depth_after 0 xs)) → depth_after 1 xs ≡ cond (has_end 0 xs) (depth_after 0 xs) (suc (depth_after 0 xs))
+        → ((opens_one k && not (has_end 0 xs)) || is_open_after xs) ≡ not (is_zero (depth_after (depth_by k 0) xs))
+    one opening rest deeper = elim (cases_Bool (has_end 0 xs)) [
+      | inl ends ↦
+          ap (λ (b : Bool). not b || is_open_after xs) ends ∙ rest
+          ∙ ap (λ (n : ℕ). not (is_zero n)) (sym (deeper ∙ cond-true (has_end 0 xs) (depth_after 0 xs) (suc (depth_after 0 xs)) ends))
+      | inr on ↦
+          ap (λ (b : Bool). not b || is_open_after xs) on
+          ∙ ap (λ (n : ℕ). not (is_zero n)) (sym (deeper ∙ cond-false (has_end 0 xs) (depth_after 0 xs) (suc (depth_after 0 xs)) on))
+    ]
+    one closing rest deeper = rest
+    one neither rest deeper = rest
+
+-- a character that closes nothing is no end
+has_end-more : (d k : ℕ) (xs : List BidiClass) → k < length xs → kind_of (class_at xs k) ≡ neither → has_end d (take (suc k) xs) ≡ has_end d (take k xs)
+has_end-more d k xs within other =
+    let more : suc k ≡ k + 1 = omega arith in
+    ap (λ (n : ℕ). has_end d (take n xs)) more ∙ ap (has_end d) (take_more xs k L within) ∙ has_end-append d (take k xs) (class_at xs k ∷ [])
+    ∙ ap (λ (x : Kind). has_end d (take k xs) || (ends_by x (depth_after d (take k xs)) || false)) other ∙ or_false (has_end d (take k xs))
+  where
+    or_false : (b : Bool) → (b || false) ≡ b
+    or_false true = refl
+    or_false false = refl
+
+none_inside : (classes : List BidiClass) (p s n : ℕ) → p ≤ s → list_any (λ q. is_inside classes q p) (range_with_len s n) ≡ false
+unfolding is_inside
+none_inside classes p s zero order = refl
+none_inside classes p s (suc n) order = or_from _ _ (and_left _ _ (and_right _ _ (le-ltb s p order))) (none_inside classes p (s + 1) n (omega arith))
+
+-- the isolates round p that begin at s or later
+some_inside : (classes : List BidiClass) (p s k : ℕ) (rest : List BidiClass) → drop s classes ≡ rest → s + k ≡ p → k < length rest → kind_of (class_at classes p) ≡ neither
+    → list_any (λ q. is_inside classes q p) (range_with_len s (length rest)) ≡ is_open_after (take k rest)
+unfolding is_inside
+some_inside classes p s zero rest e place within other = none_inside classes p s (length rest) (omega arith)
+some_inside classes p s (suc k) [] e place within other = absurd (omega arith)
+some_inside classes p s (suc k) (x ∷ rest) e place within other =
+    let at : IsAt classes s x rest = at_front classes s x rest e in
+    let more : s + 1 ≡ suc s = omega arith in
+    let next : drop (s + 1) classes ≡ rest = ap (λ (n : ℕ). drop n classes) more ∙ at.next in
+    let here : s + 1 + k ≡ p = omega arith in
+    let opens : is_initiator_at classes s ≡ opens_one (kind_of x) = ap is_initiator at.is ∙ is_initiator-kind x in
+    let class_there : class_at rest k ≡ class_at classes p = ap (λ (ys : List BidiClass). class_at ys k) (sym next) ∙ get_or-drop (s + 1) classes k L ∙ ap (class_at classes) here in
+    let match : is_before p (matching_pdi classes s) ≡ not (has_end 0 (take k rest)) =
+    ap (is_before p) (matching_pdi-end_from classes s) ∙ ap (λ (ys : List BidiClass). is_before p (end_from 0 (s + 1) ys)) next ∙ ap (λ (n : ℕ). is_before n (end_from 0 (s + 1) rest)) (sym here)
+    ∙ before_end 0 (s + 1) k rest ∙ ap not (has_end-more 0 k rest (omega arith) (ap kind_of class_there ∙ other)) in
+    ap (λ (b : Bool). b || list_any (λ q. (is_initiator_at classes q && ltb q p) && is_before p (matching_pdi classes q)) (range_with_len (s + 1) (length rest)))
+    (joined (is_initiator_at classes s) (ltb s p) (is_before p (matching_pdi classes s)) (opens_one (kind_of x)) (not (has_end 0 (take k rest))) opens (lt-ltb s p (omega arith)) match)
+    ∙ ap (λ (b : Bool). (opens_one (kind_of x) && not (has_end 0 (take k rest))) || b) (some_inside classes p (s + 1) k rest next here (omega arith) other)
+  where
+    joined : (a b c x y : Bool) → a ≡ x → b ≡ true → c ≡ y → ((a && b) && c) ≡ (x && y)
+    joined a b c x y f g h = grind arith
+
+-- a character that neither opens nor closes stands in an isolate exactly if one is open there
+pub is_isolated-depth : (classes : List BidiClass) (p : ℕ) → p < length classes → kind_of (class_at classes p) ≡ neither → is_isolated classes p ≡ not (is_zero (depth_after 0 (take p classes)))
+unfolding is_isolated
+is_isolated-depth classes p within other = some_inside classes p 0 p classes refl (omega arith) within other ∙ is_open_after-depth (take p classes)
+
+-- ---- the deciding character (P2)
+
+pub strong_kind : (c : BidiClass) → is_strong c ≡ true → kind_of c ≡ neither
+strong_kind LRI e = absurd (cc e)
+strong_kind RLI e = absurd (cc e)
+strong_kind FSI e = absurd (cc e)
+strong_kind PDI e = absurd (cc e)
+strong_kind _ e = refl
+
+depth_after-more : (classes : List BidiClass) (p : ℕ) (x : BidiClass) → p < length classes → class_at classes p ≡ x → depth_after 0 (take (suc p) classes) ≡ depth_by (kind_of x) (depth_after 0 (take p classes))
+depth_after-more classes p x within is =
+    let more : suc p ≡ p + 1 = omega arith in
+    ap (λ (n : ℕ). depth_after 0 (take n classes)) more ∙ ap (depth_after 0) (take_more classes p L within) ∙ depth_after-append 0 (take p classes) (class_at classes p ∷ [])
+    ∙ ap (λ (c : BidiClass). depth_by (kind_of c) (depth_after 0 (take p classes))) is
+
+find_deciding : (classes : List BidiClass) (p : ℕ) (rest : List BidiClass) → drop p classes ≡ rest
+    → option_map (class_at classes) (find (λ k. is_strong (class_at classes k) && not (is_isolated classes k)) (range_with_len p (length rest))) ≡ deciding_from (depth_after 0 (take p classes)) rest
+find_deciding classes p [] e = refl
+find_deciding classes p (x ∷ rest) e =
+    let at : IsAt classes p x rest = at_front classes p x rest e in
+    let more : p + 1 ≡ suc p = omega arith in
+    let within : p < length classes = omega (arith, length-drop p classes, ap length e) in
+    let test : (is_strong (class_at classes p) && not (is_isolated classes p)) ≡ (is_strong x && is_zero (depth_after 0 (take p classes))) = tested (cases_Bool (is_strong x)) at.is within in
+    let others : Option ℕ = find (λ k. is_strong (class_at classes k) && not (is_isolated classes k)) (range_with_len (p + 1) (length rest)) in
+    ap (λ (b : Bool). option_map (class_at classes) (cond b (Some p) others)) test
+    ∙ mapped (is_strong x && is_zero (depth_after 0 (take p classes))) p others
+    ∙ ap (λ (c : BidiClass). cond (is_strong x && is_zero (depth_after 0 (take p classes))) (Some c) (option_map (class_at classes) others)) at.is
+    ∙ ap (λ (o : Option BidiClass). cond (is_strong x && is_zero (depth_after 0 (take p classes))) (Some x) o)
+    (find_deciding classes (p + 1) rest (ap (λ (n : ℕ). drop n classes) more ∙ at.next)
+    ∙ ap (λ (n : ℕ). deciding_from (depth_after 0 (take n classes)) rest) more ∙ ap (λ (d : ℕ). deciding_from d rest) (depth_after-more classes p x within at.is))
+  where
+    mapped : (b : Bool) (p : ℕ) (o : Option ℕ) → option_map (class_at classes) (cond b (Some p) o) ≡ cond b (Some (class_at classes p)) (option_map (class_at classes) o)
+    mapped true p o = refl
+    mapped false p o = refl
+
+    not_not : (n : ℕ) → not (not (is_zero n)) ≡ is_zero n
+    not_not zero = refl
+    not_not (suc n) = refl
+
+    tested : (is_strong x ≡ true) ⊎ (is_strong x ≡ false) → class_at classes p ≡ x → p < length classes
+        → (is_strong (class_at classes p) && not (is_isolated classes p)) ≡ (is_strong x && is_zero (depth_after 0 (take p classes)))
+    tested (inl strong) is within =
+        ap (λ (c : BidiClass). is_strong c && not (is_isolated classes p)) is
+        ∙ ap (λ (b : Bool). is_strong x && not b) (is_isolated-depth classes p within (ap kind_of is ∙ strong_kind x strong))
+        ∙ ap (λ (b : Bool). is_strong x && b) (not_not (depth_after 0 (take p classes)))
+    tested (inr weak) is within =
+        ap (λ (c : BidiClass). is_strong c && not (is_isolated classes p)) is ∙ and_left (is_strong x) (not (is_isolated classes p)) weak ∙ sym (and_left (is_strong x) (is_zero (depth_after 0 (take p classes))) weak)
+
+-- the deciding character is found in one walk
+pub deciding_class-from : (classes : List BidiClass) → deciding_class classes ≡ deciding_from 0 classes
+unfolding deciding_class
+deciding_class-from classes = find_deciding classes 0 classes refl
+
+-- ---- what an FSI becomes (X5c)
+
+end_from-late : (d u n : ℕ) (xs : List BidiClass) → u ≤ n → u ≤ unwrap_or (end_from d u xs) n
+end_from-late d u n [] order = order
+end_from-late d u n (x ∷ xs) order = elim (cases_Bool (ends_by (kind_of x) d)) [
+  | inl ends ↦ let here : unwrap_or (cond (ends_by (kind_of x) d) (Some u) (end_from (depth_by (kind_of x) d) (suc u) xs)) n ≡ u = ap (λ (o : Option ℕ). unwrap_or o n) (cond-true (ends_by (kind_of x) d) (Some u) (end_from (depth_by (kind_of x) d) (suc u) xs) ends) in omega arith
+  | inr on ↦
+      let there : unwrap_or (cond (ends_by (kind_of x) d) (Some u) (end_from (depth_by (kind_of x) d) (suc u) xs)) n ≡ unwrap_or (end_from (depth_by (kind_of x) d) (suc u) xs) n = ap (λ (o : Option ℕ). unwrap_or o n) (cond-false (ends_by (kind_of x) d) (Some u) (end_from (depth_by (kind_of x) d) (suc u) xs) on) in
+      elim (cases_lt u n) [
+        | inl below ↦ omega (arith, end_from-late (depth_by (kind_of x) d) (suc u) n xs (omega arith))
+        | inr above ↦ at_end (end_from (depth_by (kind_of x) d) (suc u) xs) (end_from-later (depth_by (kind_of x) d) u (suc u) xs (omega arith)) there
+      ]
+]
+  where
+    at_end : (o : Option ℕ) → is_before u o ≡ true → unwrap_or (cond (ends_by (kind_of x) d) (Some u) (end_from (depth_by (kind_of x) d) (suc u) xs)) n ≡ unwrap_or o n → u ≤ unwrap_or (cond (ends_by (kind_of x) d) (Some u) (end_from (depth_by (kind_of x) d) (suc u) xs)) n
+    at_end None before e = omega arith
+    at_end (Some k) before e = omega (arith, ltb-true u k before)
+
+-- the deciding character of what stands before the first end
+resolved : (d u n : ℕ) (xs : List BidiClass) → u + length xs ≤ n → deciding_from d (take (unwrap_or (end_from d u xs) n - u) xs) ≡ resolving_from d xs
+resolved d u n [] fits = ap (deciding_from d) (take-nil (n - u))
+  where
+    take-nil : (k : ℕ) → take {A = BidiClass} k [] ≡ []
+    take-nil zero = refl
+    take-nil (suc k) = refl
+resolved d u n (x ∷ xs) fits = elim (cases_Bool (ends_by (kind_of x) d)) [
+  | inl ends ↦
+      let none : u - u ≡ 0 = omega arith in
+      ap (λ (o : Option ℕ). deciding_from d (take (unwrap_or o n - u) (x ∷ xs))) (cond-true (ends_by (kind_of x) d) (Some u) (end_from (depth_by (kind_of x) d) (suc u) xs) ends)
+      ∙ ap (λ (k : ℕ). deciding_from d (take k (x ∷ xs))) none
+      ∙ sym (cond-true (ends_by (kind_of x) d) None (cond (is_strong x && is_zero d) (Some x) (resolving_from (depth_by (kind_of x) d) xs)) ends)
+  | inr on ↦
+      let late : suc u ≤ unwrap_or (end_from (depth_by (kind_of x) d) (suc u) xs) n = end_from-late (depth_by (kind_of x) d) (suc u) n xs (omega arith) in
+      let more : unwrap_or (end_from (depth_by (kind_of x) d) (suc u) xs) n - u ≡ suc (unwrap_or (end_from (depth_by (kind_of x) d) (suc u) xs) n - suc u) = omega arith in
+      ap (λ (o : Option ℕ). deciding_from d (take (unwrap_or o n - u) (x ∷ xs))) (cond-false (ends_by (kind_of x) d) (Some u) (end_from (depth_by (kind_of x) d) (suc u) xs) on)
+      ∙ ap (λ (k : ℕ). deciding_from d (take k (x ∷ xs))) more
+      ∙ ap (λ (o : Option BidiClass). cond (is_strong x && is_zero d) (Some x) o) (resolved (depth_by (kind_of x) d) (suc u) n xs (omega arith))
+      ∙ sym (cond-false (ends_by (kind_of x) d) None (cond (is_strong x && is_zero d) (Some x) (resolving_from (depth_by (kind_of x) d) xs)) on)
+]
+
+pub deciding_class-isolated : (classes : List BidiClass) (q : ℕ) → q < length classes → deciding_class (isolated_classes classes q) ≡ resolving_from 0 (drop (q + 1) classes)
+unfolding isolated_classes
+deciding_class-isolated classes q within =
+    deciding_class-from (slice_range classes (q + 1) (unwrap_or (matching_pdi classes q) (length classes)))
+    ∙ ap (λ (o : Option ℕ). deciding_from 0 (take (unwrap_or o (length classes) - (q + 1)) (drop (q + 1) classes))) (matching_pdi-end_from classes q)
+    ∙ resolved 0 (q + 1) (length classes) (drop (q + 1) classes) (omega (arith, length-drop (q + 1) classes))
+
+all_stored : (classes : List BidiClass) (p : ℕ) (rest : List BidiClass) → drop p classes ≡ rest → map (λ q. stored_class classes q (class_at classes q)) (range_with_len p (length rest)) ≡ stored_from rest
+all_stored classes p [] e = refl
+all_stored classes p (x ∷ rest) e =
+    let at : IsAt classes p x rest = at_front classes p x rest e in
+    let more : p + 1 ≡ suc p = omega arith in
+    let next : drop (p + 1) classes ≡ rest = ap (λ (n : ℕ). drop n classes) more ∙ at.next in
+    let first : stored_class classes p (class_at classes p) ≡ stored_by x (resolving_from 0 rest) =
+    ap (stored_class classes p) at.is ∙ by_deciding x
+    ∙ ap (stored_by x) (deciding_class-isolated classes p (omega (arith, length-drop p classes, ap length e)) ∙ ap (resolving_from 0) next) in
+    ap (λ (c : BidiClass). c ∷ map (λ q. stored_class classes q (class_at classes q)) (range_with_len (p + 1) (length rest))) first
+    ∙ ap (λ (cs : List BidiClass). stored_by x (resolving_from 0 rest) ∷ cs) (all_stored classes (p + 1) rest next)
+  where
+    by_deciding : (c : BidiClass) → stored_class classes p c ≡ stored_by c (deciding_class (isolated_classes classes p))
+    by_deciding FSI = refl
+    by_deciding _ = refl
+
+-- what a class is stored as depends on what follows it alone
+pub stored_classes-from : (classes : List BidiClass) → stored_classes classes ≡ stored_from classes
+unfolding stored_classes
+stored_classes-from classes = all_stored classes 0 classes refl

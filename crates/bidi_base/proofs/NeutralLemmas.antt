@@ -1,0 +1,125 @@
+-- The classes that N0 to N2 leave: N0 keeps those that W7 leaves, and after N2 each has a direction.
+use Rattle.std.proofs.Common.{◌≡◌, ℕ, zero, suc, ◌+◌, ◌<◌, ◌≤◌, Bool, true, false, cond, List, [], ◌∷◌, map, length, take, reverse, filter_map, find, fold, Option, Some, None, option_map, refl, ap, subst, ◌∙◌, inl, inr, arith}
+use Rattle.std.specs.List.{list_all, list_any, range_with_len, cons_option}
+use Rattle.std.specs.Option.{option_map_or}
+use Rattle.std.proofs.lemmas.Bool.{cases_Bool, and_from, or_cases, or_left, both_ways, cond-true, cond-false}
+use Rattle.bidi_base.specs.declared.char_data.BidiClass.{BidiClass}
+use Rattle.bidi_base.specs.declared.char_data.BidiClass.TheVariants.{L, R, EN, AN}
+use Rattle.bidi_base.specs.declared.data_source.BidiMatchedOpeningBracket.{BidiMatchedOpeningBracket}
+use Rattle.bidi_base.specs.Classes.{as_direction, has_direction, is_l_or_r, is_neutral, is_weak_resolved, same_class}
+use Rattle.bidi_base.specs.Levels.{is_odd, direction_of}
+use Rattle.bidi_base.specs.Places.{class_at, first_or}
+use Rattle.bidi_base.specs.Brackets.{bracket_pairs}
+use Rattle.bidi_base.specs.Neutral.{nearest_direction, directions_between, pair_direction, goes_with_pair, with_pair, n0_pair, n0, n1_rule, n1_n2, neutral_classes}
+use Rattle.bidi_base.proofs.ContextLemmas.{list_all-in_context, list_all-get_or}
+
+directed : (c : BidiClass) → is_l_or_r c ≡ true → has_direction c ≡ true
+directed L h = refl
+directed R h = refl
+directed _ h = absurd (cc h)
+
+one_option : (d c : BidiClass) (ds : List BidiClass) → is_l_or_r d ≡ true → is_l_or_r (first_or d ds) ≡ true → is_l_or_r (first_or d (cons_option (as_direction c) ds)) ≡ true
+one_option d L ds h k = refl
+one_option d R ds h k = refl
+one_option d EN ds h k = refl
+one_option d AN ds h k = refl
+one_option d _ ds h k = k
+
+-- the nearest direction is L or R
+pub nearest_direction-l_or_r : (d : BidiClass) (cs : List BidiClass) → is_l_or_r d ≡ true → is_l_or_r (nearest_direction d cs) ≡ true
+nearest_direction-l_or_r d [] h = h
+nearest_direction-l_or_r d (c ∷ cs) h = one_option d c (filter_map as_direction cs) h (nearest_direction-l_or_r d cs h)
+
+pub direction_of-l_or_r : (level : ℕ) → is_l_or_r (direction_of level) ≡ true
+direction_of-l_or_r level = by_test (is_odd level)
+  where
+    by_test : (b : Bool) → is_l_or_r (cond b R L) ≡ true
+    by_test true = refl
+    by_test false = refl
+
+-- what a pair takes is L or R
+pair_direction-l_or_r : (e sos : BidiClass) (classes : List BidiClass) (pair : ℕ × ℕ) (d : BidiClass) → is_l_or_r e ≡ true → is_l_or_r sos ≡ true → pair_direction e sos classes pair ≡ Some d → is_l_or_r d ≡ true
+unfolding pair_direction
+pair_direction-l_or_r e sos classes pair d h k is =
+    by_test (list_any (same_class e) (directions_between classes pair)) (find (λ _. true) (directions_between classes pair)) is
+  where
+    context : BidiClass
+    context = nearest_direction sos (reverse (take pair.0 classes))
+
+    by_test : (b : Bool) (o : Option BidiClass) → cond b (Some e) (option_map (λ (_ : BidiClass). context) o) ≡ Some d → is_l_or_r d ≡ true
+    by_test true o f = let same : e ≡ d = cc f in subst (λ (x : BidiClass). is_l_or_r x ≡ true) same h
+    by_test false None f = absurd (cc f)
+    by_test false (Some x) f =
+        let same : context ≡ d = cc f in subst (λ (y : BidiClass). is_l_or_r y ≡ true) same (nearest_direction-l_or_r sos (reverse (take pair.0 classes)) k)
+
+list_all-map-range : (p : BidiClass → Bool) (f : ℕ → BidiClass) (low n : ℕ) → ((k : ℕ) → low ≤ k → k < low + n → p (f k) ≡ true) → list_all p (map f (range_with_len low n)) ≡ true
+list_all-map-range p f low zero each = refl
+list_all-map-range p f low (suc n) each =
+    and_from (p (f low)) (list_all p (map f (range_with_len (low + 1) n))) (each low (omega arith) (omega arith))
+    (list_all-map-range p f (low + 1) n (λ k from below. each k (omega arith) (omega arith)))
+
+resolved : (c : BidiClass) → is_l_or_r c ≡ true → is_weak_resolved c ≡ true
+resolved c h = or_left (has_direction c) (is_neutral c) (directed c h)
+
+with_pair-resolved : (source : List BidiClass) (pair : ℕ × ℕ) (classes : List BidiClass) (d : BidiClass) → is_l_or_r d ≡ true → list_all is_weak_resolved classes ≡ true
+    → list_all is_weak_resolved (with_pair source pair classes d) ≡ true
+unfolding with_pair
+with_pair-resolved source pair classes d h k =
+    list_all-map-range is_weak_resolved (λ j. cond (goes_with_pair source pair j) d (class_at classes j)) 0 (length classes)
+    (λ j from below. either (goes_with_pair source pair j) (class_at classes j) (list_all-get_or is_weak_resolved classes j L (omega arith) k))
+  where
+    either : (b : Bool) (c : BidiClass) → is_weak_resolved c ≡ true → is_weak_resolved (cond b d c) ≡ true
+    either true c g = resolved d h
+    either false c g = g
+
+n0_pair-resolved : (e sos : BidiClass) (source classes : List BidiClass) (pair : ℕ × ℕ) → is_l_or_r e ≡ true → is_l_or_r sos ≡ true → list_all is_weak_resolved classes ≡ true
+    → list_all is_weak_resolved (n0_pair e sos source classes pair) ≡ true
+unfolding n0_pair
+n0_pair-resolved e sos source classes pair h k l = by_option (pair_direction e sos classes pair) refl
+  where
+    by_option : (o : Option BidiClass) → pair_direction e sos classes pair ≡ o → list_all is_weak_resolved (option_map_or (with_pair source pair classes) o classes) ≡ true
+    by_option None f = l
+    by_option (Some d) f = with_pair-resolved source pair classes d (pair_direction-l_or_r e sos classes pair d h k f) l
+
+n0-resolved_from : (e sos : BidiClass) (source : List BidiClass) (pairs : List (ℕ × ℕ)) (classes : List BidiClass) → is_l_or_r e ≡ true → is_l_or_r sos ≡ true → list_all is_weak_resolved classes ≡ true
+    → list_all is_weak_resolved (fold (n0_pair e sos source) classes pairs) ≡ true
+n0-resolved_from e sos source [] classes h k l = l
+n0-resolved_from e sos source (p ∷ pairs) classes h k l = n0-resolved_from e sos source pairs (n0_pair e sos source classes p) h k (n0_pair-resolved e sos source classes p h k l)
+
+pub n0-resolved : (e sos : BidiClass) (source : List BidiClass) (pairs : List (ℕ × ℕ)) (classes : List BidiClass) → is_l_or_r e ≡ true → is_l_or_r sos ≡ true → list_all is_weak_resolved classes ≡ true
+    → list_all is_weak_resolved (n0 e sos source pairs classes) ≡ true
+unfolding n0
+n0-resolved e sos source pairs classes h k l = n0-resolved_from e sos source pairs classes h k l
+
+-- what a neutral takes
+common_directed : (e left right : BidiClass) → is_l_or_r e ≡ true → is_l_or_r left ≡ true → has_direction (cond (same_class left right) left e) ≡ true
+common_directed e left right h k = either (same_class left right)
+  where
+    either : (b : Bool) → has_direction (cond b left e) ≡ true
+    either true = directed left k
+    either false = directed e h
+
+n1_rule-directed : (e sos eos : BidiClass) → is_l_or_r e ≡ true → is_l_or_r sos ≡ true → (before : List BidiClass) (c : BidiClass) (after : List BidiClass) → is_weak_resolved c ≡ true
+    → has_direction (n1_rule e sos eos before c after) ≡ true
+n1_rule-directed e sos eos h k before c after good =
+    let left = nearest_direction sos before in
+    let common : BidiClass = cond (same_class left (nearest_direction eos after)) left e in
+    elim (cases_Bool (is_neutral c)) [
+      | inl neutral ↦
+          ap has_direction (cond-true (is_neutral c) common c neutral) ∙ common_directed e left (nearest_direction eos after) h (nearest_direction-l_or_r sos before k)
+      | inr other ↦
+          ap has_direction (cond-false (is_neutral c) common c other)
+          ∙ elim (or_cases (has_direction c) (is_neutral c) good) [ inl yes' ↦ yes' | inr bad ↦ absurd (both_ways (is_neutral c) other bad) ]
+    ]
+
+pub n1_n2-directed : (e sos eos : BidiClass) (classes : List BidiClass) → is_l_or_r e ≡ true → is_l_or_r sos ≡ true → list_all is_weak_resolved classes ≡ true → list_all has_direction (n1_n2 e sos eos classes) ≡ true
+n1_n2-directed e sos eos classes h k l =
+    list_all-in_context (n1_rule e sos eos) is_weak_resolved has_direction (λ before c after g good. n1_rule-directed e sos eos h k before c after good) [] classes refl l
+
+pub neutral_classes-directed : (level : ℕ) (sos eos : BidiClass) (source : List BidiClass) (brackets : List (Option BidiMatchedOpeningBracket)) (classes : List BidiClass) → is_l_or_r sos ≡ true → list_all is_weak_resolved classes ≡ true
+    → list_all has_direction (neutral_classes level sos eos source brackets classes) ≡ true
+unfolding neutral_classes
+neutral_classes-directed level sos eos source brackets classes h k =
+    let e = direction_of level in
+    let odd = direction_of-l_or_r level in
+    n1_n2-directed e sos eos (n0 e sos source (bracket_pairs classes brackets) classes) odd h (n0-resolved e sos source (bracket_pairs classes brackets) classes odd h k)

@@ -1,0 +1,248 @@
+-- Paragraphs (P1): a text that is cut while it is read, and what the pieces and their ranges are.
+use Rattle.std.proofs.Common.{◌≡◌, ℕ, suc, ◌+◌, ◌<◌, ◌≤◌, Bool, true, false, ◌&&◌, ◌||◌, cond, if◌then◌else◌, List, [], ◌∷◌, ◌++◌, length, take, drop, map, flat_map, refl, sym, ap, subst, ◌∙◌, append_assoc, arith, inl, inr, ◌⊎◌, length-append}
+use Rattle.std.specs.Prelude.{All, IsTrue, ⊤}
+use Rattle.std.specs.List.{onto_first}
+use Rattle.std.proofs.lemmas.List.{append-nil, length-map}
+use Rattle.std.proofs.lemmas.List.Concat.{flat_map-append}
+use Rattle.std.proofs.lemmas.List.Elements.{All-nil, All-cons, All-head, All-tail, All-push, All-append, All-map}
+use Rattle.std.proofs.lemmas.List.Sums.{sum_by-append, sum_by-cons}
+use Rattle.std.proofs.lemmas.Bool.{cases_Bool, cond-true, cond-false}
+use Rattle.bidi_base.specs.Classes.{is_paragraph_separator}
+use Rattle.bidi_base.specs.Isolates.{stored_classes}
+use Rattle.bidi_base.specs.Source.{Source}
+use Rattle.bidi_base.specs.Stored.{text_classes}
+use Rattle.bidi_base.specs.Text.{text_len, is_boundary, subrange, IsLine}
+use Rattle.bidi_base.specs.Paragraphs.{cut_after, each_separator, paragraphs_of, pieces_of, ranges_from, IsPartition, AllButLast, ends_with_separator, has_inner_separator, AreParagraphRanges}
+use Rattle.bidi_base.proofs.TextLemmas.{HasUnits, subrange-middle, is_boundary-append, length-le-text_len}
+use Rattle.bidi_base.proofs.StoredSteps.{length-stored_classes}
+
+-- ---- a text that is read from the front and cut after each character that stops
+
+-- all that some pieces hold
+abbrev pub joined : List (List ℕ) → List ℕ
+joined pieces = flat_map (λ piece. piece) pieces
+
+pub length-text_classes : (source : Source) (pieces : List (List ℕ)) → length (text_classes source pieces) ≡ length (joined pieces)
+unfolding text_classes
+length-text_classes source [] = refl
+length-text_classes source (p ∷ pieces) =
+    omega (arith, length-append (stored_classes (map source.class_of p)) (text_classes source pieces), length-append p (joined pieces), length-text_classes source pieces, length-stored_classes (map source.class_of p), length-map p source.class_of)
+
+module _ (stops : ℕ → Bool) where
+  abbrev pub pieces_by : List ℕ → List (List ℕ)
+  pieces_by chars = cut_after (λ c after. stops c) chars
+
+  -- no character stops
+  abbrev pub GoesOn : List ℕ → Type 0
+  GoesOn [] = ⊤
+  GoesOn (c ∷ cs) = (stops c ≡ false) × GoesOn cs
+
+  GoesOn-push : (cs : List ℕ) (c : ℕ) → GoesOn cs → stops c ≡ false → GoesOn (cs ++ c ∷ [])
+  GoesOn-push [] c h on = (on, tt)
+  GoesOn-push (x ∷ cs) c h on = (h.0, GoesOn-push cs c h.1 on)
+
+  -- a piece ends at the first character that stops
+  pieces_by-stop : (cs : List ℕ) (c : ℕ) (rest : List ℕ) → GoesOn cs → stops c ≡ true → pieces_by (cs ++ c ∷ rest) ≡ (cs ++ c ∷ []) ∷ pieces_by rest
+  pieces_by-stop [] c rest h stop = cond-true (stops c) ((c ∷ []) ∷ pieces_by rest) (onto_first c (pieces_by rest)) stop
+  pieces_by-stop (x ∷ cs) c rest h stop =
+      cond-false (stops x) ((x ∷ []) ∷ pieces_by (cs ++ c ∷ rest)) (onto_first x (pieces_by (cs ++ c ∷ rest))) h.0
+      ∙ ap (onto_first x) (pieces_by-stop cs c rest h.1 stop)
+
+  -- what is left is a piece, if it is not empty
+  pieces_by-end : (x : ℕ) (cs : List ℕ) → GoesOn (x ∷ cs) → pieces_by (x ∷ cs) ≡ (x ∷ cs) ∷ []
+  pieces_by-end x [] h = cond-false (stops x) ((x ∷ []) ∷ []) (onto_first x []) h.0
+  pieces_by-end x (y ∷ cs) h =
+      cond-false (stops x) ((x ∷ []) ∷ pieces_by (y ∷ cs)) (onto_first x (pieces_by (y ∷ cs))) h.0 ∙ ap (onto_first x) (pieces_by-end y cs h.1)
+
+  -- of the characters read, `done` are the pieces that have ended, and `current` is the one that has not
+  pub record IsCut (read : List ℕ) (done : List (List ℕ)) (current : List ℕ) : Type 0 where
+    pub whole : joined done ++ current ≡ read
+    pub cut : (rest : List ℕ) → pieces_by (read ++ rest) ≡ done ++ pieces_by (current ++ rest)
+    pub goes_on : GoesOn current
+
+  pub IsCut-start : IsCut [] [] []
+  IsCut-start = record { whole = refl; cut = λ rest. refl; goes_on = tt }
+
+  -- one more character of the same piece
+  pub IsCut-more : (read : List ℕ) (done : List (List ℕ)) (current : List ℕ) (c : ℕ) → stops c ≡ false → IsCut read done current → IsCut (read ++ c ∷ []) done (current ++ c ∷ [])
+  IsCut-more read done current c on h = record {
+    whole = sym (append_assoc (joined done) current (c ∷ [])) ∙ ap (λ (cs : List ℕ). cs ++ c ∷ []) h.whole;
+    cut = λ rest. ap pieces_by (append_assoc read (c ∷ []) rest) ∙ h.cut (c ∷ rest) ∙ ap (λ (cs : List ℕ). done ++ pieces_by cs) (sym (append_assoc current (c ∷ []) rest));
+    goes_on = GoesOn-push current c h.goes_on on;
+  }
+
+  -- one that ends it
+  pub IsCut-stop : (read : List ℕ) (done : List (List ℕ)) (current : List ℕ) (c : ℕ) → stops c ≡ true → IsCut read done current → IsCut (read ++ c ∷ []) (done ++ (current ++ c ∷ []) ∷ []) []
+  IsCut-stop read done current c stop h = record {
+    whole =
+        append-nil (joined (done ++ (current ++ c ∷ []) ∷ [])) ∙ flat_map-append (λ (piece : List ℕ). piece) done ((current ++ c ∷ []) ∷ [])
+        ∙ ap (λ (cs : List ℕ). joined done ++ cs) (append-nil (current ++ c ∷ [])) ∙ sym (append_assoc (joined done) current (c ∷ [])) ∙ ap (λ (cs : List ℕ). cs ++ c ∷ []) h.whole;
+    cut = λ rest. ap pieces_by (append_assoc read (c ∷ []) rest) ∙ h.cut (c ∷ rest) ∙ ap (λ (ps : List (List ℕ)). done ++ ps) (pieces_by-stop current c rest h.goes_on stop)
+        ∙ sym (append_assoc done ((current ++ c ∷ []) ∷ []) (pieces_by rest));
+    goes_on = tt;
+  }
+
+  -- at the end the last piece is the one that has not ended, if it is not empty
+  pub IsCut-last : (read : List ℕ) (done : List (List ℕ)) (current : List ℕ) → 0 < length current → IsCut read done current → pieces_by read ≡ done ++ current ∷ []
+  IsCut-last read done [] some h = absurd (omega arith)
+  IsCut-last read done (x ∷ cs) some h =
+      ap pieces_by (sym (append-nil read)) ∙ h.cut [] ∙ ap (λ (rest : List ℕ). done ++ pieces_by rest) (append-nil (x ∷ cs)) ∙ ap (λ (ps : List (List ℕ)). done ++ ps) (pieces_by-end x cs h.goes_on)
+
+  pub IsCut-none : (read : List ℕ) (done : List (List ℕ)) → IsCut read done [] → pieces_by read ≡ done
+  IsCut-none read done h = ap pieces_by (sym (append-nil read)) ∙ h.cut [] ∙ append-nil done
+
+  -- ---- what the pieces are
+
+  pub pieces_by-joined : (chars : List ℕ) → joined (pieces_by chars) ≡ chars
+  pieces_by-joined [] = refl
+  pieces_by-joined (c ∷ cs) = elim (cases_Bool (stops c)) [
+    | inl stop ↦ ap joined (cond-true (stops c) ((c ∷ []) ∷ pieces_by cs) (onto_first c (pieces_by cs)) stop) ∙ ap (λ (ds : List ℕ). c ∷ ds) (pieces_by-joined cs)
+    | inr on ↦ ap joined (cond-false (stops c) ((c ∷ []) ∷ pieces_by cs) (onto_first c (pieces_by cs)) on) ∙ onto (pieces_by cs) ∙ ap (λ (ds : List ℕ). c ∷ ds) (pieces_by-joined cs)
+  ]
+    where
+      onto : (ps : List (List ℕ)) → joined (onto_first c ps) ≡ c ∷ joined ps
+      onto [] = refl
+      onto (p ∷ ps) = refl
+
+  pub pieces_by-some : (chars : List ℕ) → All (λ (p : List ℕ). 0 < length p) (pieces_by chars)
+  pieces_by-some [] = All-nil (λ (p : List ℕ). 0 < length p)
+  pieces_by-some (c ∷ cs) = elim (cases_Bool (stops c)) [
+    | inl stop ↦ subst (All (λ (p : List ℕ). 0 < length p)) (sym (cond-true (stops c) ((c ∷ []) ∷ pieces_by cs) (onto_first c (pieces_by cs)) stop)) (All-cons (λ (p : List ℕ). 0 < length p) (c ∷ []) (pieces_by cs) (omega arith) (pieces_by-some cs))
+    | inr on ↦ subst (All (λ (p : List ℕ). 0 < length p)) (sym (cond-false (stops c) ((c ∷ []) ∷ pieces_by cs) (onto_first c (pieces_by cs)) on)) (onto (pieces_by cs) (pieces_by-some cs))
+  ]
+    where
+      onto : (ps : List (List ℕ)) → All (λ (p : List ℕ). 0 < length p) ps → All (λ (p : List ℕ). 0 < length p) (onto_first c ps)
+      onto [] h = All-cons (λ (p : List ℕ). 0 < length p) (c ∷ []) [] (omega arith) (All-nil (λ (p : List ℕ). 0 < length p))
+      onto (p ∷ ps) h = All-cons (λ (p : List ℕ). 0 < length p) (c ∷ p) ps (omega arith) (All-tail (λ (p : List ℕ). 0 < length p) p ps h)
+
+module _ (source : Source) where
+  abbrev is_stop : ℕ → Bool
+  is_stop c = is_paragraph_separator (source.class_of c)
+
+  abbrev Ends : List ℕ → Type 0
+  Ends p = IsTrue (ends_with_separator source p)
+
+  abbrev Holds : List ℕ → Type 0
+  Holds p = has_inner_separator source p ≡ false
+
+  paragraphs-ended : (chars : List ℕ) → AllButLast Ends (pieces_by is_stop chars)
+  paragraphs-ended [] = tt
+  paragraphs-ended (c ∷ cs) = elim (cases_Bool (is_stop c)) [
+    | inl stop ↦ subst (AllButLast Ends) (sym (cond-true (is_stop c) ((c ∷ []) ∷ pieces_by is_stop cs) (onto_first c (pieces_by is_stop cs)) stop)) (before stop (pieces_by is_stop cs) (paragraphs-ended cs))
+    | inr on ↦ subst (AllButLast Ends) (sym (cond-false (is_stop c) ((c ∷ []) ∷ pieces_by is_stop cs) (onto_first c (pieces_by is_stop cs)) on)) (onto (pieces_by is_stop cs) (paragraphs-ended cs))
+  ]
+    where
+      before : is_stop c ≡ true → (ps : List (List ℕ)) → AllButLast Ends ps → AllButLast Ends ((c ∷ []) ∷ ps)
+      before stop [] h = tt
+      before stop (p ∷ ps) h = (stop, h)
+
+      longer : (p : List ℕ) → Ends p → Ends (c ∷ p)
+      longer [] h = absurd (cc h)
+      longer (d ∷ p) h = h
+
+      onto : (ps : List (List ℕ)) → AllButLast Ends ps → AllButLast Ends (onto_first c ps)
+      onto [] h = tt
+      onto (p ∷ []) h = tt
+      onto (p ∷ q ∷ ps) h = (longer p h.0, h.1)
+
+  paragraphs-undivided : (chars : List ℕ) → All Holds (pieces_by is_stop chars)
+  paragraphs-undivided [] = All-nil Holds
+  paragraphs-undivided (c ∷ cs) = elim (cases_Bool (is_stop c)) [
+    | inl stop ↦ subst (All Holds) (sym (cond-true (is_stop c) ((c ∷ []) ∷ pieces_by is_stop cs) (onto_first c (pieces_by is_stop cs)) stop)) (All-cons Holds (c ∷ []) (pieces_by is_stop cs) refl (paragraphs-undivided cs))
+    | inr on ↦ subst (All Holds) (sym (cond-false (is_stop c) ((c ∷ []) ∷ pieces_by is_stop cs) (onto_first c (pieces_by is_stop cs)) on)) (onto on (pieces_by is_stop cs) (paragraphs-undivided cs))
+  ]
+    where
+      longer : is_stop c ≡ false → (p : List ℕ) → Holds p → Holds (c ∷ p)
+      longer on [] h = refl
+      longer on (d ∷ p) h = ap (λ (b : Bool). b || has_inner_separator source (d ∷ p)) on ∙ h
+
+      onto : is_stop c ≡ false → (ps : List (List ℕ)) → All Holds ps → All Holds (onto_first c ps)
+      onto on [] h = All-cons Holds (c ∷ []) [] refl (All-nil Holds)
+      onto on (p ∷ ps) h = All-cons Holds (c ∷ p) ps (longer on p (All-head Holds p ps h)) (All-tail Holds p ps h)
+
+-- ---- the ranges of pieces
+
+module _ (len_of : ℕ → ℕ) where
+  pub ranges_from-push : (from : ℕ) (ps : List (List ℕ)) (p : List ℕ) → ranges_from len_of from (ps ++ p ∷ []) ≡ ranges_from len_of from ps ++ (from + text_len len_of (joined ps), from + text_len len_of (joined ps) + text_len len_of p) ∷ []
+  ranges_from-push from [] p = let none : from + 0 ≡ from = omega arith in ap (λ (n : ℕ). (n, n + text_len len_of p) ∷ []) (sym none)
+  ranges_from-push from (q ∷ ps) p =
+      let sum : from + text_len len_of q + text_len len_of (joined ps) ≡ from + text_len len_of (q ++ joined ps) = omega (arith, sum_by-append len_of q (joined ps)) in
+      ap (λ (rs : List (ℕ × ℕ)). (from, from + text_len len_of q) ∷ rs)
+      (ranges_from-push (from + text_len len_of q) ps p ∙ ap (λ (n : ℕ). ranges_from len_of (from + text_len len_of q) ps ++ (n, n + text_len len_of p) ∷ []) sum)
+
+  module _ (units : HasUnits len_of) where
+    pub ranges_from-IsPartition : (from : ℕ) (ps : List (List ℕ)) → All (λ (p : List ℕ). 0 < length p) ps → IsPartition from (from + text_len len_of (joined ps)) (ranges_from len_of from ps)
+    ranges_from-IsPartition from [] some = let none : from ≡ from + 0 = omega arith in none
+    ranges_from-IsPartition from (p ∷ ps) some =
+        let first : 0 < length p = All-head (λ (p : List ℕ). 0 < length p) p ps some in
+        let sum : from + text_len len_of p + text_len len_of (joined ps) ≡ from + text_len len_of (p ++ joined ps) = omega (arith, sum_by-append len_of p (joined ps)) in (
+          refl,
+          omega (arith, length-le-text_len len_of units p),
+          subst (λ (n : ℕ). IsPartition (from + text_len len_of p) n (ranges_from len_of (from + text_len len_of p) ps)) sum (ranges_from-IsPartition (from + text_len len_of p) ps (All-tail (λ (p : List ℕ). 0 < length p) p ps some)),
+        )
+
+    module _ (P : List ℕ → Type 0) where
+      -- the characters of the first range are the first piece
+      first_range : (front p rest : List ℕ) → P p → P (subrange len_of (front ++ (p ++ rest)) (text_len len_of front) (text_len len_of front + text_len len_of p))
+      first_range front p rest h = subst P (sym (subrange-middle len_of units front p rest)) h
+
+      shifted : (front p : List ℕ) (ps : List (List ℕ)) (Q : List ℕ → List (ℕ × ℕ) → Type 0) → Q ((front ++ p) ++ joined ps) (ranges_from len_of (text_len len_of (front ++ p)) ps) → Q (front ++ (p ++ joined ps)) (ranges_from len_of (text_len len_of front + text_len len_of p) ps)
+      shifted front p ps Q h =
+          subst (λ (cs : List ℕ). Q cs (ranges_from len_of (text_len len_of front + text_len len_of p) ps)) (append_assoc front p (joined ps))
+          (subst (λ (n : ℕ). Q ((front ++ p) ++ joined ps) (ranges_from len_of n ps)) (sum_by-append len_of front p) h)
+
+      ranges-All : (front : List ℕ) (ps : List (List ℕ)) → All P ps → All (λ (r : ℕ × ℕ). P (subrange len_of (front ++ joined ps) r.0 r.1)) (ranges_from len_of (text_len len_of front) ps)
+      ranges-All front [] h = All-nil (λ (r : ℕ × ℕ). P (subrange len_of (front ++ []) r.0 r.1))
+      ranges-All front (p ∷ ps) h =
+          All-cons (λ (r : ℕ × ℕ). P (subrange len_of (front ++ (p ++ joined ps)) r.0 r.1)) (text_len len_of front, text_len len_of front + text_len len_of p) (ranges_from len_of (text_len len_of front + text_len len_of p) ps)
+          (first_range front p (joined ps) (All-head P p ps h))
+          (shifted front p ps (λ (cs : List ℕ) (rs : List (ℕ × ℕ)). All (λ (r : ℕ × ℕ). P (subrange len_of cs r.0 r.1)) rs) (ranges-All (front ++ p) ps (All-tail P p ps h)))
+
+      ranges-AllButLast : (front : List ℕ) (ps : List (List ℕ)) → AllButLast P ps → AllButLast (λ (r : ℕ × ℕ). P (subrange len_of (front ++ joined ps) r.0 r.1)) (ranges_from len_of (text_len len_of front) ps)
+      ranges-AllButLast front [] h = tt
+      ranges-AllButLast front (p ∷ []) h = tt
+      ranges-AllButLast front (p ∷ q ∷ ps) h = (
+        first_range front p (joined (q ∷ ps)) h.0,
+        shifted front p (q ∷ ps) (λ (cs : List ℕ) (rs : List (ℕ × ℕ)). AllButLast (λ (r : ℕ × ℕ). P (subrange len_of cs r.0 r.1)) rs) (ranges-AllButLast (front ++ p) (q ∷ ps) h.1),
+      )
+
+    ranges-lines : (front : List ℕ) (ps : List (List ℕ)) → All (λ (r : ℕ × ℕ). IsLine len_of (front ++ joined ps) r.0 r.1) (ranges_from len_of (text_len len_of front) ps)
+    ranges-lines front [] = All-nil (λ (r : ℕ × ℕ). IsLine len_of (front ++ []) r.0 r.1)
+    ranges-lines front (p ∷ ps) =
+        let sum : text_len len_of (front ++ p) ≡ text_len len_of front + text_len len_of p = sum_by-append len_of front p in
+        All-cons (λ (r : ℕ × ℕ). IsLine len_of (front ++ (p ++ joined ps)) r.0 r.1) (text_len len_of front, text_len len_of front + text_len len_of p) (ranges_from len_of (text_len len_of front + text_len len_of p) ps)
+        (
+        record {
+          ordered = omega arith;
+          begins = is_boundary-append len_of front (p ++ joined ps);
+          ends =
+              subst (λ (cs : List ℕ). is_boundary len_of cs (text_len len_of front + text_len len_of p) ≡ true) (append_assoc front p (joined ps))
+              (subst (λ (n : ℕ). is_boundary len_of ((front ++ p) ++ joined ps) n ≡ true) sum (is_boundary-append len_of (front ++ p) (joined ps)));
+        }
+        )
+        (subst (λ (cs : List ℕ). All (λ (r : ℕ × ℕ). IsLine len_of cs r.0 r.1) (ranges_from len_of (text_len len_of front + text_len len_of p) ps)) (append_assoc front p (joined ps))
+        (subst (λ (n : ℕ). All (λ (r : ℕ × ℕ). IsLine len_of ((front ++ p) ++ joined ps) r.0 r.1) (ranges_from len_of n ps)) sum (ranges-lines (front ++ p) ps)))
+
+-- the ranges of the paragraphs of a text
+pub paragraphs-AreParagraphRanges : (source : Source) (len_of : ℕ → ℕ) → HasUnits len_of → (chars : List ℕ) → AreParagraphRanges source len_of chars (ranges_from len_of 0 (paragraphs_of (each_separator source) chars))
+paragraphs-AreParagraphRanges source len_of units chars =
+    let pieces : List (List ℕ) = paragraphs_of (each_separator source) chars in
+    let all : joined pieces ≡ chars = pieces_by-joined (λ (c : ℕ). is_paragraph_separator (source.class_of c)) chars in
+    record {
+      partition = subst (λ (n : ℕ). IsPartition 0 n (ranges_from len_of 0 pieces)) (zero_plus (text_len len_of (joined pieces)) ∙ ap (text_len len_of) all) (ranges_from-IsPartition len_of units 0 pieces (pieces_by-some (λ (c : ℕ). is_paragraph_separator (source.class_of c)) chars));
+      lines = subst (λ (cs : List ℕ). All (λ (r : ℕ × ℕ). IsLine len_of cs r.0 r.1) (ranges_from len_of 0 pieces)) all (ranges-lines len_of units [] pieces);
+      ended = subst (λ (cs : List ℕ). AllButLast (λ (r : ℕ × ℕ). IsTrue (ends_with_separator source (subrange len_of cs r.0 r.1))) (ranges_from len_of 0 pieces)) all
+          (ranges-AllButLast len_of units (λ (p : List ℕ). IsTrue (ends_with_separator source p)) [] pieces (paragraphs-ended source chars));
+      undivided = subst (λ (cs : List ℕ). All (λ (r : ℕ × ℕ). has_inner_separator source (subrange len_of cs r.0 r.1) ≡ false) (ranges_from len_of 0 pieces)) all
+          (ranges-All len_of units (λ (p : List ℕ). has_inner_separator source p ≡ false) [] pieces (paragraphs-undivided source chars));
+    }
+  where
+    zero_plus : (n : ℕ) → 0 + n ≡ n
+    zero_plus n = omega arith
+
+pub paragraphs-joined : (source : Source) (chars : List ℕ) → joined (paragraphs_of (each_separator source) chars) ≡ chars
+paragraphs-joined source chars = pieces_by-joined (λ (c : ℕ). is_paragraph_separator (source.class_of c)) chars
+
+-- the stored classes of a text are one a character
+pub length-paragraph_classes : (source : Source) (chars : List ℕ) → length (text_classes source (paragraphs_of (each_separator source) chars)) ≡ length chars
+length-paragraph_classes source chars = length-text_classes source (paragraphs_of (each_separator source) chars) ∙ ap length (paragraphs-joined source chars)

@@ -1,0 +1,118 @@
+-- The steps of the pass that reads a paragraph, as its calls leave them.
+use Rattle.std.proofs.Common.{◌≡◌, ℕ, suc, ◌+◌, ◌-◌, ◌<◌, Bool, true, false, ◌&&◌, cond, List, [], ◌∷◌, ◌++◌, length, get_or, set, take, drop, Option, Some, None, map, refl, sym, ap, subst, ◌∙◌, arith, length-take, length-append}
+use Rattle.std.specs.Prelude.{All, slice_get, if◌then◌else◌, replicate}
+use Rattle.std.specs.declared.ops.Range.{Range}
+use Rattle.std.proofs.lemmas.List.{take-append-drop, take-take, drop_more, set_split, get_or-append-add, set-append_right, map-append}
+use Rattle.std.proofs.lemmas.List.Elements.{All-head, All-tail}
+use Rattle.std.proofs.lemmas.Bool.{cond-true, cond-false}
+use Rattle.bidi_base.specs.declared.char_data.BidiClass.{BidiClass}
+use Rattle.bidi_base.specs.declared.char_data.BidiClass.TheVariants.{L}
+use Rattle.bidi_base.specs.Classes.{is_strong, is_initiator, is_pdi}
+use Rattle.bidi_base.specs.Text.{place, text_len, per_unit}
+use Rattle.bidi_base.specs.Places.{class_at}
+use Rattle.bidi_base.specs.Isolates.{resolved_fsi}
+use Rattle.bidi_base.specs.Reading.{innermost, outer, opened_by, decided_by, is_fsi, filled, resolved_units, met_units}
+use Rattle.bidi_base.proofs.PlaceLemmas.{place-more}
+use Rattle.bidi_base.proofs.PerUnit.{per_unit-append, take-per_unit, drop-per_unit, get_or-per_unit-place}
+use Rattle.bidi_base.proofs.TextLemmas.{HasUnits}
+use Rattle.bidi_base.proofs.StoredSteps.{met_by}
+
+-- what stands at the end of a list is innermost
+pub innermost-last : {X : Type 0} (xs : List X) → slice_get xs (length xs - 1) ≡ innermost xs
+innermost-last [] = refl
+innermost-last (x ∷ []) = refl
+innermost-last (x ∷ y ∷ xs) =
+    let n : suc (suc (length xs)) - 1 ≡ suc (suc (length xs) - 1) = omega arith in
+    ap (slice_get (x ∷ y ∷ xs)) n ∙ innermost-last (y ∷ xs)
+
+pub outer-take : {X : Type 0} (xs : List X) → take (length xs - 1) xs ≡ outer xs
+outer-take [] = refl
+outer-take (x ∷ []) = refl
+outer-take {X} (x ∷ y ∷ xs) =
+    let n : suc (suc (length xs)) - 1 ≡ suc (suc (length xs) - 1) = omega arith in
+    ap (λ (k : ℕ). take k (x ∷ y ∷ xs)) n ∙ ap (λ (ys : List X). x ∷ ys) (outer-take (y ∷ xs))
+
+-- the innermost open isolate meets a strong character
+pub met_units-strong : (class : BidiClass) (xs : List (Range ℕ)) (range : Range ℕ) (units : List BidiClass) → is_strong class ≡ true → Some range ≡ slice_get xs (length xs - 1)
+    → resolved_units class range units ≡ met_units class (innermost xs) units
+met_units-strong class xs range units strong last =
+    sym (ap (λ (o : Option (Range ℕ)). met_units class o units) (sym (innermost-last xs) ∙ sym last) ∙ cond-true (is_strong class) (resolved_units class range units) units strong)
+
+-- a PDI closes the innermost one
+pub opened_by-pdi : {X : Type 0} (class : BidiClass) (x : X) (under : List X) → is_initiator class ≡ false → is_pdi class ≡ true → take (length under - 1) under ≡ opened_by class x under
+opened_by-pdi class x under other pdi =
+    outer-take under ∙ sym (cond-false (is_initiator class) (under ++ x ∷ []) (if is_pdi class then outer under else under) other ∙ cond-true (is_pdi class) (outer under) under pdi)
+
+pub innermost-All : {X : Type 0} (P : X → Type 0) (xs : List X) (x : X) → All P xs → innermost xs ≡ Some x → P x
+innermost-All P [] x h e = absurd (cc e)
+innermost-All {X} P (y ∷ []) x h e = let same : y ≡ x = cc e in subst P same (All-head P y [] h)
+innermost-All P (y ∷ z ∷ xs) x h e = innermost-All P (z ∷ xs) x (All-tail P y (z ∷ xs) h) e
+
+-- ---- the same of other things that stand for the open isolates
+
+outer-map : {X Y : Type 0} (f : X → Y) (xs : List X) → outer (map f xs) ≡ map f (outer xs)
+outer-map f [] = refl
+outer-map f (x ∷ []) = refl
+outer-map {X} {Y} f (x ∷ y ∷ xs) = ap (λ (ys : List Y). f x ∷ ys) (outer-map f (y ∷ xs))
+
+pub opened_by-map : {X Y : Type 0} (f : X → Y) (class : BidiClass) (x : X) (under : List X) → opened_by class (f x) (map f under) ≡ map f (opened_by class x under)
+opened_by-map {X} {Y} f class x under = by_tests (is_initiator class) (is_pdi class)
+  where
+    by_tests : (b p : Bool) → cond b (map f under ++ f x ∷ []) (cond p (outer (map f under)) (map f under)) ≡ map f (cond b (under ++ x ∷ []) (cond p (outer under) under))
+    by_tests true p = sym (map-append f under (x ∷ []))
+    by_tests false true = outer-map f under
+    by_tests false false = refl
+
+pub decided_by-map : {X Y : Type 0} (f : X → Y) (class : BidiClass) (under : List X) → decided_by class (map f under) ≡ decided_by class under
+decided_by-map f class [] = refl
+decided_by-map f class (x ∷ under) = refl
+
+-- ---- one value a unit, where the value of one character changes
+
+-- the units of a character
+abbrev pub char_units : (ℕ → ℕ) → List ℕ → ℕ → Range ℕ
+char_units len_of chars k = record { start = place len_of chars k; end = place len_of chars (k + 1) }
+
+-- they stay where more characters are read
+pub char_units-take : (len_of : ℕ → ℕ) (chars : List ℕ) (n k : ℕ) → k < n → char_units len_of (take n chars) k ≡ char_units len_of chars k
+char_units-take len_of chars n k within =
+    let start : take k (take n chars) ≡ take k chars = take-take k n chars (omega arith) in
+    let end : take (k + 1) (take n chars) ≡ take (k + 1) chars = take-take (k + 1) n chars (omega arith) in
+    ap (λ (cs : List ℕ). same (text_len len_of cs) (text_len len_of (take (k + 1) (take n chars)))) start ∙ ap (λ (cs : List ℕ). same (text_len len_of (take k chars)) (text_len len_of cs)) end
+  where
+    same : ℕ → ℕ → Range ℕ
+    same a b = record { start = a; end = b }
+
+module _ {X : Type 0} (len_of : ℕ → ℕ) (chars : List ℕ) (values : List X) (long : length values ≡ length chars) (k : ℕ) (within : k < length chars) where
+  pub per_unit-set : (x : X) → per_unit len_of chars (set values k x) ≡ filled (char_units len_of chars k) x (per_unit len_of chars values)
+  per_unit-set x =
+      let more : suc k ≡ k + 1 = omega arith in
+      let c : ℕ = get_or chars k 0 in
+      let cut : chars ≡ take k chars ++ c ∷ drop (k + 1) chars = sym (take-append-drop k chars) ∙ ap (λ (cs : List ℕ). take k chars ++ cs) (drop_more chars k 0 within) in
+      let changed : set values k x ≡ take k values ++ x ∷ drop (k + 1) values = set_split values k x (omega arith) ∙ ap (λ (n : ℕ). take k values ++ x ∷ drop n values) more in
+      let wide : place len_of chars (k + 1) - place len_of chars k ≡ len_of c = omega (arith, place-more len_of chars k 0 within) in
+      ap (per_unit len_of chars) changed ∙ ap (λ (cs : List ℕ). per_unit len_of cs (take k values ++ x ∷ drop (k + 1) values)) cut
+      ∙ per_unit-append len_of (take k chars) (c ∷ drop (k + 1) chars) (take k values) (x ∷ drop (k + 1) values) (omega (arith, length-take k values, length-take k chars))
+      ∙ ap (λ (us : List X). us ++ (replicate (len_of c) x ++ per_unit len_of (drop (k + 1) chars) (drop (k + 1) values))) (sym (take-per_unit len_of chars values k long))
+      ∙ ap (λ (us : List X). take (place len_of chars k) (per_unit len_of chars values) ++ (replicate (len_of c) x ++ us)) (sym (drop-per_unit len_of chars values (k + 1) long))
+      ∙ ap (λ (n : ℕ). take (place len_of chars k) (per_unit len_of chars values) ++ (replicate n x ++ drop (place len_of chars (k + 1)) (per_unit len_of chars values))) (sym wide)
+
+-- an initiator of the paragraph that is read, of whose characters `stored` are the classes, meets a character
+pub met_units-char : (len_of : ℕ → ℕ) → HasUnits len_of → (chars : List ℕ) (front stored : List BidiClass) (class : BidiClass) (q : ℕ) → length front + length stored ≡ length chars → q < length stored
+    → met_units class (Some (char_units len_of chars (length front + q))) (per_unit len_of chars (front ++ stored)) ≡ per_unit len_of chars (front ++ met_by class (Some q) stored)
+met_units-char len_of units chars front stored class q long within =
+    let k : ℕ = length front + q in
+    let all : length (front ++ stored) ≡ length chars = omega (arith, length-append front stored) in
+    let inside : k < length chars = omega arith in
+    let read : class_at (per_unit len_of chars (front ++ stored)) (place len_of chars k) ≡ class_at stored q = get_or-per_unit-place len_of units chars (front ++ stored) k L all inside ∙ get_or-append-add front stored q L in
+    let place_in : length front + q - length front ≡ q = omega arith in
+    let changed : set (front ++ stored) k (resolved_fsi (Some class)) ≡ front ++ set stored q (resolved_fsi (Some class)) =
+    set-append_right front stored (length front) k (resolved_fsi (Some class)) refl (omega arith) ∙ ap (λ (n : ℕ). front ++ set stored n (resolved_fsi (Some class))) place_in in
+    ap (λ (c : BidiClass). cond (is_strong class) (cond (is_fsi c) (filled (char_units len_of chars k) (resolved_fsi (Some class)) (per_unit len_of chars (front ++ stored))) (per_unit len_of chars (front ++ stored))) (per_unit len_of chars (front ++ stored))) read
+    ∙ by_tests (is_strong class) (is_fsi (class_at stored q)) (sym (per_unit-set len_of chars (front ++ stored) all k inside (resolved_fsi (Some class))) ∙ ap (per_unit len_of chars) changed)
+  where
+    by_tests : (s f : Bool) {us : List BidiClass} → us ≡ per_unit len_of chars (front ++ set stored q (resolved_fsi (Some class)))
+        → cond s (cond f us (per_unit len_of chars (front ++ stored))) (per_unit len_of chars (front ++ stored)) ≡ per_unit len_of chars (front ++ cond (s && f) (set stored q (resolved_fsi (Some class))) stored)
+    by_tests true true e = e
+    by_tests true false e = refl
+    by_tests false f e = refl

@@ -1,0 +1,344 @@
+-- A paragraph that is read from the front, one character more: its stored classes (X5c), its deciding character (P2) and its open isolates. The rules at what was read so far are what a pass holds, since an isolate with no matching PDI ends at the end.
+use Rattle.std.proofs.Common.{◌≡◌, ℕ, zero, suc, ◌+◌, ◌-◌, ◌<◌, Bool, true, false, not, ◌&&◌, ◌||◌, cond, List, [], ◌∷◌, ◌++◌, length, get_or, set, take, map, Option, Some, None, option_map, refl, sym, ap, ◌∙◌, arith, ◌⊎◌, inl, inr}
+use Rattle.std.specs.Prelude.{All}
+use Rattle.std.specs.Option.{option_or}
+use Rattle.std.proofs.lemmas.List.{append-nil, length-map, map-append, take-map, length-append, length-set}
+use Rattle.std.proofs.lemmas.List.Elements.{All-nil, All-cons, All-map}
+use Rattle.std.proofs.lemmas.Bool.{cases_Bool, cond-true, cond-false, and_right}
+use Rattle.bidi_base.specs.declared.char_data.BidiClass.{BidiClass}
+use Rattle.bidi_base.specs.declared.char_data.BidiClass.TheVariants.{L, R, AL, LRI, RLI, FSI, PDI}
+use Rattle.bidi_base.specs.Classes.{is_strong, is_initiator, is_pdi}
+use Rattle.bidi_base.specs.Places.{class_at}
+use Rattle.bidi_base.specs.Reading.{innermost, outer, opened_by, decided_by, is_fsi}
+use Rattle.bidi_base.specs.Isolates.{deciding_class, resolved_fsi, stored_classes}
+use Rattle.bidi_base.proofs.IsolateWalk.{Kind, opening, closing, neither, kind_of, opens_one, closes_one, depth_by, depth_after, depth_after-append, depth_after-deeper, is_zero, ends_by, has_end, has_end-append, deciding_from, deciding_class-from, resolving_from, stored_by, stored_from, stored_classes-from, strong_kind}
+
+-- the indexes of the initiators of the isolates that some characters leave open, outermost first
+abbrev pub onto_later : Bool → List ℕ → List ℕ
+onto_later true later = 0 ∷ later
+onto_later false later = later
+
+abbrev pub open_initiators : List BidiClass → List ℕ
+open_initiators [] = []
+open_initiators (c ∷ cs) = onto_later (opens_one (kind_of c) && not (has_end 0 cs)) (map suc (open_initiators cs))
+
+-- what stays open after one more character of a kind, which has index n
+abbrev opened_kind : Kind → ℕ → List ℕ → List ℕ
+opened_kind opening n under = under ++ n ∷ []
+opened_kind closing n under = outer under
+opened_kind neither n under = under
+
+opened_by-kind : (c : BidiClass) (n : ℕ) (under : List ℕ) → opened_by c n under ≡ opened_kind (kind_of c) n under
+opened_by-kind LRI n under = refl
+opened_by-kind RLI n under = refl
+opened_by-kind FSI n under = refl
+opened_by-kind PDI n under = refl
+opened_by-kind _ n under = refl
+
+-- the stored classes, once the innermost open isolate has met the class c
+abbrev pub met_by : BidiClass → Option ℕ → List BidiClass → List BidiClass
+met_by c None stored = stored
+met_by c (Some q) stored = cond (is_strong c && is_fsi (class_at stored q)) (set stored q (resolved_fsi (Some c))) stored
+
+-- ---- the open isolates
+
+abbrev is_empty : List ℕ → Bool
+is_empty [] = true
+is_empty (q ∷ qs) = false
+
+-- as many as the walk counts
+open_depth : (xs : List BidiClass) → depth_after 0 xs ≡ length (open_initiators xs)
+open_depth [] = refl
+open_depth (x ∷ xs) = one (kind_of x) (open_depth xs) (depth_after-deeper 0 xs)
+  where
+    longer : (n : ℕ) → n ≡ length (open_initiators xs) → n ≡ length (map suc (open_initiators xs))
+    longer n e = e ∙ sym (length-map (open_initiators xs) suc)
+
+    one : (k : Kind) → depth_after 0 xs ≡ length (open_initiators xs) → depth_after 1 xs ≡ cond (has_end 0 xs) (depth_after 0 xs) (suc (depth_after 0 xs))
+        → depth_after (depth_by k 0) xs ≡ length (onto_later (opens_one k && not (has_end 0 xs)) (map suc (open_initiators xs)))
+    one opening rest deeper = elim (cases_Bool (has_end 0 xs)) [
+      | inl ends ↦
+          deeper ∙ cond-true (has_end 0 xs) (depth_after 0 xs) (suc (depth_after 0 xs)) ends ∙ longer (depth_after 0 xs) rest
+          ∙ sym (ap (λ (b : Bool). length (onto_later (not b) (map suc (open_initiators xs)))) ends)
+      | inr on ↦
+          deeper ∙ cond-false (has_end 0 xs) (depth_after 0 xs) (suc (depth_after 0 xs)) on ∙ ap suc (longer (depth_after 0 xs) rest)
+          ∙ sym (ap (λ (b : Bool). length (onto_later (not b) (map suc (open_initiators xs)))) on)
+    ]
+    one closing rest deeper = longer (depth_after 0 xs) rest
+    one neither rest deeper = longer (depth_after 0 xs) rest
+
+is_zero-depth : (xs : List BidiClass) → is_zero (depth_after 0 xs) ≡ is_empty (open_initiators xs)
+is_zero-depth xs = ap is_zero (open_depth xs) ∙ by_length (open_initiators xs)
+  where
+    by_length : (qs : List ℕ) → is_zero (length qs) ≡ is_empty qs
+    by_length [] = refl
+    by_length (q ∷ qs) = refl
+
+has_end-push : (xs : List BidiClass) (c : BidiClass) → has_end 0 (xs ++ c ∷ []) ≡ (has_end 0 xs || ends_by (kind_of c) (depth_after 0 xs))
+has_end-push xs c = has_end-append 0 xs (c ∷ []) ∙ ap (λ (b : Bool). has_end 0 xs || b) (or_false (ends_by (kind_of c) (depth_after 0 xs)))
+  where
+    or_false : (b : Bool) → (b || false) ≡ b
+    or_false true = refl
+    or_false false = refl
+
+-- one more character
+open_initiators-push_kind : (xs : List BidiClass) (c : BidiClass) → open_initiators (xs ++ c ∷ []) ≡ opened_kind (kind_of c) (length xs) (open_initiators xs)
+open_initiators-push_kind [] c = first (kind_of c)
+  where
+    first : (k : Kind) → onto_later (opens_one k && true) [] ≡ opened_kind k 0 []
+    first opening = refl
+    first closing = refl
+    first neither = refl
+open_initiators-push_kind (x ∷ xs) c =
+    ap (λ (b : Bool). onto_later (opens_one (kind_of x) && not b) (map suc (open_initiators (xs ++ c ∷ [])))) (has_end-push xs c)
+    ∙ ap (λ (qs : List ℕ). onto_later (opens_one (kind_of x) && not (has_end 0 xs || ends_by (kind_of c) (depth_after 0 xs))) (map suc qs)) (open_initiators-push_kind xs c)
+    ∙ ap (λ (d : ℕ). onto_later (opens_one (kind_of x) && not (has_end 0 xs || ends_by (kind_of c) d)) (map suc (opened_kind (kind_of c) (length xs) (open_initiators xs)))) (open_depth xs)
+    ∙ one (kind_of c) (opens_one (kind_of x)) (has_end 0 xs) (length xs) (open_initiators xs)
+  where
+    or_false : (b : Bool) → (b || false) ≡ b
+    or_false true = refl
+    or_false false = refl
+
+    or_true : (b : Bool) → (b || true) ≡ true
+    or_true true = refl
+    or_true false = refl
+
+    and_false : (b : Bool) → (b && false) ≡ false
+    and_false true = refl
+    and_false false = refl
+
+    outer-map : (qs : List ℕ) → map suc (outer qs) ≡ outer (map suc qs)
+    outer-map [] = refl
+    outer-map (q ∷ []) = refl
+    outer-map (q ∷ r ∷ qs) = ap (λ (rs : List ℕ). suc q ∷ rs) (outer-map (r ∷ qs))
+
+    pushed : (b : Bool) (n : ℕ) (qs : List ℕ) → onto_later b (map suc (qs ++ n ∷ [])) ≡ onto_later b (map suc qs) ++ suc n ∷ []
+    pushed true n qs = ap (λ (rs : List ℕ). 0 ∷ rs) (map-append suc qs (n ∷ []))
+    pushed false n qs = map-append suc qs (n ∷ [])
+
+    popped : (b e : Bool) (qs : List ℕ) → onto_later (b && not (e || is_zero (length qs))) (map suc (outer qs)) ≡ outer (onto_later (b && not e) (map suc qs))
+    popped b e [] = ap (λ (a : Bool). onto_later (b && not a) []) (or_true e) ∙ ap (λ (a : Bool). onto_later a []) (and_false b) ∙ none (b && not e)
+      where
+        none : (a : Bool) → [] ≡ outer (onto_later a [])
+        none true = refl
+        none false = refl
+    popped b e (q ∷ qs) = ap (λ (a : Bool). onto_later (b && not a) (map suc (outer (q ∷ qs)))) (or_false e) ∙ some (b && not e)
+      where
+        some : (a : Bool) → onto_later a (map suc (outer (q ∷ qs))) ≡ outer (onto_later a (map suc (q ∷ qs)))
+        some true = ap (λ (rs : List ℕ). 0 ∷ rs) (outer-map (q ∷ qs))
+        some false = outer-map (q ∷ qs)
+
+    one : (k : Kind) (b e : Bool) (n : ℕ) (qs : List ℕ) → onto_later (b && not (e || ends_by k (length qs))) (map suc (opened_kind k n qs)) ≡ opened_kind k (suc n) (onto_later (b && not e) (map suc qs))
+    one opening b e n qs = ap (λ (a : Bool). onto_later (b && not a) (map suc (qs ++ n ∷ []))) (or_false e) ∙ pushed (b && not e) n qs
+    one closing b e n qs = popped b e qs
+    one neither b e n qs = ap (λ (a : Bool). onto_later (b && not a) (map suc qs)) (or_false e)
+
+pub open_initiators-push : (xs : List BidiClass) (c : BidiClass) → open_initiators (xs ++ c ∷ []) ≡ opened_by c (length xs) (open_initiators xs)
+open_initiators-push xs c = open_initiators-push_kind xs c ∙ sym (opened_by-kind c (length xs) (open_initiators xs))
+
+-- ---- the deciding character
+
+option_or-cond : (b : Bool) (x : BidiClass) (o p : Option BidiClass) → cond b (Some x) (option_or o p) ≡ option_or (cond b (Some x) o) p
+option_or-cond true x o p = refl
+option_or-cond false x o p = refl
+
+deciding_from-append : (d : ℕ) (xs ys : List BidiClass) → deciding_from d (xs ++ ys) ≡ option_or (deciding_from d xs) (deciding_from (depth_after d xs) ys)
+deciding_from-append d [] ys = refl
+deciding_from-append d (x ∷ xs) ys =
+    ap (λ (o : Option BidiClass). cond (is_strong x && is_zero d) (Some x) o) (deciding_from-append (depth_by (kind_of x) d) xs ys)
+    ∙ option_or-cond (is_strong x && is_zero d) x (deciding_from (depth_by (kind_of x) d) xs) (deciding_from (depth_after (depth_by (kind_of x) d) xs) ys)
+
+decided_by-empty : (c : BidiClass) (under : List ℕ) → cond (is_strong c && is_empty under) (Some c) None ≡ decided_by c under
+decided_by-empty c [] = by_strength (is_strong c)
+  where
+    by_strength : (b : Bool) → cond (b && true) (Some c) None ≡ cond b (Some c) None
+    by_strength true = refl
+    by_strength false = refl
+decided_by-empty c (q ∷ under) = by_strength (is_strong c)
+  where
+    by_strength : (b : Bool) → cond (b && false) (Some c) None ≡ None
+    by_strength true = refl
+    by_strength false = refl
+
+pub deciding_class-push : (xs : List BidiClass) (c : BidiClass) → deciding_class (xs ++ c ∷ []) ≡ option_or (deciding_class xs) (decided_by c (open_initiators xs))
+deciding_class-push xs c =
+    deciding_class-from (xs ++ c ∷ []) ∙ deciding_from-append 0 xs (c ∷ [])
+    ∙ ap (λ (b : Bool). option_or (deciding_from 0 xs) (cond (is_strong c && b) (Some c) None)) (is_zero-depth xs)
+    ∙ ap (option_or (deciding_from 0 xs)) (decided_by-empty c (open_initiators xs))
+    ∙ ap (λ (o : Option BidiClass). option_or o (decided_by c (open_initiators xs))) (sym (deciding_class-from xs))
+
+pub deciding_class-nil : deciding_class [] ≡ None
+deciding_class-nil = deciding_class-from []
+
+-- ---- the stored classes
+
+-- what a character more says of an FSI before xs
+found_by : BidiClass → List BidiClass → Option BidiClass
+found_by c xs = cond (has_end 0 xs) None (cond (is_strong c && is_zero (depth_after 0 xs)) (Some c) None)
+
+resolving-push_from : (d : ℕ) (xs : List BidiClass) (c : BidiClass) → resolving_from d (xs ++ c ∷ []) ≡ option_or (resolving_from d xs) (cond (has_end d xs) None (cond (is_strong c && is_zero (depth_after d xs)) (Some c) None))
+resolving-push_from d [] c = elim (cases_Bool (is_strong c)) [
+  | inl strong ↦ ap (λ (k : Kind). cond (ends_by k d) None (cond (is_strong c && is_zero d) (Some c) None)) (strong_kind c strong)
+  | inr weak ↦ weak_last (ends_by (kind_of c) d) (is_zero d) (is_strong c) weak
+]
+  where
+    weak_last : (e z s : Bool) → s ≡ false → cond e None (cond (s && z) (Some c) None) ≡ cond (s && z) (Some c) None
+    weak_last true z true weak = absurd (cc weak)
+    weak_last true z false weak = refl
+    weak_last false z s weak = refl
+resolving-push_from d (x ∷ xs) c =
+    ap (λ (o : Option BidiClass). cond (ends_by (kind_of x) d) None (cond (is_strong x && is_zero d) (Some x) o)) (resolving-push_from (depth_by (kind_of x) d) xs c)
+    ∙ joined (ends_by (kind_of x) d) (is_strong x && is_zero d) (has_end (depth_by (kind_of x) d) xs) (resolving_from (depth_by (kind_of x) d) xs) (cond (is_strong c && is_zero (depth_after (depth_by (kind_of x) d) xs)) (Some c) None)
+  where
+    joined : (e s h : Bool) (o p : Option BidiClass) → cond e None (cond s (Some x) (option_or o (cond h None p))) ≡ option_or (cond e None (cond s (Some x) o)) (cond (e || h) None p)
+    joined true s h o p = refl
+    joined false true h o p = refl
+    joined false false h o p = refl
+
+resolving-push : (xs : List BidiClass) (c : BidiClass) → resolving_from 0 (xs ++ c ∷ []) ≡ option_or (resolving_from 0 xs) (found_by c xs)
+unfolding found_by
+resolving-push xs c = resolving-push_from 0 xs c
+
+resolving-strong : (d : ℕ) (xs : List BidiClass) (s : BidiClass) → resolving_from d xs ≡ Some s → is_strong s ≡ true
+resolving-strong d [] s e = absurd (cc e)
+resolving-strong d (x ∷ xs) s e = one (ends_by (kind_of x) d) (is_strong x) (is_zero d) refl (resolving-strong (depth_by (kind_of x) d) xs s) e
+  where
+    one : (a b z : Bool) → is_strong x ≡ b → (resolving_from (depth_by (kind_of x) d) xs ≡ Some s → is_strong s ≡ true) → cond a None (cond (b && z) (Some x) (resolving_from (depth_by (kind_of x) d) xs)) ≡ Some s → is_strong s ≡ true
+    one true b z is rest e = absurd (cc e)
+    one false true true is rest e = let same : x ≡ s = cc e in sym (ap is_strong same) ∙ is
+    one false true false is rest e = rest e
+    one false false z is rest e = rest e
+
+-- a direction that was found stays
+resolved-strong : (s : BidiClass) → is_strong s ≡ true → is_fsi (resolved_fsi (Some s)) ≡ false
+resolved-strong L e = refl
+resolved-strong R e = refl
+resolved-strong AL e = refl
+resolved-strong _ e = absurd (cc e)
+
+or_none : (o : Option BidiClass) → option_or o None ≡ o
+or_none None = refl
+or_none (Some s) = refl
+
+-- what stands first is stored as before, where the new character says nothing of it
+first_stays : (x c : BidiClass) (xs : List BidiClass) → found_by c xs ≡ None → stored_by x (resolving_from 0 (xs ++ c ∷ [])) ≡ stored_by x (resolving_from 0 xs)
+first_stays x c xs none = ap (stored_by x) (resolving-push xs c ∙ ap (option_or (resolving_from 0 xs)) none ∙ or_none (resolving_from 0 xs))
+
+stored_alone : (c : BidiClass) → stored_by c None ≡ c
+stored_alone FSI = refl
+stored_alone _ = refl
+
+-- an FSI that is the innermost open initiator is given the direction of the first strong character
+fsi_met : (c : BidiClass) (xs stored : List BidiClass) (o : Option BidiClass) → resolving_from 0 xs ≡ o → found_by c xs ≡ cond (is_strong c) (Some c) None
+    → stored_by FSI (resolving_from 0 (xs ++ c ∷ [])) ∷ stored ≡ met_by c (Some 0) (stored_by FSI (resolving_from 0 xs) ∷ stored)
+fsi_met c xs stored (Some s) is found =
+    let strong : is_fsi (resolved_fsi (resolving_from 0 xs)) ≡ false = ap (λ (o : Option BidiClass). is_fsi (resolved_fsi o)) is ∙ resolved-strong s (resolving-strong 0 xs s is) in
+    ap (λ (o : Option BidiClass). resolved_fsi o ∷ stored) (resolving-push xs c ∙ ap (λ (o : Option BidiClass). option_or o (found_by c xs)) is ∙ sym is)
+    ∙ sym (cond-false (is_strong c && is_fsi (resolved_fsi (resolving_from 0 xs))) (resolved_fsi (Some c) ∷ stored) (resolved_fsi (resolving_from 0 xs) ∷ stored) (and_right (is_strong c) (is_fsi (resolved_fsi (resolving_from 0 xs))) strong))
+fsi_met c xs stored None is found =
+    ap (λ (o : Option BidiClass). resolved_fsi o ∷ stored) (resolving-push xs c ∙ ap (λ (o : Option BidiClass). option_or o (found_by c xs)) is ∙ found)
+    ∙ by_strength (is_strong c)
+    ∙ sym (ap (λ (o : Option BidiClass). cond (is_strong c && is_fsi (resolved_fsi o)) (resolved_fsi (Some c) ∷ stored) (resolved_fsi o ∷ stored)) is)
+  where
+    by_strength : (b : Bool) → resolved_fsi (cond b (Some c) None) ∷ stored ≡ cond (b && true) (resolved_fsi (Some c) ∷ stored) (FSI ∷ stored)
+    by_strength true = refl
+    by_strength false = refl
+
+-- any other initiator stays
+kept : (c : BidiClass) (stored : List BidiClass) (b : Bool) (y : BidiClass) → is_fsi y ≡ false → y ∷ stored ≡ met_by c (innermost (onto_later b [])) (y ∷ stored)
+kept c stored true y other = sym (cond-false (is_strong c && is_fsi y) (resolved_fsi (Some c) ∷ stored) (y ∷ stored) (and_right (is_strong c) (is_fsi y) other))
+kept c stored false y other = refl
+
+-- where no isolate is open after it, what stands first is the innermost open initiator, or none is
+first_met : (x c : BidiClass) (xs stored : List BidiClass) → is_zero (depth_after 0 xs) ≡ true
+    → stored_by x (resolving_from 0 (xs ++ c ∷ [])) ∷ stored ≡ met_by c (innermost (onto_later (opens_one (kind_of x) && not (has_end 0 xs)) [])) (stored_by x (resolving_from 0 xs) ∷ stored)
+unfolding found_by
+first_met FSI c xs stored zero_depth = elim (cases_Bool (has_end 0 xs)) [
+  | inl ends ↦
+      ap (λ (y : BidiClass). y ∷ stored) (first_stays FSI c xs (cond-true (has_end 0 xs) None (cond (is_strong c && is_zero (depth_after 0 xs)) (Some c) None) ends))
+      ∙ sym (ap (λ (b : Bool). met_by c (innermost (onto_later (not b) [])) (stored_by FSI (resolving_from 0 xs) ∷ stored)) ends)
+  | inr on ↦
+      fsi_met c xs stored (resolving_from 0 xs) refl (cond-false (has_end 0 xs) None (cond (is_strong c && is_zero (depth_after 0 xs)) (Some c) None) on ∙ ap (λ (b : Bool). cond (is_strong c && b) (Some c) None) zero_depth ∙ and_true (is_strong c))
+      ∙ sym (ap (λ (b : Bool). met_by c (innermost (onto_later (not b) [])) (stored_by FSI (resolving_from 0 xs) ∷ stored)) on)
+]
+  where
+    and_true : (b : Bool) → cond (b && true) (Some c) None ≡ cond b (Some c) None
+    and_true true = refl
+    and_true false = refl
+first_met x c xs stored zero_depth = kept c stored (opens_one (kind_of x) && not (has_end 0 xs)) x refl
+
+pub innermost-map : {X Y : Type 0} (f : X → Y) (xs : List X) → innermost (map f xs) ≡ option_map f (innermost xs)
+innermost-map f [] = refl
+innermost-map f (x ∷ []) = refl
+innermost-map f (x ∷ y ∷ xs) = innermost-map f (y ∷ xs)
+
+innermost-later : (b : Bool) (q : ℕ) (qs : List ℕ) → innermost (onto_later b (map suc (q ∷ qs))) ≡ option_map suc (innermost (q ∷ qs))
+innermost-later true q qs = innermost-map suc (q ∷ qs)
+innermost-later false q qs = innermost-map suc (q ∷ qs)
+
+later_met : (c y : BidiClass) (o : Option ℕ) (stored : List BidiClass) → met_by c (option_map suc o) (y ∷ stored) ≡ y ∷ met_by c o stored
+later_met c y None stored = refl
+later_met c y (Some q) stored = by_test (is_strong c && is_fsi (class_at stored q))
+  where
+    by_test : (b : Bool) → cond b (y ∷ set stored q (resolved_fsi (Some c))) (y ∷ stored) ≡ y ∷ cond b (set stored q (resolved_fsi (Some c))) stored
+    by_test true = refl
+    by_test false = refl
+
+stored_from-push : (xs : List BidiClass) (c : BidiClass) → stored_from (xs ++ c ∷ []) ≡ met_by c (innermost (open_initiators xs)) (stored_from xs) ++ c ∷ []
+unfolding found_by
+stored_from-push [] c = ap (λ (y : BidiClass). y ∷ []) (stored_alone c)
+stored_from-push (x ∷ xs) c = ap (λ (ys : List BidiClass). stored_by x (resolving_from 0 (xs ++ c ∷ [])) ∷ ys) (stored_from-push xs c) ∙ by_open (open_initiators xs) refl
+  where
+    by_open : (qs : List ℕ) → open_initiators xs ≡ qs → stored_by x (resolving_from 0 (xs ++ c ∷ [])) ∷ (met_by c (innermost (open_initiators xs)) (stored_from xs) ++ c ∷ [])
+        ≡ met_by c (innermost (onto_later (opens_one (kind_of x) && not (has_end 0 xs)) (map suc (open_initiators xs)))) (stored_by x (resolving_from 0 xs) ∷ stored_from xs) ++ c ∷ []
+    by_open [] e =
+        ap (λ (qs : List ℕ). stored_by x (resolving_from 0 (xs ++ c ∷ [])) ∷ (met_by c (innermost qs) (stored_from xs) ++ c ∷ [])) e
+        ∙ ap (λ (ys : List BidiClass). ys ++ c ∷ []) (first_met x c xs (stored_from xs) (is_zero-depth xs ∙ ap is_empty e))
+        ∙ sym (ap (λ (qs : List ℕ). met_by c (innermost (onto_later (opens_one (kind_of x) && not (has_end 0 xs)) (map suc qs))) (stored_by x (resolving_from 0 xs) ∷ stored_from xs) ++ c ∷ []) e)
+    by_open (q ∷ qs) e =
+        let deep : is_zero (depth_after 0 xs) ≡ false = is_zero-depth xs ∙ ap is_empty e in
+        ap (λ (qs : List ℕ). stored_by x (resolving_from 0 (xs ++ c ∷ [])) ∷ (met_by c (innermost qs) (stored_from xs) ++ c ∷ [])) e
+        ∙ ap (λ (y : BidiClass). y ∷ (met_by c (innermost (q ∷ qs)) (stored_from xs) ++ c ∷ [])) (first_stays x c xs (nothing (has_end 0 xs) (is_strong c) (is_zero (depth_after 0 xs)) deep))
+        ∙ ap (λ (ys : List BidiClass). ys ++ c ∷ []) (sym (later_met c (stored_by x (resolving_from 0 xs)) (innermost (q ∷ qs)) (stored_from xs)) ∙ ap (λ (o : Option ℕ). met_by c o (stored_by x (resolving_from 0 xs) ∷ stored_from xs)) (sym (innermost-later (opens_one (kind_of x) && not (has_end 0 xs)) q qs)))
+        ∙ sym (ap (λ (qs : List ℕ). met_by c (innermost (onto_later (opens_one (kind_of x) && not (has_end 0 xs)) (map suc qs))) (stored_by x (resolving_from 0 xs) ∷ stored_from xs) ++ c ∷ []) e)
+      where
+        nothing : (h s z : Bool) → z ≡ false → cond h None (cond (s && z) (Some c) None) ≡ None
+        nothing true s z deep = refl
+        nothing false s true deep = absurd (cc deep)
+        nothing false true false deep = refl
+        nothing false false false deep = refl
+
+-- one more character: a strong one is the direction of the innermost open isolate, if that has an FSI with none so far
+pub stored_classes-push : (xs : List BidiClass) (c : BidiClass) → stored_classes (xs ++ c ∷ []) ≡ met_by c (innermost (open_initiators xs)) (stored_classes xs) ++ c ∷ []
+stored_classes-push xs c =
+    stored_classes-from (xs ++ c ∷ []) ∙ stored_from-push xs c ∙ ap (λ (ys : List BidiClass). met_by c (innermost (open_initiators xs)) ys ++ c ∷ []) (sym (stored_classes-from xs))
+
+pub stored_classes-nil : stored_classes [] ≡ []
+stored_classes-nil = stored_classes-from []
+
+pub length-stored_classes : (xs : List BidiClass) → length (stored_classes xs) ≡ length xs
+length-stored_classes xs = ap length (stored_classes-from xs) ∙ same xs
+  where
+    same : (xs : List BidiClass) → length (stored_from xs) ≡ length xs
+    same [] = refl
+    same (x ∷ xs) = ap suc (same xs)
+
+pub length-met_by : (c : BidiClass) (o : Option ℕ) (stored : List BidiClass) → length (met_by c o stored) ≡ length stored
+length-met_by c None stored = refl
+length-met_by c (Some q) stored = by_test (is_strong c && is_fsi (class_at stored q))
+  where
+    by_test : (b : Bool) → length (cond b (set stored q (resolved_fsi (Some c))) stored) ≡ length stored
+    by_test true = length-set stored q (resolved_fsi (Some c))
+    by_test false = refl
+
+-- open initiators are indexes of the characters
+pub open_initiators-below : (xs : List BidiClass) → All (λ (q : ℕ). q < length xs) (open_initiators xs)
+open_initiators-below [] = All-nil (λ (q : ℕ). q < 0)
+open_initiators-below (x ∷ xs) = first (opens_one (kind_of x) && not (has_end 0 xs)) (open_initiators-below xs)
+  where
+    later : All (λ (q : ℕ). q < length xs) (open_initiators xs) → All (λ (q : ℕ). q < suc (length xs)) (map suc (open_initiators xs))
+    later h = All-map (λ (q : ℕ). q < suc (length xs)) suc (open_initiators xs) (λ k d within. omega (arith, h k d within))
+
+    first : (b : Bool) → All (λ (q : ℕ). q < length xs) (open_initiators xs) → All (λ (q : ℕ). q < suc (length xs)) (onto_later b (map suc (open_initiators xs)))
+    first true h = All-cons (λ (q : ℕ). q < suc (length xs)) 0 (map suc (open_initiators xs)) (omega arith) (later h)
+    first false h = later h

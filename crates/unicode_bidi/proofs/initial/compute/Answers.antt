@@ -1,0 +1,179 @@
+use Rattle.std.proofs.Common.{◌≡◌, ◌∙◌, ◌+◌, ◌∷◌, [], ◌++◌, ℕ, ◌<◌, List, true, false, ◌⊎◌, inl, inr, length, refl, sym, ap, subst, arith}
+use Rattle.std.specs.Prelude.{replicate}
+use Rattle.std.specs.Iterator.{IsFinite}
+use Rattle.std.specs.declared.ops.Range.{Range}
+use Rattle.std.proofs.lemmas.List.{length_push, with_items_is}
+use Rattle.std.proofs.lemmas.Bool.{and_from, and_left, and_right}
+use Rattle.bidi_base.specs.Classes.{is_paragraph_separator}
+use Rattle.bidi_base.specs.Reading.{innermost, met_units}
+use Rattle.bidi_base.specs.Text.{place}
+use Rattle.bidi_base.proofs.PlaceLemmas.{index_turn, index_end, place-le, place-end}
+use Rattle.unicode_bidi.specs.declared.initial.Initial.{Initial}
+use Rattle.unicode_bidi.proofs.TextRead.{take-turn, same_range, stops, open_within, start-le, IsFresh, IsTextRead, IsTextRead-more, IsTextDone-close, IsRead, IsRead-start, IsRead-on, IsRead-stop, IsRead-last, IsRead-none, IsTextDone-none, IsAnswer, IsTextDone-answer}
+use Rattle.unicode_bidi.proofs.initial.compute.Goals as goal
+use Rattle.unicode_bidi.proofs.initial.compute.Goals.{else-split-via-then-split+else-is_separator, else-split-via-else-split, then-not-split+in_ok-close-2, then-not-split-via-then-not-split, then-not-split-via-else-not-split+then-reading-end, else-not-split+else-reading-end}
+use Rattle.unicode_bidi.proofs.initial.compute.Given.{Over}
+
+pub loop-at-init : goal.loop-at-init
+loop-at-init g c = (
+  subst g.T.CharIndexIter.Iterator.can_next (sym c.into_iter-at-iterator.ensures.into_iter_gives) c.char_indices-at-items.ensures.can_next,
+  subst (λ b. IsFinite (g.T.CharIndexIter.Iterator.remaining b)) (sym c.into_iter-at-iterator.ensures.into_iter_gives) c.char_indices-at-items.ensures.finite,
+  IsRead-start _ _ _ c.args.split c.args.base _ c.new-reading.result c.in_ok-with_capacity.ensures.items c.new.ensures.items c.new-2.ensures.items
+      (record { here = c.new-reading.ensures.start; under = c.new-reading.ensures.open; deciding = c.new-reading.ensures.deciding; turns = c.new-reading.ensures.flags }),
+)
+
+pub overflow_add-end : goal.overflow_add-end
+overflow_add-end g c =
+    let len = g.T.TextSource.units in
+    let cs : List ℕ = g.T.TextSource.characters c.args.text in
+    let w = index_turn len cs c.char_indices-at-items.ensures c.into_iter-at-iterator.ensures.into_iter_gives c.loop-at.yielded _ c.loop-at.yielded_by _ _ c.in-Some.at c.in-Some.c c.in-Some.is c.next.ensures.steps in
+    omega (arith, w.fits, c.len.ensures, c.char_len-len.ensures)
+
+pub read-requires : goal.read-requires
+read-requires g c =
+    let len = g.T.TextSource.units in
+    let cs : List ℕ = g.T.TextSource.characters c.args.text in
+    let w = index_turn len cs c.char_indices-at-items.ensures c.into_iter-at-iterator.ensures.into_iter_gives c.loop-at.yielded _ c.loop-at.yielded_by _ _ c.in-Some.at c.in-Some.c c.in-Some.is c.next.ensures.steps in
+    let h = c.loop-at.invariant.2 in
+    rw c.as_mut_slice.ensures.value
+    (open_within (g.D.BidiDataSource.source c.args.data_source.now) len cs g.met.T.TextSource.has_units c.args.base (length c.loop-at.yielded) h.done h.current c.loop-at.found c.loop-at.reading w.within h.read)
+
+pub close-requires : goal.close-requires
+close-requires g c =
+    let source = g.D.BidiDataSource.source c.args.data_source.now in
+    let len = g.T.TextSource.units in
+    let units = g.met.T.TextSource.has_units in
+    let cs : List ℕ = g.T.TextSource.characters c.args.text in
+    let n : ℕ = length c.loop-at.yielded in
+    let w = index_turn len cs c.char_indices-at-items.ensures c.into_iter-at-iterator.ensures.into_iter_gives c.loop-at.yielded _ c.loop-at.yielded_by _ _ c.in-Some.at c.in-Some.c c.in-Some.is c.next.ensures.steps in
+    let h = c.loop-at.invariant.2 in
+    let class = c.bidi_class-class.result in
+    let end : c.in-Some.at + c.char_len-len.result ≡ place len cs (n + 1) = omega (arith, w.after, c.char_len-len.ensures) in
+    let range : Range ℕ = record { start = c.in-Some.at; end = c.in-Some.at + c.char_len-len.result } in
+    let changed : c.read.new.classes ≡ met_units class (innermost c.loop-at.reading.open.items) c.loop-at.found.original_classes.items =
+    c.in_ok-read.ensures.classes ∙ ap (met_units class (innermost c.loop-at.reading.open.items)) c.as_mut_slice.ensures.value in
+    let longer : c.append.new.classes.items ≡ c.read.new.classes ++ replicate (len c.in-Some.c) class =
+    c.in_ok-append.ensures ∙ ap (λ us. us ++ replicate c.char_len-len.result class) (with_items_is c.loop-at.found.original_classes c.read.new.classes (c.read.auto.classes ∙ c.as_mut_slice.ensures.len))
+    ∙ ap (λ m. c.read.new.classes ++ replicate m class) c.char_len-len.ensures in
+    let found : Initial = record { original_classes = c.append.new.classes; paragraphs = c.loop-at.found.paragraphs; flags = c.loop-at.found.flags } in
+    let more : IsTextRead source len cs c.args.base (n + 1) h.done (h.current ++ c.in-Some.c ∷ []) found c.read.new.self =
+    IsTextRead-more source len cs units c.args.base n h.done h.current c.loop-at.found c.loop-at.reading w.within h.read c.in-Some.c w.is_char class c.bidi_class-class.ensures c.read.new.classes range found c.read.new.self
+    (same_range c.in-Some.at (place len cs n) (c.in-Some.at + c.char_len-len.result) (place len cs (n + 1)) w.at_place end) changed longer refl refl
+    c.read.ensures.start c.in_ok-read.ensures.open c.in_ok-read.ensures.deciding c.in_ok-read.ensures.pure c.in_ok-read.ensures.isolates in
+    let le = start-le source len cs c.args.base (n + 1) h.done (h.current ++ c.in-Some.c ∷ []) found c.read.new.self more in
+    omega (arith, le, end)
+
+pub loop-at-preserved-then-is_separator : goal.loop-at-preserved-then-is_separator
+loop-at-preserved-then-is_separator g c =
+    let source = g.D.BidiDataSource.source c.args.data_source.now in
+    let len = g.T.TextSource.units in
+    let units = g.met.T.TextSource.has_units in
+    let cs : List ℕ = g.T.TextSource.characters c.args.text in
+    let n : ℕ = length c.loop-at.yielded in
+    let w = index_turn len cs c.char_indices-at-items.ensures c.into_iter-at-iterator.ensures.into_iter_gives c.loop-at.yielded _ c.loop-at.yielded_by _ _ c.in-Some.at c.in-Some.c c.in-Some.is c.next.ensures.steps in
+    let h = c.loop-at.invariant.2 in
+    let class = c.bidi_class-class.result in
+    let end : c.in-Some.at + c.char_len-len.result ≡ place len cs (n + 1) = omega (arith, w.after, c.char_len-len.ensures) in
+    let range : Range ℕ = record { start = c.in-Some.at; end = c.in-Some.at + c.char_len-len.result } in
+    let changed : c.read.new.classes ≡ met_units class (innermost c.loop-at.reading.open.items) c.loop-at.found.original_classes.items =
+    c.in_ok-read.ensures.classes ∙ ap (met_units class (innermost c.loop-at.reading.open.items)) c.as_mut_slice.ensures.value in
+    let longer : c.append.new.classes.items ≡ c.read.new.classes ++ replicate (len c.in-Some.c) class =
+    c.in_ok-append.ensures ∙ ap (λ us. us ++ replicate c.char_len-len.result class) (with_items_is c.loop-at.found.original_classes c.read.new.classes (c.read.auto.classes ∙ c.as_mut_slice.ensures.len))
+    ∙ ap (λ m. c.read.new.classes ++ replicate m class) c.char_len-len.ensures in
+    let found : Initial = record { original_classes = c.append.new.classes; paragraphs = c.loop-at.found.paragraphs; flags = c.loop-at.found.flags } in
+    let more : IsTextRead source len cs c.args.base (n + 1) h.done (h.current ++ c.in-Some.c ∷ []) found c.read.new.self =
+    IsTextRead-more source len cs units c.args.base n h.done h.current c.loop-at.found c.loop-at.reading w.within h.read c.in-Some.c w.is_char class c.bidi_class-class.ensures c.read.new.classes range found c.read.new.self
+    (same_range c.in-Some.at (place len cs n) (c.in-Some.at + c.char_len-len.result) (place len cs (n + 1)) w.at_place end) changed longer refl refl
+    c.read.ensures.start c.in_ok-read.ensures.open c.in_ok-read.ensures.deciding c.in_ok-read.ensures.pure c.in_ok-read.ensures.isolates in
+    let stop : stops source c.args.split c.in-Some.c ≡ true = and_from c.args.split (is_paragraph_separator (source.class_of c.in-Some.c)) c.if-split.true (ap is_paragraph_separator (sym c.bidi_class-class.ensures) ∙ sym c.is_separator.ensures ∙ c.if-is_separator.true) in
+    let ended =
+    IsTextDone-close source len cs c.args.base (n + 1) h.done (h.current ++ c.in-Some.c ∷ []) found c.read.new.self more c.close.new.self (c.in-Some.at + c.char_len-len.result) end
+    c.close.ensures.classes c.in_ok-close.ensures.ranges c.in_ok-close.ensures.levels c.in_ok-close.ensures.flags in
+    let fresh : IsFresh c.restart.new.self (place len cs (n + 1)) = record { here = c.restart.ensures.start ∙ end; under = c.restart.ensures.open; deciding = c.restart.ensures.deciding; turns = c.restart.ensures.flags } in (
+      c.in-Some.ensures.goes.keeps,
+      (c.in-Some.ensures.goes.on c.loop-at.invariant.1).1,
+      subst (λ m. IsRead source len cs c.args.split c.args.base m c.close.new.self c.restart.new.self) (sym (length_push c.loop-at.yielded (c.in-Some.at, c.in-Some.c)))
+          (IsRead-stop source len cs c.args.split c.args.base n c.in-Some.c c.loop-at.found c.loop-at.reading c.close.new.self c.restart.new.self h (take-turn cs n c.in-Some.c w.within w.is_char) ended fresh stop),
+    )
+
+pub loop-at-preserved : goal.loop-at-preserved
+loop-at-preserved g c =
+    let source = g.D.BidiDataSource.source c.args.data_source.now in
+    let len = g.T.TextSource.units in
+    let units = g.met.T.TextSource.has_units in
+    let cs : List ℕ = g.T.TextSource.characters c.args.text in
+    let n : ℕ = length c.loop-at.yielded in
+    let w = index_turn len cs c.char_indices-at-items.ensures c.into_iter-at-iterator.ensures.into_iter_gives c.loop-at.yielded _ c.loop-at.yielded_by _ _ c.in-Some.at c.in-Some.c c.in-Some.is c.next.ensures.steps in
+    let h = c.loop-at.invariant.2 in
+    let class = c.bidi_class-class.result in
+    let end : c.in-Some.at + c.char_len-len.result ≡ place len cs (n + 1) = omega (arith, w.after, c.char_len-len.ensures) in
+    let range : Range ℕ = record { start = c.in-Some.at; end = c.in-Some.at + c.char_len-len.result } in
+    let changed : c.read.new.classes ≡ met_units class (innermost c.loop-at.reading.open.items) c.loop-at.found.original_classes.items =
+    c.in_ok-read.ensures.classes ∙ ap (met_units class (innermost c.loop-at.reading.open.items)) c.as_mut_slice.ensures.value in
+    let longer : c.append.new.classes.items ≡ c.read.new.classes ++ replicate (len c.in-Some.c) class =
+    c.in_ok-append.ensures ∙ ap (λ us. us ++ replicate c.char_len-len.result class) (with_items_is c.loop-at.found.original_classes c.read.new.classes (c.read.auto.classes ∙ c.as_mut_slice.ensures.len))
+    ∙ ap (λ m. c.read.new.classes ++ replicate m class) c.char_len-len.ensures in
+    let found : Initial = record { original_classes = c.append.new.classes; paragraphs = c.loop-at.found.paragraphs; flags = c.loop-at.found.flags } in
+    let more : IsTextRead source len cs c.args.base (n + 1) h.done (h.current ++ c.in-Some.c ∷ []) found c.read.new.self =
+    IsTextRead-more source len cs units c.args.base n h.done h.current c.loop-at.found c.loop-at.reading w.within h.read c.in-Some.c w.is_char class c.bidi_class-class.ensures c.read.new.classes range found c.read.new.self
+    (same_range c.in-Some.at (place len cs n) (c.in-Some.at + c.char_len-len.result) (place len cs (n + 1)) w.at_place end) changed longer refl refl
+    c.read.ensures.start c.in_ok-read.ensures.open c.in_ok-read.ensures.deciding c.in_ok-read.ensures.pure c.in_ok-read.ensures.isolates in
+    let on : stops source c.args.split c.in-Some.c ≡ false =
+    elim c.else-split.branch [
+      | else-split-via-then-split+else-is_separator w ↦ and_right c.args.split (is_paragraph_separator (source.class_of c.in-Some.c)) (ap is_paragraph_separator (sym c.bidi_class-class.ensures) ∙ sym w.is_separator.ensures ∙ w.if-is_separator.false)
+      | else-split-via-else-split w ↦ and_left c.args.split (is_paragraph_separator (source.class_of c.in-Some.c)) w.if-split.false
+    ] in (
+      c.in-Some.ensures.goes.keeps,
+      (c.in-Some.ensures.goes.on c.loop-at.invariant.1).1,
+      subst (λ m. IsRead source len cs c.args.split c.args.base m found c.read.new.self) (sym (length_push c.loop-at.yielded (c.in-Some.at, c.in-Some.c)))
+          (IsRead-on source len cs c.args.split c.args.base n c.in-Some.c c.loop-at.found c.loop-at.reading found c.read.new.self h (take-turn cs n c.in-Some.c w.within w.is_char) more on),
+    )
+
+pub close-requires-then-not-split : goal.close-requires-then-not-split
+close-requires-then-not-split g c =
+    let source = g.D.BidiDataSource.source c.args.data_source.now in
+    let len = g.T.TextSource.units in
+    let cs : List ℕ = g.T.TextSource.characters c.args.text in
+    let n : ℕ = length c.loop-at.yielded in
+    let h = c.loop-at.invariant.2 in
+    let le = start-le source len cs c.args.base n h.done h.current c.loop-at.found c.loop-at.reading h.read in
+    omega (arith, le, place-le len cs n, c.len-end.ensures)
+
+answered : (g : Over) (c : goal.After-drop-reading-2 g) → IsAnswer (g.D.BidiDataSource.source c.args.data_source.now) g.T.TextSource.units (g.T.TextSource.characters c.args.text) c.args.split c.args.base c.if-not-split.found
+answered g c =
+    let source = g.D.BidiDataSource.source c.args.data_source.now in
+    let len = g.T.TextSource.units in
+    let units = g.met.T.TextSource.has_units in
+    let cs : List ℕ = g.T.TextSource.characters c.args.text in
+    let n : ℕ = length c.loop-at.yielded in
+    let h = c.loop-at.invariant.2 in
+    let all : n ≡ length cs = index_end len cs c.char_indices-at-items.ensures c.into_iter-at-iterator.ensures.into_iter_gives c.loop-at.yielded _ c.loop-at.yielded_by _ _ c.in-None.is c.next.ensures.steps in
+    let end : c.len-end.result ≡ place len cs n = c.len-end.ensures ∙ sym (place-end len cs n (omega arith)) in
+    elim c.if-not-split.branch [
+      | then-not-split+in_ok-close-2 w ↦
+          let rest : (c.args.split ≡ false) ⊎ (c.loop-at.reading.start < place len cs n) =
+          elim w.then-not-split.branch [
+            | then-not-split-via-then-not-split v ↦ inl v.if-not-split.true
+            | then-not-split-via-else-not-split+then-reading-end v ↦ inr (omega (arith, v.if-reading-end.true, end))
+          ] in
+          subst (IsAnswer source len cs c.args.split c.args.base) (sym w.found-is)
+          (IsTextDone-answer source len cs c.args.split c.args.base n (h.done ++ h.current ∷ []) w.close-then-not-split.new.self all (IsRead-last source len cs units c.args.split c.args.base n c.loop-at.found c.loop-at.reading all h rest)
+          (IsTextDone-close source len cs c.args.base n h.done h.current c.loop-at.found c.loop-at.reading h.read w.close-then-not-split.new.self c.len-end.result end
+          w.close-then-not-split.ensures.classes w.in_ok-close-2.ensures.ranges w.in_ok-close-2.ensures.levels w.in_ok-close-2.ensures.flags))
+      | else-not-split+else-reading-end w ↦
+          let none = IsRead-none source len cs units c.args.split c.args.base n c.loop-at.found c.loop-at.reading all h w.if-not-split.false (omega (arith, w.if-reading-end.false, end)) in
+          subst (IsAnswer source len cs c.args.split c.args.base) (sym w.found-is)
+          (IsTextDone-answer source len cs c.args.split c.args.base n h.done c.loop-at.found all none.1 (IsTextDone-none source len cs c.args.base n h.done h.current c.loop-at.found c.loop-at.reading none.0 h.read))
+    ]
+
+pub returns-clause-classes : goal.returns-clause-classes
+returns-clause-classes g c = (answered g c).classes
+
+pub returns-clause-ranges : goal.returns-clause-ranges
+returns-clause-ranges g c = (answered g c).ranges
+
+pub returns-clause-levels : goal.returns-clause-levels
+returns-clause-levels g c = (answered g c).levels
+
+pub returns-clause-flags : goal.returns-clause-flags
+returns-clause-flags g c = (answered g c).flags

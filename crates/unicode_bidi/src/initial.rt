@@ -1,0 +1,254 @@
+// One walk over a text: the class of each character, with each FSI resolved (X5c), and the
+// paragraphs (P1) with their levels (P2, P3).
+ghost use Rattle.std.specs.Prelude.{◌≡◌, ℕ, ◌+◌, ◌<◌, ◌≤◌, Bool, true, false, not, ◌&&◌, ◌||◌, [], ◌∷◌, ◌++◌, length, map, replicate, unwrap_or, OnOk, IfOk, All, None, Some, Option, MatchOption};
+ghost use Rattle.std.specs.Option.{option_or};
+ghost use Rattle.std.specs.declared.ops.Range.{Range};
+ghost use Rattle.bidi_base.specs.Classes.{is_initiator as is_initiator_class};
+ghost use Rattle.bidi_base.specs.Direction.{may_turn as may_turn_class};
+ghost use Rattle.bidi_base.specs.Isolates.{level_by, resolved_fsi};
+ghost use Rattle.bidi_base.specs.Reading.{innermost, opened_by, decided_by, resolved_units, met_units};
+ghost use Rattle.bidi_base.specs.Paragraphs.{pieces_of, ranges_from};
+ghost use Rattle.bidi_base.specs.Stored.{text_classes, paragraph_levels};
+ghost use Rattle.bidi_base.specs.Text.{per_unit};
+ghost use Rattle.unicode_bidi.specs.ParagraphInfo.{ranges_of, levels_of};
+ghost use Rattle.unicode_bidi.specs.ParagraphFlags.{paragraph_flags};
+
+use crate::classes::{is_initiator, is_pdi, is_separator, is_strong};
+use crate::paragraph_info::ParagraphInfo;
+use bidi_base::char_data::BidiClass;
+use bidi_base::data_source::BidiDataSource;
+use bidi_base::level::{LTR_LEVEL, Level, RTL_LEVEL};
+use bidi_base::text::TextSource;
+use std::alloc::{AllocError, Global};
+use std::ops::Range;
+
+// Whether a class can make a paragraph of level 0 other than left to right throughout.
+fn may_turn(class: BidiClass) -> bool
+    ensures { result ≡ may_turn_class class }
+{
+    matches!(
+        class,
+        BidiClass::R
+            | BidiClass::AL
+            | BidiClass::AN
+            | BidiClass::LRE
+            | BidiClass::RLE
+            | BidiClass::LRO
+            | BidiClass::RLO
+            | BidiClass::LRI
+            | BidiClass::RLI
+            | BidiClass::FSI
+    )
+}
+
+// What an FSI becomes whose isolate has a deciding character of this class.
+fn resolved_by(class: BidiClass) -> BidiClass
+    ensures { result ≡ resolved_fsi (Some class) }
+{
+    match class {
+        BidiClass::R | BidiClass::AL => BidiClass::RLI,
+        BidiClass::L => BidiClass::LRI,
+        _ => BidiClass::FSI,
+    }
+}
+
+// The level of a paragraph whose deciding character has this class (P3).
+fn level_of_class(deciding: Option<BidiClass>) -> Level
+    ensures { result ≡ level_by deciding }
+{
+    match deciding {
+        Some(BidiClass::R | BidiClass::AL) => RTL_LEVEL,
+        _ => LTR_LEVEL,
+    }
+}
+
+// An open isolate whose initiator has these units has met a strong character. An FSI that met none
+// before takes its direction, on all its units.
+fn resolve(classes: &mut [BidiClass], initiator: &Range<usize>, class: BidiClass)
+    requires begins { initiator.now.start < initiator.now.end }
+    requires ends { initiator.now.end ≤ length classes.old }
+    ensures { classes.new ≡ resolved_units class initiator.now classes.old }
+{
+    let start = initiator.start;
+    let end = initiator.end;
+    if classes[start] == BidiClass::FSI {
+        classes[start..end].fill(resolved_by(class));
+    }
+}
+
+/// What the later steps ask of a paragraph's source classes.
+#[derive(Clone, Copy, PartialEq, Debug)]
+pub(crate) struct ParagraphFlags {
+    /// No character can make the paragraph other than left to right throughout, at level 0.
+    pub(crate) is_pure_ltr: bool,
+    /// Some character is an isolate initiator.
+    pub(crate) has_isolates: bool,
+}
+
+// The paragraph that is being read.
+#[derive(Drop)]
+struct Reading {
+    // The unit at which it begins.
+    start: usize,
+    // The units of the initiators whose isolates are open, outermost first.
+    open: Vec<Range<usize>>,
+    // The class of the character that decides its level, once there is one.
+    deciding: Option<BidiClass>,
+    flags: ParagraphFlags,
+}
+
+impl Reading {
+    // Nothing is read of a text.
+    fn new(alloc: Global) -> Reading
+        ensures start { result.start ≡ 0 }
+        ensures open { result.open.items ≡ [] }
+        ensures deciding { result.deciding ≡ None }
+        ensures flags { result.flags ≡ record { is_pure_ltr = true; has_isolates = false } }
+    {
+        Reading {
+            start: 0,
+            open: Vec::new(alloc),
+            deciding: None,
+            flags: ParagraphFlags {
+                is_pure_ltr: true,
+                has_isolates: false,
+            },
+        }
+    }
+
+    // Reads the next character, whose units are given. `classes` are those of the units before it.
+    fn read(
+        &mut self,
+        classes: &mut [BidiClass],
+        class: BidiClass,
+        units: Range<usize>,
+    ) -> Result<(), AllocError>
+        requires { All (λ (r : Range ℕ). (r.start < r.end) × (r.end ≤ length classes.old)) self.old.open.items }
+        ensures classes { OnOk result (classes.new ≡ met_units class (innermost self.old.open.items) classes.old) }
+        ensures start { self.new.start ≡ self.old.start }
+        ensures open { OnOk result (self.new.open.items ≡ opened_by class units self.old.open.items) }
+        ensures deciding { OnOk result (self.new.deciding ≡ option_or self.old.deciding (decided_by class self.old.open.items)) }
+        ensures pure { OnOk result (self.new.flags.is_pure_ltr ≡ (self.old.flags.is_pure_ltr && not (may_turn_class class))) }
+        ensures isolates { OnOk result (self.new.flags.has_isolates ≡ (self.old.flags.has_isolates || is_initiator_class class)) }
+    {
+        self.flags.is_pure_ltr &= !may_turn(class);
+        self.flags.has_isolates |= is_initiator(class);
+        if is_strong(class) {
+            match self.open.last() {
+                Some(initiator) => resolve(classes, initiator, class),
+                None => {
+                    if self.deciding.is_none() {
+                        self.deciding = Some(class);
+                    }
+                }
+            }
+        } else if is_initiator(class) {
+            self.open.push(units)?;
+        } else if is_pdi(class) {
+            self.open.pop();
+        }
+        Ok(())
+    }
+
+    // Begins the next paragraph.
+    fn restart(&mut self, start: usize)
+        ensures start { self.new.start ≡ start }
+        ensures open { self.new.open.items ≡ [] }
+        ensures deciding { self.new.deciding ≡ None }
+        ensures flags { self.new.flags ≡ record { is_pure_ltr = true; has_isolates = false } }
+    {
+        self.start = start;
+        self.open.clear();
+        self.deciding = None;
+        self.flags = ParagraphFlags {
+            is_pure_ltr: true,
+            has_isolates: false,
+        };
+    }
+}
+
+/// What one walk over a text finds out.
+#[derive(Drop)]
+pub(crate) struct Initial {
+    /// The stored class of each unit.
+    pub(crate) original_classes: Vec<BidiClass>,
+    /// The paragraphs, in order.
+    pub(crate) paragraphs: Vec<ParagraphInfo>,
+    /// One entry a paragraph.
+    pub(crate) flags: Vec<ParagraphFlags>,
+}
+
+impl Initial {
+    // Ends the paragraph that was read at a unit.
+    fn close(
+        &mut self,
+        reading: &Reading,
+        end: usize,
+        base: Option<Level>,
+    ) -> Result<(), AllocError>
+        requires { reading.now.start ≤ end }
+        ensures classes { self.new.original_classes.items ≡ self.old.original_classes.items }
+        ensures ranges { OnOk result (ranges_of self.new.paragraphs.items ≡ ranges_of self.old.paragraphs.items ++ (reading.now.start, end) ∷ []) }
+        ensures levels { OnOk result (levels_of self.new.paragraphs.items ≡ levels_of self.old.paragraphs.items ++ unwrap_or base (level_by reading.now.deciding) ∷ []) }
+        ensures flags { OnOk result (self.new.flags.items ≡ self.old.flags.items ++ reading.now.flags ∷ []) }
+    {
+        let level = base.unwrap_or(level_of_class(reading.deciding));
+        self.paragraphs
+            .push(ParagraphInfo::from_range(reading.start..end, level))?;
+        self.flags.push(reading.flags)?;
+        Ok(())
+    }
+}
+
+// Writes a character's class for each of its units.
+fn append(classes: &mut Vec<BidiClass>, class: BidiClass, count: usize) -> Result<(), AllocError>
+    ensures { OnOk result (classes.new.items ≡ classes.old.items ++ replicate count class) }
+{
+    for _i in 0..count {
+        classes.push(class)?;
+    }
+    Ok(())
+}
+
+/// The stored classes of a text, and its paragraphs with the levels that `base` or their characters
+/// give them. With `split` false the whole text is one paragraph, even an empty one. Any base level
+/// will do. One walk; memory is taken for the answer and for the isolates that are open at once.
+pub(crate) fn compute<D: BidiDataSource, T: TextSource>(
+    alloc: Global,
+    data_source: &D,
+    text: T,
+    base: Option<Level>,
+    split: bool,
+) -> Result<Initial, AllocError>
+    ensures classes { let pieces = pieces_of split (D.source data_source.now) (T.characters text) in
+        IfOk result (λ i. i.original_classes.items ≡ per_unit T.units (T.characters text) (text_classes (D.source data_source.now) pieces)) }
+    ensures ranges { let pieces = pieces_of split (D.source data_source.now) (T.characters text) in
+        IfOk result (λ i. ranges_of i.paragraphs.items ≡ ranges_from T.units 0 pieces) }
+    ensures levels { let pieces = pieces_of split (D.source data_source.now) (T.characters text) in
+        IfOk result (λ i. levels_of i.paragraphs.items ≡ paragraph_levels (D.source data_source.now) base pieces) }
+    ensures flags { let pieces = pieces_of split (D.source data_source.now) (T.characters text) in
+        IfOk result (λ i. i.flags.items ≡ paragraph_flags (D.source data_source.now) pieces) }
+{
+    let mut found = Initial {
+        original_classes: Vec::with_capacity(alloc, text.len())?,
+        paragraphs: Vec::new(alloc),
+        flags: Vec::new(alloc),
+    };
+    let mut reading = Reading::new(alloc);
+    for (at, c) in text.char_indices() {
+        let class = data_source.bidi_class(c);
+        let len = T::char_len(c);
+        let end = at + len;
+        reading.read(found.original_classes.as_mut_slice(), class, at..end)?;
+        append(&mut found.original_classes, class, len)?;
+        if split && is_separator(class) {
+            found.close(&reading, end, base)?;
+            reading.restart(end);
+        }
+    }
+    let end = text.len();
+    if !split || reading.start < end {
+        found.close(&reading, end, base)?;
+    }
+    Ok(found)
+}
