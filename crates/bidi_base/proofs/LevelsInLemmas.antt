@@ -154,3 +154,23 @@ filled_levels-is table new classes before long kept front removed =
   where
     suc_one : (k : ℕ) → suc k ≡ k + 1
     suc_one k = omega arith
+
+-- the levels of a paragraph, as a pass leaves them: some places were resolved, in sequences of any order, and what X9 removed was filled
+pub levels_in-written : (paragraph : ℕ) (source : List BidiClass) (brackets : List (Option BidiMatchedOpeningBracket)) (stored : List BidiClass) (levels : List ℕ) (classes : List BidiClass) (seqs : List RunSequence) (resolved new : List ℕ)
+    → stored ≡ stored_classes source → levels ≡ explicit_levels paragraph stored → classes ≡ explicit_classes paragraph stored → IsPermutation (sequences paragraph stored levels) seqs → AreResolved source brackets levels classes resolved seqs
+    → length new ≡ length stored
+    → ((p : ℕ) → p < length stored → is_kept_at stored p ≡ true → level_at new p ≡ level_at resolved p)
+    → (0 < length stored → is_kept_at stored 0 ≡ false → level_at new 0 ≡ paragraph)
+    → ((p : ℕ) → p + 1 < length stored → is_kept_at stored (p + 1) ≡ false → level_at new (p + 1) ≡ level_at new p)
+    → new ≡ levels_in paragraph source brackets
+unfolding levels_in
+levels_in-written paragraph source brackets stored levels classes seqs resolved new is_stored is_levels is_classes moved done long kept front removed =
+    filled_levels-is (flat_map (sequence_levels source brackets levels classes) (sequences paragraph stored levels)) new stored paragraph long
+    (λ p stays within. level_in-resolved paragraph source stored brackets levels classes resolved seqs p moved done stays within ∙ sym (kept p within stays))
+    front removed
+    ∙ ap (λ (ls : List ℕ). filled stored ls classes) is_levels
+    ∙ ap (λ (cs : List BidiClass). filled stored (explicit_levels paragraph stored) cs) is_classes
+    ∙ ap (λ (cs : List BidiClass). filled cs (explicit_levels paragraph cs) (explicit_classes paragraph cs)) is_stored
+  where
+    filled : List BidiClass → List ℕ → List BidiClass → List ℕ
+    filled st ls cs = filled_levels (flat_map (sequence_levels source brackets ls cs) (sequences paragraph st ls)) 0 paragraph st

@@ -14,7 +14,7 @@ use Rattle.bidi_base.specs.Classes.{is_removed}
 use Rattle.bidi_base.specs.Levels.{is_odd, direction_of}
 use Rattle.bidi_base.specs.Places.{class_at, at_places, first_or}
 use Rattle.bidi_base.specs.Source.{Source}
-use Rattle.bidi_base.specs.Isolates.{paragraph_level, stored_class, stored_classes}
+use Rattle.bidi_base.specs.Isolates.{paragraph_level, stored_classes}
 use Rattle.bidi_base.specs.Explicit.{explicit_levels, explicit_classes}
 use Rattle.bidi_base.specs.Sequences.{RunSequence, is_kept_at, level_at, sequences}
 use Rattle.bidi_base.specs.Weak.{w1, w2, w3, w4, w5, w6, weak_classes}
@@ -23,6 +23,7 @@ use Rattle.bidi_base.specs.Neutral.{goes_with_pair, with_pair, pair_direction, n
 use Rattle.bidi_base.specs.Implicit.{added_at_even, added_at_odd, implicit_level, implicit_levels}
 use Rattle.bidi_base.specs.Stored.{resolved_levels, sequence_levels, AreResolved, level_in, filled_levels, levels_in, stored_levels}
 use Rattle.bidi_base.proofs.PlacesLemmas.{length-in_context}
+use Rattle.bidi_base.proofs.StoredSteps.{length-stored_classes}
 use Rattle.bidi_base.proofs.SequencePlaces.{times_in, places_of, sequences-kept, sequences-all, sequence-kept, sequence-not_empty}
 use Rattle.bidi_base.proofs.StoredLemmas.{IsExplicitIn, explicit_levels-IsExplicitIn, length-at_places, at_places-agree, times_in-at, is_kept_at-stored_classes}
 
@@ -82,6 +83,15 @@ length-resolved_levels source brackets levels classes s =
     ∙ length-n0 e s.sos (at_places L source s.places) (bracket_pairs weak (at_places None brackets s.places)) weak
     ∙ length-weak_classes s.sos (at_places L classes s.places)
     ∙ length-at_places L classes s.places
+
+length-filled_levels : (table : List (ℕ × ℕ)) (p before : ℕ) (classes : List BidiClass) → length (filled_levels table p before classes) ≡ length classes
+unfolding filled_levels
+length-filled_levels table p before [] = refl
+length-filled_levels table p before (c ∷ classes) = ap suc (length-filled_levels table (p + 1) (cond (is_removed c) before (level_in table p)) classes)
+
+pub length-levels_in : (paragraph : ℕ) (source : List BidiClass) (brackets : List (Option BidiMatchedOpeningBracket)) → length (levels_in paragraph source brackets) ≡ length source
+unfolding levels_in
+length-levels_in paragraph source brackets = length-filled_levels _ 0 paragraph (stored_classes source) ∙ length-stored_classes source
 
 -- ---- bounds
 
@@ -229,7 +239,7 @@ sequence_levels-agree source brackets other levels classes (s ∷ seqs) agree =
 
 pub levels_in-agree : (paragraph : ℕ) (source : List BidiClass) (brackets other : List (Option BidiMatchedOpeningBracket)) → ((p : ℕ) → p < length source → is_kept_at source p ≡ true → get_or brackets p None ≡ get_or other p None)
     → levels_in paragraph source brackets ≡ levels_in paragraph source other
-unfolding levels_in stored_classes
+unfolding levels_in
 levels_in-agree paragraph source brackets other agree =
     let stored = stored_classes source in
     let levels = explicit_levels paragraph stored in
@@ -237,7 +247,7 @@ levels_in-agree paragraph source brackets other agree =
     (sequence_levels-agree source brackets other levels (explicit_classes paragraph stored) (sequences paragraph stored levels)
     (λ p there.
     let h = sequences-kept paragraph stored levels p there in
-    let within : p < length source = subst (λ (n : ℕ). p < n) (length-map-range_with_len (λ q. stored_class source q (class_at source q)) 0 (length source)) h.1 in
+    let within : p < length source = omega (arith, h.1, length-stored_classes source) in
     agree p within (sym (is_kept_at-stored_classes source p within) ∙ h.0)))
 
 other_there : {X : Type 0} (f : ℕ → X) (front back : List ℕ) (c d : ℕ) (p : ℕ) (e : X) → (p ≡ length front → ⊥) → get_or (map f (front ++ c ∷ back)) p e ≡ get_or (map f (front ++ d ∷ back)) p e

@@ -13,6 +13,7 @@ use Rattle.bidi_base.specs.Levels.{is_odd, direction_of}
 use Rattle.bidi_base.specs.Places.{chain}
 use Rattle.bidi_base.specs.Sequences.{RunSequence, is_kept_at, kept_places, successor, is_first, start_class, end_class, sequence_from, sequences}
 use Rattle.bidi_base.proofs.SequencesLemmas.{IsPermutation-sequences}
+use Rattle.bidi_base.proofs.NeutralLemmas.{direction_of-l_or_r}
 use Rattle.bidi_base.proofs.LevelTableLemmas.{count_at-range, count_at-in}
 
 -- how often p stands in a list of places
@@ -52,9 +53,6 @@ times_in-parts f (x ∷ xs) (suc k) d p within =
 -- the places of some sequences
 abbrev pub places_of : List RunSequence → List ℕ
 places_of seqs = flat_map (λ (s : RunSequence). s.places) seqs
-
-direction_is_l_or_r : (level : ℕ) → is_l_or_r (direction_of level) ≡ true
-direction_is_l_or_r level = cond_both (is_odd level) R L (λ (c : BidiClass). is_l_or_r c ≡ true) (λ e. refl) (λ e. refl)
 
 chain_begun : (next : ℕ → Option ℕ) (n first : ℕ) → 0 < n → 0 < length (chain next n (Some first))
 chain_begun next zero first some = absurd (omega arith)
@@ -113,8 +111,8 @@ module _ (paragraph : ℕ) (classes : List BidiClass) (levels : List ℕ) where
     -- what stands before its first character and after its last
     pub sequence-sos : is_l_or_r (get_or (sequences paragraph classes levels) k d).sos ≡ true
     unfolding sequence_from start_class
-    sequence-sos = ap (λ (s : RunSequence). is_l_or_r s.sos) begun.1 ∙ direction_is_l_or_r _
+    sequence-sos = ap (λ (s : RunSequence). is_l_or_r s.sos) begun.1 ∙ direction_of-l_or_r _
 
     pub sequence-eos : is_l_or_r (get_or (sequences paragraph classes levels) k d).eos ≡ true
     unfolding sequence_from end_class
-    sequence-eos = ap (λ (s : RunSequence). is_l_or_r s.eos) begun.1 ∙ direction_is_l_or_r _
+    sequence-eos = ap (λ (s : RunSequence). is_l_or_r s.eos) begun.1 ∙ direction_of-l_or_r _

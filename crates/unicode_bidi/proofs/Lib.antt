@@ -3,6 +3,7 @@ pub mod Lanes
 pub mod Least
 pub mod Ordered
 pub mod Passes
+pub mod Resolving
 pub mod Reversed
 pub mod Stretches
 pub mod TextRead
