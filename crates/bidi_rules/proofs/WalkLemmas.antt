@@ -1,6 +1,7 @@
 -- Ranges in order, and the walks over the units of some of them.
-use Rattle.std.proofs.Common.{◌≡◌, ℕ, zero, suc, ◌+◌, ◌-◌, ◌<◌, ◌≤◌, true, ◌&&◌, leb, ltb, List, [], ◌∷◌, ◌++◌, length, map, get_or, take, drop, reverse, Some, append_assoc, append-nil, refl, sym, ap, subst, ◌∙◌, arith, leb-true, ltb-true, le_refl}
-use Rattle.std.specs.Prelude.{IsTrue}
+use Rattle.std.proofs.Common.{◌≡◌, ℕ, zero, suc, ◌+◌, ◌-◌, ◌<◌, ◌≤◌, true, ◌&&◌, leb, ltb, List, [], ◌∷◌, ◌++◌, length, map, get_or, take, drop, reverse, Some, append_assoc, append-nil, refl, sym, ap, subst, ◌∙◌, arith, leb-true, ltb-true, le_refl, length-append, lt-ltb}
+use Rattle.std.proofs.lemmas.List.Elements.{All-head, All-tail}
+use Rattle.std.specs.Prelude.{IsTrue, All}
 use Rattle.std.specs.List.{range_with_len}
 use Rattle.std.proofs.lemmas.Bool.{and_parts, and_from, le-leb}
 use Rattle.std.proofs.lemmas.List.{map-append, reverse-append, get_or-map}
@@ -134,7 +135,7 @@ map-take {Y = Y} f (suc k) (x ∷ xs) = ap {B = List Y} (λ ys. f x ∷ ys) (map
 range_at : (runs : List (Range ℕ)) (run : Range ℕ) (k : ℕ) → run ≡ get_or runs k run → k < length runs → get_or (map bounds runs) k (0, 0) ≡ bounds run
 range_at runs run k e fits = get_or-map bounds runs k run (0, 0) fits ∙ ap bounds (sym e)
 
-part_after : (runs read : List (Range ℕ)) (k : ℕ) → read ≡ runs → map bounds (take (length read - k) (drop k read)) ≡ drop k (map bounds runs)
+pub part_after : (runs read : List (Range ℕ)) (k : ℕ) → read ≡ runs → map bounds (take (length read - k) (drop k read)) ≡ drop k (map bounds runs)
 part_after runs read k e =
     ap (map bounds) (between_to_end read k (length read) (le_refl (length read)))
     ∙ ap (λ (xs : List (Range ℕ)). map bounds (drop k xs)) e
@@ -164,3 +165,21 @@ backwards-start runs read run pos k e is fits =
 -- what a sequence has
 pub is_run_sequence-ordered : (runs : List (ℕ × ℕ)) (sos eos : BidiClass) → IsTrue (is_run_sequence runs sos eos) → IsTrue (are_ordered runs)
 is_run_sequence-ordered runs sos eos h = (and_parts (are_ordered runs) (is_l_or_r sos && is_l_or_r eos) (and_parts (ltb 0 (length runs)) (are_ordered runs && (is_l_or_r sos && is_l_or_r eos)) h).1).0
+
+-- one more range after all others
+pub are_ordered-push : (low : ℕ) (runs : List (ℕ × ℕ)) (r : ℕ × ℕ) → low ≤ r.0 → r.0 < r.1 → All (λ (q : ℕ × ℕ). q.1 ≤ r.0) runs → are_ordered_from low runs ≡ true → are_ordered_from low (runs ++ r ∷ []) ≡ true
+are_ordered-push low [] r from some all h = and_from _ _ (le-leb low r.0 from) (and_from _ _ (lt-ltb r.0 r.1 some) refl)
+are_ordered-push low (q ∷ runs) r from some all h =
+    let parts = and_parts (leb low q.0) (ltb q.0 q.1 && are_ordered_from q.1 runs) h in
+    let others = and_parts (ltb q.0 q.1) (are_ordered_from q.1 runs) parts.1 in
+    and_from _ _ parts.0
+    (and_from _ _ others.0
+    (are_ordered-push q.1 runs r (All-head (λ (x : ℕ × ℕ). x.1 ≤ r.0) q runs all) some (All-tail (λ (x : ℕ × ℕ). x.1 ≤ r.0) q runs all) others.1))
+
+pub is_run_sequence-push : (runs : List (ℕ × ℕ)) (r : ℕ × ℕ) (sos eos after : BidiClass) → r.0 < r.1 → All (λ (q : ℕ × ℕ). q.1 ≤ r.0) runs → IsTrue (is_l_or_r after) → IsTrue (is_run_sequence runs sos eos) → IsTrue (is_run_sequence (runs ++ r ∷ []) sos after)
+is_run_sequence-push runs r sos eos after some all side h =
+    let parts = and_parts (ltb 0 (length runs)) (are_ordered runs && (is_l_or_r sos && is_l_or_r eos)) h in
+    let others = and_parts (are_ordered runs) (is_l_or_r sos && is_l_or_r eos) parts.1 in
+    let sides = and_parts (is_l_or_r sos) (is_l_or_r eos) others.1 in
+    and_from _ _ (lt-ltb 0 (length (runs ++ r ∷ [])) (omega (arith, length-append runs (r ∷ []))))
+    (and_from _ _ (are_ordered-push 0 runs r (omega arith) some all others.0) (and_from _ _ sides.0 side))

@@ -1,3 +1,6 @@
 pub mod ExplicitPass
+pub mod Joining
 pub mod RunSequence
 pub mod Status
+pub mod WeakPass
+pub mod WeakWalk

@@ -3,7 +3,9 @@ use Rattle.std.specs.Prelude.{ℕ, List, ◌++◌, map, reverse}
 use Rattle.std.specs.declared.ops.Range.{Range}
 use Rattle.bidi_base.specs.declared.char_data.BidiClass.{BidiClass}
 use Rattle.bidi_base.specs.Places.{between}
+use Rattle.bidi_base.specs.Sequences.{RunSequence}
 use Rattle.bidi_base.specs.Units.{bounds, units_in_runs}
+use Rattle.bidi_rules.specs.Joining.{JoinedRuns, characters_of}
 use Rattle.bidi_rules.specs.declared.prepare.sequence.IsolatingRunSequence.{IsolatingRunSequence}
 use Rattle.bidi_rules.specs.declared.prepare.sequence.ForwardsFrom.{ForwardsFrom}
 use Rattle.bidi_rules.specs.declared.prepare.sequence.BackwardsFrom.{BackwardsFrom}
@@ -22,6 +24,14 @@ sos s = s.sos
 
 abbrev pub eos : IsolatingRunSequence → BidiClass
 eos s = s.eos
+
+-- the same, with the classes at both ends
+abbrev pub joined : IsolatingRunSequence → JoinedRuns
+joined s = record { runs = run_bounds s; sos = s.sos; eos = s.eos }
+
+-- the sequence of the characters that X9 keeps in its runs
+abbrev pub sequence_in : (ℕ → ℕ) → List ℕ → List BidiClass → IsolatingRunSequence → RunSequence
+sequence_in len_of chars classes s = characters_of len_of chars classes (joined s)
 
 -- the units that a walk still has to give
 abbrev pub forwards_left : ForwardsFrom → List ℕ

@@ -3,4 +3,5 @@
 #![tactic(auto)]
 
 pub mod explicit;
+pub mod implicit;
 pub mod prepare;

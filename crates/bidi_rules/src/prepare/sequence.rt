@@ -1,12 +1,13 @@
 //! An isolating run sequence as the level runs that it joins, and the walks over its units.
 
-ghost use Rattle.std.specs.Prelude.{◌≡◌, ◌≤◌, ◌<◌, ◌↔◌, IsTrue, IfSome, map, length, get_or, is_some};
+ghost use Rattle.std.specs.Prelude.{◌≡◌, ◌≤◌, ◌<◌, ◌↔◌, IsTrue, IfSome, IfOk, OnOk, All, [], ◌∷◌, ◌++◌, map, length, get_or, is_some};
 ghost use Rattle.bidi_base.specs.Classes.{is_l_or_r};
 ghost use Rattle.bidi_base.specs.Units.{bounds, are_ordered, is_run_sequence};
 
 use super::LevelRun;
 use bidi_base::char_data::BidiClass;
 use bidi_base::text::{TextSource, is_line};
+use std::alloc::{AllocError, Global};
 
 /// An isolating run sequence (BD13): one or more level runs in text order, and the classes that
 /// hold at its start and at its end (X10), each L or R.
@@ -19,7 +20,7 @@ pub struct IsolatingRunSequence {
 }
 
 impl IsolatingRunSequence {
-    ghost use Rattle.bidi_rules.specs.RunSequence.{runs as runs_of, sos as sos_of, eos as eos_of, forwards_left, backwards_left};
+    ghost use Rattle.bidi_rules.specs.RunSequence.{runs as runs_of, run_bounds, joined, sos as sos_of, eos as eos_of, forwards_left, backwards_left};
     ghost use Rattle.bidi_base.specs.Units.{AreLines, units_from, units_below};
 
     /// A sequence of these runs. `None` unless there is a run, each run is non-empty and ends at or
@@ -34,6 +35,35 @@ impl IsolatingRunSequence {
             return None;
         }
         Some(IsolatingRunSequence { runs, sos, eos })
+    }
+
+    /// A sequence of one run.
+    pub(super) fn single(
+        alloc: Global,
+        run: LevelRun,
+        sos: BidiClass,
+        eos: BidiClass,
+    ) -> Result<IsolatingRunSequence, AllocError>
+        requires run { run.start < run.end }
+        requires sos { IsTrue (is_l_or_r sos) }
+        requires eos { IsTrue (is_l_or_r eos) }
+        ensures { IfOk result (λ s. joined s ≡ record { runs = bounds run ∷ []; sos = sos; eos = eos }) }
+    {
+        let mut runs = Vec::new(alloc);
+        runs.push(run)?;
+        Ok(IsolatingRunSequence { runs, sos, eos })
+    }
+
+    /// Goes on with a later run, whose last character has this class after it.
+    pub(super) fn join(&mut self, run: LevelRun, eos: BidiClass) -> Result<(), AllocError>
+        requires run { run.start < run.end }
+        requires later { All (λ r. r.1 ≤ run.start) (run_bounds self.old) }
+        requires eos { IsTrue (is_l_or_r eos) }
+        ensures { OnOk result (joined self.new ≡ record (joined self.old) { runs = (joined self.old).runs ++ bounds run ∷ []; eos = eos }) }
+    {
+        self.runs.push(run)?;
+        self.eos = eos;
+        Ok(())
     }
 
     /// The level runs, in text order.

@@ -31,8 +31,7 @@ loop-c-preserved-then-is_separator g c =
     let source = g.D.BidiDataSource.source c.args.data_source.now in
     let cs : List ℕ = g.T.TextSource.characters c.args.text in
     let n : ℕ = length c.loop-c.yielded in
-    let w = char_turn g.T.TextSource.units cs c.chars-c-items.ensures c.into_iter-c-iterator.ensures.into_iter_gives c.loop-c.yielded _ c.loop-c.yielded_by _ _ c.in-Some.c c.in-Some.is c.next.ensures.steps in
-    (
+    let w = char_turn g.T.TextSource.units cs c.chars-c-items.ensures c.into_iter-c-iterator.ensures.into_iter_gives c.loop-c.yielded _ c.loop-c.yielded_by _ _ c.in-Some.c c.in-Some.is c.next.ensures.steps in (
       c.in-Some.ensures.goes.keeps,
       (c.in-Some.ensures.goes.on c.loop-c.invariant.1).1,
       omega arith,
@@ -60,8 +59,7 @@ loop-c-preserved g c =
       | else-depth-eq0-via-else-depth-eq0 v ↦ inr v.if-depth-eq0.false
     ] in
     let few : c.depth_after-depth.result ≤ n + 1 = subst (λ d. d ≤ n + 1) (sym c.depth_after-depth.ensures) (depth-le class c.loop-c.depth n c.loop-c.invariant.2) in
-    let longer : length (c.loop-c.yielded ++ c.in-Some.c ∷ []) ≡ n + 1 = length_push c.loop-c.yielded c.in-Some.c in
-    (
+    let longer : length (c.loop-c.yielded ++ c.in-Some.c ∷ []) ≡ n + 1 = length_push c.loop-c.yielded c.in-Some.c in (
       c.in-Some.ensures.goes.keeps,
       (c.in-Some.ensures.goes.on c.loop-c.invariant.1).1,
       omega (arith, few, longer),

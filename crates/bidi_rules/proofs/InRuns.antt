@@ -1,0 +1,118 @@
+-- The units in some ranges that are in order.
+use Rattle.std.proofs.Common.{◌≡◌, ℕ, zero, suc, ◌+◌, ◌<◌, ◌≤◌, Bool, true, false, ◌&&◌, ◌||◌, leb, ltb, List, [], ◌∷◌, length, get_or, take, drop, refl, sym, ap, ◌∙◌, arith, inl, inr}
+use Rattle.std.specs.List.{list_any}
+use Rattle.std.proofs.lemmas.Bool.{cases_lt, cases_Bool, and_parts, and_from, and_left, and_right, or_cases, or_from, or_left, or_right, lt-ltb, le-ltb, le-leb, lt-leb, leb-true, ltb-true, both_ways}
+use Rattle.std.proofs.lemmas.List.Folds.{list_any_more, list_any_at}
+use Rattle.bidi_base.specs.Units.{are_ordered_from, are_ordered, in_runs}
+use Rattle.bidi_rules.proofs.WalkLemmas.{are_ordered-front, are_ordered-lower}
+
+-- one range
+abbrev pub in_run : ℕ × ℕ → ℕ → Bool
+in_run r k = leb r.0 k && ltb k r.1
+
+pub in_run-inside : (r : ℕ × ℕ) (k : ℕ) → r.0 ≤ k → k < r.1 → in_run r k ≡ true
+in_run-inside r k from below = and_from _ _ (le-leb r.0 k from) (lt-ltb k r.1 below)
+
+pub in_run-below : (r : ℕ × ℕ) (k : ℕ) → k < r.0 → in_run r k ≡ false
+in_run-below r k below = and_left (leb r.0 k) (ltb k r.1) (lt-leb r.0 k below)
+
+pub in_run-above : (r : ℕ × ℕ) (k : ℕ) → r.1 ≤ k → in_run r k ≡ false
+in_run-above r k above = and_right (leb r.0 k) (ltb k r.1) (le-ltb k r.1 above)
+
+pub in_run-true : (r : ℕ × ℕ) (k : ℕ) → in_run r k ≡ true → (r.0 ≤ k) × (k < r.1)
+in_run-true r k h = let parts = and_parts (leb r.0 k) (ltb k r.1) h in (leb-true r.0 k parts.0, ltb-true k r.1 parts.1)
+
+-- some ranges
+pub in_runs-below : (low : ℕ) (runs : List (ℕ × ℕ)) (k : ℕ) → are_ordered_from low runs ≡ true → k < low → in_runs runs k ≡ false
+in_runs-below low [] k h below = refl
+in_runs-below low (r ∷ runs) k h below =
+    let f = are_ordered-front low r runs h in
+    or_from (in_run r k) (in_runs runs k) (in_run-below r k (omega (arith, f.from))) (in_runs-below r.1 runs k f.later (omega (arith, f.from, f.not_empty)))
+
+-- from a unit on that the ranges before `index` do not reach
+pub in_runs-drop : (low index : ℕ) (runs : List (ℕ × ℕ)) (k : ℕ) → are_ordered_from low runs ≡ true → index < length runs → (get_or runs index (0, 0)).0 ≤ k → in_runs (drop index runs) k ≡ in_runs runs k
+in_runs-drop low zero runs k h fits from = refl
+in_runs-drop low (suc index) [] k h fits from = refl
+in_runs-drop low (suc index) (r ∷ runs) k h fits from =
+    let f = are_ordered-front low r runs h in
+    let past : r.1 ≤ k = past_front r.1 index runs k f.later (omega arith) from in
+    in_runs-drop r.1 index runs k f.later (omega arith) from ∙ sym (ap (λ b. b || in_runs runs k) (in_run-above r k past))
+  where
+    past_front : (end index : ℕ) (runs : List (ℕ × ℕ)) (k : ℕ) → are_ordered_from end runs ≡ true → index < length runs → (get_or runs index (0, 0)).0 ≤ k → end ≤ k
+    past_front end index [] k h fits from = absurd (omega arith)
+    past_front end zero (r ∷ runs) k h fits from = let f = are_ordered-front end r runs h in omega (arith, f.from)
+    past_front end (suc index) (r ∷ runs) k h fits from =
+        let f = are_ordered-front end r runs h in
+        let past : r.1 ≤ k = past_front r.1 index runs k f.later (omega arith) from in
+        omega (arith, f.from, f.not_empty)
+
+-- up to a unit at which the range at `index` has not begun
+pub in_runs-take : (low index : ℕ) (runs : List (ℕ × ℕ)) (k : ℕ) → are_ordered_from low runs ≡ true → index < length runs → k < (get_or runs index (0, 0)).0 → in_runs (take index runs) k ≡ in_runs runs k
+in_runs-take low index [] k h fits before = absurd (omega arith)
+in_runs-take low zero (r ∷ runs) k h fits before =
+    let f = are_ordered-front low r runs h in
+    sym (or_from (in_run r k) (in_runs runs k) (in_run-below r k before) (in_runs-below r.1 runs k f.later (omega (arith, f.not_empty))))
+in_runs-take low (suc index) (r ∷ runs) k h fits before =
+    let f = are_ordered-front low r runs h in
+    ap (λ b. in_run r k || b) (in_runs-take r.1 index runs k f.later (omega arith) before)
+
+pub in_runs-more : (index : ℕ) (runs : List (ℕ × ℕ)) (k : ℕ) → index < length runs → in_runs (take (index + 1) runs) k ≡ (in_runs (take index runs) k || in_run (get_or runs index (0, 0)) k)
+in_runs-more index runs k fits = list_any_more (λ (r : ℕ × ℕ). in_run r k) runs index (0, 0) fits
+
+pub in_runs-at : (index : ℕ) (runs : List (ℕ × ℕ)) (k : ℕ) → index < length runs → (get_or runs index (0, 0)).0 ≤ k → k < (get_or runs index (0, 0)).1 → in_runs runs k ≡ true
+in_runs-at index runs k fits from below = list_any_at (λ (r : ℕ × ℕ). in_run r k) runs index (0, 0) fits (in_run-inside (get_or runs index (0, 0)) k from below)
+
+-- the ranges in order, one behind another
+pub run_some : (low index : ℕ) (runs : List (ℕ × ℕ)) → are_ordered_from low runs ≡ true → index < length runs → (get_or runs index (0, 0)).0 < (get_or runs index (0, 0)).1
+run_some low index [] h fits = absurd (omega arith)
+run_some low zero (r ∷ runs) h fits = (are_ordered-front low r runs h).not_empty
+run_some low (suc index) (r ∷ runs) h fits = run_some r.1 index runs (are_ordered-front low r runs h).later (omega arith)
+
+-- the start of the range at `index`, or n where there is none
+abbrev pub start_or : List (ℕ × ℕ) → ℕ → ℕ → ℕ
+start_or [] index n = n
+start_or (r ∷ runs) zero n = r.0
+start_or (r ∷ runs) (suc index) n = start_or runs index n
+
+pub start_or-at : (runs : List (ℕ × ℕ)) (index n : ℕ) → index < length runs → start_or runs index n ≡ (get_or runs index (0, 0)).0
+start_or-at [] index n fits = absurd (omega arith)
+start_or-at (r ∷ runs) zero n fits = refl
+start_or-at (r ∷ runs) (suc index) n fits = start_or-at runs index n (omega arith)
+
+pub start_or-past : (runs : List (ℕ × ℕ)) (index n : ℕ) → length runs ≤ index → start_or runs index n ≡ n
+start_or-past [] index n past = refl
+start_or-past (r ∷ runs) zero n past = absurd (omega arith)
+start_or-past (r ∷ runs) (suc index) n past = start_or-past runs index n (omega arith)
+
+-- between the end of a range and the start of the next stands no unit of the ranges
+pub gap_before : (low : ℕ) (runs : List (ℕ × ℕ)) (k n : ℕ) → are_ordered_from low runs ≡ true → k < start_or runs 0 n → in_runs runs k ≡ false
+gap_before low [] k n h before = refl
+gap_before low (r ∷ runs) k n h before =
+    let f = are_ordered-front low r runs h in
+    or_from (in_run r k) (in_runs runs k) (in_run-below r k before) (in_runs-below r.1 runs k f.later (omega (arith, f.not_empty)))
+
+pub gap_after : (low index : ℕ) (runs : List (ℕ × ℕ)) (k n : ℕ) → are_ordered_from low runs ≡ true → index < length runs → (get_or runs index (0, 0)).1 ≤ k → k < start_or runs (suc index) n → in_runs runs k ≡ false
+gap_after low index [] k n h fits past before = absurd (omega arith)
+gap_after low zero (r ∷ runs) k n h fits past before =
+    let f = are_ordered-front low r runs h in
+    or_from (in_run r k) (in_runs runs k) (in_run-above r k past) (gap_before r.1 runs k n f.later before)
+gap_after low (suc index) (r ∷ runs) k n h fits past before =
+    let f = are_ordered-front low r runs h in
+    let later : r.1 ≤ (get_or runs index (0, 0)).0 = start_after r.1 index runs f.later (omega arith) in
+    let some = run_some r.1 index runs f.later (omega arith) in
+    or_from (in_run r k) (in_runs runs k) (in_run-above r k (omega arith)) (gap_after r.1 index runs k n f.later (omega arith) past before)
+  where
+    start_after : (end index : ℕ) (runs : List (ℕ × ℕ)) → are_ordered_from end runs ≡ true → index < length runs → end ≤ (get_or runs index (0, 0)).0
+    start_after end index [] h fits = absurd (omega arith)
+    start_after end zero (r ∷ runs) h fits = (are_ordered-front end r runs h).from
+    start_after end (suc index) (r ∷ runs) h fits =
+        let f = are_ordered-front end r runs h in
+        let past : r.1 ≤ (get_or runs index (0, 0)).0 = start_after r.1 index runs f.later (omega arith) in
+        omega (arith, f.from, f.not_empty)
+
+-- a range ends where the next one starts, or before
+pub next_start : (low index : ℕ) (runs : List (ℕ × ℕ)) (n : ℕ) → are_ordered_from low runs ≡ true → index < length runs → (get_or runs index (0, 0)).1 ≤ n → (get_or runs index (0, 0)).1 ≤ start_or runs (suc index) n
+next_start low index [] n h fits within = absurd (omega arith)
+next_start low zero (r ∷ []) n h fits within = within
+next_start low zero (r ∷ q ∷ runs) n h fits within = (are_ordered-front r.1 q runs (are_ordered-front low r (q ∷ runs) h).later).from
+next_start low (suc index) (r ∷ runs) n h fits within = next_start r.1 index runs n (are_ordered-front low r runs h).later (omega arith) within

@@ -1,0 +1,166 @@
+-- One level run after another comes to its sequence: what the pass over units keeps, and what it has at the end.
+use Rattle.std.proofs.Common.{◌≡◌, ◌≢◌, ℕ, zero, suc, ◌+◌, ◌-◌, ◌<◌, ◌≤◌, Bool, true, false, not, cond, eqb, ltb, max, List, [], ◌∷◌, ◌++◌, length, map, get_or, set, take, append-nil, append_assoc, Option, Some, None, refl, sym, ap, subst, ◌∙◌, arith, ◌⊎◌, inl, inr, eq-eqb, ne_eqb, eqb-true, lt-ltb}
+use Rattle.std.specs.Prelude.{filter, find, flat_map, IfSome, All, if◌then◌else◌, nat_lt, is_some, ◌&&◌, IsPermutation}
+use Rattle.std.specs.List.{range_with_len, fold, list_any}
+use Rattle.std.proofs.lemmas.Bool.{cases_Bool, cases_eq, cases_lt, both_ways, cond-true, cond-false, and_parts, false_from_ne_true, eqb-false, le-ltb}
+use Rattle.std.proofs.lemmas.List.{length-map, map-append, map-set, get_or-map, length-append, get_or-set_same}
+use Rattle.std.proofs.lemmas.List.Elements.{filter-append, All-push, All-set, All-get_or, All-weaker, All-nil, All-cons, All-map}
+use Rattle.std.proofs.lemmas.List.Sorted.{IsPermutation-refl, IsPermutation-trans, IsPermutation-append_left, IsPermutation-append_right, IsPermutation-append_comm}
+use Rattle.std.proofs.lemmas.Grind.{flat_map-append}
+use Rattle.bidi_base.specs.declared.char_data.BidiClass.{BidiClass}
+use Rattle.bidi_base.specs.Classes.{is_initiator, is_pdi}
+use Rattle.bidi_base.specs.Levels.{direction_of}
+use Rattle.bidi_base.specs.Places.{class_at, last_or, first_or, between, indexes}
+use Rattle.bidi_base.specs.Isolates.{is_initiator_at}
+use Rattle.bidi_base.specs.Sequences.{RunSequence, is_kept_at, kept_places, next_kept, kept_before, level_at, have_one_level, level_or, start_class, end_class, with_ends, sequences, has_places, begins_run, run_starts}
+use Rattle.bidi_base.specs.SequencePass.{read_class, waiting_for, index_of}
+use Rattle.bidi_base.specs.Text.{place, text_len, IsLine}
+use Rattle.bidi_base.specs.Units.{kept_in_runs, level_run_ranges, ranges_between}
+use Rattle.bidi_base.proofs.TextLemmas.{HasUnits}
+use Rattle.bidi_base.proofs.PlaceLemmas.{place-zero, place-mono, place-end, IsLine-places}
+use Rattle.bidi_base.proofs.PlacesLemmas.{IsLeast, IsGreatest, find-between, find-between-None}
+use Rattle.bidi_base.proofs.ReadStack.{Member}
+use Rattle.bidi_base.proofs.SuccessorLemmas.{is_kept-initiator, next_kept-is, next_kept-is_None, kept_before-is, kept_before-is_None, kept_before-IsGreatest, kept_before-None}
+use Rattle.bidi_base.proofs.PassLemmas.{sequence_of, AllBegun}
+use Rattle.bidi_base.proofs.RunsLemmas.{IsRun, IsLevelRun, IsRun-IsLevelRun, AllOfLevel, AllOfLevel-run}
+use Rattle.bidi_base.proofs.WaitingLemmas.{IsWaiting}
+use Rattle.bidi_rules.specs.Joining.{JoinedRuns, no_runs, with_run, characters_of, read_range}
+use Rattle.bidi_rules.proofs.KeptRangeLemmas.{filter_range-none, filter_range-first, last_or-range}
+use Rattle.bidi_rules.proofs.LevelRunLemmas.{kept_in_run, kept_in_runs-push}
+use Rattle.bidi_rules.proofs.RunUnits.{NoneKept, IsLast}
+use Rattle.bidi_rules.proofs.RunPass.{with_places, index_in, IsAt, IsAt-start, IsAt-end, IsAt-read, HasCome, HasCome-run, IsWaiting-in_run}
+
+-- the first kept character of a run
+pub record IsFirst (classes : List BidiClass) (a b f : ℕ) : Type 0 where
+  pub from : a ≤ f
+  pub below : f < b
+  pub kept : is_kept_at classes f ≡ true
+  pub none : NoneKept classes a f
+
+pub first_of : (classes : List BidiClass) (a b l : ℕ) → IsLast classes a b l → (f : ℕ) × IsFirst classes a b f
+first_of classes a b l last = by_result (find (is_kept_at classes) (between a b)) refl
+  where
+    by_result : (o : Option ℕ) → find (is_kept_at classes) (between a b) ≡ o → (f : ℕ) × IsFirst classes a b f
+    by_result None e = absurd (both_ways (is_kept_at classes l) (find-between-None (is_kept_at classes) a b e l last.from last.below) last.kept)
+    by_result (Some f) e = let w : IsLeast (is_kept_at classes) a b f = find-between (is_kept_at classes) a b f e in (f, record { from = w.from; below = w.below; kept = w.passes; none = λ m low high. w.first m low high })
+
+module _ (classes : List BidiClass) (levels : List ℕ) (paragraph : ℕ) where
+  -- where a run begins a character is kept, but for the front of the paragraph
+  pub begins_kept : (a : ℕ) → begins_run classes levels a ≡ true → is_kept_at classes a ≡ true
+  unfolding begins_run
+  begins_kept a e = (and_parts _ _ (and_parts _ _ e).0).0
+
+  pub begins_after : (a : ℕ) → begins_run classes levels a ≡ true → is_some (kept_before classes a) ≡ true
+  unfolding begins_run
+  begins_after a e = (and_parts _ _ (and_parts _ _ e).0).1
+
+  -- nothing kept stands before the first kept character of a run
+  pub first_at : (a b f : ℕ) → IsLevelRun classes levels a b → IsFirst classes a b f → (f ≡ a) ⊎ (a ≡ 0)
+  first_at a b f range first = elim (cases_eq f a) [
+    | inl same ↦ inl same
+    | inr other ↦ elim range.starts [
+      | inl zero_is ↦ inr zero_is
+      | inr begins ↦ absurd (both_ways (is_kept_at classes a) (first.none a (omega arith) (omega (arith, first.from))) (begins_kept a begins))
+    ]
+  ]
+
+  pub kept_before-first : (a b f : ℕ) → IsLevelRun classes levels a b → IsFirst classes a b f → kept_before classes f ≡ kept_before classes a
+  kept_before-first a b f range first = elim (first_at a b f range first) [
+    | inl same ↦ ap (kept_before classes) same
+    | inr zero_is ↦
+        kept_before-is_None classes f (λ m below. first.none m (omega arith) below)
+        ∙ sym (kept_before-is_None classes a (λ m below. absurd (omega arith)))
+  ]
+
+  -- all characters of a run have one level
+  last_level : (level p : ℕ) (ps : List ℕ) → AllOfLevel classes levels level (p ∷ ps) → level_at levels (last_or p ps) ≡ level
+  last_level level p [] h = h.0
+  last_level level p (q ∷ ps) h = last_level level q ps h.1
+
+  abbrev pub rest_of : ℕ → ℕ → List ℕ
+  rest_of f b = filter (is_kept_at classes) (range_with_len (f + 1) (b - (f + 1)))
+
+  pub front_is : (a b f : ℕ) → IsLevelRun classes levels a b → IsFirst classes a b f → filter (is_kept_at classes) (range_with_len a (b - a)) ≡ f ∷ rest_of f b
+  front_is a b f range first =
+      let top : a + (b - a) ≡ b = omega (arith, range.not_empty) in
+      filter_range-first (is_kept_at classes) a (b - a) f first.kept first.from (omega (arith, first.below)) (λ k low high. first.none k low high)
+      ∙ ap (λ (x : ℕ). f ∷ filter (is_kept_at classes) (range_with_len (f + 1) (x - (f + 1)))) top
+
+  pub last_is : (a b f l : ℕ) → IsLevelRun classes levels a b → IsFirst classes a b f → IsLast classes a b l → last_or f (rest_of f b) ≡ l
+  last_is a b f l range first last =
+      last_or-range (is_kept_at classes) a (b - a) f l (rest_of f b) (front_is a b f range first) last.kept last.from (omega (arith, last.below)) (λ k after below. last.none k (omega arith) (omega (arith, range.not_empty)))
+
+  pub one_level : (a b f l : ℕ) → IsLevelRun classes levels a b → IsFirst classes a b f → IsLast classes a b l → level_at levels f ≡ level_at levels l
+  one_level a b f l range first last =
+      let run : IsRun classes levels f (rest_of f b) = IsRun-IsLevelRun classes levels a b f (rest_of f b) range (front_is a b f range first) in
+      sym (ap (level_at levels) (sym (last_is a b f l range first last)) ∙ last_level (level_at levels f) f (rest_of f b) (AllOfLevel-run classes levels f (rest_of f b) run.steps))
+
+  -- the kept character before the next run
+  pub kept_before-next_run : (a b l : ℕ) → IsLast classes a b l → kept_before classes b ≡ Some l
+  kept_before-next_run a b l last = kept_before-is classes b l (record { from = omega arith; below = last.below; passes = last.kept; last = λ m after below. last.none m (omega arith) below })
+
+  -- the level beyond the last character of a run, as the pass finds it
+  abbrev pub level_beyond : ℕ → ℕ → ℕ
+  level_beyond l b = if is_initiator (class_at classes l) then paragraph else (if eqb b (length classes) then paragraph else level_at levels b)
+
+  pub end_is : (a b l : ℕ) → IsLevelRun classes levels a b → IsLast classes a b l → end_class paragraph classes levels l ≡ direction_of (max (level_at levels l) (level_beyond l b))
+  unfolding end_class
+  end_is a b l range last = elim (cases_Bool (is_initiator (class_at classes l))) [
+    | inl opens ↦
+        ap (λ (o : Option ℕ). direction_of (max (level_at levels l) (level_or paragraph levels o))) (cond-true (is_initiator (class_at classes l)) None (next_kept classes l) opens)
+        ∙ ap (λ (n : ℕ). direction_of (max (level_at levels l) n)) (sym (cond-true (is_initiator (class_at classes l)) paragraph (if eqb b (length classes) then paragraph else level_at levels b) opens))
+    | inr other ↦
+        ap (λ (o : Option ℕ). direction_of (max (level_at levels l) (level_or paragraph levels o))) (cond-false (is_initiator (class_at classes l)) None (next_kept classes l) other)
+        ∙ ap (λ (n : ℕ). direction_of (max (level_at levels l) n)) (next_level ∙ sym (cond-false (is_initiator (class_at classes l)) paragraph (if eqb b (length classes) then paragraph else level_at levels b) other))
+  ]
+    where
+      next_level : level_or paragraph levels (next_kept classes l) ≡ (if eqb b (length classes) then paragraph else level_at levels b)
+      next_level = elim (cases_eq b (length classes)) [
+        | inl all ↦
+            ap (level_or paragraph levels) (next_kept-is_None classes l (λ m after below. last.none m (omega arith) (omega arith)))
+            ∙ sym (cond-true (eqb b (length classes)) paragraph (level_at levels b) (eq-eqb b (length classes) all))
+        | inr more ↦ elim range.stops [
+          | inl all ↦ absurd (more all)
+          | inr begins ↦
+              ap (level_or paragraph levels) (next_kept-is classes l b (record { from = omega (arith, last.below); below = omega (arith, range.within, more); passes = begins_kept b begins; first = λ m low high. last.none m low high }))
+              ∙ sym (cond-false (eqb b (length classes)) paragraph (level_at levels b) (ne_eqb b (length classes) more))
+        ]
+      ]
+
+  -- reading the characters of a range
+  read_all : (b n m : ℕ) (w : ℕ → Option ℕ) (out : List (List ℕ)) (waits : List (Option ℕ)) → IsAt classes levels b m out waits → ((k : ℕ) → m ≤ k → k < m + n → is_initiator_at classes k ≡ true → IsWaiting classes levels out k (w k))
+      → IsAt classes levels b (m + n) out (fold (λ ws k. read_class (class_at classes k) (w k) ws) waits (range_with_len m n))
+  read_all b zero m w out waits h wait = subst (λ (x : ℕ). IsAt classes levels b x out waits) (omega arith) h
+  read_all b (suc n) m w out waits h wait =
+      let next : IsAt classes levels b (m + 1) out (read_class (class_at classes m) (w m) waits) = IsAt-read classes levels b m out waits (w m) h (λ opens. wait m (omega arith) (omega arith) opens) in
+      subst (λ (x : ℕ). IsAt classes levels b x out (fold (λ ws k. read_class (class_at classes k) (w k) ws) waits (range_with_len m (suc n)))) (omega arith)
+      (read_all b n (m + 1) w out (read_class (class_at classes m) (w m) waits) next (λ k from below. wait k (omega arith) (omega arith)))
+
+  -- a run came, and its characters were read
+  pub came : (a b f l s : ℕ) (out : List (List ℕ)) (waits now : List (Option ℕ)) → IsLevelRun classes levels a b → IsFirst classes a b f → IsLast classes a b l → HasCome classes levels a b f (rest_of f b) out waits (waiting_for (class_at classes f) waits)
+      → s ≡ index_in (waiting_for (class_at classes f) waits) out → now ≡ read_range classes (l + 1) s a b waits → IsAt classes levels b b (with_places (waiting_for (class_at classes f) waits) (f ∷ rest_of f b) out) now
+  came a b f l s out waits now range first last c at read =
+      subst (λ (x : List (Option ℕ)). IsAt classes levels b b more x) (sym read) (subst (λ (x : ℕ). IsAt classes levels b x more (read_range classes (l + 1) s a b waits)) top all)
+    where
+      more : List (List ℕ)
+      more = with_places (waiting_for (class_at classes f) waits) (f ∷ rest_of f b) out
+
+      top : a + (b - a) ≡ b
+      top = omega (arith, range.not_empty)
+
+      within : s < length more
+      within = subst (λ (x : ℕ). x < length more) (sym at) c.within
+
+      same_last : (k : ℕ) → eqb (k + 1) (l + 1) ≡ eqb k (last_or f (rest_of f b))
+      same_last k = elim (cases_eq k l) [
+        | inl same ↦ eq-eqb (k + 1) (l + 1) (omega arith) ∙ sym (eq-eqb k (last_or f (rest_of f b)) (same ∙ sym (last_is a b f l range first last)))
+        | inr other ↦ ne_eqb (k + 1) (l + 1) (λ e. other (omega arith)) ∙ sym (ne_eqb k (last_or f (rest_of f b)) (λ e. other (e ∙ last_is a b f l range first last)))
+      ]
+
+      waits_by : (k : ℕ) → a ≤ k → k < a + (b - a) → is_initiator_at classes k ≡ true → IsWaiting classes levels more k (cond (eqb (k + 1) (l + 1)) (Some s) None)
+      waits_by k from below opens =
+          subst (λ (x : Bool). IsWaiting classes levels more k (cond x (Some s) None)) (sym (same_last k))
+          (IsWaiting-in_run classes levels a b f k s (rest_of f b) more range (front_is a b f range first) within (λ x member. subst (λ (y : ℕ). Member x (get_or more y [])) (sym at) (c.holds x member)) from (omega (arith, range.not_empty)) (is_kept-initiator (class_at classes k) opens))
+
+      all : IsAt classes levels b (a + (b - a)) more (read_range classes (l + 1) s a b waits)
+      all = read_all b (b - a) a (λ m. cond (eqb (m + 1) (l + 1)) (Some s) None) more waits c.state waits_by

@@ -1,0 +1,159 @@
+-- A level run as a range of units: which characters stand in it, and what its last kept unit says.
+use Rattle.std.proofs.Common.{◌≡◌, ℕ, suc, ◌+◌, ◌-◌, ◌<◌, ◌≤◌, Bool, true, false, cond, ltb, List, [], ◌∷◌, ◌++◌, length, get_or, Option, Some, None, refl, sym, ap, subst, ◌∙◌, arith, ◌⊎◌, inl, inr}
+use Rattle.std.specs.Prelude.{if◌then◌else◌, nat_lt}
+use Rattle.std.proofs.lemmas.Bool.{cases_lt, cases_eq, both_ways, cond-true, cond-false, false_from_ne_true}
+use Rattle.bidi_base.specs.declared.char_data.BidiClass.{BidiClass}
+use Rattle.bidi_base.specs.declared.char_data.BidiClass.TheVariants.{L}
+use Rattle.bidi_base.specs.Classes.{is_kept}
+use Rattle.bidi_base.specs.Places.{class_at}
+use Rattle.bidi_base.specs.Sequences.{is_kept_at, level_at, run_starts}
+use Rattle.bidi_base.specs.Text.{place, text_len, per_unit}
+use Rattle.bidi_base.specs.Units.{level_run_ranges}
+use Rattle.bidi_base.proofs.TextLemmas.{HasUnits}
+use Rattle.bidi_base.proofs.PlaceLemmas.{place-more, place-mono, place-lt, place-le, place-end, UnitOf, unit_of}
+use Rattle.bidi_base.proofs.PerUnit.{get_or-per_unit, get_or-per_unit-place}
+use Rattle.bidi_base.proofs.RunsLemmas.{IsLevelRun}
+use Rattle.bidi_rules.specs.Joining.{IsKeptEnd}
+use Rattle.bidi_rules.proofs.LevelRunLemmas.{IsLevelRun-at, level_run_ranges-at, length-level_run_ranges}
+
+-- where level runs begin, and the end
+abbrev pub cuts : List BidiClass → List ℕ → List ℕ
+cuts classes levels = run_starts classes levels ++ length classes ∷ []
+
+-- no character from a up to b is kept
+abbrev pub NoneKept : List BidiClass → ℕ → ℕ → Type 0
+NoneKept classes a b = (m : ℕ) → a ≤ m → m < b → is_kept_at classes m ≡ false
+
+-- l is the last kept one
+pub record IsLast (classes : List BidiClass) (a b l : ℕ) : Type 0 where
+  pub from : a ≤ l
+  pub below : l < b
+  pub kept : is_kept_at classes l ≡ true
+  pub none : NoneKept classes (l + 1) b
+
+module _ (len_of : ℕ → ℕ) (h : HasUnits len_of) (chars : List ℕ) (classes : List BidiClass) (levels : List ℕ) (long : length classes ≡ length chars) where
+  -- the k-th run, from the character at a up to that at b
+  pub record IsRunAt (k a b : ℕ) (r : ℕ × ℕ) : Type 0 where
+    pub range : IsLevelRun classes levels a b
+    pub first : a ≡ get_or (cuts classes levels) k 0
+    pub next : b ≡ get_or (cuts classes levels) (k + 1) 0
+    pub start : r.0 ≡ place len_of chars a
+    pub end : r.1 ≡ place len_of chars b
+
+  pub run_at : (runs : List (ℕ × ℕ)) (k : ℕ) → runs ≡ level_run_ranges len_of chars classes levels → k < length runs → IsRunAt k (get_or (cuts classes levels) k 0) (get_or (cuts classes levels) (k + 1) 0) (get_or runs k (0, 0))
+  run_at runs k e within =
+      let fits : k < length (run_starts classes levels) = omega (arith, ap length e, length-level_run_ranges len_of chars classes levels) in
+      let more : suc k ≡ k + 1 = omega arith in
+      let here : get_or runs k (0, 0) ≡ (place len_of chars (get_or (cuts classes levels) k 0), place len_of chars (get_or (cuts classes levels) (suc k) 0)) =
+      ap (λ (rs : List (ℕ × ℕ)). get_or rs k (0, 0)) e ∙ level_run_ranges-at len_of chars classes levels k (0, 0) long fits in
+      record {
+        range = subst (λ n. IsLevelRun classes levels (get_or (cuts classes levels) k 0) (get_or (cuts classes levels) n 0)) more (IsLevelRun-at classes levels k fits);
+        first = refl;
+        next = refl;
+        start = ap (λ (r : ℕ × ℕ). r.0) here;
+        end = ap (λ (r : ℕ × ℕ). r.1) here ∙ ap (λ n. place len_of chars (get_or (cuts classes levels) n 0)) more;
+      }
+
+  get_or_last : (xs : List ℕ) (x d : ℕ) → get_or (xs ++ x ∷ []) (length xs) d ≡ x
+  get_or_last [] x d = refl
+  get_or_last (y ∷ xs) x d = get_or_last xs x d
+
+  -- the last run ends with the text
+  pub cuts-last : (runs : List (ℕ × ℕ)) (k : ℕ) → runs ≡ level_run_ranges len_of chars classes levels → k ≡ length runs → get_or (cuts classes levels) k 0 ≡ length classes
+  cuts-last runs k e all =
+      let count : k ≡ length (run_starts classes levels) = omega (arith, ap length e, length-level_run_ranges len_of chars classes levels) in
+      ap (λ n. get_or (cuts classes levels) n 0) count ∙ get_or_last (run_starts classes levels) (length classes) 0
+
+  -- a run is a stretch of some units of the text
+  pub record IsUnitRun (a b : ℕ) (start end : ℕ) : Type 0 where
+    pub not_empty : start < end
+    pub within : end ≤ text_len len_of chars
+
+  pub unit_run : (k a b : ℕ) (r : ℕ × ℕ) → IsRunAt k a b r → IsUnitRun a b r.0 r.1
+  unit_run k a b r run =
+      let order = run.range.not_empty in
+      let fits = run.range.within in
+      record { not_empty = omega (arith, place-lt len_of chars h a b order (omega arith), run.start, run.end); within = omega (arith, place-le len_of chars b, run.end) }
+
+  module _ (units : List BidiClass) (unit_levels : List ℕ) (same : length levels ≡ length chars) (units_is : units ≡ per_unit len_of chars classes) (levels_is : unit_levels ≡ per_unit len_of chars levels) where
+    class_of_unit : (m : ℕ) → m < length chars → get_or units (place len_of chars m) L ≡ class_at classes m
+    class_of_unit m fits = ap (λ us. get_or us (place len_of chars m) L) units_is ∙ get_or-per_unit-place len_of h chars classes m L long fits
+
+    pub level_of_unit : (m : ℕ) → m < length chars → get_or unit_levels (place len_of chars m) 0 ≡ level_at levels m
+    level_of_unit m fits = ap (λ us. get_or us (place len_of chars m) 0) levels_is ∙ get_or-per_unit-place len_of h chars levels m 0 same fits
+
+    -- what stands before `last`, the end of the last kept unit of the run
+    pub record IsLastUnit (a b last l : ℕ) : Type 0 where
+      pub is_last : IsLast classes a b l
+      pub at_end : last ≡ place len_of chars (l + 1)
+      pub class : get_or units (last - 1) L ≡ class_at classes l
+      pub level : get_or unit_levels (last - 1) 0 ≡ level_at levels l
+
+    pub none_kept : (a b start end last : ℕ) → start ≡ place len_of chars a → end ≡ place len_of chars b → b ≤ length chars → IsKeptEnd units start end last → last ≡ start → NoneKept classes a b
+    none_kept a b start end last first next fits e none m from below =
+        let low = place-mono len_of chars a m from in
+        let high = place-lt len_of chars h m b below (omega arith) in
+        ap is_kept (sym (class_of_unit m (omega arith))) ∙ e.gone (place len_of chars m) (omega arith) (omega arith)
+
+    pub last_unit : (a b start end last : ℕ) → start ≡ place len_of chars a → end ≡ place len_of chars b → b ≤ length chars → IsKeptEnd units start end last → ¬ (last ≡ start) → (l : ℕ) × IsLastUnit a b last l
+    last_unit a b start end last first next fits e some = by_unit (unit_of len_of chars (last - 1) (omega (arith, e.from, e.to, place-le len_of chars b, next, before)))
+      where
+        before : start < last
+        before = omega (arith, e.from)
+
+        by_unit : UnitOf len_of chars (last - 1) → (l : ℕ) × IsLastUnit a b last l
+        by_unit w = (w.index, record { is_last = record { from = from; below = below; kept = kept; none = none }; at_end = at_end; class = class; level = level })
+          where
+            l : ℕ
+            l = w.index
+
+            after : place len_of chars (w.index + 1) ≡ place len_of chars w.index + len_of (get_or chars w.index 0)
+            after = place-more len_of chars w.index 0 w.within
+
+            unit_is : last ≡ place len_of chars w.index + w.offset + 1
+            unit_is = omega (arith, w.at_place, before)
+
+            from : a ≤ w.index
+            from = elim (cases_lt w.index a) [
+              | inl low ↦ let past = place-mono len_of chars (w.index + 1) a (omega arith) in absurd (omega (arith, w.below, after, unit_is, first, before))
+              | inr high ↦ high
+            ]
+
+            below : w.index < b
+            below = elim (cases_lt w.index b) [
+              | inl low ↦ low
+              | inr high ↦ let past = place-mono len_of chars b w.index high in absurd (omega (arith, unit_is, next, e.to))
+            ]
+
+            class : get_or units (last - 1) L ≡ class_at classes w.index
+            class =
+                ap (λ us. get_or us (last - 1) L) units_is
+                ∙ ap (λ u. get_or (per_unit len_of chars classes) u L) w.at_place
+                ∙ get_or-per_unit len_of chars classes w.index w.offset 0 L long w.within w.below
+
+            level : get_or unit_levels (last - 1) 0 ≡ level_at levels w.index
+            level =
+                ap (λ us. get_or us (last - 1) 0) levels_is
+                ∙ ap (λ u. get_or (per_unit len_of chars levels) u 0) w.at_place
+                ∙ get_or-per_unit len_of chars levels w.index w.offset 0 0 same w.within w.below
+
+            kept : is_kept_at classes w.index ≡ true
+            kept = ap is_kept (sym class) ∙ e.kept before
+
+            -- no unit of the character is left after it
+            at_end : last ≡ place len_of chars (w.index + 1)
+            at_end = elim (cases_lt (w.offset + 1) (len_of (get_or chars w.index 0))) [
+              | inl inside ↦
+                  let past = place-mono len_of chars (w.index + 1) b (omega (arith, below)) in
+                  let there : last ≡ place len_of chars w.index + (w.offset + 1) = omega (arith, unit_is) in
+                  let same_class : get_or units last L ≡ class_at classes w.index =
+                  ap (λ us. get_or us last L) units_is ∙ ap (λ u. get_or (per_unit len_of chars classes) u L) there ∙ get_or-per_unit len_of chars classes w.index (w.offset + 1) 0 L long w.within inside in
+                  absurd (both_ways (is_kept_at classes w.index) (ap is_kept (sym same_class) ∙ e.gone last (omega arith) (omega (arith, after, next))) kept)
+              | inr out ↦ omega (arith, unit_is, after, w.below)
+            ]
+
+            none : NoneKept classes (w.index + 1) b
+            none m low high =
+                let past = place-mono len_of chars (w.index + 1) m low in
+                let under = place-lt len_of chars h m b high (omega arith) in
+                ap is_kept (sym (class_of_unit m (omega arith))) ∙ e.gone (place len_of chars m) (omega (arith, at_end)) (omega (arith, next))

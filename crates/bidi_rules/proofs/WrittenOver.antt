@@ -1,0 +1,136 @@
+-- A class written over some units of a slice.
+use Rattle.std.proofs.Common.{◌≡◌, ℕ, ◌+◌, ◌<◌, ◌≤◌, ◌≢◌, Bool, true, false, ◌&&◌, ◌||◌, min, max, List, [], length, get_or, set, take, refl, sym, ap, subst, ◌∙◌, arith, ◌⊎◌, inl, inr, length-set, get_or-set_other, get_or-set_same}
+use Rattle.std.proofs.lemmas.Bool.{cases_lt, cases_eq, cases_Bool, and_parts, and_from, and_left, and_cases, or_cases, or_parts, both_ways}
+use Rattle.bidi_base.specs.declared.char_data.BidiClass.{BidiClass}
+use Rattle.bidi_base.specs.declared.char_data.BidiClass.TheVariants.{L}
+use Rattle.bidi_base.specs.Classes.{is_read}
+use Rattle.bidi_base.specs.Places.{class_at}
+use Rattle.bidi_base.specs.Units.{are_ordered, in_runs}
+use Rattle.bidi_rules.specs.WeakWalk.{is_seen, IsWrittenOver}
+use Rattle.bidi_rules.proofs.InRuns.{in_run, in_run-true, in_run-inside, in_runs-more, in_runs-take}
+
+module _ (test : ℕ → Bool) (class : BidiClass) (from : ℕ) (old : List BidiClass) where
+  pub IsWrittenOver-start : IsWrittenOver test class from from old old
+  IsWrittenOver-start = record { inside = λ k a b t. absurd (omega arith); failing = λ k t. refl; below = λ k a. refl; above = λ k a. refl; long = refl }
+
+  -- one unit more
+  pub IsWrittenOver-skip : (i : ℕ) (now : List BidiClass) → test i ≡ false → IsWrittenOver test class from i old now → IsWrittenOver test class from (i + 1) old now
+  IsWrittenOver-skip i now plain h = record {
+    inside = λ k a b t. elim (cases_eq k i) [
+      | inl same ↦ absurd (both_ways (test i) plain (subst (λ (j : ℕ). test j ≡ true) same t))
+      | inr other ↦ h.inside k a (omega arith) t
+    ];
+    failing = h.failing;
+    below = h.below;
+    above = λ k a. h.above k (omega arith);
+    long = h.long;
+  }
+
+  pub IsWrittenOver-set : (i : ℕ) (now : List BidiClass) → from ≤ i → i < length old → test i ≡ true → IsWrittenOver test class from i old now → IsWrittenOver test class from (i + 1) old (set now i class)
+  IsWrittenOver-set i now order fits passes h = record {
+    inside = λ k a b t. elim (cases_eq k i) [
+      | inl same ↦ ap (class_at (set now i class)) same ∙ get_or-set_same now i class L (omega (arith, h.long))
+      | inr other ↦ get_or-set_other now i k class L other ∙ h.inside k a (omega arith) t
+    ];
+    failing = λ k t. get_or-set_other now i k class L (λ same. both_ways (test i) (subst (λ (j : ℕ). test j ≡ false) same t) passes) ∙ h.failing k t;
+    below = λ k a. get_or-set_other now i k class L (omega arith) ∙ h.below k a;
+    above = λ k a. get_or-set_other now i k class L (omega arith) ∙ h.above k (omega arith);
+    long = length-set now i class ∙ h.long;
+  }
+
+  -- no unit at all
+  pub IsWrittenOver-none : (to : ℕ) → to ≤ from → IsWrittenOver test class from to old old
+  IsWrittenOver-none to none = record { inside = λ k a b t. absurd (omega arith); failing = λ k t. refl; below = λ k a. refl; above = λ k a. refl; long = refl }
+
+  -- the end of a loop from `from` to `to`
+  pub IsWrittenOver-end : (i to : ℕ) (now : List BidiClass) → (from ≤ to → i ≤ to) → to ≤ i → (to ≤ from → now ≡ old) → IsWrittenOver test class from i old now → IsWrittenOver test class from to old now
+  IsWrittenOver-end i to now within past untouched h = elim (cases_lt from to) [
+    | inl some ↦ let top : i ≡ to = omega (arith, within (omega arith)) in subst (λ (j : ℕ). IsWrittenOver test class from j old now) top h
+    | inr none ↦ subst (IsWrittenOver test class from to old) (sym (untouched none)) (IsWrittenOver-none to none)
+  ]
+
+-- the same units by another test
+pub IsWrittenOver-same_test : (test other : ℕ → Bool) (class : BidiClass) (from to : ℕ) (old now : List BidiClass) → ((k : ℕ) → from ≤ k → k < to → test k ≡ other k) → IsWrittenOver test class from to old now → IsWrittenOver other class from to old now
+IsWrittenOver-same_test test other class from to old now same h = record {
+  inside = λ k a b t. h.inside k a b (same k a b ∙ t);
+  failing = λ k t. elim (cases_lt k from) [
+    | inl low ↦ h.below k low
+    | inr high ↦ elim (cases_lt k to) [
+      | inl within ↦ h.failing k (same k high within ∙ t)
+      | inr past ↦ h.above k past
+    ]
+  ];
+  below = h.below;
+  above = h.above;
+  long = h.long;
+}
+
+-- ---- over some ranges
+
+module _ (runs : List (ℕ × ℕ)) (class : BidiClass) (from to : ℕ) (old : List BidiClass) where
+  pub runs-start : IsWrittenOver (is_seen (take 0 runs) old) class from to old old
+  runs-start = record { inside = λ k a b t. absurd (both_ways false refl t); failing = λ k t. refl; below = λ k a. refl; above = λ k a. refl; long = refl }
+
+  -- one range more
+  module _ (index : ℕ) (fits : index < length runs) (now new : List BidiClass) (h : IsWrittenOver (is_seen (take index runs) old) class from to old now) (start end : ℕ)
+      (start_is : start ≡ max (get_or runs index (0, 0)).0 from) (end_is : end ≡ min (get_or runs index (0, 0)).1 to) (w : IsWrittenOver (λ k. is_read (class_at now k)) class start end now new) where
+    abbrev run : ℕ × ℕ
+    run = get_or runs index (0, 0)
+
+    -- what is written stays
+    stays : (k : ℕ) → class_at now k ≡ class → class_at new k ≡ class
+    stays k written = elim (cases_Bool (is_read (class_at now k))) [
+      | inr removed ↦ w.failing k removed ∙ written
+      | inl read ↦ elim (cases_lt k start) [
+        | inl low ↦ w.below k low ∙ written
+        | inr high ↦ elim (cases_lt k end) [
+          | inl within ↦ w.inside k high within read
+          | inr past ↦ w.above k past ∙ written
+        ]
+      ]
+    ]
+
+    pub runs-more : IsWrittenOver (is_seen (take (index + 1) runs) old) class from to old new
+    runs-more = record {
+      inside = λ k a b t.
+          let parts = and_parts (in_runs (take (index + 1) runs) k) (is_read (class_at old k)) t in
+          elim (cases_Bool (in_runs (take index runs) k)) [
+            | inl earlier ↦ stays k (h.inside k a b (and_from _ _ earlier parts.1))
+            | inr new' ↦
+                let here = elim (or_cases (in_runs (take index runs) k) (in_run run k) (sym (in_runs-more index runs k fits) ∙ parts.0)) as (λ _. in_run run k ≡ true) [
+                  | inl old' ↦ absurd (both_ways (in_runs (take index runs) k) new' old')
+                  | inr is ↦ is
+                ] in
+                let ends = in_run-true run k here in
+                let before : class_at now k ≡ class_at old k = h.failing k (and_left (in_runs (take index runs) k) (is_read (class_at old k)) new') in
+                w.inside k (omega arith) (omega arith) (ap is_read before ∙ parts.1)
+          ];
+      failing = λ k t. elim (and_cases (in_runs (take (index + 1) runs) k) (is_read (class_at old k)) t) [
+        | inl outside ↦
+            let parts = or_parts (in_runs (take index runs) k) (in_run run k) (sym (in_runs-more index runs k fits) ∙ outside) in
+            let before : class_at now k ≡ class_at old k = h.failing k (and_left (in_runs (take index runs) k) (is_read (class_at old k)) parts.0) in
+            let unchanged : class_at new k ≡ class_at now k = elim (cases_lt k start) [
+              | inl low ↦ w.below k low
+              | inr high ↦ elim (cases_lt k end) [
+                | inl within ↦ absurd (both_ways (in_run run k) parts.1 (in_run-inside run k (omega arith) (omega arith)))
+                | inr past ↦ w.above k past
+              ]
+            ] in
+            unchanged ∙ before
+        | inr removed ↦
+            let before : class_at now k ≡ class_at old k = h.failing k (and_right' (in_runs (take index runs) k) (is_read (class_at old k)) removed) in
+            w.failing k (ap is_read before ∙ removed) ∙ before
+      ];
+      below = λ k a. w.below k (omega arith) ∙ h.below k a;
+      above = λ k a. w.above k (omega arith) ∙ h.above k a;
+      long = w.long ∙ h.long;
+    }
+      where
+        and_right' : (x y : Bool) → y ≡ false → (x && y) ≡ false
+        and_right' x y e = grind arith
+
+  -- the ranges from the one at `index` on begin at `to` or later
+  pub runs-stop : (index : ℕ) (now : List BidiClass) → are_ordered runs ≡ true → index < length runs → to ≤ (get_or runs index (0, 0)).0 → IsWrittenOver (is_seen (take index runs) old) class from to old now → IsWrittenOver (is_seen runs old) class from to old now
+  runs-stop index now ordered fits past h =
+      IsWrittenOver-same_test (is_seen (take index runs) old) (is_seen runs old) class from to old now
+      (λ k a b. ap (λ t. t && is_read (class_at old k)) (in_runs-take 0 index runs k ordered fits (omega arith))) h

@@ -1,0 +1,44 @@
+-- The steps of the pass over units that joins level runs to isolating run sequences.
+use Rattle.std.specs.Prelude.{◌≡◌, ℕ, ◌+◌, ◌-◌, ◌<◌, ◌≤◌, true, false, ◌==◌, if◌then◌else◌, List, [], ◌∷◌, ◌++◌, get_or, slice_set, Option, Some, None}
+use Rattle.std.specs.List.{fold}
+use Rattle.bidi_base.specs.declared.char_data.BidiClass.{BidiClass}
+use Rattle.bidi_base.specs.declared.char_data.BidiClass.TheVariants.{L}
+use Rattle.bidi_base.specs.Places.{between, class_at}
+use Rattle.bidi_base.specs.Sequences.{RunSequence, is_kept_at}
+use Rattle.bidi_base.specs.SequencePass.{read_class}
+use Rattle.bidi_base.specs.Text.{char_index, per_char}
+use Rattle.bidi_base.specs.Units.{kept_in_runs}
+
+-- level runs that were joined, as ranges of units, and the classes at both ends
+pub record JoinedRuns : Type 0 where
+  pub runs : List (ℕ × ℕ)
+  pub sos : BidiClass
+  pub eos : BidiClass
+
+-- the characters that X9 keeps in them
+abbrev pub characters_of : (ℕ → ℕ) → List ℕ → List BidiClass → JoinedRuns → RunSequence
+characters_of len_of chars classes j = record { places = kept_in_runs len_of chars classes j.runs; sos = j.sos; eos = j.eos }
+
+abbrev pub no_runs : JoinedRuns
+no_runs = record { runs = []; sos = L; eos = L }
+
+-- a run comes to the sequence at s, which now ends with the class `eos`, or begins one
+abbrev pub with_run : Option ℕ → ℕ × ℕ → BidiClass → BidiClass → List JoinedRuns → List JoinedRuns
+with_run None r sos eos out = out ++ record { runs = r ∷ []; sos = sos; eos = eos } ∷ []
+with_run (Some s) r sos eos out = slice_set out s (record (get_or out s no_runs) { runs = (get_or out s no_runs).runs ++ r ∷ []; eos = eos })
+
+-- the end of the last unit from `start` up to `end` whose class X9 keeps, or `start` where there is none
+pub record IsKeptEnd (classes : List BidiClass) (start end kept_end : ℕ) : Type 0 where
+  pub from : start ≤ kept_end
+  pub to : kept_end ≤ end
+  pub gone : (u : ℕ) → kept_end ≤ u → u < end → is_kept_at classes u ≡ false
+  pub kept : start < kept_end → is_kept_at classes (kept_end - 1) ≡ true
+
+-- what waits once the characters from a up to b were read, of which the one before `last` waits for the sequence at s
+abbrev pub read_range : List BidiClass → ℕ → ℕ → ℕ → ℕ → List (Option ℕ) → List (Option ℕ)
+read_range classes last s a b waits = fold (λ ws m. read_class (class_at classes m) (if m + 1 == last then Some s else None) ws) waits (between a b)
+
+-- the same for the characters of a range of units, of which one ends at `kept_end`
+abbrev pub read_units : (ℕ → ℕ) → List ℕ → List BidiClass → ℕ → ℕ → ℕ → ℕ → List (Option ℕ) → List (Option ℕ)
+read_units len_of chars classes kept_end s start end waits =
+    read_range (per_char L len_of chars classes) (char_index len_of chars kept_end) s (char_index len_of chars start) (char_index len_of chars end) waits
