@@ -11,6 +11,8 @@ pub mod GivesLemmas
 pub mod InPlace
 pub mod IsolateWalk
 pub mod IsolatesLemmas
+pub mod LevelTableLemmas
+pub mod LevelsInLemmas
 pub mod LevelsLemmas
 pub mod MatchingLemmas
 pub mod NeutralLemmas
@@ -26,11 +28,14 @@ pub mod PermutationLemmas
 pub mod PlaceLemmas
 pub mod PlacesLemmas
 pub mod ReadStack
+pub mod ResolvedLemmas
 pub mod ReadingLemmas
 pub mod RunsLemmas
+pub mod SequencePlaces
 pub mod SequencesLemmas
 pub mod StatusBounds
 pub mod StatusMachine
+pub mod StoredLemmas
 pub mod StoredSteps
 pub mod StrLemmas
 pub mod SuccessorLemmas

@@ -1,6 +1,5 @@
 -- The status stack holds at most 126 entries, and each count is at most the number of characters read; how a vector holds the stack.
 use Rattle.std.proofs.Common.{◌≡◌, ℕ, suc, ◌+◌, ◌<◌, ◌≤◌, cond, List, [], ◌∷◌, ◌++◌, length, reverse, refl, sym, ap, subst, ◌∙◌, arith, inl, inr}
-use Rattle.std.specs.Prelude.{⊤}
 use Rattle.std.proofs.lemmas.Bool.{cases_Bool, cases_eq, cond-true, cond-false}
 use Rattle.std.proofs.lemmas.List.{reverse-append, length-reverse}
 use Rattle.bidi_base.specs.declared.char_data.BidiClass.{BidiClass}

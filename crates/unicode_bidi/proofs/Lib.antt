@@ -11,6 +11,7 @@ pub mod LineText
 pub mod Ordered
 pub mod Passes
 pub mod Pieces
+pub mod Resolving
 pub mod Reversed
 pub mod RunText
 pub mod RunsLemmas
@@ -20,3 +21,4 @@ pub mod TextRead
 pub mod Turning
 pub mod VisualRuns
 pub mod WrittenRuns
+pub mod Written

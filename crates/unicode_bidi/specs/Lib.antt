@@ -1,3 +1,4 @@
 pub mod InitialInfo
 pub mod ParagraphFlags
 pub mod ParagraphInfo
+pub mod ParagraphLevels

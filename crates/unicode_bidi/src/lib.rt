@@ -11,6 +11,7 @@ mod level_direction;
 mod line_text;
 mod lines;
 mod paragraph_info;
+mod paragraph_levels;
 mod visual;
 mod visual_runs;
 

@@ -1,0 +1,176 @@
+-- The levels of a paragraph do not depend on the order in which its sequences are resolved.
+use Rattle.std.proofs.Common.{◌≡◌, ℕ, suc, ◌+◌, ◌<◌, ◌≤◌, Bool, true, false, not, cond, eqb, List, [], ◌∷◌, ◌++◌, map, length, count_by, find, unwrap_or, Option, Some, eqb-true, refl, sym, ap, ◌∙◌, arith, inl, inr}
+use Rattle.std.specs.Prelude.{flat_map, zip, option_map}
+use Rattle.std.proofs.lemmas.List.{map-append}
+use Rattle.std.specs.List.{sum_by}
+use Rattle.std.specs.List.Sorted.{IsPermutation}
+use Rattle.std.proofs.lemmas.List.Sums.{sum_by-cons, sum_by-le-sum_by}
+use Rattle.std.proofs.lemmas.Bool.{cases_Bool, cond-true, cond-false}
+use Rattle.std.proofs.lemmas.List.Sorted.{sum_by-IsPermutation}
+use Rattle.bidi_base.specs.declared.char_data.BidiClass.{BidiClass}
+use Rattle.bidi_base.specs.declared.data_source.BidiMatchedOpeningBracket.{BidiMatchedOpeningBracket}
+use Rattle.bidi_base.specs.Places.{class_at, at_places}
+use Rattle.bidi_base.specs.Classes.{is_removed}
+use Rattle.bidi_base.specs.Isolates.{stored_classes}
+use Rattle.bidi_base.specs.Explicit.{explicit_levels, explicit_classes}
+use Rattle.bidi_base.specs.Sequences.{RunSequence, level_at, is_kept_at, kept_places, sequences}
+use Rattle.bidi_base.specs.Stored.{sequence_levels, AreResolved, level_in, filled_levels, levels_in}
+use Rattle.bidi_base.proofs.SequencesLemmas.{IsPermutation-sequences}
+use Rattle.bidi_base.proofs.LevelTableLemmas.{sum_by-flat_map, level_in-sum, count_by-zip, count_at-range, count_at-in}
+
+-- what fills the removed characters reads the table by its answers alone
+pub filled_levels-agree : (table other : List (ℕ × ℕ)) → ((p : ℕ) → level_in table p ≡ level_in other p) → (p before : ℕ) (classes : List BidiClass) → filled_levels table p before classes ≡ filled_levels other p before classes
+unfolding filled_levels
+filled_levels-agree table other same p before [] = refl
+filled_levels-agree table other same p before (c ∷ classes) =
+    ap (λ (x : ℕ). cond (is_removed c) before x ∷ filled_levels table (p + 1) (cond (is_removed c) before x) classes) (same p)
+    ∙ ap (λ (xs : List ℕ). cond (is_removed c) before (level_in other p) ∷ xs) (filled_levels-agree table other same (p + 1) (cond (is_removed c) before (level_in other p)) classes)
+
+-- entries of sequences, each no more than its places
+module _ (entries : RunSequence → List (ℕ × ℕ)) (few : (test : ℕ → Bool) (s : RunSequence) → count_by (λ (e : ℕ × ℕ). test e.0) (entries s) ≤ count_by test s.places) where
+  once_in_table : (classes : List BidiClass) (seqs : List RunSequence) (p : ℕ) → IsPermutation (kept_places classes) (flat_map (λ (s : RunSequence). s.places) seqs)
+      → count_by (λ (e : ℕ × ℕ). eqb e.0 p) (flat_map entries seqs) ≤ 1
+  unfolding kept_places
+  once_in_table classes seqs p shared =
+      let test : ℕ → Bool = λ q. eqb q p in
+      let by_sequence : count_by (λ (e : ℕ × ℕ). eqb e.0 p) (flat_map entries seqs) ≡ sum_by (λ s. count_by (λ (e : ℕ × ℕ). eqb e.0 p) (entries s)) seqs = sum_by-flat_map (λ (e : ℕ × ℕ). cond (eqb e.0 p) 1 0) entries seqs in
+      let places : count_by (λ q. eqb q p) (flat_map (λ (s : RunSequence). s.places) seqs) ≡ sum_by (λ (s : RunSequence). count_by (λ q. eqb q p) s.places) seqs = sum_by-flat_map (λ q. cond (eqb q p) 1 0) (λ (s : RunSequence). s.places) seqs in
+      let least : sum_by (λ s. count_by (λ (e : ℕ × ℕ). eqb e.0 p) (entries s)) seqs ≤ sum_by (λ (s : RunSequence). count_by (λ q. eqb q p) s.places) seqs
+      = sum_by-le-sum_by (λ s. count_by (λ (e : ℕ × ℕ). eqb e.0 p) (entries s)) (λ (s : RunSequence). count_by (λ q. eqb q p) s.places) seqs (few test) in
+      let moved : count_by (λ q. eqb q p) (flat_map (λ (s : RunSequence). s.places) seqs) ≡ count_by (λ q. eqb q p) (kept_places classes)
+      = sum_by-IsPermutation (λ q. cond (eqb q p) 1 0) (kept_places classes) (flat_map (λ (s : RunSequence). s.places) seqs) shared in
+      let one : count_by (λ q. eqb q p) (kept_places classes) ≤ 1 = count_at-range (is_kept_at classes) p 0 (length classes) in
+      omega arith
+
+  -- the table gives the same in each order of the sequences
+  pub level_in-order : (classes : List BidiClass) (seqs other : List RunSequence) (p : ℕ) → IsPermutation (kept_places classes) (flat_map (λ (s : RunSequence). s.places) seqs) → IsPermutation seqs other
+      → level_in (flat_map entries other) p ≡ level_in (flat_map entries seqs) p
+  level_in-order classes seqs other p shared moved =
+      let counts : count_by (λ (e : ℕ × ℕ). eqb e.0 p) (flat_map entries other) ≡ count_by (λ (e : ℕ × ℕ). eqb e.0 p) (flat_map entries seqs) =
+      sum_by-flat_map (λ (e : ℕ × ℕ). cond (eqb e.0 p) 1 0) entries other
+      ∙ sum_by-IsPermutation (λ s. sum_by (λ (e : ℕ × ℕ). cond (eqb e.0 p) 1 0) (entries s)) seqs other moved
+      ∙ sym (sum_by-flat_map (λ (e : ℕ × ℕ). cond (eqb e.0 p) 1 0) entries seqs) in
+      let once : count_by (λ (e : ℕ × ℕ). eqb e.0 p) (flat_map entries seqs) ≤ 1 = once_in_table classes seqs p shared in
+      level_in-sum (flat_map entries other) p (omega arith)
+      ∙ sum_by-flat_map (λ (e : ℕ × ℕ). cond (eqb e.0 p) e.1 0) entries other
+      ∙ sum_by-IsPermutation (λ s. sum_by (λ (e : ℕ × ℕ). cond (eqb e.0 p) e.1 0) (entries s)) seqs other moved
+      ∙ sym (level_in-sum (flat_map entries seqs) p once ∙ sum_by-flat_map (λ (e : ℕ × ℕ). cond (eqb e.0 p) e.1 0) entries seqs)
+
+few_entries : (source : List BidiClass) (brackets : List (Option BidiMatchedOpeningBracket)) (levels : List ℕ) (classes : List BidiClass) (test : ℕ → Bool) (s : RunSequence)
+    → count_by (λ (e : ℕ × ℕ). test e.0) (sequence_levels source brackets levels classes s) ≤ count_by test s.places
+unfolding sequence_levels
+few_entries source brackets levels classes test s = count_by-zip test s.places _
+
+-- the levels of the paragraph, from the sequences in any order
+pub levels_in-order : (paragraph : ℕ) (source : List BidiClass) (brackets : List (Option BidiMatchedOpeningBracket)) (seqs : List RunSequence)
+    → IsPermutation (sequences paragraph (stored_classes source) (explicit_levels paragraph (stored_classes source))) seqs
+    → filled_levels (flat_map (sequence_levels source brackets (explicit_levels paragraph (stored_classes source)) (explicit_classes paragraph (stored_classes source))) seqs) 0 paragraph (stored_classes source)
+    ≡ levels_in paragraph source brackets
+unfolding levels_in
+levels_in-order paragraph source brackets seqs moved =
+    let stored = stored_classes source in
+    let levels = explicit_levels paragraph stored in
+    let entries = sequence_levels source brackets levels (explicit_classes paragraph stored) in
+    filled_levels-agree (flat_map entries seqs) (flat_map entries (sequences paragraph stored levels))
+    (λ p. level_in-order entries (few_entries source brackets levels (explicit_classes paragraph stored)) stored (sequences paragraph stored levels) seqs p (IsPermutation-sequences stored levels paragraph) moved)
+    0 paragraph stored
+
+zip-at_places : (new ps : List ℕ) → zip ps (at_places 0 new ps) ≡ map (λ p. (p, level_at new p)) ps
+zip-at_places new [] = refl
+zip-at_places new (p ∷ ps) = ap {B = List (ℕ × ℕ)} (λ xs. (p, level_at new p) ∷ xs) (zip-at_places new ps)
+
+table_of_resolved : (source : List BidiClass) (brackets : List (Option BidiMatchedOpeningBracket)) (levels : List ℕ) (classes : List BidiClass) (new : List ℕ) (seqs : List RunSequence) → AreResolved source brackets levels classes new seqs
+    → flat_map (sequence_levels source brackets levels classes) seqs ≡ map (λ p. (p, level_at new p)) (flat_map (λ (s : RunSequence). s.places) seqs)
+unfolding sequence_levels
+table_of_resolved source brackets levels classes new [] h = refl
+table_of_resolved source brackets levels classes new (s ∷ seqs) h =
+    ap (λ (vs : List ℕ). zip s.places vs ++ flat_map (sequence_levels source brackets levels classes) seqs) (sym h.0)
+    ∙ ap (λ (xs : List (ℕ × ℕ)). xs ++ flat_map (sequence_levels source brackets levels classes) seqs) (zip-at_places new s.places)
+    ∙ ap (λ (xs : List (ℕ × ℕ)). map (λ p. (p, level_at new p)) s.places ++ xs) (table_of_resolved source brackets levels classes new seqs h.1)
+    ∙ sym (map-append (λ p. (p, level_at new p)) s.places (flat_map (λ (r : RunSequence). r.places) seqs))
+
+level_in-map : (new ps : List ℕ) (p : ℕ) → 0 < count_by (λ q. eqb q p) ps → level_in (map (λ q. (q, level_at new q)) ps) p ≡ level_at new p
+level_in-map new [] p h = absurd (omega arith)
+level_in-map new (q ∷ ps) p h = elim (cases_Bool (eqb q p)) [
+  | inl here ↦
+      ap (λ (o : Option (ℕ × ℕ)). unwrap_or (option_map (λ d. d.1) o) 0) (cond-true (eqb q p) (Some (q, level_at new q)) (find (λ (d : ℕ × ℕ). eqb d.0 p) (map (λ r. (r, level_at new r)) ps)) here)
+      ∙ ap (level_at new) (eqb-true q p here)
+  | inr other ↦
+      let none : cond {A = ℕ} (eqb q p) 1 0 ≡ 0 = cond-false (eqb q p) 1 0 other in
+      ap (λ (o : Option (ℕ × ℕ)). unwrap_or (option_map (λ d. d.1) o) 0) (cond-false (eqb q p) (Some (q, level_at new q)) (find (λ (d : ℕ × ℕ). eqb d.0 p) (map (λ r. (r, level_at new r)) ps)) other)
+      ∙ level_in-map new ps p (omega (arith, sum_by-cons (λ r. cond (eqb r p) 1 0) q ps))
+]
+
+-- so the table says what the list has at each kept character
+pub level_in-resolved : (paragraph : ℕ) (source stored : List BidiClass) (brackets : List (Option BidiMatchedOpeningBracket)) (levels : List ℕ) (classes : List BidiClass) (new : List ℕ) (seqs : List RunSequence) (p : ℕ)
+    → IsPermutation (sequences paragraph stored levels) seqs → AreResolved source brackets levels classes new seqs → is_kept_at stored p ≡ true → p < length stored
+    → level_in (flat_map (sequence_levels source brackets levels classes) (sequences paragraph stored levels)) p ≡ level_at new p
+unfolding kept_places
+level_in-resolved paragraph source stored brackets levels classes new seqs p moved resolved kept within =
+    let entries = sequence_levels source brackets levels classes in
+    let here : 0 < count_by (λ q. eqb q p) (kept_places stored) = count_at-in (is_kept_at stored) p 0 (length stored) (omega arith) (omega arith) kept in
+    let first : count_by (λ q. eqb q p) (flat_map (λ (s : RunSequence). s.places) (sequences paragraph stored levels)) ≡ count_by (λ q. eqb q p) (kept_places stored)
+    = sum_by-IsPermutation (λ q. cond (eqb q p) 1 0) (kept_places stored) _ (IsPermutation-sequences stored levels paragraph) in
+    let second : count_by (λ q. eqb q p) (flat_map (λ (s : RunSequence). s.places) seqs) ≡ count_by (λ q. eqb q p) (flat_map (λ (s : RunSequence). s.places) (sequences paragraph stored levels)) =
+    sum_by-flat_map (λ q. cond (eqb q p) 1 0) (λ (s : RunSequence). s.places) seqs
+    ∙ sum_by-IsPermutation (λ (s : RunSequence). count_by (λ q. eqb q p) s.places) (sequences paragraph stored levels) seqs moved
+    ∙ sym (sum_by-flat_map (λ q. cond (eqb q p) 1 0) (λ (s : RunSequence). s.places) (sequences paragraph stored levels)) in
+    sym (level_in-order entries (few_entries source brackets levels classes) stored (sequences paragraph stored levels) seqs p (IsPermutation-sequences stored levels paragraph) moved)
+    ∙ ap (λ (t : List (ℕ × ℕ)). level_in t p) (table_of_resolved source brackets levels classes new seqs resolved)
+    ∙ level_in-map new (flat_map (λ (s : RunSequence). s.places) seqs) p (omega arith)
+
+filled_is : (table : List (ℕ × ℕ)) (new : List ℕ) (classes : List BidiClass) (p before : ℕ) → length new ≡ length classes
+    → ((k : ℕ) → k < length classes → is_removed (class_at classes k) ≡ false → level_at new k ≡ level_in table (p + k))
+    → (0 < length classes → is_removed (class_at classes 0) ≡ true → level_at new 0 ≡ before)
+    → ((k : ℕ) → suc k < length classes → is_removed (class_at classes (suc k)) ≡ true → level_at new (suc k) ≡ level_at new k)
+    → new ≡ filled_levels table p before classes
+unfolding filled_levels
+filled_is table [] [] p before long kept front removed = refl
+filled_is table [] (c ∷ classes) p before long kept front removed = absurd (omega arith)
+filled_is table (v ∷ new) [] p before long kept front removed = absurd (omega arith)
+filled_is table (v ∷ new) (c ∷ classes) p before long kept front removed =
+    ap (λ (x : ℕ). x ∷ new) here
+    ∙ ap (λ (xs : List ℕ). cond (is_removed c) before (level_in table p) ∷ xs)
+    (filled_is table new classes (p + 1) v (omega arith) (λ k below is. kept (suc k) (omega arith) is ∙ ap (level_in table) (omega arith)) (λ some is. removed 0 (omega arith) is) (λ k below is. removed (suc k) (omega arith) is)
+    ∙ ap (λ (x : ℕ). filled_levels table (p + 1) x classes) here)
+  where
+    here : v ≡ cond (is_removed c) before (level_in table p)
+    here = elim (cases_Bool (is_removed c)) [
+      | inl gone ↦ front (omega arith) gone ∙ sym (cond-true (is_removed c) before (level_in table p) gone)
+      | inr stays ↦ kept 0 (omega arith) stays ∙ ap (level_in table) (omega arith) ∙ sym (cond-false (is_removed c) before (level_in table p) stays)
+    ]
+
+-- a list is what fills the table, if it has the table's levels at kept characters, and at a removed one the level before it
+pub filled_levels-is : (table : List (ℕ × ℕ)) (new : List ℕ) (classes : List BidiClass) (before : ℕ) → length new ≡ length classes
+    → ((p : ℕ) → is_kept_at classes p ≡ true → p < length classes → level_in table p ≡ level_at new p)
+    → (0 < length classes → is_kept_at classes 0 ≡ false → level_at new 0 ≡ before)
+    → ((p : ℕ) → p + 1 < length classes → is_kept_at classes (p + 1) ≡ false → level_at new (p + 1) ≡ level_at new p)
+    → new ≡ filled_levels table 0 before classes
+filled_levels-is table new classes before long kept front removed =
+    filled_is table new classes 0 before long
+    (λ k below stays. sym (kept k (ap not stays) below) ∙ ap (level_in table) (omega arith))
+    (λ some gone. front some (ap not gone))
+    (λ k below gone. ap (level_at new) (suc_one k) ∙ removed k (omega arith) (ap (λ x. not (is_removed (class_at classes x))) (sym (suc_one k)) ∙ ap not gone))
+  where
+    suc_one : (k : ℕ) → suc k ≡ k + 1
+    suc_one k = omega arith
+
+-- the levels of a paragraph, as a pass leaves them: some places were resolved, in sequences of any order, and what X9 removed was filled
+pub levels_in-written : (paragraph : ℕ) (source : List BidiClass) (brackets : List (Option BidiMatchedOpeningBracket)) (stored : List BidiClass) (levels : List ℕ) (classes : List BidiClass) (seqs : List RunSequence) (resolved new : List ℕ)
+    → stored ≡ stored_classes source → levels ≡ explicit_levels paragraph stored → classes ≡ explicit_classes paragraph stored → IsPermutation (sequences paragraph stored levels) seqs → AreResolved source brackets levels classes resolved seqs
+    → length new ≡ length stored
+    → ((p : ℕ) → p < length stored → is_kept_at stored p ≡ true → level_at new p ≡ level_at resolved p)
+    → (0 < length stored → is_kept_at stored 0 ≡ false → level_at new 0 ≡ paragraph)
+    → ((p : ℕ) → p + 1 < length stored → is_kept_at stored (p + 1) ≡ false → level_at new (p + 1) ≡ level_at new p)
+    → new ≡ levels_in paragraph source brackets
+unfolding levels_in
+levels_in-written paragraph source brackets stored levels classes seqs resolved new is_stored is_levels is_classes moved done long kept front removed =
+    filled_levels-is (flat_map (sequence_levels source brackets levels classes) (sequences paragraph stored levels)) new stored paragraph long
+    (λ p stays within. level_in-resolved paragraph source stored brackets levels classes resolved seqs p moved done stays within ∙ sym (kept p within stays))
+    front removed
+    ∙ ap (λ (ls : List ℕ). filled stored ls classes) is_levels
+    ∙ ap (λ (cs : List BidiClass). filled stored (explicit_levels paragraph stored) cs) is_classes
+    ∙ ap (λ (cs : List BidiClass). filled cs (explicit_levels paragraph cs) (explicit_classes paragraph cs)) is_stored
+  where
+    filled : List BidiClass → List ℕ → List BidiClass → List ℕ
+    filled st ls cs = filled_levels (flat_map (sequence_levels source brackets ls cs) (sequences paragraph st ls)) 0 paragraph st

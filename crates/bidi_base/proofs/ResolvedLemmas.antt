@@ -1,0 +1,273 @@
+-- What the levels of sequences are, once some of them are resolved and once all are: bounds, and what they do not depend on.
+use Rattle.std.proofs.Common.{◌≡◌, ℕ, zero, suc, ◌+◌, ◌<◌, ◌≤◌, true, false, not, cond, eqb, List, [], ◌∷◌, ◌++◌, length, get_or, map, count_by, find, Option, Some, None, unwrap_or, option_map, refl, sym, ap, subst, ◌∙◌, arith, inl, inr, le_refl}
+use Rattle.std.specs.Prelude.{flat_map, zip}
+use Rattle.std.specs.List.{All}
+use Rattle.std.specs.Option.{option_map_or}
+use Rattle.std.proofs.lemmas.Bool.{cases_Bool, cond-true, cond-false, cond_both, both_ways}
+use Rattle.std.proofs.lemmas.List.{length-map, map-append}
+use Rattle.std.proofs.lemmas.List.Sums.{sum_by-cons, sum_by-append}
+use Rattle.std.proofs.lemmas.List.FromFn.{length-map-range_with_len}
+use Rattle.bidi_base.specs.declared.char_data.BidiClass.{BidiClass}
+use Rattle.bidi_base.specs.declared.char_data.BidiClass.TheVariants.{L, R, EN, AN, BN}
+use Rattle.bidi_base.specs.declared.data_source.BidiMatchedOpeningBracket.{BidiMatchedOpeningBracket}
+use Rattle.bidi_base.specs.Classes.{is_removed}
+use Rattle.bidi_base.specs.Levels.{is_odd, direction_of}
+use Rattle.bidi_base.specs.Places.{class_at, at_places, first_or}
+use Rattle.bidi_base.specs.Source.{Source}
+use Rattle.bidi_base.specs.Isolates.{paragraph_level, stored_classes}
+use Rattle.bidi_base.specs.Explicit.{explicit_levels, explicit_classes}
+use Rattle.bidi_base.specs.Sequences.{RunSequence, is_kept_at, level_at, sequences}
+use Rattle.bidi_base.specs.Weak.{w1, w2, w3, w4, w5, w6, weak_classes}
+use Rattle.bidi_base.specs.Brackets.{bracket_pairs}
+use Rattle.bidi_base.specs.Neutral.{goes_with_pair, with_pair, pair_direction, n0_pair, n0, n1_n2, neutral_classes}
+use Rattle.bidi_base.specs.Implicit.{added_at_even, added_at_odd, implicit_level, implicit_levels}
+use Rattle.bidi_base.specs.Stored.{resolved_levels, sequence_levels, AreResolved, level_in, filled_levels, levels_in, stored_levels}
+use Rattle.bidi_base.proofs.PlacesLemmas.{length-in_context}
+use Rattle.bidi_base.proofs.StoredSteps.{length-stored_classes}
+use Rattle.bidi_base.proofs.SequencePlaces.{times_in, places_of, sequences-kept, sequences-all, sequence-kept, sequence-not_empty}
+use Rattle.bidi_base.proofs.StoredLemmas.{IsExplicitIn, explicit_levels-IsExplicitIn, length-at_places, at_places-agree, times_in-at, is_kept_at-stored_classes}
+
+-- ---- one sequence after another is resolved
+
+module _ (source : List BidiClass) (brackets : List (Option BidiMatchedOpeningBracket)) (levels : List ℕ) (classes : List BidiClass) where
+  -- what is written elsewhere leaves them as they are
+  pub AreResolved-kept : (new other : List ℕ) (seqs : List RunSequence) → ((p : ℕ) → 0 < times_in (places_of seqs) p → level_at other p ≡ level_at new p)
+      → AreResolved source brackets levels classes new seqs → AreResolved source brackets levels classes other seqs
+  AreResolved-kept new other [] agree h = h
+  AreResolved-kept new other (s ∷ seqs) agree h =
+      let joined : (p : ℕ) → times_in (places_of (s ∷ seqs)) p ≡ times_in s.places p + times_in (places_of seqs) p = λ p. sum_by-append (λ q. cond (eqb q p) 1 0) s.places (places_of seqs) in (
+        at_places-agree 0 other new s.places (λ p there. agree p (omega (arith, joined p))) ∙ h.0,
+        AreResolved-kept new other seqs (λ p there. agree p (omega (arith, joined p))) h.1,
+      )
+
+  pub AreResolved-push : (new : List ℕ) (seqs : List RunSequence) (s : RunSequence) → AreResolved source brackets levels classes new seqs → at_places 0 new s.places ≡ resolved_levels source brackets levels classes s
+      → AreResolved source brackets levels classes new (seqs ++ s ∷ [])
+  AreResolved-push new [] s h e = (e, tt)
+  AreResolved-push new (r ∷ seqs) s h e = (h.0, AreResolved-push new seqs s h.1 e)
+
+-- ---- lengths
+
+length-weak_classes : (sos : BidiClass) (classes : List BidiClass) → length (weak_classes sos classes) ≡ length classes
+unfolding weak_classes
+length-weak_classes sos classes =
+    length-in_context _ [] (w6 (w5 (w4 (w3 (w2 sos (w1 sos classes))))))
+    ∙ length-map (w5 (w4 (w3 (w2 sos (w1 sos classes))))) _
+    ∙ length-in_context _ [] (w4 (w3 (w2 sos (w1 sos classes))))
+    ∙ length-in_context _ [] (w3 (w2 sos (w1 sos classes)))
+    ∙ length-map (w2 sos (w1 sos classes)) _
+    ∙ length-in_context _ [] (w1 sos classes)
+    ∙ length-in_context _ [] classes
+
+length-n0_pair : (e sos : BidiClass) (source classes : List BidiClass) (pair : ℕ × ℕ) → length (n0_pair e sos source classes pair) ≡ length classes
+unfolding n0_pair with_pair
+length-n0_pair e sos source classes pair = by_direction (pair_direction e sos classes pair)
+  where
+    by_direction : (o : Option BidiClass) → length (option_map_or (with_pair source pair classes) o classes) ≡ length classes
+    by_direction None = refl
+    by_direction (Some d) = length-map-range_with_len (λ k. cond (goes_with_pair source pair k) d (class_at classes k)) 0 (length classes)
+
+length-n0 : (e sos : BidiClass) (source : List BidiClass) (pairs : List (ℕ × ℕ)) (classes : List BidiClass) → length (n0 e sos source pairs classes) ≡ length classes
+unfolding n0
+length-n0 e sos source [] classes = refl
+length-n0 e sos source (pair ∷ pairs) classes = length-n0 e sos source pairs (n0_pair e sos source classes pair) ∙ length-n0_pair e sos source classes pair
+
+pub length-resolved_levels : (source : List BidiClass) (brackets : List (Option BidiMatchedOpeningBracket)) (levels : List ℕ) (classes : List BidiClass) (s : RunSequence) → length (resolved_levels source brackets levels classes s) ≡ length s.places
+unfolding resolved_levels neutral_classes
+length-resolved_levels source brackets levels classes s =
+    let level : ℕ = level_at levels (first_or 0 s.places) in
+    let weak : List BidiClass = weak_classes s.sos (at_places L classes s.places) in
+    let e : BidiClass = direction_of level in
+    let first : List BidiClass = n0 e s.sos (at_places L source s.places) (bracket_pairs weak (at_places None brackets s.places)) weak in
+    length-map (n1_n2 e s.sos s.eos first) (implicit_level level)
+    ∙ length-in_context _ [] first
+    ∙ length-n0 e s.sos (at_places L source s.places) (bracket_pairs weak (at_places None brackets s.places)) weak
+    ∙ length-weak_classes s.sos (at_places L classes s.places)
+    ∙ length-at_places L classes s.places
+
+length-filled_levels : (table : List (ℕ × ℕ)) (p before : ℕ) (classes : List BidiClass) → length (filled_levels table p before classes) ≡ length classes
+unfolding filled_levels
+length-filled_levels table p before [] = refl
+length-filled_levels table p before (c ∷ classes) = ap suc (length-filled_levels table (p + 1) (cond (is_removed c) before (level_in table p)) classes)
+
+pub length-levels_in : (paragraph : ℕ) (source : List BidiClass) (brackets : List (Option BidiMatchedOpeningBracket)) → length (levels_in paragraph source brackets) ≡ length source
+unfolding levels_in
+length-levels_in paragraph source brackets = length-filled_levels _ 0 paragraph (stored_classes source) ∙ length-stored_classes source
+
+-- ---- bounds
+
+-- a stored level of a paragraph of this level
+pub record IsStoredIn (paragraph level : ℕ) : Type 0 where
+  pub above : paragraph ≤ level
+  pub below : level ≤ 126
+
+added_at_even-few : (c : BidiClass) → added_at_even c ≤ 2
+added_at_even-few R = omega arith
+added_at_even-few AN = le_refl 2
+added_at_even-few EN = le_refl 2
+added_at_even-few _ = omega arith
+
+added_at_odd-few : (c : BidiClass) → added_at_odd c ≤ 1
+added_at_odd-few L = le_refl 1
+added_at_odd-few EN = le_refl 1
+added_at_odd-few AN = le_refl 1
+added_at_odd-few _ = omega arith
+
+odd_at_most : (level : ℕ) → is_odd level ≡ false → level ≤ 125 → level ≤ 124
+odd_at_most level even fits = grind arith
+
+implicit_level-IsStoredIn : (paragraph level : ℕ) (c : BidiClass) → IsExplicitIn paragraph level → IsStoredIn paragraph (implicit_level level c)
+implicit_level-IsStoredIn paragraph level c h = elim (cases_Bool (is_odd level)) [
+  | inl odd ↦
+      let added : cond (is_odd level) (added_at_odd c) (added_at_even c) ≡ added_at_odd c = cond-true (is_odd level) (added_at_odd c) (added_at_even c) odd in
+      record { above = omega (arith, h.above); below = omega (arith, h.below, added_at_odd-few c) }
+  | inr even ↦
+      let added : cond (is_odd level) (added_at_odd c) (added_at_even c) ≡ added_at_even c = cond-false (is_odd level) (added_at_odd c) (added_at_even c) even in
+      record { above = omega (arith, h.above); below = omega (arith, odd_at_most level even h.below, added_at_even-few c) }
+]
+
+-- each element is so
+abbrev AllOf : {X : Type 0} → (X → Type 0) → List X → Type 0
+AllOf P [] = Unit {0}
+AllOf P (x ∷ xs) = P x × AllOf P xs
+
+AllOf-append : {X : Type 0} (P : X → Type 0) (xs ys : List X) → AllOf P xs → AllOf P ys → AllOf P (xs ++ ys)
+AllOf-append P [] ys h k = k
+AllOf-append P (x ∷ xs) ys h k = (h.0, AllOf-append P xs ys h.1 k)
+
+AllOf-flat_map : {X Y : Type 0} (P : Y → Type 0) (f : X → List Y) (xs : List X) → ((k : ℕ) (d : X) → k < length xs → AllOf P (f (get_or xs k d))) → AllOf P (flat_map f xs)
+AllOf-flat_map P f [] each = tt
+AllOf-flat_map {X} P f (x ∷ xs) each = AllOf-append P (f x) (flat_map f xs) (each 0 x (omega arith)) (AllOf-flat_map P f xs (λ k d h. each (suc k) d (omega arith)))
+
+AllOf-All : {X : Type 0} (P : X → Type 0) (xs : List X) → AllOf P xs → All P xs
+AllOf-All P [] h k d within = absurd (omega arith)
+AllOf-All P (x ∷ xs) h zero d within = h.0
+AllOf-All P (x ∷ xs) h (suc k) d within = AllOf-All P xs h.1 k d (omega arith)
+
+AllOf-zip : (P : ℕ → Type 0) (ps vs : List ℕ) → AllOf P vs → AllOf (λ (e : ℕ × ℕ). P e.1) (zip ps vs)
+AllOf-zip P [] vs h = tt
+AllOf-zip P (p ∷ ps) [] h = tt
+AllOf-zip P (p ∷ ps) (v ∷ vs) h = (h.0, AllOf-zip P ps vs h.1)
+
+times_in-zip : (p : ℕ) (ps vs : List ℕ) → length vs ≡ length ps → count_by (λ (e : ℕ × ℕ). eqb e.0 p) (zip ps vs) ≡ times_in ps p
+times_in-zip p [] vs long = refl
+times_in-zip p (q ∷ ps) [] long = absurd (omega arith)
+times_in-zip p (q ∷ ps) (v ∷ vs) long =
+    omega (arith, sum_by-cons (λ (e : ℕ × ℕ). cond (eqb e.0 p) 1 0) (q, v) (zip ps vs), sum_by-cons (λ r. cond (eqb r p) 1 0) q ps, times_in-zip p ps vs (omega arith))
+
+-- what a table says of a place that has an entry is so, if all its levels are
+level_in-AllOf : (P : ℕ → Type 0) (table : List (ℕ × ℕ)) (p : ℕ) → AllOf (λ (e : ℕ × ℕ). P e.1) table → 0 < count_by (λ (e : ℕ × ℕ). eqb e.0 p) table → P (level_in table p)
+level_in-AllOf P [] p h there = absurd (omega arith)
+level_in-AllOf P (e ∷ table) p h there = elim (cases_Bool (eqb e.0 p)) [
+  | inl here ↦
+      subst (λ (o : Option (ℕ × ℕ)). P (unwrap_or (option_map (λ d. d.1) o) 0)) (sym (cond-true (eqb e.0 p) (Some e) (find (λ (d : ℕ × ℕ). eqb d.0 p) table) here)) h.0
+  | inr other ↦
+      let none : cond {A = ℕ} (eqb e.0 p) 1 0 ≡ 0 = cond-false (eqb e.0 p) 1 0 other in
+      subst (λ (o : Option (ℕ × ℕ)). P (unwrap_or (option_map (λ d. d.1) o) 0)) (sym (cond-false (eqb e.0 p) (Some e) (find (λ (d : ℕ × ℕ). eqb d.0 p) table) other))
+      (level_in-AllOf P table p h.1 (omega (arith, sum_by-cons (λ (d : ℕ × ℕ). cond (eqb d.0 p) 1 0) e table)))
+]
+
+AllOf-filled_levels : (P : ℕ → Type 0) (table : List (ℕ × ℕ)) (p before : ℕ) (classes : List BidiClass) → P before → ((k : ℕ) → k < length classes → is_kept_at classes k ≡ true → P (level_in table (p + k)))
+    → AllOf P (filled_levels table p before classes)
+unfolding filled_levels
+AllOf-filled_levels P table p before [] h kept = tt
+AllOf-filled_levels P table p before (c ∷ classes) h kept =
+    let here : P (cond (is_removed c) before (level_in table p)) =
+    cond_both (is_removed c) before (level_in table p) P (λ e. h) (λ e. subst (λ (q : ℕ). P (level_in table q)) (let none : p + 0 ≡ p = omega arith in none) (kept 0 (omega arith) (ap not e))) in (
+      here,
+      AllOf-filled_levels P table (p + 1) (cond (is_removed c) before (level_in table p)) classes here
+          (λ k within stays. subst (λ (q : ℕ). P (level_in table q)) (let next : p + suc k ≡ p + 1 + k = omega arith in next) (kept (suc k) (omega arith) stays)),
+    )
+
+first_in : (ps : List ℕ) → 0 < length ps → 0 < times_in ps (first_or 0 ps)
+first_in [] some = absurd (omega arith)
+first_in (p ∷ ps) some = times_in-at (p ∷ ps) 0 0 (omega arith)
+
+AllOf-implicit_levels : (paragraph level : ℕ) (classes : List BidiClass) → IsExplicitIn paragraph level → AllOf (IsStoredIn paragraph) (implicit_levels level classes)
+AllOf-implicit_levels paragraph level [] h = tt
+AllOf-implicit_levels paragraph level (c ∷ classes) h = (implicit_level-IsStoredIn paragraph level c h, AllOf-implicit_levels paragraph level classes h)
+
+-- the level of the k-th sequence
+pub sequence-level : (paragraph : ℕ) (classes : List BidiClass) (k : ℕ) (d : RunSequence) → paragraph ≤ 125 → k < length (sequences paragraph classes (explicit_levels paragraph classes))
+    → IsExplicitIn paragraph (level_at (explicit_levels paragraph classes) (first_or 0 (get_or (sequences paragraph classes (explicit_levels paragraph classes)) k d).places))
+sequence-level paragraph classes k d fits within =
+    let levels = explicit_levels paragraph classes in
+    let places : List ℕ = (get_or (sequences paragraph classes levels) k d).places in
+    explicit_levels-IsExplicitIn paragraph classes (first_or 0 places) fits (sequence-kept paragraph classes levels k d within (first_or 0 places) (first_in places (sequence-not_empty paragraph classes levels k d within))).1
+
+-- each stored level is at least the paragraph's, and at most the greatest
+pub levels_in-IsStoredIn : (paragraph : ℕ) (source : List BidiClass) (brackets : List (Option BidiMatchedOpeningBracket)) → paragraph ≤ 125 → All (IsStoredIn paragraph) (levels_in paragraph source brackets)
+unfolding levels_in sequence_levels resolved_levels
+levels_in-IsStoredIn paragraph source brackets fits =
+    let stored = stored_classes source in
+    let levels = explicit_levels paragraph stored in
+    let classes = explicit_classes paragraph stored in
+    let seqs = sequences paragraph stored levels in
+    let table : List (ℕ × ℕ) = flat_map (sequence_levels source brackets levels classes) seqs in
+    let all : AllOf (λ (e : ℕ × ℕ). IsStoredIn paragraph e.1) table =
+    AllOf-flat_map (λ (e : ℕ × ℕ). IsStoredIn paragraph e.1) (sequence_levels source brackets levels classes) seqs
+    (λ k d within. AllOf-zip (IsStoredIn paragraph) (get_or seqs k d).places (resolved_levels source brackets levels classes (get_or seqs k d)) (AllOf-implicit_levels paragraph _ _ (sequence-level paragraph stored k d fits within))) in
+    AllOf-All (IsStoredIn paragraph) (filled_levels table 0 paragraph stored)
+    (AllOf-filled_levels (IsStoredIn paragraph) table 0 paragraph stored (record { above = le_refl _; below = omega arith })
+    (λ k within kept. subst (λ (p : ℕ). IsStoredIn paragraph (level_in table p)) (let none : k ≡ 0 + k = omega arith in none)
+    (level_in-AllOf (IsStoredIn paragraph) table k all (omega (arith, counted seqs k, sequences-all paragraph stored levels k kept within)))))
+  where
+    counted : (seqs : List RunSequence) (p : ℕ)
+        → count_by (λ (e : ℕ × ℕ). eqb e.0 p) (flat_map (sequence_levels source brackets (explicit_levels paragraph (stored_classes source)) (explicit_classes paragraph (stored_classes source))) seqs) ≡ times_in (places_of seqs) p
+    counted [] p = refl
+    counted (s ∷ seqs) p =
+        let stored = stored_classes source in
+        let entries : RunSequence → List (ℕ × ℕ) = sequence_levels source brackets (explicit_levels paragraph stored) (explicit_classes paragraph stored) in
+        sum_by-append (λ (e : ℕ × ℕ). cond (eqb e.0 p) 1 0) (entries s) (flat_map entries seqs)
+        ∙ ap (λ (n : ℕ). n + count_by (λ (e : ℕ × ℕ). eqb e.0 p) (flat_map entries seqs)) (times_in-zip p s.places (resolved_levels source brackets (explicit_levels paragraph stored) (explicit_classes paragraph stored) s) (length-resolved_levels source brackets (explicit_levels paragraph stored) (explicit_classes paragraph stored) s))
+        ∙ ap (λ (n : ℕ). times_in s.places p + n) (counted seqs p)
+        ∙ sym (sum_by-append (λ q. cond (eqb q p) 1 0) s.places (places_of seqs))
+
+-- ---- brackets of what X9 removes do not count
+
+sequence_levels-agree : (source : List BidiClass) (brackets other : List (Option BidiMatchedOpeningBracket)) (levels : List ℕ) (classes : List BidiClass) (seqs : List RunSequence)
+    → ((p : ℕ) → 0 < times_in (places_of seqs) p → get_or brackets p None ≡ get_or other p None)
+    → flat_map (sequence_levels source brackets levels classes) seqs ≡ flat_map (sequence_levels source other levels classes) seqs
+unfolding sequence_levels resolved_levels
+sequence_levels-agree source brackets other levels classes [] agree = refl
+sequence_levels-agree source brackets other levels classes (s ∷ seqs) agree =
+    let joined : (p : ℕ) → times_in (places_of (s ∷ seqs)) p ≡ times_in s.places p + times_in (places_of seqs) p = λ p. sum_by-append (λ q. cond (eqb q p) 1 0) s.places (places_of seqs) in
+    let level : ℕ = level_at levels (first_or 0 s.places) in
+    let weak : List BidiClass = weak_classes s.sos (at_places L classes s.places) in
+    ap (λ (bs : List (Option BidiMatchedOpeningBracket)). zip s.places (implicit_levels level (neutral_classes level s.sos s.eos (at_places L source s.places) bs weak)) ++ flat_map (sequence_levels source brackets levels classes) seqs)
+    (at_places-agree None brackets other s.places (λ p there. agree p (omega (arith, joined p))))
+    ∙ ap (λ (es : List (ℕ × ℕ)). sequence_levels source other levels classes s ++ es) (sequence_levels-agree source brackets other levels classes seqs (λ p there. agree p (omega (arith, joined p))))
+
+pub levels_in-agree : (paragraph : ℕ) (source : List BidiClass) (brackets other : List (Option BidiMatchedOpeningBracket)) → ((p : ℕ) → p < length source → is_kept_at source p ≡ true → get_or brackets p None ≡ get_or other p None)
+    → levels_in paragraph source brackets ≡ levels_in paragraph source other
+unfolding levels_in
+levels_in-agree paragraph source brackets other agree =
+    let stored = stored_classes source in
+    let levels = explicit_levels paragraph stored in
+    ap (λ (table : List (ℕ × ℕ)). filled_levels table 0 paragraph stored)
+    (sequence_levels-agree source brackets other levels (explicit_classes paragraph stored) (sequences paragraph stored levels)
+    (λ p there.
+    let h = sequences-kept paragraph stored levels p there in
+    let within : p < length source = omega (arith, h.1, length-stored_classes source) in
+    agree p within (sym (is_kept_at-stored_classes source p within) ∙ h.0)))
+
+other_there : {X : Type 0} (f : ℕ → X) (front back : List ℕ) (c d : ℕ) (p : ℕ) (e : X) → (p ≡ length front → ⊥) → get_or (map f (front ++ c ∷ back)) p e ≡ get_or (map f (front ++ d ∷ back)) p e
+other_there f [] back c d zero e apart = absurd (apart refl)
+other_there f [] back c d (suc p) e apart = refl
+other_there f (x ∷ front) back c d zero e apart = refl
+other_there f (x ∷ front) back c d (suc p) e apart = other_there f front back c d p e (λ same. apart (ap suc same))
+
+found_there : {X : Type 0} (f : ℕ → X) (front back : List ℕ) (c : ℕ) (e : X) → get_or (map f (front ++ c ∷ back)) (length front) e ≡ f c
+found_there f [] back c e = refl
+found_there f (x ∷ front) back c e = found_there f front back c e
+
+-- a character of class BN may be another of that class
+pub stored_levels-BN : (source : Source) (base : Option ℕ) (front back : List ℕ) (c d : ℕ) → source.class_of c ≡ BN → source.class_of d ≡ BN → stored_levels source base (front ++ c ∷ back) ≡ stored_levels source base (front ++ d ∷ back)
+unfolding stored_levels
+stored_levels-BN source base front back c d first second =
+    let classes : map source.class_of (front ++ c ∷ back) ≡ map source.class_of (front ++ d ∷ back) =
+    map-append source.class_of front (c ∷ back) ∙ ap (λ (x : BidiClass). map source.class_of front ++ x ∷ map source.class_of back) (first ∙ sym second) ∙ sym (map-append source.class_of front (d ∷ back)) in
+    ap (λ (cs : List BidiClass). levels_in (paragraph_level base cs) cs (map source.bracket_of (front ++ c ∷ back))) classes
+    ∙ levels_in-agree (paragraph_level base (map source.class_of (front ++ d ∷ back))) (map source.class_of (front ++ d ∷ back)) (map source.bracket_of (front ++ c ∷ back)) (map source.bracket_of (front ++ d ∷ back))
+    (λ p within kept. other_there source.bracket_of front back c d p None (λ same.
+    let removed : is_kept_at (map source.class_of (front ++ d ∷ back)) p ≡ false = ap (is_kept_at (map source.class_of (front ++ d ∷ back))) same ∙ ap (λ (x : BidiClass). not (is_removed x)) (found_there source.class_of front back d L ∙ second) in
+    both_ways (is_kept_at (map source.class_of (front ++ d ∷ back)) p) removed kept))

@@ -1,0 +1,118 @@
+-- Where the characters of sequences stand: each is kept, no two sequences share one, and none stands twice. What their levels and ends are.
+use Rattle.std.proofs.Common.{◌≡◌, ℕ, zero, suc, ◌+◌, ◌<◌, ◌≤◌, Bool, true, cond, eqb, List, [], ◌∷◌, length, get_or, take, count_by, Option, Some, refl, sym, ap, subst, ◌∙◌, arith, inl, inr, eqb-true}
+use Rattle.std.specs.Prelude.{filter, flat_map}
+use Rattle.std.specs.List.{range_with_len}
+use Rattle.std.proofs.lemmas.Bool.{cases_Bool, cond-true, cond-false, cond_both}
+use Rattle.std.proofs.lemmas.List.{length-map, get_or-map}
+use Rattle.std.proofs.lemmas.List.Sums.{sum_by-cons, sum_by-append}
+use Rattle.std.proofs.lemmas.List.Sorted.{sum_by-IsPermutation}
+use Rattle.bidi_base.specs.declared.char_data.BidiClass.{BidiClass}
+use Rattle.bidi_base.specs.declared.char_data.BidiClass.TheVariants.{L, R}
+use Rattle.bidi_base.specs.Classes.{is_l_or_r}
+use Rattle.bidi_base.specs.Levels.{is_odd, direction_of}
+use Rattle.bidi_base.specs.Places.{chain}
+use Rattle.bidi_base.specs.Sequences.{RunSequence, is_kept_at, kept_places, successor, is_first, start_class, end_class, sequence_from, sequences}
+use Rattle.bidi_base.proofs.SequencesLemmas.{IsPermutation-sequences}
+use Rattle.bidi_base.proofs.NeutralLemmas.{direction_of-l_or_r}
+use Rattle.bidi_base.proofs.LevelTableLemmas.{count_at-range, count_at-in}
+
+-- how often p stands in a list of places
+abbrev pub times_in : List ℕ → ℕ → ℕ
+times_in ps p = count_by (λ q. eqb q p) ps
+
+-- what stands in a part of a range that was kept
+times_in-kept : (keep : ℕ → Bool) (p low m : ℕ) → 0 < times_in (filter keep (range_with_len low m)) p → (keep p ≡ true) × (p < low + m)
+times_in-kept keep p low zero there = absurd (omega arith)
+times_in-kept keep p low (suc m) there = elim (cases_Bool (keep low)) [
+  | inl kept ↦
+      let whole : filter keep (range_with_len low (suc m)) ≡ low ∷ filter keep (range_with_len (low + 1) m) = cond-true (keep low) _ _ kept in
+      elim (cases_Bool (eqb low p)) [
+        | inl here ↦
+            let same : low ≡ p = eqb-true low p here in
+            (subst (λ (x : ℕ). keep x ≡ true) same kept, omega arith)
+        | inr other ↦
+            let none : cond {A = ℕ} (eqb low p) 1 0 ≡ 0 = cond-false (eqb low p) 1 0 other in
+            let rest : 0 < times_in (filter keep (range_with_len (low + 1) m)) p = omega (arith, ap (λ (qs : List ℕ). times_in qs p) whole, sum_by-cons (λ q. cond (eqb q p) 1 0) low (filter keep (range_with_len (low + 1) m))) in
+            let later = times_in-kept keep p (low + 1) m rest in
+            (later.0, omega (arith, later.1))
+      ]
+  | inr removed ↦
+      let whole : filter keep (range_with_len low (suc m)) ≡ filter keep (range_with_len (low + 1) m) = cond-false (keep low) _ _ removed in
+      let later = times_in-kept keep p (low + 1) m (subst (λ (qs : List ℕ). 0 < times_in qs p) whole there) in
+      (later.0, omega (arith, later.1))
+]
+
+-- in joined lists a place stands as often as in the parts: in some first ones, and in the one after them
+pub times_in-parts : {X : Type 0} (f : X → List ℕ) (xs : List X) (k : ℕ) (d : X) (p : ℕ) → k < length xs
+    → times_in (flat_map f (take k xs)) p + times_in (f (get_or xs k d)) p ≤ times_in (flat_map f xs) p
+times_in-parts f [] k d p within = absurd (omega arith)
+times_in-parts f (x ∷ xs) zero d p within = omega (arith, sum_by-append (λ q. cond (eqb q p) 1 0) (f x) (flat_map f xs))
+times_in-parts f (x ∷ xs) (suc k) d p within =
+    omega (arith, times_in-parts f xs k d p (omega arith), sum_by-append (λ q. cond (eqb q p) 1 0) (f x) (flat_map f (take k xs)), sum_by-append (λ q. cond (eqb q p) 1 0) (f x) (flat_map f xs))
+
+-- the places of some sequences
+abbrev pub places_of : List RunSequence → List ℕ
+places_of seqs = flat_map (λ (s : RunSequence). s.places) seqs
+
+chain_begun : (next : ℕ → Option ℕ) (n first : ℕ) → 0 < n → 0 < length (chain next n (Some first))
+chain_begun next zero first some = absurd (omega arith)
+chain_begun next (suc n) first some = omega arith
+
+some_classes : (paragraph : ℕ) (classes : List BidiClass) (levels : List ℕ) (k : ℕ) → k < length (sequences paragraph classes levels) → 0 < length classes
+unfolding sequences kept_places
+some_classes paragraph [] levels k within = absurd (omega arith)
+some_classes paragraph (c ∷ classes) levels k within = omega arith
+
+module _ (paragraph : ℕ) (classes : List BidiClass) (levels : List ℕ) where
+  times_in-sequences : (p : ℕ) → times_in (places_of (sequences paragraph classes levels)) p ≡ times_in (kept_places classes) p
+  times_in-sequences p = sum_by-IsPermutation (λ q. cond (eqb q p) 1 0) (kept_places classes) (places_of (sequences paragraph classes levels)) (IsPermutation-sequences classes levels paragraph)
+
+  -- no place stands in sequences twice
+  pub sequences-once : (p : ℕ) → times_in (places_of (sequences paragraph classes levels)) p ≤ 1
+  unfolding kept_places
+  sequences-once p = omega (arith, times_in-sequences p, count_at-range (is_kept_at classes) p 0 (length classes))
+
+  -- and each is that of a kept character
+  pub sequences-kept : (p : ℕ) → 0 < times_in (places_of (sequences paragraph classes levels)) p → (is_kept_at classes p ≡ true) × (p < length classes)
+  unfolding kept_places
+  sequences-kept p there =
+      let found = times_in-kept (is_kept_at classes) p 0 (length classes) (omega (arith, times_in-sequences p)) in
+      (found.0, omega (arith, found.1))
+
+  -- each kept character stands in one
+  pub sequences-all : (p : ℕ) → is_kept_at classes p ≡ true → p < length classes → 0 < times_in (places_of (sequences paragraph classes levels)) p
+  unfolding kept_places
+  sequences-all p kept within = omega (arith, times_in-sequences p, count_at-in (is_kept_at classes) p 0 (length classes) (omega arith) (omega arith) kept)
+
+  -- of the k-th sequence
+  module _ (k : ℕ) (d : RunSequence) (within : k < length (sequences paragraph classes levels)) where
+    pub sequence-kept : (p : ℕ) → 0 < times_in (get_or (sequences paragraph classes levels) k d).places p → (is_kept_at classes p ≡ true) × (p < length classes)
+    sequence-kept p there =
+        sequences-kept p (omega (arith, times_in-parts (λ (s : RunSequence). s.places) (sequences paragraph classes levels) k d p within))
+
+    pub sequence-once : (p : ℕ) → times_in (get_or (sequences paragraph classes levels) k d).places p ≤ 1
+    sequence-once p = omega (arith, sequences-once p, times_in-parts (λ (s : RunSequence). s.places) (sequences paragraph classes levels) k d p within)
+
+    -- a place of it stands in no earlier one
+    pub sequence-apart : (p : ℕ) → 0 < times_in (places_of (take k (sequences paragraph classes levels))) p → times_in (get_or (sequences paragraph classes levels) k d).places p ≡ 0
+    sequence-apart p there = omega (arith, sequences-once p, times_in-parts (λ (s : RunSequence). s.places) (sequences paragraph classes levels) k d p within)
+
+    begun : (first : ℕ) × (get_or (sequences paragraph classes levels) k d ≡ sequence_from paragraph classes levels first)
+    unfolding sequences
+    begun =
+        let starts : List ℕ = filter (is_first classes levels) (kept_places classes) in
+        let inside : k < length starts = omega (arith, within, length-map starts (sequence_from paragraph classes levels)) in
+        (get_or starts k 0, get_or-map (sequence_from paragraph classes levels) starts k 0 d inside)
+
+    pub sequence-not_empty : 0 < length (get_or (sequences paragraph classes levels) k d).places
+    unfolding sequence_from
+    sequence-not_empty = subst (λ (s : RunSequence). 0 < length s.places) (sym begun.1) (chain_begun (successor classes levels) (length classes) begun.0 (some_classes paragraph classes levels k within))
+
+    -- what stands before its first character and after its last
+    pub sequence-sos : is_l_or_r (get_or (sequences paragraph classes levels) k d).sos ≡ true
+    unfolding sequence_from start_class
+    sequence-sos = ap (λ (s : RunSequence). is_l_or_r s.sos) begun.1 ∙ direction_of-l_or_r _
+
+    pub sequence-eos : is_l_or_r (get_or (sequences paragraph classes levels) k d).eos ≡ true
+    unfolding sequence_from end_class
+    sequence-eos = ap (λ (s : RunSequence). is_l_or_r s.eos) begun.1 ∙ direction_of-l_or_r _

@@ -1,0 +1,123 @@
+-- What the rules of a sequence are given: the classes and levels of a paragraph at the places of its sequences.
+use Rattle.std.proofs.Common.{◌≡◌, ℕ, zero, suc, ◌<◌, ◌≤◌, Bool, true, ◌||◌, cond, eqb, List, [], ◌∷◌, ◌++◌, length, get_or, Option, Some, unwrap_or, refl, sym, ap, subst, ◌∙◌, arith, eq-eqb, leb}
+use Rattle.std.specs.List.{list_all}
+use Rattle.std.proofs.lemmas.Bool.{cond-true, cond_both, and_from}
+use Rattle.std.proofs.lemmas.List.Sums.{sum_by-cons}
+use Rattle.std.proofs.lemmas.List.FromFn.{get_or-map-range_with_len, length-map-range_with_len}
+use Rattle.bidi_base.specs.declared.char_data.BidiClass.{BidiClass}
+use Rattle.bidi_base.specs.declared.char_data.BidiClass.TheVariants.{L, R, AL, LRO, RLO, FSI}
+use Rattle.bidi_base.specs.Classes.{is_kept, is_removed, is_paragraph_separator}
+use Rattle.bidi_base.specs.Places.{class_at, at_places}
+use Rattle.bidi_base.specs.Isolates.{resolved_fsi, deciding_class, isolated_classes, stored_class, stored_classes}
+use Rattle.bidi_base.specs.Explicit.{Status, override_of, asked_level, status_inside, status_at, explicit_level, explicit_class, explicit_levels, explicit_classes}
+use Rattle.bidi_base.specs.Sequences.{is_kept_at, level_at}
+use Rattle.bidi_base.proofs.ExplicitLemmas.{explicit_level-IsWithin}
+use Rattle.bidi_base.proofs.SequencePlaces.{times_in}
+
+-- ---- stored classes: an FSI is kept, whatever it becomes
+
+resolved_fsi-kept : (o : Option BidiClass) → is_kept (resolved_fsi o) ≡ true
+resolved_fsi-kept (Some R) = refl
+resolved_fsi-kept (Some AL) = refl
+resolved_fsi-kept (Some L) = refl
+resolved_fsi-kept _ = refl
+
+stored_class-kept : (classes : List BidiClass) (q : ℕ) (c : BidiClass) → is_kept (stored_class classes q c) ≡ is_kept c
+stored_class-kept classes q FSI = resolved_fsi-kept (deciding_class (isolated_classes classes q))
+stored_class-kept classes q _ = refl
+
+pub class_at-stored_classes : (classes : List BidiClass) (p : ℕ) → p < length classes → class_at (stored_classes classes) p ≡ stored_class classes p (class_at classes p)
+unfolding stored_classes
+class_at-stored_classes classes p within = get_or-map-range_with_len (λ q. stored_class classes q (class_at classes q)) 0 (length classes) p p L within (omega arith)
+
+-- X9 keeps the same characters by their stored classes
+pub is_kept_at-stored_classes : (classes : List BidiClass) (p : ℕ) → p < length classes → is_kept_at (stored_classes classes) p ≡ is_kept_at classes p
+is_kept_at-stored_classes classes p within = ap is_kept (class_at-stored_classes classes p within) ∙ stored_class-kept classes p (class_at classes p)
+
+-- ---- explicit classes: an override is L or R
+
+override_kept : (opener c : BidiClass) → is_kept c ≡ true → is_kept (unwrap_or (override_of opener) c) ≡ true
+override_kept RLO c h = refl
+override_kept LRO c h = refl
+override_kept _ c h = h
+
+status_inside-kept : (status : Status) (openers : List BidiClass) (c : BidiClass) → is_kept c ≡ true → is_kept (unwrap_or status.override c) ≡ true → is_kept (unwrap_or (status_inside status openers).override c) ≡ true
+unfolding status_inside
+status_inside-kept status [] c own h = h
+status_inside-kept status (opener ∷ openers) c own h =
+    let inner : Status = record { level = asked_level opener status.level; override = override_of opener } in
+    cond_both (leb (asked_level opener status.level) 125) (status_inside inner openers) status (λ (s : Status). is_kept (unwrap_or s.override c) ≡ true)
+    (λ e. status_inside-kept inner openers c own (override_kept opener c own))
+    (λ e. h)
+
+pub explicit_class-kept : (paragraph : ℕ) (classes : List BidiClass) (p : ℕ) → is_kept_at classes p ≡ true → is_kept (explicit_class paragraph classes p) ≡ true
+unfolding explicit_class status_at
+explicit_class-kept paragraph classes p kept =
+    cond_both (is_paragraph_separator (class_at classes p) || is_removed (class_at classes p)) (class_at classes p) (unwrap_or (status_at paragraph classes p).override (class_at classes p)) (λ (c : BidiClass). is_kept c ≡ true)
+    (λ e. kept)
+    (λ e. status_inside-kept _ _ (class_at classes p) kept kept)
+
+pub explicit_classes-kept : (paragraph : ℕ) (classes : List BidiClass) (p : ℕ) → p < length classes → is_kept_at classes p ≡ true → is_kept_at (explicit_classes paragraph classes) p ≡ true
+unfolding explicit_classes
+explicit_classes-kept paragraph classes p within kept =
+    ap is_kept (get_or-map-range_with_len (explicit_class paragraph classes) 0 (length classes) p p L within (omega arith)) ∙ explicit_class-kept paragraph classes p kept
+
+pub length-explicit_classes : (paragraph : ℕ) (classes : List BidiClass) → length (explicit_classes paragraph classes) ≡ length classes
+unfolding explicit_classes
+length-explicit_classes paragraph classes = length-map-range_with_len (explicit_class paragraph classes) 0 (length classes)
+
+pub length-explicit_levels : (paragraph : ℕ) (classes : List BidiClass) → length (explicit_levels paragraph classes) ≡ length classes
+unfolding explicit_levels
+length-explicit_levels paragraph classes = length-map-range_with_len (explicit_level paragraph classes) 0 (length classes)
+
+-- ---- explicit levels
+
+-- a level of a paragraph of this level
+pub record IsExplicitIn (paragraph level : ℕ) : Type 0 where
+  pub above : paragraph ≤ level
+  pub below : level ≤ 125
+
+pub explicit_levels-IsExplicitIn : (paragraph : ℕ) (classes : List BidiClass) (p : ℕ) → paragraph ≤ 125 → p < length classes → IsExplicitIn paragraph (level_at (explicit_levels paragraph classes) p)
+unfolding explicit_levels
+explicit_levels-IsExplicitIn paragraph classes p fits within =
+    let own = explicit_level-IsWithin paragraph classes p fits in
+    subst (λ (level : ℕ). IsExplicitIn paragraph level) (sym (get_or-map-range_with_len (explicit_level paragraph classes) 0 (length classes) p p 0 within (omega arith))) (record { above = own.above; below = own.below })
+
+-- ---- the elements at some places
+
+pub length-at_places : {X : Type 0} (d : X) (xs : List X) (ps : List ℕ) → length (at_places d xs ps) ≡ length ps
+length-at_places d xs [] = refl
+length-at_places d xs (p ∷ ps) = ap suc (length-at_places d xs ps)
+
+-- what stands in a list, and is its first or a later one
+pub times_in-first : (p : ℕ) (ps : List ℕ) → 0 < times_in (p ∷ ps) p
+times_in-first p ps =
+    let one : cond {A = ℕ} (eqb p p) 1 0 ≡ 1 = cond-true (eqb p p) 1 0 (eq-eqb p p refl) in
+    omega (arith, sum_by-cons (λ q. cond (eqb q p) 1 0) p ps)
+
+pub times_in-later : (q : ℕ) (ps : List ℕ) (p : ℕ) → times_in ps p ≤ times_in (q ∷ ps) p
+times_in-later q ps p = omega (arith, sum_by-cons (λ q. cond (eqb q p) 1 0) q ps)
+
+-- the lists agree at the places
+pub at_places-agree : {X : Type 0} (d : X) (xs ys : List X) (ps : List ℕ) → ((p : ℕ) → 0 < times_in ps p → get_or xs p d ≡ get_or ys p d) → at_places d xs ps ≡ at_places d ys ps
+at_places-agree d xs ys [] agree = refl
+at_places-agree {X} d xs ys (p ∷ ps) agree =
+    ap (λ (x : X). x ∷ at_places d xs ps) (agree p (times_in-first p ps))
+    ∙ ap (λ (zs : List X). get_or ys p d ∷ zs) (at_places-agree d xs ys ps (λ q there. agree q (omega (arith, times_in-later p ps q))))
+
+-- each element at the places passes the test
+pub list_all-at_places : {X : Type 0} (test : X → Bool) (d : X) (xs : List X) (ps : List ℕ) → ((p : ℕ) → 0 < times_in ps p → test (get_or xs p d) ≡ true) → list_all test (at_places d xs ps) ≡ true
+list_all-at_places test d xs [] passes = refl
+list_all-at_places test d xs (p ∷ ps) passes =
+    and_from (test (get_or xs p d)) (list_all test (at_places d xs ps)) (passes p (times_in-first p ps)) (list_all-at_places test d xs ps (λ q there. passes q (omega (arith, times_in-later p ps q))))
+
+-- one more place
+pub at_places-push : {X : Type 0} (d : X) (xs : List X) (ps : List ℕ) (p : ℕ) → at_places d xs (ps ++ p ∷ []) ≡ at_places d xs ps ++ get_or xs p d ∷ []
+at_places-push d xs [] p = refl
+at_places-push {X} d xs (q ∷ ps) p = ap (λ (zs : List X). get_or xs q d ∷ zs) (at_places-push d xs ps p)
+
+-- an element that stands in a list stands at one of its indexes
+pub times_in-at : (ps : List ℕ) (k d : ℕ) → k < length ps → 0 < times_in ps (get_or ps k d)
+times_in-at [] k d within = absurd (omega arith)
+times_in-at (p ∷ ps) zero d within = times_in-first p ps
+times_in-at (p ∷ ps) (suc k) d within = omega (arith, times_in-later p ps (get_or ps k d), times_in-at ps k d (omega arith))
