@@ -28,8 +28,8 @@ pub mod PermutationLemmas
 pub mod PlaceLemmas
 pub mod PlacesLemmas
 pub mod ReadStack
-pub mod ResolvedLemmas
 pub mod ReadingLemmas
+pub mod ResolvedLemmas
 pub mod RunsLemmas
 pub mod SequencePlaces
 pub mod SequencesLemmas

@@ -20,5 +20,5 @@ pub mod TextOfLine
 pub mod TextRead
 pub mod Turning
 pub mod VisualRuns
-pub mod WrittenRuns
 pub mod Written
+pub mod WrittenRuns
