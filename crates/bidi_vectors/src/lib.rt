@@ -2,6 +2,8 @@
 #![tactic(auto)]
 
 #[cfg(test)]
+mod initial_rows;
+#[cfg(test)]
 mod level_rows;
 #[cfg(test)]
 mod order_rows;
@@ -19,3 +21,5 @@ mod run_rows;
 mod source_rows;
 #[cfg(test)]
 mod text_rows;
+#[cfg(test)]
+mod weak_units_rows;

@@ -1,9 +1,9 @@
 //! The Unicode Bidirectional Algorithm (UAX #9), proved.
 #![tactic(auto)]
 
-pub mod deprecated;
 mod base_direction;
 mod classes;
+pub mod deprecated;
 mod info;
 mod initial;
 mod initial_info;

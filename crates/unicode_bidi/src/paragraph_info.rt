@@ -68,7 +68,7 @@ impl Clone for ParagraphInfo {
 
     fn clone(&self) -> Result<ParagraphInfo, AllocError> {
         Ok(ParagraphInfo {
-            range: self.range.start..self.range.end,
+            range: self.range(),
             level: self.level,
         })
     }

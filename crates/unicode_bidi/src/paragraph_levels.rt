@@ -206,7 +206,14 @@ fn resolve(
 {
     let explicit = plain::explicit_levels(alloc, para_level, stored)?;
     let sequences = plain::sequences(alloc, para_level, stored, explicit.levels())?;
-    write_sequences(alloc, sequences.as_slice(), source, brackets, &explicit, levels)?;
+    write_sequences(
+        alloc,
+        sequences.as_slice(),
+        source,
+        brackets,
+        &explicit,
+        levels,
+    )?;
     fill_removed(para_level, stored, levels);
     Ok(())
 }
@@ -225,7 +232,14 @@ fn char_levels(
     ensures { IfOk result (λ v. v.items ≡ levels_in para_level source.now brackets.now) }
 {
     let mut levels = vec![in alloc; para_level; source.len()]?;
-    resolve(alloc, para_level, source, stored, brackets, levels.as_mut_slice())?;
+    resolve(
+        alloc,
+        para_level,
+        source,
+        stored,
+        brackets,
+        levels.as_mut_slice(),
+    )?;
     Ok(levels)
 }
 
@@ -246,7 +260,7 @@ pub(crate) fn write_levels<D: BidiDataSource, T: TextSource>(
     requires levels { length levels.old ≡ text_len T.units (T.characters text) }
     ensures { let source = D.source data_source.now in
         OnOk result (levels.new ≡ per_unit T.units (T.characters text)
-            (levels_in para_level (map source.class_of (T.characters text)) (map source.bracket_of (T.characters text)))) }
+        (levels_in para_level (map source.class_of (T.characters text)) (map source.bracket_of (T.characters text)))) }
 {
     let source = source_classes(alloc, data_source, text)?;
     let brackets = brackets(alloc, data_source, text)?;

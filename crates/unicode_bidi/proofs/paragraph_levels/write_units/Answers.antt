@@ -48,9 +48,9 @@ loop-at-preserved g c =
       (c.in-Some.ensures.goes.on c.loop-at.invariant.1).1,
       omega (arith, more),
       subst (λ k. IsWrittenTo len cs values k c.fill.new.levels) (sym more)
-      (subst (λ units. IsWrittenTo len cs values (n + 1) units) (sym c.fill.ensures)
-      (IsWrittenTo-fill len cs values n c.in-Some.at (c.in-Some.at + c.char_len.result) c.index-of_chars-index.result c.loop-at.levels w.within (omega (arith, w.within, c.requires.chars)) w.at_place (omega (arith, w.after, c.char_len.ensures))
-      (omega (arith, w.fits, c.requires.units, c.char_len.ensures, c.loop-at.auto.levels)) read c.loop-at.invariant.3)),
+          (subst (λ units. IsWrittenTo len cs values (n + 1) units) (sym c.fill.ensures)
+          (IsWrittenTo-fill len cs values n c.in-Some.at (c.in-Some.at + c.char_len.result) c.index-of_chars-index.result c.loop-at.levels w.within (omega (arith, w.within, c.requires.chars)) w.at_place (omega (arith, w.after, c.char_len.ensures))
+          (omega (arith, w.fits, c.requires.units, c.char_len.ensures, c.loop-at.auto.levels)) read c.loop-at.invariant.3)),
     )
 
 pub returns : goal.returns
