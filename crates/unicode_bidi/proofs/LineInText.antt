@@ -173,7 +173,7 @@ pub levels_with_line-per_unit : (len_of : ℕ → ℕ) → HasUnits len_of → (
     ≡ per_unit len_of chars (levels_with_line level classes levels (char_index len_of chars start) (char_index len_of chars end))
 unfolding levels_with_line
 levels_with_line-per_unit len_of h level chars classes levels start end e f line =
-    let w : IsLineAt len_of h chars start end (char_index len_of chars start) (char_index len_of chars end) = line_places len_of h chars start end line in
+    let w : IsLineAt len_of chars start end (char_index len_of chars start) (char_index len_of chars end) = line_places len_of h chars start end line in
     ap₂ (levels_with_line level (per_unit len_of chars classes) (per_unit len_of chars levels)) w.begins w.ends
     ∙ at_places (char_index len_of chars start) (char_index len_of chars end) w.ordered w.within
   where

@@ -31,7 +31,7 @@ runs_begin start levels ranges h k d fits =
 -- the text of `len_of` and `chars`, and one class and one level a unit
 module _ (len_of : ℕ → ℕ) (h : HasUnits len_of) (chars : List ℕ) (level : ℕ) (classes : List BidiClass) (levels : List ℕ) (start end : ℕ)
     (of_classes : IsPerChar len_of chars classes) (of_levels : IsPerChar len_of chars levels) (line : IsLine len_of chars start end) where
-  ends : IsLineAt len_of h chars start end (char_index len_of chars start) (char_index len_of chars end)
+  ends : IsLineAt len_of chars start end (char_index len_of chars start) (char_index len_of chars end)
   ends = line_places len_of h chars start end line
 
   pub line-same_len : length levels ≡ length classes
