@@ -1,4 +1,6 @@
+pub mod BidiInfo
 pub mod InitialInfo
+pub mod ParagraphBidiInfo
 pub mod ParagraphFlags
 pub mod ParagraphInfo
 pub mod ParagraphLevels
