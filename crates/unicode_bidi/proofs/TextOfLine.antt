@@ -1,5 +1,5 @@
 -- A line of a text whose classes and levels are one a unit, equal within each character: its levels, its runs and its text are those of its characters.
-use Rattle.std.proofs.Common.{◌≡◌, ℕ, ◌+◌, ◌-◌, ◌<◌, ◌≤◌, List, length, get_or, map, flat_map, All, sym, ap, ap₂, subst, ◌∙◌, arith, false}
+use Rattle.std.proofs.Common.{◌≡◌, ℕ, ◌+◌, ◌-◌, ◌<◌, ◌≤◌, List, [], length, get_or, map, flat_map, All, sym, ap, ap₂, subst, ◌∙◌, arith, false}
 use Rattle.std.specs.Prelude.{slice_range}
 use Rattle.std.specs.declared.ops.Range.{Range}
 use Rattle.std.proofs.lemmas.List.{get_or-map, length-map}
@@ -7,7 +7,8 @@ use Rattle.bidi_base.specs.declared.char_data.BidiClass.{BidiClass}
 use Rattle.bidi_base.specs.declared.char_data.BidiClass.TheVariants.{L}
 use Rattle.bidi_base.specs.Display.{Run, run_of, run_text_in, visual_runs, reordered_text, line_text, IsLevelRun, AreVisualRuns}
 use Rattle.bidi_base.specs.Levels.{is_odd, has_rtl}
-use Rattle.bidi_base.specs.Line.{line_levels, levels_of_line, levels_with_line}
+use Rattle.bidi_base.specs.Line.{line_levels, line_levels_after, levels_of_line, levels_with_line}
+use Rattle.bidi_base.specs.Order.{visual_order}
 use Rattle.bidi_base.specs.Text.{place, text_len, char_index, subrange, per_unit, per_char, IsLine, IsPerChar}
 use Rattle.bidi_base.proofs.TextLemmas.{HasUnits}
 use Rattle.bidi_base.proofs.PlaceLemmas.{place-le, place-end, place-slice_range, line_places, text_len-subrange, IsLineAt, IsLine-places}
@@ -20,6 +21,14 @@ use Rattle.unicode_bidi.proofs.LineText.{reordered_text-line}
 use Rattle.unicode_bidi.proofs.Ordered.{none_odd}
 use Rattle.unicode_bidi.proofs.RunText.{reordered_text-still}
 use Rattle.unicode_bidi.proofs.VisualRuns.{visual_runs-are}
+
+-- an empty line has no text
+pub line_text-empty : (len_of : ℕ → ℕ) (encode : ℕ → List ℕ) (chars units : List ℕ) (level : ℕ) (classes : List BidiClass) (levels : List ℕ) (start end : ℕ) → start ≡ end
+    → line_text len_of encode chars units level classes levels start end ≡ []
+unfolding line_text line_levels line_levels_after reordered_text visual_order
+line_text-empty len_of encode chars units level classes levels start end same =
+    let none : char_index len_of chars end - char_index len_of chars start ≡ 0 = rw same (omega arith) in
+    rw none
 
 -- each run is a level run, where it begins
 pub runs_begin : (start : ℕ) (levels : List ℕ) (ranges : List (Range ℕ)) → AreVisualRuns start levels (map run_of ranges)

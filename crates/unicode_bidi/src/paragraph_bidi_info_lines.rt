@@ -1,5 +1,5 @@
 // The lines of a text that is one paragraph.
-ghost use Rattle.std.specs.Prelude.{◌≡◌, ◌<◌, ◌↔◌, IfOk, map, false, encode_utf8};
+ghost use Rattle.std.specs.Prelude.{◌≡◌, ◌<◌, ◌↔◌, [], IfOk, map, false, encode_utf8};
 ghost use Rattle.std.specs.Char.{len_utf8};
 ghost use Rattle.std.specs.Cow.{cow_str_bytes, IsBorrowedStr};
 ghost use Rattle.std.specs.Str.{chars};
@@ -78,6 +78,7 @@ impl<'t> ParagraphBidiInfo<'t> {
         ensures text { let cs = chars (text_of self.now) in IfOk result (λ c. cow_str_bytes c
             ≡ line_text len_utf8 encode_utf8 cs (text_of self.now) (paragraph_level self.now)
             (per_char L len_utf8 cs (original_classes self.now)) (per_char 0 len_utf8 cs (levels_of_info self.now)) line.start line.end) }
+        ensures empty { line.start ≡ line.end → IfOk result (λ c. cow_str_bytes c ≡ []) }
         ensures borrowed { IfOk result (λ c. IsBorrowedStr c
             ↔ (has_rtl (char_levels_of_line len_utf8 (chars (text_of self.now)) (paragraph_level self.now) (original_classes self.now) (levels_of_info self.now) line.start line.end) ≡ false)) }
     {
