@@ -25,6 +25,7 @@ pub mod PassLemmas
 pub mod PerCharTests
 pub mod PerUnit
 pub mod PermutationLemmas
+pub mod PieceUnits
 pub mod PlaceLemmas
 pub mod PlacesLemmas
 pub mod ReadStack
