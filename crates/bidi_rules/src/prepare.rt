@@ -3,6 +3,7 @@
 ghost use Rattle.std.specs.Prelude.{◌≡◌};
 ghost use Rattle.bidi_base.specs.Classes.{is_removed, is_kept};
 
+mod joining;
 mod sequence;
 
 use bidi_base::char_data::BidiClass;
