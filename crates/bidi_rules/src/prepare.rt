@@ -7,6 +7,7 @@ mod joining;
 mod sequence;
 
 use bidi_base::char_data::BidiClass;
+pub use joining::isolating_run_sequences;
 pub use sequence::{BackwardsFrom, ForwardsFrom, IsolatingRunSequence};
 use std::ops::Range;
 

@@ -17,6 +17,6 @@ goes_on out o s r sos eos new old e within is grown =
     ∙ ap (set (map joined out) s) (grown ∙ ap (λ (j : JoinedRuns). record j { runs = j.runs ++ r ∷ []; eos = eos }) (ap joined is ∙ sym (get_or-map joined out s old no_runs fits)))
     ∙ ap (λ (x : Option ℕ). with_run x r sos eos (map joined out)) (sym e)
 
-pub returns-in_ok-join-in-Some-clause-grown : goal.returns-in_ok-join-in-Some-clause-grown
-returns-in_ok-join-in-Some-clause-grown c =
+pub returns-in_ok-join-in-Some : goal.returns-in_ok-join-in-Some
+returns-in_ok-join-in-Some c =
     goes_on c.args.sequences.now.items c.args.s c.in-Some.s (bounds c.args.run) c.args.sos c.args.eos c.join.new.self c.index_mut.result.now c.in-Some.is c.requires.fits c.index_mut.ensures.value c.in_ok-join-in-Some.ensures

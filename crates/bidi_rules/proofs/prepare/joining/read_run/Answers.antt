@@ -1,9 +1,9 @@
-use Rattle.std.proofs.Common.{◌≡◌, ◌+◌, ℕ, List, Option, length, sym, subst, ap, arith, ◌∙◌}
+use Rattle.std.proofs.Common.{◌≡◌, ℕ, List, Option, length, subst, arith}
 use Rattle.std.specs.Iterator.{Count}
 use Rattle.std.proofs.lemmas.List.{length_push}
 use Rattle.bidi_base.specs.Text.{subrange, indices_lengths, Gives}
 use Rattle.bidi_base.proofs.PlaceLemmas.{length_turn, length_end}
-use Rattle.bidi_rules.proofs.RunReading.{run_turn, IsReadTo-start, IsReadTo-more, IsReadTo-end}
+use Rattle.bidi_rules.proofs.RunReading.{run_turn, IsReadTo-more, IsReadTo-end}
 use Rattle.bidi_rules.proofs.prepare.joining.read_run.Goals as goal
 
 -- the loop goes over the characters of the run
