@@ -11,6 +11,7 @@ pub mod GivesLemmas
 pub mod InPlace
 pub mod IsolateWalk
 pub mod IsolatesLemmas
+pub mod LevelLaws
 pub mod LevelTableLemmas
 pub mod LevelsInLemmas
 pub mod LevelsLemmas

@@ -1,5 +1,5 @@
 -- The levels of a text, written paragraph by paragraph.
-use Rattle.std.proofs.Common.{◌≡◌, Option, Some, None, ap₂, ℕ, ◌+◌, ◌-◌, ◌<◌, ◌≤◌, List, [], ◌∷◌, ◌++◌, length, get_or, take, drop, map, refl, sym, ap, subst, ◌∙◌, append_assoc, append-nil, arith, length-append, length-drop, length-take}
+use Rattle.std.proofs.Common.{◌≡◌, Option, ap₂, ℕ, ◌+◌, ◌-◌, ◌<◌, ◌≤◌, List, [], ◌∷◌, ◌++◌, length, get_or, take, drop, map, refl, sym, ap, subst, ◌∙◌, append_assoc, append-nil, arith, length-append, length-drop, length-take}
 use Rattle.std.proofs.Math.Seq.{take-append_seam, drop-append_seam}
 use Rattle.std.specs.declared.ops.Range.{Range}
 use Rattle.std.specs.Prelude.{All, IfSome, flat_map, slice_range}
@@ -8,14 +8,14 @@ use Rattle.std.proofs.lemmas.List.Concat.{flat_map-append}
 use Rattle.std.proofs.lemmas.List.Elements.{All-nil, All-cons, All-head, All-tail, All-same, All-map}
 use Rattle.std.proofs.lemmas.List.Sums.{sum_by-append}
 use Rattle.bidi_base.specs.declared.char_data.BidiClass.{BidiClass}
-use Rattle.bidi_base.specs.declared.char_data.BidiClass.TheVariants.{R, AL}
-use Rattle.bidi_base.specs.Isolates.{deciding_class, level_by, paragraph_level, stored_classes}
-use Rattle.bidi_base.specs.Laws.{HasOwnUnits}
+use Rattle.bidi_base.specs.Isolates.{paragraph_level, stored_classes}
+use Rattle.bidi_base.specs.Laws.{HasOwnUnits, AreLevelsFrom}
 use Rattle.bidi_base.specs.Paragraphs.{ranges_from}
 use Rattle.bidi_base.specs.Places.{first_or}
 use Rattle.bidi_base.specs.Source.{Source}
 use Rattle.bidi_base.specs.Stored.{levels_in, stored_levels, text_classes, text_levels, paragraph_levels}
 use Rattle.bidi_base.specs.Text.{text_len, subrange, per_unit, IsLine}
+use Rattle.bidi_base.proofs.LevelLaws.{paragraph_level-few, length-stored_levels, stored_levels-AreLevelsFrom, All-per_unit}
 use Rattle.bidi_base.proofs.ParagraphsLemmas.{joined, ranges-lines}
 use Rattle.bidi_base.proofs.PieceUnits.{per_unit-pieces, HasOwnUnits-pieces}
 use Rattle.bidi_base.proofs.StoredSteps.{length-stored_classes}
@@ -25,6 +25,7 @@ use Rattle.bidi_base.proofs.ResolvedLemmas.{length-levels_in}
 use Rattle.bidi_base.proofs.TextLemmas.{HasUnits, is_boundary-le, subrange-middle}
 use Rattle.unicode_bidi.specs.declared.paragraph_info.ParagraphInfo.{ParagraphInfo}
 use Rattle.unicode_bidi.specs.Analysis.{unit_levels, CanWrite, Follow, chars_of}
+use Rattle.unicode_bidi.specs.ParagraphFlags.{flags_of, paragraph_flags}
 use Rattle.unicode_bidi.specs.ParagraphInfo.{range_of, level_of, ranges_of, levels_of}
 
 -- ---- one paragraph
@@ -121,17 +122,6 @@ All-joined P Q M N join [] p q m = All-nil N
 All-joined P Q M N join (x ∷ xs) p q m =
     All-cons N x xs (join x (All-head P x xs p) (All-head Q x xs q) (All-head M x xs m)) (All-joined P Q M N join xs (All-tail P x xs p) (All-tail Q x xs q) (All-tail M x xs m))
 
-level_by-few : (o : Option BidiClass) → level_by o ≤ 125
-level_by-few (Some R) = omega arith
-level_by-few (Some AL) = omega arith
-level_by-few _ = omega arith
-
--- a paragraph level is one that the rules take
-pub paragraph_level-few : (base : Option ℕ) (classes : List BidiClass) → IfSome base (λ level. level ≤ 125) → paragraph_level base classes ≤ 125
-unfolding paragraph_level
-paragraph_level-few (Some level) classes h = h
-paragraph_level-few None classes h = level_by-few (deciding_class classes)
-
 module _ (source : Source) (base : Option ℕ) (len_of : ℕ → ℕ) where
   -- the paragraphs are those of the pieces, where the first begins at `from`
   abbrev AreOf : ℕ → List ParagraphInfo → List (List ℕ) → Type 0
@@ -182,10 +172,19 @@ module _ (source : Source) (base : Option ℕ) (len_of : ℕ → ℕ) where
       ∙ ap (λ (xs : List ℕ). per_unit len_of piece (stored_levels source base piece) ++ xs)
       (ap (λ (cs : List ℕ). flat_map (unit_levels source len_of cs) ps) (sym (append_assoc front piece (joined pieces))) ∙ AreOf-levels units (front ++ piece) ps pieces here)
 
-pub length-stored_levels : (source : Source) (base : Option ℕ) (piece : List ℕ) → length (stored_levels source base piece) ≡ length piece
-unfolding stored_levels
-length-stored_levels source base piece =
-    length-levels_in (paragraph_level base (map source.class_of piece)) (map source.class_of piece) (map source.bracket_of piece) ∙ length-map piece source.class_of
+  -- the level of each paragraph is that of its characters
+  AreOf-level : HasUnits len_of → (front : List ℕ) (ps : List ParagraphInfo) (pieces : List (List ℕ)) → AreOf (text_len len_of front) ps pieces
+      → All (λ p. p.level ≡ paragraph_level base (map source.class_of (chars_of len_of (front ++ joined pieces) p))) ps
+  AreOf-level units front [] [] h = All-nil (λ p. p.level ≡ paragraph_level base (map source.class_of (chars_of len_of (front ++ []) p)))
+  AreOf-level units front [] (piece ∷ pieces) h = absurd h
+  AreOf-level units front (p ∷ ps) [] h = absurd h
+  AreOf-level units front (p ∷ ps) (piece ∷ pieces) h =
+      let own : List ℕ → ParagraphInfo → Type 0 = λ cs q. q.level ≡ paragraph_level base (map source.class_of (chars_of len_of cs q)) in
+      let chars : List ℕ = front ++ (piece ++ joined pieces) in
+      let here : AreOf (text_len len_of (front ++ piece)) ps pieces = subst (λ (n : ℕ). AreOf n ps pieces) (sym (sum_by-append len_of front piece)) h.3 in
+      All-cons (own chars) p ps
+      (h.2 ∙ ap (λ (cs : List ℕ). paragraph_level base (map source.class_of cs)) (sym (ap₂ (subrange len_of chars) h.0 h.1 ∙ subrange-middle len_of units front piece (joined pieces))))
+      (subst (λ (cs : List ℕ). All (own cs) ps) (append_assoc front piece (joined pieces)) (AreOf-level units (front ++ piece) ps pieces here))
 
 -- what the walk over the paragraphs of a text is given, and what it leaves
 module _ (source : Source) (base : Option ℕ) (len_of : ℕ → ℕ) (units : HasUnits len_of) (chars : List ℕ) (pieces : List (List ℕ)) (whole : joined pieces ≡ chars) (ps : List ParagraphInfo) (ranges : ranges_of ps ≡ ranges_from len_of 0 pieces)
@@ -222,3 +221,37 @@ module _ (source : Source) (base : Option ℕ) (len_of : ℕ → ℕ) (units : H
       (All-unmap (λ (r : ℕ × ℕ). IsLine len_of chars r.0 r.1) range ps (All-same (λ (r : ℕ × ℕ). IsLine len_of chars r.0 r.1) (ranges_of ps) (ranges_from len_of 0 pieces) ranges lines))
       (All-unmap (HasOwnUnits len_of stored chars classes) range ps (All-same (HasOwnUnits len_of stored chars classes) (ranges_of ps) (ranges_from len_of 0 pieces) ranges own))
       (All-unmap (λ (l : ℕ). l ≤ 125) level_of ps low)
+
+  -- each paragraph has the levels that its characters have by themselves
+  pub paragraphs-HasOwnUnits : All (HasOwnUnits len_of (stored_levels source base) chars (per_unit len_of chars (text_levels source base pieces))) (ranges_of ps)
+  unfolding text_levels
+  paragraphs-HasOwnUnits =
+      let own : ℕ × ℕ → Type 0 = HasOwnUnits len_of (stored_levels source base) chars (per_unit len_of chars (text_levels source base pieces)) in
+      All-same own (ranges_of ps) (ranges_from len_of 0 pieces) ranges (HasOwnUnits-pieces (stored_levels source base) (length-stored_levels source base) len_of units chars pieces whole)
+
+  -- its levels are at least its own, and at most the greatest
+  pub paragraphs-AreLevelsFrom : IfSome base (λ level. level ≤ 125) → All (λ p. AreLevelsFrom p.level (slice_range (per_unit len_of chars (text_levels source base pieces)) p.range.start p.range.end)) ps
+  paragraphs-AreLevelsFrom few =
+      let all : List ℕ = per_unit len_of chars (text_levels source base pieces) in
+      let range : ParagraphInfo → ℕ × ℕ = λ p. (p.range.start, p.range.end) in
+      All-joined (λ p. HasOwnUnits len_of (stored_levels source base) chars all (range p)) (λ p. p.level ≡ paragraph_level base (map source.class_of (chars_of len_of chars p))) (λ _. Unit {0}) (λ p. AreLevelsFrom p.level (slice_range all p.range.start p.range.end))
+      (λ p own level _.
+      let piece : List ℕ = chars_of len_of chars p in
+      subst (λ (l : ℕ). AreLevelsFrom l (slice_range all p.range.start p.range.end)) (sym level)
+      (subst (AreLevelsFrom (paragraph_level base (map source.class_of piece))) (sym own)
+      (All-per_unit (λ level. (paragraph_level base (map source.class_of piece) ≤ level) × (level ≤ 126)) len_of piece (stored_levels source base piece) (stored_levels-AreLevelsFrom source base piece few))))
+      ps
+      (All-unmap (HasOwnUnits len_of (stored_levels source base) chars all) range ps paragraphs-HasOwnUnits)
+      (subst (λ (cs : List ℕ). All (λ p. p.level ≡ paragraph_level base (map source.class_of (chars_of len_of cs p))) ps) whole (AreOf-level source base len_of units [] ps pieces (AreOf-from source base len_of 0 ps pieces ranges levels)))
+      (λ k d within. tt)
+
+-- ---- a text of one paragraph
+
+-- the one element of a list
+pub only : {X Y : Type 0} (f : X → Y) (xs : List X) (x : X) (y : Y) → map f xs ≡ y ∷ [] → x ≡ get_or xs 0 x → f x ≡ y
+only f [] x y e is = absurd (cc e)
+only {X} {Y} f (z ∷ xs) x y e is = ap f is ∙ ap (first_or (f z)) e
+
+pub flags-one : (source : Source) (piece : List ℕ) → paragraph_flags source (piece ∷ []) ≡ flags_of (map source.class_of piece) ∷ []
+unfolding paragraph_flags
+flags-one source piece = refl
