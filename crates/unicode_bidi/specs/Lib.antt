@@ -1,3 +1,4 @@
+pub mod Analysis
 pub mod BidiInfo
 pub mod InitialInfo
 pub mod Lines

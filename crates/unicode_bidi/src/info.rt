@@ -1,13 +1,16 @@
 // What the algorithm finds out about a text.
-ghost use Rattle.std.specs.Prelude.{◌≡◌, IsTrue, IfOk, false};
+ghost use Rattle.std.specs.Prelude.{◌≡◌, ◌≤◌, IsTrue, IfOk, IfSome, All, slice_range, false};
 ghost use Rattle.std.specs.Char.{len_utf8};
 ghost use Rattle.std.specs.Str.{chars};
 ghost use Rattle.bidi_base.specs.Text.{is_per_char};
 
+use crate::analysis;
 use crate::paragraph_info::ParagraphInfo;
 use crate::visual;
 use bidi_base::char_data::BidiClass;
+use bidi_base::data_source::BidiDataSource;
 use bidi_base::level::{Level, has_rtl};
+use bidi_base::text::StrText;
 use std::alloc::{AllocError, Global};
 
 /// What the algorithm finds out about a text of UTF-8: its paragraphs, and the class and the level
@@ -23,10 +26,66 @@ pub struct BidiInfo<'t> {
 }
 
 impl<'t> BidiInfo<'t> {
+    ghost use Rattle.bidi_base.specs.Laws.{HasOwnUnits, AreLevelsFrom, BoundaryNeutralsAreAlike};
     ghost use Rattle.bidi_base.specs.Levels.{has_rtl as has_rtl_of};
     ghost use Rattle.bidi_base.specs.Order.{visual_order, IsVisualOrder, order_by_reversals};
+    ghost use Rattle.bidi_base.specs.Paragraphs.{paragraphs_of, each_separator, ranges_from, AreParagraphRanges};
     ghost use Rattle.bidi_base.specs.Places.{indexes};
+    ghost use Rattle.bidi_base.specs.Stored.{text_classes, text_levels, stored_levels, paragraph_levels};
+    ghost use Rattle.bidi_base.specs.Text.{per_unit};
     ghost use Rattle.unicode_bidi.specs.BidiInfo.{text as text_of, original_classes, levels as levels_of_info, paragraphs};
+    ghost use Rattle.unicode_bidi.specs.ParagraphInfo.{level_of, range_of, ranges_of, levels_of};
+
+    /// Finds the paragraphs of a text (P1) with their levels (P2, P3), the class of each character,
+    /// with each FSI resolved (X5c), and its level (X1 to I2). A base level that is given is the
+    /// level of every paragraph. It must be at most 125.
+    pub fn new_with_data_source<D: BidiDataSource>(
+        alloc: Global,
+        data_source: &D,
+        text: &'t str,
+        default_para_level: Option<Level>,
+    ) -> Result<BidiInfo<'t>, AllocError>
+        requires { IfSome default_para_level (λ level. level ≤ 125) }
+        ensures text { IfOk result (λ i. text_of i ≡ text.now) }
+        ensures classes { let pieces = paragraphs_of (each_separator (D.source data_source.now)) (chars text.now) in
+            IfOk result (λ i. original_classes i ≡ per_unit len_utf8 (chars text.now) (text_classes (D.source data_source.now) pieces)) }
+        ensures levels { let pieces = paragraphs_of (each_separator (D.source data_source.now)) (chars text.now) in
+            IfOk result (λ i. levels_of_info i ≡ per_unit len_utf8 (chars text.now) (text_levels (D.source data_source.now) default_para_level pieces)) }
+        ensures ranges { let pieces = paragraphs_of (each_separator (D.source data_source.now)) (chars text.now) in
+            IfOk result (λ i. ranges_of (paragraphs i) ≡ ranges_from len_utf8 0 pieces) }
+        ensures paragraph_levels { let pieces = paragraphs_of (each_separator (D.source data_source.now)) (chars text.now) in
+            IfOk result (λ i. levels_of (paragraphs i) ≡ paragraph_levels (D.source data_source.now) default_para_level pieces) }
+
+        // Every unit is in one paragraph, and separators stand at the paragraphs' ends alone.
+        ensures parted { IfOk result (λ i. AreParagraphRanges (D.source data_source.now) len_utf8 (chars text.now) (ranges_of (paragraphs i))) }
+
+        // All units of a character have one class and one level.
+        ensures classes_per_char { IfOk result (λ i. IsTrue (is_per_char ⟦<BidiClass as PartialEq>⟧.eq len_utf8 (chars text.now) (original_classes i))) }
+        ensures levels_per_char { IfOk result (λ i. IsTrue (is_per_char ⟦<Level as PartialEq>⟧.eq len_utf8 (chars text.now) (levels_of_info i))) }
+
+        // No level is below that of its paragraph or above the greatest.
+        ensures bounded { IfOk result (λ i. All (λ p. AreLevelsFrom (level_of p) (slice_range (levels_of_info i) (range_of p).start (range_of p).end)) (paragraphs i)) }
+
+        // Each paragraph has the levels that its characters would have as the whole text.
+        ensures each_by_itself { IfOk result (λ i. All (HasOwnUnits len_utf8 (stored_levels (D.source data_source.now) default_para_level) (chars text.now) (levels_of_info i)) (ranges_of (paragraphs i))) }
+
+        // Which character of class BN stands at a place changes no level of its paragraph.
+        ensures boundary_neutrals_alike { BoundaryNeutralsAreAlike (D.source data_source.now) default_para_level }
+    {
+        let found = analysis::analyse(
+            alloc,
+            data_source,
+            StrText::new(text),
+            default_para_level,
+            true,
+        )?;
+        Ok(BidiInfo {
+            text,
+            original_classes: found.original_classes,
+            levels: found.levels,
+            paragraphs: found.paragraphs,
+        })
+    }
 
     /// The text.
     pub fn text(&self) -> &'t str

@@ -1,6 +1,7 @@
 //! The Unicode Bidirectional Algorithm (UAX #9), proved.
 #![tactic(auto)]
 
+mod analysis;
 mod base_direction;
 mod classes;
 pub mod deprecated;
