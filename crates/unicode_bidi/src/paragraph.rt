@@ -49,7 +49,8 @@ impl<'a, 't> Paragraph<'a, 't> {
         ensures { let range = range_of (para_of self.now) in
             result ≡ direction_of_levels (slice_range (levels_of_info (info_of self.now)) range.start range.end) }
     {
-        direction_of(&self.info.levels()[self.para.range()])
+        let Paragraph { info, para } = self;
+        direction_of(&info.levels()[para.range()])
     }
 
     /// The level of the character at a byte, counted from the paragraph's start. The byte must lie
@@ -58,6 +59,7 @@ impl<'a, 't> Paragraph<'a, 't> {
         requires { (range_of (para_of self.now)).start + pos < length (levels_of_info (info_of self.now)) }
         ensures { result ≡ slice_index (levels_of_info (info_of self.now)) ((range_of (para_of self.now)).start + pos) }
     {
-        self.info.levels()[self.para.range().start + pos]
+        let Paragraph { info, para } = self;
+        info.levels()[para.range().start + pos]
     }
 }
