@@ -14,8 +14,10 @@ pub mod IsolatesLemmas
 pub mod LevelTableLemmas
 pub mod LevelsInLemmas
 pub mod LevelsLemmas
+pub mod MatchLevelsLemmas
 pub mod MatchingLemmas
 pub mod NeutralLemmas
+pub mod NeutralSource
 pub mod OpenMatches
 pub mod OpenersStack
 pub mod OrderLemmas
@@ -27,6 +29,7 @@ pub mod PerUnit
 pub mod PermutationLemmas
 pub mod PlaceLemmas
 pub mod PlacesLemmas
+pub mod PureLtrLemmas
 pub mod ReadStack
 pub mod ReadingLemmas
 pub mod ResolvedLemmas

@@ -16,6 +16,7 @@ use Rattle.bidi_base.specs.Sequences.{RunSequence, is_kept_at, kept_places, next
 use Rattle.bidi_base.specs.SequencePass.{read_class, waiting_for, index_of}
 use Rattle.bidi_base.specs.Text.{place, text_len, IsLine}
 use Rattle.bidi_base.specs.Units.{kept_in_runs, level_run_ranges, ranges_between}
+use Rattle.bidi_base.proofs.ChainLemmas.{filter_range-none}
 use Rattle.bidi_base.proofs.TextLemmas.{HasUnits}
 use Rattle.bidi_base.proofs.PlaceLemmas.{place-zero, place-mono, place-end, IsLine-places}
 use Rattle.bidi_base.proofs.PlacesLemmas.{IsLeast, IsGreatest, find-between, find-between-None}
@@ -25,7 +26,7 @@ use Rattle.bidi_base.proofs.PassLemmas.{sequence_of, AllBegun}
 use Rattle.bidi_base.proofs.RunsLemmas.{IsRun, IsLevelRun, IsRun-IsLevelRun, AllOfLevel, AllOfLevel-run}
 use Rattle.bidi_base.proofs.WaitingLemmas.{IsWaiting}
 use Rattle.bidi_rules.specs.Joining.{JoinedRuns, no_runs, with_run, characters_of, read_range}
-use Rattle.bidi_rules.proofs.KeptRangeLemmas.{filter_range-none, filter_range-first, last_or-range}
+use Rattle.bidi_rules.proofs.KeptRangeLemmas.{filter_range-first, last_or-range}
 use Rattle.bidi_rules.proofs.LevelRunLemmas.{kept_in_run, kept_in_runs-push}
 use Rattle.bidi_rules.proofs.RunUnits.{NoneKept, IsLast}
 use Rattle.bidi_rules.proofs.RunPass.{with_places, index_in, IsAt, IsAt-start, IsAt-end, IsAt-read, HasCome, HasCome-run, IsWaiting-in_run}
