@@ -16,6 +16,7 @@ use Rattle.bidi_base.specs.Sequences.{RunSequence, is_kept_at, kept_places, kept
 use Rattle.bidi_base.specs.SequencePass.{read_class, waiting_for, index_of}
 use Rattle.bidi_base.specs.Text.{place, IsLine}
 use Rattle.bidi_base.specs.Units.{kept_in_runs}
+use Rattle.bidi_base.proofs.ChainLemmas.{filter_range-none}
 use Rattle.bidi_base.proofs.TextLemmas.{HasUnits}
 use Rattle.bidi_base.proofs.PlaceLemmas.{place-mono, IsLine-places}
 use Rattle.bidi_base.proofs.SuccessorLemmas.{kept_before-is_None}
@@ -23,7 +24,6 @@ use Rattle.bidi_base.proofs.PassLemmas.{AllBegun}
 use Rattle.bidi_base.proofs.RunsLemmas.{IsLevelRun}
 use Rattle.bidi_rules.specs.Joining.{JoinedRuns, no_runs, with_run, characters_of, read_range}
 use Rattle.bidi_rules.proofs.RunCutting.{run_starts-some}
-use Rattle.bidi_rules.proofs.KeptRangeLemmas.{filter_range-none}
 use Rattle.bidi_rules.proofs.LevelRunLemmas.{kept_in_run, kept_in_runs-push}
 use Rattle.bidi_rules.proofs.RunUnits.{NoneKept, IsLast}
 use Rattle.bidi_rules.proofs.RunPass.{with_places, index_in, IsAt, IsAt-start, IsAt-end, HasCome, HasCome-run}
