@@ -2,6 +2,8 @@
 #![tactic(auto)]
 
 #[cfg(test)]
+mod explicit_units_rows;
+#[cfg(test)]
 mod initial_rows;
 #[cfg(test)]
 mod level_rows;
@@ -17,6 +19,8 @@ mod plain_sequences;
 mod plain_weak;
 #[cfg(test)]
 mod run_rows;
+#[cfg(test)]
+mod run_walks_rows;
 #[cfg(test)]
 mod source_rows;
 #[cfg(test)]
