@@ -3,6 +3,7 @@
 
 #[cfg(test)]
 mod explicit_units_rows;
+mod info_rows;
 #[cfg(test)]
 mod initial_rows;
 #[cfg(test)]
