@@ -3,14 +3,14 @@ use Rattle.std.proofs.Common.{◌≡◌, Option, ap₂, ℕ, ◌+◌, ◌-◌, �
 use Rattle.std.proofs.Math.Seq.{take-append_seam, drop-append_seam}
 use Rattle.std.specs.declared.ops.Range.{Range}
 use Rattle.std.specs.Prelude.{All, IfSome, flat_map, slice_range}
-use Rattle.std.proofs.lemmas.List.{take_more, take_all, drop_more, drop_all, drop-drop, length-map}
+use Rattle.std.proofs.lemmas.List.{get_or-map, take_more, take_all, drop_more, drop_all, drop-drop, length-map}
 use Rattle.std.proofs.lemmas.List.Concat.{flat_map-append}
-use Rattle.std.proofs.lemmas.List.Elements.{All-nil, All-cons, All-head, All-tail, All-same, All-map}
+use Rattle.std.proofs.lemmas.List.Elements.{All-nil, All-cons, All-head, All-tail, All-same, All-map, All-get_or}
 use Rattle.std.proofs.lemmas.List.Sums.{sum_by-append}
 use Rattle.bidi_base.specs.declared.char_data.BidiClass.{BidiClass}
 use Rattle.bidi_base.specs.Isolates.{paragraph_level, stored_classes}
 use Rattle.bidi_base.specs.Laws.{HasOwnUnits, AreLevelsFrom}
-use Rattle.bidi_base.specs.Paragraphs.{ranges_from}
+use Rattle.bidi_base.specs.Paragraphs.{ranges_from, AreParagraphRanges}
 use Rattle.bidi_base.specs.Places.{first_or}
 use Rattle.bidi_base.specs.Source.{Source}
 use Rattle.bidi_base.specs.Stored.{levels_in, stored_levels, text_classes, text_levels, paragraph_levels}
@@ -255,3 +255,12 @@ only {X} {Y} f (z ∷ xs) x y e is = ap f is ∙ ap (first_or (f z)) e
 pub flags-one : (source : Source) (piece : List ℕ) → paragraph_flags source (piece ∷ []) ≡ flags_of (map source.class_of piece) ∷ []
 unfolding paragraph_flags
 flags-one source piece = refl
+
+-- ---- the paragraphs that are found
+
+pub paragraphs-are_lines : (source : Source) (len_of : ℕ → ℕ) (chars : List ℕ) (ps : List ParagraphInfo) → AreParagraphRanges source len_of chars (ranges_of ps) → All (λ p. IsLine len_of chars (range_of p).start (range_of p).end) ps
+paragraphs-are_lines source len_of chars ps are k d within =
+    let ends : ParagraphInfo → ℕ × ℕ = λ p. (p.range.start, p.range.end) in
+    let fits : k < length (ranges_of ps) = subst (λ n. k < n) (sym (length-map ps ends)) within in
+    subst (λ (r : ℕ × ℕ). IsLine len_of chars r.0 r.1) (get_or-map ends ps k d (ends d) within)
+    (All-get_or (λ (r : ℕ × ℕ). IsLine len_of chars r.0 r.1) (ranges_of ps) k (ends d) fits are.lines)
