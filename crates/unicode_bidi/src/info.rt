@@ -27,7 +27,7 @@ pub struct BidiInfo<'t> {
 }
 
 impl<'t> BidiInfo<'t> {
-    ghost use Rattle.bidi_base.specs.Laws.{HasOwnUnits, AreLevelsFrom, BoundaryNeutralsAreAlike};
+    ghost use Rattle.bidi_base.specs.Laws.{HasOwnUnits, AreLevelsFrom, BoundaryNeutralsAreAlike, StaysLeftToRight};
     ghost use Rattle.bidi_base.specs.Levels.{has_rtl as has_rtl_of};
     ghost use Rattle.bidi_base.specs.Order.{visual_order, IsVisualOrder, order_by_reversals};
     ghost use Rattle.bidi_base.specs.Paragraphs.{paragraphs_of, each_separator, ranges_from, AreParagraphRanges};
@@ -72,6 +72,9 @@ impl<'t> BidiInfo<'t> {
 
         // Which character of class BN stands at a place changes no level of its paragraph.
         ensures boundary_neutrals_alike { BoundaryNeutralsAreAlike (D.source data_source.now) default_para_level }
+
+        // A paragraph of level 0 in which nothing can turn the direction has level 0 throughout.
+        ensures stays_left_to_right { StaysLeftToRight (D.source data_source.now) default_para_level }
     {
         let found = analysis::analyse(
             alloc,

@@ -8,7 +8,7 @@ use Rattle.bidi_base.specs.Laws.{HasOwnUnits, AreLevelsFrom}
 use Rattle.bidi_base.specs.Paragraphs.{paragraphs_of, each_separator, ranges_from, AreParagraphRanges}
 use Rattle.bidi_base.specs.Stored.{text_classes, text_levels, stored_levels, paragraph_levels}
 use Rattle.bidi_base.specs.Text.{per_unit, is_per_char}
-use Rattle.bidi_base.proofs.LevelLaws.{length-text_levels, BoundaryNeutralsAreAlike-all}
+use Rattle.bidi_base.proofs.LevelLaws.{length-text_levels, BoundaryNeutralsAreAlike-all, StaysLeftToRight-all}
 use Rattle.bidi_base.proofs.ParagraphsLemmas.{length-paragraph_classes, paragraphs-joined, paragraphs-AreParagraphRanges}
 use Rattle.bidi_base.proofs.PerCharTests.{class_test, level_test}
 use Rattle.bidi_base.proofs.StrLemmas.{has_units}
@@ -22,6 +22,12 @@ returns-in_err-found-clause-boundary_neutrals_alike g c = BoundaryNeutralsAreAli
 
 pub returns-clause-boundary_neutrals_alike : goal.returns-clause-boundary_neutrals_alike
 returns-clause-boundary_neutrals_alike g c = BoundaryNeutralsAreAlike-all (g.D.BidiDataSource.source c.args.data_source.now) c.args.default_para_level
+
+pub returns-in_err-found-clause-stays_left_to_right : goal.returns-in_err-found-clause-stays_left_to_right
+returns-in_err-found-clause-stays_left_to_right g c = StaysLeftToRight-all (g.D.BidiDataSource.source c.args.data_source.now) c.args.default_para_level
+
+pub returns-clause-stays_left_to_right : goal.returns-clause-stays_left_to_right
+returns-clause-stays_left_to_right g c = StaysLeftToRight-all (g.D.BidiDataSource.source c.args.data_source.now) c.args.default_para_level
 
 pub invariant_of-result : goal.invariant_of-result
 invariant_of-result g c =
