@@ -1,5 +1,5 @@
 -- The levels of a paragraph: how many they are, where they lie, and that one character of class BN is as good as another.
-use Rattle.std.proofs.Common.{◌≡◌, ℕ, ◌≤◌, List, [], ◌∷◌, ◌++◌, length, get_or, map, Option, Some, None, refl, ap, ◌∙◌, append-nil, arith}
+use Rattle.std.proofs.Common.{◌≡◌, ℕ, ◌≤◌, List, [], ◌∷◌, length, map, Option, Some, None, refl, ap, ◌∙◌, append-nil, arith}
 use Rattle.std.specs.Prelude.{All, IfSome, replicate}
 use Rattle.std.proofs.lemmas.List.{length-map}
 use Rattle.std.proofs.lemmas.List.Elements.{All-nil, All-head, All-tail, All-append, All-replicate}
@@ -8,11 +8,11 @@ use Rattle.bidi_base.specs.declared.char_data.BidiClass.TheVariants.{R, AL}
 use Rattle.bidi_base.specs.Isolates.{deciding_class, level_by, paragraph_level, stored_classes}
 use Rattle.bidi_base.specs.Laws.{AreLevelsFrom, BoundaryNeutralsAreAlike}
 use Rattle.bidi_base.specs.Source.{Source}
-use Rattle.bidi_base.specs.Stored.{levels_in, stored_levels, text_classes, text_levels, paragraph_levels}
+use Rattle.bidi_base.specs.Stored.{stored_levels, text_classes, text_levels, paragraph_levels}
 use Rattle.bidi_base.specs.Text.{per_unit}
 use Rattle.bidi_base.proofs.ParagraphsLemmas.{joined}
 use Rattle.bidi_base.proofs.PieceUnits.{length-values}
-use Rattle.bidi_base.proofs.ResolvedLemmas.{IsStoredIn, length-levels_in, levels_in-IsStoredIn, stored_levels-BN}
+use Rattle.bidi_base.proofs.ResolvedLemmas.{length-levels_in, levels_in-IsStoredIn, stored_levels-BN}
 
 -- ---- the paragraph level
 
