@@ -15,8 +15,10 @@ pub mod LevelLaws
 pub mod LevelTableLemmas
 pub mod LevelsInLemmas
 pub mod LevelsLemmas
+pub mod MatchLevelsLemmas
 pub mod MatchingLemmas
 pub mod NeutralLemmas
+pub mod NeutralSource
 pub mod OpenMatches
 pub mod OpenersStack
 pub mod OrderLemmas
@@ -29,6 +31,7 @@ pub mod PermutationLemmas
 pub mod PieceUnits
 pub mod PlaceLemmas
 pub mod PlacesLemmas
+pub mod PureLtrLemmas
 pub mod ReadStack
 pub mod ReadingLemmas
 pub mod ResolvedLemmas

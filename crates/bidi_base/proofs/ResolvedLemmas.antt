@@ -45,6 +45,12 @@ module _ (source : List BidiClass) (brackets : List (Option BidiMatchedOpeningBr
   AreResolved-push new [] s h e = (e, tt)
   AreResolved-push new (r ∷ seqs) s h e = (h.0, AreResolved-push new seqs s h.1 e)
 
+  -- all of them, one by one
+  pub AreResolved-each : (new : List ℕ) (seqs : List RunSequence) → ((k : ℕ) (d : RunSequence) → k < length seqs → at_places 0 new (get_or seqs k d).places ≡ resolved_levels source brackets levels classes (get_or seqs k d))
+      → AreResolved source brackets levels classes new seqs
+  AreResolved-each new [] each = tt
+  AreResolved-each new (s ∷ seqs) each = (each 0 s (omega arith), AreResolved-each new seqs (λ k d within. each (suc k) d (omega arith)))
+
 -- ---- lengths
 
 length-weak_classes : (sos : BidiClass) (classes : List BidiClass) → length (weak_classes sos classes) ≡ length classes

@@ -16,6 +16,7 @@ pub mod Resolving
 pub mod Reversed
 pub mod RunText
 pub mod RunsLemmas
+pub mod StoredLine
 pub mod Stretches
 pub mod TextOfLine
 pub mod TextRead
