@@ -1,5 +1,5 @@
 -- The levels of a paragraph: how many they are, where they lie, and that one character of class BN is as good as another.
-use Rattle.std.proofs.Common.{◌≡◌, ℕ, ◌≤◌, List, [], ◌∷◌, ◌++◌, length, get_or, map, Option, Some, None, refl, ap, ◌∙◌, append-nil, arith}
+use Rattle.std.proofs.Common.{◌≡◌, ℕ, ◌≤◌, List, [], ◌∷◌, length, map, Option, Some, None, refl, ap, ◌∙◌, append-nil, arith}
 use Rattle.std.specs.Prelude.{All, IfSome, replicate}
 use Rattle.std.proofs.lemmas.List.{length-map}
 use Rattle.std.proofs.lemmas.List.Elements.{All-nil, All-head, All-tail, All-append, All-replicate}
@@ -13,7 +13,7 @@ use Rattle.bidi_base.specs.Text.{per_unit}
 use Rattle.bidi_base.proofs.ParagraphsLemmas.{joined}
 use Rattle.bidi_base.proofs.PieceUnits.{length-values}
 use Rattle.bidi_base.proofs.PureLtrLemmas.{levels_in-pure_ltr}
-use Rattle.bidi_base.proofs.ResolvedLemmas.{IsStoredIn, length-levels_in, levels_in-IsStoredIn, stored_levels-BN}
+use Rattle.bidi_base.proofs.ResolvedLemmas.{length-levels_in, levels_in-IsStoredIn, stored_levels-BN}
 
 -- ---- the paragraph level
 
