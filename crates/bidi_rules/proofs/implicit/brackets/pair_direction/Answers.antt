@@ -1,0 +1,20 @@
+use Rattle.std.proofs.Common.{◌+◌, true, false, Some, slice_range, is_some, refl, sym, ap, ◌∙◌}
+use Rattle.std.specs.List.{list_any}
+use Rattle.bidi_base.specs.Classes.{as_direction}
+use Rattle.bidi_base.proofs.BracketRules.{pair_direction-tests}
+use Rattle.bidi_rules.proofs.implicit.brackets.pair_direction.Goals as goal
+
+pub returns-then-has_direction : goal.returns-then-has_direction
+returns-then-has_direction c =
+    let a = c.args in
+    sym (pair_direction-tests a.embedding a.sos a.classes.now a.pair true (list_any (λ x. is_some (as_direction x)) (slice_range a.classes.now (a.pair.0 + 1) a.pair.1)) c.if-has_direction.ensures refl)
+
+pub returns-then-has_any_direction : goal.returns-then-has_any_direction
+returns-then-has_any_direction c =
+    let a = c.args in
+    ap Some c.context.ensures ∙ sym (pair_direction-tests a.embedding a.sos a.classes.now a.pair false true c.if-has_direction.ensures c.if-has_any_direction.ensures)
+
+pub returns-else-has_any_direction : goal.returns-else-has_any_direction
+returns-else-has_any_direction c =
+    let a = c.args in
+    sym (pair_direction-tests a.embedding a.sos a.classes.now a.pair false false c.if-has_direction.ensures c.if-has_any_direction.ensures)

@@ -1,0 +1,40 @@
+use Rattle.std.proofs.Common.{List, length, get_or, sym, ap, ◌∙◌, arith}
+use Rattle.bidi_base.specs.declared.char_data.BidiClass.{BidiClass}
+use Rattle.bidi_base.specs.Neutral.{n0_pair}
+use Rattle.bidi_base.proofs.BracketRules.{with_bracket, n0_pair-Some, n0_pair-None, n0-none, n0-more}
+use Rattle.bidi_base.proofs.NestedPairs.{AreNestedPairs-get}
+use Rattle.bidi_rules.proofs.implicit.brackets.resolve_pairs.Goals as goal
+use Rattle.bidi_rules.proofs.implicit.brackets.resolve_pairs.Goals.{in-Some, in_default}
+
+pub loop-pair-init : goal.loop-pair-init
+loop-pair-init c = sym (n0-none c.args.embedding c.args.sos c.args.source.now c.args.classes.now)
+
+pub pair_direction-requires : goal.pair_direction-requires
+pair_direction-requires c =
+    let within = AreNestedPairs-get (length c.args.classes.now) c.args.pairs.now c.loop-pair.pair-index (0, 0) c.requires.pairs c.loop-pair-test.true in (within.0, omega (arith, within.1))
+
+pub set_direction-requires-clause-bracket : goal.set_direction-requires-clause-bracket
+set_direction-requires-clause-bracket c =
+    let within = AreNestedPairs-get (length c.args.classes.now) c.args.pairs.now c.loop-pair.pair-index (0, 0) c.requires.pairs c.loop-pair-test.true in omega (arith, within.0, within.1)
+
+pub set_direction-requires-in-Some-clause-bracket : goal.set_direction-requires-in-Some-clause-bracket
+set_direction-requires-in-Some-clause-bracket c =
+    let within = AreNestedPairs-get (length c.args.classes.now) c.args.pairs.now c.loop-pair.pair-index (0, 0) c.requires.pairs c.loop-pair-test.true in omega (arith, within.1)
+
+pub loop-pair-preserved : goal.loop-pair-preserved
+loop-pair-preserved c =
+    let a = c.args in
+    let s = c.loop-pair in
+    let pair = get_or a.pairs.now s.pair-index (0, 0) in
+    let step = ap (λ (cs : List BidiClass). n0_pair a.embedding a.sos a.source.now cs pair) s.invariant ∙ sym (n0-more a.embedding a.sos a.source.now a.classes.now a.pairs.now s.pair-index (0, 0) c.loop-pair-test.true) in
+    elim c.match-pair_direction.branch [
+      | in-Some w ↦
+          let d = w.in-Some.direction in
+          w.classes-is
+          ∙ w.set_direction-in-Some.ensures
+          ∙ ap (λ (cs : List BidiClass). with_bracket a.source.now pair.1 cs d) w.set_direction.ensures
+          ∙ sym (n0_pair-Some a.embedding a.sos a.source.now s.classes pair d (sym c.pair_direction.ensures ∙ w.in-Some.is))
+          ∙ step
+      | in_default w ↦
+          w.classes-is ∙ sym (n0_pair-None a.embedding a.sos a.source.now s.classes pair (sym c.pair_direction.ensures ∙ w.in_default.is)) ∙ step
+    ]
