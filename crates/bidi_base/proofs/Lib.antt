@@ -20,6 +20,7 @@ pub mod NeutralLemmas
 pub mod NestedPairs
 pub mod OpenMatches
 pub mod OpenersStack
+pub mod OpeningSearch
 pub mod OrderLemmas
 pub mod PairsLemmas
 pub mod ParagraphsLemmas

@@ -91,7 +91,7 @@ module _ (brackets : List (Option BidiMatchedOpeningBracket)) where
       sym (find-filter p q (reverse (between 0 j))) ∙ ap (find q) (sym (filter-reverse p (between 0 j)))
 
   -- one step of the pairs
-  with_closing-none : (pairs : List (ℕ × ℕ)) (j : ℕ) → partner brackets pairs j ≡ None → with_closing brackets pairs j ≡ pairs
+  pub with_closing-none : (pairs : List (ℕ × ℕ)) (j : ℕ) → partner brackets pairs j ≡ None → with_closing brackets pairs j ≡ pairs
   unfolding with_closing
   with_closing-none pairs j none =
       ap (λ (o : Option ℕ). cond (is_closing (bracket_at brackets j)) (pairs ++ option_to_list (option_map (λ (i : ℕ). (i, j)) o)) pairs) none
@@ -101,11 +101,11 @@ module _ (brackets : List (Option BidiMatchedOpeningBracket)) where
       by_test true = append-nil pairs
       by_test false = refl
 
-  with_closing-other : (pairs : List (ℕ × ℕ)) (j : ℕ) → is_closing (bracket_at brackets j) ≡ false → with_closing brackets pairs j ≡ pairs
+  pub with_closing-other : (pairs : List (ℕ × ℕ)) (j : ℕ) → is_closing (bracket_at brackets j) ≡ false → with_closing brackets pairs j ≡ pairs
   unfolding with_closing
   with_closing-other pairs j other = cond-false (is_closing (bracket_at brackets j)) (pairs ++ option_to_list (option_map (λ (i : ℕ). (i, j)) (partner brackets pairs j))) pairs other
 
-  with_closing-pair : (pairs : List (ℕ × ℕ)) (j i : ℕ) → is_closing (bracket_at brackets j) ≡ true → partner brackets pairs j ≡ Some i → with_closing brackets pairs j ≡ pairs ++ (i, j) ∷ []
+  pub with_closing-pair : (pairs : List (ℕ × ℕ)) (j i : ℕ) → is_closing (bracket_at brackets j) ≡ true → partner brackets pairs j ≡ Some i → with_closing brackets pairs j ≡ pairs ++ (i, j) ∷ []
   unfolding with_closing
   with_closing-pair pairs j i closing found =
       cond-true (is_closing (bracket_at brackets j)) (pairs ++ option_to_list (option_map (λ (i : ℕ). (i, j)) (partner brackets pairs j))) pairs closing

@@ -2,7 +2,6 @@ use Rattle.std.proofs.Common.{List, length, get_or, sym, ap, ◌∙◌, arith}
 use Rattle.bidi_base.specs.declared.char_data.BidiClass.{BidiClass}
 use Rattle.bidi_base.specs.Neutral.{n0_pair}
 use Rattle.bidi_base.proofs.BracketRules.{with_bracket, n0_pair-Some, n0_pair-None, n0-none, n0-more}
-use Rattle.bidi_base.proofs.NestedPairs.{AreNestedPairs-get}
 use Rattle.bidi_rules.proofs.implicit.brackets.resolve_pairs.Goals as goal
 use Rattle.bidi_rules.proofs.implicit.brackets.resolve_pairs.Goals.{in-Some, in_default}
 
@@ -11,15 +10,15 @@ loop-pair-init c = sym (n0-none c.args.embedding c.args.sos c.args.source.now c.
 
 pub pair_direction-requires : goal.pair_direction-requires
 pair_direction-requires c =
-    let within = AreNestedPairs-get (length c.args.classes.now) c.args.pairs.now c.loop-pair.pair-index (0, 0) c.requires.pairs c.loop-pair-test.true in (within.0, omega (arith, within.1))
+    let within = c.requires.pairs.0 c.loop-pair.pair-index (0, 0) c.loop-pair-test.true in (within.0, omega (arith, within.1))
 
 pub set_direction-requires-clause-bracket : goal.set_direction-requires-clause-bracket
 set_direction-requires-clause-bracket c =
-    let within = AreNestedPairs-get (length c.args.classes.now) c.args.pairs.now c.loop-pair.pair-index (0, 0) c.requires.pairs c.loop-pair-test.true in omega (arith, within.0, within.1)
+    let within = c.requires.pairs.0 c.loop-pair.pair-index (0, 0) c.loop-pair-test.true in omega (arith, within.0, within.1)
 
 pub set_direction-requires-in-Some-clause-bracket : goal.set_direction-requires-in-Some-clause-bracket
 set_direction-requires-in-Some-clause-bracket c =
-    let within = AreNestedPairs-get (length c.args.classes.now) c.args.pairs.now c.loop-pair.pair-index (0, 0) c.requires.pairs c.loop-pair-test.true in omega (arith, within.1)
+    let within = c.requires.pairs.0 c.loop-pair.pair-index (0, 0) c.loop-pair-test.true in omega (arith, within.1)
 
 pub loop-pair-preserved : goal.loop-pair-preserved
 loop-pair-preserved c =
