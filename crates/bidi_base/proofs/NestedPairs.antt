@@ -1,8 +1,8 @@
 -- Bracket pairs never cross: each stands behind those that open before it, or within them.
-use Rattle.std.proofs.Common.{◌≡◌, ℕ, zero, suc, ◌+◌, ◌-◌, ◌<◌, ◌≤◌, Bool, true, false, not, ◌&&◌, eqb, ltb, leb, List, [], ◌∷◌, ◌++◌, length, get_or, find, filter_map, Option, Some, None, refl, sym, ap, subst, ◌∙◌, ◌⊎◌, arith, inl, inr, add-one, eqb-true, lt-ltb}
+use Rattle.std.proofs.Common.{◌≡◌, ℕ, zero, suc, ◌+◌, ◌-◌, ◌<◌, Bool, true, false, not, ◌&&◌, eqb, ltb, leb, List, [], ◌∷◌, ◌++◌, length, get_or, find, filter_map, Option, Some, None, refl, sym, ap, subst, ◌∙◌, ◌⊎◌, arith, inl, inr, add-one, eqb-true, lt-ltb}
 use Rattle.std.specs.Prelude.{All}
 use Rattle.std.specs.List.{range_with_len, cons_option, AllByRecursion, AllPairs}
-use Rattle.std.proofs.lemmas.Bool.{cases_Bool, cases_lt, cases_order, both_ways, and_parts, and_from, cond-true, cond-false, le-leb, not-true}
+use Rattle.std.proofs.lemmas.Bool.{cases_Bool, cases_lt, cases_order, both_ways, and_parts, and_from, le-leb, not-true}
 use Rattle.std.proofs.lemmas.List.{length-append, get_or_append_left}
 use Rattle.std.proofs.Math.Seq.{get_or-append_seam}
 use Rattle.std.proofs.lemmas.List.Elements.{All-append, All-cons, All-nil, All-from_recursion}
@@ -10,34 +10,9 @@ use Rattle.std.proofs.lemmas.List.Folds.{list_any_at}
 use Rattle.std.proofs.lemmas.List.Kept.{AllPairs-cons}
 use Rattle.bidi_base.specs.declared.char_data.BidiClass.{BidiClass}
 use Rattle.bidi_base.specs.declared.data_source.BidiMatchedOpeningBracket.{BidiMatchedOpeningBracket}
-use Rattle.bidi_base.specs.Places.{indexes}
-use Rattle.bidi_base.specs.Brackets.{counted_brackets, bracket_at, is_opening, is_closing, is_same_bracket, is_taken, is_available, partner, closed_pairs, bracket_limit, pairs_of, bracket_pairs, ArePairsWithin, IsBehindOrWithin, AreNestedPairs}
-use Rattle.bidi_base.proofs.PlacesLemmas.{find_last-range_with_len}
-use Rattle.bidi_base.proofs.PairsLemmas.{closed_before, closed_before-more, closed_before-in_order, with_closing-none, with_closing-other, with_closing-pair, bracket_pairs-in_order}
-
--- what a search finds passes the test
-find-passes : (test : ℕ × ℕ → Bool) (pairs : List (ℕ × ℕ)) (p : ℕ × ℕ) → find test pairs ≡ Some p → test p ≡ true
-find-passes test [] p e = absurd (cc e)
-find-passes test (q ∷ pairs) p e = elim (cases_Bool (test q)) [
-  | inl yes' ↦
-      let here : Some q ≡ Some p = sym (cond-true (test q) (Some q) (find test pairs) yes') ∙ e in
-      let same : q ≡ p = cc here in
-      subst (λ (x : ℕ × ℕ). test x ≡ true) same yes'
-  | inr no' ↦ find-passes test pairs p (sym (cond-false (test q) (Some q) (find test pairs) no') ∙ e)
-]
-
--- and stands in the list
-find-index : (test : ℕ × ℕ → Bool) (pairs : List (ℕ × ℕ)) (p d : ℕ × ℕ) → find test pairs ≡ Some p → (k : ℕ) × (k < length pairs) × (get_or pairs k d ≡ p)
-find-index test [] p d e = absurd (cc e)
-find-index test (q ∷ pairs) p d e = elim (cases_Bool (test q)) [
-  | inl yes' ↦
-      let here : Some q ≡ Some p = sym (cond-true (test q) (Some q) (find test pairs) yes') ∙ e in
-      let same : q ≡ p = cc here in
-      (0, omega arith, same)
-  | inr no' ↦
-      let h = find-index test pairs p d (sym (cond-false (test q) (Some q) (find test pairs) no') ∙ e) in
-      (suc h.0, omega (arith, h.1), h.2)
-]
+use Rattle.bidi_base.specs.Brackets.{counted_brackets, bracket_at, is_opening, is_closing, is_same_bracket, is_taken, is_available, partner, closed_pairs, bracket_limit, pairs_of, bracket_pairs, IsBehindOrWithin, AreNestedPairs}
+use Rattle.bidi_base.proofs.PlacesLemmas.{find-passes, find-index, find_last-range_with_len}
+use Rattle.bidi_base.proofs.PairsLemmas.{closed_before, closed_before-more, with_closing-none, with_closing-other, with_closing-pair, bracket_pairs-in_order}
 
 -- pairs found one at an index, where each stands rightly to those before
 module _ (f : ℕ → Option (ℕ × ℕ)) (apart : (i m : ℕ) (p q : ℕ × ℕ) → f i ≡ Some p → f m ≡ Some q → i < m → IsBehindOrWithin p q) where

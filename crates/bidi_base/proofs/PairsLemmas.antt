@@ -1,6 +1,6 @@
 -- Bracket pairs in one pass from the front: what is closed and what waits at each place, and what the pass has found at its end.
 use Rattle.std.proofs.Common.{◌≡◌, ℕ, zero, suc, ◌+◌, ◌-◌, ◌<◌, ◌≤◌, Bool, true, false, not, cond, ◌&&◌, ◌||◌, eqb, ltb, leb, List, [], ◌∷◌, ◌++◌, map, length, get_or, take, set, reverse, filter, filter_map, find, fold, option_to_list, Option, Some, None, option_map, unwrap_or, refl, sym, ap, subst, ◌∙◌, ◌⊎◌, arith, inl, inr, append-nil, append_assoc, add-one, length-set, get_or-set_same, get_or-set_other, eqb-true, eq-eqb, ne_eqb, lt-ltb, le-ltb}
-use Rattle.std.specs.Prelude.{⊤, All}
+use Rattle.std.specs.Prelude.{⊤}
 use Rattle.std.specs.List.{range_with_len, cons_option, AllByRecursion}
 use Rattle.std.specs.Option.{option_or}
 use Rattle.std.proofs.lemmas.Bool.{cases_Bool, cases_lt, cases_eq, and_right, lt-leb, cases_order, both_ways, and_parts, and_from, and_left, or_parts, cond-true, cond-false, not-true, le-leb}

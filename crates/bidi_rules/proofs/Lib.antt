@@ -1,4 +1,6 @@
+pub mod BracketSearch
 pub mod ExplicitUnits
+pub mod FoundBrackets
 pub mod InRuns
 pub mod KeptRangeLemmas
 pub mod LevelRunLemmas

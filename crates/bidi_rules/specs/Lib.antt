@@ -1,4 +1,5 @@
 pub mod ExplicitPass
+pub mod FoundBrackets
 pub mod Joining
 pub mod RunSequence
 pub mod Status
