@@ -22,6 +22,7 @@ pub mod OpenMatches
 pub mod OpenersStack
 pub mod OpeningSearch
 pub mod OrderLemmas
+pub mod PairChanges
 pub mod PairsLemmas
 pub mod ParagraphsLemmas
 pub mod PassLemmas

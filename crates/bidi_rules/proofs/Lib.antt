@@ -5,6 +5,7 @@ pub mod InRuns
 pub mod KeptRangeLemmas
 pub mod LevelRunLemmas
 pub mod Marks
+pub mod PairWalkLemmas
 pub mod PassOverText
 pub mod RunCutting
 pub mod RunJoined

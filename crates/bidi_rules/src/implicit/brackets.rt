@@ -1,14 +1,14 @@
 //! The bracket pairs of an isolating run sequence (BD14 to BD16) and what they take (N0), over its
 //! kept characters alone: an index counts the characters that X9 leaves.
 
-ghost use Rattle.std.specs.Prelude.{◌≡◌, ◌==◌, ◌||◌, false, ◌<◌, nat_lt, ◌≤◌, [], length, reverse, filter, map, is_some, slice_get, if◌then◌else◌, OnOk, IfSome, IfNone};
+ghost use Rattle.std.specs.Prelude.{◌≡◌, ◌==◌, ◌||◌, not, ◌<◌, nat_lt, ◌≤◌, [], length, reverse, filter, map, slice_get, if◌then◌else◌, OnOk, IfSome, IfNone};
 ghost use Rattle.std.specs.List.{list_any, prefix_len};
-ghost use Rattle.std.specs.Option.{option_map_or};
-ghost use Rattle.bidi_base.specs.Classes.{as_direction as as_direction_of, is_nsm, same_class};
+ghost use Rattle.bidi_base.specs.Classes.{as_direction as as_direction_of, is_nsm};
 ghost use Rattle.bidi_base.specs.Places.{class_at, find_last, indexes};
 ghost use Rattle.bidi_base.specs.Brackets.{AreNestedPairs};
-ghost use Rattle.bidi_base.specs.Neutral.{is_mark_after, n0, nearest_direction, pair_direction as pair_direction_of};
+ghost use Rattle.bidi_base.specs.Neutral.{is_mark_after, n0, nearest_direction};
 ghost use Rattle.bidi_rules.specs.FoundBrackets.{ArePairsOf};
+ghost use Rattle.bidi_rules.specs.PairWalk.{stands_for as stands_for_of, is_directed, first_pair_walk, come_to as come_to_of, enclosed_in, taken};
 
 use arrayvec::ArrayVec;
 use bidi_base::char_data::BidiClass::{self, AN, EN, L, NSM, R};
@@ -29,7 +29,7 @@ pub struct Bracket {
 }
 
 /// An opening that waits for its closing.
-#[derive(Clone, Copy)]
+#[derive(Clone, Copy, Debug)]
 struct Waiting {
     opening: char,
     /// Where its pair stands in the list of pairs.
@@ -111,6 +111,9 @@ fn drop_unclosed(pairs: &mut Vec<(usize, usize)>)
 
 /// N0: the pairs one by one, in the order of their openings. `source` has the classes that the data
 /// source gives, and `classes` those after W7.
+///
+/// One walk over the classes serves all pairs. Only a pair whose opening is a nonspacing mark by its
+/// source class is looked through once more, since it may stand among the marks behind another pair.
 pub fn resolve_pairs(
     embedding: BidiClass,
     sos: BidiClass,
@@ -122,58 +125,155 @@ pub fn resolve_pairs(
     requires pairs { AreNestedPairs (length classes.old) pairs.now }
     ensures { classes.new ≡ n0 embedding sos source.now pairs.now classes.old }
 {
+    let mut walk = PairWalk::new(sos);
     for pair in pairs {
-        if let Some(direction) = pair_direction(embedding, sos, classes, *pair) {
-            set_direction(source, classes, pair.0, direction);
-            set_direction(source, classes, pair.1, direction);
+        let (opening, closing) = *pair;
+        walk.come_to(embedding, classes, opening);
+        let enclosed = match source[opening] {
+            NSM => Enclosed::in_classes(embedding, &classes[opening + 1..closing]),
+            _ => walk.enclosed_before(closing),
+        };
+        if let Some(direction) = enclosed.pair_direction(embedding, walk.context) {
+            set_direction(source, classes, opening, direction);
+            set_direction(source, classes, closing, direction);
         }
     }
 }
 
-/// What a pair of brackets takes: the embedding direction if it stands inside (N0 b), otherwise,
-/// if the opposite one does, that of the context before the pair (N0 c), and else none (N0 d).
-fn pair_direction(
-    embedding: BidiClass,
-    sos: BidiClass,
-    classes: &[BidiClass],
-    pair: (usize, usize),
-) -> Option<BidiClass>
-    requires { (pair.0 < pair.1) × (pair.1 < length classes.now) }
-    ensures { result ≡ pair_direction_of embedding sos classes.now pair }
-{
-    let inside = &classes[pair.0 + 1..pair.1];
-    if has_direction(inside, embedding) {
-        Some(embedding)
-    } else if has_any_direction(inside) {
-        Some(context(sos, &classes[..pair.0]))
-    } else {
-        None
+/// Which directions stand strictly between the brackets of a pair.
+#[derive(Clone, Copy, Debug)]
+struct Enclosed {
+    /// Whether the embedding direction does.
+    embedding: bool,
+    /// Whether any direction does.
+    any: bool,
+}
+
+impl Enclosed {
+    /// Those in these classes.
+    fn in_classes(embedding: BidiClass, inside: &[BidiClass]) -> Enclosed
+        ensures { result ≡ enclosed_in embedding inside.now }
+    {
+        Enclosed {
+            embedding: has_direction(inside, embedding),
+            any: has_any_direction(inside),
+        }
+    }
+
+    /// What the pair takes: the embedding direction if it stands inside (N0 b), otherwise, if the
+    /// opposite one does, that of the context before the pair (N0 c), and else none (N0 d).
+    fn pair_direction(self, embedding: BidiClass, context: BidiClass) -> Option<BidiClass>
+        ensures { result ≡ taken embedding context self }
+    {
+        if self.embedding {
+            Some(embedding)
+        } else if self.any {
+            Some(context)
+        } else {
+            None
+        }
     }
 }
 
-fn has_direction(inside: &[BidiClass], direction: BidiClass) -> bool
-    ensures { result
-        ≡ list_any (λ c. option_map_or (same_class direction) (as_direction_of c) false) inside.now }
-{
-    inside.iter().any(|class| stands_for(*class, direction))
+/// A walk over the classes of a sequence that comes to one opening after the other. Pairs that are
+/// still to come change nothing before their openings, and those behind it nothing within them.
+#[derive(Clone, Copy, Debug)]
+struct PairWalk {
+    /// Where it stands.
+    at: usize,
+    /// The nearest direction before, or else sos.
+    context: BidiClass,
+    /// Where the embedding direction stands next, if that does not lie before.
+    next_embedding: usize,
+    /// Where any direction stands next, if that does not lie before.
+    next_direction: usize,
 }
 
-fn has_any_direction(inside: &[BidiClass]) -> bool
-    ensures { result ≡ list_any (λ c. is_some (as_direction_of c)) inside.now }
-{
-    inside.iter().any(|class| as_direction(*class).is_some())
+impl PairWalk {
+    /// The walk before the first pair.
+    fn new(sos: BidiClass) -> PairWalk
+        ensures { result ≡ first_pair_walk sos }
+    {
+        PairWalk {
+            at: 0,
+            context: sos,
+            next_embedding: 0,
+            next_direction: 0,
+        }
+    }
+
+    /// Goes on to an opening.
+    fn come_to(&mut self, embedding: BidiClass, classes: &[BidiClass], opening: usize)
+        requires ahead { self.old.at ≤ opening }
+        requires inside { opening < length classes.now }
+        ensures { self.new ≡ come_to_of embedding classes.now opening self.old }
+    {
+        let inside = opening + 1;
+        self.context = context(self.context, &classes[self.at..opening]);
+        self.at = opening;
+        if self.next_embedding < inside {
+            self.next_embedding = inside + count_without(embedding, &classes[inside..]);
+        }
+        if self.next_direction < inside {
+            self.next_direction = inside + count_undirected(&classes[inside..]);
+        }
+    }
+
+    /// The directions between the opening where the walk stands and its closing.
+    fn enclosed_before(&self, closing: usize) -> Enclosed
+        ensures { result ≡ record { embedding = nat_lt self.now.next_embedding closing; any = nat_lt self.now.next_direction closing } }
+    {
+        Enclosed {
+            embedding: self.next_embedding < closing,
+            any: self.next_direction < closing,
+        }
+    }
 }
 
-/// The nearest direction before a pair, looked for backwards, else sos.
-fn context(sos: BidiClass, before: &[BidiClass]) -> BidiClass
-    ensures { result ≡ nearest_direction sos (reverse before.now) }
+fn has_direction(classes: &[BidiClass], direction: BidiClass) -> bool
+    ensures { result ≡ list_any (stands_for_of direction) classes.now }
 {
-    for class in before.iter().rev() {
+    classes.iter().any(|class| stands_for(*class, direction))
+}
+
+fn has_any_direction(classes: &[BidiClass]) -> bool
+    ensures { result ≡ list_any is_directed classes.now }
+{
+    classes.iter().any(|class| as_direction(*class).is_some())
+}
+
+/// How many classes the list begins with that do not stand for this direction.
+fn count_without(direction: BidiClass, classes: &[BidiClass]) -> usize
+    ensures count { result ≡ prefix_len (λ c. not (stands_for_of direction c)) classes.now }
+    ensures within { result ≤ length classes.now }
+{
+    classes
+        .iter()
+        .take_while(|class| !stands_for(**class, direction))
+        .count()
+}
+
+/// How many classes the list begins with that stand for no direction.
+fn count_undirected(classes: &[BidiClass]) -> usize
+    ensures count { result ≡ prefix_len (λ c. not (is_directed c)) classes.now }
+    ensures within { result ≤ length classes.now }
+{
+    classes
+        .iter()
+        .take_while(|class| as_direction(**class).is_none())
+        .count()
+}
+
+/// The nearest direction in these classes, looked for backwards, or else the one given.
+fn context(before: BidiClass, classes: &[BidiClass]) -> BidiClass
+    ensures { result ≡ nearest_direction before (reverse classes.now) }
+{
+    for class in classes.iter().rev() {
         if let Some(direction) = as_direction(*class) {
             return direction;
         }
     }
-    sos
+    before
 }
 
 /// Gives a bracket a direction, and the characters directly after it that are nonspacing marks by
@@ -213,7 +313,7 @@ fn as_direction(class: BidiClass) -> Option<BidiClass>
 }
 
 fn stands_for(class: BidiClass, direction: BidiClass) -> bool
-    ensures { result ≡ option_map_or (same_class direction) (as_direction_of class) false }
+    ensures { result ≡ stands_for_of direction class }
 {
     match as_direction(class) {
         Some(found) => direction == found,

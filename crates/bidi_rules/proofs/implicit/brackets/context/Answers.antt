@@ -19,17 +19,17 @@ nearest_direction-drop d all n c o h is =
 
 pub returns-in-Some-as_direction : goal.returns-in-Some-as_direction
 returns-in-Some-as_direction c =
-    let t = YieldsList-turn (YieldsList-from_rev_slice c.args.before.now cc) c.loop-class.yielded _ c.loop-class.yielded_by _ _ c.in-Some.class c.in-Some.is c.next.ensures.steps in
-    sym (c.loop-class.invariant ∙ nearest_direction-drop c.args.sos (reverse c.args.before.now) (length c.loop-class.yielded) c.in-Some.class.now _ t (sym c.in-Some-as_direction.is ∙ c.as_direction.ensures))
+    let t = YieldsList-turn (YieldsList-from_rev_slice c.args.classes.now cc) c.loop-class.yielded _ c.loop-class.yielded_by _ _ c.in-Some.class c.in-Some.is c.next.ensures.steps in
+    sym (c.loop-class.invariant ∙ nearest_direction-drop c.args.before (reverse c.args.classes.now) (length c.loop-class.yielded) c.in-Some.class.now _ t (sym c.in-Some-as_direction.is ∙ c.as_direction.ensures))
 
 pub loop-class-preserved : goal.loop-class-preserved
 loop-class-preserved c =
-    let t = YieldsList-turn (YieldsList-from_rev_slice c.args.before.now cc) c.loop-class.yielded _ c.loop-class.yielded_by _ _ c.in-Some.class c.in-Some.is c.next.ensures.steps in
+    let t = YieldsList-turn (YieldsList-from_rev_slice c.args.classes.now cc) c.loop-class.yielded _ c.loop-class.yielded_by _ _ c.in-Some.class c.in-Some.is c.next.ensures.steps in
     c.loop-class.invariant
-    ∙ nearest_direction-drop c.args.sos (reverse c.args.before.now) (length c.loop-class.yielded) c.in-Some.class.now None t (sym c.in_default.is ∙ c.as_direction.ensures)
-    ∙ ap (λ n. nearest_direction c.args.sos (drop n (reverse c.args.before.now))) (sym (length_push c.loop-class.yielded c.in-Some.class))
+    ∙ nearest_direction-drop c.args.before (reverse c.args.classes.now) (length c.loop-class.yielded) c.in-Some.class.now None t (sym c.in_default.is ∙ c.as_direction.ensures)
+    ∙ ap (λ n. nearest_direction c.args.before (drop n (reverse c.args.classes.now))) (sym (length_push c.loop-class.yielded c.in-Some.class))
 
 pub returns : goal.returns
 returns c =
-    let t = YieldsList-end (YieldsList-from_rev_slice c.args.before.now cc) c.loop-class.yielded _ c.loop-class.yielded_by _ _ c.in-None.is c.next.ensures.steps in
-    sym (c.loop-class.invariant ∙ at_drop_all (nearest_direction c.args.sos) (reverse c.args.before.now) (length c.loop-class.yielded) (omega (arith, t.1)))
+    let t = YieldsList-end (YieldsList-from_rev_slice c.args.classes.now cc) c.loop-class.yielded _ c.loop-class.yielded_by _ _ c.in-None.is c.next.ensures.steps in
+    sym (c.loop-class.invariant ∙ at_drop_all (nearest_direction c.args.before) (reverse c.args.classes.now) (length c.loop-class.yielded) (omega (arith, t.1)))
