@@ -1,4 +1,5 @@
 pub mod AgreeLemmas
+pub mod BracketRules
 pub mod BracketsLemmas
 pub mod ChainLemmas
 pub mod ClassesLemmas
@@ -19,9 +20,12 @@ pub mod MatchLevelsLemmas
 pub mod MatchingLemmas
 pub mod NeutralLemmas
 pub mod NeutralSource
+pub mod NestedPairs
 pub mod OpenMatches
 pub mod OpenersStack
+pub mod OpeningSearch
 pub mod OrderLemmas
+pub mod PairChanges
 pub mod PairsLemmas
 pub mod ParagraphsLemmas
 pub mod PassLemmas
