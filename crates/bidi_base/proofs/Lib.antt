@@ -1,4 +1,5 @@
 pub mod AgreeLemmas
+pub mod BracketRules
 pub mod BracketsLemmas
 pub mod ChainLemmas
 pub mod ClassesLemmas
@@ -16,9 +17,12 @@ pub mod LevelsInLemmas
 pub mod LevelsLemmas
 pub mod MatchingLemmas
 pub mod NeutralLemmas
+pub mod NestedPairs
 pub mod OpenMatches
 pub mod OpenersStack
+pub mod OpeningSearch
 pub mod OrderLemmas
+pub mod PairChanges
 pub mod PairsLemmas
 pub mod ParagraphsLemmas
 pub mod PassLemmas

@@ -1,6 +1,5 @@
 mod Blocks
 mod BracketPass
-mod BracketRules
 mod ExplicitPass
 mod ListPass
 mod NeutralBlocks

@@ -10,6 +10,7 @@ use Rattle.bidi_base.specs.declared.char_data.BidiClass.TheVariants.{L, R, EN, A
 use Rattle.bidi_base.specs.Classes.{as_direction, has_direction, is_neutral, is_weak_resolved, same_class}
 use Rattle.bidi_base.specs.Neutral.{nearest_direction, n1_rule}
 use Rattle.bidi_base.proofs.PlacesLemmas.{reverse-take_more}
+use Rattle.bidi_base.proofs.NeutralLemmas.{nearest_direction-more}
 use Rattle.bidi_base.proofs.InPlace.{IsRewritten, IsRewritten-start, IsRewritten-keep}
 use Rattle.bidi_plain.proofs.Blocks.{IsBlock, IsBlock-counted, length-part, read_later, look-drop, look-take, answer, IsRewritten-filled, IsRewritten-past}
 
@@ -23,10 +24,6 @@ passes d RLI cs e = refl
 passes d FSI cs e = refl
 passes d PDI cs e = refl
 passes d _ cs e = absurd (cc e)
-
-pub nearest_direction-more : (d c : BidiClass) (cs : List BidiClass) → nearest_direction d (c ∷ cs) ≡ unwrap_or (as_direction c) (nearest_direction d cs)
-nearest_direction-more d L cs = refl
-nearest_direction-more d _ cs = refl
 
 -- a class with a direction needs no other
 directed : (c x y : BidiClass) → has_direction c ≡ true → unwrap_or (as_direction c) x ≡ unwrap_or (as_direction c) y

@@ -1,8 +1,11 @@
+pub mod BracketSearch
 pub mod ExplicitUnits
+pub mod FoundBrackets
 pub mod InRuns
 pub mod KeptRangeLemmas
 pub mod LevelRunLemmas
 pub mod Marks
+pub mod PairWalkLemmas
 pub mod PassOverText
 pub mod RunCutting
 pub mod RunJoined
