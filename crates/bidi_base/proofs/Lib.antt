@@ -1,4 +1,5 @@
 pub mod AgreeLemmas
+pub mod Blocks
 pub mod BracketRules
 pub mod BracketsLemmas
 pub mod ChainLemmas
@@ -16,8 +17,9 @@ pub mod LevelTableLemmas
 pub mod LevelsInLemmas
 pub mod LevelsLemmas
 pub mod MatchingLemmas
-pub mod NeutralLemmas
 pub mod NestedPairs
+pub mod NeutralBlocks
+pub mod NeutralLemmas
 pub mod OpenMatches
 pub mod OpenersStack
 pub mod OpeningSearch
