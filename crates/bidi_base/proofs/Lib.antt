@@ -1,4 +1,5 @@
 pub mod AgreeLemmas
+pub mod Blocks
 pub mod BracketRules
 pub mod BracketsLemmas
 pub mod ChainLemmas
@@ -21,6 +22,8 @@ pub mod MatchingLemmas
 pub mod NeutralLemmas
 pub mod NeutralSource
 pub mod NestedPairs
+pub mod NeutralBlocks
+pub mod NeutralLemmas
 pub mod OpenMatches
 pub mod OpenersStack
 pub mod OpeningSearch

@@ -1,8 +1,6 @@
-mod Blocks
 mod BracketPass
 mod ExplicitPass
 mod ListPass
-mod NeutralBlocks
 mod OpenersLemmas
 mod Scans
 mod Separators
