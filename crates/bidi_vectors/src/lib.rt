@@ -18,6 +18,8 @@ mod plain_weak;
 #[cfg(test)]
 mod run_rows;
 #[cfg(test)]
+mod sequence_units_rows;
+#[cfg(test)]
 mod source_rows;
 #[cfg(test)]
 mod text_rows;
