@@ -22,6 +22,7 @@ mod plain_weak;
 mod run_rows;
 #[cfg(test)]
 mod run_walks_rows;
+mod sequence_units_rows;
 #[cfg(test)]
 mod source_rows;
 #[cfg(test)]
