@@ -19,11 +19,10 @@ pub mod LevelsInLemmas
 pub mod LevelsLemmas
 pub mod MatchLevelsLemmas
 pub mod MatchingLemmas
-pub mod NeutralLemmas
-pub mod NeutralSource
 pub mod NestedPairs
 pub mod NeutralBlocks
 pub mod NeutralLemmas
+pub mod NeutralSource
 pub mod OpenMatches
 pub mod OpenersStack
 pub mod OpeningSearch
