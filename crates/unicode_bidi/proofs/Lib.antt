@@ -15,6 +15,8 @@ pub mod Resolving
 pub mod Reversed
 pub mod RunText
 pub mod RunsLemmas
+pub mod SequenceUnits
+pub mod SequencesInPlace
 pub mod Stretches
 pub mod TextOfLine
 pub mod TextRead
