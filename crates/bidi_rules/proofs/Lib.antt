@@ -7,6 +7,7 @@ pub mod PassOverText
 pub mod RunCutting
 pub mod RunJoined
 pub mod RunJoining
+pub mod RunLoop
 pub mod RunPass
 pub mod RunReading
 pub mod RunUnits

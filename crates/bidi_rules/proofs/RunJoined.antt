@@ -1,24 +1,24 @@
 -- The pass over level runs as ranges of units: what has been joined so far, and the sequences at the end.
-use Rattle.std.proofs.Common.{◌≡◌, ℕ, zero, suc, ◌+◌, ◌-◌, ◌<◌, ◌≤◌, Bool, true, false, cond, eqb, max, List, [], ◌∷◌, ◌++◌, length, map, get_or, set, take, append-nil, append_assoc, length-append, Option, Some, None, refl, sym, ap, subst, ◌∙◌, arith, inl, inr, lt-ltb}
+use Rattle.std.proofs.Common.{◌≡◌, ℕ, zero, suc, ◌+◌, ◌-◌, ◌<◌, ◌≤◌, Bool, true, false, cond, eqb, max, List, [], ◌∷◌, ◌++◌, length, map, get_or, set, take, append_assoc, Option, Some, None, refl, sym, ap, subst, ◌∙◌, arith, inl, inr, lt-ltb}
 use Rattle.std.specs.Prelude.{filter, flat_map, IfSome, All, nat_lt, is_some, not, ◌&&◌, IsPermutation}
 use Rattle.std.specs.List.{range_with_len, fold}
 use Rattle.std.proofs.lemmas.Bool.{cond-true, cond-false, both_ways}
-use Rattle.std.proofs.lemmas.List.{length-map, map-append, map-set, get_or-map, take_all}
+use Rattle.std.proofs.lemmas.List.{length-map, map-append, map-set, get_or-map}
 use Rattle.std.proofs.lemmas.List.Elements.{All-push, All-set, All-get_or, All-weaker, All-nil, All-cons}
 use Rattle.std.proofs.lemmas.List.Sorted.{IsPermutation-refl, IsPermutation-trans, IsPermutation-append_left, IsPermutation-append_right, IsPermutation-append_comm}
 use Rattle.std.proofs.lemmas.Grind.{flat_map-append}
 use Rattle.bidi_base.specs.declared.char_data.BidiClass.{BidiClass}
 use Rattle.bidi_base.specs.Classes.{is_initiator, is_pdi}
 use Rattle.bidi_base.specs.Levels.{direction_of}
-use Rattle.bidi_base.specs.Places.{class_at, last_or, first_or, between, indexes}
+use Rattle.bidi_base.specs.Places.{class_at, last_or, first_or, between}
 use Rattle.bidi_base.specs.Isolates.{is_initiator_at}
 use Rattle.bidi_base.specs.Sequences.{RunSequence, is_kept_at, kept_places, kept_before, level_at, level_or, start_class, end_class, with_ends, sequence_from, is_first, have_one_level, sequences, has_places, begins_run, run_starts}
 use Rattle.bidi_base.specs.SequencePass.{read_class, waiting_for, index_of}
-use Rattle.bidi_base.specs.Text.{place, text_len, IsLine}
-use Rattle.bidi_base.specs.Units.{kept_in_runs, level_run_ranges, ranges_between}
+use Rattle.bidi_base.specs.Text.{place, IsLine}
+use Rattle.bidi_base.specs.Units.{kept_in_runs}
 use Rattle.bidi_base.proofs.ChainLemmas.{filter_range-none}
 use Rattle.bidi_base.proofs.TextLemmas.{HasUnits}
-use Rattle.bidi_base.proofs.PlaceLemmas.{place-zero, place-mono, place-end, IsLine-places}
+use Rattle.bidi_base.proofs.PlaceLemmas.{place-mono, IsLine-places}
 use Rattle.bidi_base.proofs.SuccessorLemmas.{kept_before-is_None}
 use Rattle.bidi_base.proofs.PassLemmas.{AllBegun}
 use Rattle.bidi_base.proofs.RunsLemmas.{IsLevelRun}
@@ -27,7 +27,7 @@ use Rattle.bidi_rules.proofs.RunCutting.{run_starts-some}
 use Rattle.bidi_rules.proofs.LevelRunLemmas.{kept_in_run, kept_in_runs-push}
 use Rattle.bidi_rules.proofs.RunUnits.{NoneKept, IsLast}
 use Rattle.bidi_rules.proofs.RunPass.{with_places, index_in, IsAt, IsAt-start, IsAt-end, HasCome, HasCome-run}
-use Rattle.bidi_rules.proofs.RunJoining.{IsFirst, first_of, first_at, kept_before-first, rest_of, front_is, last_is, one_level, kept_before-next_run, level_beyond, end_is, came, begins_kept, begins_after}
+use Rattle.bidi_rules.proofs.RunJoining.{IsFirst, first_at, kept_before-first, rest_of, front_is, last_is, one_level, kept_before-next_run, level_beyond, end_is, came, begins_kept, begins_after}
 
 -- the runs of all that was joined, where one of them is longer
 longer : {X : Type 0} (out : List (List X)) (s : ℕ) (xs : List X) → s < length out → IsPermutation (flat_map (λ ys. ys) out ++ xs) (flat_map (λ ys. ys) (set out s (get_or out s [] ++ xs)))

@@ -1,7 +1,6 @@
 -- A level run as a range of units: which characters stand in it, and what its last kept unit says.
-use Rattle.std.proofs.Common.{◌≡◌, ℕ, suc, ◌+◌, ◌-◌, ◌<◌, ◌≤◌, Bool, true, false, cond, ltb, List, [], ◌∷◌, ◌++◌, length, get_or, Option, Some, None, refl, sym, ap, subst, ◌∙◌, arith, ◌⊎◌, inl, inr}
-use Rattle.std.specs.Prelude.{if◌then◌else◌, nat_lt}
-use Rattle.std.proofs.lemmas.Bool.{cases_lt, cases_eq, both_ways, cond-true, cond-false, false_from_ne_true}
+use Rattle.std.proofs.Common.{◌≡◌, ℕ, suc, ◌+◌, ◌-◌, ◌<◌, ◌≤◌, true, false, List, [], ◌∷◌, ◌++◌, length, get_or, refl, sym, ap, subst, ◌∙◌, arith, inl, inr}
+use Rattle.std.proofs.lemmas.Bool.{cases_lt, both_ways}
 use Rattle.bidi_base.specs.declared.char_data.BidiClass.{BidiClass}
 use Rattle.bidi_base.specs.declared.char_data.BidiClass.TheVariants.{L}
 use Rattle.bidi_base.specs.Classes.{is_kept}
@@ -10,7 +9,7 @@ use Rattle.bidi_base.specs.Sequences.{is_kept_at, level_at, run_starts}
 use Rattle.bidi_base.specs.Text.{place, text_len, per_unit}
 use Rattle.bidi_base.specs.Units.{level_run_ranges}
 use Rattle.bidi_base.proofs.TextLemmas.{HasUnits}
-use Rattle.bidi_base.proofs.PlaceLemmas.{place-more, place-mono, place-lt, place-le, place-end, UnitOf, unit_of}
+use Rattle.bidi_base.proofs.PlaceLemmas.{place-more, place-mono, place-lt, place-le, UnitOf, unit_of}
 use Rattle.bidi_base.proofs.PerUnit.{get_or-per_unit, get_or-per_unit-place}
 use Rattle.bidi_base.proofs.RunsLemmas.{IsLevelRun}
 use Rattle.bidi_rules.specs.Joining.{IsKeptEnd}
@@ -76,7 +75,7 @@ module _ (len_of : ℕ → ℕ) (h : HasUnits len_of) (chars : List ℕ) (classe
       record { not_empty = omega (arith, place-lt len_of chars h a b order (omega arith), run.start, run.end); within = omega (arith, place-le len_of chars b, run.end) }
 
   module _ (units : List BidiClass) (unit_levels : List ℕ) (same : length levels ≡ length chars) (units_is : units ≡ per_unit len_of chars classes) (levels_is : unit_levels ≡ per_unit len_of chars levels) where
-    class_of_unit : (m : ℕ) → m < length chars → get_or units (place len_of chars m) L ≡ class_at classes m
+    pub class_of_unit : (m : ℕ) → m < length chars → get_or units (place len_of chars m) L ≡ class_at classes m
     class_of_unit m fits = ap (λ us. get_or us (place len_of chars m) L) units_is ∙ get_or-per_unit-place len_of h chars classes m L long fits
 
     pub level_of_unit : (m : ℕ) → m < length chars → get_or unit_levels (place len_of chars m) 0 ≡ level_at levels m
