@@ -27,7 +27,7 @@ use Rattle.bidi_base.proofs.UnitsLemmas.{per_unit-from_is_per_char, length-from_
 use Rattle.bidi_rules.specs.declared.prepare.sequence.IsolatingRunSequence.{IsolatingRunSequence}
 use Rattle.bidi_rules.specs.Joining.{JoinedRuns, IsKeptEnd, characters_of, level_after_run, with_run, read_range, read_units}
 use Rattle.bidi_rules.specs.RunSequence.{joined, run_bounds, sequences_in}
-use Rattle.bidi_rules.proofs.KeptRangeLemmas.{filter_range-none}
+use Rattle.bidi_base.proofs.ChainLemmas.{filter_range-none}
 use Rattle.bidi_rules.proofs.LevelRunLemmas.{kept_in_run, length-level_run_ranges}
 use Rattle.bidi_rules.proofs.RunUnits.{cuts, NoneKept, IsRunAt, run_at, unit_run, cuts-last, level_of_unit, class_of_unit, IsLastUnit, none_kept, last_unit}
 use Rattle.bidi_rules.proofs.RunJoining.{IsFirst, first_of, level_beyond}
