@@ -5,6 +5,7 @@ pub mod FoundRuns
 pub mod Gathered
 pub mod Lanes
 pub mod Least
+pub mod LevelPasses
 pub mod LineInText
 pub mod LineLevels
 pub mod LineText
