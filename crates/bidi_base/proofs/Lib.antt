@@ -11,6 +11,7 @@ pub mod GivesLemmas
 pub mod InPlace
 pub mod IsolateWalk
 pub mod IsolatesLemmas
+pub mod LevelLaws
 pub mod LevelTableLemmas
 pub mod LevelsInLemmas
 pub mod LevelsLemmas
@@ -27,6 +28,7 @@ pub mod PassLemmas
 pub mod PerCharTests
 pub mod PerUnit
 pub mod PermutationLemmas
+pub mod PieceUnits
 pub mod PlaceLemmas
 pub mod PlacesLemmas
 pub mod PureLtrLemmas

@@ -206,7 +206,7 @@ module _ (len_of : ℕ → ℕ) where
         shifted front p (q ∷ ps) (λ (cs : List ℕ) (rs : List (ℕ × ℕ)). AllButLast (λ (r : ℕ × ℕ). P (subrange len_of cs r.0 r.1)) rs) (ranges-AllButLast (front ++ p) (q ∷ ps) h.1),
       )
 
-    ranges-lines : (front : List ℕ) (ps : List (List ℕ)) → All (λ (r : ℕ × ℕ). IsLine len_of (front ++ joined ps) r.0 r.1) (ranges_from len_of (text_len len_of front) ps)
+    pub ranges-lines : (front : List ℕ) (ps : List (List ℕ)) → All (λ (r : ℕ × ℕ). IsLine len_of (front ++ joined ps) r.0 r.1) (ranges_from len_of (text_len len_of front) ps)
     ranges-lines front [] = All-nil (λ (r : ℕ × ℕ). IsLine len_of (front ++ []) r.0 r.1)
     ranges-lines front (p ∷ ps) =
         let sum : text_len len_of (front ++ p) ≡ text_len len_of front + text_len len_of p = sum_by-append len_of front p in
@@ -242,6 +242,10 @@ paragraphs-AreParagraphRanges source len_of units chars =
 
 pub paragraphs-joined : (source : Source) (chars : List ℕ) → joined (paragraphs_of (each_separator source) chars) ≡ chars
 paragraphs-joined source chars = pieces_by-joined (λ (c : ℕ). is_paragraph_separator (source.class_of c)) chars
+
+pub pieces-joined : (split : Bool) (source : Source) (chars : List ℕ) → joined (pieces_of split source chars) ≡ chars
+pieces-joined true source chars = paragraphs-joined source chars
+pieces-joined false source chars = append-nil chars
 
 -- the stored classes of a text are one a character
 pub length-paragraph_classes : (source : Source) (chars : List ℕ) → length (text_classes source (paragraphs_of (each_separator source) chars)) ≡ length chars

@@ -7,6 +7,7 @@ pub mod Embeddings
 pub mod Explicit
 pub mod Implicit
 pub mod Isolates
+pub mod Laws
 pub mod Layout
 pub mod Levels
 pub mod Line

@@ -10,6 +10,7 @@ pub mod LineInText
 pub mod LineLevels
 pub mod LineText
 pub mod Ordered
+pub mod ParagraphUnits
 pub mod Passes
 pub mod Pieces
 pub mod Resolving

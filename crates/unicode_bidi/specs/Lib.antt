@@ -1,4 +1,7 @@
+pub mod Analysis
+pub mod BidiInfo
 pub mod InitialInfo
+pub mod ParagraphBidiInfo
 pub mod ParagraphFlags
 pub mod ParagraphInfo
 pub mod ParagraphLevels

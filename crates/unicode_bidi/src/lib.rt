@@ -1,6 +1,7 @@
 //! The Unicode Bidirectional Algorithm (UAX #9), proved.
 #![tactic(auto)]
 
+mod analysis;
 mod base_direction;
 mod classes;
 pub mod deprecated;
@@ -12,6 +13,7 @@ mod level_resolver;
 mod line_text;
 mod lines;
 mod neutral_stub;
+mod paragraph_bidi_info;
 mod paragraph_info;
 mod paragraph_levels;
 mod visual;
@@ -27,4 +29,5 @@ pub use bidi_base::text::{TextSource, Utf8IndexLenIter};
 pub use bidi_base::{char_data, data_source, format_chars, level, sample, text};
 pub use info::BidiInfo;
 pub use initial_info::InitialInfo;
+pub use paragraph_bidi_info::ParagraphBidiInfo;
 pub use paragraph_info::ParagraphInfo;

@@ -1,0 +1,73 @@
+-- The levels of a paragraph: how many they are, where they lie, and that one character of class BN is as good as another.
+use Rattle.std.proofs.Common.{◌≡◌, ℕ, ◌≤◌, List, [], ◌∷◌, ◌++◌, length, get_or, map, Option, Some, None, refl, ap, ◌∙◌, append-nil, arith}
+use Rattle.std.specs.Prelude.{All, IfSome, replicate}
+use Rattle.std.proofs.lemmas.List.{length-map}
+use Rattle.std.proofs.lemmas.List.Elements.{All-nil, All-head, All-tail, All-append, All-replicate}
+use Rattle.bidi_base.specs.declared.char_data.BidiClass.{BidiClass}
+use Rattle.bidi_base.specs.declared.char_data.BidiClass.TheVariants.{R, AL}
+use Rattle.bidi_base.specs.Isolates.{deciding_class, level_by, paragraph_level, stored_classes}
+use Rattle.bidi_base.specs.Laws.{AreLevelsFrom, BoundaryNeutralsAreAlike}
+use Rattle.bidi_base.specs.Source.{Source}
+use Rattle.bidi_base.specs.Stored.{levels_in, stored_levels, text_classes, text_levels, paragraph_levels}
+use Rattle.bidi_base.specs.Text.{per_unit}
+use Rattle.bidi_base.proofs.ParagraphsLemmas.{joined}
+use Rattle.bidi_base.proofs.PieceUnits.{length-values}
+use Rattle.bidi_base.proofs.ResolvedLemmas.{IsStoredIn, length-levels_in, levels_in-IsStoredIn, stored_levels-BN}
+
+-- ---- the paragraph level
+
+level_by-few : (o : Option BidiClass) → level_by o ≤ 125
+level_by-few (Some R) = omega arith
+level_by-few (Some AL) = omega arith
+level_by-few _ = omega arith
+
+-- it is one that an embedding can have
+pub paragraph_level-few : (base : Option ℕ) (classes : List BidiClass) → IfSome base (λ level. level ≤ 125) → paragraph_level base classes ≤ 125
+unfolding paragraph_level
+paragraph_level-few (Some level) classes h = h
+paragraph_level-few None classes h = level_by-few (deciding_class classes)
+
+-- ---- the levels of its characters
+
+pub length-stored_levels : (source : Source) (base : Option ℕ) (piece : List ℕ) → length (stored_levels source base piece) ≡ length piece
+unfolding stored_levels
+length-stored_levels source base piece =
+    length-levels_in (paragraph_level base (map source.class_of piece)) (map source.class_of piece) (map source.bracket_of piece) ∙ length-map piece source.class_of
+
+pub stored_levels-AreLevelsFrom : (source : Source) (base : Option ℕ) (piece : List ℕ) → IfSome base (λ level. level ≤ 125) → AreLevelsFrom (paragraph_level base (map source.class_of piece)) (stored_levels source base piece)
+unfolding stored_levels
+stored_levels-AreLevelsFrom source base piece few k d within =
+    let classes : List BidiClass = map source.class_of piece in
+    let here = levels_in-IsStoredIn (paragraph_level base classes) classes (map source.bracket_of piece) (paragraph_level-few base classes few) k d within in
+    (here.above, here.below)
+
+-- those of a text are one a character
+pub length-text_levels : (source : Source) (base : Option ℕ) (pieces : List (List ℕ)) (chars : List ℕ) → joined pieces ≡ chars → length (text_levels source base pieces) ≡ length chars
+unfolding text_levels
+length-text_levels source base pieces chars whole = length-values (stored_levels source base) (length-stored_levels source base) pieces ∙ ap length whole
+
+pub BoundaryNeutralsAreAlike-all : (source : Source) (base : Option ℕ) → BoundaryNeutralsAreAlike source base
+BoundaryNeutralsAreAlike-all source base = stored_levels-BN source base
+
+-- ---- a text of one paragraph
+
+pub text_classes-one : (source : Source) (piece : List ℕ) → text_classes source (piece ∷ []) ≡ stored_classes (map source.class_of piece)
+unfolding text_classes
+text_classes-one source piece = append-nil (stored_classes (map source.class_of piece))
+
+pub text_levels-one : (source : Source) (base : Option ℕ) (piece : List ℕ) → text_levels source base (piece ∷ []) ≡ stored_levels source base piece
+unfolding text_levels
+text_levels-one source base piece = append-nil (stored_levels source base piece)
+
+pub paragraph_levels-one : (source : Source) (base : Option ℕ) (piece : List ℕ) → paragraph_levels source base (piece ∷ []) ≡ paragraph_level base (map source.class_of piece) ∷ []
+unfolding paragraph_levels
+paragraph_levels-one source base piece = refl
+
+-- ---- and of its units
+
+-- what is so of each value is so at each unit
+pub All-per_unit : {X : Type 0} (P : X → Type 0) (len_of : ℕ → ℕ) (chars : List ℕ) (values : List X) → All P values → All P (per_unit len_of chars values)
+All-per_unit P len_of [] values h = All-nil P
+All-per_unit P len_of (c ∷ chars) [] h = All-nil P
+All-per_unit P len_of (c ∷ chars) (v ∷ values) h =
+    All-append P (replicate (len_of c) v) (per_unit len_of chars values) (All-replicate P (len_of c) v (All-head P v values h)) (All-per_unit P len_of chars values (All-tail P v values h))

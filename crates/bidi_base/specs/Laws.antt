@@ -1,0 +1,21 @@
+-- What follows of the levels of a text.
+use Rattle.std.specs.Prelude.{◌≡◌, ℕ, ◌≤◌, List, ◌∷◌, ◌++◌, Option, All, slice_range}
+use Rattle.bidi_base.specs.declared.char_data.BidiClass.TheVariants.{BN}
+use Rattle.bidi_base.specs.Source.{Source}
+use Rattle.bidi_base.specs.Stored.{stored_levels}
+use Rattle.bidi_base.specs.Text.{subrange, per_unit}
+
+-- the units of a range have the values that its own characters have by themselves
+abbrev pub HasOwnUnits : {X : Type 0} → (ℕ → ℕ) → (List ℕ → List X) → List ℕ → List X → ℕ × ℕ → Type 0
+HasOwnUnits len_of values_of chars units r =
+    let piece = subrange len_of chars r.0 r.1 in
+    slice_range units r.0 r.1 ≡ per_unit len_of piece (values_of piece)
+
+-- the levels are at least this one and at most the greatest
+abbrev pub AreLevelsFrom : ℕ → List ℕ → Type 0
+AreLevelsFrom paragraph levels = All (λ level. (paragraph ≤ level) × (level ≤ 126)) levels
+
+-- which character of class BN stands at a place of a paragraph changes no level
+abbrev pub BoundaryNeutralsAreAlike : Source → Option ℕ → Type 0
+BoundaryNeutralsAreAlike source base =
+    (front back : List ℕ) (c d : ℕ) → source.class_of c ≡ BN → source.class_of d ≡ BN → stored_levels source base (front ++ c ∷ back) ≡ stored_levels source base (front ++ d ∷ back)

@@ -1,0 +1,117 @@
+// The classes, the paragraphs and the levels of a whole text, whatever its encoding.
+ghost use Rattle.std.specs.Prelude.{◌≡◌, ◌≤◌, ◌++◌, length, take, drop, flat_map, All, OnOk, IfOk, IfSome};
+ghost use Rattle.bidi_base.specs.Paragraphs.{pieces_of, ranges_from};
+ghost use Rattle.bidi_base.specs.Stored.{text_classes, text_levels, paragraph_levels};
+ghost use Rattle.bidi_base.specs.Text.{text_len, per_unit};
+ghost use Rattle.unicode_bidi.specs.Analysis.{unit_levels, CanWrite, Follow};
+ghost use Rattle.unicode_bidi.specs.ParagraphFlags.{paragraph_flags};
+ghost use Rattle.unicode_bidi.specs.ParagraphInfo.{ranges_of, levels_of};
+
+use crate::initial::{self, ParagraphFlags};
+use crate::paragraph_info::ParagraphInfo;
+use crate::paragraph_levels::write_levels;
+use bidi_base::char_data::BidiClass;
+use bidi_base::data_source::BidiDataSource;
+use bidi_base::level::{LTR_LEVEL, Level};
+use bidi_base::text::TextSource;
+use std::alloc::{AllocError, Global};
+
+/// What the algorithm finds out about a text.
+#[derive(Drop)]
+pub(crate) struct Analysis {
+    /// The stored class of each unit.
+    pub(crate) original_classes: Vec<BidiClass>,
+    /// The stored level of each unit.
+    pub(crate) levels: Vec<Level>,
+    /// The paragraphs, in order.
+    pub(crate) paragraphs: Vec<ParagraphInfo>,
+    /// One entry a paragraph.
+    pub(crate) flags: Vec<ParagraphFlags>,
+}
+
+// Writes the stored levels of one paragraph. `classes` and `levels` are of the whole text.
+fn write_paragraph<D: BidiDataSource, T: TextSource>(
+    alloc: Global,
+    data_source: &D,
+    text: T,
+    paragraph: &ParagraphInfo,
+    classes: &[BidiClass],
+    levels: &mut [Level],
+) -> Result<(), AllocError>
+    requires paragraph { CanWrite (D.source data_source.now) T.units (T.characters text) classes.now paragraph.now }
+    requires classes { length classes.now ≡ text_len T.units (T.characters text) }
+    requires levels { length levels.old ≡ text_len T.units (T.characters text) }
+    ensures { OnOk result (levels.new ≡ take paragraph.now.range.start levels.old
+        ++ (unit_levels (D.source data_source.now) T.units (T.characters text) paragraph.now ++ drop paragraph.now.range.end levels.old)) }
+{
+    let units = paragraph.range();
+    let (start, end) = (units.start, units.end);
+    write_levels(
+        alloc,
+        data_source,
+        text.subrange(units),
+        paragraph.level(),
+        &classes[start..end],
+        &mut levels[start..end],
+    )
+}
+
+// Writes the stored levels of a text, paragraph by paragraph.
+fn write_paragraphs<D: BidiDataSource, T: TextSource>(
+    alloc: Global,
+    data_source: &D,
+    text: T,
+    paragraphs: &[ParagraphInfo],
+    classes: &[BidiClass],
+    levels: &mut [Level],
+) -> Result<(), AllocError>
+    requires paragraphs { All (CanWrite (D.source data_source.now) T.units (T.characters text) classes.now) paragraphs.now }
+    requires follow { Follow 0 (text_len T.units (T.characters text)) paragraphs.now }
+    requires classes { length classes.now ≡ text_len T.units (T.characters text) }
+    requires levels { length levels.old ≡ text_len T.units (T.characters text) }
+    ensures { OnOk result (levels.new ≡ flat_map (unit_levels (D.source data_source.now) T.units (T.characters text)) paragraphs.now) }
+{
+    for paragraph in paragraphs {
+        write_paragraph(alloc, data_source, text, paragraph, classes, levels)?;
+    }
+    Ok(())
+}
+
+/// The stored classes and levels of a text, and its paragraphs with the levels that `base` or their
+/// characters give them. With `split` false the whole text is one paragraph, even an empty one.
+pub(crate) fn analyse<D: BidiDataSource, T: TextSource>(
+    alloc: Global,
+    data_source: &D,
+    text: T,
+    base: Option<Level>,
+    split: bool,
+) -> Result<Analysis, AllocError>
+    requires { IfSome base (λ level. level ≤ 125) }
+    ensures classes { let pieces = pieces_of split (D.source data_source.now) (T.characters text) in
+        IfOk result (λ a. a.original_classes.items ≡ per_unit T.units (T.characters text) (text_classes (D.source data_source.now) pieces)) }
+    ensures levels { let pieces = pieces_of split (D.source data_source.now) (T.characters text) in
+        IfOk result (λ a. a.levels.items ≡ per_unit T.units (T.characters text) (text_levels (D.source data_source.now) base pieces)) }
+    ensures ranges { let pieces = pieces_of split (D.source data_source.now) (T.characters text) in
+        IfOk result (λ a. ranges_of a.paragraphs.items ≡ ranges_from T.units 0 pieces) }
+    ensures paragraph_levels { let pieces = pieces_of split (D.source data_source.now) (T.characters text) in
+        IfOk result (λ a. levels_of a.paragraphs.items ≡ paragraph_levels (D.source data_source.now) base pieces) }
+    ensures flags { let pieces = pieces_of split (D.source data_source.now) (T.characters text) in
+        IfOk result (λ a. a.flags.items ≡ paragraph_flags (D.source data_source.now) pieces) }
+{
+    let found = initial::compute(alloc, data_source, text, base, split)?;
+    let mut levels = vec![in alloc; LTR_LEVEL; text.len()]?;
+    write_paragraphs(
+        alloc,
+        data_source,
+        text,
+        found.paragraphs.as_slice(),
+        found.original_classes.as_slice(),
+        levels.as_mut_slice(),
+    )?;
+    Ok(Analysis {
+        original_classes: found.original_classes,
+        levels,
+        paragraphs: found.paragraphs,
+        flags: found.flags,
+    })
+}
