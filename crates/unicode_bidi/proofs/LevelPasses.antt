@@ -1,5 +1,5 @@
 -- The passes over the units of a paragraph, put together: what they leave once some sequences are resolved, and once all are.
-use Rattle.std.proofs.Common.{◌≡◌, ℕ, zero, suc, ◌+◌, ◌<◌, ◌≤◌, Bool, true, false, ◌&&◌, List, [], ◌∷◌, ◌++◌, length, get_or, take, map, Option, None, refl, sym, ap, subst, ◌∙◌, arith}
+use Rattle.std.proofs.Common.{◌≡◌, ℕ, zero, suc, ◌+◌, ◌<◌, ◌≤◌, true, false, ◌&&◌, List, [], ◌∷◌, ◌++◌, length, get_or, take, map, Option, None, refl, sym, ap, subst, ◌∙◌, arith}
 use Rattle.std.specs.Prelude.{zip, replicate, nat_lt}
 use Rattle.std.proofs.lemmas.Bool.{and_parts}
 use Rattle.std.specs.List.{All, list_all}
@@ -12,7 +12,7 @@ use Rattle.bidi_base.specs.Classes.{is_l_or_r, is_weak_resolved}
 use Rattle.bidi_base.specs.Places.{class_at, at_places, first_or}
 use Rattle.bidi_base.specs.Isolates.{stored_classes}
 use Rattle.bidi_base.specs.Explicit.{explicit_levels, explicit_classes, processing_classes}
-use Rattle.bidi_base.specs.Sequences.{RunSequence, is_kept_at, level_at, sequences}
+use Rattle.bidi_base.specs.Sequences.{RunSequence, level_at, sequences}
 use Rattle.bidi_base.specs.Weak.{weak_classes}
 use Rattle.bidi_base.specs.Neutral.{neutral_classes}
 use Rattle.bidi_base.specs.Implicit.{implicit_level}

@@ -14,7 +14,6 @@ pub mod Ordered
 pub mod ParagraphUnits
 pub mod Passes
 pub mod Pieces
-pub mod Resolving
 pub mod Reversed
 pub mod RunText
 pub mod RunsLemmas
@@ -25,5 +24,4 @@ pub mod TextOfLine
 pub mod TextRead
 pub mod Turning
 pub mod VisualRuns
-pub mod Written
 pub mod WrittenRuns

@@ -15,7 +15,6 @@ mod lines;
 mod neutral_stub;
 mod paragraph_bidi_info;
 mod paragraph_info;
-mod paragraph_levels;
 mod visual;
 mod visual_runs;
 

@@ -1,4 +1,4 @@
-use Rattle.unicode_bidi.proofs.Written.{AreFilled}
+use Rattle.unicode_bidi.proofs.FilledUnits.{AreFilled}
 use Rattle.unicode_bidi.proofs.level_resolver.fill_removed.Given as goal
 
 abbrev pub invariant-loop-i : goal.invariant-loop-i
