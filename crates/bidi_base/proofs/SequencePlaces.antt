@@ -21,7 +21,7 @@ abbrev pub times_in : List ℕ → ℕ → ℕ
 times_in ps p = count_by (λ q. eqb q p) ps
 
 -- what stands in a part of a range that was kept
-times_in-kept : (keep : ℕ → Bool) (p low m : ℕ) → 0 < times_in (filter keep (range_with_len low m)) p → (keep p ≡ true) × (p < low + m)
+pub times_in-kept : (keep : ℕ → Bool) (p low m : ℕ) → 0 < times_in (filter keep (range_with_len low m)) p → (keep p ≡ true) × (p < low + m)
 times_in-kept keep p low zero there = absurd (omega arith)
 times_in-kept keep p low (suc m) there = elim (cases_Bool (keep low)) [
   | inl kept ↦

@@ -6,4 +6,3 @@ pub mod Paragraph
 pub mod ParagraphBidiInfo
 pub mod ParagraphFlags
 pub mod ParagraphInfo
-pub mod ParagraphLevels

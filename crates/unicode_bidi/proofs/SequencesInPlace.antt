@@ -1,0 +1,269 @@
+-- The sequences of a paragraph, resolved in place one after another: what the classes of its characters say once some of them are.
+use Rattle.std.proofs.Common.{◌≡◌, ℕ, zero, suc, ◌+◌, ◌<◌, Bool, true, false, not, cond, eqb, lt-ltb, List, [], ◌∷◌, ◌++◌, length, get_or, take, append-nil, Option, None, refl, sym, ap, subst, ◌∙◌, arith, inl, inr}
+use Rattle.std.specs.Prelude.{filter, nat_lt}
+use Rattle.std.specs.List.{list_all}
+use Rattle.std.proofs.lemmas.Bool.{cases_Bool, cases_eq, cond-true, cond-false, cond_both, both_ways, and_parts, and_from, not-true}
+use Rattle.std.proofs.lemmas.Grind.{flat_map-append}
+use Rattle.std.proofs.lemmas.List.Sums.{sum_by-append, count_by-le-length}
+use Rattle.bidi_base.specs.declared.char_data.BidiClass.{BidiClass}
+use Rattle.bidi_base.specs.declared.char_data.BidiClass.TheVariants.{L, BN}
+use Rattle.bidi_base.specs.declared.data_source.BidiMatchedOpeningBracket.{BidiMatchedOpeningBracket}
+use Rattle.bidi_base.specs.Classes.{has_direction, is_kept, is_l_or_r, is_read, is_removed, is_weak_resolved}
+use Rattle.bidi_base.specs.Places.{class_at, at_places, first_or}
+use Rattle.bidi_base.specs.Explicit.{explicit_class, explicit_levels, explicit_classes, processing_class, processing_classes}
+use Rattle.bidi_base.specs.Sequences.{RunSequence, is_kept_at, level_at, has_places, sequences}
+use Rattle.bidi_base.specs.Weak.{weak_classes}
+use Rattle.bidi_base.specs.Neutral.{neutral_classes}
+use Rattle.bidi_base.specs.Implicit.{implicit_level, implicit_levels}
+use Rattle.bidi_base.specs.Stored.{resolved_levels, AreResolved}
+use Rattle.bidi_base.proofs.ExplicitLemmas.{class_at-explicit_classes, class_at-processing_classes, length-processing_classes}
+use Rattle.bidi_base.proofs.MatchLevelsLemmas.{sequence-one_level}
+use Rattle.bidi_base.proofs.NeutralLemmas.{neutral_classes-directed}
+use Rattle.bidi_base.proofs.SequencePlaces.{times_in, times_in-parts, places_of, sequences-once, sequences-kept}
+use Rattle.bidi_base.proofs.StoredLemmas.{explicit_class-kept, explicit_classes-kept, at_places-agree, times_in-first, times_in-later, list_all-at_places, list_all-at_places_back}
+use Rattle.bidi_base.proofs.WeakLemmas.{weak_classes-resolved}
+
+is_read-kept : (c : BidiClass) → is_kept c ≡ true → is_read c ≡ true
+is_read-kept BN h = absurd (cc h)
+is_read-kept _ h = refl
+
+is_read-directed : (c : BidiClass) → has_direction c ≡ true → is_read c ≡ true
+is_read-directed BN h = absurd (cc h)
+is_read-directed _ h = refl
+
+is_read-resolved : (c : BidiClass) → is_weak_resolved c ≡ true → is_read c ≡ true
+is_read-resolved BN h = absurd (cc h)
+is_read-resolved _ h = refl
+
+module _ (source : List BidiClass) (brackets : List (Option BidiMatchedOpeningBracket)) (stored : List BidiClass) (levels : List ℕ) (classes : List BidiClass) where
+  -- the classes that W1 to N2 give a sequence
+  abbrev pub resolved_classes : RunSequence → List BidiClass
+  resolved_classes s =
+      neutral_classes (level_at levels (first_or 0 s.places)) s.sos s.eos (at_places L source s.places) (at_places None brackets s.places) (weak_classes s.sos (at_places L classes s.places))
+
+  -- they stand at the places of each of some sequences
+  abbrev pub AreNeutral : List BidiClass → List RunSequence → Type 0
+  AreNeutral now [] = Unit {0}
+  AreNeutral now (s ∷ seqs) = (at_places L now s.places ≡ resolved_classes s) × AreNeutral now seqs
+
+  AreNeutral-kept : (now other : List BidiClass) (seqs : List RunSequence) → ((p : ℕ) → 0 < times_in (places_of seqs) p → class_at other p ≡ class_at now p) → AreNeutral now seqs → AreNeutral other seqs
+  AreNeutral-kept now other [] agree h = h
+  AreNeutral-kept now other (s ∷ seqs) agree h =
+      let joined : (p : ℕ) → times_in (places_of (s ∷ seqs)) p ≡ times_in s.places p + times_in (places_of seqs) p = λ p. sum_by-append (λ q. cond (eqb q p) 1 0) s.places (places_of seqs) in (
+        at_places-agree L other now s.places (λ p there. agree p (omega (arith, joined p))) ∙ h.0,
+        AreNeutral-kept now other seqs (λ p there. agree p (omega (arith, joined p))) h.1,
+      )
+
+  AreNeutral-push : (now : List BidiClass) (seqs : List RunSequence) (s : RunSequence) → AreNeutral now seqs → at_places L now s.places ≡ resolved_classes s → AreNeutral now (seqs ++ s ∷ [])
+  AreNeutral-push now [] s h e = (e, tt)
+  AreNeutral-push now (r ∷ seqs) s h e = (h.0, AreNeutral-push now seqs s h.1 e)
+
+  -- some sequences are resolved, and all other characters have their explicit classes, with BN for what X9 removes
+  pub record IsUnderWay (seqs : List RunSequence) (now : List BidiClass) : Type 0 where
+    pub long : length now ≡ length stored
+    pub read : (p : ℕ) → p < length stored → is_read (class_at now p) ≡ is_kept_at stored p
+    pub done : AreNeutral now seqs
+    pub rest : (p : ℕ) → p < length stored → is_kept_at stored p ≡ true → times_in (places_of seqs) p ≡ 0 → class_at now p ≡ class_at classes p
+
+  -- a sequence whose characters stand in none of them
+  pub record IsNext (seqs : List RunSequence) (s : RunSequence) : Type 0 where
+    pub sos : is_l_or_r s.sos ≡ true
+    pub kept : (p : ℕ) → 0 < times_in s.places p → (is_kept_at stored p ≡ true) × (p < length stored)
+    pub apart : (p : ℕ) → 0 < times_in s.places p → times_in (places_of seqs) p ≡ 0
+    pub explicit : (p : ℕ) → 0 < times_in s.places p → is_kept_at classes p ≡ true
+
+  -- its weak types are resolved as well
+  pub record IsWeakNext (seqs : List RunSequence) (s : RunSequence) (now : List BidiClass) : Type 0 where
+    pub long : length now ≡ length stored
+    pub read : (p : ℕ) → p < length stored → is_read (class_at now p) ≡ is_kept_at stored p
+    pub done : AreNeutral now seqs
+    pub weak : at_places L now s.places ≡ weak_classes s.sos (at_places L classes s.places)
+    pub rest : (p : ℕ) → p < length stored → is_kept_at stored p ≡ true → times_in (places_of seqs) p ≡ 0 → times_in s.places p ≡ 0 → class_at now p ≡ class_at classes p
+
+  -- elsewhere nothing changed
+  abbrev pub StaysElsewhere : List ℕ → List BidiClass → List BidiClass → Type 0
+  StaysElsewhere ps old new = (p : ℕ) → times_in ps p ≡ 0 → class_at new p ≡ class_at old p
+
+  module _ (seqs : List RunSequence) (s : RunSequence) (next : IsNext seqs s) where
+    none_of : (p : ℕ) → 0 < times_in (places_of seqs) p → times_in s.places p ≡ 0
+    none_of p there = elim (cases_eq (times_in s.places p) 0) [ inl none ↦ none | inr some ↦ absurd (omega (arith, there, next.apart p (omega arith))) ]
+
+    none_removed : (p : ℕ) → is_kept_at stored p ≡ false → times_in s.places p ≡ 0
+    none_removed p gone = elim (cases_eq (times_in s.places p) 0) [ inl none ↦ none | inr some ↦ absurd (both_ways (is_kept_at stored p) gone (next.kept p (omega arith)).0) ]
+
+    -- what is written is read, and what is not has not changed
+    read_after : (old new : List BidiClass) → ((p : ℕ) → p < length stored → is_read (class_at old p) ≡ is_kept_at stored p) → StaysElsewhere s.places old new → list_all is_read (at_places L new s.places) ≡ true
+        → (p : ℕ) → p < length stored → is_read (class_at new p) ≡ is_kept_at stored p
+    read_after old new read stays all p within = elim (cases_eq (times_in s.places p) 0) [
+      | inl none ↦ ap is_read (stays p none) ∙ read p within
+      | inr some ↦ list_all-at_places_back is_read L new s.places p all (omega arith) ∙ sym (next.kept p (omega arith)).0
+    ]
+
+    all_read : (test : BidiClass → Bool) → ((c : BidiClass) → test c ≡ true → is_read c ≡ true) → (cs : List BidiClass) → list_all test cs ≡ true → list_all is_read cs ≡ true
+    all_read test reads [] h = refl
+    all_read test reads (c ∷ cs) h =
+        let parts = and_parts (test c) (list_all test cs) h in
+        and_from (is_read c) (list_all is_read cs) (reads c parts.0) (all_read test reads cs parts.1)
+
+    weak_resolved : list_all is_weak_resolved (weak_classes s.sos (at_places L classes s.places)) ≡ true
+    weak_resolved = weak_classes-resolved s.sos (at_places L classes s.places) next.sos (list_all-at_places is_kept L classes s.places (λ p there. next.explicit p there))
+
+    pub IsWeakNext-from : (old new : List BidiClass) → IsUnderWay seqs old → length new ≡ length old → StaysElsewhere s.places old new → at_places L new s.places ≡ weak_classes s.sos (at_places L old s.places) → IsWeakNext seqs s new
+    IsWeakNext-from old new h long stays weak =
+        let own : at_places L old s.places ≡ at_places L classes s.places =
+        at_places-agree L old classes s.places (λ p there. h.rest p (next.kept p there).1 (next.kept p there).0 (next.apart p there)) in
+        let answer : at_places L new s.places ≡ weak_classes s.sos (at_places L classes s.places) = weak ∙ ap (weak_classes s.sos) own in
+        record {
+          long = long ∙ h.long;
+          read = read_after old new h.read stays (all_read is_weak_resolved is_read-resolved (at_places L new s.places) (ap (list_all is_weak_resolved) answer ∙ weak_resolved));
+          done = AreNeutral-kept old new seqs (λ p there. stays p (none_of p there)) h.done;
+          weak = answer;
+          rest = λ p within kept none apart. stays p apart ∙ h.rest p within kept none;
+        }
+
+    -- so N0 to N2 can go on
+    pub weak_next-resolved : (now : List BidiClass) → IsWeakNext seqs s now → list_all is_weak_resolved (at_places L now s.places) ≡ true
+    weak_next-resolved now h = ap (list_all is_weak_resolved) h.weak ∙ weak_resolved
+
+    places_push : (p : ℕ) → times_in (places_of (seqs ++ s ∷ [])) p ≡ times_in (places_of seqs) p + times_in s.places p
+    places_push p =
+        ap (λ (ps : List ℕ). times_in ps p) (flat_map-append (λ (r : RunSequence). r.places) seqs (s ∷ []) ∙ ap (λ (ps : List ℕ). places_of seqs ++ ps) (append-nil s.places))
+        ∙ sum_by-append (λ q. cond (eqb q p) 1 0) (places_of seqs) s.places
+
+    pub IsUnderWay-more : (old new : List BidiClass) → IsWeakNext seqs s old → length new ≡ length old → StaysElsewhere s.places old new
+        → at_places L new s.places ≡ neutral_classes (level_at levels (first_or 0 s.places)) s.sos s.eos (at_places L source s.places) (at_places None brackets s.places) (at_places L old s.places)
+        → IsUnderWay (seqs ++ s ∷ []) new
+    IsUnderWay-more old new h long stays neutral =
+        let level : ℕ = level_at levels (first_or 0 s.places) in
+        let own_source = at_places L source s.places in
+        let own_brackets = at_places None brackets s.places in
+        let answer : at_places L new s.places ≡ resolved_classes s = neutral ∙ ap (neutral_classes level s.sos s.eos own_source own_brackets) h.weak in
+        let directed : list_all has_direction (at_places L new s.places) ≡ true =
+        ap (list_all has_direction) answer ∙ neutral_classes-directed level s.sos s.eos own_source own_brackets (weak_classes s.sos (at_places L classes s.places)) next.sos weak_resolved in
+        record {
+          long = long ∙ h.long;
+          read = read_after old new h.read stays (all_read has_direction is_read-directed (at_places L new s.places) directed);
+          done = AreNeutral-push new seqs s (AreNeutral-kept old new seqs (λ p there. stays p (none_of p there)) h.done) answer;
+          rest = λ p within kept none.
+              let both = places_push p in
+              stays p (omega arith) ∙ h.rest p within kept (omega arith) (omega arith);
+        }
+
+  -- ---- the levels
+
+  implicit_levels-at : (level : ℕ) (new : List ℕ) (now : List BidiClass) (ps : List ℕ) → ((p : ℕ) → 0 < times_in ps p → level_at new p ≡ implicit_level level (class_at now p)) → at_places 0 new ps ≡ implicit_levels level (at_places L now ps)
+  implicit_levels-at level new now [] each = refl
+  implicit_levels-at level new now (p ∷ ps) each =
+      ap {B = List ℕ} (λ n. n ∷ at_places 0 new ps) (each p (times_in-first p ps))
+      ∙ ap {B = List ℕ} (λ ns. implicit_level level (class_at now p) ∷ ns) (implicit_levels-at level new now ps (λ q there. each q (omega (arith, there, times_in-later p ps q))))
+
+  -- all characters of the sequence have the level of its first one
+  abbrev pub HasOneLevel : RunSequence → Type 0
+  HasOneLevel s = (p : ℕ) → 0 < times_in s.places p → level_at levels p ≡ level_at levels (first_or 0 s.places)
+
+  -- once all of some sequences are resolved, the implicit levels are theirs
+  pub AreResolved-from : (new : List ℕ) (now : List BidiClass) (seqs : List RunSequence) → AreNeutral now seqs → ((k : ℕ) (d : RunSequence) → k < length seqs → HasOneLevel (get_or seqs k d))
+      → ((p : ℕ) → 0 < times_in (places_of seqs) p → level_at new p ≡ implicit_level (level_at levels p) (class_at now p)) → AreResolved source brackets levels classes new seqs
+  unfolding resolved_levels
+  AreResolved-from new now [] h one implicit = tt
+  AreResolved-from new now (s ∷ seqs) h one implicit =
+      let level : ℕ = level_at levels (first_or 0 s.places) in
+      let joined : (p : ℕ) → times_in (places_of (s ∷ seqs)) p ≡ times_in s.places p + times_in (places_of seqs) p = λ p. sum_by-append (λ q. cond (eqb q p) 1 0) s.places (places_of seqs) in (
+        implicit_levels-at level new now s.places (λ p there. implicit p (omega (arith, there, joined p)) ∙ ap (λ n. implicit_level n (class_at now p)) (one 0 s (omega arith) p there)) ∙ ap (implicit_levels level) h.0,
+        AreResolved-from new now seqs h.1 (λ k d within. one (suc k) d (omega arith)) (λ p there. implicit p (omega (arith, there, joined p))),
+      )
+
+  pub AreResolved-filter : (new : List ℕ) (test : RunSequence → Bool) (seqs : List RunSequence) → AreResolved source brackets levels classes new seqs → AreResolved source brackets levels classes new (filter test seqs)
+  AreResolved-filter new test [] h = tt
+  AreResolved-filter new test (s ∷ seqs) h =
+      cond_both (test s) (s ∷ filter test seqs) (filter test seqs) (AreResolved source brackets levels classes new) (λ e. (h.0, AreResolved-filter new test seqs h.1)) (λ e. AreResolved-filter new test seqs h.1)
+
+-- ---- the sequences of a paragraph
+
+-- X1 to X8 come first
+pub IsUnderWay-start : (paragraph : ℕ) (source : List BidiClass) (brackets : List (Option BidiMatchedOpeningBracket)) (stored : List BidiClass) (levels : List ℕ)
+    → IsUnderWay source brackets stored levels (explicit_classes paragraph stored) [] (processing_classes paragraph stored)
+unfolding processing_class
+IsUnderWay-start paragraph source brackets stored levels = record {
+  long = length-processing_classes paragraph stored;
+  read = λ p within. ap is_read (class_at-processing_classes paragraph stored p within) ∙ by_test p;
+  done = tt;
+  rest = λ p within kept none.
+      class_at-processing_classes paragraph stored p within
+      ∙ cond-false (is_removed (class_at stored p)) BN (explicit_class paragraph stored p) (not-true (is_removed (class_at stored p)) kept)
+      ∙ sym (class_at-explicit_classes paragraph stored p within);
+}
+  where
+    by_test : (p : ℕ) → is_read (cond (is_removed (class_at stored p)) BN (explicit_class paragraph stored p)) ≡ is_kept_at stored p
+    by_test p = elim (cases_Bool (is_removed (class_at stored p))) [
+      | inl gone ↦ ap is_read (cond-true (is_removed (class_at stored p)) BN (explicit_class paragraph stored p) gone) ∙ sym (ap not gone)
+      | inr stays ↦
+          ap is_read (cond-false (is_removed (class_at stored p)) BN (explicit_class paragraph stored p) stays)
+          ∙ is_read-kept (explicit_class paragraph stored p) (explicit_class-kept paragraph stored p (ap not stays))
+          ∙ sym (ap not stays)
+    ]
+
+filter-at : {X : Type 0} (test : X → Bool) (xs : List X) (k : ℕ) (d : X) → k < length xs → test (get_or xs k d) ≡ true → (j : ℕ) × (j < length (filter test xs)) × (get_or (filter test xs) j d ≡ get_or xs k d)
+filter-at test [] k d within passes = absurd (omega arith)
+filter-at test (x ∷ xs) zero d within passes = rw (cond-true (test x) (x ∷ filter test xs) (filter test xs) passes) (0, omega arith, refl)
+filter-at test (x ∷ xs) (suc k) d within passes =
+    let later = filter-at test xs k d (omega arith) passes in
+    elim (cases_Bool (test x)) [
+      | inl here ↦ rw (cond-true (test x) (x ∷ filter test xs) (filter test xs) here) (suc later.0, omega (arith, later.1), later.2)
+      | inr gone ↦ rw (cond-false (test x) (x ∷ filter test xs) (filter test xs) gone) later
+    ]
+
+places_of-filter : (seqs : List RunSequence) → places_of (filter has_places seqs) ≡ places_of seqs
+places_of-filter [] = refl
+places_of-filter (s ∷ seqs) = elim (cases_Bool (has_places s)) [
+  | inl some ↦ ap places_of (cond-true (has_places s) (s ∷ filter has_places seqs) (filter has_places seqs) some) ∙ ap (λ (ps : List ℕ). s.places ++ ps) (places_of-filter seqs)
+  | inr none ↦
+      let empty : s.places ≡ [] = no_length s.places none in
+      ap places_of (cond-false (has_places s) (s ∷ filter has_places seqs) (filter has_places seqs) none) ∙ places_of-filter seqs ∙ sym (ap (λ (ps : List ℕ). ps ++ places_of seqs) empty)
+]
+  where
+    no_length : (ps : List ℕ) → nat_lt 0 (length ps) ≡ false → ps ≡ []
+    no_length [] e = refl
+    no_length (p ∷ ps) e = absurd (both_ways (nat_lt 0 (length (p ∷ ps))) e (lt-ltb 0 (length (p ∷ ps)) (omega arith)))
+
+module _ (paragraph : ℕ) (stored : List BidiClass) (seqs : List RunSequence) (are : filter has_places seqs ≡ sequences paragraph stored (explicit_levels paragraph stored)) where
+  abbrev levels : List ℕ
+  levels = explicit_levels paragraph stored
+
+  same_places : places_of seqs ≡ places_of (sequences paragraph stored levels)
+  same_places = sym (places_of-filter seqs) ∙ ap places_of are
+
+  -- the k-th one has the level of its first character
+  one_level : (k : ℕ) (d : RunSequence) → k < length seqs → HasOneLevel [] [] stored levels [] (get_or seqs k d)
+  one_level k d within = λ p there.
+      let found = filter-at has_places seqs k d within (lt-ltb 0 (length (get_or seqs k d).places) (some (get_or seqs k d).places p there)) in
+      let is : get_or (sequences paragraph stored levels) found.0 d ≡ get_or seqs k d = ap (λ (ss : List RunSequence). get_or ss found.0 d) (sym are) ∙ found.2 in
+      subst (λ (s : RunSequence). 0 < times_in s.places p → level_at levels p ≡ level_at levels (first_or 0 s.places)) is
+      (sequence-one_level paragraph stored found.0 d (omega (arith, found.1, ap length are)) p) there
+    where
+      some : (ps : List ℕ) (p : ℕ) → 0 < times_in ps p → 0 < length ps
+      some ps p there = omega (arith, count_by-le-length (λ q. eqb q p) ps)
+
+  pub IsNext-at : (source : List BidiClass) (brackets : List (Option BidiMatchedOpeningBracket)) (k : ℕ) (d : RunSequence) → k < length seqs → is_l_or_r (get_or seqs k d).sos ≡ true
+      → IsNext source brackets stored levels (explicit_classes paragraph stored) (take k seqs) (get_or seqs k d)
+  IsNext-at source brackets k d within side =
+      let parts = λ (p : ℕ). times_in-parts (λ (s : RunSequence). s.places) seqs k d p within in
+      let once = λ (p : ℕ). sequences-once paragraph stored levels p in
+      let same = λ (p : ℕ). ap (λ (ps : List ℕ). times_in ps p) same_places in
+      let kept : (p : ℕ) → 0 < times_in (get_or seqs k d).places p → (is_kept_at stored p ≡ true) × (p < length stored) = λ p there. sequences-kept paragraph stored levels p (omega (arith, parts p, same p)) in
+      record {
+        sos = side;
+        kept = kept;
+        apart = λ p there. omega (arith, parts p, once p, same p);
+        explicit = λ p there. explicit_classes-kept paragraph stored p (kept p there).1 (kept p there).0;
+      }
+
+  -- once all are resolved, the implicit levels are those of the rules
+  pub AreResolved-all : (source : List BidiClass) (brackets : List (Option BidiMatchedOpeningBracket)) (now : List BidiClass) (new : List ℕ) → IsUnderWay source brackets stored levels (explicit_classes paragraph stored) seqs now
+      → ((p : ℕ) → p < length stored → level_at new p ≡ implicit_level (level_at levels p) (class_at now p))
+      → AreResolved source brackets levels (explicit_classes paragraph stored) new (sequences paragraph stored levels)
+  AreResolved-all source brackets now new h implicit =
+      subst (AreResolved source brackets levels (explicit_classes paragraph stored) new) are
+      (AreResolved-filter source brackets stored levels (explicit_classes paragraph stored) new has_places seqs
+      (AreResolved-from source brackets stored levels (explicit_classes paragraph stored) new now seqs h.done one_level
+      (λ p there. implicit p (sequences-kept paragraph stored levels p (subst (λ (ps : List ℕ). 0 < times_in ps p) same_places there)).1)))
