@@ -94,12 +94,7 @@ impl NeutralResolver {
             embedding,
             sos,
         )?;
-        resolve_directions(
-            embedding,
-            sos,
-            sequence.eos(),
-            self.classes.as_mut_slice(),
-        );
+        resolve_directions(embedding, sos, sequence.eos(), self.classes.as_mut_slice());
         write_back(text, runs, self.classes.as_slice(), processing_classes);
         Ok(())
     }
