@@ -94,12 +94,7 @@ impl NeutralResolver {
             embedding,
             sos,
         )?;
-        resolve_directions(
-            embedding,
-            sos,
-            sequence.eos(),
-            self.classes.as_mut_slice(),
-        );
+        resolve_directions(embedding, sos, sequence.eos(), self.classes.as_mut_slice());
         write_back(text, runs, self.classes.as_slice(), processing_classes);
         Ok(())
     }
@@ -139,8 +134,9 @@ impl NeutralResolver {
             → OnOk result (AreGathered T.units (T.characters text) (D.source data_source.now) classes.now
             (before ++ read_in_runs T.units (T.characters text) classes.now (bounds run.now ∷ [])) self.new.classes.items self.new.brackets.items) }
     {
-        for (offset, c) in text.subrange(run.start..run.end).char_indices() {
-            let class = classes[run.start + offset];
+        let begin = run.start;
+        for (offset, c) in text.subrange(begin..run.end).char_indices() {
+            let class = classes[begin + offset];
             if is_read(class) {
                 self.push(data_source, class, c)?;
             }
