@@ -1,14 +1,14 @@
 -- The levels of a paragraph: how many they are, where they lie, and that one character of class BN is as good as another.
-use Rattle.std.proofs.Common.{◌≡◌, ℕ, ◌≤◌, List, [], ◌∷◌, ◌++◌, length, get_or, map, Option, Some, None, ap, ◌∙◌, arith}
+use Rattle.std.proofs.Common.{◌≡◌, ℕ, ◌≤◌, List, [], ◌∷◌, ◌++◌, length, get_or, map, Option, Some, None, refl, ap, ◌∙◌, append-nil, arith}
 use Rattle.std.specs.Prelude.{All, IfSome, replicate}
 use Rattle.std.proofs.lemmas.List.{length-map}
 use Rattle.std.proofs.lemmas.List.Elements.{All-nil, All-head, All-tail, All-append, All-replicate}
 use Rattle.bidi_base.specs.declared.char_data.BidiClass.{BidiClass}
 use Rattle.bidi_base.specs.declared.char_data.BidiClass.TheVariants.{R, AL}
-use Rattle.bidi_base.specs.Isolates.{deciding_class, level_by, paragraph_level}
+use Rattle.bidi_base.specs.Isolates.{deciding_class, level_by, paragraph_level, stored_classes}
 use Rattle.bidi_base.specs.Laws.{AreLevelsFrom, BoundaryNeutralsAreAlike}
 use Rattle.bidi_base.specs.Source.{Source}
-use Rattle.bidi_base.specs.Stored.{levels_in, stored_levels, text_levels}
+use Rattle.bidi_base.specs.Stored.{levels_in, stored_levels, text_classes, text_levels, paragraph_levels}
 use Rattle.bidi_base.specs.Text.{per_unit}
 use Rattle.bidi_base.proofs.ParagraphsLemmas.{joined}
 use Rattle.bidi_base.proofs.PieceUnits.{length-values}
@@ -48,6 +48,20 @@ length-text_levels source base pieces chars whole = length-values (stored_levels
 
 pub BoundaryNeutralsAreAlike-all : (source : Source) (base : Option ℕ) → BoundaryNeutralsAreAlike source base
 BoundaryNeutralsAreAlike-all source base = stored_levels-BN source base
+
+-- ---- a text of one paragraph
+
+pub text_classes-one : (source : Source) (piece : List ℕ) → text_classes source (piece ∷ []) ≡ stored_classes (map source.class_of piece)
+unfolding text_classes
+text_classes-one source piece = append-nil (stored_classes (map source.class_of piece))
+
+pub text_levels-one : (source : Source) (base : Option ℕ) (piece : List ℕ) → text_levels source base (piece ∷ []) ≡ stored_levels source base piece
+unfolding text_levels
+text_levels-one source base piece = append-nil (stored_levels source base piece)
+
+pub paragraph_levels-one : (source : Source) (base : Option ℕ) (piece : List ℕ) → paragraph_levels source base (piece ∷ []) ≡ paragraph_level base (map source.class_of piece) ∷ []
+unfolding paragraph_levels
+paragraph_levels-one source base piece = refl
 
 -- ---- and of its units
 

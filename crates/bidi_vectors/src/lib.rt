@@ -2,6 +2,8 @@
 #![tactic(auto)]
 
 #[cfg(test)]
+mod info_rows;
+#[cfg(test)]
 mod initial_rows;
 #[cfg(test)]
 mod level_rows;

@@ -25,6 +25,7 @@ use Rattle.bidi_base.proofs.ResolvedLemmas.{length-levels_in}
 use Rattle.bidi_base.proofs.TextLemmas.{HasUnits, is_boundary-le, subrange-middle}
 use Rattle.unicode_bidi.specs.declared.paragraph_info.ParagraphInfo.{ParagraphInfo}
 use Rattle.unicode_bidi.specs.Analysis.{unit_levels, CanWrite, Follow, chars_of}
+use Rattle.unicode_bidi.specs.ParagraphFlags.{flags_of, paragraph_flags}
 use Rattle.unicode_bidi.specs.ParagraphInfo.{range_of, level_of, ranges_of, levels_of}
 
 -- ---- one paragraph
@@ -187,7 +188,7 @@ module _ (source : Source) (base : Option ℕ) (len_of : ℕ → ℕ) where
 
 -- what the walk over the paragraphs of a text is given, and what it leaves
 module _ (source : Source) (base : Option ℕ) (len_of : ℕ → ℕ) (units : HasUnits len_of) (chars : List ℕ) (pieces : List (List ℕ)) (whole : joined pieces ≡ chars) (ps : List ParagraphInfo) (ranges : ranges_of ps ≡ ranges_from len_of 0 pieces)
-  (levels : levels_of ps ≡ paragraph_levels source base pieces) where
+    (levels : levels_of ps ≡ paragraph_levels source base pieces) where
   pub paragraphs-Follow : Follow 0 (text_len len_of chars) ps
   paragraphs-Follow =
       subst (λ (n : ℕ). Follow 0 n ps) (let none : 0 + text_len len_of (joined pieces) ≡ text_len len_of (joined pieces) = omega arith in none ∙ ap (text_len len_of) whole)
@@ -243,3 +244,14 @@ module _ (source : Source) (base : Option ℕ) (len_of : ℕ → ℕ) (units : H
       (All-unmap (HasOwnUnits len_of (stored_levels source base) chars all) range ps paragraphs-HasOwnUnits)
       (subst (λ (cs : List ℕ). All (λ p. p.level ≡ paragraph_level base (map source.class_of (chars_of len_of cs p))) ps) whole (AreOf-level source base len_of units [] ps pieces (AreOf-from source base len_of 0 ps pieces ranges levels)))
       (λ k d within. tt)
+
+-- ---- a text of one paragraph
+
+-- the one element of a list
+pub only : {X Y : Type 0} (f : X → Y) (xs : List X) (x : X) (y : Y) → map f xs ≡ y ∷ [] → x ≡ get_or xs 0 x → f x ≡ y
+only f [] x y e is = absurd (cc e)
+only {X} {Y} f (z ∷ xs) x y e is = ap f is ∙ ap (first_or (f z)) e
+
+pub flags-one : (source : Source) (piece : List ℕ) → paragraph_flags source (piece ∷ []) ≡ flags_of (map source.class_of piece) ∷ []
+unfolding paragraph_flags
+flags-one source piece = refl

@@ -44,13 +44,14 @@ fn write_paragraph<D: BidiDataSource, T: TextSource>(
     ensures { OnOk result (levels.new ≡ take paragraph.now.range.start levels.old
         ++ (unit_levels (D.source data_source.now) T.units (T.characters text) paragraph.now ++ drop paragraph.now.range.end levels.old)) }
 {
+    let level = paragraph.level();
     let units = paragraph.range();
     let (start, end) = (units.start, units.end);
     write_levels(
         alloc,
         data_source,
         text.subrange(units),
-        paragraph.level(),
+        level,
         &classes[start..end],
         &mut levels[start..end],
     )

@@ -4,9 +4,8 @@ ghost use Rattle.std.specs.Char.{len_utf8};
 ghost use Rattle.std.specs.Str.{chars};
 ghost use Rattle.bidi_base.specs.Text.{is_per_char};
 
-use crate::analysis;
 use crate::paragraph_info::ParagraphInfo;
-use crate::visual;
+use crate::{analysis, visual};
 use bidi_base::char_data::BidiClass;
 use bidi_base::data_source::BidiDataSource;
 use bidi_base::level::{Level, has_rtl};

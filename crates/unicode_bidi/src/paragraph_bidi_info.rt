@@ -1,13 +1,15 @@
 // What the algorithm finds out about a text that is one paragraph.
-ghost use Rattle.std.specs.Prelude.{◌≡◌, IsTrue, IfOk, false};
+ghost use Rattle.std.specs.Prelude.{◌≡◌, ◌≤◌, IsTrue, IfOk, IfSome, map, false};
 ghost use Rattle.std.specs.Char.{len_utf8};
 ghost use Rattle.std.specs.Str.{chars};
 ghost use Rattle.bidi_base.specs.Text.{is_per_char};
 
 use crate::level_direction::direction_of;
-use crate::visual;
+use crate::{analysis, visual};
 use bidi_base::char_data::{BidiClass, Direction};
+use bidi_base::data_source::BidiDataSource;
 use bidi_base::level::{Level, has_rtl};
+use bidi_base::text::StrText;
 use std::alloc::{AllocError, Global};
 
 /// What the algorithm finds out about a text of UTF-8 that is taken as one paragraph, whatever
@@ -24,11 +26,60 @@ pub struct ParagraphBidiInfo<'t> {
 }
 
 impl<'t> ParagraphBidiInfo<'t> {
-    ghost use Rattle.bidi_base.specs.Direction.{direction_of_levels};
+    ghost use Rattle.bidi_base.specs.Direction.{direction_of_levels, is_pure_ltr as is_pure_ltr_of};
+    ghost use Rattle.bidi_base.specs.Isolates.{paragraph_level as paragraph_level_of, stored_classes};
+    ghost use Rattle.bidi_base.specs.Laws.{AreLevelsFrom, BoundaryNeutralsAreAlike};
     ghost use Rattle.bidi_base.specs.Levels.{has_rtl as has_rtl_of};
     ghost use Rattle.bidi_base.specs.Order.{visual_order, IsVisualOrder, order_by_reversals};
     ghost use Rattle.bidi_base.specs.Places.{indexes};
+    ghost use Rattle.bidi_base.specs.Stored.{stored_levels};
+    ghost use Rattle.bidi_base.specs.Text.{per_unit};
     ghost use Rattle.unicode_bidi.specs.ParagraphBidiInfo.{text as text_of, original_classes, levels as levels_of_info, paragraph_level, is_pure_ltr};
+
+    /// Finds the level of a text that is one paragraph (P2, P3), the class of each character, with
+    /// each FSI resolved (X5c), and its level (X1 to I2). A base level that is given is the level
+    /// of the paragraph. It must be at most 125.
+    pub fn new_with_data_source<D: BidiDataSource>(
+        alloc: Global,
+        data_source: &D,
+        text: &'t str,
+        default_para_level: Option<Level>,
+    ) -> Result<ParagraphBidiInfo<'t>, AllocError>
+        requires { IfSome default_para_level (λ level. level ≤ 125) }
+        ensures text { IfOk result (λ i. text_of i ≡ text.now) }
+        ensures classes { let source = D.source data_source.now in
+            IfOk result (λ i. original_classes i ≡ per_unit len_utf8 (chars text.now) (stored_classes (map source.class_of (chars text.now)))) }
+        ensures levels { IfOk result (λ i. levels_of_info i ≡ per_unit len_utf8 (chars text.now) (stored_levels (D.source data_source.now) default_para_level (chars text.now))) }
+        ensures paragraph_level { let source = D.source data_source.now in
+            IfOk result (λ i. paragraph_level i ≡ paragraph_level_of default_para_level (map source.class_of (chars text.now))) }
+        ensures pure_ltr { let source = D.source data_source.now in
+            IfOk result (λ i. is_pure_ltr i ≡ is_pure_ltr_of (map source.class_of (chars text.now))) }
+
+        // All units of a character have one class and one level.
+        ensures classes_per_char { IfOk result (λ i. IsTrue (is_per_char ⟦<BidiClass as PartialEq>⟧.eq len_utf8 (chars text.now) (original_classes i))) }
+        ensures levels_per_char { IfOk result (λ i. IsTrue (is_per_char ⟦<Level as PartialEq>⟧.eq len_utf8 (chars text.now) (levels_of_info i))) }
+
+        // No level is below that of the paragraph or above the greatest.
+        ensures bounded { IfOk result (λ i. AreLevelsFrom (paragraph_level i) (levels_of_info i)) }
+
+        // Which character of class BN stands at a place changes no level.
+        ensures boundary_neutrals_alike { BoundaryNeutralsAreAlike (D.source data_source.now) default_para_level }
+    {
+        let found = analysis::analyse(
+            alloc,
+            data_source,
+            StrText::new(text),
+            default_para_level,
+            false,
+        )?;
+        Ok(ParagraphBidiInfo {
+            text,
+            original_classes: found.original_classes,
+            levels: found.levels,
+            paragraph_level: found.paragraphs[0].level(),
+            is_pure_ltr: found.flags[0].is_pure_ltr,
+        })
+    }
 
     /// The text.
     pub fn text(&self) -> &'t str
