@@ -251,9 +251,3 @@ module _ (source : Source) (base : Option ℕ) (text : List ℕ) (utf8 : IsUtf8 
   unfolding text_classes text_levels paragraph_levels shown_text
   lines_in-shown ps ks ls ranges own =
       lines_in-from [] [] [] (paragraphs_of (each_separator source) (chars text)) ps (sym (paragraphs-joined source (chars text))) refl refl ks ls ranges own
-
--- where the ranges cut no character
-pub All-ranges_of : (cs : List ℕ) (ps : List ParagraphInfo) → All (λ (r : ℕ × ℕ). IsLine len_utf8 cs r.0 r.1) (ranges_of ps) → All (λ (p : ParagraphInfo). IsLine len_utf8 cs p.range.start p.range.end) ps
-All-ranges_of cs ps h k d within =
-    let range : ParagraphInfo → ℕ × ℕ = λ p. (p.range.start, p.range.end) in
-    subst (λ (r : ℕ × ℕ). IsLine len_utf8 cs r.0 r.1) (get_or-map range ps k d (0, 0) within) (h k (0, 0) (omega (arith, length-map ps range)))

@@ -1,13 +1,12 @@
-use Rattle.std.proofs.Common.{◌≡◌, ◌≤◌, List, ℕ, length, arith}
+use Rattle.std.proofs.Common.{◌≤◌, length, arith}
 use Rattle.std.specs.Char.{len_utf8}
 use Rattle.std.specs.Str.{chars}
 use Rattle.bidi_base.specs.Text.{IsLine}
-use Rattle.bidi_base.proofs.StrLemmas.{has_units, IsCharBoundary-from_is_boundary}
+use Rattle.bidi_base.proofs.StrLemmas.{IsCharBoundary-from_is_boundary}
 use Rattle.bidi_base.proofs.TextLemmas.{is_boundary-le}
 use Rattle.bidi_base.proofs.UnitsLemmas.{length-from_IsPerChar}
 use Rattle.bidi_show.proofs.shown.push_paragraph.Goals as goal
 use Rattle.unicode_bidi.specs.BidiInfo.{text as text_of}
-use Rattle.unicode_bidi.specs.ParagraphInfo.{range_of}
 use Rattle.unicode_bidi.proofs.StoredLine.{levels_IsPerChar}
 
 pub range-requires-clause-start_boundary : goal.range-requires-clause-start_boundary

@@ -1,4 +1,4 @@
-use Rattle.std.proofs.Common.{◌≡◌, ◌∙◌, ◌+◌, ◌≤◌, ◌++◌, List, ℕ, length, string_bytes, encode_utf8, ap, sym, append_assoc, arith, rules}
+use Rattle.std.proofs.Common.{◌≡◌, ◌∙◌, ◌+◌, ◌≤◌, ◌++◌, List, ℕ, length, string_bytes, encode_utf8, ap, append_assoc, rules}
 use Rattle.std.specs.Prelude.{codes}
 use Rattle.std.specs.Char.{len_utf8}
 use Rattle.std.specs.Cow.{cow_str_bytes}
