@@ -1,10 +1,10 @@
 -- What `show` prints of the paragraphs of a text, read in the text, is what it prints of each by itself.
-use Rattle.std.proofs.Common.{◌≡◌, ℕ, ◌+◌, ◌-◌, ◌≤◌, All, List, [], ◌∷◌, ◌++◌, Option, length, map, flat_map, take, drop, encode_utf8, refl, sym, ap, ap₂, subst, ◌∙◌, append_assoc, append-nil, length-append, arith}
+use Rattle.std.proofs.Common.{◌≡◌, ℕ, ◌+◌, ◌-◌, ◌≤◌, List, [], ◌∷◌, ◌++◌, Option, length, map, flat_map, take, encode_utf8, refl, sym, ap, ap₂, subst, ◌∙◌, append_assoc, length-append, arith}
 use Rattle.std.proofs.Math.Seq.{take-append-add, take-append_seam, drop-append_seam}
 use Rattle.std.specs.Prelude.{slice_range, encode_utf8_all}
 use Rattle.std.specs.Char.{len_utf8}
 use Rattle.std.specs.Str.{chars, IsUtf8}
-use Rattle.std.proofs.lemmas.List.{take_all, take-append-le, length-map, get_or-map}
+use Rattle.std.proofs.lemmas.List.{take_all, take-append-le, length-map}
 use Rattle.std.proofs.lemmas.List.Sums.{sum_by-append}
 use Rattle.std.proofs.lemmas.Str.{encodes-chars, encodes-append, IsUtf8-between}
 use Rattle.bidi_base.specs.declared.char_data.BidiClass.{BidiClass}
@@ -20,7 +20,7 @@ use Rattle.bidi_base.proofs.LevelLaws.{length-stored_levels}
 use Rattle.bidi_base.proofs.ParagraphsLemmas.{joined, paragraphs-joined}
 use Rattle.bidi_base.proofs.PerUnit.{length-per_unit, per_unit-append, per_char-per_unit}
 use Rattle.bidi_base.proofs.PieceUnits.{length-values}
-use Rattle.bidi_base.proofs.PlaceLemmas.{place-le, place-zero, place-end, char_index-place, IsLine-places, subrange-front}
+use Rattle.bidi_base.proofs.PlaceLemmas.{place-le, place-zero, place-end, char_index-place, IsLine-places}
 use Rattle.bidi_base.proofs.StoredSteps.{length-stored_classes}
 use Rattle.bidi_base.proofs.StrLemmas.{has_units, text_len-encodes, subrange-from_str, IsCharBoundary-from_is_boundary}
 use Rattle.bidi_base.proofs.TextLemmas.{char_index-append, subrange-middle}

@@ -1,9 +1,6 @@
-use Rattle.std.proofs.Common.{◌≡◌, ◌∙◌, ◌<◌, ◌++◌, List, ℕ, length, All, flat_map, map, string_bytes, ap, ap₂, subst, sym}
-use Rattle.std.specs.Char.{len_utf8}
-use Rattle.std.specs.Str.{chars}
-use Rattle.bidi_base.specs.Text.{IsLine}
+use Rattle.std.proofs.Common.{◌∙◌, ◌++◌, List, ℕ, flat_map, ap, ap₂}
 use Rattle.bidi_show.specs.Shown.{lines_in}
-use Rattle.bidi_show.proofs.PieceLines.{lines_in-shown, All-ranges_of}
+use Rattle.bidi_show.proofs.PieceLines.{lines_in-shown}
 use Rattle.bidi_show.proofs.shown.show.Goals as goal
 use Rattle.unicode_bidi.specs.BidiInfo.{text as text_of, original_classes, levels as levels_of_info, paragraphs}
 use Rattle.unicode_bidi.specs.declared.paragraph_info.ParagraphInfo.{ParagraphInfo}
