@@ -1,5 +1,5 @@
 -- The classes that N0 to N2 leave: N0 keeps those that W7 leaves, and after N2 each has a direction.
-use Rattle.std.proofs.Common.{◌≡◌, ℕ, zero, suc, ◌+◌, ◌<◌, ◌≤◌, Bool, true, false, cond, List, [], ◌∷◌, map, length, take, reverse, filter_map, find, fold, Option, Some, None, option_map, refl, ap, subst, ◌∙◌, inl, inr, arith}
+use Rattle.std.proofs.Common.{◌≡◌, ℕ, zero, suc, ◌+◌, ◌<◌, ◌≤◌, Bool, true, false, cond, List, [], ◌∷◌, ◌++◌, map, length, take, reverse, filter_map, find, fold, Option, Some, None, option_map, unwrap_or, refl, sym, ap, subst, ◌∙◌, inl, inr, arith}
 use Rattle.std.specs.List.{list_all, list_any, range_with_len, cons_option}
 use Rattle.std.specs.Option.{option_map_or}
 use Rattle.std.proofs.lemmas.Bool.{cases_Bool, and_from, or_cases, or_left, both_ways, cond-true, cond-false}
@@ -17,6 +17,17 @@ directed : (c : BidiClass) → is_l_or_r c ≡ true → has_direction c ≡ true
 directed L h = refl
 directed R h = refl
 directed _ h = absurd (cc h)
+
+-- the nearest direction, where one more class is passed
+pub nearest_direction-more : (d c : BidiClass) (cs : List BidiClass) → nearest_direction d (c ∷ cs) ≡ unwrap_or (as_direction c) (nearest_direction d cs)
+nearest_direction-more d L cs = refl
+nearest_direction-more d _ cs = refl
+
+-- and where further classes follow
+pub nearest_direction-append : (d : BidiClass) (cs ds : List BidiClass) → nearest_direction d (cs ++ ds) ≡ nearest_direction (nearest_direction d ds) cs
+nearest_direction-append d [] ds = refl
+nearest_direction-append d (c ∷ cs) ds =
+    nearest_direction-more d c (cs ++ ds) ∙ ap (unwrap_or (as_direction c)) (nearest_direction-append d cs ds) ∙ sym (nearest_direction-more (nearest_direction d ds) c cs)
 
 one_option : (d c : BidiClass) (ds : List BidiClass) → is_l_or_r d ≡ true → is_l_or_r (first_or d ds) ≡ true → is_l_or_r (first_or d (cons_option (as_direction c) ds)) ≡ true
 one_option d L ds h k = refl
@@ -61,35 +72,39 @@ list_all-map-range p f low (suc n) each =
 resolved : (c : BidiClass) → is_l_or_r c ≡ true → is_weak_resolved c ≡ true
 resolved c h = or_left (has_direction c) (is_neutral c) (directed c h)
 
-with_pair-resolved : (source : List BidiClass) (pair : ℕ × ℕ) (classes : List BidiClass) (d : BidiClass) → is_l_or_r d ≡ true → list_all is_weak_resolved classes ≡ true
-    → list_all is_weak_resolved (with_pair source pair classes d) ≡ true
-unfolding with_pair
-with_pair-resolved source pair classes d h k =
-    list_all-map-range is_weak_resolved (λ j. cond (goes_with_pair source pair j) d (class_at classes j)) 0 (length classes)
-    (λ j from below. either (goes_with_pair source pair j) (class_at classes j) (list_all-get_or is_weak_resolved classes j L (omega arith) k))
-  where
-    either : (b : Bool) (c : BidiClass) → is_weak_resolved c ≡ true → is_weak_resolved (cond b d c) ≡ true
-    either true c g = resolved d h
-    either false c g = g
+-- what each class passes, and each direction that a pair may take, each passes after N0 too
+module _ (p : BidiClass → Bool) (e sos : BidiClass) (source : List BidiClass)
+    (takes : (classes : List BidiClass) (pair : ℕ × ℕ) (d : BidiClass) → list_all p classes ≡ true → pair_direction e sos classes pair ≡ Some d → p d ≡ true) where
+  with_pair-keeps : (pair : ℕ × ℕ) (classes : List BidiClass) (d : BidiClass) → p d ≡ true → list_all p classes ≡ true → list_all p (with_pair source pair classes d) ≡ true
+  unfolding with_pair
+  with_pair-keeps pair classes d h k =
+      list_all-map-range p (λ j. cond (goes_with_pair source pair j) d (class_at classes j)) 0 (length classes)
+      (λ j from below. either (goes_with_pair source pair j) (class_at classes j) (list_all-get_or p classes j L (omega arith) k))
+    where
+      either : (b : Bool) (c : BidiClass) → p c ≡ true → p (cond b d c) ≡ true
+      either true c g = h
+      either false c g = g
 
-n0_pair-resolved : (e sos : BidiClass) (source classes : List BidiClass) (pair : ℕ × ℕ) → is_l_or_r e ≡ true → is_l_or_r sos ≡ true → list_all is_weak_resolved classes ≡ true
-    → list_all is_weak_resolved (n0_pair e sos source classes pair) ≡ true
-unfolding n0_pair
-n0_pair-resolved e sos source classes pair h k l = by_option (pair_direction e sos classes pair) refl
-  where
-    by_option : (o : Option BidiClass) → pair_direction e sos classes pair ≡ o → list_all is_weak_resolved (option_map_or (with_pair source pair classes) o classes) ≡ true
-    by_option None f = l
-    by_option (Some d) f = with_pair-resolved source pair classes d (pair_direction-l_or_r e sos classes pair d h k f) l
+  n0_pair-keeps : (classes : List BidiClass) (pair : ℕ × ℕ) → list_all p classes ≡ true → list_all p (n0_pair e sos source classes pair) ≡ true
+  unfolding n0_pair
+  n0_pair-keeps classes pair l = by_option (pair_direction e sos classes pair) refl
+    where
+      by_option : (o : Option BidiClass) → pair_direction e sos classes pair ≡ o → list_all p (option_map_or (with_pair source pair classes) o classes) ≡ true
+      by_option None f = l
+      by_option (Some d) f = with_pair-keeps pair classes d (takes classes pair d l f) l
 
-n0-resolved_from : (e sos : BidiClass) (source : List BidiClass) (pairs : List (ℕ × ℕ)) (classes : List BidiClass) → is_l_or_r e ≡ true → is_l_or_r sos ≡ true → list_all is_weak_resolved classes ≡ true
-    → list_all is_weak_resolved (fold (n0_pair e sos source) classes pairs) ≡ true
-n0-resolved_from e sos source [] classes h k l = l
-n0-resolved_from e sos source (p ∷ pairs) classes h k l = n0-resolved_from e sos source pairs (n0_pair e sos source classes p) h k (n0_pair-resolved e sos source classes p h k l)
+  keeps_from : (pairs : List (ℕ × ℕ)) (classes : List BidiClass) → list_all p classes ≡ true → list_all p (fold (n0_pair e sos source) classes pairs) ≡ true
+  keeps_from [] classes l = l
+  keeps_from (pair ∷ pairs) classes l = keeps_from pairs (n0_pair e sos source classes pair) (n0_pair-keeps classes pair l)
+
+  pub n0-keeps : (pairs : List (ℕ × ℕ)) (classes : List BidiClass) → list_all p classes ≡ true → list_all p (n0 e sos source pairs classes) ≡ true
+  unfolding n0
+  n0-keeps pairs classes l = keeps_from pairs classes l
 
 pub n0-resolved : (e sos : BidiClass) (source : List BidiClass) (pairs : List (ℕ × ℕ)) (classes : List BidiClass) → is_l_or_r e ≡ true → is_l_or_r sos ≡ true → list_all is_weak_resolved classes ≡ true
     → list_all is_weak_resolved (n0 e sos source pairs classes) ≡ true
-unfolding n0
-n0-resolved e sos source pairs classes h k l = n0-resolved_from e sos source pairs classes h k l
+n0-resolved e sos source pairs classes h k l =
+    n0-keeps is_weak_resolved e sos source (λ cs pair d all is. resolved d (pair_direction-l_or_r e sos cs pair d h k is)) pairs classes l
 
 -- what a neutral takes
 common_directed : (e left right : BidiClass) → is_l_or_r e ≡ true → is_l_or_r left ≡ true → has_direction (cond (same_class left right) left e) ≡ true

@@ -45,6 +45,12 @@ module _ (source : List BidiClass) (brackets : List (Option BidiMatchedOpeningBr
   AreResolved-push new [] s h e = (e, tt)
   AreResolved-push new (r ∷ seqs) s h e = (h.0, AreResolved-push new seqs s h.1 e)
 
+  -- all of them, one by one
+  pub AreResolved-each : (new : List ℕ) (seqs : List RunSequence) → ((k : ℕ) (d : RunSequence) → k < length seqs → at_places 0 new (get_or seqs k d).places ≡ resolved_levels source brackets levels classes (get_or seqs k d))
+      → AreResolved source brackets levels classes new seqs
+  AreResolved-each new [] each = tt
+  AreResolved-each new (s ∷ seqs) each = (each 0 s (omega arith), AreResolved-each new seqs (λ k d within. each (suc k) d (omega arith)))
+
 -- ---- lengths
 
 length-weak_classes : (sos : BidiClass) (classes : List BidiClass) → length (weak_classes sos classes) ≡ length classes
@@ -66,7 +72,7 @@ length-n0_pair e sos source classes pair = by_direction (pair_direction e sos cl
     by_direction None = refl
     by_direction (Some d) = length-map-range_with_len (λ k. cond (goes_with_pair source pair k) d (class_at classes k)) 0 (length classes)
 
-length-n0 : (e sos : BidiClass) (source : List BidiClass) (pairs : List (ℕ × ℕ)) (classes : List BidiClass) → length (n0 e sos source pairs classes) ≡ length classes
+pub length-n0 : (e sos : BidiClass) (source : List BidiClass) (pairs : List (ℕ × ℕ)) (classes : List BidiClass) → length (n0 e sos source pairs classes) ≡ length classes
 unfolding n0
 length-n0 e sos source [] classes = refl
 length-n0 e sos source (pair ∷ pairs) classes = length-n0 e sos source pairs (n0_pair e sos source classes pair) ∙ length-n0_pair e sos source classes pair

@@ -97,22 +97,23 @@ module _ (paragraph : ℕ) (classes : List BidiClass) (levels : List ℕ) where
     pub sequence-apart : (p : ℕ) → 0 < times_in (places_of (take k (sequences paragraph classes levels))) p → times_in (get_or (sequences paragraph classes levels) k d).places p ≡ 0
     sequence-apart p there = omega (arith, sequences-once p, times_in-parts (λ (s : RunSequence). s.places) (sequences paragraph classes levels) k d p within)
 
-    begun : (first : ℕ) × (get_or (sequences paragraph classes levels) k d ≡ sequence_from paragraph classes levels first)
+    -- it goes on from some character
+    pub sequence-begun : (first : ℕ) × (get_or (sequences paragraph classes levels) k d ≡ sequence_from paragraph classes levels first)
     unfolding sequences
-    begun =
+    sequence-begun =
         let starts : List ℕ = filter (is_first classes levels) (kept_places classes) in
         let inside : k < length starts = omega (arith, within, length-map starts (sequence_from paragraph classes levels)) in
         (get_or starts k 0, get_or-map (sequence_from paragraph classes levels) starts k 0 d inside)
 
     pub sequence-not_empty : 0 < length (get_or (sequences paragraph classes levels) k d).places
     unfolding sequence_from
-    sequence-not_empty = subst (λ (s : RunSequence). 0 < length s.places) (sym begun.1) (chain_begun (successor classes levels) (length classes) begun.0 (some_classes paragraph classes levels k within))
+    sequence-not_empty = subst (λ (s : RunSequence). 0 < length s.places) (sym sequence-begun.1) (chain_begun (successor classes levels) (length classes) sequence-begun.0 (some_classes paragraph classes levels k within))
 
     -- what stands before its first character and after its last
     pub sequence-sos : is_l_or_r (get_or (sequences paragraph classes levels) k d).sos ≡ true
     unfolding sequence_from start_class
-    sequence-sos = ap (λ (s : RunSequence). is_l_or_r s.sos) begun.1 ∙ direction_of-l_or_r _
+    sequence-sos = ap (λ (s : RunSequence). is_l_or_r s.sos) sequence-begun.1 ∙ direction_of-l_or_r _
 
     pub sequence-eos : is_l_or_r (get_or (sequences paragraph classes levels) k d).eos ≡ true
     unfolding sequence_from end_class
-    sequence-eos = ap (λ (s : RunSequence). is_l_or_r s.eos) begun.1 ∙ direction_of-l_or_r _
+    sequence-eos = ap (λ (s : RunSequence). is_l_or_r s.eos) sequence-begun.1 ∙ direction_of-l_or_r _

@@ -1,9 +1,9 @@
 -- What the rules of a sequence are given: the classes and levels of a paragraph at the places of its sequences.
-use Rattle.std.proofs.Common.{◌≡◌, ℕ, zero, suc, ◌<◌, ◌≤◌, Bool, true, ◌||◌, cond, eqb, List, [], ◌∷◌, ◌++◌, length, get_or, Option, Some, unwrap_or, refl, sym, ap, subst, ◌∙◌, arith, eq-eqb, leb}
+use Rattle.std.proofs.Common.{◌≡◌, ℕ, zero, suc, ◌<◌, ◌≤◌, Bool, true, ◌||◌, cond, eqb, List, [], ◌∷◌, ◌++◌, length, get_or, Option, Some, unwrap_or, refl, sym, ap, subst, ◌∙◌, arith, inl, inr, eq-eqb, eqb-true, leb}
 use Rattle.std.specs.List.{list_all}
-use Rattle.std.proofs.lemmas.Bool.{cond-true, cond_both, and_from}
+use Rattle.std.proofs.lemmas.Bool.{cases_Bool, cond-true, cond-false, cond_both, and_parts, and_from}
 use Rattle.std.proofs.lemmas.List.Sums.{sum_by-cons}
-use Rattle.std.proofs.lemmas.List.FromFn.{get_or-map-range_with_len, length-map-range_with_len}
+use Rattle.std.proofs.lemmas.List.FromFn.{get_or-map-range_with_len}
 use Rattle.bidi_base.specs.declared.char_data.BidiClass.{BidiClass}
 use Rattle.bidi_base.specs.declared.char_data.BidiClass.TheVariants.{L, R, AL, LRO, RLO, FSI}
 use Rattle.bidi_base.specs.Classes.{is_kept, is_removed, is_paragraph_separator}
@@ -11,7 +11,7 @@ use Rattle.bidi_base.specs.Places.{class_at, at_places}
 use Rattle.bidi_base.specs.Isolates.{resolved_fsi, deciding_class, isolated_classes, stored_class, stored_classes}
 use Rattle.bidi_base.specs.Explicit.{Status, override_of, asked_level, status_inside, status_at, explicit_level, explicit_class, explicit_levels, explicit_classes}
 use Rattle.bidi_base.specs.Sequences.{is_kept_at, level_at}
-use Rattle.bidi_base.proofs.ExplicitLemmas.{explicit_level-IsWithin}
+use Rattle.bidi_base.proofs.ExplicitLemmas.{explicit_level-IsWithin, level_at-explicit_levels, class_at-explicit_classes}
 use Rattle.bidi_base.proofs.SequencePlaces.{times_in}
 
 -- ---- stored classes: an FSI is kept, whatever it becomes
@@ -58,17 +58,8 @@ explicit_class-kept paragraph classes p kept =
     (λ e. status_inside-kept _ _ (class_at classes p) kept kept)
 
 pub explicit_classes-kept : (paragraph : ℕ) (classes : List BidiClass) (p : ℕ) → p < length classes → is_kept_at classes p ≡ true → is_kept_at (explicit_classes paragraph classes) p ≡ true
-unfolding explicit_classes
 explicit_classes-kept paragraph classes p within kept =
-    ap is_kept (get_or-map-range_with_len (explicit_class paragraph classes) 0 (length classes) p p L within (omega arith)) ∙ explicit_class-kept paragraph classes p kept
-
-pub length-explicit_classes : (paragraph : ℕ) (classes : List BidiClass) → length (explicit_classes paragraph classes) ≡ length classes
-unfolding explicit_classes
-length-explicit_classes paragraph classes = length-map-range_with_len (explicit_class paragraph classes) 0 (length classes)
-
-pub length-explicit_levels : (paragraph : ℕ) (classes : List BidiClass) → length (explicit_levels paragraph classes) ≡ length classes
-unfolding explicit_levels
-length-explicit_levels paragraph classes = length-map-range_with_len (explicit_level paragraph classes) 0 (length classes)
+    ap is_kept (class_at-explicit_classes paragraph classes p within) ∙ explicit_class-kept paragraph classes p kept
 
 -- ---- explicit levels
 
@@ -78,16 +69,19 @@ pub record IsExplicitIn (paragraph level : ℕ) : Type 0 where
   pub below : level ≤ 125
 
 pub explicit_levels-IsExplicitIn : (paragraph : ℕ) (classes : List BidiClass) (p : ℕ) → paragraph ≤ 125 → p < length classes → IsExplicitIn paragraph (level_at (explicit_levels paragraph classes) p)
-unfolding explicit_levels
 explicit_levels-IsExplicitIn paragraph classes p fits within =
     let own = explicit_level-IsWithin paragraph classes p fits in
-    subst (λ (level : ℕ). IsExplicitIn paragraph level) (sym (get_or-map-range_with_len (explicit_level paragraph classes) 0 (length classes) p p 0 within (omega arith))) (record { above = own.above; below = own.below })
+    subst (λ (level : ℕ). IsExplicitIn paragraph level) (sym (level_at-explicit_levels paragraph classes p within)) (record { above = own.above; below = own.below })
 
 -- ---- the elements at some places
 
 pub length-at_places : {X : Type 0} (d : X) (xs : List X) (ps : List ℕ) → length (at_places d xs ps) ≡ length ps
 length-at_places d xs [] = refl
 length-at_places d xs (p ∷ ps) = ap suc (length-at_places d xs ps)
+
+pub at_places-append : {X : Type 0} (d : X) (xs : List X) (ps qs : List ℕ) → at_places d xs (ps ++ qs) ≡ at_places d xs ps ++ at_places d xs qs
+at_places-append d xs [] qs = refl
+at_places-append {X} d xs (p ∷ ps) qs = ap {B = List X} (λ ys. get_or xs p d ∷ ys) (at_places-append d xs ps qs)
 
 -- what stands in a list, and is its first or a later one
 pub times_in-first : (p : ℕ) (ps : List ℕ) → 0 < times_in (p ∷ ps) p
@@ -112,6 +106,17 @@ list_all-at_places test d xs (p ∷ ps) passes =
     and_from (test (get_or xs p d)) (list_all test (at_places d xs ps)) (passes p (times_in-first p ps)) (list_all-at_places test d xs ps (λ q there. passes q (omega (arith, times_in-later p ps q))))
 
 -- one more place
+pub list_all-at_places_back : {X : Type 0} (test : X → Bool) (d : X) (xs : List X) (ps : List ℕ) (p : ℕ) → list_all test (at_places d xs ps) ≡ true → 0 < times_in ps p → test (get_or xs p d) ≡ true
+list_all-at_places_back test d xs [] p h there = absurd (omega arith)
+list_all-at_places_back test d xs (q ∷ ps) p h there =
+    let parts = and_parts (test (get_or xs q d)) (list_all test (at_places d xs ps)) h in
+    elim (cases_Bool (eqb q p)) [
+      | inl here ↦ ap (λ n. test (get_or xs n d)) (sym (eqb-true q p here)) ∙ parts.0
+      | inr other ↦
+          let none : cond {A = ℕ} (eqb q p) 1 0 ≡ 0 = cond-false (eqb q p) 1 0 other in
+          list_all-at_places_back test d xs ps p parts.1 (omega (arith, sum_by-cons (λ n. cond (eqb n p) 1 0) q ps))
+    ]
+
 pub at_places-push : {X : Type 0} (d : X) (xs : List X) (ps : List ℕ) (p : ℕ) → at_places d xs (ps ++ p ∷ []) ≡ at_places d xs ps ++ get_or xs p d ∷ []
 at_places-push d xs [] p = refl
 at_places-push {X} d xs (q ∷ ps) p = ap (λ (zs : List X). get_or xs q d ∷ zs) (at_places-push d xs ps p)

@@ -3,41 +3,25 @@ use Rattle.std.proofs.Common.{◌≡◌, ℕ, ◌+◌, ◌<◌, ◌≤◌, ◌^�
 use Rattle.std.specs.Prelude.{◌||◌, if◌then◌else◌, replicate}
 use Rattle.std.proofs.Math.Seq.{take-append_seam}
 use Rattle.std.proofs.lemmas.List.{length-take, length-drop, length-replicate}
-use Rattle.std.proofs.lemmas.List.FromFn.{get_or-map-range_with_len, length-map-range_with_len}
 use Rattle.bidi_base.specs.declared.char_data.BidiClass.{BidiClass}
 use Rattle.bidi_base.specs.declared.char_data.BidiClass.TheVariants.{L, BN}
 use Rattle.bidi_base.specs.Classes.{is_paragraph_separator, is_removed}
 use Rattle.bidi_base.specs.Places.{class_at}
 use Rattle.bidi_base.specs.Text.{place, text_len, per_unit, per_char, is_per_char}
 use Rattle.bidi_base.specs.Sequences.{is_kept_at}
-use Rattle.bidi_base.specs.Explicit.{explicit_level, explicit_levels, processing_class, processing_classes}
+use Rattle.bidi_base.specs.Explicit.{explicit_levels, processing_class, processing_classes}
 use Rattle.bidi_base.specs.StatusMachine.{Entry, State, start, closed, step, state_at, counted, IsWithinDepth, IsPoppable}
+use Rattle.bidi_base.proofs.ExplicitLemmas.{length-explicit_levels, length-processing_classes, level_at-explicit_levels, class_at-processing_classes}
 use Rattle.bidi_base.proofs.TextLemmas.{HasUnits, length-le-text_len}
 use Rattle.bidi_base.proofs.PlaceLemmas.{LengthTurn}
-use Rattle.bidi_base.proofs.PerUnit.{IsWrittenTo, IsWrittenTo-start, IsWrittenTo-more, IsWrittenTo-end, get_or-per_unit-place, length-per_char}
-use Rattle.bidi_base.proofs.UnitsLemmas.{length-from_is_per_char, per_unit-from_is_per_char}
+use Rattle.bidi_base.proofs.PerUnit.{IsWrittenTo, IsWrittenTo-start, IsWrittenTo-more, IsWrittenTo-end, get_or-per_unit-place, length-per_char, per_char-per_unit}
+use Rattle.bidi_base.proofs.UnitsLemmas.{length-from_is_per_char, per_unit-from_is_per_char, is_per_char-per_unit}
 use Rattle.bidi_base.specs.contracts.char_data.BidiClassPartialEq.TheImpl.{ghosts}
-use Rattle.bidi_base.proofs.PerCharTests.{class_test}
+use Rattle.bidi_base.proofs.PerCharTests.{class_test, level_eq, level_test}
 use Rattle.bidi_base.proofs.StatusMachine.{answer_level-explicit_level, answer_class-explicit_class}
 use Rattle.bidi_base.proofs.StatusBounds.{state_at-more, state_at-IsPoppable, closed-IsWithinDepth, closed-counted}
 use Rattle.bidi_rules.specs.ExplicitPass.{filled, runs_before, run_start}
 use Rattle.bidi_rules.proofs.RunCutting.{IsCutTo, IsCutTo-start, IsCutTo-removed, IsCutTo-kept}
-
-get_or-explicit_levels : (paragraph : ℕ) (classes : List BidiClass) (k : ℕ) → k < length classes → get_or (explicit_levels paragraph classes) k 0 ≡ explicit_level paragraph classes k
-unfolding explicit_levels
-get_or-explicit_levels paragraph classes k fits = get_or-map-range_with_len (explicit_level paragraph classes) 0 (length classes) k k 0 fits (omega arith)
-
-pub length-explicit_levels : (paragraph : ℕ) (classes : List BidiClass) → length (explicit_levels paragraph classes) ≡ length classes
-unfolding explicit_levels
-length-explicit_levels paragraph classes = length-map-range_with_len (explicit_level paragraph classes) 0 (length classes)
-
-get_or-processing_classes : (paragraph : ℕ) (classes : List BidiClass) (k : ℕ) → k < length classes → get_or (processing_classes paragraph classes) k L ≡ processing_class paragraph classes k
-unfolding processing_classes
-get_or-processing_classes paragraph classes k fits = get_or-map-range_with_len (processing_class paragraph classes) 0 (length classes) k k L fits (omega arith)
-
-pub length-processing_classes : (paragraph : ℕ) (classes : List BidiClass) → length (processing_classes paragraph classes) ≡ length classes
-unfolding processing_classes
-length-processing_classes paragraph classes = length-map-range_with_len (processing_class paragraph classes) 0 (length classes)
 
 processing_class-is : (paragraph : ℕ) (classes : List BidiClass) (k : ℕ) → k < length classes
     → (if is_removed (class_at classes k) then BN else if is_paragraph_separator (class_at classes k) || is_removed (class_at classes k) then class_at classes k else unwrap_or (closed (class_at classes k) (state_at paragraph classes k)).top.status.override (class_at classes k))
@@ -134,7 +118,7 @@ module _ (len_of : ℕ → ℕ) (chars : List ℕ) (paragraph : ℕ) (stored : L
         ∙ ap (λ (c : BidiClass). if is_paragraph_separator c then paragraph else (closed c stack).top.status.level) class_is
         ∙ ap (λ (s : State). if is_paragraph_separator (class_at stored k) then paragraph else (closed (class_at stored k) s).top.status.level) machine
         ∙ answer_level-explicit_level paragraph stored k within
-        ∙ sym (get_or-explicit_levels paragraph stored k within)
+        ∙ sym (level_at-explicit_levels paragraph stored k within)
 
     put_at : stack ≡ state_at paragraph stored k → put ≡ get_or (processing_classes paragraph stored) k L
     put_at machine =
@@ -143,7 +127,7 @@ module _ (len_of : ℕ → ℕ) (chars : List ℕ) (paragraph : ℕ) (stored : L
         ∙ ap (λ (c : BidiClass). if is_removed c then BN else if is_paragraph_separator c || is_removed c then c else unwrap_or (closed c stack).top.status.override c) class_is
         ∙ ap (λ (s : State). if is_removed (class_at stored k) then BN else if is_paragraph_separator (class_at stored k) || is_removed (class_at stored k) then class_at stored k else unwrap_or (closed (class_at stored k) s).top.status.override (class_at stored k)) machine
         ∙ processing_class-is paragraph stored k within
-        ∙ sym (get_or-processing_classes paragraph stored k within)
+        ∙ sym (class_at-processing_classes paragraph stored k within)
 
     next_at : stack ≡ state_at paragraph stored k → next ≡ state_at paragraph stored (k + 1)
     next_at machine = next_is ∙ ap (λ c. step c stack) class_is ∙ ap (step (class_at stored k)) machine ∙ sym (state_at-more paragraph stored k)
@@ -211,3 +195,11 @@ few_characters len_of h chars original units is fits = omega (arith, length-per_
 pub text_len-some : (len_of : ℕ → ℕ) (chars : List ℕ) → 0 < text_len len_of chars → 0 < length chars
 text_len-some len_of [] some = absurd (omega arith)
 text_len-some len_of (c ∷ chars) some = omega arith
+
+-- what is left is one level for each character, each its explicit one
+pub per_char-explicit_levels : (len_of : ℕ → ℕ) → HasUnits len_of → (chars : List ℕ) (paragraph : ℕ) (stored : List BidiClass) (levels : List ℕ) → length stored ≡ length chars → levels ≡ per_unit len_of chars (explicit_levels paragraph stored)
+    → per_char 0 len_of chars levels ≡ explicit_levels paragraph stored
+per_char-explicit_levels len_of h chars paragraph stored levels long is = ap (per_char 0 len_of chars) is ∙ per_char-per_unit len_of h 0 chars (explicit_levels paragraph stored) (length-explicit_levels paragraph stored ∙ long)
+
+pub is_per_char-explicit_levels : (len_of : ℕ → ℕ) (chars : List ℕ) (paragraph : ℕ) (stored : List BidiClass) (levels : List ℕ) → length stored ≡ length chars → levels ≡ per_unit len_of chars (explicit_levels paragraph stored) → is_per_char level_eq len_of chars levels ≡ true
+is_per_char-explicit_levels len_of chars paragraph stored levels long is = ap (is_per_char level_eq len_of chars) is ∙ is_per_char-per_unit level_eq level_test len_of chars (explicit_levels paragraph stored) (length-explicit_levels paragraph stored ∙ long)

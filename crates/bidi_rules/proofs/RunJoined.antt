@@ -1,33 +1,34 @@
 -- The pass over level runs as ranges of units: what has been joined so far, and the sequences at the end.
-use Rattle.std.proofs.Common.{◌≡◌, ℕ, zero, suc, ◌+◌, ◌-◌, ◌<◌, ◌≤◌, Bool, true, false, cond, eqb, max, List, [], ◌∷◌, ◌++◌, length, map, get_or, set, take, append-nil, append_assoc, length-append, Option, Some, None, refl, sym, ap, subst, ◌∙◌, arith, inl, inr, lt-ltb}
+use Rattle.std.proofs.Common.{◌≡◌, ℕ, zero, suc, ◌+◌, ◌-◌, ◌<◌, ◌≤◌, Bool, true, false, cond, eqb, max, List, [], ◌∷◌, ◌++◌, length, map, get_or, set, take, append_assoc, Option, Some, None, refl, sym, ap, subst, ◌∙◌, arith, inl, inr, lt-ltb}
 use Rattle.std.specs.Prelude.{filter, flat_map, IfSome, All, nat_lt, is_some, not, ◌&&◌, IsPermutation}
 use Rattle.std.specs.List.{range_with_len, fold}
 use Rattle.std.proofs.lemmas.Bool.{cond-true, cond-false, both_ways}
-use Rattle.std.proofs.lemmas.List.{length-map, map-append, map-set, get_or-map, take_all}
+use Rattle.std.proofs.lemmas.List.{length-map, map-append, map-set, get_or-map}
 use Rattle.std.proofs.lemmas.List.Elements.{All-push, All-set, All-get_or, All-weaker, All-nil, All-cons}
+use Rattle.std.proofs.lemmas.List.Folds.{flat_map-map}
 use Rattle.std.proofs.lemmas.List.Sorted.{IsPermutation-refl, IsPermutation-trans, IsPermutation-append_left, IsPermutation-append_right, IsPermutation-append_comm}
 use Rattle.std.proofs.lemmas.Grind.{flat_map-append}
 use Rattle.bidi_base.specs.declared.char_data.BidiClass.{BidiClass}
 use Rattle.bidi_base.specs.Classes.{is_initiator, is_pdi}
 use Rattle.bidi_base.specs.Levels.{direction_of}
-use Rattle.bidi_base.specs.Places.{class_at, last_or, first_or, between, indexes}
+use Rattle.bidi_base.specs.Places.{class_at, last_or, first_or, between}
 use Rattle.bidi_base.specs.Isolates.{is_initiator_at}
 use Rattle.bidi_base.specs.Sequences.{RunSequence, is_kept_at, kept_places, kept_before, level_at, level_or, start_class, end_class, with_ends, sequence_from, is_first, have_one_level, sequences, has_places, begins_run, run_starts}
 use Rattle.bidi_base.specs.SequencePass.{read_class, waiting_for, index_of}
-use Rattle.bidi_base.specs.Text.{place, text_len, IsLine}
-use Rattle.bidi_base.specs.Units.{kept_in_runs, level_run_ranges, ranges_between}
+use Rattle.bidi_base.specs.Text.{place, IsLine}
+use Rattle.bidi_base.specs.Units.{kept_in_runs}
+use Rattle.bidi_base.proofs.ChainLemmas.{filter_range-none}
 use Rattle.bidi_base.proofs.TextLemmas.{HasUnits}
-use Rattle.bidi_base.proofs.PlaceLemmas.{place-zero, place-mono, place-end, IsLine-places}
+use Rattle.bidi_base.proofs.PlaceLemmas.{place-mono, IsLine-places}
 use Rattle.bidi_base.proofs.SuccessorLemmas.{kept_before-is_None}
 use Rattle.bidi_base.proofs.PassLemmas.{AllBegun}
 use Rattle.bidi_base.proofs.RunsLemmas.{IsLevelRun}
 use Rattle.bidi_rules.specs.Joining.{JoinedRuns, no_runs, with_run, characters_of, read_range}
 use Rattle.bidi_rules.proofs.RunCutting.{run_starts-some}
-use Rattle.bidi_rules.proofs.KeptRangeLemmas.{filter_range-none}
 use Rattle.bidi_rules.proofs.LevelRunLemmas.{kept_in_run, kept_in_runs-push}
 use Rattle.bidi_rules.proofs.RunUnits.{NoneKept, IsLast}
 use Rattle.bidi_rules.proofs.RunPass.{with_places, index_in, IsAt, IsAt-start, IsAt-end, HasCome, HasCome-run}
-use Rattle.bidi_rules.proofs.RunJoining.{IsFirst, first_of, first_at, kept_before-first, rest_of, front_is, last_is, one_level, kept_before-next_run, level_beyond, end_is, came, begins_kept, begins_after}
+use Rattle.bidi_rules.proofs.RunJoining.{IsFirst, first_at, kept_before-first, rest_of, front_is, last_is, one_level, kept_before-next_run, level_beyond, end_is, came, begins_kept, begins_after}
 
 -- the runs of all that was joined, where one of them is longer
 longer : {X : Type 0} (out : List (List X)) (s : ℕ) (xs : List X) → s < length out → IsPermutation (flat_map (λ ys. ys) out ++ xs) (flat_map (λ ys. ys) (set out s (get_or out s [] ++ xs)))
@@ -53,10 +54,6 @@ pub record IsJoined (len_of : ℕ → ℕ) (chars : List ℕ) (classes : List Bi
   pub lines : All (λ (j : JoinedRuns). All (IsBefore len_of chars (place len_of chars a)) j.runs) out
   pub shares : IsPermutation runs (flat_map (λ (j : JoinedRuns). j.runs) out)
   pub fresh : a ≡ 0 → (out ≡ []) × (waits ≡ [])
-
-flat_map-same : {X Y : Type 0} (f : X → List Y) (xs : List X) → flat_map (λ ys. ys) (map f xs) ≡ flat_map f xs
-flat_map-same f [] = refl
-flat_map-same f (x ∷ xs) = ap (λ ys. f x ++ ys) (flat_map-same f xs)
 
 first_or-append : (d : ℕ) (xs ys : List ℕ) → 0 < length xs → first_or d (xs ++ ys) ≡ first_or d xs
 first_or-append d [] ys some = absurd (omega arith)
@@ -265,10 +262,10 @@ module _ (len_of : ℕ → ℕ) (h : HasUnits len_of) (chars : List ℕ) (classe
           let whole : flat_map (λ ys. ys) (set rest s (get_or rest s [] ++ r ∷ [])) ≡ flat_map (λ (j : JoinedRuns). j.runs) (with_run (Some s) r sos eos out) =
           ap (λ (ys : List (ℕ × ℕ)). flat_map (λ zs. zs) (set rest s (ys ++ r ∷ []))) old
           ∙ ap (flat_map (λ zs. zs)) (sym (map-set (λ (j : JoinedRuns). j.runs) out s (record (get_or out s no_runs) { runs = (get_or out s no_runs).runs ++ r ∷ []; eos = eos })))
-          ∙ flat_map-same (λ (j : JoinedRuns). j.runs) (with_run (Some s) r sos eos out) in
+          ∙ flat_map-map (λ ys. ys) (λ (j : JoinedRuns). j.runs) (with_run (Some s) r sos eos out) in
           subst (λ (rs : List (ℕ × ℕ)). IsPermutation (runs ++ r ∷ []) rs) whole
           (IsPermutation-trans (runs ++ r ∷ []) (flat_map (λ ys. ys) rest ++ r ∷ []) (flat_map (λ ys. ys) (set rest s (get_or rest s [] ++ r ∷ [])))
-          (IsPermutation-append_left (r ∷ []) runs (flat_map (λ ys. ys) rest) (subst (λ (rs : List (ℕ × ℕ)). IsPermutation runs rs) (sym (flat_map-same (λ (j : JoinedRuns). j.runs) out)) joined.shares))
+          (IsPermutation-append_left (r ∷ []) runs (flat_map (λ ys. ys) rest) (subst (λ (rs : List (ℕ × ℕ)). IsPermutation runs rs) (sym (flat_map-map (λ ys. ys) (λ (j : JoinedRuns). j.runs) out)) joined.shares))
           (longer rest s (r ∷ []) (omega (arith, fits, length-map out (λ (j : JoinedRuns). j.runs)))))
 
       -- the run has come, and its characters were read

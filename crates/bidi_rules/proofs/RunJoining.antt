@@ -1,34 +1,24 @@
 -- One level run after another comes to its sequence: what the pass over units keeps, and what it has at the end.
-use Rattle.std.proofs.Common.{◌≡◌, ◌≢◌, ℕ, zero, suc, ◌+◌, ◌-◌, ◌<◌, ◌≤◌, Bool, true, false, not, cond, eqb, ltb, max, List, [], ◌∷◌, ◌++◌, length, map, get_or, set, take, append-nil, append_assoc, Option, Some, None, refl, sym, ap, subst, ◌∙◌, arith, ◌⊎◌, inl, inr, eq-eqb, ne_eqb, eqb-true, lt-ltb}
-use Rattle.std.specs.Prelude.{filter, find, flat_map, IfSome, All, if◌then◌else◌, nat_lt, is_some, ◌&&◌, IsPermutation}
-use Rattle.std.specs.List.{range_with_len, fold, list_any}
-use Rattle.std.proofs.lemmas.Bool.{cases_Bool, cases_eq, cases_lt, both_ways, cond-true, cond-false, and_parts, false_from_ne_true, eqb-false, le-ltb}
-use Rattle.std.proofs.lemmas.List.{length-map, map-append, map-set, get_or-map, length-append, get_or-set_same}
-use Rattle.std.proofs.lemmas.List.Elements.{filter-append, All-push, All-set, All-get_or, All-weaker, All-nil, All-cons, All-map}
-use Rattle.std.proofs.lemmas.List.Sorted.{IsPermutation-refl, IsPermutation-trans, IsPermutation-append_left, IsPermutation-append_right, IsPermutation-append_comm}
-use Rattle.std.proofs.lemmas.Grind.{flat_map-append}
+use Rattle.std.proofs.Common.{◌≡◌, ℕ, zero, suc, ◌+◌, ◌-◌, ◌<◌, ◌≤◌, Bool, true, cond, eqb, max, List, [], ◌∷◌, length, get_or, Option, Some, None, refl, sym, ap, subst, ◌∙◌, arith, ◌⊎◌, inl, inr, eq-eqb, ne_eqb}
+use Rattle.std.specs.Prelude.{filter, find, if◌then◌else◌, is_some}
+use Rattle.std.specs.List.{range_with_len, fold}
+use Rattle.std.proofs.lemmas.Bool.{cases_Bool, cases_eq, both_ways, cond-true, cond-false, and_parts}
 use Rattle.bidi_base.specs.declared.char_data.BidiClass.{BidiClass}
-use Rattle.bidi_base.specs.Classes.{is_initiator, is_pdi}
+use Rattle.bidi_base.specs.Classes.{is_initiator}
 use Rattle.bidi_base.specs.Levels.{direction_of}
-use Rattle.bidi_base.specs.Places.{class_at, last_or, first_or, between, indexes}
+use Rattle.bidi_base.specs.Places.{class_at, last_or, between}
 use Rattle.bidi_base.specs.Isolates.{is_initiator_at}
-use Rattle.bidi_base.specs.Sequences.{RunSequence, is_kept_at, kept_places, next_kept, kept_before, level_at, have_one_level, level_or, start_class, end_class, with_ends, sequences, has_places, begins_run, run_starts}
-use Rattle.bidi_base.specs.SequencePass.{read_class, waiting_for, index_of}
-use Rattle.bidi_base.specs.Text.{place, text_len, IsLine}
-use Rattle.bidi_base.specs.Units.{kept_in_runs, level_run_ranges, ranges_between}
-use Rattle.bidi_base.proofs.TextLemmas.{HasUnits}
-use Rattle.bidi_base.proofs.PlaceLemmas.{place-zero, place-mono, place-end, IsLine-places}
-use Rattle.bidi_base.proofs.PlacesLemmas.{IsLeast, IsGreatest, find-between, find-between-None}
+use Rattle.bidi_base.specs.Sequences.{is_kept_at, next_kept, kept_before, level_at, level_or, end_class, begins_run}
+use Rattle.bidi_base.specs.SequencePass.{read_class, waiting_for}
+use Rattle.bidi_base.proofs.PlacesLemmas.{IsLeast, find-between, find-between-None}
 use Rattle.bidi_base.proofs.ReadStack.{Member}
-use Rattle.bidi_base.proofs.SuccessorLemmas.{is_kept-initiator, next_kept-is, next_kept-is_None, kept_before-is, kept_before-is_None, kept_before-IsGreatest, kept_before-None}
-use Rattle.bidi_base.proofs.PassLemmas.{sequence_of, AllBegun}
+use Rattle.bidi_base.proofs.SuccessorLemmas.{is_kept-initiator, next_kept-is, next_kept-is_None, kept_before-is, kept_before-is_None}
 use Rattle.bidi_base.proofs.RunsLemmas.{IsRun, IsLevelRun, IsRun-IsLevelRun, AllOfLevel, AllOfLevel-run}
 use Rattle.bidi_base.proofs.WaitingLemmas.{IsWaiting}
-use Rattle.bidi_rules.specs.Joining.{JoinedRuns, no_runs, with_run, characters_of, read_range}
-use Rattle.bidi_rules.proofs.KeptRangeLemmas.{filter_range-none, filter_range-first, last_or-range}
-use Rattle.bidi_rules.proofs.LevelRunLemmas.{kept_in_run, kept_in_runs-push}
+use Rattle.bidi_rules.specs.Joining.{read_range}
+use Rattle.bidi_rules.proofs.KeptRangeLemmas.{filter_range-first, last_or-range}
 use Rattle.bidi_rules.proofs.RunUnits.{NoneKept, IsLast}
-use Rattle.bidi_rules.proofs.RunPass.{with_places, index_in, IsAt, IsAt-start, IsAt-end, IsAt-read, HasCome, HasCome-run, IsWaiting-in_run}
+use Rattle.bidi_rules.proofs.RunPass.{with_places, index_in, IsAt, IsAt-read, HasCome, IsWaiting-in_run}
 
 -- the first kept character of a run
 pub record IsFirst (classes : List BidiClass) (a b f : ℕ) : Type 0 where

@@ -1,9 +1,10 @@
 -- The characters of a run, read one by one for what is open.
-use Rattle.std.proofs.Common.{◌≡◌, ℕ, suc, ◌+◌, ◌-◌, ◌<◌, ◌≤◌, true, cond, eqb, List, length, get_or, take, drop, Option, Some, None, refl, sym, ap, subst, ◌∙◌, arith, eq-eqb, ne_eqb, inl, inr}
+use Rattle.std.proofs.Common.{◌≡◌, ℕ, suc, ◌+◌, ◌-◌, ◌<◌, ◌≤◌, Bool, true, false, cond, eqb, List, length, get_or, drop, Option, Some, None, refl, sym, ap, ◌∙◌, arith, eq-eqb, ne_eqb, inl, inr}
 use Rattle.std.specs.Prelude.{slice_range}
+use Rattle.std.specs.Bool.{then_some}
 use Rattle.std.specs.List.{fold, range_with_len}
-use Rattle.std.proofs.lemmas.Bool.{cond-true, cond-false, cases_eq}
-use Rattle.std.proofs.lemmas.List.{get_or-take, get_or-drop, length-take, length-drop}
+use Rattle.std.proofs.lemmas.Bool.{cases_eq}
+use Rattle.std.proofs.lemmas.List.{length-take, length-drop}
 use Rattle.std.proofs.lemmas.List.Sums.{fold_push}
 use Rattle.bidi_base.specs.declared.char_data.BidiClass.{BidiClass}
 use Rattle.bidi_base.specs.declared.char_data.BidiClass.TheVariants.{L}
@@ -18,6 +19,10 @@ use Rattle.bidi_base.proofs.PerUnit.{length-per_char, get_or-per_unit-place}
 use Rattle.bidi_base.proofs.UnitsLemmas.{per_unit-from_is_per_char, length-from_is_per_char}
 use Rattle.bidi_base.proofs.PerCharTests.{class_test}
 use Rattle.bidi_rules.specs.Joining.{read_range, read_units}
+
+some_if : (b : Bool) (s : ℕ) → then_some b s ≡ cond b (Some s) None
+some_if true s = refl
+some_if false s = refl
 
 -- one character more
 read_range-more : (classes : List BidiClass) (last s a m : ℕ) (waits : List (Option ℕ)) → a ≤ m → read_range classes last s a (m + 1) waits ≡ read_class (class_at classes m) (cond (eqb (m + 1) last) (Some s) None) (read_range classes last s a m waits)
@@ -94,15 +99,16 @@ module _ (len_of : ℕ → ℕ) (h : HasUnits len_of) (chars : List ℕ) (units 
       let high = place-le len_of chars (char_index len_of chars end) in
       record { below = omega (arith, t.fits, turn.long, w.ends); room = t.fits }
 
-  pub IsReadTo-start : (last s : ℕ) (old : List (Option ℕ)) → IsReadTo len_of chars units start last s 0 old old
-  IsReadTo-start last s old =
-      let a : ℕ = char_index len_of chars start in
-      let none : a + 0 - a ≡ 0 = omega arith in
-      record { is = sym (ap (λ n. fold (λ ws m. read_class (class_at (per_char L len_of chars units) m) (cond (eqb (m + 1) (char_index len_of chars last)) (Some s) None) ws) old (range_with_len a n)) none) }
-
   pub IsReadTo-more : (last s n at l : ℕ) (old waits now : List (Option ℕ)) (wait : Option ℕ) → is_boundary len_of chars last ≡ true → LengthTurn len_of (subrange len_of chars start end) n at l → IsReadTo len_of chars units start last s n old waits
-      → (start + at + l ≡ last → wait ≡ Some s) → (¬ (start + at + l ≡ last) → wait ≡ None) → now ≡ read_class (get_or units (start + at) L) wait waits → IsReadTo len_of chars units start last s (n + 1) old now
-  IsReadTo-more last s n at l old waits now wait boundary turn before at_last elsewhere read = record { is = read ∙ ap (λ c. read_class c wait waits) (class_in n at l turn) ∙ ap (λ w. read_class (class_at (per_char L len_of chars units) m) w waits) wait_is ∙ ap (read_class (class_at (per_char L len_of chars units) m) (cond (eqb (m + 1) e) (Some s) None)) before.is ∙ sym (read_range-more (per_char L len_of chars units) e s a m old (omega arith)) ∙ ap (λ x. read_range (per_char L len_of chars units) e s a x old) next }
+      → wait ≡ then_some (eqb (start + at + l) last) s → now ≡ read_class (get_or units (start + at) L) wait waits → IsReadTo len_of chars units start last s (n + 1) old now
+  IsReadTo-more last s n at l old waits now wait boundary turn before wait_as read = record {
+    is = read
+        ∙ ap (λ c. read_class c wait waits) (class_in n at l turn)
+        ∙ ap (λ w. read_class (class_at (per_char L len_of chars units) m) w waits) (wait_as ∙ some_if (eqb (start + at + l) last) s ∙ same_end)
+        ∙ ap (read_class (class_at (per_char L len_of chars units) m) (cond (eqb (m + 1) e) (Some s) None)) before.is
+        ∙ sym (read_range-more (per_char L len_of chars units) e s a m old (omega arith))
+        ∙ ap (λ x. read_range (per_char L len_of chars units) e s a x old) next;
+  }
     where
       a : ℕ
       a = char_index len_of chars start
@@ -122,10 +128,12 @@ module _ (len_of : ℕ → ℕ) (h : HasUnits len_of) (chars : List ℕ) (units 
       short : m + 1 ≤ length chars
       short = let w = line_places len_of h chars start end line in omega (arith, t.within, w.within)
 
-      wait_is : wait ≡ cond (eqb (m + 1) e) (Some s) None
-      wait_is = elim (cases_eq (m + 1) e) [
-        | inl same ↦ at_last (t.after ∙ ap (place len_of chars) same ∙ place-char_index len_of h chars last boundary) ∙ sym (cond-true (eqb (m + 1) e) (Some s) None (eq-eqb (m + 1) e same))
-        | inr other ↦ elsewhere (λ f. other (sym (char_index-place len_of chars h (m + 1) short) ∙ ap (char_index len_of chars) (sym t.after ∙ f))) ∙ sym (cond-false (eqb (m + 1) e) (Some s) None (ne_eqb (m + 1) e other))
+      same_end : cond (eqb (start + at + l) last) (Some s) None ≡ cond (eqb (m + 1) e) (Some s) None
+      same_end = elim (cases_eq (m + 1) e) [
+        | inl same ↦ ap (λ b. cond b (Some s) None) (eq-eqb (start + at + l) last (t.after ∙ ap (place len_of chars) same ∙ place-char_index len_of h chars last boundary) ∙ sym (eq-eqb (m + 1) e same))
+        | inr other ↦
+            ap (λ b. cond b (Some s) None)
+            (ne_eqb (start + at + l) last (λ f. other (sym (char_index-place len_of chars h (m + 1) short) ∙ ap (char_index len_of chars) (sym t.after ∙ f))) ∙ sym (ne_eqb (m + 1) e other))
       ]
 
   -- all characters of the run

@@ -1,7 +1,7 @@
 -- A level run as a range of units: which characters stand in it, and what its last kept unit says.
-use Rattle.std.proofs.Common.{◌≡◌, ℕ, suc, ◌+◌, ◌-◌, ◌<◌, ◌≤◌, Bool, true, false, cond, ltb, List, [], ◌∷◌, ◌++◌, length, get_or, Option, Some, None, refl, sym, ap, subst, ◌∙◌, arith, ◌⊎◌, inl, inr}
-use Rattle.std.specs.Prelude.{if◌then◌else◌, nat_lt}
-use Rattle.std.proofs.lemmas.Bool.{cases_lt, cases_eq, both_ways, cond-true, cond-false, false_from_ne_true}
+use Rattle.std.proofs.Common.{◌≡◌, ℕ, suc, ◌+◌, ◌-◌, ◌<◌, ◌≤◌, true, false, List, [], ◌∷◌, ◌++◌, length, get_or, refl, sym, ap, subst, ◌∙◌, arith, inl, inr}
+use Rattle.std.proofs.lemmas.Bool.{cases_lt, both_ways}
+use Rattle.std.proofs.lemmas.List.{get_or_push}
 use Rattle.bidi_base.specs.declared.char_data.BidiClass.{BidiClass}
 use Rattle.bidi_base.specs.declared.char_data.BidiClass.TheVariants.{L}
 use Rattle.bidi_base.specs.Classes.{is_kept}
@@ -10,7 +10,7 @@ use Rattle.bidi_base.specs.Sequences.{is_kept_at, level_at, run_starts}
 use Rattle.bidi_base.specs.Text.{place, text_len, per_unit}
 use Rattle.bidi_base.specs.Units.{level_run_ranges}
 use Rattle.bidi_base.proofs.TextLemmas.{HasUnits}
-use Rattle.bidi_base.proofs.PlaceLemmas.{place-more, place-mono, place-lt, place-le, place-end, UnitOf, unit_of}
+use Rattle.bidi_base.proofs.PlaceLemmas.{place-more, place-mono, place-lt, place-le, UnitOf, unit_of}
 use Rattle.bidi_base.proofs.PerUnit.{get_or-per_unit, get_or-per_unit-place}
 use Rattle.bidi_base.proofs.RunsLemmas.{IsLevelRun}
 use Rattle.bidi_rules.specs.Joining.{IsKeptEnd}
@@ -54,15 +54,11 @@ module _ (len_of : ℕ → ℕ) (h : HasUnits len_of) (chars : List ℕ) (classe
         end = ap (λ (r : ℕ × ℕ). r.1) here ∙ ap (λ n. place len_of chars (get_or (cuts classes levels) n 0)) more;
       }
 
-  get_or_last : (xs : List ℕ) (x d : ℕ) → get_or (xs ++ x ∷ []) (length xs) d ≡ x
-  get_or_last [] x d = refl
-  get_or_last (y ∷ xs) x d = get_or_last xs x d
-
   -- the last run ends with the text
   pub cuts-last : (runs : List (ℕ × ℕ)) (k : ℕ) → runs ≡ level_run_ranges len_of chars classes levels → k ≡ length runs → get_or (cuts classes levels) k 0 ≡ length classes
   cuts-last runs k e all =
       let count : k ≡ length (run_starts classes levels) = omega (arith, ap length e, length-level_run_ranges len_of chars classes levels) in
-      ap (λ n. get_or (cuts classes levels) n 0) count ∙ get_or_last (run_starts classes levels) (length classes) 0
+      ap (λ n. get_or (cuts classes levels) n 0) count ∙ get_or_push (run_starts classes levels) (length classes) 0 (length (run_starts classes levels)) refl
 
   -- a run is a stretch of some units of the text
   pub record IsUnitRun (a b : ℕ) (start end : ℕ) : Type 0 where
@@ -76,7 +72,7 @@ module _ (len_of : ℕ → ℕ) (h : HasUnits len_of) (chars : List ℕ) (classe
       record { not_empty = omega (arith, place-lt len_of chars h a b order (omega arith), run.start, run.end); within = omega (arith, place-le len_of chars b, run.end) }
 
   module _ (units : List BidiClass) (unit_levels : List ℕ) (same : length levels ≡ length chars) (units_is : units ≡ per_unit len_of chars classes) (levels_is : unit_levels ≡ per_unit len_of chars levels) where
-    class_of_unit : (m : ℕ) → m < length chars → get_or units (place len_of chars m) L ≡ class_at classes m
+    pub class_of_unit : (m : ℕ) → m < length chars → get_or units (place len_of chars m) L ≡ class_at classes m
     class_of_unit m fits = ap (λ us. get_or us (place len_of chars m) L) units_is ∙ get_or-per_unit-place len_of h chars classes m L long fits
 
     pub level_of_unit : (m : ℕ) → m < length chars → get_or unit_levels (place len_of chars m) 0 ≡ level_at levels m

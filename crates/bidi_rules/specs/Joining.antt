@@ -1,10 +1,11 @@
 -- The steps of the pass over units that joins level runs to isolating run sequences.
-use Rattle.std.specs.Prelude.{◌≡◌, ℕ, ◌+◌, ◌-◌, ◌<◌, ◌≤◌, true, false, ◌==◌, if◌then◌else◌, List, [], ◌∷◌, ◌++◌, get_or, slice_set, Option, Some, None}
+use Rattle.std.specs.Prelude.{◌≡◌, ℕ, ◌+◌, ◌-◌, ◌<◌, ◌≤◌, true, false, ◌==◌, if◌then◌else◌, List, [], ◌∷◌, ◌++◌, length, get_or, slice_set, Option, Some, None}
 use Rattle.std.specs.List.{fold}
 use Rattle.bidi_base.specs.declared.char_data.BidiClass.{BidiClass}
 use Rattle.bidi_base.specs.declared.char_data.BidiClass.TheVariants.{L}
+use Rattle.bidi_base.specs.Classes.{is_initiator}
 use Rattle.bidi_base.specs.Places.{between, class_at}
-use Rattle.bidi_base.specs.Sequences.{RunSequence, is_kept_at}
+use Rattle.bidi_base.specs.Sequences.{RunSequence, is_kept_at, level_at}
 use Rattle.bidi_base.specs.SequencePass.{read_class}
 use Rattle.bidi_base.specs.Text.{char_index, per_char}
 use Rattle.bidi_base.specs.Units.{kept_in_runs}
@@ -42,3 +43,7 @@ read_range classes last s a b waits = fold (λ ws m. read_class (class_at classe
 abbrev pub read_units : (ℕ → ℕ) → List ℕ → List BidiClass → ℕ → ℕ → ℕ → ℕ → List (Option ℕ) → List (Option ℕ)
 read_units len_of chars classes kept_end s start end waits =
     read_range (per_char L len_of chars classes) (char_index len_of chars kept_end) s (char_index len_of chars start) (char_index len_of chars end) waits
+
+-- the level beyond a run that ends at a unit, by the class of its last kept character
+abbrev pub level_after_run : ℕ → BidiClass → List ℕ → ℕ → ℕ
+level_after_run paragraph class levels end = if is_initiator class then paragraph else (if end == length levels then paragraph else level_at levels end)

@@ -1,9 +1,9 @@
 -- What contracts see of an isolating run sequence in code, and of the walks over its units.
-use Rattle.std.specs.Prelude.{ℕ, List, ◌++◌, map, reverse}
+use Rattle.std.specs.Prelude.{ℕ, List, ◌++◌, filter, map, reverse}
 use Rattle.std.specs.declared.ops.Range.{Range}
 use Rattle.bidi_base.specs.declared.char_data.BidiClass.{BidiClass}
 use Rattle.bidi_base.specs.Places.{between}
-use Rattle.bidi_base.specs.Sequences.{RunSequence}
+use Rattle.bidi_base.specs.Sequences.{RunSequence, has_places}
 use Rattle.bidi_base.specs.Units.{bounds, units_in_runs}
 use Rattle.bidi_rules.specs.Joining.{JoinedRuns, characters_of}
 use Rattle.bidi_rules.specs.declared.prepare.sequence.IsolatingRunSequence.{IsolatingRunSequence}
@@ -32,6 +32,10 @@ joined s = record { runs = run_bounds s; sos = s.sos; eos = s.eos }
 -- the sequence of the characters that X9 keeps in its runs
 abbrev pub sequence_in : (ℕ → ℕ) → List ℕ → List BidiClass → IsolatingRunSequence → RunSequence
 sequence_in len_of chars classes s = characters_of len_of chars classes (joined s)
+
+-- those of some sequences, but for what holds no such character
+abbrev pub sequences_in : (ℕ → ℕ) → List ℕ → List BidiClass → List IsolatingRunSequence → List RunSequence
+sequences_in len_of chars classes out = filter has_places (map (sequence_in len_of chars classes) out)
 
 -- the units that a walk still has to give
 abbrev pub forwards_left : ForwardsFrom → List ℕ

@@ -3,9 +3,11 @@
 ghost use Rattle.std.specs.Prelude.{◌≡◌};
 ghost use Rattle.bidi_base.specs.Classes.{is_removed, is_kept};
 
+mod joining;
 mod sequence;
 
 use bidi_base::char_data::BidiClass;
+pub use joining::isolating_run_sequences;
 pub use sequence::{BackwardsFrom, ForwardsFrom, IsolatingRunSequence};
 use std::ops::Range;
 

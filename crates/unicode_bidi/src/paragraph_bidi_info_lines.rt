@@ -69,11 +69,7 @@ impl<'t> ParagraphBidiInfo<'t> {
     /// The text of the line from left to right: its characters in the order of L2, by their levels
     /// after L1. Neither combining marks (L3) nor mirrored characters (L4) are seen to. The text is
     /// borrowed, and takes no memory, exactly where no level of the line is odd after L1.
-    pub fn reorder_line(
-        &self,
-        alloc: Global,
-        line: Range<usize>,
-    ) -> Result<CowStr<'t>, AllocError>
+    pub fn reorder_line(&self, alloc: Global, line: Range<usize>) -> Result<CowStr<'t>, AllocError>
         requires { IsLine len_utf8 (chars (text_of self.now)) line.start line.end }
         ensures text { let cs = chars (text_of self.now) in IfOk result (λ c. cow_str_bytes c
             ≡ line_text len_utf8 encode_utf8 cs (text_of self.now) (paragraph_level self.now)

@@ -13,11 +13,12 @@ ghost use Rattle.bidi_rules.specs.WeakWalk.{first_walk, is_seen, IsWrittenOver, 
 
 mod steps;
 
+use super::is_read;
 use crate::prepare::{IsolatingRunSequence, LevelRun};
 use bidi_base::char_data::BidiClass;
 use bidi_base::text::TextSource;
 use steps::{
-    Before, carried, comes_after_al, comes_after_l, is_arabic_letter, is_left, is_read, marked,
+    Before, carried, comes_after_al, comes_after_l, is_arabic_letter, is_left, marked,
     numbered, strengthened,
 };
 

@@ -2,8 +2,8 @@ use Rattle.std.proofs.Common.{◌≡◌, ◌∙◌, List, ℕ, length, take, dro
 use Rattle.std.proofs.Math.Seq.{take-append_seam}
 use Rattle.std.specs.Prelude.{All, flat_map}
 use Rattle.bidi_base.specs.Paragraphs.{pieces_of}
-use Rattle.bidi_base.specs.Stored.{text_classes, text_levels}
-use Rattle.bidi_base.specs.Text.{per_unit, text_len}
+use Rattle.bidi_base.specs.Stored.{text_classes}
+use Rattle.bidi_base.specs.Text.{text_len}
 use Rattle.bidi_base.proofs.ParagraphsLemmas.{pieces-joined, length-text_classes}
 use Rattle.bidi_base.proofs.PerUnit.{length-per_unit}
 use Rattle.unicode_bidi.specs.declared.paragraph_info.ParagraphInfo.{ParagraphInfo}

@@ -1,9 +1,10 @@
-use Rattle.std.proofs.Common.{◌≡◌, ◌∙◌, List, ℕ, map, slice_range, ap, sym, arith}
+use Rattle.std.proofs.Common.{◌∙◌, List, ℕ, map, slice_range, ap, sym, arith}
 use Rattle.std.specs.declared.ops.Range.{Range}
 use Rattle.std.proofs.lemmas.Result.{on_ok_weaker}
 use Rattle.bidi_base.specs.Isolates.{stored_classes}
 use Rattle.bidi_base.specs.Text.{per_unit, subrange, text_len}
-use Rattle.unicode_bidi.proofs.ParagraphUnits.{paragraph-IsPart, paragraph-written, length-part}
+use Rattle.unicode_bidi.proofs.LineInText.{length-part}
+use Rattle.unicode_bidi.proofs.ParagraphUnits.{paragraph-IsPart, paragraph-written}
 use Rattle.unicode_bidi.proofs.analysis.write_paragraph.Goals as goal
 
 pub slice_bounds-write_levels-end : goal.slice_bounds-write_levels-end

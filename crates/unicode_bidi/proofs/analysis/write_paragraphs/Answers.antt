@@ -1,8 +1,7 @@
-use Rattle.std.proofs.Common.{◌≡◌, List, ℕ, get_or, arith, sym, subst}
-use Rattle.std.proofs.lemmas.List.{get_or_read}
+use Rattle.std.proofs.Common.{List, ℕ, arith, sym, subst}
 use Rattle.std.proofs.lemmas.List.Elements.{All-get_or}
 use Rattle.unicode_bidi.specs.Analysis.{unit_levels, CanWrite}
-use Rattle.unicode_bidi.proofs.ParagraphUnits.{AreWritten-more, length-unit_levels}
+use Rattle.unicode_bidi.proofs.ParagraphUnits.{AreParagraphsWritten-more, length-unit_levels}
 use Rattle.unicode_bidi.proofs.analysis.write_paragraphs.Goals as goal
 
 pub write_paragraph-requires-clause-paragraph : goal.write_paragraph-requires-clause-paragraph
@@ -17,5 +16,5 @@ loop-paragraph-preserved g c =
     let cs : List ℕ = g.T.TextSource.characters c.args.text in
     let fits = CanWrite source len cs c.args.classes.now in
     let here : fits c.paragraph-item.result = subst fits (sym c.paragraph-item.is) (All-get_or fits c.args.paragraphs.now c.loop-paragraph.paragraph-index c.paragraph-item.result (omega arith) c.requires.paragraphs) in
-    AreWritten-more (unit_levels source len cs) c.args.levels.now c.args.paragraphs.now c.loop-paragraph.paragraph-index c.loop-paragraph.levels c.write_paragraph.new.levels c.paragraph-item.result
+    AreParagraphsWritten-more (unit_levels source len cs) c.args.levels.now c.args.paragraphs.now c.loop-paragraph.paragraph-index c.loop-paragraph.levels c.write_paragraph.new.levels c.paragraph-item.result
     (omega arith) c.paragraph-item.is here.line.ordered (length-unit_levels source len g.met.T.TextSource.has_units cs c.paragraph-item.result here.line) c.in_ok-write_paragraph.ensures c.loop-paragraph.invariant
