@@ -1,4 +1,6 @@
 pub mod AgreeLemmas
+pub mod Blocks
+pub mod BracketRules
 pub mod BracketsLemmas
 pub mod ChainLemmas
 pub mod ClassesLemmas
@@ -17,11 +19,15 @@ pub mod LevelsInLemmas
 pub mod LevelsLemmas
 pub mod MatchLevelsLemmas
 pub mod MatchingLemmas
+pub mod NestedPairs
+pub mod NeutralBlocks
 pub mod NeutralLemmas
 pub mod NeutralSource
 pub mod OpenMatches
 pub mod OpenersStack
+pub mod OpeningSearch
 pub mod OrderLemmas
+pub mod PairChanges
 pub mod PairsLemmas
 pub mod ParagraphsLemmas
 pub mod PassLemmas

@@ -1,6 +1,6 @@
 -- Bracket pairs in one pass from the front: what is closed and what waits at each place, and what the pass has found at its end.
 use Rattle.std.proofs.Common.{◌≡◌, ℕ, zero, suc, ◌+◌, ◌-◌, ◌<◌, ◌≤◌, Bool, true, false, not, cond, ◌&&◌, ◌||◌, eqb, ltb, leb, List, [], ◌∷◌, ◌++◌, map, length, get_or, take, set, reverse, filter, filter_map, find, fold, option_to_list, Option, Some, None, option_map, unwrap_or, refl, sym, ap, subst, ◌∙◌, ◌⊎◌, arith, inl, inr, append-nil, append_assoc, add-one, length-set, get_or-set_same, get_or-set_other, eqb-true, eq-eqb, ne_eqb, lt-ltb, le-ltb}
-use Rattle.std.specs.Prelude.{⊤, All}
+use Rattle.std.specs.Prelude.{⊤}
 use Rattle.std.specs.List.{range_with_len, cons_option, AllByRecursion}
 use Rattle.std.specs.Option.{option_or}
 use Rattle.std.proofs.lemmas.Bool.{cases_Bool, cases_lt, cases_eq, and_right, lt-leb, cases_order, both_ways, and_parts, and_from, and_left, or_parts, cond-true, cond-false, not-true, le-leb}
@@ -91,7 +91,7 @@ module _ (brackets : List (Option BidiMatchedOpeningBracket)) where
       sym (find-filter p q (reverse (between 0 j))) ∙ ap (find q) (sym (filter-reverse p (between 0 j)))
 
   -- one step of the pairs
-  with_closing-none : (pairs : List (ℕ × ℕ)) (j : ℕ) → partner brackets pairs j ≡ None → with_closing brackets pairs j ≡ pairs
+  pub with_closing-none : (pairs : List (ℕ × ℕ)) (j : ℕ) → partner brackets pairs j ≡ None → with_closing brackets pairs j ≡ pairs
   unfolding with_closing
   with_closing-none pairs j none =
       ap (λ (o : Option ℕ). cond (is_closing (bracket_at brackets j)) (pairs ++ option_to_list (option_map (λ (i : ℕ). (i, j)) o)) pairs) none
@@ -101,11 +101,11 @@ module _ (brackets : List (Option BidiMatchedOpeningBracket)) where
       by_test true = append-nil pairs
       by_test false = refl
 
-  with_closing-other : (pairs : List (ℕ × ℕ)) (j : ℕ) → is_closing (bracket_at brackets j) ≡ false → with_closing brackets pairs j ≡ pairs
+  pub with_closing-other : (pairs : List (ℕ × ℕ)) (j : ℕ) → is_closing (bracket_at brackets j) ≡ false → with_closing brackets pairs j ≡ pairs
   unfolding with_closing
   with_closing-other pairs j other = cond-false (is_closing (bracket_at brackets j)) (pairs ++ option_to_list (option_map (λ (i : ℕ). (i, j)) (partner brackets pairs j))) pairs other
 
-  with_closing-pair : (pairs : List (ℕ × ℕ)) (j i : ℕ) → is_closing (bracket_at brackets j) ≡ true → partner brackets pairs j ≡ Some i → with_closing brackets pairs j ≡ pairs ++ (i, j) ∷ []
+  pub with_closing-pair : (pairs : List (ℕ × ℕ)) (j i : ℕ) → is_closing (bracket_at brackets j) ≡ true → partner brackets pairs j ≡ Some i → with_closing brackets pairs j ≡ pairs ++ (i, j) ∷ []
   unfolding with_closing
   with_closing-pair pairs j i closing found =
       cond-true (is_closing (bracket_at brackets j)) (pairs ++ option_to_list (option_map (λ (i : ℕ). (i, j)) (partner brackets pairs j))) pairs closing

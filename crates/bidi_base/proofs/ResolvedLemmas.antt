@@ -72,7 +72,7 @@ length-n0_pair e sos source classes pair = by_direction (pair_direction e sos cl
     by_direction None = refl
     by_direction (Some d) = length-map-range_with_len (λ k. cond (goes_with_pair source pair k) d (class_at classes k)) 0 (length classes)
 
-length-n0 : (e sos : BidiClass) (source : List BidiClass) (pairs : List (ℕ × ℕ)) (classes : List BidiClass) → length (n0 e sos source pairs classes) ≡ length classes
+pub length-n0 : (e sos : BidiClass) (source : List BidiClass) (pairs : List (ℕ × ℕ)) (classes : List BidiClass) → length (n0 e sos source pairs classes) ≡ length classes
 unfolding n0
 length-n0 e sos source [] classes = refl
 length-n0 e sos source (pair ∷ pairs) classes = length-n0 e sos source pairs (n0_pair e sos source classes pair) ∙ length-n0_pair e sos source classes pair

@@ -79,6 +79,10 @@ pub length-at_places : {X : Type 0} (d : X) (xs : List X) (ps : List ℕ) → le
 length-at_places d xs [] = refl
 length-at_places d xs (p ∷ ps) = ap suc (length-at_places d xs ps)
 
+pub at_places-append : {X : Type 0} (d : X) (xs : List X) (ps qs : List ℕ) → at_places d xs (ps ++ qs) ≡ at_places d xs ps ++ at_places d xs qs
+at_places-append d xs [] qs = refl
+at_places-append {X} d xs (p ∷ ps) qs = ap {B = List X} (λ ys. get_or xs p d ∷ ys) (at_places-append d xs ps qs)
+
 -- what stands in a list, and is its first or a later one
 pub times_in-first : (p : ℕ) (ps : List ℕ) → 0 < times_in (p ∷ ps) p
 times_in-first p ps =

@@ -7,12 +7,8 @@ use Rattle.bidi_base.specs.declared.char_data.BidiClass.{BidiClass}
 use Rattle.bidi_base.specs.declared.data_source.BidiMatchedOpeningBracket.{BidiMatchedOpeningBracket}
 use Rattle.bidi_base.specs.Places.{indexes, find_last}
 use Rattle.bidi_base.specs.Brackets.{max_open_brackets, counted_brackets, bracket_at, is_opening, is_closing, is_same_bracket, bracket_pairs}
+use Rattle.bidi_base.proofs.OpeningSearch.{opening_of, find_last-entries}
 use Rattle.bidi_base.proofs.PairsLemmas.{closed_before, IsUnderWay, IsUnderWay-start, IsUnderWay-other, IsUnderWay-opening, IsUnderWay-unmatched, IsUnderWay-pair, IsUnderWay-entry, HasEnded, pairs_of-found, closing_in, closings-pair, closings-listed, length-counted_brackets}
-
--- the opening character of a bracket
-abbrev pub opening_of : Option BidiMatchedOpeningBracket → ℕ
-opening_of None = 0
-opening_of (Some b) = b.opening
 
 -- what the stack holds of an opening
 abbrev pub entry_of : List (Option BidiMatchedOpeningBracket) → ℕ → ℕ × ℕ
@@ -20,35 +16,6 @@ entry_of brackets i = (opening_of (bracket_at brackets i), i)
 
 abbrev pub places_of : List (ℕ × ℕ) → List ℕ
 places_of entries = map (λ (e : ℕ × ℕ). e.1) entries
-
-find-map : (q : ℕ × ℕ → Bool) (f : ℕ → ℕ × ℕ) (xs : List ℕ) → find q (map f xs) ≡ option_map f (find (λ x. q (f x)) xs)
-find-map q f [] = refl
-find-map q f (x ∷ xs) = ap (λ (o : Option (ℕ × ℕ)). cond (q (f x)) (Some (f x)) o) (find-map q f xs) ∙ by_test (q (f x))
-  where
-    by_test : (b : Bool) → cond b (Some (f x)) (option_map f (find (λ y. q (f y)) xs)) ≡ option_map f (cond b (Some x) (find (λ y. q (f y)) xs))
-    by_test true = refl
-    by_test false = refl
-
-reverse-map : (f : ℕ → ℕ × ℕ) (xs : List ℕ) → reverse (map f xs) ≡ map f (reverse xs)
-reverse-map f [] = refl
-reverse-map f (x ∷ xs) =
-    reverse-append (f x ∷ []) (map f xs) ∙ ap (λ (ys : List (ℕ × ℕ)). ys ++ f x ∷ []) (reverse-map f xs)
-    ∙ sym (map-append f (reverse xs) (x ∷ [])) ∙ ap (map f) (sym (reverse-append (x ∷ []) xs))
-
-find-same : (p q : ℕ → Bool) (xs : List ℕ) → ((k : ℕ) → k < length xs → p (get_or xs k 0) ≡ q (get_or xs k 0)) → find p xs ≡ find q xs
-find-same p q [] same = refl
-find-same p q (x ∷ xs) same =
-    ap (λ b. cond b (Some x) (find p xs)) (same 0 (omega arith)) ∙ ap (λ (o : Option ℕ). cond (q x) (Some x) o) (find-same p q xs (λ k below. same (suc k) (omega arith)))
-
-find_last-same : (p q : ℕ → Bool) (xs : List ℕ) → ((k : ℕ) → k < length xs → p (get_or xs k 0) ≡ q (get_or xs k 0)) → find_last p xs ≡ find_last q xs
-find_last-same p q xs same = find-same p q (reverse xs) (λ k below.
-    let inside : k < length xs = omega (arith, length-reverse xs) in
-    let at = get_or-reverse xs k 0 inside in
-    ap p at ∙ same (length xs - 1 - k) (omega arith) ∙ ap q (sym at))
-
-same_opening : (o : Option BidiMatchedOpeningBracket) (b : BidiMatchedOpeningBracket) → is_opening o ≡ true → eqb (opening_of o) b.opening ≡ is_same_bracket o (Some b)
-same_opening None b h = absurd (cc h)
-same_opening (Some a) b h = refl
 
 module _ (classes : List BidiClass) (brackets : List (Option BidiMatchedOpeningBracket)) where
   -- what counts
@@ -102,16 +69,7 @@ module _ (classes : List BidiClass) (brackets : List (Option BidiMatchedOpeningB
       → find_last (λ (e : ℕ × ℕ). eqb e.0 b.opening) waiting ≡ option_map (entry_of counted) (find_last (λ i. is_same_bracket (bracket_at counted i) (bracket_at counted j)) (places_of waiting))
   search_is closings waiting j b h is =
       let q : ℕ × ℕ → Bool = λ e. eqb e.0 b.opening in
-      let ws = places_of waiting in
-      ap (find_last q) h.entries
-      ∙ ap (find q) (reverse-map (entry_of counted) ws)
-      ∙ find-map q (entry_of counted) (reverse ws)
-      ∙ ap (option_map (entry_of counted))
-      (
-      find_last-same (λ i. eqb (opening_of (bracket_at counted i)) b.opening) (λ i. is_same_bracket (bracket_at counted i) (Some b)) ws
-      (λ k below. same_opening (bracket_at counted (get_or ws k 0)) b (IsUnderWay-entry counted j ws k h.under_way below).opening)
-      ∙ ap (λ (o : Option BidiMatchedOpeningBracket). find_last (λ i. is_same_bracket (bracket_at counted i) o) ws) (sym is)
-      )
+      ap (find_last q) h.entries ∙ find_last-entries counted (entry_of counted) q j (places_of waiting) b h.under_way is (λ i. refl)
 
   pub IsPairing-unmatched : (closings : List (Option ℕ)) (waiting : List (ℕ × ℕ)) (j : ℕ) (b : BidiMatchedOpeningBracket) → IsPairing closings waiting j → j < length classes → bracket_at counted j ≡ Some b
       → b.is_open ≡ false → find_last (λ (e : ℕ × ℕ). eqb e.0 b.opening) waiting ≡ None → IsPairing closings waiting (j + 1)

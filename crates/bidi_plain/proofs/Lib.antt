@@ -1,9 +1,6 @@
-mod Blocks
 mod BracketPass
-mod BracketRules
 mod ExplicitPass
 mod ListPass
-mod NeutralBlocks
 mod OpenersLemmas
 mod Scans
 mod Separators

@@ -8,7 +8,7 @@ use Rattle.bidi_base.specs.Places.{in_context}
 use Rattle.bidi_base.specs.Weak.{w4_rule}
 use Rattle.bidi_base.proofs.PlacesLemmas.{reverse-take_more}
 use Rattle.bidi_base.proofs.InPlace.{IsRewritten, IsRewritten-read, IsRewritten-write, IsRewritten-keep, IsRewritten-end}
-use Rattle.bidi_plain.proofs.Blocks.{answer_is, read_later}
+use Rattle.bidi_base.proofs.Blocks.{answer_is, read_later}
 
 -- the rule reads one class on each side
 neighbours : (b : BidiClass) (bs : List BidiClass) (c a : BidiClass) (as' : List BidiClass) → w4_rule (b ∷ bs) c (a ∷ as') ≡ w4_rule (b ∷ []) c (a ∷ [])

@@ -11,7 +11,7 @@ use Rattle.bidi_base.specs.Places.{class_at, nearest_is}
 use Rattle.bidi_base.specs.Weak.{w5_rule}
 use Rattle.bidi_base.proofs.PlacesLemmas.{reverse-take_more}
 use Rattle.bidi_base.proofs.InPlace.{IsRewritten, IsRewritten-keep}
-use Rattle.bidi_plain.proofs.Blocks.{IsBlock, IsBlock-counted, length-part, read_later, look-drop, look-take, answer, IsRewritten-filled, IsRewritten-unchanged, IsRewritten-past}
+use Rattle.bidi_base.proofs.Blocks.{IsBlock, IsBlock-counted, length-part, read_later, look-drop, look-take, answer, IsRewritten-filled, IsRewritten-unchanged, IsRewritten-past}
 
 -- past the terminators a European number is next
 abbrev pub is_number_next : List BidiClass → Bool

@@ -1,9 +1,19 @@
+pub mod BracketSearch
 pub mod ExplicitUnits
+pub mod FirstRead
+pub mod FoundBrackets
+pub mod Gathered
 pub mod InRuns
 pub mod KeptRangeLemmas
 pub mod LevelRunLemmas
 pub mod Marks
+pub mod NeutralScan
+pub mod NeutralSteps
+pub mod NeutralUnits
+pub mod PairWalkLemmas
 pub mod PassOverText
+pub mod PutAt
+pub mod ReadRuns
 pub mod RunCutting
 pub mod RunJoined
 pub mod RunJoining
@@ -16,4 +26,5 @@ pub mod WalkLemmas
 pub mod WeakPassLemmas
 pub mod WeakWalkLemmas
 pub mod WeakWalkText
+pub mod WritingBack
 pub mod WrittenOver

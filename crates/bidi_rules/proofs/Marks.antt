@@ -10,10 +10,6 @@ use Rattle.bidi_base.specs.Places.{at_places, between}
 cons_both : {X : Type 0} (x y : X) (xs ys : List X) → x ≡ y → xs ≡ ys → x ∷ xs ≡ y ∷ ys
 cons_both x y xs ys e f = cc
 
-pub at_places-append : (xs : List BidiClass) (ps qs : List ℕ) → at_places L xs (ps ++ qs) ≡ at_places L xs ps ++ at_places L xs qs
-at_places-append xs [] qs = refl
-at_places-append xs (p ∷ ps) qs = ap (λ (cs : List BidiClass). get_or xs p L ∷ cs) (at_places-append xs ps qs)
-
 module _ (mark : ℕ → Bool) where
   -- the marked numbers from `low` up to `high`
   abbrev pub marked : ℕ → ℕ → List ℕ

@@ -56,7 +56,7 @@ module _ (len_of : ℕ → ℕ) (h : HasUnits len_of) (chars : List ℕ) where
         ]
       ]
 
-  in_runs-alike : (runs : List (ℕ × ℕ)) → AreLines len_of chars runs → (k u : ℕ) → place len_of chars k ≤ u → u < place len_of chars (k + 1) → in_runs runs u ≡ in_runs runs (place len_of chars k)
+  pub in_runs-alike : (runs : List (ℕ × ℕ)) → AreLines len_of chars runs → (k u : ℕ) → place len_of chars k ≤ u → u < place len_of chars (k + 1) → in_runs runs u ≡ in_runs runs (place len_of chars k)
   in_runs-alike [] lines k u from below = refl
   in_runs-alike (r ∷ runs) lines k u from below =
       ap (λ b. b || in_runs runs u) (in_run-alike r (All-head (λ (q : ℕ × ℕ). IsLine len_of chars q.0 q.1) r runs lines) k u from below)
@@ -83,7 +83,7 @@ module _ (len_of : ℕ → ℕ) (h : HasUnits len_of) (chars : List ℕ) where
 
   -- entries that are equal within each character
   module _ (old : List BidiClass) (per : IsPerChar len_of chars old) where
-    alike_class : (k u : ℕ) → k < length chars → place len_of chars k ≤ u → u < place len_of chars (k + 1) → class_at old u ≡ class_at old (place len_of chars k)
+    pub alike_class : (k u : ℕ) → k < length chars → place len_of chars k ≤ u → u < place len_of chars (k + 1) → class_at old u ≡ class_at old (place len_of chars k)
     alike_class k u fits from below =
         let more = place-more len_of chars k 0 fits in
         let some = h (get_or chars k 0) in

@@ -127,7 +127,7 @@ map-drop f zero xs = refl
 map-drop f (suc k) [] = refl
 map-drop f (suc k) (x ∷ xs) = map-drop f k xs
 
-map-take : {X Y : Type 0} (f : X → Y) (k : ℕ) (xs : List X) → map f (take k xs) ≡ take k (map f xs)
+pub map-take : {X Y : Type 0} (f : X → Y) (k : ℕ) (xs : List X) → map f (take k xs) ≡ take k (map f xs)
 map-take f zero xs = refl
 map-take f (suc k) [] = refl
 map-take {Y = Y} f (suc k) (x ∷ xs) = ap {B = List Y} (λ ys. f x ∷ ys) (map-take f k xs)

@@ -13,7 +13,8 @@ use Rattle.bidi_rules.specs.declared.implicit.weak.steps.Before.TheVariants.{Ter
 use Rattle.bidi_rules.specs.WeakPass.{marked, w2_w3, is_after_al, after_w3, waits, next_before, joins, settled, resolved, w7_by, is_after_l, after_w7}
 use Rattle.bidi_rules.specs.WeakWalk.{first_walk, is_seen, seen, marks, IsWrittenOver, Pass, AreMarks, IsCharacter, IsUnderWay, IsOver}
 use Rattle.bidi_rules.proofs.InRuns.{in_runs-drop}
-use Rattle.bidi_rules.proofs.Marks.{at_places-append, marked-none, marked-parts, marked-empty, marked-one, at_marked-same, at_marked-all}
+use Rattle.bidi_base.proofs.StoredLemmas.{at_places-append}
+use Rattle.bidi_rules.proofs.Marks.{marked-none, marked-parts, marked-empty, marked-one, at_marked-same, at_marked-all}
 use Rattle.bidi_rules.proofs.WeakPassLemmas.{weak_classes-pass}
 use Rattle.bidi_rules.proofs.WrittenOver.{IsWrittenOver-same_test}
 
@@ -210,7 +211,7 @@ module _ (p : Pass) (are : AreMarks p) (now : List BidiClass) (w : Walk) (i : �
         front-written : at_places L now1 (marks p 0 i) ≡ front ++ replicate n v
         front-written =
             ap (at_places L now1) (marked-parts p.mark 0 w.first i (omega arith) h.order)
-            ∙ at_places-append now1 (marks p 0 w.first) (marks p w.first i)
+            ∙ at_places-append L now1 (marks p 0 w.first) (marks p w.first i)
             ∙ ap (λ (cs : List BidiClass). cs ++ at_places L now1 (marks p w.first i)) (at_marked-same p.mark now1 now 0 w.first (λ k a b t. s.below k b))
             ∙ ap (λ (cs : List BidiClass). front ++ cs) (at_marked-all p.mark now1 v w.first i (λ k a b t. s.inside k a b (are.marked_seen k t)))
 
@@ -257,7 +258,7 @@ module _ (p : Pass) (are : AreMarks p) (now : List BidiClass) (w : Walk) (i : �
             let nothing : marks p j j ≡ [] = marked-none p.mark j j (omega arith) in
             let up_to : at_places L now2 (marks p 0 j) ≡ (front ++ replicate n v) ++ u ∷ [] =
             ap (at_places L now2) (marked-parts p.mark 0 i j (omega arith) (omega arith) ∙ ap (λ (ps : List ℕ). marks p 0 i ++ ps) only)
-            ∙ at_places-append now2 (marks p 0 i) (i ∷ [])
+            ∙ at_places-append L now2 (marks p 0 i) (i ∷ [])
             ∙ ap (λ (cs : List BidiClass). cs ++ class_at now2 i ∷ []) (at_marked-same p.mark now2 now1 0 i (λ k a b t. r.below k b) ∙ front-written)
             ∙ ap (λ (e : BidiClass). (front ++ replicate n v) ++ e ∷ []) (written i (omega arith) some)
             in
@@ -300,7 +301,7 @@ module _ (p : Pass) (are : AreMarks p) (now : List BidiClass) (w : Walk) (i : �
       record {
         answers = ap (λ k. at_places L now1 (marks p 0 k)) top
             ∙ ap (at_places L now1) (marked-parts p.mark 0 w.first i (omega arith) order)
-            ∙ at_places-append now1 (marks p 0 w.first) held
+            ∙ at_places-append L now1 (marks p 0 w.first) held
             ∙ ap (λ (cs : List BidiClass). cs ++ at_places L now1 held) (at_marked-same p.mark now1 now 0 w.first (λ k a b t. s.below k b))
             ∙ ap (λ (cs : List BidiClass). front ++ cs) (at_marked-all p.mark now1 ON w.first i (λ k a b t. s.inside k a b (are.marked_seen k t)))
             ∙ ap (λ (ps : List ℕ). front ++ after_w7 w.after_l w.before (length held) (after_w3 w.mark w.after_al (at_places L p.old ps))) (sym (marked-none p.mark i (length p.old) past))

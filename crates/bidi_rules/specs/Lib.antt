@@ -1,5 +1,8 @@
 pub mod ExplicitPass
+pub mod FoundBrackets
 pub mod Joining
+pub mod NeutralPass
+pub mod PairWalk
 pub mod RunSequence
 pub mod Status
 pub mod WeakPass

@@ -1,8 +1,22 @@
-//! What is resolved within an isolating run sequence (W1 to W7), and the levels of the characters
-//! (I1, I2), in place over the units of one paragraph.
+//! What is resolved within an isolating run sequence (W1 to W7, N0 to N2), and the levels of the
+//! characters (I1, I2), in place over the units of one paragraph.
 
+ghost use Rattle.std.specs.Prelude.{◌≡◌};
+ghost use Rattle.bidi_base.specs.Classes.{is_read as is_read_of};
+
+mod brackets;
 mod levels;
+mod neutral;
 mod weak;
 
+use bidi_base::char_data::BidiClass;
 pub use levels::resolve_levels;
+pub use neutral::{NeutralResolver, resolve_neutral};
 pub use weak::resolve_weak;
+
+/// Whether characters of this class are read: all but BN, which stands for what X9 removed.
+fn is_read(class: BidiClass) -> bool
+    ensures { result ≡ is_read_of class }
+{
+    !matches!(class, BidiClass::BN)
+}

@@ -8,6 +8,8 @@ mod initial_rows;
 #[cfg(test)]
 mod level_rows;
 #[cfg(test)]
+mod neutral_units_rows;
+#[cfg(test)]
 mod order_rows;
 #[cfg(test)]
 mod plain_explicit;

@@ -12,6 +12,7 @@ use Rattle.bidi_base.specs.Display.{Run, run_of, level_runs, run_level, visual_r
 use Rattle.unicode_bidi.proofs.Ordered.{visual_order-still, none_odd}
 use Rattle.bidi_base.proofs.VisualOrderLemmas.{all_below}
 use Rattle.unicode_bidi.proofs.Pieces.{at_places-map}
+use Rattle.bidi_base.proofs.StoredLemmas.{at_places-append}
 use Rattle.unicode_bidi.proofs.RunsLemmas.{level_runs-each}
 use Rattle.unicode_bidi.proofs.VisualRuns.{run_at, all-runs, visual_runs-are}
 
@@ -24,10 +25,6 @@ runs_within start levels ranges e k d fits =
     let same : run_at (level_runs start levels) k ≡ run_of (get_or ranges k d) = sym (ap (λ l. run_at l k) e) ∙ get_or-map run_of ranges k d (0, 0) fits in
     let there : IsLevelRun start levels (run_of (get_or ranges k d)) = subst (IsLevelRun start levels) same here in
     (there.starts_within, omega (arith, there.not_empty, there.ends_within))
-
-at_places-append : {X : Type 0} (d : X) (xs : List X) (ps qs : List ℕ) → at_places d xs (ps ++ qs) ≡ at_places d xs ps ++ at_places d xs qs
-at_places-append d xs [] qs = λ _. at_places d xs qs
-at_places-append d xs (p ∷ ps) qs = ap (λ l. get_or xs p d ∷ l) (at_places-append d xs ps qs)
 
 -- one more place
 pub at_places-more : (ranges : List (Range ℕ)) (order : List ℕ) (i : ℕ) (d : Range ℕ) → i < length order → get_or order i 0 < length ranges

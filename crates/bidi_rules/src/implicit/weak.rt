@@ -13,12 +13,13 @@ ghost use Rattle.bidi_rules.specs.WeakWalk.{first_walk, is_seen, IsWrittenOver, 
 
 mod steps;
 
+use super::is_read;
 use crate::prepare::{IsolatingRunSequence, LevelRun};
 use bidi_base::char_data::BidiClass;
 use bidi_base::text::TextSource;
 use steps::{
-    Before, carried, comes_after_al, comes_after_l, is_arabic_letter, is_left, is_read, marked,
-    numbered, strengthened,
+    Before, carried, comes_after_al, comes_after_l, is_arabic_letter, is_left, marked, numbered,
+    strengthened,
 };
 
 /// What a walk over a sequence knows of the characters that it has read.

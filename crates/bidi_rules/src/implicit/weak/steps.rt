@@ -1,12 +1,12 @@
 //! The rules W1 to W7 as steps of one walk that looks at each character once.
 
 ghost use Rattle.std.specs.Prelude.{◌≡◌};
-ghost use Rattle.bidi_base.specs.Classes.{is_al, is_l, is_read as is_read_of};
+ghost use Rattle.bidi_base.specs.Classes.{is_al, is_l};
 ghost use Rattle.bidi_base.specs.Weak.{carried as carried_of};
 ghost use Rattle.bidi_rules.specs.WeakPass.{marked as marked_of, w2_w3, is_after_al, is_after_l, w7_by, waits as waits_of, joins, next_before, settled as settled_of, resolved as resolved_of};
 
 use bidi_base::char_data::BidiClass::{
-    self, AL, AN, BN, CS, EN, ES, ET, FSI, L, LRI, NSM, ON, PDI, R, RLI,
+    self, AL, AN, CS, EN, ES, ET, FSI, L, LRI, NSM, ON, PDI, R, RLI,
 };
 
 /// What stands directly before a character, as far as numbers, separators and terminators ask.
@@ -103,13 +103,6 @@ impl Before {
             other => other,
         }
     }
-}
-
-/// Whether characters of this class are read: all but BN, which stands for what X9 removed.
-pub fn is_read(class: BidiClass) -> bool
-    ensures { result ≡ is_read_of class }
-{
-    !matches!(class, BN)
 }
 
 /// What a nonspacing mark takes from the character before it (W1).

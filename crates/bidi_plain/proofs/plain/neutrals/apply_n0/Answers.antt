@@ -1,7 +1,7 @@
 use Rattle.std.proofs.Common.{List, get_or, sym, ap, ◌∙◌}
 use Rattle.bidi_base.specs.declared.char_data.BidiClass.{BidiClass}
 use Rattle.bidi_base.specs.Neutral.{n0_pair}
-use Rattle.bidi_plain.proofs.BracketRules.{with_bracket, n0_pair-Some, n0_pair-None, n0-none, n0-more}
+use Rattle.bidi_base.proofs.BracketRules.{with_bracket, n0_pair-Some, n0_pair-None, n0-none, n0-more}
 use Rattle.bidi_plain.proofs.plain.neutrals.apply_n0.Goals as goal
 use Rattle.bidi_plain.proofs.plain.neutrals.apply_n0.Goals.{in-Some, in_default}
 

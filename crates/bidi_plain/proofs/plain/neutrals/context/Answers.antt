@@ -5,7 +5,7 @@ use Rattle.std.proofs.lemmas.List.{at_drop_more, at_drop_all, length_push}
 use Rattle.bidi_base.specs.declared.char_data.BidiClass.{BidiClass}
 use Rattle.bidi_base.specs.Classes.{as_direction}
 use Rattle.bidi_base.specs.Neutral.{nearest_direction}
-use Rattle.bidi_plain.proofs.NeutralBlocks.{nearest_direction-more}
+use Rattle.bidi_base.proofs.NeutralLemmas.{nearest_direction-more}
 use Rattle.bidi_plain.proofs.plain.neutrals.context.Goals as goal
 
 -- what the next class says

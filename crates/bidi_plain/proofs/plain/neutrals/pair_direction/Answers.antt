@@ -1,7 +1,7 @@
 use Rattle.std.proofs.Common.{◌+◌, true, false, Some, slice_range, is_some, refl, sym, ap, ◌∙◌}
 use Rattle.std.specs.List.{list_any}
 use Rattle.bidi_base.specs.Classes.{as_direction}
-use Rattle.bidi_plain.proofs.BracketRules.{pair_direction-tests}
+use Rattle.bidi_base.proofs.BracketRules.{pair_direction-tests}
 use Rattle.bidi_plain.proofs.plain.neutrals.pair_direction.Goals as goal
 
 pub returns-then-has_direction : goal.returns-then-has_direction

@@ -1,4 +1,4 @@
-use Rattle.bidi_plain.proofs.BracketRules.{with_bracket-filled}
+use Rattle.bidi_base.proofs.BracketRules.{with_bracket-filled}
 use Rattle.bidi_plain.proofs.plain.neutrals.set_direction.Goals as goal
 
 pub returns : goal.returns

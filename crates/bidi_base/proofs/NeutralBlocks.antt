@@ -3,15 +3,16 @@ use Rattle.std.proofs.Common.{◌≡◌, ℕ, suc, ◌+◌, ◌-◌, ◌<◌, �
 use Rattle.std.proofs.lemmas.Bool.{cases_lt, cond-true, cond-false, or_cases, both_ways, true_from_ne_false}
 use Rattle.std.proofs.lemmas.List.{drop_more, drop_all, get_or_past, get_or_default}
 use Rattle.std.proofs.lemmas.List.Folds.{list_all_at}
-use Rattle.std.specs.List.{list_all, prefix_len}
+use Rattle.std.specs.List.{list_all}
 use borrow.Rule.Slice.PartMut.{put_mid}
 use Rattle.bidi_base.specs.declared.char_data.BidiClass.{BidiClass}
 use Rattle.bidi_base.specs.declared.char_data.BidiClass.TheVariants.{L, R, EN, AN, B, S, WS, ON, LRI, RLI, FSI, PDI}
 use Rattle.bidi_base.specs.Classes.{as_direction, has_direction, is_neutral, is_weak_resolved, same_class}
 use Rattle.bidi_base.specs.Neutral.{nearest_direction, n1_rule}
 use Rattle.bidi_base.proofs.PlacesLemmas.{reverse-take_more}
+use Rattle.bidi_base.proofs.NeutralLemmas.{nearest_direction-more}
 use Rattle.bidi_base.proofs.InPlace.{IsRewritten, IsRewritten-start, IsRewritten-keep}
-use Rattle.bidi_plain.proofs.Blocks.{IsBlock, IsBlock-counted, length-part, read_later, look-drop, look-take, answer, IsRewritten-filled, IsRewritten-past}
+use Rattle.bidi_base.proofs.Blocks.{IsBlock, read_later, look-drop, look-take, answer, IsRewritten-filled, IsRewritten-past}
 
 passes : (d c : BidiClass) (cs : List BidiClass) → is_neutral c ≡ true → nearest_direction d (c ∷ cs) ≡ nearest_direction d cs
 passes d B cs e = refl
@@ -23,10 +24,6 @@ passes d RLI cs e = refl
 passes d FSI cs e = refl
 passes d PDI cs e = refl
 passes d _ cs e = absurd (cc e)
-
-pub nearest_direction-more : (d c : BidiClass) (cs : List BidiClass) → nearest_direction d (c ∷ cs) ≡ unwrap_or (as_direction c) (nearest_direction d cs)
-nearest_direction-more d L cs = refl
-nearest_direction-more d _ cs = refl
 
 -- a class with a direction needs no other
 directed : (c x y : BidiClass) → has_direction c ≡ true → unwrap_or (as_direction c) x ≡ unwrap_or (as_direction c) y
@@ -57,10 +54,7 @@ module _ (e sos eos : BidiClass) where
   IsAtNeutrals-start old = record { rewritten = IsRewritten-start (n1_rule e sos eos) old; is_left = λ fits. refl }
 
   module _ (old now : List BidiClass) (left right : BidiClass) (start n : ℕ) (resolved : list_all is_weak_resolved old ≡ true) (h : IsAtNeutrals old now left start) (fits : start ≤ length old)
-      (counted : n ≡ prefix_len is_neutral (take (length now - start) (drop start now))) (next : right ≡ unwrap_or (as_direction (get_or now (start + n) ON)) eos) where
-    block : IsBlock is_neutral old start n
-    block = IsBlock-counted is_neutral old now start n fits h.rewritten.rest counted
-
+      (block : IsBlock is_neutral old start n) (next : right ≡ unwrap_or (as_direction (get_or now (start + n) ON)) eos) where
     -- the class behind the block has a direction
     is_directed : start + n < length old → has_direction (get_or old (start + n) L) ≡ true
     is_directed more =
@@ -119,11 +113,8 @@ module _ (e sos eos : BidiClass) where
     ]
 
     -- the block is filled with what its two sides give
-    pub IsAtNeutrals-block : (ys : List BidiClass) → ys ≡ replicate (length (take (start + n - start) (drop start now))) (common e left right)
-        → IsAtNeutrals old (put_mid start (start + n - start) now ys) right (start + n + 1)
-    IsAtNeutrals-block ys filled =
+    pub IsAtNeutrals-block : IsAtNeutrals old (put_mid start (start + n - start) now (replicate n (common e left right))) right (start + n + 1)
+    IsAtNeutrals-block =
         let y = common e left right in
         let room : start + n ≤ length old = block.room in
-        let long : length now ≡ length old = h.rewritten.long in
-        let all : ys ≡ replicate n y = filled ∙ ap (λ (m : ℕ). replicate m y) (length-part now start n (omega arith)) in
-        rw all (behind (put_mid start (start + n - start) now (replicate n y)) (IsRewritten-filled (n1_rule e sos eos) old now start n (start + n - start) y h.rewritten room (omega arith) answers))
+        behind (put_mid start (start + n - start) now (replicate n y)) (IsRewritten-filled (n1_rule e sos eos) old now start n (start + n - start) y h.rewritten room (omega arith) answers)

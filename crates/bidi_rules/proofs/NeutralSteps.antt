@@ -1,0 +1,184 @@
+-- The steps of N0 to N2 over a sequence, one after the other.
+use Rattle.std.proofs.Common.{◌≡◌, ℕ, ◌+◌, ◌<◌, ◌≤◌, true, false, ◌&&◌, ltb, List, [], ◌∷◌, length, map, get_or, find, slice_get, Option, Some, None, refl, sym, ap, subst, ◌∙◌, arith}
+use Rattle.std.specs.Prelude.{All, IsTrue}
+use Rattle.std.specs.List.{list_all}
+use Rattle.std.specs.declared.ops.Range.{Range}
+use Rattle.std.proofs.lemmas.Bool.{and_parts}
+use Rattle.std.proofs.lemmas.List.{nil_from_length}
+use Rattle.std.proofs.lemmas.List.Elements.{All-weaker}
+use Rattle.bidi_base.specs.declared.char_data.BidiClass.{BidiClass}
+use Rattle.bidi_base.specs.declared.char_data.BidiClass.TheVariants.{L, BN}
+use Rattle.bidi_base.specs.declared.data_source.BidiMatchedOpeningBracket.{BidiMatchedOpeningBracket}
+use Rattle.bidi_base.specs.Brackets.{bracket_pairs}
+use Rattle.bidi_base.specs.Classes.{is_l_or_r, is_read, is_weak_resolved}
+use Rattle.bidi_base.specs.Levels.{direction_of}
+use Rattle.bidi_base.specs.Neutral.{n0, n1_rule, n1_n2, neutral_classes}
+use Rattle.bidi_base.specs.Places.{at_places, class_at, first_or}
+use Rattle.bidi_base.specs.Sequences.{level_at}
+use Rattle.bidi_base.specs.Source.{Source}
+use Rattle.bidi_base.specs.Text.{place, text_len, is_per_char, per_char, per_unit, IsLine, IsPerChar}
+use Rattle.bidi_base.specs.Units.{bounds, are_ordered, in_runs, read_in_runs, units_in_runs, AreLines}
+use Rattle.bidi_base.proofs.NeutralLemmas.{direction_of-l_or_r, n0-resolved}
+use Rattle.bidi_base.proofs.PermutationLemmas.{Ascends}
+use Rattle.bidi_base.proofs.PerCharTests.{class_eq, class_test}
+use Rattle.bidi_base.proofs.PlaceLemmas.{place-lt, place-end}
+use Rattle.bidi_base.proofs.PlacesLemmas.{length-in_context}
+use Rattle.bidi_base.proofs.ResolvedLemmas.{length-n0}
+use Rattle.bidi_base.proofs.TextLemmas.{HasUnits, is_boundary-le}
+use Rattle.bidi_base.proofs.UnitsLemmas.{IsPerChar-from_is_per_char, is_per_char-from_IsPerChar, length-from_IsPerChar}
+use Rattle.bidi_rules.specs.declared.prepare.sequence.IsolatingRunSequence.{IsolatingRunSequence}
+use Rattle.bidi_rules.specs.NeutralPass.{put_at, values_of}
+use Rattle.bidi_rules.specs.RunSequence.{runs as runs_of, sos as sos_of, eos as eos_of}
+use Rattle.bidi_rules.proofs.FirstRead.{first_read-is, first-Some, first-None}
+use Rattle.bidi_rules.proofs.Gathered.{length-values_of}
+use Rattle.bidi_rules.proofs.NeutralUnits.{kept_units, removed_units, outside_units, IsPerChar-units}
+use Rattle.bidi_rules.proofs.PutAt.{Ascends-within}
+use Rattle.bidi_rules.proofs.ReadRuns.{read_in_runs-Ascends}
+use Rattle.bidi_rules.proofs.WalkLemmas.{is_run_sequence-ordered}
+
+-- what the steps over these runs stand on
+pub record IsReady (len_of : ℕ → ℕ) (chars : List ℕ) (runs : List (Range ℕ)) (sos : BidiClass) (old : List BidiClass) : Type 0 where
+  pub ordered : are_ordered (map bounds runs) ≡ true
+  pub lines : AreLines len_of chars (map bounds runs)
+  pub per_char : IsPerChar len_of chars old
+  pub side : is_l_or_r sos ≡ true
+  pub resolved : list_all is_weak_resolved (values_of L len_of chars old (read_in_runs len_of chars old (map bounds runs))) ≡ true
+
+pub IsReady-sequence : (len_of : ℕ → ℕ) → HasUnits len_of → (chars : List ℕ) (sequence : IsolatingRunSequence) (runs : List (Range ℕ)) (sos : BidiClass) (old : List BidiClass) → runs ≡ runs_of sequence → sos ≡ sos_of sequence
+    → is_per_char class_eq len_of chars old ≡ true → AreLines len_of chars (map bounds (runs_of sequence))
+    → list_all is_weak_resolved (values_of L len_of chars old (read_in_runs len_of chars old (map bounds (runs_of sequence)))) ≡ true → IsReady len_of chars runs sos old
+IsReady-sequence len_of h chars sequence runs sos old runs_is sos_is per lines resolved =
+    let all = map bounds sequence.runs.items in
+    let sides = is_l_or_r sequence.sos && is_l_or_r sequence.eos in
+    let others = and_parts (ltb 0 (length all)) (are_ordered all && sides) sequence.well_formed in
+    let last = and_parts (are_ordered all) sides others.1 in
+    subst (λ (rs : List (Range ℕ)). IsReady len_of chars rs sos old) (sym runs_is)
+    (subst (λ (s : BidiClass). IsReady len_of chars (runs_of sequence) s old) (sym sos_is) (record {
+      ordered = is_run_sequence-ordered all sequence.sos sequence.eos sequence.well_formed;
+      lines = lines;
+      per_char = IsPerChar-from_is_per_char class_eq class_test len_of h chars old per;
+      side = (and_parts (is_l_or_r sequence.sos) (is_l_or_r sequence.eos) last.1).0;
+      resolved = resolved;
+    }))
+
+module _ (len_of : ℕ → ℕ) (h : HasUnits len_of) (chars : List ℕ) (runs : List (Range ℕ)) (sos : BidiClass) (old : List BidiClass) (ready : IsReady len_of chars runs sos old) where
+  abbrev read : List ℕ
+  read = read_in_runs len_of chars old (map bounds runs)
+
+  pub long : length old ≡ text_len len_of chars
+  long = length-from_IsPerChar len_of chars old ready.per_char
+
+  pub runs-within : All (λ r. r.1 ≤ length old) (map bounds runs)
+  runs-within =
+      All-weaker (λ (r : ℕ × ℕ). IsLine len_of chars r.0 r.1) (λ (r : ℕ × ℕ). r.1 ≤ length old) (λ r line. omega (arith, is_boundary-le len_of chars r.1 line.ends, long)) (map bounds runs) ready.lines
+
+  -- the first unit that is read
+  pub first-is : (first : ℕ) → Some first ≡ find (λ u. is_read (class_at old u)) (units_in_runs (map bounds runs)) → first_or 0 (map (place len_of chars) read) ≡ first
+  first-is first found =
+      first-Some (map (place len_of chars) read) first (sym (first_read-is len_of h chars old ready.per_char (map bounds runs) ready.lines) ∙ sym found)
+
+  pub first-within : (first : ℕ) → Some first ≡ find (λ u. is_read (class_at old u)) (units_in_runs (map bounds runs)) → first < length old
+  first-within first found = by_list read (read_in_runs-Ascends len_of h chars old (map bounds runs) ready.lines ready.ordered) (sym (first_read-is len_of h chars old ready.per_char (map bounds runs) ready.lines) ∙ sym found)
+    where
+      by_list : (ks : List ℕ) → Ascends 0 ks (length chars) → slice_get (map (place len_of chars) ks) 0 ≡ Some first → first < length old
+      by_list [] rises e = absurd (cc e)
+      by_list (k ∷ ks) rises e =
+          let at : place len_of chars k ≡ first = cc e in
+          let fits : k < length chars = omega (arith, Ascends-within (k + 1) (length chars) ks rises.1) in
+          omega (arith, at, place-lt len_of chars h k (length chars) fits fits, place-end len_of chars (length chars) (omega arith), long)
+
+  pub none-read : None ≡ find (λ u. is_read (class_at old u)) (units_in_runs (map bounds runs)) → read ≡ []
+  none-read found = no_places read (first-None (map (place len_of chars) read) (sym (first_read-is len_of h chars old ready.per_char (map bounds runs) ready.lines) ∙ sym found))
+    where
+      no_places : (ks : List ℕ) → map (place len_of chars) ks ≡ [] → ks ≡ []
+      no_places [] e = refl
+      no_places (k ∷ ks) e = absurd (cc e)
+
+-- N0 over the classes of the characters
+pub paired-resolved : (e sos : BidiClass) (level : ℕ) (source classes : List BidiClass) (pairs : List (ℕ × ℕ)) → e ≡ direction_of level → is_l_or_r sos ≡ true → list_all is_weak_resolved classes ≡ true
+    → list_all is_weak_resolved (n0 e sos source pairs classes) ≡ true
+paired-resolved e sos level source classes pairs is side resolved = n0-resolved e sos source pairs classes (ap is_l_or_r is ∙ direction_of-l_or_r level) side resolved
+
+-- and then N1 and N2
+pub length-resolved : (e sos eos : BidiClass) (source classes : List BidiClass) (pairs : List (ℕ × ℕ)) → length (n1_n2 e sos eos (n0 e sos source pairs classes)) ≡ length classes
+length-resolved e sos eos source classes pairs = length-in_context (n1_rule e sos eos) [] (n0 e sos source pairs classes) ∙ length-n0 e sos source pairs classes
+
+pub neutral_classes-is : (e sos eos : BidiClass) (level : ℕ) (source classes : List BidiClass) (brackets : List (Option BidiMatchedOpeningBracket)) → e ≡ direction_of level
+    → n1_n2 e sos eos (n0 e sos source (bracket_pairs classes brackets) classes) ≡ neutral_classes level sos eos source brackets classes
+unfolding neutral_classes
+neutral_classes-is e sos eos level source classes brackets is = ap (λ (d : BidiClass). n1_n2 d sos eos (n0 d sos source (bracket_pairs classes brackets) classes)) is
+
+pub neutral_classes-none : (level : ℕ) (sos eos : BidiClass) (source : List BidiClass) (brackets : List (Option BidiMatchedOpeningBracket)) → neutral_classes level sos eos source brackets [] ≡ []
+unfolding neutral_classes
+neutral_classes-none level sos eos source brackets =
+    nil_from_length (neutral_classes level sos eos source brackets []) (length-resolved (direction_of level) sos eos source [] (bracket_pairs [] brackets))
+
+-- ---- the end
+
+-- the classes after the steps, over the units
+pub record IsResolved (len_of : ℕ → ℕ) (chars : List ℕ) (source : Source) (levels : List ℕ) (original old new : List BidiClass) (runs : List (Range ℕ)) (sos eos : BidiClass) : Type 0 where
+  pub kept : let read = read_in_runs len_of chars old (map bounds runs) in
+      let places = map (place len_of chars) read in
+      at_places L new places
+      ≡ neutral_classes (level_at levels (first_or 0 places)) sos eos (at_places L original places) (map source.bracket_of (at_places 0 chars read)) (at_places L old places)
+  pub removed : (u : ℕ) → class_at old u ≡ BN → class_at new u ≡ BN
+  pub outside : (u : ℕ) → in_runs (map bounds runs) u ≡ false → class_at new u ≡ class_at old u
+  pub per_char : is_per_char class_eq len_of chars new ≡ true
+
+-- what the steps have made of one another: the classes gathered, those after N0, those after N2, and the units at last
+pub record AreSteps (len_of : ℕ → ℕ) (chars : List ℕ) (source : Source) (level : ℕ) (original old : List BidiClass) (read : List ℕ) (e sos eos : BidiClass) (gathered paired directed new : List BidiClass) : Type 0 where
+  pub embedding : e ≡ direction_of level
+  pub gathered_are : gathered ≡ values_of L len_of chars old read
+  pub paired_are : paired ≡ n0 e sos (values_of L len_of chars original read) (bracket_pairs gathered (map source.bracket_of (at_places 0 chars read))) gathered
+  pub directed_are : directed ≡ n1_n2 e sos eos paired
+  pub new_are : new ≡ per_unit len_of chars (put_at read directed (per_char L len_of chars old))
+
+pub IsResolved-steps : (len_of : ℕ → ℕ) (h : HasUnits len_of) (chars : List ℕ) (source : Source) (levels : List ℕ) (original old : List BidiClass) (runs : List (Range ℕ)) (e sos eos : BidiClass) (gathered paired directed new : List BidiClass) (first : ℕ)
+    → IsReady len_of chars runs sos old → Some first ≡ find (λ u. is_read (class_at old u)) (units_in_runs (map bounds runs))
+    → AreSteps len_of chars source (level_at levels first) original old (read_in_runs len_of chars old (map bounds runs)) e sos eos gathered paired directed new → IsResolved len_of chars source levels original old new runs sos eos
+IsResolved-steps len_of h chars source levels original old runs e sos eos gathered paired directed new first ready found s =
+    let rs = map bounds runs in
+    let read = read_in_runs len_of chars old rs in
+    let places = map (place len_of chars) read in
+    let sources = values_of L len_of chars original read in
+    let brackets = map source.bracket_of (at_places 0 chars read) in
+    let both : directed ≡ n1_n2 e sos eos (n0 e sos sources (bracket_pairs gathered brackets) gathered) = s.directed_are ∙ ap (n1_n2 e sos eos) s.paired_are in
+    let size : length directed ≡ length read =
+    ap length both ∙ length-resolved e sos eos sources gathered (bracket_pairs gathered brackets) ∙ ap length s.gathered_are ∙ length-values_of len_of chars L old read
+    in
+    let answer : directed ≡ neutral_classes (level_at levels (first_or 0 places)) sos eos sources brackets (values_of L len_of chars old read) =
+    both
+    ∙ neutral_classes-is e sos eos (level_at levels first) sources gathered brackets s.embedding
+    ∙ ap (neutral_classes (level_at levels first) sos eos sources brackets) s.gathered_are
+    ∙ ap (λ u. neutral_classes (level_at levels u) sos eos sources brackets (values_of L len_of chars old read)) (sym (first-is len_of h chars runs sos old ready first found))
+    in
+    record {
+      kept = kept_units len_of h chars old ready.per_char rs ready.lines ready.ordered directed new s.new_are size ∙ answer;
+      removed = removed_units len_of h chars old ready.per_char rs ready.lines ready.ordered directed new s.new_are;
+      outside = outside_units len_of h chars old ready.per_char rs ready.lines ready.ordered directed new s.new_are;
+      per_char = is_per_char-from_IsPerChar class_eq class_test len_of chars new (IsPerChar-units len_of h chars old ready.per_char rs ready.lines ready.ordered directed new s.new_are);
+    }
+
+-- without a character that is read nothing is to be done
+pub IsResolved-none : (len_of : ℕ → ℕ) (h : HasUnits len_of) (chars : List ℕ) (source : Source) (levels : List ℕ) (original old : List BidiClass) (runs : List (Range ℕ)) (sos eos : BidiClass) → IsReady len_of chars runs sos old
+    → None ≡ find (λ u. is_read (class_at old u)) (units_in_runs (map bounds runs)) → IsResolved len_of chars source levels original old old runs sos eos
+IsResolved-none len_of h chars source levels original old runs sos eos ready found =
+    let none = none-read len_of h chars runs sos old ready found in
+    record {
+      kept = subst
+          (λ (read : List ℕ).
+          let places = map (place len_of chars) read in
+          at_places L old places
+          ≡ neutral_classes (level_at levels (first_or 0 places)) sos eos (at_places L original places) (map source.bracket_of (at_places 0 chars read)) (at_places L old places))
+          (sym none) (sym (neutral_classes-none (level_at levels 0) sos eos [] []));
+      removed = λ u is. is;
+      outside = λ u out. refl;
+      per_char = is_per_char-from_IsPerChar class_eq class_test len_of chars old ready.per_char;
+    }
+
+-- at the sequence itself
+pub IsResolved-sequence : (len_of : ℕ → ℕ) (chars : List ℕ) (source : Source) (levels : List ℕ) (original old new : List BidiClass) (sequence : IsolatingRunSequence) (runs : List (Range ℕ)) (sos eos : BidiClass) → runs ≡ runs_of sequence
+    → sos ≡ sos_of sequence → eos ≡ eos_of sequence → IsResolved len_of chars source levels original old new runs sos eos → IsResolved len_of chars source levels original old new (runs_of sequence) (sos_of sequence) (eos_of sequence)
+IsResolved-sequence len_of chars source levels original old new sequence runs sos eos runs_are sos_is eos_is r =
+    subst (λ (rs : List (Range ℕ)). IsResolved len_of chars source levels original old new rs (sos_of sequence) (eos_of sequence)) runs_are
+    (subst (λ (s : BidiClass). IsResolved len_of chars source levels original old new runs s (eos_of sequence)) sos_is (subst (IsResolved len_of chars source levels original old new runs sos) eos_is r))

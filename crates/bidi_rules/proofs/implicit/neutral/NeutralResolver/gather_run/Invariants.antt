@@ -1,0 +1,14 @@
+-- The characters of the run that came are gathered.
+use Rattle.std.proofs.Common.{ℕ, List, ◌++◌, length}
+use Rattle.bidi_rules.specs.NeutralPass.{AreGathered}
+use Rattle.bidi_rules.proofs.ReadRuns.{read_so_far}
+use Rattle.bidi_rules.proofs.implicit.neutral.NeutralResolver.gather_run.Given as goal
+
+abbrev pub invariant-loop-offset : goal.invariant-loop-offset
+invariant-loop-offset g l =
+    let len_of = g.T.TextSource.units in
+    let chars = g.T.TextSource.characters l.fn.text in
+    let source = g.D.BidiDataSource.source l.data_source in
+    (goal.iterator-loop-offset g).can_next l.offset-iterator × (goal.iterator-loop-offset g).is_finite l.offset-iterator
+    × ((before : List ℕ) → AreGathered len_of chars source l.classes before l.fn.self.classes.items l.fn.self.brackets.items
+    → AreGathered len_of chars source l.classes (before ++ read_so_far len_of chars l.classes l.run.start (length l.yielded)) l.self.classes.items l.self.brackets.items)

@@ -1,0 +1,26 @@
+use Rattle.std.proofs.Common.{◌≡◌, ◌<◌, ◌≤◌, ℕ, true, map, get_or, length, sym, ap, ◌∙◌, arith}
+use Rattle.std.proofs.lemmas.List.{length-map, get_or-map}
+use Rattle.bidi_base.specs.Classes.{is_read}
+use Rattle.bidi_base.specs.Places.{class_at}
+use Rattle.bidi_base.specs.Units.{bounds}
+use Rattle.bidi_rules.proofs.FirstRead.{find-passes, find-stops}
+use Rattle.bidi_rules.proofs.ReadRuns.{no_range}
+use Rattle.bidi_rules.proofs.implicit.neutral.units.first_read.Goals as goal
+
+pub bounds-classes-unit : goal.bounds-classes-unit
+bounds-classes-unit c =
+    let runs = c.args.runs.now in
+    let i = c.loop-run.run-index in
+    let long = length-map runs bounds in
+    let end_is = ap (λ (r : ℕ × ℕ). r.1) (get_or-map bounds runs i no_range (0, 0) c.loop-run-test.true) in
+    omega (arith, end_is, c.requires i (0, 0) (omega arith))
+
+pub returns-then-is_read : goal.returns-then-is_read
+returns-then-is_read c =
+    let here : is_read (class_at c.args.classes.now c.loop-unit.unit) ≡ true = sym c.is_read.ensures ∙ c.if-is_read.true in
+    sym (find-stops (λ u. is_read (class_at c.args.classes.now u)) c.args.runs.now c.loop-run.run-index c.loop-run-test.true c.loop-run.invariant c.loop-unit.unit (omega arith) (omega arith) c.loop-unit.invariant here)
+
+pub loop-run-preserved : goal.loop-run-preserved
+loop-run-preserved c =
+    find-passes (λ u. is_read (class_at c.args.classes.now u)) c.args.runs.now c.loop-run.run-index c.loop-run-test.true c.loop-run.invariant
+    (λ k from below. c.loop-unit.invariant k from (omega (arith, c.loop-unit-test.false)))

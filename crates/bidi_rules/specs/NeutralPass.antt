@@ -1,0 +1,34 @@
+-- The neutrals of a sequence over the list of its characters: what is gathered from the units, and what is written back to them.
+use Rattle.std.specs.Prelude.{◌≡◌, ℕ, List, [], ◌∷◌, length, map, filter, slice_set, Option}
+use Rattle.bidi_base.specs.declared.char_data.BidiClass.{BidiClass}
+use Rattle.bidi_base.specs.declared.char_data.BidiClass.TheVariants.{L}
+use Rattle.bidi_base.specs.declared.data_source.BidiMatchedOpeningBracket.{BidiMatchedOpeningBracket}
+use Rattle.bidi_base.specs.Classes.{is_read}
+use Rattle.bidi_base.specs.Places.{at_places, class_at}
+use Rattle.bidi_base.specs.Source.{Source}
+use Rattle.bidi_base.specs.Text.{place}
+use Rattle.bidi_rules.specs.declared.implicit.brackets.Bracket.{Bracket}
+use Rattle.bidi_rules.specs.FoundBrackets.{found_brackets}
+
+-- the characters among those with these indexes that the pass reads, where `units` has the class of each unit
+abbrev pub read_among : (ℕ → ℕ) → List ℕ → List BidiClass → List ℕ → List ℕ
+read_among len_of chars units indexes = filter (λ k. is_read (class_at units (place len_of chars k))) indexes
+
+-- the units at which the characters with these indexes have their values
+abbrev pub values_of : {X : Type 0} → X → (ℕ → ℕ) → List ℕ → List X → List ℕ → List X
+values_of d len_of chars units indexes = at_places d units (map (place len_of chars) indexes)
+
+-- the brackets are those that count among characters of these classes
+abbrev pub AreBracketsOf : List BidiClass → List Bracket → Type 0
+AreBracketsOf classes brackets = (sources : List (Option BidiMatchedOpeningBracket)) × (length sources ≡ length classes) × (brackets ≡ found_brackets classes sources)
+
+-- the classes of the characters with these indexes, and the brackets that count among them
+pub record AreGathered (len_of : ℕ → ℕ) (chars : List ℕ) (source : Source) (units : List BidiClass) (indexes : List ℕ) (classes : List BidiClass) (brackets : List Bracket) : Type 0 where
+  pub classes_are : classes ≡ values_of L len_of chars units indexes
+  pub brackets_are : brackets ≡ found_brackets classes (map source.bracket_of (at_places 0 chars indexes))
+
+-- the values are put at the indexes, the first at the first
+abbrev pub put_at : {X : Type 0} → List ℕ → List X → List X → List X
+put_at [] values xs = xs
+put_at (k ∷ indexes) [] xs = xs
+put_at (k ∷ indexes) (v ∷ values) xs = put_at indexes values (slice_set xs k v)

@@ -1,0 +1,62 @@
+//! N1 and N2 over the classes of a sequence's characters.
+
+ghost use Rattle.std.specs.Prelude.{◌≡◌, ◌-◌, ◌≤◌, length, if◌then◌else◌, IsTrue};
+ghost use Rattle.std.specs.List.{list_all};
+ghost use Rattle.bidi_base.specs.Classes.{as_direction, is_weak_resolved, same_class};
+ghost use Rattle.bidi_base.specs.Neutral.{n1_n2};
+ghost use Rattle.bidi_rules.specs.ExplicitPass.{filled};
+
+use bidi_base::char_data::BidiClass::{self, AN, EN, L, R};
+
+/// N1 and N2: neutrals take the direction on both their sides, where sos and eos stand at the ends,
+/// and the embedding direction where the two differ.
+pub fn resolve_directions(
+    embedding: BidiClass,
+    sos: BidiClass,
+    eos: BidiClass,
+    classes: &mut [BidiClass],
+)
+    requires { IsTrue (list_all is_weak_resolved classes.old) }
+    ensures { classes.new ≡ n1_n2 embedding sos eos classes.old }
+{
+    let mut left = sos;
+    let mut start = 0;
+    for at in 0..classes.len() {
+        if let Some(right) = direction(classes[at]) {
+            settle(classes, start, at, common_direction(embedding, left, right));
+            left = right;
+            start = at + 1;
+        }
+    }
+    let end = classes.len();
+    settle(classes, start, end, common_direction(embedding, left, eos));
+}
+
+/// The direction that a class stands for, where numbers stand for R.
+fn direction(class: BidiClass) -> Option<BidiClass>
+    ensures { result ≡ as_direction class }
+{
+    match class {
+        L => Some(L),
+        R | EN | AN => Some(R),
+        _ => None,
+    }
+}
+
+/// What neutrals between two directions take.
+fn common_direction(embedding: BidiClass, left: BidiClass, right: BidiClass) -> BidiClass
+    ensures { result ≡ (if same_class left right then left else embedding) }
+{
+    if left == right { left } else { embedding }
+}
+
+/// Writes a class to the part from `start` to `end`, which is mostly empty.
+fn settle(classes: &mut [BidiClass], start: usize, end: usize, class: BidiClass)
+    requires begins { start ≤ end }
+    requires ends { end ≤ length classes.old }
+    ensures { classes.new ≡ filled start (end - start) class classes.old }
+{
+    if start < end {
+        classes[start..end].fill(class);
+    }
+}
