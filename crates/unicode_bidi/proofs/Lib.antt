@@ -1,10 +1,12 @@
 pub mod CharRuns
 pub mod DirectionLemmas
 pub mod Distinct
+pub mod FilledUnits
 pub mod FoundRuns
 pub mod Gathered
 pub mod Lanes
 pub mod Least
+pub mod LevelPasses
 pub mod LineInText
 pub mod LineLevels
 pub mod LineText
@@ -12,7 +14,6 @@ pub mod Ordered
 pub mod ParagraphUnits
 pub mod Passes
 pub mod Pieces
-pub mod Resolving
 pub mod Reversed
 pub mod RunText
 pub mod RunsLemmas
@@ -23,5 +24,4 @@ pub mod TextOfLine
 pub mod TextRead
 pub mod Turning
 pub mod VisualRuns
-pub mod Written
 pub mod WrittenRuns

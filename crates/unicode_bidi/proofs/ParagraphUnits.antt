@@ -7,6 +7,7 @@ use Rattle.std.proofs.lemmas.List.{take_more, take_all, drop_more, drop_all, dro
 use Rattle.std.proofs.lemmas.List.Concat.{flat_map-append}
 use Rattle.std.proofs.lemmas.List.Elements.{All-nil, All-cons, All-head, All-tail, All-same, All-map}
 use Rattle.std.proofs.lemmas.List.Sums.{sum_by-append}
+use Rattle.std.proofs.lemmas.Simd.{map-map}
 use Rattle.bidi_base.specs.declared.char_data.BidiClass.{BidiClass}
 use Rattle.bidi_base.specs.Isolates.{paragraph_level, stored_classes}
 use Rattle.bidi_base.specs.Laws.{HasOwnUnits, AreLevelsFrom}
@@ -24,7 +25,7 @@ use Rattle.bidi_base.proofs.PerUnit.{length-per_unit}
 use Rattle.bidi_base.proofs.ResolvedLemmas.{length-levels_in}
 use Rattle.bidi_base.proofs.TextLemmas.{HasUnits, is_boundary-le, subrange-middle}
 use Rattle.unicode_bidi.specs.declared.paragraph_info.ParagraphInfo.{ParagraphInfo}
-use Rattle.unicode_bidi.specs.Analysis.{unit_levels, CanWrite, Follow, chars_of}
+use Rattle.unicode_bidi.specs.Analysis.{unit_levels, own_flags, CanWrite, Follow, chars_of}
 use Rattle.unicode_bidi.specs.ParagraphFlags.{flags_of, paragraph_flags}
 use Rattle.unicode_bidi.specs.ParagraphInfo.{range_of, level_of, ranges_of, levels_of}
 
@@ -172,6 +173,17 @@ module _ (source : Source) (base : Option ℕ) (len_of : ℕ → ℕ) where
       ∙ ap (λ (xs : List ℕ). per_unit len_of piece (stored_levels source base piece) ++ xs)
       (ap (λ (cs : List ℕ). flat_map (unit_levels source len_of cs) ps) (sym (append_assoc front piece (joined pieces))) ∙ AreOf-levels units (front ++ piece) ps pieces here)
 
+  -- the characters of each paragraph
+  AreOf-chars : HasUnits len_of → (front : List ℕ) (ps : List ParagraphInfo) (pieces : List (List ℕ)) → AreOf (text_len len_of front) ps pieces → map (chars_of len_of (front ++ joined pieces)) ps ≡ pieces
+  AreOf-chars units front [] [] h = refl
+  AreOf-chars units front [] (piece ∷ pieces) h = absurd h
+  AreOf-chars units front (p ∷ ps) [] h = absurd h
+  AreOf-chars units front (p ∷ ps) (piece ∷ pieces) h =
+      let chars : List ℕ = front ++ (piece ++ joined pieces) in
+      let here : AreOf (text_len len_of (front ++ piece)) ps pieces = subst (λ (n : ℕ). AreOf n ps pieces) (sym (sum_by-append len_of front piece)) h.3 in
+      ap (λ (cs : List ℕ). cs ∷ map (chars_of len_of chars) ps) (ap₂ (subrange len_of chars) h.0 h.1 ∙ subrange-middle len_of units front piece (joined pieces))
+      ∙ ap (λ (xs : List (List ℕ)). piece ∷ xs) (ap (λ (cs : List ℕ). map (chars_of len_of cs) ps) (sym (append_assoc front piece (joined pieces))) ∙ AreOf-chars units (front ++ piece) ps pieces here)
+
   -- the level of each paragraph is that of its characters
   AreOf-level : HasUnits len_of → (front : List ℕ) (ps : List ParagraphInfo) (pieces : List (List ℕ)) → AreOf (text_len len_of front) ps pieces
       → All (λ p. p.level ≡ paragraph_level base (map source.class_of (chars_of len_of (front ++ joined pieces) p))) ps
@@ -201,6 +213,13 @@ module _ (source : Source) (base : Option ℕ) (len_of : ℕ → ℕ) (units : H
       ∙ AreOf-levels source base len_of units [] ps pieces (AreOf-from source base len_of 0 ps pieces ranges levels)
       ∙ sym (per_unit-pieces (stored_levels source base) (length-stored_levels source base) len_of pieces)
       ∙ ap (λ (cs : List ℕ). per_unit len_of cs (text_levels source base pieces)) whole
+
+  pub paragraphs-flags : paragraph_flags source pieces ≡ map (own_flags source len_of chars) ps
+  unfolding paragraph_flags
+  paragraphs-flags =
+      ap (map (λ piece. flags_of (map source.class_of piece)))
+      (sym (AreOf-chars source base len_of units [] ps pieces (AreOf-from source base len_of 0 ps pieces ranges levels)) ∙ ap (λ (cs : List ℕ). map (chars_of len_of cs) ps) whole)
+      ∙ map-map (λ piece. flags_of (map source.class_of piece)) (chars_of len_of chars) ps
 
   pub paragraphs-CanWrite : (classes : List BidiClass) → classes ≡ per_unit len_of chars (text_classes source pieces) → IfSome base (λ level. level ≤ 125) → All (CanWrite source len_of chars classes) ps
   unfolding paragraph_levels text_classes

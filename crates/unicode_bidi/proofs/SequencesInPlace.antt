@@ -6,7 +6,7 @@ use Rattle.std.proofs.lemmas.Bool.{cases_Bool, cases_eq, cond-true, cond-false, 
 use Rattle.std.proofs.lemmas.Grind.{flat_map-append}
 use Rattle.std.proofs.lemmas.List.Sums.{sum_by-append, count_by-le-length}
 use Rattle.bidi_base.specs.declared.char_data.BidiClass.{BidiClass}
-use Rattle.bidi_base.specs.declared.char_data.BidiClass.TheVariants.{L, R, EN, AN, BN}
+use Rattle.bidi_base.specs.declared.char_data.BidiClass.TheVariants.{L, BN}
 use Rattle.bidi_base.specs.declared.data_source.BidiMatchedOpeningBracket.{BidiMatchedOpeningBracket}
 use Rattle.bidi_base.specs.Classes.{has_direction, is_kept, is_l_or_r, is_read, is_removed, is_weak_resolved}
 use Rattle.bidi_base.specs.Places.{class_at, at_places, first_or}

@@ -5,6 +5,8 @@ use Rattle.bidi_base.specs.Isolates.{stored_classes}
 use Rattle.bidi_base.specs.Source.{Source}
 use Rattle.bidi_base.specs.Stored.{levels_in}
 use Rattle.bidi_base.specs.Text.{subrange, per_unit, IsLine}
+use Rattle.unicode_bidi.specs.ParagraphFlags.{flags_of}
+use Rattle.unicode_bidi.specs.declared.initial.ParagraphFlags.{ParagraphFlags}
 use Rattle.unicode_bidi.specs.declared.paragraph_info.ParagraphInfo.{ParagraphInfo}
 
 -- the characters of a paragraph
@@ -16,6 +18,10 @@ unfoldable pub unit_levels : Source → (ℕ → ℕ) → List ℕ → Paragraph
 unit_levels source len_of chars p =
     let piece = chars_of len_of chars p in
     per_unit len_of piece (levels_in p.level (map source.class_of piece) (map source.bracket_of piece))
+
+-- its flags
+abbrev pub own_flags : Source → (ℕ → ℕ) → List ℕ → ParagraphInfo → ParagraphFlags
+own_flags source len_of chars p = flags_of (map source.class_of (chars_of len_of chars p))
 
 -- a paragraph of whole characters, with a level that the rules take, and with its stored classes in its part of the text's
 pub record CanWrite (source : Source) (len_of : ℕ → ℕ) (chars : List ℕ) (units : List BidiClass) (p : ParagraphInfo) : Type 0 where

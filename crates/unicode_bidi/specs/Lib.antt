@@ -4,4 +4,3 @@ pub mod InitialInfo
 pub mod ParagraphBidiInfo
 pub mod ParagraphFlags
 pub mod ParagraphInfo
-pub mod ParagraphLevels

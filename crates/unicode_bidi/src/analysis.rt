@@ -1,15 +1,15 @@
 // The classes, the paragraphs and the levels of a whole text, whatever its encoding.
-ghost use Rattle.std.specs.Prelude.{◌≡◌, ◌≤◌, ◌++◌, length, take, drop, flat_map, All, OnOk, IfOk, IfSome};
+ghost use Rattle.std.specs.Prelude.{◌≡◌, ◌≤◌, ◌++◌, length, map, take, drop, flat_map, All, OnOk, IfOk, IfSome};
 ghost use Rattle.bidi_base.specs.Paragraphs.{pieces_of, ranges_from};
 ghost use Rattle.bidi_base.specs.Stored.{text_classes, text_levels, paragraph_levels};
 ghost use Rattle.bidi_base.specs.Text.{text_len, per_unit};
-ghost use Rattle.unicode_bidi.specs.Analysis.{unit_levels, CanWrite, Follow};
+ghost use Rattle.unicode_bidi.specs.Analysis.{unit_levels, own_flags, CanWrite, Follow};
 ghost use Rattle.unicode_bidi.specs.ParagraphFlags.{paragraph_flags};
 ghost use Rattle.unicode_bidi.specs.ParagraphInfo.{ranges_of, levels_of};
 
 use crate::initial::{self, ParagraphFlags};
+use crate::level_resolver::LevelResolver;
 use crate::paragraph_info::ParagraphInfo;
-use crate::paragraph_levels::write_levels;
 use bidi_base::char_data::BidiClass;
 use bidi_base::data_source::BidiDataSource;
 use bidi_base::level::{LTR_LEVEL, Level};
@@ -31,14 +31,17 @@ pub(crate) struct Analysis {
 
 // Writes the stored levels of one paragraph. `classes` and `levels` are of the whole text.
 fn write_paragraph<D: BidiDataSource, T: TextSource>(
+    resolver: &mut LevelResolver,
     alloc: Global,
     data_source: &D,
     text: T,
     paragraph: &ParagraphInfo,
+    flags: ParagraphFlags,
     classes: &[BidiClass],
     levels: &mut [Level],
 ) -> Result<(), AllocError>
     requires paragraph { CanWrite (D.source data_source.now) T.units (T.characters text) classes.now paragraph.now }
+    requires flags { flags ≡ own_flags (D.source data_source.now) T.units (T.characters text) paragraph.now }
     requires classes { length classes.now ≡ text_len T.units (T.characters text) }
     requires levels { length levels.old ≡ text_len T.units (T.characters text) }
     ensures { OnOk result (levels.new ≡ take paragraph.now.range.start levels.old
@@ -46,11 +49,12 @@ fn write_paragraph<D: BidiDataSource, T: TextSource>(
 {
     let units = paragraph.range();
     let (start, end) = (units.start, units.end);
-    write_levels(
+    resolver.write_levels(
         alloc,
         data_source,
         text.subrange(units),
         paragraph.level(),
+        flags,
         &classes[start..end],
         &mut levels[start..end],
     )
@@ -62,17 +66,29 @@ fn write_paragraphs<D: BidiDataSource, T: TextSource>(
     data_source: &D,
     text: T,
     paragraphs: &[ParagraphInfo],
+    flags: &[ParagraphFlags],
     classes: &[BidiClass],
     levels: &mut [Level],
 ) -> Result<(), AllocError>
     requires paragraphs { All (CanWrite (D.source data_source.now) T.units (T.characters text) classes.now) paragraphs.now }
+    requires flags { flags.now ≡ map (own_flags (D.source data_source.now) T.units (T.characters text)) paragraphs.now }
     requires follow { Follow 0 (text_len T.units (T.characters text)) paragraphs.now }
     requires classes { length classes.now ≡ text_len T.units (T.characters text) }
     requires levels { length levels.old ≡ text_len T.units (T.characters text) }
     ensures { OnOk result (levels.new ≡ flat_map (unit_levels (D.source data_source.now) T.units (T.characters text)) paragraphs.now) }
 {
-    for paragraph in paragraphs {
-        write_paragraph(alloc, data_source, text, paragraph, classes, levels)?;
+    let mut resolver = LevelResolver::new(alloc);
+    for (index, paragraph) in paragraphs.iter().enumerate() {
+        write_paragraph(
+            &mut resolver,
+            alloc,
+            data_source,
+            text,
+            paragraph,
+            flags[index],
+            classes,
+            levels,
+        )?;
     }
     Ok(())
 }
@@ -105,6 +121,7 @@ pub(crate) fn analyse<D: BidiDataSource, T: TextSource>(
         data_source,
         text,
         found.paragraphs.as_slice(),
+        found.flags.as_slice(),
         found.original_classes.as_slice(),
         levels.as_mut_slice(),
     )?;

@@ -9,11 +9,11 @@ mod info;
 mod initial;
 mod initial_info;
 mod level_direction;
+mod level_resolver;
 mod line_text;
 mod lines;
 mod paragraph_bidi_info;
 mod paragraph_info;
-mod paragraph_levels;
 mod visual;
 mod visual_runs;
 

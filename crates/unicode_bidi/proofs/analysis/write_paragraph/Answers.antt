@@ -1,8 +1,9 @@
-use Rattle.std.proofs.Common.{◌≡◌, ◌∙◌, List, ℕ, map, slice_range, ap, sym, arith}
+use Rattle.std.proofs.Common.{◌∙◌, List, ℕ, map, slice_range, ap, sym, arith}
 use Rattle.std.specs.declared.ops.Range.{Range}
 use Rattle.std.proofs.lemmas.Result.{on_ok_weaker}
 use Rattle.bidi_base.specs.Isolates.{stored_classes}
 use Rattle.bidi_base.specs.Text.{per_unit, subrange, text_len}
+use Rattle.unicode_bidi.specs.ParagraphFlags.{flags_of}
 use Rattle.unicode_bidi.proofs.ParagraphUnits.{paragraph-IsPart, paragraph-written, length-part}
 use Rattle.unicode_bidi.proofs.analysis.write_paragraph.Goals as goal
 
@@ -15,6 +16,13 @@ pub slice_bounds-write_levels-end-2 : goal.slice_bounds-write_levels-end-2
 slice_bounds-write_levels-end-2 g c =
     let part = paragraph-IsPart g.T.TextSource.units g.met.T.TextSource.has_units (g.T.TextSource.characters c.args.text) c.args.paragraph.now c.range-units.result c.range-units.ensures c.requires.paragraph.line in
     omega (arith, part.within, c.requires.levels)
+
+pub write_levels-requires-clause-flags : goal.write_levels-requires-clause-flags
+write_levels-requires-clause-flags g c =
+    let len = g.T.TextSource.units in
+    let cs : List ℕ = g.T.TextSource.characters c.args.text in
+    let class_of = (g.D.BidiDataSource.source c.args.data_source.now).class_of in
+    c.requires.flags ∙ ap (λ (piece : List ℕ). flags_of (map class_of piece)) (sym (c.subrange.ensures ∙ ap (λ (r : Range ℕ). subrange len cs r.start r.end) c.range-units.ensures))
 
 pub write_levels-requires-clause-classes : goal.write_levels-requires-clause-classes
 write_levels-requires-clause-classes g c =

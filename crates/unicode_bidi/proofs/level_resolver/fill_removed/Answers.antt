@@ -1,9 +1,9 @@
-use Rattle.std.proofs.Common.{◌≡◌, ◌∙◌, ◌+◌, not, false, true, get_or, set, sym, ap, subst, arith}
+use Rattle.std.proofs.Common.{◌≡◌, ◌∙◌, ◌+◌, not, false, true, get_or, sym, ap, subst, arith}
 use Rattle.std.proofs.lemmas.List.{get_or_read}
 use Rattle.bidi_base.specs.Sequences.{is_kept_at}
-use Rattle.unicode_bidi.proofs.Written.{AreFilled, AreFilled-start, AreFilled-kept, AreFilled-removed}
-use Rattle.unicode_bidi.proofs.paragraph_levels.fill_removed.Goals as goal
-use Rattle.unicode_bidi.proofs.paragraph_levels.fill_removed.Goals.{then-is_removed, else-is_removed}
+use Rattle.unicode_bidi.proofs.FilledUnits.{AreFilled, AreFilled-start, AreFilled-kept, AreFilled-removed}
+use Rattle.unicode_bidi.proofs.level_resolver.fill_removed.Goals as goal
+use Rattle.unicode_bidi.proofs.level_resolver.fill_removed.Goals.{then-is_removed, else-is_removed}
 
 pub loop-i-init : goal.loop-i-init
 loop-i-init c = AreFilled-start c.args.para_level c.args.classes.now c.args.levels.now

@@ -1,0 +1,242 @@
+-- The levels of a paragraph's units: of what X9 removed, and of a paragraph that is left to right throughout.
+use Rattle.std.proofs.Common.{◌≡◌, ℕ, zero, suc, ◌+◌, ◌-◌, ◌<◌, ◌≤◌, ◌≢◌, Bool, true, false, List, [], ◌∷◌, ◌++◌, length, get_or, set, Option, Some, refl, sym, ap, ◌∙◌, arith, inl, inr, get_or-set_same, get_or-set_other}
+use Rattle.std.specs.Prelude.{replicate}
+use Rattle.std.specs.List.{list_any}
+use Rattle.std.proofs.lemmas.Bool.{cases_Bool, cases_eq, cases_lt, both_ways, or_cases, or_left, or_right}
+use Rattle.std.proofs.lemmas.List.{ext_get_or, replicate-append-replicate, get_or_default}
+use Rattle.std.proofs.lemmas.List.Folds.{Any-from_list_any, list_any_at, list_any-append}
+use Rattle.std.proofs.lemmas.List.Sums.{sum_by-cons}
+use Rattle.std.proofs.lemmas.List.Sorted.{IsPermutation-refl}
+use Rattle.bidi_base.specs.declared.char_data.BidiClass.{BidiClass}
+use Rattle.bidi_base.specs.declared.char_data.BidiClass.TheVariants.{L, R, AL, FSI}
+use Rattle.bidi_base.specs.declared.data_source.BidiMatchedOpeningBracket.{BidiMatchedOpeningBracket}
+use Rattle.bidi_base.specs.Classes.{is_initiator, is_kept}
+use Rattle.bidi_base.specs.Direction.{is_pure_ltr}
+use Rattle.bidi_base.specs.Places.{class_at}
+use Rattle.bidi_base.specs.Isolates.{resolved_fsi, deciding_class, isolated_classes, stored_class, stored_classes}
+use Rattle.bidi_base.specs.Explicit.{explicit_levels, explicit_classes}
+use Rattle.bidi_base.specs.Sequences.{is_kept_at, level_at, sequences}
+use Rattle.bidi_base.specs.Stored.{AreResolved, levels_in}
+use Rattle.bidi_base.specs.Text.{text_len, place, is_per_char, per_unit, per_char}
+use Rattle.bidi_base.proofs.LevelsInLemmas.{levels_in-written}
+use Rattle.bidi_base.proofs.PerCharTests.{level_eq, level_test}
+use Rattle.bidi_base.proofs.PerUnit.{length-per_char, length-per_unit, get_or-per_char, get_or-per_unit}
+use Rattle.bidi_base.proofs.PlaceLemmas.{place-zero, place-more, place-more-le, UnitOf, unit_of}
+use Rattle.bidi_base.proofs.PureLtrLemmas.{levels_in-pure_ltr}
+use Rattle.bidi_base.proofs.StoredLemmas.{class_at-stored_classes}
+use Rattle.bidi_base.proofs.StoredSteps.{length-stored_classes}
+use Rattle.bidi_base.proofs.TextLemmas.{HasUnits}
+use Rattle.bidi_base.proofs.UnitsLemmas.{per_unit-from_is_per_char}
+
+-- ---- what X9 removed
+
+-- of the first i units those of removed characters have their levels, and `before` is the level before the i-th
+pub record AreFilled (paragraph : ℕ) (classes : List BidiClass) (old : List ℕ) (i before : ℕ) (new : List ℕ) : Type 0 where
+  pub kept : (p : ℕ) → p < i → is_kept_at classes p ≡ true → get_or new p 0 ≡ get_or old p 0
+  pub rest : (p : ℕ) → i ≤ p → get_or new p 0 ≡ get_or old p 0
+  pub front : 0 < i → is_kept_at classes 0 ≡ false → get_or new 0 0 ≡ paragraph
+  pub removed : (p : ℕ) → p + 1 < i → is_kept_at classes (p + 1) ≡ false → get_or new (p + 1) 0 ≡ get_or new p 0
+  pub first : i ≡ 0 → before ≡ paragraph
+  pub last : (p : ℕ) → p + 1 ≡ i → before ≡ get_or new p 0
+
+pub AreFilled-start : (paragraph : ℕ) (classes : List BidiClass) (old : List ℕ) → AreFilled paragraph classes old 0 paragraph old
+AreFilled-start paragraph classes old =
+    record { kept = λ p h k. refl; rest = λ p h. refl; front = λ h k. absurd (omega arith); removed = λ p h k. absurd (omega arith); first = λ h. refl; last = λ p h. absurd (omega arith) }
+
+module _ (paragraph : ℕ) (classes : List BidiClass) (old : List ℕ) (i before : ℕ) (new : List ℕ) (within : i < length new) (h : AreFilled paragraph classes old i before new) where
+  pub AreFilled-kept : is_kept_at classes i ≡ true → AreFilled paragraph classes old (i + 1) (get_or new i 0) new
+  AreFilled-kept stays =
+      record {
+        kept = λ p below k. elim (cases_lt p i) [ inl earlier ↦ h.kept p earlier k | inr here ↦ h.rest p here ];
+        rest = λ p past. h.rest p (omega arith);
+        front = λ some gone. elim (cases_eq i 0) [
+          | inl none ↦ absurd (both_ways (is_kept_at classes 0) gone (ap (is_kept_at classes) (sym none) ∙ stays))
+          | inr later ↦ h.front (omega arith) gone
+        ];
+        removed = λ p below gone. elim (cases_lt (p + 1) i) [
+          | inl earlier ↦ h.removed p earlier gone
+          | inr here ↦
+              let same : p + 1 ≡ i = omega arith in
+              absurd (both_ways (is_kept_at classes (p + 1)) gone (ap (is_kept_at classes) same ∙ stays))
+        ];
+        first = λ none. absurd (omega arith);
+        last = λ p same. ap (λ (n : ℕ). get_or new n 0) (let here : i ≡ p = omega arith in here);
+      }
+
+  other : (p : ℕ) → p ≢ i → get_or (set new i before) p 0 ≡ get_or new p 0
+  other p apart = get_or-set_other new i p before 0 apart
+
+  here : (p : ℕ) → p ≡ i → get_or (set new i before) p 0 ≡ before
+  here p same = ap (λ (n : ℕ). get_or (set new i before) n 0) same ∙ get_or-set_same new i before 0 within
+
+  pub AreFilled-removed : is_kept_at classes i ≡ false → AreFilled paragraph classes old (i + 1) before (set new i before)
+  AreFilled-removed gone =
+      record {
+        kept = λ p below k. elim (cases_lt p i) [
+          | inl earlier ↦ other p (λ e. omega arith) ∙ h.kept p earlier k
+          | inr past ↦
+              let same : p ≡ i = omega arith in
+              absurd (both_ways (is_kept_at classes i) gone (ap (is_kept_at classes) (sym same) ∙ k))
+        ];
+        rest = λ p past. other p (λ e. omega arith) ∙ h.rest p (omega arith);
+        front = λ some k. elim (cases_eq i 0) [
+          | inl none ↦ here 0 (sym none) ∙ h.first none
+          | inr later ↦ other 0 (λ e. later (sym e)) ∙ h.front (omega arith) k
+        ];
+        removed = λ p below k. elim (cases_lt (p + 1) i) [
+          | inl earlier ↦ other (p + 1) (λ e. omega arith) ∙ h.removed p earlier k ∙ sym (other p (λ e. omega arith))
+          | inr past ↦
+              let same : p + 1 ≡ i = omega arith in
+              here (p + 1) same ∙ h.last p same ∙ sym (other p (λ e. omega arith))
+        ];
+        first = λ none. absurd (omega arith);
+        last = λ p same. sym (here p (omega arith));
+      }
+
+module _ (len_of : ℕ → ℕ) (h : HasUnits len_of) (chars : List ℕ) (stored : List BidiClass) (paragraph : ℕ) (classes : List BidiClass) (old new : List ℕ)
+    (stored_long : length stored ≡ length chars) (is : classes ≡ per_unit len_of chars stored) (old_even : is_per_char level_eq len_of chars old ≡ true) (long : length new ≡ length classes)
+    (kept : (u : ℕ) → u < length classes → is_kept_at classes u ≡ true → get_or new u 0 ≡ get_or old u 0)
+    (front : 0 < length classes → is_kept_at classes 0 ≡ false → get_or new 0 0 ≡ paragraph)
+    (removed : (u : ℕ) → u + 1 < length classes → is_kept_at classes (u + 1) ≡ false → get_or new (u + 1) 0 ≡ get_or new u 0) where
+  abbrev values : List ℕ
+  values = per_char 0 len_of chars old
+
+  -- the levels of the characters
+  abbrev pub filled : List ℕ
+  filled = per_char 0 len_of chars new
+
+  old_is : old ≡ per_unit len_of chars values
+  old_is = per_unit-from_is_per_char level_eq level_test 0 len_of h chars old old_even
+
+  classes_long : length classes ≡ text_len len_of chars
+  classes_long = ap length is ∙ length-per_unit len_of chars stored stored_long
+
+  unit_within : (k j : ℕ) → k < length chars → j < len_of (get_or chars k 0) → place len_of chars k + j < length classes
+  unit_within k j fits below = omega (arith, place-more-le len_of chars k 0 fits, classes_long)
+
+  unit_class : (k j : ℕ) → k < length chars → j < len_of (get_or chars k 0) → is_kept_at classes (place len_of chars k + j) ≡ is_kept_at stored k
+  unit_class k j fits below = ap is_kept (ap (λ (us : List BidiClass). class_at us (place len_of chars k + j)) is ∙ get_or-per_unit len_of chars stored k j 0 L stored_long fits below)
+
+  kept_unit : (k j : ℕ) → k < length chars → j < len_of (get_or chars k 0) → is_kept_at stored k ≡ true → get_or new (place len_of chars k + j) 0 ≡ get_or values k 0
+  kept_unit k j fits below stays =
+      kept (place len_of chars k + j) (unit_within k j fits below) (unit_class k j fits below ∙ stays)
+      ∙ ap (λ (us : List ℕ). get_or us (place len_of chars k + j) 0) old_is
+      ∙ get_or-per_unit len_of chars values k j 0 0 (length-per_char 0 len_of chars old) fits below
+
+  first_unit : (k : ℕ) → get_or new (place len_of chars k + 0) 0 ≡ get_or new (place len_of chars k) 0
+  first_unit k = let none : place len_of chars k + 0 ≡ place len_of chars k = omega arith in ap (λ u. get_or new u 0) none
+
+  removed_unit : (k j : ℕ) → k < length chars → j < len_of (get_or chars k 0) → is_kept_at stored k ≡ false → get_or new (place len_of chars k + j) 0 ≡ get_or new (place len_of chars k) 0
+  removed_unit k zero fits below gone = first_unit k
+  removed_unit k (suc j) fits below gone =
+      let next : place len_of chars k + suc j ≡ place len_of chars k + j + 1 = omega arith in
+      let within = unit_within k (suc j) fits below in
+      ap (λ u. get_or new u 0) next
+      ∙ removed (place len_of chars k + j) (omega arith) (ap (is_kept_at classes) (sym next) ∙ unit_class k (suc j) fits below ∙ gone)
+      ∙ removed_unit k j fits (omega arith) gone
+
+  -- the units of a character have one level
+  one_level : (k j : ℕ) → k < length chars → j < len_of (get_or chars k 0) → get_or new (place len_of chars k + j) 0 ≡ get_or new (place len_of chars k) 0
+  one_level k j fits below = elim (cases_Bool (is_kept_at stored k)) [
+    | inl stays ↦ kept_unit k j fits below stays ∙ sym (kept_unit k 0 fits (h (get_or chars k 0)) stays) ∙ first_unit k
+    | inr gone ↦ removed_unit k j fits below gone
+  ]
+
+  level_of_char : (k : ℕ) → k < length chars → level_at filled k ≡ get_or new (place len_of chars k) 0
+  level_of_char k fits = get_or-per_char 0 len_of chars new k 0 fits
+
+  pub filled-units : new ≡ per_unit len_of chars filled
+  filled-units =
+      ext_get_or 0 new (per_unit len_of chars filled) (omega (arith, long, classes_long, length-per_unit len_of chars filled (length-per_char 0 len_of chars new)))
+      (λ u within. by_unit u (unit_of len_of chars u (omega (arith, within, long, classes_long))))
+    where
+      by_unit : (u : ℕ) → UnitOf len_of chars u → get_or new u 0 ≡ get_or (per_unit len_of chars filled) u 0
+      by_unit u w =
+          ap (λ n. get_or new n 0) w.at_place
+          ∙ one_level w.index w.offset w.within w.below
+          ∙ sym (level_of_char w.index w.within)
+          ∙ sym (get_or-per_unit len_of chars filled w.index w.offset 0 0 (length-per_char 0 len_of chars new) w.within w.below)
+          ∙ ap (λ n. get_or (per_unit len_of chars filled) n 0) (sym w.at_place)
+
+  filled-kept : (p : ℕ) → p < length stored → is_kept_at stored p ≡ true → level_at filled p ≡ level_at values p
+  filled-kept p within stays =
+      let fits : p < length chars = omega (arith, within, stored_long) in
+      level_of_char p fits ∙ sym (first_unit p) ∙ kept_unit p 0 fits (h (get_or chars p 0)) stays
+
+  filled-front : 0 < length stored → is_kept_at stored 0 ≡ false → level_at filled 0 ≡ paragraph
+  filled-front some gone =
+      let fits : 0 < length chars = omega (arith, some, stored_long) in
+      let at : place len_of chars 0 + 0 ≡ 0 = omega (arith, place-zero len_of chars) in
+      level_of_char 0 fits ∙ ap (λ u. get_or new u 0) (place-zero len_of chars)
+      ∙ front (omega (arith, unit_within 0 0 fits (h (get_or chars 0 0)))) (ap (is_kept_at classes) (sym at) ∙ unit_class 0 0 fits (h (get_or chars 0 0)) ∙ gone)
+
+  filled-removed : (p : ℕ) → p + 1 < length stored → is_kept_at stored (p + 1) ≡ false → level_at filled (p + 1) ≡ level_at filled p
+  filled-removed p within gone =
+      let fits : p < length chars = omega (arith, within, stored_long) in
+      let next : p + 1 < length chars = omega (arith, within, stored_long) in
+      let some = h (get_or chars p 0) in
+      let j = len_of (get_or chars p 0) - 1 in
+      let below : j < len_of (get_or chars p 0) = omega arith in
+      let before : place len_of chars (p + 1) ≡ place len_of chars p + j + 1 = omega (arith, place-more len_of chars p 0 fits) in
+      let at : place len_of chars (p + 1) + 0 ≡ place len_of chars p + j + 1 = omega (arith, before) in
+      level_of_char (p + 1) next
+      ∙ ap (λ u. get_or new u 0) before
+      ∙ removed (place len_of chars p + j) (omega (arith, unit_within (p + 1) 0 next (h (get_or chars (p + 1) 0)), at)) (ap (is_kept_at classes) (sym at) ∙ unit_class (p + 1) 0 next (h (get_or chars (p + 1) 0)) ∙ gone)
+      ∙ one_level p j fits below
+      ∙ sym (level_of_char p fits)
+
+  -- so the levels are those of the rules, if those of the kept characters are
+  pub filled-levels_in : (source : List BidiClass) (brackets : List (Option BidiMatchedOpeningBracket)) → stored ≡ stored_classes source
+      → AreResolved source brackets (explicit_levels paragraph stored) (explicit_classes paragraph stored) values (sequences paragraph stored (explicit_levels paragraph stored)) → new ≡ per_unit len_of chars (levels_in paragraph source brackets)
+  filled-levels_in source brackets stored_is resolved =
+      filled-units
+      ∙ ap (per_unit len_of chars) (levels_in-written paragraph source brackets stored (explicit_levels paragraph stored) (explicit_classes paragraph stored) (sequences paragraph stored (explicit_levels paragraph stored)) values filled stored_is refl refl
+      (IsPermutation-refl _) resolved (omega (arith, length-per_char 0 len_of chars new, stored_long)) filled-kept filled-front filled-removed)
+
+-- ---- a paragraph that is left to right throughout
+
+per_unit-replicate : {X : Type 0} (len_of : ℕ → ℕ) (chars : List ℕ) (x : X) → per_unit len_of chars (replicate (length chars) x) ≡ replicate (text_len len_of chars) x
+per_unit-replicate len_of [] x = refl
+per_unit-replicate len_of (c ∷ chars) x =
+    ap (λ us. replicate (len_of c) x ++ us) (per_unit-replicate len_of chars x) ∙ replicate-append-replicate (len_of c) (text_len len_of chars) x ∙ ap (λ n. replicate n x) (sym (sum_by-cons len_of c chars))
+
+pub pure_levels : (len_of : ℕ → ℕ) (chars : List ℕ) (source : List BidiClass) (brackets : List (Option BidiMatchedOpeningBracket)) (paragraph : ℕ) (old new : List ℕ) → length source ≡ length chars → length old ≡ text_len len_of chars
+    → paragraph ≡ 0 → is_pure_ltr source ≡ true → new ≡ replicate (length old) 0 → new ≡ per_unit len_of chars (levels_in paragraph source brackets)
+pure_levels len_of chars source brackets paragraph old new fits long zero_level pure is =
+    is ∙ ap (λ n. replicate n 0) long ∙ sym (per_unit-replicate len_of chars 0)
+    ∙ ap (λ n. per_unit len_of chars (replicate n 0)) (sym fits)
+    ∙ ap (per_unit len_of chars) (sym (levels_in-pure_ltr source brackets pure))
+    ∙ ap (λ n. per_unit len_of chars (levels_in n source brackets)) (sym zero_level)
+
+-- ---- an initiator among the stored classes is one among the source classes
+
+resolved_fsi-initiator : (o : Option BidiClass) → is_initiator (resolved_fsi o) ≡ true
+resolved_fsi-initiator (Some R) = refl
+resolved_fsi-initiator (Some AL) = refl
+resolved_fsi-initiator (Some L) = refl
+resolved_fsi-initiator _ = refl
+
+stored_class-initiator : (classes : List BidiClass) (q : ℕ) (c : BidiClass) → is_initiator (stored_class classes q c) ≡ is_initiator c
+stored_class-initiator classes q FSI = resolved_fsi-initiator (deciding_class (isolated_classes classes q))
+stored_class-initiator classes q _ = refl
+
+list_any-replicate : {X : Type 0} (test : X → Bool) (n : ℕ) (x : X) → list_any test (replicate n x) ≡ true → test x ≡ true
+list_any-replicate test zero x e = absurd (both_ways false refl e)
+list_any-replicate test (suc n) x e = elim (or_cases (test x) (list_any test (replicate n x)) e) [ inl here ↦ here | inr later ↦ list_any-replicate test n x later ]
+
+list_any-per_unit : {X : Type 0} (test : X → Bool) (len_of : ℕ → ℕ) (chars : List ℕ) (vs : List X) → list_any test (per_unit len_of chars vs) ≡ true → list_any test vs ≡ true
+list_any-per_unit test len_of [] vs e = absurd (both_ways false refl e)
+list_any-per_unit test len_of (c ∷ chars) [] e = absurd (both_ways false refl e)
+list_any-per_unit test len_of (c ∷ chars) (v ∷ vs) e =
+    elim (or_cases (list_any test (replicate (len_of c) v)) (list_any test (per_unit len_of chars vs)) (sym (list_any-append test (replicate (len_of c) v) (per_unit len_of chars vs)) ∙ e)) [
+      | inl here ↦ or_left (test v) (list_any test vs) (list_any-replicate test (len_of c) v here)
+      | inr later ↦ or_right (test v) (list_any test vs) (list_any-per_unit test len_of chars vs later)
+    ]
+
+pub initiators-stored : (len_of : ℕ → ℕ) (chars : List ℕ) (source units : List BidiClass) → units ≡ per_unit len_of chars (stored_classes source) → list_any is_initiator units ≡ true → list_any is_initiator source ≡ true
+initiators-stored len_of chars source units is e =
+    let found = Any-from_list_any is_initiator (stored_classes source) (list_any-per_unit is_initiator len_of chars (stored_classes source) (ap (list_any is_initiator) (sym is) ∙ e)) in
+    let k = found.0 in
+    let within : k < length source = omega (arith, found.2, length-stored_classes source) in
+    list_any_at is_initiator source k L within
+    (sym (stored_class-initiator source k (class_at source k)) ∙ ap is_initiator (sym (class_at-stored_classes source k within) ∙ get_or_default (stored_classes source) k L found.1 found.2 ∙ found.3) ∙ found.4)
