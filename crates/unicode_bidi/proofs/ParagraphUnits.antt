@@ -200,7 +200,7 @@ module _ (source : Source) (base : Option ℕ) (len_of : ℕ → ℕ) where
 
 -- what the walk over the paragraphs of a text is given, and what it leaves
 module _ (source : Source) (base : Option ℕ) (len_of : ℕ → ℕ) (units : HasUnits len_of) (chars : List ℕ) (pieces : List (List ℕ)) (whole : joined pieces ≡ chars) (ps : List ParagraphInfo) (ranges : ranges_of ps ≡ ranges_from len_of 0 pieces)
-  (levels : levels_of ps ≡ paragraph_levels source base pieces) where
+    (levels : levels_of ps ≡ paragraph_levels source base pieces) where
   pub paragraphs-Follow : Follow 0 (text_len len_of chars) ps
   paragraphs-Follow =
       subst (λ (n : ℕ). Follow 0 n ps) (let none : 0 + text_len len_of (joined pieces) ≡ text_len len_of (joined pieces) = omega arith in none ∙ ap (text_len len_of) whole)
