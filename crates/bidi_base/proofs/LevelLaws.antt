@@ -1,18 +1,19 @@
 -- The levels of a paragraph: how many they are, where they lie, and that one character of class BN is as good as another.
-use Rattle.std.proofs.Common.{◌≡◌, ℕ, ◌≤◌, List, [], ◌∷◌, ◌++◌, length, get_or, map, Option, Some, None, refl, ap, ◌∙◌, append-nil, arith}
+use Rattle.std.proofs.Common.{◌≡◌, ℕ, ◌≤◌, List, [], ◌∷◌, length, map, Option, Some, None, refl, ap, ◌∙◌, append-nil, arith}
 use Rattle.std.specs.Prelude.{All, IfSome, replicate}
 use Rattle.std.proofs.lemmas.List.{length-map}
 use Rattle.std.proofs.lemmas.List.Elements.{All-nil, All-head, All-tail, All-append, All-replicate}
 use Rattle.bidi_base.specs.declared.char_data.BidiClass.{BidiClass}
 use Rattle.bidi_base.specs.declared.char_data.BidiClass.TheVariants.{R, AL}
 use Rattle.bidi_base.specs.Isolates.{deciding_class, level_by, paragraph_level, stored_classes}
-use Rattle.bidi_base.specs.Laws.{AreLevelsFrom, BoundaryNeutralsAreAlike}
+use Rattle.bidi_base.specs.Laws.{AreLevelsFrom, BoundaryNeutralsAreAlike, StaysLeftToRight}
 use Rattle.bidi_base.specs.Source.{Source}
 use Rattle.bidi_base.specs.Stored.{levels_in, stored_levels, text_classes, text_levels, paragraph_levels}
 use Rattle.bidi_base.specs.Text.{per_unit}
 use Rattle.bidi_base.proofs.ParagraphsLemmas.{joined}
 use Rattle.bidi_base.proofs.PieceUnits.{length-values}
-use Rattle.bidi_base.proofs.ResolvedLemmas.{IsStoredIn, length-levels_in, levels_in-IsStoredIn, stored_levels-BN}
+use Rattle.bidi_base.proofs.PureLtrLemmas.{levels_in-pure_ltr}
+use Rattle.bidi_base.proofs.ResolvedLemmas.{length-levels_in, levels_in-IsStoredIn, stored_levels-BN}
 
 -- ---- the paragraph level
 
@@ -48,6 +49,14 @@ length-text_levels source base pieces chars whole = length-values (stored_levels
 
 pub BoundaryNeutralsAreAlike-all : (source : Source) (base : Option ℕ) → BoundaryNeutralsAreAlike source base
 BoundaryNeutralsAreAlike-all source base = stored_levels-BN source base
+
+pub StaysLeftToRight-all : (source : Source) (base : Option ℕ) → StaysLeftToRight source base
+unfolding stored_levels
+StaysLeftToRight-all source base piece pure even =
+    let classes : List BidiClass = map source.class_of piece in
+    ap (λ level. levels_in level classes (map source.bracket_of piece)) even
+    ∙ levels_in-pure_ltr classes (map source.bracket_of piece) pure
+    ∙ ap (λ n. replicate n 0) (length-map piece source.class_of)
 
 -- ---- a text of one paragraph
 

@@ -1,6 +1,8 @@
 -- What follows of the levels of a text.
-use Rattle.std.specs.Prelude.{◌≡◌, ℕ, ◌≤◌, List, ◌∷◌, ◌++◌, Option, All, slice_range}
+use Rattle.std.specs.Prelude.{◌≡◌, ℕ, ◌≤◌, true, List, ◌∷◌, ◌++◌, length, map, replicate, Option, All, slice_range}
 use Rattle.bidi_base.specs.declared.char_data.BidiClass.TheVariants.{BN}
+use Rattle.bidi_base.specs.Direction.{is_pure_ltr}
+use Rattle.bidi_base.specs.Isolates.{paragraph_level}
 use Rattle.bidi_base.specs.Source.{Source}
 use Rattle.bidi_base.specs.Stored.{stored_levels}
 use Rattle.bidi_base.specs.Text.{subrange, per_unit}
@@ -19,3 +21,8 @@ AreLevelsFrom paragraph levels = All (λ level. (paragraph ≤ level) × (level 
 abbrev pub BoundaryNeutralsAreAlike : Source → Option ℕ → Type 0
 BoundaryNeutralsAreAlike source base =
     (front back : List ℕ) (c d : ℕ) → source.class_of c ≡ BN → source.class_of d ≡ BN → stored_levels source base (front ++ c ∷ back) ≡ stored_levels source base (front ++ d ∷ back)
+
+-- a paragraph of level 0 in which no character can turn the direction has level 0 throughout
+abbrev pub StaysLeftToRight : Source → Option ℕ → Type 0
+StaysLeftToRight source base =
+    (piece : List ℕ) → is_pure_ltr (map source.class_of piece) ≡ true → paragraph_level base (map source.class_of piece) ≡ 0 → stored_levels source base piece ≡ replicate (length piece) 0

@@ -1,7 +1,7 @@
 -- The pass that finds bracket pairs, as the code keeps it: a stack of opening characters with their indexes, and for each index its closing.
-use Rattle.std.proofs.Common.{◌≡◌, ℕ, suc, ◌+◌, ◌-◌, ◌<◌, ◌≤◌, Bool, true, false, not, cond, eqb, List, [], ◌∷◌, ◌++◌, map, length, get_or, take, set, reverse, replicate, find, filter_map, Option, Some, None, option_map, refl, sym, ap, subst, ◌∙◌, ◌⊎◌, arith, inl, inr}
+use Rattle.std.proofs.Common.{◌≡◌, ℕ, ◌+◌, ◌<◌, ◌≤◌, Bool, true, false, not, eqb, List, [], ◌∷◌, ◌++◌, map, length, get_or, take, set, replicate, find, filter_map, Option, Some, None, option_map, refl, sym, ap, subst, ◌∙◌, ◌⊎◌, arith, inl, inr}
 use Rattle.std.specs.List.{range_with_len}
-use Rattle.std.proofs.lemmas.List.{length-map, length-reverse, length-replicate, get_or-replicate, map_push, take-map, get_or-map, get_or-reverse, reverse-append, map-append}
+use Rattle.std.proofs.lemmas.List.{length-map, length-replicate, get_or-replicate, map_push, take-map, get_or-map}
 use Rattle.std.proofs.lemmas.List.FromFn.{fill_by_all, length-map-range_with_len}
 use Rattle.bidi_base.specs.declared.char_data.BidiClass.{BidiClass}
 use Rattle.bidi_base.specs.declared.data_source.BidiMatchedOpeningBracket.{BidiMatchedOpeningBracket}

@@ -14,10 +14,10 @@ use Rattle.bidi_base.specs.StatusMachine.{Entry, State, start, closed, step, sta
 use Rattle.bidi_base.proofs.ExplicitLemmas.{length-explicit_levels, length-processing_classes, level_at-explicit_levels, class_at-processing_classes}
 use Rattle.bidi_base.proofs.TextLemmas.{HasUnits, length-le-text_len}
 use Rattle.bidi_base.proofs.PlaceLemmas.{LengthTurn}
-use Rattle.bidi_base.proofs.PerUnit.{IsWrittenTo, IsWrittenTo-start, IsWrittenTo-more, IsWrittenTo-end, get_or-per_unit-place, length-per_char}
-use Rattle.bidi_base.proofs.UnitsLemmas.{length-from_is_per_char, per_unit-from_is_per_char}
+use Rattle.bidi_base.proofs.PerUnit.{IsWrittenTo, IsWrittenTo-start, IsWrittenTo-more, IsWrittenTo-end, get_or-per_unit-place, length-per_char, per_char-per_unit}
+use Rattle.bidi_base.proofs.UnitsLemmas.{length-from_is_per_char, per_unit-from_is_per_char, is_per_char-per_unit}
 use Rattle.bidi_base.specs.contracts.char_data.BidiClassPartialEq.TheImpl.{ghosts}
-use Rattle.bidi_base.proofs.PerCharTests.{class_test}
+use Rattle.bidi_base.proofs.PerCharTests.{class_test, level_eq, level_test}
 use Rattle.bidi_base.proofs.StatusMachine.{answer_level-explicit_level, answer_class-explicit_class}
 use Rattle.bidi_base.proofs.StatusBounds.{state_at-more, state_at-IsPoppable, closed-IsWithinDepth, closed-counted}
 use Rattle.bidi_rules.specs.ExplicitPass.{filled, runs_before, run_start}
@@ -195,3 +195,11 @@ few_characters len_of h chars original units is fits = omega (arith, length-per_
 pub text_len-some : (len_of : ℕ → ℕ) (chars : List ℕ) → 0 < text_len len_of chars → 0 < length chars
 text_len-some len_of [] some = absurd (omega arith)
 text_len-some len_of (c ∷ chars) some = omega arith
+
+-- what is left is one level for each character, each its explicit one
+pub per_char-explicit_levels : (len_of : ℕ → ℕ) → HasUnits len_of → (chars : List ℕ) (paragraph : ℕ) (stored : List BidiClass) (levels : List ℕ) → length stored ≡ length chars → levels ≡ per_unit len_of chars (explicit_levels paragraph stored)
+    → per_char 0 len_of chars levels ≡ explicit_levels paragraph stored
+per_char-explicit_levels len_of h chars paragraph stored levels long is = ap (per_char 0 len_of chars) is ∙ per_char-per_unit len_of h 0 chars (explicit_levels paragraph stored) (length-explicit_levels paragraph stored ∙ long)
+
+pub is_per_char-explicit_levels : (len_of : ℕ → ℕ) (chars : List ℕ) (paragraph : ℕ) (stored : List BidiClass) (levels : List ℕ) → length stored ≡ length chars → levels ≡ per_unit len_of chars (explicit_levels paragraph stored) → is_per_char level_eq len_of chars levels ≡ true
+is_per_char-explicit_levels len_of chars paragraph stored levels long is = ap (is_per_char level_eq len_of chars) is ∙ is_per_char-per_unit level_eq level_test len_of chars (explicit_levels paragraph stored) (length-explicit_levels paragraph stored ∙ long)

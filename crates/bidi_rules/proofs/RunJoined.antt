@@ -5,6 +5,7 @@ use Rattle.std.specs.List.{range_with_len, fold}
 use Rattle.std.proofs.lemmas.Bool.{cond-true, cond-false, both_ways}
 use Rattle.std.proofs.lemmas.List.{length-map, map-append, map-set, get_or-map}
 use Rattle.std.proofs.lemmas.List.Elements.{All-push, All-set, All-get_or, All-weaker, All-nil, All-cons}
+use Rattle.std.proofs.lemmas.List.Folds.{flat_map-map}
 use Rattle.std.proofs.lemmas.List.Sorted.{IsPermutation-refl, IsPermutation-trans, IsPermutation-append_left, IsPermutation-append_right, IsPermutation-append_comm}
 use Rattle.std.proofs.lemmas.Grind.{flat_map-append}
 use Rattle.bidi_base.specs.declared.char_data.BidiClass.{BidiClass}
@@ -53,10 +54,6 @@ pub record IsJoined (len_of : ℕ → ℕ) (chars : List ℕ) (classes : List Bi
   pub lines : All (λ (j : JoinedRuns). All (IsBefore len_of chars (place len_of chars a)) j.runs) out
   pub shares : IsPermutation runs (flat_map (λ (j : JoinedRuns). j.runs) out)
   pub fresh : a ≡ 0 → (out ≡ []) × (waits ≡ [])
-
-flat_map-same : {X Y : Type 0} (f : X → List Y) (xs : List X) → flat_map (λ ys. ys) (map f xs) ≡ flat_map f xs
-flat_map-same f [] = refl
-flat_map-same f (x ∷ xs) = ap (λ ys. f x ++ ys) (flat_map-same f xs)
 
 first_or-append : (d : ℕ) (xs ys : List ℕ) → 0 < length xs → first_or d (xs ++ ys) ≡ first_or d xs
 first_or-append d [] ys some = absurd (omega arith)
@@ -265,10 +262,10 @@ module _ (len_of : ℕ → ℕ) (h : HasUnits len_of) (chars : List ℕ) (classe
           let whole : flat_map (λ ys. ys) (set rest s (get_or rest s [] ++ r ∷ [])) ≡ flat_map (λ (j : JoinedRuns). j.runs) (with_run (Some s) r sos eos out) =
           ap (λ (ys : List (ℕ × ℕ)). flat_map (λ zs. zs) (set rest s (ys ++ r ∷ []))) old
           ∙ ap (flat_map (λ zs. zs)) (sym (map-set (λ (j : JoinedRuns). j.runs) out s (record (get_or out s no_runs) { runs = (get_or out s no_runs).runs ++ r ∷ []; eos = eos })))
-          ∙ flat_map-same (λ (j : JoinedRuns). j.runs) (with_run (Some s) r sos eos out) in
+          ∙ flat_map-map (λ ys. ys) (λ (j : JoinedRuns). j.runs) (with_run (Some s) r sos eos out) in
           subst (λ (rs : List (ℕ × ℕ)). IsPermutation (runs ++ r ∷ []) rs) whole
           (IsPermutation-trans (runs ++ r ∷ []) (flat_map (λ ys. ys) rest ++ r ∷ []) (flat_map (λ ys. ys) (set rest s (get_or rest s [] ++ r ∷ [])))
-          (IsPermutation-append_left (r ∷ []) runs (flat_map (λ ys. ys) rest) (subst (λ (rs : List (ℕ × ℕ)). IsPermutation runs rs) (sym (flat_map-same (λ (j : JoinedRuns). j.runs) out)) joined.shares))
+          (IsPermutation-append_left (r ∷ []) runs (flat_map (λ ys. ys) rest) (subst (λ (rs : List (ℕ × ℕ)). IsPermutation runs rs) (sym (flat_map-map (λ ys. ys) (λ (j : JoinedRuns). j.runs) out)) joined.shares))
           (longer rest s (r ∷ []) (omega (arith, fits, length-map out (λ (j : JoinedRuns). j.runs)))))
 
       -- the run has come, and its characters were read

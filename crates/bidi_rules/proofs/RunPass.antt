@@ -3,7 +3,7 @@ use Rattle.std.proofs.Common.{◌≡◌, ℕ, zero, suc, ◌+◌, ◌-◌, ◌<�
 use Rattle.std.specs.Prelude.{filter, IfSome}
 use Rattle.std.specs.List.{range_with_len}
 use Rattle.std.proofs.lemmas.Bool.{cases_Bool, cases_eq, cond-true, cond-false, eqb-false}
-use Rattle.std.proofs.lemmas.List.{reverse-append, reverse-reverse, take-append-le, take_all, get_or-set_same, length-set}
+use Rattle.std.proofs.lemmas.List.{reverse-append, reverse-reverse, take-append-le, take_all, get_or_push, get_or-set_same, length-set}
 use Rattle.bidi_base.specs.declared.char_data.BidiClass.{BidiClass}
 use Rattle.bidi_base.specs.Classes.{is_initiator, is_pdi}
 use Rattle.bidi_base.specs.Places.{class_at, last_or}
@@ -33,10 +33,6 @@ last_or-append d (x ∷ xs) v = last_or-append x xs v
 
 last_or-reverse : {X : Type 0} (d : X) (xs : List X) (v : X) (vs : List X) → reverse xs ≡ v ∷ vs → last_or d xs ≡ v
 last_or-reverse {X} d xs v vs e = ap (last_or d) (split_last xs v vs e) ∙ last_or-append d (reverse vs) v
-
-get_or_push : {X : Type 0} (xs : List X) (x d : X) → get_or (xs ++ x ∷ []) (length xs) d ≡ x
-get_or_push [] x d = refl
-get_or_push (y ∷ xs) x d = get_or_push xs x d
 
 reverse_none : {X : Type 0} (xs : List X) → reverse xs ≡ [] → xs ≡ []
 reverse_none xs e = sym (reverse-reverse xs) ∙ ap reverse e
@@ -134,7 +130,7 @@ module _ (classes : List BidiClass) (levels : List ℕ) where
             fits = tt;
             state = record { stack = h.stack; pass = subst (λ (x : ℕ). IsPass classes levels x a (out ++ (p ∷ ps) ∷ []) h.stack (reverse waits)) top pass };
             within = omega (arith, length-append out ((p ∷ ps) ∷ []));
-            holds = λ x member. rw (get_or_push out (p ∷ ps) []) member;
+            holds = λ x member. rw (get_or_push out (p ∷ ps) [] (length out) refl) member;
           })
 
       joined : (s : ℕ) → waiting_for (class_at classes p) waits ≡ Some s → s < length out → successor classes levels (last_or 0 (get_or out s [])) ≡ Some p → HasCome a b p ps out waits (waiting_for (class_at classes p) waits)

@@ -99,12 +99,6 @@ module _ (len_of : ℕ → ℕ) (h : HasUnits len_of) (chars : List ℕ) (units 
       let high = place-le len_of chars (char_index len_of chars end) in
       record { below = omega (arith, t.fits, turn.long, w.ends); room = t.fits }
 
-  pub IsReadTo-start : (last s : ℕ) (old : List (Option ℕ)) → IsReadTo len_of chars units start last s 0 old old
-  IsReadTo-start last s old =
-      let a : ℕ = char_index len_of chars start in
-      let none : a + 0 - a ≡ 0 = omega arith in
-      record { is = sym (ap (λ n. fold (λ ws m. read_class (class_at (per_char L len_of chars units) m) (cond (eqb (m + 1) (char_index len_of chars last)) (Some s) None) ws) old (range_with_len a n)) none) }
-
   pub IsReadTo-more : (last s n at l : ℕ) (old waits now : List (Option ℕ)) (wait : Option ℕ) → is_boundary len_of chars last ≡ true → LengthTurn len_of (subrange len_of chars start end) n at l → IsReadTo len_of chars units start last s n old waits
       → wait ≡ then_some (eqb (start + at + l) last) s → now ≡ read_class (get_or units (start + at) L) wait waits → IsReadTo len_of chars units start last s (n + 1) old now
   IsReadTo-more last s n at l old waits now wait boundary turn before wait_as read = record {

@@ -1,6 +1,7 @@
 -- A level run as a range of units: which characters stand in it, and what its last kept unit says.
 use Rattle.std.proofs.Common.{◌≡◌, ℕ, suc, ◌+◌, ◌-◌, ◌<◌, ◌≤◌, true, false, List, [], ◌∷◌, ◌++◌, length, get_or, refl, sym, ap, subst, ◌∙◌, arith, inl, inr}
 use Rattle.std.proofs.lemmas.Bool.{cases_lt, both_ways}
+use Rattle.std.proofs.lemmas.List.{get_or_push}
 use Rattle.bidi_base.specs.declared.char_data.BidiClass.{BidiClass}
 use Rattle.bidi_base.specs.declared.char_data.BidiClass.TheVariants.{L}
 use Rattle.bidi_base.specs.Classes.{is_kept}
@@ -53,15 +54,11 @@ module _ (len_of : ℕ → ℕ) (h : HasUnits len_of) (chars : List ℕ) (classe
         end = ap (λ (r : ℕ × ℕ). r.1) here ∙ ap (λ n. place len_of chars (get_or (cuts classes levels) n 0)) more;
       }
 
-  get_or_last : (xs : List ℕ) (x d : ℕ) → get_or (xs ++ x ∷ []) (length xs) d ≡ x
-  get_or_last [] x d = refl
-  get_or_last (y ∷ xs) x d = get_or_last xs x d
-
   -- the last run ends with the text
   pub cuts-last : (runs : List (ℕ × ℕ)) (k : ℕ) → runs ≡ level_run_ranges len_of chars classes levels → k ≡ length runs → get_or (cuts classes levels) k 0 ≡ length classes
   cuts-last runs k e all =
       let count : k ≡ length (run_starts classes levels) = omega (arith, ap length e, length-level_run_ranges len_of chars classes levels) in
-      ap (λ n. get_or (cuts classes levels) n 0) count ∙ get_or_last (run_starts classes levels) (length classes) 0
+      ap (λ n. get_or (cuts classes levels) n 0) count ∙ get_or_push (run_starts classes levels) (length classes) 0 (length (run_starts classes levels)) refl
 
   -- a run is a stretch of some units of the text
   pub record IsUnitRun (a b : ℕ) (start end : ℕ) : Type 0 where

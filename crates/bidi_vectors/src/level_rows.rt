@@ -1,5 +1,5 @@
 // Levels: refusals, what they leave, and the texts that name a level.
-use std::alloc::AllocError;
+use std::alloc::{AllocError, AllocFailed};
 use std::test::Fail;
 use unicode_bidi::BidiClass;
 use unicode_bidi::level::{Error, LTR_LEVEL, Level, RTL_LEVEL, VecError, has_rtl};
@@ -105,4 +105,11 @@ fn texts_of_a_level(rt: HostRuntime) -> Result<(), Fail> {
     }
     assert!(rt; Level::new(126)?.matches_text("126"));
     Ok(())
+}
+
+#[test]
+fn refused_memory(rt: HostRuntime) {
+    assert_eq!(rt; VecError::from(AllocError), VecError::Memory);
+    let refused = AllocFailed { value: LTR_LEVEL };
+    assert_eq!(rt; VecError::from(refused), VecError::Memory);
 }

@@ -2,6 +2,7 @@
 #![tactic(auto)]
 
 #[cfg(test)]
+mod explicit_units_rows;
 mod info_rows;
 #[cfg(test)]
 mod initial_rows;
@@ -21,6 +22,9 @@ mod plain_sequences;
 mod plain_weak;
 #[cfg(test)]
 mod run_rows;
+#[cfg(test)]
+mod run_walks_rows;
+mod sequence_units_rows;
 #[cfg(test)]
 mod source_rows;
 #[cfg(test)]

@@ -1,7 +1,7 @@
 // Data sources over tables: which tables are refused, and what the sample answers.
 use bidi_base::char_data::is_rtl;
 use bidi_base::data_source::{BidiDataSource, TableBidiData, TableError};
-use bidi_base::sample;
+use bidi_base::{format_chars, sample};
 use std::test::Fail;
 use unicode_bidi::BidiClass;
 
@@ -76,4 +76,28 @@ fn no_ranges(rt: HostRuntime) -> Result<(), Fail> {
 fn openers_of_right_to_left_text(rt: HostRuntime) {
     assert!(rt; is_rtl(BidiClass::RLE) && is_rtl(BidiClass::RLO) && is_rtl(BidiClass::RLI));
     assert!(rt; !is_rtl(BidiClass::R) && !is_rtl(BidiClass::LRE));
+}
+
+#[test]
+fn formatting_characters(rt: HostRuntime) -> Result<(), Fail> {
+    let Ok(source) = TableBidiData::new(&sample::RANGES, &sample::BRACKETS) else {
+        return Err(Fail::from("the sample is faultless"));
+    };
+    for (c, class) in [
+        (format_chars::ALM, BidiClass::AL),
+        (format_chars::LRM, BidiClass::L),
+        (format_chars::RLM, BidiClass::R),
+        (format_chars::LRE, BidiClass::LRE),
+        (format_chars::RLE, BidiClass::RLE),
+        (format_chars::PDF, BidiClass::PDF),
+        (format_chars::LRO, BidiClass::LRO),
+        (format_chars::RLO, BidiClass::RLO),
+        (format_chars::LRI, BidiClass::LRI),
+        (format_chars::RLI, BidiClass::RLI),
+        (format_chars::FSI, BidiClass::FSI),
+        (format_chars::PDI, BidiClass::PDI),
+    ] {
+        assert_eq!(rt; source.bidi_class(c), class, "{c:?}");
+    }
+    Ok(())
 }

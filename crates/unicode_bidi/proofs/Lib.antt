@@ -19,6 +19,7 @@ pub mod RunText
 pub mod RunsLemmas
 pub mod SequenceUnits
 pub mod SequencesInPlace
+pub mod StoredLine
 pub mod Stretches
 pub mod TextOfLine
 pub mod TextRead

@@ -1,17 +1,17 @@
 -- The levels of a text, written paragraph by paragraph.
-use Rattle.std.proofs.Common.{◌≡◌, Option, ap₂, ℕ, ◌+◌, ◌-◌, ◌<◌, ◌≤◌, List, [], ◌∷◌, ◌++◌, length, get_or, take, drop, map, refl, sym, ap, subst, ◌∙◌, append_assoc, append-nil, arith, length-append, length-drop, length-take}
+use Rattle.std.proofs.Common.{◌≡◌, Option, ap₂, ℕ, ◌+◌, ◌-◌, ◌<◌, ◌≤◌, List, [], ◌∷◌, ◌++◌, length, get_or, take, drop, map, refl, sym, ap, subst, ◌∙◌, append_assoc, append-nil, arith, length-append}
 use Rattle.std.proofs.Math.Seq.{take-append_seam, drop-append_seam}
 use Rattle.std.specs.declared.ops.Range.{Range}
 use Rattle.std.specs.Prelude.{All, IfSome, flat_map, slice_range}
-use Rattle.std.proofs.lemmas.List.{take_more, take_all, drop_more, drop_all, drop-drop, length-map}
+use Rattle.std.proofs.lemmas.List.{get_or-map, take_more, drop_more, drop-drop, length-map}
 use Rattle.std.proofs.lemmas.List.Concat.{flat_map-append}
-use Rattle.std.proofs.lemmas.List.Elements.{All-nil, All-cons, All-head, All-tail, All-same, All-map}
+use Rattle.std.proofs.lemmas.List.Elements.{All-nil, All-cons, All-head, All-tail, All-same, All-map, All-get_or}
 use Rattle.std.proofs.lemmas.List.Sums.{sum_by-append}
 use Rattle.std.proofs.lemmas.Simd.{map-map}
 use Rattle.bidi_base.specs.declared.char_data.BidiClass.{BidiClass}
 use Rattle.bidi_base.specs.Isolates.{paragraph_level, stored_classes}
 use Rattle.bidi_base.specs.Laws.{HasOwnUnits, AreLevelsFrom}
-use Rattle.bidi_base.specs.Paragraphs.{ranges_from}
+use Rattle.bidi_base.specs.Paragraphs.{ranges_from, AreParagraphRanges}
 use Rattle.bidi_base.specs.Places.{first_or}
 use Rattle.bidi_base.specs.Source.{Source}
 use Rattle.bidi_base.specs.Stored.{levels_in, stored_levels, text_classes, text_levels, paragraph_levels}
@@ -36,12 +36,11 @@ pub record IsPart (len_of : ℕ → ℕ) (chars : List ℕ) (units : Range ℕ) 
   pub ordered : units.start ≤ units.end
   pub within : units.end ≤ text_len len_of chars
   pub long : text_len len_of piece ≡ units.end - units.start
-  pub is_line : IsLine len_of chars units.start units.end
 
 pub paragraph-IsPart : (len_of : ℕ → ℕ) → HasUnits len_of → (chars : List ℕ) (p : ParagraphInfo) (units : Range ℕ) → units ≡ range_of p → IsLine len_of chars p.range.start p.range.end → IsPart len_of chars units (subrange len_of chars units.start units.end)
 paragraph-IsPart len_of h chars p units e line =
     subst (λ (r : Range ℕ). IsPart len_of chars r (subrange len_of chars r.start r.end)) (sym e)
-    (record { ordered = line.ordered; within = is_boundary-le len_of chars p.range.end line.ends; long = text_len-subrange len_of h chars p.range.start p.range.end line; is_line = line })
+    (record { ordered = line.ordered; within = is_boundary-le len_of chars p.range.end line.ends; long = text_len-subrange len_of h chars p.range.start p.range.end line })
 
 -- the pass over its own characters, in the levels of the whole text
 pub paragraph-written : (source : Source) (len_of : ℕ → ℕ) (chars : List ℕ) (p : ParagraphInfo) (units : Range ℕ) (piece : List ℕ) (level : ℕ) (levels new : List ℕ)
@@ -65,9 +64,6 @@ length-unit_levels source len_of h chars p line =
     length-per_unit len_of piece (levels_in p.level (map source.class_of piece) (map source.bracket_of piece)) (length-levels_in p.level (map source.class_of piece) (map source.bracket_of piece) ∙ length-map piece source.class_of)
     ∙ text_len-subrange len_of h chars p.range.start p.range.end line
 
-pub length-part : {X : Type 0} (xs : List X) (start end : ℕ) → end ≤ length xs → length (slice_range xs start end) ≡ end - start
-length-part xs start end fits = omega (arith, length-take (end - start) (drop start xs), length-drop start xs)
-
 -- ---- one paragraph after another
 
 -- `start` are the levels before the walk, and `levels` those after k paragraphs, each of which has its own levels
@@ -75,16 +71,13 @@ module _ (own : ParagraphInfo → List ℕ) (start : List ℕ) (ps : List Paragr
   abbrev pub written : ℕ → List ℕ
   written k = flat_map own (take k ps)
 
-  pub record AreWritten (k : ℕ) (levels : List ℕ) : Type 0 where
+  pub record AreParagraphsWritten (k : ℕ) (levels : List ℕ) : Type 0 where
     pub all : levels ≡ written k ++ drop (length (written k)) start
     pub follow : Follow (length (written k)) (length start) (drop k ps)
 
-  pub AreWritten-start : Follow 0 (length start) ps → AreWritten 0 start
-  AreWritten-start h = record { all = refl; follow = h }
-
-  pub AreWritten-more : (k : ℕ) (levels new : List ℕ) (p : ParagraphInfo) → k < length ps → p ≡ get_or ps k p → p.range.start ≤ p.range.end → length (own p) ≡ p.range.end - p.range.start
-      → new ≡ take p.range.start levels ++ (own p ++ drop p.range.end levels) → AreWritten k levels → AreWritten (k + 1) new
-  AreWritten-more k levels new p within is order long e h =
+  pub AreParagraphsWritten-more : (k : ℕ) (levels new : List ℕ) (p : ParagraphInfo) → k < length ps → p ≡ get_or ps k p → p.range.start ≤ p.range.end → length (own p) ≡ p.range.end - p.range.start
+      → new ≡ take p.range.start levels ++ (own p ++ drop p.range.end levels) → AreParagraphsWritten k levels → AreParagraphsWritten (k + 1) new
+  AreParagraphsWritten-more k levels new p within is order long e h =
       let more : written (k + 1) ≡ written k ++ own p =
       ap (flat_map own) (take_more ps k p within ∙ ap (λ (q : ParagraphInfo). take k ps ++ q ∷ []) (sym is)) ∙ flat_map-append own (take k ps) (p ∷ []) ∙ ap (λ (xs : List ℕ). written k ++ xs) (append-nil (own p)) in
       let rest : drop k ps ≡ p ∷ drop (k + 1) ps = drop_more ps k p within ∙ ap (λ (q : ParagraphInfo). q ∷ drop (k + 1) ps) (sym is) in
@@ -106,11 +99,6 @@ module _ (own : ParagraphInfo → List ℕ) (start : List ℕ) (ps : List Paragr
             ∙ ap (λ (n : ℕ). written (k + 1) ++ drop n start) (sym ends);
         follow = subst (λ (n : ℕ). Follow n (length start) (drop (k + 1) ps)) (sym ends) next.1;
       }
-
-  pub AreWritten-end : (k : ℕ) (levels : List ℕ) → length ps ≤ k → AreWritten k levels → levels ≡ flat_map own ps
-  AreWritten-end k levels all h =
-      let done : length (written k) ≡ length start = subst (Follow (length (written k)) (length start)) (drop_all k ps all) h.follow in
-      h.all ∙ ap (λ (xs : List ℕ). written k ++ xs) (drop_all (length (written k)) start (omega arith)) ∙ append-nil (written k) ∙ ap (flat_map own) (take_all k ps all)
 
 -- ---- the paragraphs of a text
 
@@ -274,3 +262,12 @@ only {X} {Y} f (z ∷ xs) x y e is = ap f is ∙ ap (first_or (f z)) e
 pub flags-one : (source : Source) (piece : List ℕ) → paragraph_flags source (piece ∷ []) ≡ flags_of (map source.class_of piece) ∷ []
 unfolding paragraph_flags
 flags-one source piece = refl
+
+-- ---- the paragraphs that are found
+
+pub paragraphs-are_lines : (source : Source) (len_of : ℕ → ℕ) (chars : List ℕ) (ps : List ParagraphInfo) → AreParagraphRanges source len_of chars (ranges_of ps) → All (λ p. IsLine len_of chars (range_of p).start (range_of p).end) ps
+paragraphs-are_lines source len_of chars ps are k d within =
+    let ends : ParagraphInfo → ℕ × ℕ = λ p. (p.range.start, p.range.end) in
+    let fits : k < length (ranges_of ps) = subst (λ n. k < n) (sym (length-map ps ends)) within in
+    subst (λ (r : ℕ × ℕ). IsLine len_of chars r.0 r.1) (get_or-map ends ps k d (ends d) within)
+    (All-get_or (λ (r : ℕ × ℕ). IsLine len_of chars r.0 r.1) (ranges_of ps) k (ends d) fits are.lines)

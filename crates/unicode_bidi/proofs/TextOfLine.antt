@@ -1,5 +1,5 @@
 -- A line of a text whose classes and levels are one a unit, equal within each character: its levels, its runs and its text are those of its characters.
-use Rattle.std.proofs.Common.{◌≡◌, ℕ, ◌+◌, ◌-◌, ◌<◌, ◌≤◌, List, length, get_or, map, flat_map, All, sym, ap, ap₂, subst, ◌∙◌, arith, false}
+use Rattle.std.proofs.Common.{◌≡◌, ℕ, ◌+◌, ◌-◌, ◌<◌, ◌≤◌, List, [], length, get_or, map, flat_map, All, sym, ap, ap₂, subst, ◌∙◌, arith, false}
 use Rattle.std.specs.Prelude.{slice_range}
 use Rattle.std.specs.declared.ops.Range.{Range}
 use Rattle.std.proofs.lemmas.List.{get_or-map, length-map}
@@ -7,18 +7,28 @@ use Rattle.bidi_base.specs.declared.char_data.BidiClass.{BidiClass}
 use Rattle.bidi_base.specs.declared.char_data.BidiClass.TheVariants.{L}
 use Rattle.bidi_base.specs.Display.{Run, run_of, run_text_in, visual_runs, reordered_text, line_text, IsLevelRun, AreVisualRuns}
 use Rattle.bidi_base.specs.Levels.{is_odd, has_rtl}
-use Rattle.bidi_base.specs.Line.{line_levels, levels_of_line}
+use Rattle.bidi_base.specs.Line.{line_levels, line_levels_after, levels_of_line, levels_with_line}
+use Rattle.bidi_base.specs.Order.{visual_order}
 use Rattle.bidi_base.specs.Text.{place, text_len, char_index, subrange, per_unit, per_char, IsLine, IsPerChar}
 use Rattle.bidi_base.proofs.TextLemmas.{HasUnits}
 use Rattle.bidi_base.proofs.PlaceLemmas.{place-le, place-end, place-slice_range, line_places, text_len-subrange, IsLineAt, IsLine-places}
-use Rattle.bidi_base.proofs.PerUnit.{length-per_char}
+use Rattle.bidi_base.proofs.PerUnit.{length-per_char, per_char-per_unit}
 use Rattle.bidi_base.proofs.UnitsLemmas.{per_unit-from_IsPerChar, length-from_IsPerChar}
+use Rattle.unicode_bidi.specs.Lines.{char_levels_of_line, char_levels_with_line}
 use Rattle.unicode_bidi.proofs.CharRuns.{units_of, place_from, visual_runs-units}
-use Rattle.unicode_bidi.proofs.LineInText.{length-part, length-line, slice_range-per_unit, line_levels-per_unit, list_any-per_unit}
+use Rattle.unicode_bidi.proofs.LineInText.{length-part, length-line, length-levels_with_line, slice_range-per_unit, line_levels-per_unit, levels_with_line-per_unit, list_any-per_unit}
 use Rattle.unicode_bidi.proofs.LineText.{reordered_text-line}
 use Rattle.unicode_bidi.proofs.Ordered.{none_odd}
 use Rattle.unicode_bidi.proofs.RunText.{reordered_text-still}
 use Rattle.unicode_bidi.proofs.VisualRuns.{visual_runs-are}
+
+-- an empty line has no text
+pub line_text-empty : (len_of : ℕ → ℕ) (encode : ℕ → List ℕ) (chars units : List ℕ) (level : ℕ) (classes : List BidiClass) (levels : List ℕ) (start end : ℕ) → start ≡ end
+    → line_text len_of encode chars units level classes levels start end ≡ []
+unfolding line_text line_levels line_levels_after reordered_text visual_order
+line_text-empty len_of encode chars units level classes levels start end same =
+    let none : char_index len_of chars end - char_index len_of chars start ≡ 0 = rw same (omega arith) in
+    rw none
 
 -- each run is a level run, where it begins
 pub runs_begin : (start : ℕ) (levels : List ℕ) (ranges : List (Range ℕ)) → AreVisualRuns start levels (map run_of ranges)
@@ -117,3 +127,24 @@ module _ (len_of : ℕ → ℕ) (h : HasUnits len_of) (chars : List ℕ) (level 
       reordered_text-still len_of encode (subrange len_of chars start end) (slice_range units start end) of_chars of_chars_long
       (length-part units start end within ∙ sym (text_len-subrange len_of h chars start end line))
       (none_odd of_chars (sym (ap has_rtl levels_of_line-per_unit ∙ list_any-per_unit is_odd len_of h (subrange len_of chars start end) of_chars of_chars_long) ∙ even))
+
+  length-char_levels_with_line : length (char_levels_with_line len_of chars level classes levels start end) ≡ length chars
+  length-char_levels_with_line =
+      length-levels_with_line level (per_char L len_of chars classes) (per_char 0 len_of chars levels) (char_index len_of chars start) (char_index len_of chars end)
+      (length-per_char 0 len_of chars levels ∙ sym (length-per_char L len_of chars classes)) ends.ordered (omega (arith, ends.within, length-per_char 0 len_of chars levels))
+      ∙ length-per_char 0 len_of chars levels
+
+  -- the levels of all units, those of the line after L1, are those of their characters
+  pub levels_with_line-chars : levels_with_line level classes levels start end ≡ per_unit len_of chars (char_levels_with_line len_of chars level classes levels start end)
+  levels_with_line-chars =
+      ap₂ (λ ks ls. levels_with_line level ks ls start end) (per_unit-from_IsPerChar L len_of h chars classes of_classes) (per_unit-from_IsPerChar 0 len_of h chars levels of_levels)
+      ∙ levels_with_line-per_unit len_of h level chars (per_char L len_of chars classes) (per_char 0 len_of chars levels) start end (length-per_char L len_of chars classes) (length-per_char 0 len_of chars levels) line
+
+  pub per_char-levels_with_line : per_char 0 len_of chars (levels_with_line level classes levels start end) ≡ char_levels_with_line len_of chars level classes levels start end
+  per_char-levels_with_line =
+      ap (per_char 0 len_of chars) levels_with_line-chars
+      ∙ per_char-per_unit len_of h 0 chars (char_levels_with_line len_of chars level classes levels start end) length-char_levels_with_line
+
+  -- a unit of the line has an odd level just where a character has
+  pub has_rtl-chars : has_rtl (levels_of_line level classes levels start end) ≡ has_rtl (char_levels_of_line len_of chars level classes levels start end)
+  has_rtl-chars = ap has_rtl levels_of_line-per_unit ∙ list_any-per_unit is_odd len_of h (subrange len_of chars start end) of_chars of_chars_long

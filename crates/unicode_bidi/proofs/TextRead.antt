@@ -37,7 +37,7 @@ take-turn chars n c within is_char = take_more chars n 0 within ∙ ap (λ (x : 
 -- a paragraph of which nothing is read
 pub record IsFresh (reading : Reading) (start : ℕ) : Type 0 where
   pub here : reading.start ≡ start
-  pub under : reading.open.items ≡ []
+  pub under : reading.initiators.items ≡ []
   pub deciding : reading.deciding ≡ None
   pub turns : reading.flags ≡ flags_of []
 
@@ -61,7 +61,7 @@ module _ (source : Source) (len_of : ℕ → ℕ) (chars : List ℕ) where
     pub levels : levels_of found.paragraphs.items ≡ paragraph_levels source base done
     pub flags : found.flags.items ≡ paragraph_flags source done
     pub start : reading.start ≡ text_len len_of (joined done)
-    pub under : reading.open.items ≡ map (units_after done) (open_initiators (classes_of current))
+    pub under : reading.initiators.items ≡ map (units_after done) (open_initiators (classes_of current))
     pub deciding : reading.deciding ≡ deciding_class (classes_of current)
     pub turns : reading.flags ≡ flags_of (classes_of current)
 
@@ -190,7 +190,7 @@ module _ (source : Source) (len_of : ℕ → ℕ) (chars : List ℕ) where
         (omega (arith, length-append (text_classes source done) (stored_classes (classes_of current)), length-text_classes source done, length-stored_classes (classes_of current), length-map current source.class_of, long, length-take n chars))
 
     -- the open initiators stand among them
-    pub open_within : All (λ (r : Range ℕ). (r.start < r.end) × (r.end ≤ length found.original_classes.items)) reading.open.items
+    pub open_within : All (λ (r : Range ℕ). (r.start < r.end) × (r.end ≤ length found.original_classes.items)) reading.initiators.items
     open_within =
         subst (All (λ (r : Range ℕ). (r.start < r.end) × (r.end ≤ length found.original_classes.items))) (sym h.under)
         (All-map (λ (r : Range ℕ). (r.start < r.end) × (r.end ≤ length found.original_classes.items)) (units_after done) (open_initiators (classes_of current))
@@ -221,9 +221,9 @@ module _ (source : Source) (len_of : ℕ → ℕ) (chars : List ℕ) where
           ∙ met_units-char len_of units (take n chars) (text_classes source done) (stored_classes (classes_of current)) class q
           (omega (arith, length-text_classes source done, length-stored_classes (classes_of current), length-map current source.class_of, long, length-take n chars)) (omega (arith, below, length-stored_classes (classes_of current)))
 
-      pub IsTextRead-more : (changed : List BidiClass) (range : Range ℕ) (longer : Initial) (after : Reading) → range ≡ char_units len_of chars n → changed ≡ met_units class (innermost reading.open.items) found.original_classes.items
+      pub IsTextRead-more : (changed : List BidiClass) (range : Range ℕ) (longer : Initial) (after : Reading) → range ≡ char_units len_of chars n → changed ≡ met_units class (innermost reading.initiators.items) found.original_classes.items
           → longer.original_classes.items ≡ changed ++ replicate (len_of c) class → longer.paragraphs.items ≡ found.paragraphs.items → longer.flags.items ≡ found.flags.items
-          → after.start ≡ reading.start → after.open.items ≡ opened_by class range reading.open.items → after.deciding ≡ option_or reading.deciding (decided_by class reading.open.items)
+          → after.start ≡ reading.start → after.initiators.items ≡ opened_by class range reading.initiators.items → after.deciding ≡ option_or reading.deciding (decided_by class reading.initiators.items)
           → after.flags.is_pure_ltr ≡ (reading.flags.is_pure_ltr && not (may_turn class)) → after.flags.has_isolates ≡ (reading.flags.has_isolates || is_initiator class)
           → IsTextRead base (n + 1) done (current ++ c ∷ []) longer after
       IsTextRead-more changed range longer after is_range is_changed is_longer same_paragraphs same_flags same_start is_open is_deciding is_pure has_isolates = record {

@@ -47,13 +47,14 @@ fn write_paragraph<D: BidiDataSource, T: TextSource>(
     ensures { OnOk result (levels.new ≡ take paragraph.now.range.start levels.old
         ++ (unit_levels (D.source data_source.now) T.units (T.characters text) paragraph.now ++ drop paragraph.now.range.end levels.old)) }
 {
+    let level = paragraph.level();
     let units = paragraph.range();
     let (start, end) = (units.start, units.end);
     resolver.write_levels(
         alloc,
         data_source,
         text.subrange(units),
-        paragraph.level(),
+        level,
         flags,
         &classes[start..end],
         &mut levels[start..end],

@@ -2,11 +2,11 @@
 ghost use Rattle.std.specs.Prelude.{◌≡◌, ◌≤◌, IsTrue, IfOk, IfSome, All, slice_range, false};
 ghost use Rattle.std.specs.Char.{len_utf8};
 ghost use Rattle.std.specs.Str.{chars};
-ghost use Rattle.bidi_base.specs.Text.{is_per_char};
+ghost use Rattle.bidi_base.specs.Text.{is_per_char, IsLine};
+ghost use Rattle.unicode_bidi.specs.ParagraphInfo.{range_of as paragraph_range};
 
-use crate::analysis;
 use crate::paragraph_info::ParagraphInfo;
-use crate::visual;
+use crate::{analysis, visual};
 use bidi_base::char_data::BidiClass;
 use bidi_base::data_source::BidiDataSource;
 use bidi_base::level::{Level, has_rtl};
@@ -23,10 +23,11 @@ pub struct BidiInfo<'t> {
     paragraphs: Vec<ParagraphInfo>,
     ghost classes_per_char: { IsTrue (is_per_char ⟦<BidiClass as PartialEq>⟧.eq len_utf8 (chars text.now) original_classes.items) },
     ghost levels_per_char: { IsTrue (is_per_char ⟦<Level as PartialEq>⟧.eq len_utf8 (chars text.now) levels.items) },
+    ghost paragraphs_are_lines: { All (λ p. IsLine len_utf8 (chars text.now) (paragraph_range p).start (paragraph_range p).end) paragraphs.items },
 }
 
 impl<'t> BidiInfo<'t> {
-    ghost use Rattle.bidi_base.specs.Laws.{HasOwnUnits, AreLevelsFrom, BoundaryNeutralsAreAlike};
+    ghost use Rattle.bidi_base.specs.Laws.{HasOwnUnits, AreLevelsFrom, BoundaryNeutralsAreAlike, StaysLeftToRight};
     ghost use Rattle.bidi_base.specs.Levels.{has_rtl as has_rtl_of};
     ghost use Rattle.bidi_base.specs.Order.{visual_order, IsVisualOrder, order_by_reversals};
     ghost use Rattle.bidi_base.specs.Paragraphs.{paragraphs_of, each_separator, ranges_from, AreParagraphRanges};
@@ -71,6 +72,9 @@ impl<'t> BidiInfo<'t> {
 
         // Which character of class BN stands at a place changes no level of its paragraph.
         ensures boundary_neutrals_alike { BoundaryNeutralsAreAlike (D.source data_source.now) default_para_level }
+
+        // A paragraph of level 0 in which nothing can turn the direction has level 0 throughout.
+        ensures stays_left_to_right { StaysLeftToRight (D.source data_source.now) default_para_level }
     {
         let found = analysis::analyse(
             alloc,
@@ -114,7 +118,8 @@ impl<'t> BidiInfo<'t> {
 
     /// The paragraphs, in order. Together they take the whole text.
     pub fn paragraphs(&self) -> &[ParagraphInfo]
-        ensures { result.now ≡ paragraphs self.now }
+        ensures paragraphs { result.now ≡ paragraphs self.now }
+        ensures lines { All (λ p. IsLine len_utf8 (chars (text_of self.now)) (range_of p).start (range_of p).end) result.now }
     {
         self.paragraphs.as_slice()
     }

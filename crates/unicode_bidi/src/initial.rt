@@ -91,7 +91,7 @@ struct Reading {
     // The unit at which it begins.
     start: usize,
     // The units of the initiators whose isolates are open, outermost first.
-    open: Vec<Range<usize>>,
+    initiators: Vec<Range<usize>>,
     // The class of the character that decides its level, once there is one.
     deciding: Option<BidiClass>,
     flags: ParagraphFlags,
@@ -101,13 +101,13 @@ impl Reading {
     // Nothing is read of a text.
     fn new(alloc: Global) -> Reading
         ensures start { result.start ≡ 0 }
-        ensures open { result.open.items ≡ [] }
+        ensures initiators { result.initiators.items ≡ [] }
         ensures deciding { result.deciding ≡ None }
         ensures flags { result.flags ≡ record { is_pure_ltr = true; has_isolates = false } }
     {
         Reading {
             start: 0,
-            open: Vec::new(alloc),
+            initiators: Vec::new(alloc),
             deciding: None,
             flags: ParagraphFlags {
                 is_pure_ltr: true,
@@ -123,18 +123,18 @@ impl Reading {
         class: BidiClass,
         units: Range<usize>,
     ) -> Result<(), AllocError>
-        requires { All (λ (r : Range ℕ). (r.start < r.end) × (r.end ≤ length classes.old)) self.old.open.items }
-        ensures classes { OnOk result (classes.new ≡ met_units class (innermost self.old.open.items) classes.old) }
+        requires { All (λ (r : Range ℕ). (r.start < r.end) × (r.end ≤ length classes.old)) self.old.initiators.items }
+        ensures classes { OnOk result (classes.new ≡ met_units class (innermost self.old.initiators.items) classes.old) }
         ensures start { self.new.start ≡ self.old.start }
-        ensures open { OnOk result (self.new.open.items ≡ opened_by class units self.old.open.items) }
-        ensures deciding { OnOk result (self.new.deciding ≡ option_or self.old.deciding (decided_by class self.old.open.items)) }
+        ensures initiators { OnOk result (self.new.initiators.items ≡ opened_by class units self.old.initiators.items) }
+        ensures deciding { OnOk result (self.new.deciding ≡ option_or self.old.deciding (decided_by class self.old.initiators.items)) }
         ensures pure { OnOk result (self.new.flags.is_pure_ltr ≡ (self.old.flags.is_pure_ltr && not (may_turn_class class))) }
         ensures isolates { OnOk result (self.new.flags.has_isolates ≡ (self.old.flags.has_isolates || is_initiator_class class)) }
     {
         self.flags.is_pure_ltr &= !may_turn(class);
         self.flags.has_isolates |= is_initiator(class);
         if is_strong(class) {
-            match self.open.last() {
+            match self.initiators.last() {
                 Some(initiator) => resolve(classes, initiator, class),
                 None => {
                     if self.deciding.is_none() {
@@ -143,9 +143,9 @@ impl Reading {
                 }
             }
         } else if is_initiator(class) {
-            self.open.push(units)?;
+            self.initiators.push(units)?;
         } else if is_pdi(class) {
-            self.open.pop();
+            self.initiators.pop();
         }
         Ok(())
     }
@@ -153,12 +153,12 @@ impl Reading {
     // Begins the next paragraph.
     fn restart(&mut self, start: usize)
         ensures start { self.new.start ≡ start }
-        ensures open { self.new.open.items ≡ [] }
+        ensures initiators { self.new.initiators.items ≡ [] }
         ensures deciding { self.new.deciding ≡ None }
         ensures flags { self.new.flags ≡ record { is_pure_ltr = true; has_isolates = false } }
     {
         self.start = start;
-        self.open.clear();
+        self.initiators.clear();
         self.deciding = None;
         self.flags = ParagraphFlags {
             is_pure_ltr: true,

@@ -4,9 +4,8 @@ ghost use Rattle.std.specs.Char.{len_utf8};
 ghost use Rattle.std.specs.Str.{chars};
 ghost use Rattle.bidi_base.specs.Text.{is_per_char};
 
-use crate::analysis;
 use crate::level_direction::direction_of;
-use crate::visual;
+use crate::{analysis, visual};
 use bidi_base::char_data::{BidiClass, Direction};
 use bidi_base::data_source::BidiDataSource;
 use bidi_base::level::{Level, has_rtl};
@@ -29,7 +28,7 @@ pub struct ParagraphBidiInfo<'t> {
 impl<'t> ParagraphBidiInfo<'t> {
     ghost use Rattle.bidi_base.specs.Direction.{direction_of_levels, is_pure_ltr as is_pure_ltr_of};
     ghost use Rattle.bidi_base.specs.Isolates.{paragraph_level as paragraph_level_of, stored_classes};
-    ghost use Rattle.bidi_base.specs.Laws.{AreLevelsFrom, BoundaryNeutralsAreAlike};
+    ghost use Rattle.bidi_base.specs.Laws.{AreLevelsFrom, BoundaryNeutralsAreAlike, StaysLeftToRight};
     ghost use Rattle.bidi_base.specs.Levels.{has_rtl as has_rtl_of};
     ghost use Rattle.bidi_base.specs.Order.{visual_order, IsVisualOrder, order_by_reversals};
     ghost use Rattle.bidi_base.specs.Places.{indexes};
@@ -65,6 +64,9 @@ impl<'t> ParagraphBidiInfo<'t> {
 
         // Which character of class BN stands at a place changes no level.
         ensures boundary_neutrals_alike { BoundaryNeutralsAreAlike (D.source data_source.now) default_para_level }
+
+        // A paragraph of level 0 in which nothing can turn the direction has level 0 throughout.
+        ensures stays_left_to_right { StaysLeftToRight (D.source data_source.now) default_para_level }
     {
         let found = analysis::analyse(
             alloc,

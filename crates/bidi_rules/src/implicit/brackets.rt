@@ -113,7 +113,8 @@ fn drop_unclosed(pairs: &mut Vec<(usize, usize)>)
 /// source gives, and `classes` those after W7.
 ///
 /// One walk over the classes serves all pairs. Only a pair whose opening is a nonspacing mark by its
-/// source class is looked through once more, since it may stand among the marks behind another pair.
+/// source class is looked through by itself, since it may stand among the marks that another pair
+/// changed.
 pub fn resolve_pairs(
     embedding: BidiClass,
     sos: BidiClass,

@@ -4,7 +4,8 @@ use Rattle.std.proofs.lemmas.Result.{on_ok_weaker}
 use Rattle.bidi_base.specs.Isolates.{stored_classes}
 use Rattle.bidi_base.specs.Text.{per_unit, subrange, text_len}
 use Rattle.unicode_bidi.specs.ParagraphFlags.{flags_of}
-use Rattle.unicode_bidi.proofs.ParagraphUnits.{paragraph-IsPart, paragraph-written, length-part}
+use Rattle.unicode_bidi.proofs.LineInText.{length-part}
+use Rattle.unicode_bidi.proofs.ParagraphUnits.{paragraph-IsPart, paragraph-written}
 use Rattle.unicode_bidi.proofs.analysis.write_paragraph.Goals as goal
 
 pub slice_bounds-write_levels-end : goal.slice_bounds-write_levels-end
@@ -44,6 +45,6 @@ returns g c =
     let cs : List ℕ = g.T.TextSource.characters c.args.text in
     let source = g.D.BidiDataSource.source c.args.data_source.now in
     on_ok_weaker _
-    (paragraph-written source len cs c.args.paragraph.now c.range-units.result (g.T.TextSource.characters c.subrange.result) c.level.result c.args.levels.now c.write_levels.new.levels
-    c.range-units.ensures c.subrange.ensures c.level.ensures (paragraph-IsPart len g.met.T.TextSource.has_units cs c.args.paragraph.now c.range-units.result c.range-units.ensures c.requires.paragraph.line).ordered)
+    (paragraph-written source len cs c.args.paragraph.now c.range-units.result (g.T.TextSource.characters c.subrange.result) c.level-level.result c.args.levels.now c.write_levels.new.levels
+    c.range-units.ensures c.subrange.ensures c.level-level.ensures (paragraph-IsPart len g.met.T.TextSource.has_units cs c.args.paragraph.now c.range-units.result c.range-units.ensures c.requires.paragraph.line).ordered)
     c.write_levels.ensures

@@ -3,7 +3,7 @@ use Rattle.std.proofs.lemmas.List.{get_or-map}
 use Rattle.std.proofs.lemmas.List.Elements.{All-get_or}
 use Rattle.unicode_bidi.specs.Analysis.{unit_levels, own_flags, CanWrite}
 use Rattle.unicode_bidi.specs.declared.initial.ParagraphFlags.{ParagraphFlags}
-use Rattle.unicode_bidi.proofs.ParagraphUnits.{AreWritten-more, length-unit_levels}
+use Rattle.unicode_bidi.proofs.ParagraphUnits.{AreParagraphsWritten-more, length-unit_levels}
 use Rattle.unicode_bidi.proofs.analysis.write_paragraphs.Goals as goal
 
 pub write_paragraph-requires-clause-paragraph : goal.write_paragraph-requires-clause-paragraph
@@ -26,5 +26,5 @@ loop-index-preserved g c =
     let cs : List ℕ = g.T.TextSource.characters c.args.text in
     let fits = CanWrite source len cs c.args.classes.now in
     let here : fits c.index-paragraphs-index.result = subst fits (sym c.index-paragraphs-index.is) (All-get_or fits c.args.paragraphs.now c.loop-index.index c.index-paragraphs-index.result (omega arith) c.requires.paragraphs) in
-    AreWritten-more (unit_levels source len cs) c.args.levels.now c.args.paragraphs.now c.loop-index.index c.loop-index.levels c.write_paragraph.new.levels c.index-paragraphs-index.result
+    AreParagraphsWritten-more (unit_levels source len cs) c.args.levels.now c.args.paragraphs.now c.loop-index.index c.loop-index.levels c.write_paragraph.new.levels c.index-paragraphs-index.result
     (omega arith) c.index-paragraphs-index.is here.line.ordered (length-unit_levels source len g.met.T.TextSource.has_units cs c.index-paragraphs-index.result here.line) c.in_ok-write_paragraph.ensures c.loop-index.invariant

@@ -19,7 +19,7 @@ loop-at-init g c = (
   subst g.T.CharIndexIter.Iterator.can_next (sym c.into_iter-at-iterator.ensures.into_iter_gives) c.char_indices-at-items.ensures.can_next,
   subst (λ b. IsFinite (g.T.CharIndexIter.Iterator.remaining b)) (sym c.into_iter-at-iterator.ensures.into_iter_gives) c.char_indices-at-items.ensures.finite,
   IsRead-start _ _ _ c.args.split c.args.base _ c.new-reading.result c.in_ok-with_capacity.ensures.items c.new.ensures.items c.new-2.ensures.items
-      (record { here = c.new-reading.ensures.start; under = c.new-reading.ensures.open; deciding = c.new-reading.ensures.deciding; turns = c.new-reading.ensures.flags }),
+      (record { here = c.new-reading.ensures.start; under = c.new-reading.ensures.initiators; deciding = c.new-reading.ensures.deciding; turns = c.new-reading.ensures.flags }),
 )
 
 pub overflow_add-end : goal.overflow_add-end
@@ -50,8 +50,8 @@ close-requires g c =
     let class = c.bidi_class-class.result in
     let end : c.in-Some.at + c.char_len-len.result ≡ place len cs (n + 1) = omega (arith, w.after, c.char_len-len.ensures) in
     let range : Range ℕ = record { start = c.in-Some.at; end = c.in-Some.at + c.char_len-len.result } in
-    let changed : c.read.new.classes ≡ met_units class (innermost c.loop-at.reading.open.items) c.loop-at.found.original_classes.items =
-    c.in_ok-read.ensures.classes ∙ ap (met_units class (innermost c.loop-at.reading.open.items)) c.as_mut_slice.ensures.value in
+    let changed : c.read.new.classes ≡ met_units class (innermost c.loop-at.reading.initiators.items) c.loop-at.found.original_classes.items =
+    c.in_ok-read.ensures.classes ∙ ap (met_units class (innermost c.loop-at.reading.initiators.items)) c.as_mut_slice.ensures.value in
     let longer : c.append.new.classes.items ≡ c.read.new.classes ++ replicate (len c.in-Some.c) class =
     c.in_ok-append.ensures ∙ ap (λ us. us ++ replicate c.char_len-len.result class) (with_items_is c.loop-at.found.original_classes c.read.new.classes (c.read.auto.classes ∙ c.as_mut_slice.ensures.len))
     ∙ ap (λ m. c.read.new.classes ++ replicate m class) c.char_len-len.ensures in
@@ -59,7 +59,7 @@ close-requires g c =
     let more : IsTextRead source len cs c.args.base (n + 1) h.done (h.current ++ c.in-Some.c ∷ []) found c.read.new.self =
     IsTextRead-more source len cs units c.args.base n h.done h.current c.loop-at.found c.loop-at.reading w.within h.read c.in-Some.c w.is_char class c.bidi_class-class.ensures c.read.new.classes range found c.read.new.self
     (same_range c.in-Some.at (place len cs n) (c.in-Some.at + c.char_len-len.result) (place len cs (n + 1)) w.at_place end) changed longer refl refl
-    c.read.ensures.start c.in_ok-read.ensures.open c.in_ok-read.ensures.deciding c.in_ok-read.ensures.pure c.in_ok-read.ensures.isolates in
+    c.read.ensures.start c.in_ok-read.ensures.initiators c.in_ok-read.ensures.deciding c.in_ok-read.ensures.pure c.in_ok-read.ensures.isolates in
     let le = start-le source len cs c.args.base (n + 1) h.done (h.current ++ c.in-Some.c ∷ []) found c.read.new.self more in
     omega (arith, le, end)
 
@@ -75,8 +75,8 @@ loop-at-preserved-then-is_separator g c =
     let class = c.bidi_class-class.result in
     let end : c.in-Some.at + c.char_len-len.result ≡ place len cs (n + 1) = omega (arith, w.after, c.char_len-len.ensures) in
     let range : Range ℕ = record { start = c.in-Some.at; end = c.in-Some.at + c.char_len-len.result } in
-    let changed : c.read.new.classes ≡ met_units class (innermost c.loop-at.reading.open.items) c.loop-at.found.original_classes.items =
-    c.in_ok-read.ensures.classes ∙ ap (met_units class (innermost c.loop-at.reading.open.items)) c.as_mut_slice.ensures.value in
+    let changed : c.read.new.classes ≡ met_units class (innermost c.loop-at.reading.initiators.items) c.loop-at.found.original_classes.items =
+    c.in_ok-read.ensures.classes ∙ ap (met_units class (innermost c.loop-at.reading.initiators.items)) c.as_mut_slice.ensures.value in
     let longer : c.append.new.classes.items ≡ c.read.new.classes ++ replicate (len c.in-Some.c) class =
     c.in_ok-append.ensures ∙ ap (λ us. us ++ replicate c.char_len-len.result class) (with_items_is c.loop-at.found.original_classes c.read.new.classes (c.read.auto.classes ∙ c.as_mut_slice.ensures.len))
     ∙ ap (λ m. c.read.new.classes ++ replicate m class) c.char_len-len.ensures in
@@ -84,12 +84,12 @@ loop-at-preserved-then-is_separator g c =
     let more : IsTextRead source len cs c.args.base (n + 1) h.done (h.current ++ c.in-Some.c ∷ []) found c.read.new.self =
     IsTextRead-more source len cs units c.args.base n h.done h.current c.loop-at.found c.loop-at.reading w.within h.read c.in-Some.c w.is_char class c.bidi_class-class.ensures c.read.new.classes range found c.read.new.self
     (same_range c.in-Some.at (place len cs n) (c.in-Some.at + c.char_len-len.result) (place len cs (n + 1)) w.at_place end) changed longer refl refl
-    c.read.ensures.start c.in_ok-read.ensures.open c.in_ok-read.ensures.deciding c.in_ok-read.ensures.pure c.in_ok-read.ensures.isolates in
+    c.read.ensures.start c.in_ok-read.ensures.initiators c.in_ok-read.ensures.deciding c.in_ok-read.ensures.pure c.in_ok-read.ensures.isolates in
     let stop : stops source c.args.split c.in-Some.c ≡ true = and_from c.args.split (is_paragraph_separator (source.class_of c.in-Some.c)) c.if-split.true (ap is_paragraph_separator (sym c.bidi_class-class.ensures) ∙ sym c.is_separator.ensures ∙ c.if-is_separator.true) in
     let ended =
     IsTextDone-close source len cs c.args.base (n + 1) h.done (h.current ++ c.in-Some.c ∷ []) found c.read.new.self more c.close.new.self (c.in-Some.at + c.char_len-len.result) end
     c.close.ensures.classes c.in_ok-close.ensures.ranges c.in_ok-close.ensures.levels c.in_ok-close.ensures.flags in
-    let fresh : IsFresh c.restart.new.self (place len cs (n + 1)) = record { here = c.restart.ensures.start ∙ end; under = c.restart.ensures.open; deciding = c.restart.ensures.deciding; turns = c.restart.ensures.flags } in (
+    let fresh : IsFresh c.restart.new.self (place len cs (n + 1)) = record { here = c.restart.ensures.start ∙ end; under = c.restart.ensures.initiators; deciding = c.restart.ensures.deciding; turns = c.restart.ensures.flags } in (
       c.in-Some.ensures.goes.keeps,
       (c.in-Some.ensures.goes.on c.loop-at.invariant.1).1,
       subst (λ m. IsRead source len cs c.args.split c.args.base m c.close.new.self c.restart.new.self) (sym (length_push c.loop-at.yielded (c.in-Some.at, c.in-Some.c)))
@@ -108,8 +108,8 @@ loop-at-preserved g c =
     let class = c.bidi_class-class.result in
     let end : c.in-Some.at + c.char_len-len.result ≡ place len cs (n + 1) = omega (arith, w.after, c.char_len-len.ensures) in
     let range : Range ℕ = record { start = c.in-Some.at; end = c.in-Some.at + c.char_len-len.result } in
-    let changed : c.read.new.classes ≡ met_units class (innermost c.loop-at.reading.open.items) c.loop-at.found.original_classes.items =
-    c.in_ok-read.ensures.classes ∙ ap (met_units class (innermost c.loop-at.reading.open.items)) c.as_mut_slice.ensures.value in
+    let changed : c.read.new.classes ≡ met_units class (innermost c.loop-at.reading.initiators.items) c.loop-at.found.original_classes.items =
+    c.in_ok-read.ensures.classes ∙ ap (met_units class (innermost c.loop-at.reading.initiators.items)) c.as_mut_slice.ensures.value in
     let longer : c.append.new.classes.items ≡ c.read.new.classes ++ replicate (len c.in-Some.c) class =
     c.in_ok-append.ensures ∙ ap (λ us. us ++ replicate c.char_len-len.result class) (with_items_is c.loop-at.found.original_classes c.read.new.classes (c.read.auto.classes ∙ c.as_mut_slice.ensures.len))
     ∙ ap (λ m. c.read.new.classes ++ replicate m class) c.char_len-len.ensures in
@@ -117,7 +117,7 @@ loop-at-preserved g c =
     let more : IsTextRead source len cs c.args.base (n + 1) h.done (h.current ++ c.in-Some.c ∷ []) found c.read.new.self =
     IsTextRead-more source len cs units c.args.base n h.done h.current c.loop-at.found c.loop-at.reading w.within h.read c.in-Some.c w.is_char class c.bidi_class-class.ensures c.read.new.classes range found c.read.new.self
     (same_range c.in-Some.at (place len cs n) (c.in-Some.at + c.char_len-len.result) (place len cs (n + 1)) w.at_place end) changed longer refl refl
-    c.read.ensures.start c.in_ok-read.ensures.open c.in_ok-read.ensures.deciding c.in_ok-read.ensures.pure c.in_ok-read.ensures.isolates in
+    c.read.ensures.start c.in_ok-read.ensures.initiators c.in_ok-read.ensures.deciding c.in_ok-read.ensures.pure c.in_ok-read.ensures.isolates in
     let on : stops source c.args.split c.in-Some.c ≡ false =
     elim c.else-split.branch [
       | else-split-via-then-split+else-is_separator w ↦ and_right c.args.split (is_paragraph_separator (source.class_of c.in-Some.c)) (ap is_paragraph_separator (sym c.bidi_class-class.ensures) ∙ sym w.is_separator.ensures ∙ w.if-is_separator.false)

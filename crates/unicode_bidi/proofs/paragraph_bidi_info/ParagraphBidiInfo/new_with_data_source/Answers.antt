@@ -9,7 +9,7 @@ use Rattle.bidi_base.specs.Isolates.{paragraph_level, stored_classes}
 use Rattle.bidi_base.specs.Laws.{AreLevelsFrom}
 use Rattle.bidi_base.specs.Stored.{stored_levels}
 use Rattle.bidi_base.specs.Text.{per_unit, is_per_char}
-use Rattle.bidi_base.proofs.LevelLaws.{text_classes-one, text_levels-one, paragraph_levels-one, length-stored_levels, stored_levels-AreLevelsFrom, All-per_unit, BoundaryNeutralsAreAlike-all}
+use Rattle.bidi_base.proofs.LevelLaws.{text_classes-one, text_levels-one, paragraph_levels-one, length-stored_levels, stored_levels-AreLevelsFrom, All-per_unit, BoundaryNeutralsAreAlike-all, StaysLeftToRight-all}
 use Rattle.bidi_base.proofs.PerCharTests.{class_test, level_test}
 use Rattle.bidi_base.proofs.StoredSteps.{length-stored_classes}
 use Rattle.bidi_base.proofs.UnitsLemmas.{is_per_char-per_unit}
@@ -23,6 +23,12 @@ returns-in_err-found-clause-boundary_neutrals_alike g c = BoundaryNeutralsAreAli
 
 pub returns-clause-boundary_neutrals_alike : goal.returns-clause-boundary_neutrals_alike
 returns-clause-boundary_neutrals_alike g c = BoundaryNeutralsAreAlike-all (g.D.BidiDataSource.source c.args.data_source.now) c.args.default_para_level
+
+pub returns-in_err-found-clause-stays_left_to_right : goal.returns-in_err-found-clause-stays_left_to_right
+returns-in_err-found-clause-stays_left_to_right g c = StaysLeftToRight-all (g.D.BidiDataSource.source c.args.data_source.now) c.args.default_para_level
+
+pub returns-clause-stays_left_to_right : goal.returns-clause-stays_left_to_right
+returns-clause-stays_left_to_right g c = StaysLeftToRight-all (g.D.BidiDataSource.source c.args.data_source.now) c.args.default_para_level
 
 pub index-requires-2 : goal.index-requires-2
 index-requires-2 g c =

@@ -1,0 +1,65 @@
+// One paragraph of a text.
+ghost use Rattle.std.specs.Prelude.{◌≡◌, ◌+◌, ◌<◌, ◌≤◌, length, slice_index, slice_range};
+
+use crate::info::BidiInfo;
+use crate::level_direction::direction_of;
+use crate::paragraph_info::ParagraphInfo;
+use bidi_base::char_data::Direction;
+use bidi_base::level::Level;
+
+/// A paragraph together with what was found out about its text.
+#[derive(Debug, Drop)]
+pub struct Paragraph<'a, 't> {
+    info: &'a BidiInfo<'t>,
+    para: &'a ParagraphInfo,
+}
+
+impl<'a, 't> Paragraph<'a, 't> {
+    ghost use Rattle.bidi_base.specs.Direction.{direction_of_levels};
+    ghost use Rattle.unicode_bidi.specs.BidiInfo.{levels as levels_of_info};
+    ghost use Rattle.unicode_bidi.specs.Paragraph.{info_of, para_of};
+    ghost use Rattle.unicode_bidi.specs.ParagraphInfo.{range_of};
+
+    /// A paragraph of this text, or any range of it with a level.
+    pub fn new(info: &'a BidiInfo<'t>, para: &'a ParagraphInfo) -> Paragraph<'a, 't>
+        ensures info { info_of result ≡ info.now }
+        ensures para { para_of result ≡ para.now }
+    {
+        Paragraph { info, para }
+    }
+
+    /// What was found out about the text.
+    pub fn info(&self) -> &'a BidiInfo<'t>
+        ensures { result.now ≡ info_of self.now }
+    {
+        self.info
+    }
+
+    /// The paragraph's range and level.
+    pub fn para(&self) -> &'a ParagraphInfo
+        ensures { result.now ≡ para_of self.now }
+    {
+        self.para
+    }
+
+    /// The direction of the paragraph's levels: left to right if there are some and all are even,
+    /// right to left if none is even, else mixed. Its range must lie in the text.
+    pub fn direction(&self) -> Direction
+        requires { (range_of (para_of self.now)).end ≤ length (levels_of_info (info_of self.now)) }
+        ensures { let range = range_of (para_of self.now) in
+            result ≡ direction_of_levels (slice_range (levels_of_info (info_of self.now)) range.start range.end) }
+    {
+        let Paragraph { info, para } = self;
+        direction_of(&info.levels()[para.range()])
+    }
+
+    /// The level of the character at a byte, counted from the paragraph's start. The byte must lie
+    /// in the text.
+    pub fn level_at(&self, pos: usize) -> Level
+        requires { (range_of (para_of self.now)).start + pos < length (levels_of_info (info_of self.now)) }
+        ensures { result ≡ slice_index (levels_of_info (info_of self.now)) ((range_of (para_of self.now)).start + pos) }
+    {
+        let Paragraph { info, para } = self;
+        info.levels()[para.range().start + pos]
+    }
+}
