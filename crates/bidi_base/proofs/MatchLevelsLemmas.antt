@@ -1,5 +1,5 @@
 -- A matching PDI stands inside the same isolates and embeddings as its initiator, and so has its explicit level.
-use Rattle.std.proofs.Common.{◌≡◌, ℕ, zero, suc, ◌+◌, ◌-◌, ◌<◌, ◌≤◌, Bool, true, false, not, ◌&&◌, ◌||◌, cond, ltb, eqb, List, [], ◌∷◌, ◌++◌, length, get_or, map, append-nil, Option, Some, None, refl, sym, ap, subst, ◌∙◌, arith, inl, inr, eqb-true, ltb-true, lt-ltb}
+use Rattle.std.proofs.Common.{◌≡◌, ℕ, zero, suc, ◌+◌, ◌-◌, ◌<◌, ◌≤◌, Bool, true, false, not, ◌&&◌, ◌||◌, cond, ltb, eqb, List, ◌++◌, length, get_or, map, append-nil, Option, Some, None, refl, sym, ap, subst, ◌∙◌, arith, inl, inr, eqb-true, ltb-true, lt-ltb}
 use Rattle.std.specs.Prelude.{filter}
 use Rattle.std.specs.List.{range_with_len, list_all}
 use Rattle.std.proofs.lemmas.Bool.{cases_Bool, cases_eq, cases_lt, both_ways, cond-true, cond-false, false_from_ne_true, and_parts, and_left, and_right, or_from, or_cases, not-true}

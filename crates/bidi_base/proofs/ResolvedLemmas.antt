@@ -27,24 +27,9 @@ use Rattle.bidi_base.proofs.StoredSteps.{length-stored_classes}
 use Rattle.bidi_base.proofs.SequencePlaces.{times_in, places_of, sequences-kept, sequences-all, sequence-kept, sequence-not_empty}
 use Rattle.bidi_base.proofs.StoredLemmas.{IsExplicitIn, explicit_levels-IsExplicitIn, length-at_places, at_places-agree, times_in-at, is_kept_at-stored_classes}
 
--- ---- one sequence after another is resolved
+-- ---- the sequences are resolved
 
 module _ (source : List BidiClass) (brackets : List (Option BidiMatchedOpeningBracket)) (levels : List ℕ) (classes : List BidiClass) where
-  -- what is written elsewhere leaves them as they are
-  pub AreResolved-kept : (new other : List ℕ) (seqs : List RunSequence) → ((p : ℕ) → 0 < times_in (places_of seqs) p → level_at other p ≡ level_at new p)
-      → AreResolved source brackets levels classes new seqs → AreResolved source brackets levels classes other seqs
-  AreResolved-kept new other [] agree h = h
-  AreResolved-kept new other (s ∷ seqs) agree h =
-      let joined : (p : ℕ) → times_in (places_of (s ∷ seqs)) p ≡ times_in s.places p + times_in (places_of seqs) p = λ p. sum_by-append (λ q. cond (eqb q p) 1 0) s.places (places_of seqs) in (
-        at_places-agree 0 other new s.places (λ p there. agree p (omega (arith, joined p))) ∙ h.0,
-        AreResolved-kept new other seqs (λ p there. agree p (omega (arith, joined p))) h.1,
-      )
-
-  pub AreResolved-push : (new : List ℕ) (seqs : List RunSequence) (s : RunSequence) → AreResolved source brackets levels classes new seqs → at_places 0 new s.places ≡ resolved_levels source brackets levels classes s
-      → AreResolved source brackets levels classes new (seqs ++ s ∷ [])
-  AreResolved-push new [] s h e = (e, tt)
-  AreResolved-push new (r ∷ seqs) s h e = (h.0, AreResolved-push new seqs s h.1 e)
-
   -- all of them, one by one
   pub AreResolved-each : (new : List ℕ) (seqs : List RunSequence) → ((k : ℕ) (d : RunSequence) → k < length seqs → at_places 0 new (get_or seqs k d).places ≡ resolved_levels source brackets levels classes (get_or seqs k d))
       → AreResolved source brackets levels classes new seqs

@@ -1,19 +1,15 @@
 -- Where the characters of sequences stand: each is kept, no two sequences share one, and none stands twice. What their levels and ends are.
-use Rattle.std.proofs.Common.{◌≡◌, ℕ, zero, suc, ◌+◌, ◌<◌, ◌≤◌, Bool, true, cond, eqb, List, [], ◌∷◌, length, get_or, take, count_by, Option, Some, refl, sym, ap, subst, ◌∙◌, arith, inl, inr, eqb-true}
+use Rattle.std.proofs.Common.{◌≡◌, ℕ, zero, suc, ◌+◌, ◌<◌, ◌≤◌, Bool, true, cond, eqb, List, [], ◌∷◌, length, get_or, take, count_by, Option, Some, sym, ap, subst, arith, inl, inr, eqb-true}
 use Rattle.std.specs.Prelude.{filter, flat_map}
 use Rattle.std.specs.List.{range_with_len}
-use Rattle.std.proofs.lemmas.Bool.{cases_Bool, cond-true, cond-false, cond_both}
+use Rattle.std.proofs.lemmas.Bool.{cases_Bool, cond-true, cond-false}
 use Rattle.std.proofs.lemmas.List.{length-map, get_or-map}
 use Rattle.std.proofs.lemmas.List.Sums.{sum_by-cons, sum_by-append}
 use Rattle.std.proofs.lemmas.List.Sorted.{sum_by-IsPermutation}
 use Rattle.bidi_base.specs.declared.char_data.BidiClass.{BidiClass}
-use Rattle.bidi_base.specs.declared.char_data.BidiClass.TheVariants.{L, R}
-use Rattle.bidi_base.specs.Classes.{is_l_or_r}
-use Rattle.bidi_base.specs.Levels.{is_odd, direction_of}
 use Rattle.bidi_base.specs.Places.{chain}
-use Rattle.bidi_base.specs.Sequences.{RunSequence, is_kept_at, kept_places, successor, is_first, start_class, end_class, sequence_from, sequences}
+use Rattle.bidi_base.specs.Sequences.{RunSequence, is_kept_at, kept_places, successor, is_first, sequence_from, sequences}
 use Rattle.bidi_base.proofs.SequencesLemmas.{IsPermutation-sequences}
-use Rattle.bidi_base.proofs.NeutralLemmas.{direction_of-l_or_r}
 use Rattle.bidi_base.proofs.LevelTableLemmas.{count_at-range, count_at-in}
 
 -- how often p stands in a list of places
@@ -90,13 +86,6 @@ module _ (paragraph : ℕ) (classes : List BidiClass) (levels : List ℕ) where
     sequence-kept p there =
         sequences-kept p (omega (arith, times_in-parts (λ (s : RunSequence). s.places) (sequences paragraph classes levels) k d p within))
 
-    pub sequence-once : (p : ℕ) → times_in (get_or (sequences paragraph classes levels) k d).places p ≤ 1
-    sequence-once p = omega (arith, sequences-once p, times_in-parts (λ (s : RunSequence). s.places) (sequences paragraph classes levels) k d p within)
-
-    -- a place of it stands in no earlier one
-    pub sequence-apart : (p : ℕ) → 0 < times_in (places_of (take k (sequences paragraph classes levels))) p → times_in (get_or (sequences paragraph classes levels) k d).places p ≡ 0
-    sequence-apart p there = omega (arith, sequences-once p, times_in-parts (λ (s : RunSequence). s.places) (sequences paragraph classes levels) k d p within)
-
     -- it goes on from some character
     pub sequence-begun : (first : ℕ) × (get_or (sequences paragraph classes levels) k d ≡ sequence_from paragraph classes levels first)
     unfolding sequences
@@ -108,12 +97,3 @@ module _ (paragraph : ℕ) (classes : List BidiClass) (levels : List ℕ) where
     pub sequence-not_empty : 0 < length (get_or (sequences paragraph classes levels) k d).places
     unfolding sequence_from
     sequence-not_empty = subst (λ (s : RunSequence). 0 < length s.places) (sym sequence-begun.1) (chain_begun (successor classes levels) (length classes) sequence-begun.0 (some_classes paragraph classes levels k within))
-
-    -- what stands before its first character and after its last
-    pub sequence-sos : is_l_or_r (get_or (sequences paragraph classes levels) k d).sos ≡ true
-    unfolding sequence_from start_class
-    sequence-sos = ap (λ (s : RunSequence). is_l_or_r s.sos) sequence-begun.1 ∙ direction_of-l_or_r _
-
-    pub sequence-eos : is_l_or_r (get_or (sequences paragraph classes levels) k d).eos ≡ true
-    unfolding sequence_from end_class
-    sequence-eos = ap (λ (s : RunSequence). is_l_or_r s.eos) sequence-begun.1 ∙ direction_of-l_or_r _

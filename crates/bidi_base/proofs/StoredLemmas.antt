@@ -9,7 +9,7 @@ use Rattle.bidi_base.specs.declared.char_data.BidiClass.TheVariants.{L, R, AL, L
 use Rattle.bidi_base.specs.Classes.{is_kept, is_removed, is_paragraph_separator}
 use Rattle.bidi_base.specs.Places.{class_at, at_places}
 use Rattle.bidi_base.specs.Isolates.{resolved_fsi, deciding_class, isolated_classes, stored_class, stored_classes}
-use Rattle.bidi_base.specs.Explicit.{Status, override_of, asked_level, status_inside, status_at, explicit_level, explicit_class, explicit_levels, explicit_classes}
+use Rattle.bidi_base.specs.Explicit.{Status, override_of, asked_level, status_inside, status_at, explicit_class, explicit_levels, explicit_classes}
 use Rattle.bidi_base.specs.Sequences.{is_kept_at, level_at}
 use Rattle.bidi_base.proofs.ExplicitLemmas.{explicit_level-IsWithin, level_at-explicit_levels, class_at-explicit_classes}
 use Rattle.bidi_base.proofs.SequencePlaces.{times_in}
@@ -116,10 +116,6 @@ list_all-at_places_back test d xs (q ∷ ps) p h there =
           let none : cond {A = ℕ} (eqb q p) 1 0 ≡ 0 = cond-false (eqb q p) 1 0 other in
           list_all-at_places_back test d xs ps p parts.1 (omega (arith, sum_by-cons (λ n. cond (eqb n p) 1 0) q ps))
     ]
-
-pub at_places-push : {X : Type 0} (d : X) (xs : List X) (ps : List ℕ) (p : ℕ) → at_places d xs (ps ++ p ∷ []) ≡ at_places d xs ps ++ get_or xs p d ∷ []
-at_places-push d xs [] p = refl
-at_places-push {X} d xs (q ∷ ps) p = ap (λ (zs : List X). get_or xs q d ∷ zs) (at_places-push d xs ps p)
 
 -- an element that stands in a list stands at one of its indexes
 pub times_in-at : (ps : List ℕ) (k d : ℕ) → k < length ps → 0 < times_in ps (get_or ps k d)

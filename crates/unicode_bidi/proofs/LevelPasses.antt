@@ -235,8 +235,8 @@ module _ (len_of : ℕ → ℕ) (h : HasUnits len_of) (chars : List ℕ) (source
         subst (All (λ (n : ℕ). n ≤ 125)) (sym ready.levels_is)
         (All-per_unit (λ (n : ℕ). n ≤ 125) len_of chars levels
         (λ k d within.
-            let inside : k < length stored = omega (arith, within, length-explicit_levels paragraph stored) in
-            subst (λ (n : ℕ). n ≤ 125) (get_or_default levels k 0 d within) (explicit_levels-IsExplicitIn paragraph stored k fits inside).below))
+        let inside : k < length stored = omega (arith, within, length-explicit_levels paragraph stored) in
+        subst (λ (n : ℕ). n ≤ 125) (get_or_default levels k 0 d within) (explicit_levels-IsExplicitIn paragraph stored k fits inside).below))
 
     -- I1 and I2 once all are resolved
     pub record AreLevels (new : List ℕ) : Type 0 where
@@ -264,7 +264,7 @@ module _ (len_of : ℕ → ℕ) (h : HasUnits len_of) (chars : List ℕ) (source
               (AreResolved-all paragraph stored (map characters out) ready.sequences_are source brackets now.values of_chars
               (subst (λ (ss : List RunSequence). IsUnderWay source brackets stored levels classes ss now.values) all now.under_way)
               (λ p within.
-                  let fits : p < length chars = omega (arith, within, length-stored_classes source, ready.fits) in
-                  get_or-map (λ (e : ℕ × BidiClass). implicit_level e.0 e.1) (zip levels now.values) p (0, L) 0 (omega (arith, fits, length-zip levels now.values, long, levels_long))
-                  ∙ ap (λ (e : ℕ × BidiClass). implicit_level e.0 e.1) (get_or-zip levels now.values p (0, L) (omega (arith, fits, levels_long)) (omega (arith, fits, long)))));
+              let fits : p < length chars = omega (arith, within, length-stored_classes source, ready.fits) in
+              get_or-map (λ (e : ℕ × BidiClass). implicit_level e.0 e.1) (zip levels now.values) p (0, L) 0 (omega (arith, fits, length-zip levels now.values, long, levels_long))
+              ∙ ap (λ (e : ℕ × BidiClass). implicit_level e.0 e.1) (get_or-zip levels now.values p (0, L) (omega (arith, fits, levels_long)) (omega (arith, fits, long)))));
         }

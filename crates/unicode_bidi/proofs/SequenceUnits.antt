@@ -78,8 +78,8 @@ module _ (len_of : ℕ → ℕ) (h : HasUnits len_of) (chars : List ℕ) where
       let here : filter test (between i j) ≡ filter (is_kept_at stored) (between i j) =
       filter_range-agree test (is_kept_at stored) i (j - i)
       (λ k from below.
-          let fits : k < length chars = omega arith in
-          ap is_read (ap (λ (us : List BidiClass). class_at us (place len_of chars k)) is ∙ get_or-per_unit-place len_of h chars values k L long fits) ∙ read k fits) in
+      let fits : k < length chars = omega arith in
+      ap is_read (ap (λ (us : List BidiClass). class_at us (place len_of chars k)) is ∙ get_or-per_unit-place len_of h chars values k L long fits) ∙ read k fits) in
       filter-append test (between i j) rest
       ∙ ap (λ (ks : List ℕ). ks ++ filter test rest) here
       ∙ ap (λ (ks : List ℕ). filter (is_kept_at stored) (between i j) ++ ks) (read_in_runs-kept stored values units runs long is read)

@@ -3,6 +3,7 @@ use Rattle.std.specs.declared.ops.Range.{Range}
 use Rattle.std.proofs.lemmas.Result.{on_ok_weaker}
 use Rattle.bidi_base.specs.Isolates.{stored_classes}
 use Rattle.bidi_base.specs.Text.{per_unit, subrange, text_len}
+use Rattle.unicode_bidi.specs.ParagraphFlags.{flags_of}
 use Rattle.unicode_bidi.proofs.LineInText.{length-part}
 use Rattle.unicode_bidi.proofs.ParagraphUnits.{paragraph-IsPart, paragraph-written}
 use Rattle.unicode_bidi.specs.ParagraphFlags.{flags_of}

@@ -1,9 +1,9 @@
-use Rattle.std.proofs.Common.{List, ℕ, arith, sym, subst, ◌∙◌, false, get_or, ap}
-use Rattle.std.proofs.lemmas.List.Elements.{All-get_or}
-use Rattle.unicode_bidi.specs.Analysis.{unit_levels, CanWrite, own_flags}
-use Rattle.unicode_bidi.proofs.ParagraphUnits.{AreParagraphsWritten-more, length-unit_levels}
+use Rattle.std.proofs.Common.{◌∙◌, false, List, ℕ, get_or, arith, ap, sym, subst}
 use Rattle.std.proofs.lemmas.List.{get_or-map}
+use Rattle.std.proofs.lemmas.List.Elements.{All-get_or}
+use Rattle.unicode_bidi.specs.Analysis.{unit_levels, own_flags, CanWrite}
 use Rattle.unicode_bidi.specs.declared.initial.ParagraphFlags.{ParagraphFlags}
+use Rattle.unicode_bidi.proofs.ParagraphUnits.{AreParagraphsWritten-more, length-unit_levels}
 use Rattle.unicode_bidi.proofs.analysis.write_paragraphs.Goals as goal
 
 pub write_paragraph-requires-clause-paragraph : goal.write_paragraph-requires-clause-paragraph
