@@ -8,13 +8,14 @@ use Rattle.bidi_base.specs.Places.{at_places, class_at}
 use Rattle.bidi_base.specs.Source.{Source}
 use Rattle.bidi_base.specs.Text.{place}
 use Rattle.bidi_rules.specs.declared.implicit.brackets.Bracket.{Bracket}
+use Rattle.bidi_rules.specs.declared.implicit.neutral.NeutralResolver.{NeutralResolver}
 use Rattle.bidi_rules.specs.FoundBrackets.{found_brackets}
 
 -- the characters among those with these indexes that the pass reads, where `units` has the class of each unit
 abbrev pub read_among : (ℕ → ℕ) → List ℕ → List BidiClass → List ℕ → List ℕ
 read_among len_of chars units indexes = filter (λ k. is_read (class_at units (place len_of chars k))) indexes
 
--- the units at which the characters with these indexes have their values
+-- the values of the characters with these indexes, where `units` has one a unit
 abbrev pub values_of : {X : Type 0} → X → (ℕ → ℕ) → List ℕ → List X → List ℕ → List X
 values_of d len_of chars units indexes = at_places d units (map (place len_of chars) indexes)
 
@@ -32,3 +33,10 @@ abbrev pub put_at : {X : Type 0} → List ℕ → List X → List X → List X
 put_at [] values xs = xs
 put_at (k ∷ indexes) [] xs = xs
 put_at (k ∷ indexes) (v ∷ values) xs = put_at indexes values (slice_set xs k v)
+
+-- a resolver that has gathered nothing
+pub record HasGatheredNothing (r : NeutralResolver) : Type 0 where
+  pub classes : r.classes.items ≡ []
+  pub brackets : r.brackets.items ≡ []
+  pub pairs : r.pairs.items ≡ []
+  pub sources : r.sources.items ≡ []

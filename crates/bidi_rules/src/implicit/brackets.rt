@@ -3,15 +3,16 @@
 
 ghost use Rattle.std.specs.Prelude.{◌≡◌, ◌==◌, ◌||◌, not, ◌<◌, nat_lt, ◌≤◌, [], length, reverse, filter, map, slice_get, if◌then◌else◌, OnOk, IfSome, IfNone};
 ghost use Rattle.std.specs.List.{list_any, prefix_len};
-ghost use Rattle.bidi_base.specs.Classes.{as_direction as as_direction_of, is_nsm};
+ghost use Rattle.bidi_base.specs.Classes.{is_nsm};
 ghost use Rattle.bidi_base.specs.Places.{class_at, find_last, indexes};
 ghost use Rattle.bidi_base.specs.Brackets.{AreNestedPairs};
 ghost use Rattle.bidi_base.specs.Neutral.{is_mark_after, n0, nearest_direction};
 ghost use Rattle.bidi_rules.specs.FoundBrackets.{ArePairsOf};
 ghost use Rattle.bidi_rules.specs.PairWalk.{stands_for as stands_for_of, is_directed, first_pair_walk, come_to as come_to_of, enclosed_in, taken};
 
+use super::as_direction;
 use arrayvec::ArrayVec;
-use bidi_base::char_data::BidiClass::{self, AN, EN, L, NSM, R};
+use bidi_base::char_data::BidiClass::{self, NSM};
 use std::alloc::AllocError;
 
 /// How many openings may wait for their closings at once (BD16).
@@ -300,17 +301,6 @@ fn marks(source: &[BidiClass]) -> usize
     ensures within { result ≤ length source.now }
 {
     source.iter().take_while(|class| **class == NSM).count()
-}
-
-/// The direction that a class stands for in N0, where numbers stand for R.
-fn as_direction(class: BidiClass) -> Option<BidiClass>
-    ensures { result ≡ as_direction_of class }
-{
-    match class {
-        L => Some(L),
-        R | EN | AN => Some(R),
-        _ => None,
-    }
 }
 
 fn stands_for(class: BidiClass, direction: BidiClass) -> bool

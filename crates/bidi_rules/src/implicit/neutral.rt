@@ -15,7 +15,7 @@ ghost use Rattle.bidi_base.specs.Sequences.{level_at};
 ghost use Rattle.bidi_base.specs.Text.{is_per_char, place, text_len, IsLine};
 ghost use Rattle.bidi_base.specs.Units.{bounds, in_runs, read_in_runs, AreLines};
 ghost use Rattle.bidi_rules.specs.FoundBrackets.{brackets_from, found_brackets};
-ghost use Rattle.bidi_rules.specs.NeutralPass.{values_of, AreBracketsOf, AreGathered};
+ghost use Rattle.bidi_rules.specs.NeutralPass.{values_of, AreBracketsOf, AreGathered, HasGatheredNothing};
 ghost use Rattle.bidi_rules.specs.RunSequence.{runs as runs_of, sos as sos_of, eos as eos_of};
 
 mod directions;
@@ -33,7 +33,7 @@ use std::alloc::{AllocError, Global};
 use units::{first_read, gather_sources, write_back};
 
 /// Resolves the neutrals of one sequence after another, and keeps its memory from each to the next.
-#[derive(Drop)]
+#[derive(Debug, Drop)]
 pub struct NeutralResolver {
     /// The classes of the sequence's characters that are not BN, as far as they are resolved.
     classes: Vec<BidiClass>,
@@ -46,8 +46,10 @@ pub struct NeutralResolver {
 }
 
 impl NeutralResolver {
-    /// A resolver that holds no memory yet.
-    pub fn new(alloc: Global) -> NeutralResolver {
+    /// A resolver that has gathered nothing yet. No memory is taken.
+    pub fn new(alloc: Global) -> NeutralResolver
+        ensures { HasGatheredNothing result }
+    {
         NeutralResolver {
             classes: Vec::new(alloc),
             brackets: Vec::new(alloc),
@@ -211,10 +213,14 @@ impl NeutralResolver {
 
 /// The neutrals of a sequence, in place: N0 to N2 over its characters that are not BN.
 ///
-/// Each unit of `processing_classes` has the class of its character after W7, and those of
-/// `original_classes` have the stored classes. The embedding direction is that of the level of the
-/// sequence's first unit that is not BN. The sequence fits the text. BN stays, and so do the units
-/// outside the sequence. After a refusal all classes are as they were.
+/// Each unit of `processing_classes` has the class of its character: those of the sequence the one
+/// after W7, or BN for what X9 removed. `levels` and `original_classes` have an entry for each unit
+/// too, and the latter the stored classes. The sequence fits the text. The embedding direction is
+/// that of the level at the sequence's first unit that is not BN; no other level is read.
+///
+/// BN stays, and so do the units outside the sequence. After a refusal, which comes for want of
+/// memory alone, all classes are as they were. [`NeutralResolver`] does the same for many sequences
+/// with the same memory.
 pub fn resolve_neutral<D: BidiDataSource, T: TextSource>(
     alloc: Global,
     text: T,

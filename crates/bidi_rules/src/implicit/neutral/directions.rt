@@ -2,11 +2,12 @@
 
 ghost use Rattle.std.specs.Prelude.{◌≡◌, ◌-◌, ◌≤◌, length, if◌then◌else◌, IsTrue};
 ghost use Rattle.std.specs.List.{list_all};
-ghost use Rattle.bidi_base.specs.Classes.{as_direction, is_weak_resolved, same_class};
+ghost use Rattle.bidi_base.specs.Classes.{is_weak_resolved, same_class};
 ghost use Rattle.bidi_base.specs.Neutral.{n1_n2};
 ghost use Rattle.bidi_rules.specs.ExplicitPass.{filled};
 
-use bidi_base::char_data::BidiClass::{self, AN, EN, L, R};
+use crate::implicit::as_direction;
+use bidi_base::char_data::BidiClass;
 
 /// N1 and N2: neutrals take the direction on both their sides, where sos and eos stand at the ends,
 /// and the embedding direction where the two differ.
@@ -22,7 +23,7 @@ pub fn resolve_directions(
     let mut left = sos;
     let mut start = 0;
     for at in 0..classes.len() {
-        if let Some(right) = direction(classes[at]) {
+        if let Some(right) = as_direction(classes[at]) {
             settle(classes, start, at, common_direction(embedding, left, right));
             left = right;
             start = at + 1;
@@ -30,17 +31,6 @@ pub fn resolve_directions(
     }
     let end = classes.len();
     settle(classes, start, end, common_direction(embedding, left, eos));
-}
-
-/// The direction that a class stands for, where numbers stand for R.
-fn direction(class: BidiClass) -> Option<BidiClass>
-    ensures { result ≡ as_direction class }
-{
-    match class {
-        L => Some(L),
-        R | EN | AN => Some(R),
-        _ => None,
-    }
 }
 
 /// What neutrals between two directions take.

@@ -1,7 +1,6 @@
 use Rattle.std.proofs.Common.{◌≡◌, ◌<◌, ℕ, List, length, map, get_or, refl, sym, ap, ◌∙◌, arith}
 use Rattle.std.specs.List.{list_all}
 use Rattle.std.proofs.lemmas.List.{get_or_default, with_items_is}
-use Rattle.bidi_base.specs.declared.char_data.BidiClass.{BidiClass}
 use Rattle.bidi_base.specs.declared.char_data.BidiClass.TheVariants.{L}
 use Rattle.bidi_base.specs.Classes.{is_weak_resolved}
 use Rattle.bidi_base.specs.Levels.{direction_of}
@@ -12,7 +11,7 @@ use Rattle.bidi_base.specs.Source.{Source}
 use Rattle.bidi_base.specs.Units.{bounds, read_in_runs}
 use Rattle.bidi_rules.specs.NeutralPass.{values_of}
 use Rattle.bidi_rules.specs.RunSequence.{eos as eos_of}
-use Rattle.bidi_rules.proofs.Gathered.{AreGathered-brackets, AreGathered-length, length-brackets_of}
+use Rattle.bidi_rules.proofs.Gathered.{AreGathered-brackets, AreGathered-length}
 use Rattle.bidi_rules.proofs.NeutralSteps.{AreSteps, IsReady-sequence, long, runs-within, first-within, paired-resolved, length-resolved, IsResolved-steps, IsResolved-none, IsResolved-sequence}
 use Rattle.bidi_rules.proofs.implicit.neutral.NeutralResolver.resolve.Goals as goal
 

@@ -1,4 +1,4 @@
-use Rattle.std.proofs.Common.{◌≡◌, ◌-◌, length, refl, sym, ap, ◌∙◌, arith}
+use Rattle.std.proofs.Common.{◌-◌, length, refl, sym, ap, ◌∙◌, arith}
 use Rattle.bidi_base.specs.declared.char_data.BidiClass.{BidiClass}
 use Rattle.bidi_rules.specs.ExplicitPass.{filled}
 use Rattle.bidi_rules.proofs.NeutralScan.{IsScanned-start, IsScanned-neutral, IsScanned-direction, IsScanned-end}
@@ -15,14 +15,14 @@ pub loop-at-preserved : goal.loop-at-preserved
 loop-at-preserved c =
     let a = c.args in
     let s = c.loop-at in
-    elim c.match-direction.branch [
+    elim c.match-as_direction.branch [
       | in-Some w ↦
           rw (w.classes-is, w.left-is, w.start-is)
-          (IsScanned-direction a.embedding a.sos a.eos a.classes.now s.classes w.settle.new.classes s.left w.in-Some.right s.start s.at c.requires c.loop-at-test.true (sym c.direction.ensures ∙ w.in-Some.is)
+          (IsScanned-direction a.embedding a.sos a.eos a.classes.now s.classes w.settle.new.classes s.left w.in-Some.right s.start s.at c.requires c.loop-at-test.true (sym c.as_direction.ensures ∙ w.in-Some.is)
           (w.settle.ensures ∙ ap (λ (y : BidiClass). filled s.start (s.at - s.start) y s.classes) w.common_direction.ensures) s.invariant)
       | in_default w ↦
           rw (w.classes-is, w.left-is, w.start-is)
-          (IsScanned-neutral a.embedding a.sos a.eos a.classes.now s.classes s.left s.start s.at c.requires c.loop-at-test.true (sym c.direction.ensures ∙ w.in_default.is) s.invariant)
+          (IsScanned-neutral a.embedding a.sos a.eos a.classes.now s.classes s.left s.start s.at c.requires c.loop-at-test.true (sym c.as_direction.ensures ∙ w.in_default.is) s.invariant)
     ]
 
 pub settle-requires-2-clause-begins : goal.settle-requires-2-clause-begins
