@@ -1,8 +1,8 @@
 -- Values put at indexes of a list, and at the units of the characters with these indexes.
-use Rattle.std.proofs.Common.{◌≡◌, ◌≢◌, ℕ, zero, suc, ◌+◌, ◌<◌, ◌≤◌, Bool, true, false, List, [], ◌∷◌, ◌++◌, length, get_or, take, drop, set, refl, sym, ap, subst, ◌∙◌, arith, add-one, drop-cons, drop-set-lt, get_or-set_same, get_or-set_other, length-set}
+use Rattle.std.proofs.Common.{◌≡◌, ◌≢◌, ℕ, zero, suc, ◌+◌, ◌<◌, ◌≤◌, Bool, true, false, List, [], ◌∷◌, ◌++◌, length, get_or, take, drop, set, refl, sym, ap, subst, ◌∙◌, arith, add-one, drop-cons, drop-drop, drop-set-lt, get_or-drop, get_or-take, get_or-set_same, get_or-set_other, length-drop, length-set}
 use Rattle.std.specs.Prelude.{replicate, All}
 use Rattle.std.proofs.lemmas.Bool.{both_ways}
-use Rattle.std.proofs.lemmas.List.{take-append-drop, take-set}
+use Rattle.std.proofs.lemmas.List.{ext_get_or, get_or-replicate, length-replicate, length-take-le, take-append-drop, take-set}
 use Rattle.std.proofs.lemmas.List.Elements.{All-head, All-tail}
 use Rattle.bidi_base.specs.Places.{at_places}
 use Rattle.bidi_base.specs.Text.{place, per_unit}
@@ -68,6 +68,20 @@ at_places-put_at {X} low high (k ∷ ks) (v ∷ vs) xs d h fits long =
     let size : high ≤ length (set xs k v) = omega (arith, length-set xs k v) in
     ap {B = List X} (λ x. x ∷ at_places d (put_at ks vs (set xs k v)) ks) (put_at-below (k + 1) high ks vs (set xs k v) k d h.1 (omega arith) ∙ get_or-set_same xs k v d within)
     ∙ ap {B = List X} (λ ys. v ∷ ys) (at_places-put_at (k + 1) high ks vs (set xs k v) d h.1 size (omega arith))
+
+-- where the values are the same already
+pub filled-same : {X : Type 0} (xs : List X) (start len : ℕ) (v d : X) → start + len ≤ length xs → ((k : ℕ) → k < len → get_or xs (start + k) d ≡ v) → filled start len v xs ≡ xs
+filled-same {X} xs start len v d fits each =
+    let part : replicate len v ≡ take len (drop start xs) =
+    ext_get_or d (replicate len v) (take len (drop start xs)) (length-replicate len v ∙ sym (length-take-le len (drop start xs) (omega (arith, length-drop start xs))))
+    (λ k below.
+    let within : k < len = omega (arith, length-replicate len v) in
+    get_or-replicate len k v d within ∙ sym (get_or-take len (drop start xs) k d within ∙ get_or-drop start xs k d ∙ each k within))
+    in
+    ap (λ (us : List X). take start xs ++ (us ++ drop (start + len) xs)) part
+    ∙ ap (λ (us : List X). take start xs ++ (take len (drop start xs) ++ us)) (sym (drop-drop len start xs))
+    ∙ ap (λ (us : List X). take start xs ++ us) (take-append-drop len (drop start xs))
+    ∙ take-append-drop start xs
 
 -- one value for all units of a character
 pub filled-per_unit : {X : Type 0} (len_of : ℕ → ℕ) (chars : List ℕ) (xs : List X) (k start len : ℕ) (v : X) → k < length chars → length xs ≡ length chars → start ≡ place len_of chars k → len ≡ len_of (get_or chars k 0)

@@ -8,7 +8,7 @@ use Rattle.bidi_base.specs.Places.{between, class_at}
 use Rattle.bidi_base.specs.Text.{place, IsLine, char_index, per_char, per_unit, IsPerChar}
 use Rattle.bidi_base.specs.Units.{are_ordered, bounds, chars_in_runs, read_in_runs, AreLines}
 use Rattle.bidi_base.proofs.ChainLemmas.{filter_range-agree}
-use Rattle.bidi_base.proofs.PerUnit.{length-per_char, get_or-per_char, get_or-per_unit-place, per_char-per_unit}
+use Rattle.bidi_base.proofs.PerUnit.{length-per_char, get_or-per_char, get_or-per_unit, get_or-per_unit-place, per_char-per_unit}
 use Rattle.bidi_base.proofs.PermutationLemmas.{Ascends, Ascends-filter, Ascends-range}
 use Rattle.bidi_base.proofs.PlaceLemmas.{char_index-le}
 use Rattle.bidi_base.proofs.TextLemmas.{HasUnits}
@@ -57,6 +57,20 @@ module _ (len_of : ℕ → ℕ) (h : HasUnits len_of) (chars : List ℕ) (units 
         ∙ put_at-above i (i + n) (read_so_far len_of chars units start n) (drop first resolved) values (i + n) L (ascends n) (omega arith)
         ∙ get_or-per_char L len_of chars units (i + n) L turn.fits
         ∙ ap (class_at units) turn.here
+
+    -- on all its units
+    pub IsWrittenBack-alike : (len k : ℕ) → len ≡ len_of c → k < len → class_at now (start + offset + k) ≡ class_at now (start + offset)
+    IsWrittenBack-alike len k len_is below =
+        let i = char_index len_of chars start + n in
+        let here = turn.here in
+        let first : start + offset ≡ place len_of chars i + 0 = omega arith in
+        let at : start + offset + k ≡ place len_of chars i + k = omega arith in
+        let value : (j : ℕ) → j < len → class_at now (place len_of chars i + j) ≡ class_at (now_of n) i =
+        λ j short.
+        ap (λ (us : List BidiClass). class_at us (place len_of chars i + j)) w.classes_are
+        ∙ get_or-per_unit len_of chars (now_of n) i j 0 L (length-now_of n) turn.fits (omega (arith, len_is, ap len_of turn.is_char))
+        in
+        ap (class_at now) at ∙ value k below ∙ sym (value 0 (omega arith)) ∙ sym (ap (class_at now) first)
 
     -- and a class to take, if it is read
     pub IsWrittenBack-room : is_read (class_at units (start + offset)) ≡ true → first + length (read_in_runs len_of chars units ((start, stop) ∷ [])) ≤ length resolved → next < length resolved

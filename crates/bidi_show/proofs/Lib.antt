@@ -1,3 +1,5 @@
 mod ListsLemmas
 mod NumbersLemmas
+mod PieceLines
+mod ShownLemmas
 mod TextsLemmas

@@ -8,8 +8,10 @@ mod command;
 mod ends;
 mod failure_count;
 mod fault;
+mod input;
 mod number;
 mod run;
+mod shown;
 mod streams;
 #[cfg(test)]
 mod tests;

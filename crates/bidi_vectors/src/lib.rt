@@ -10,6 +10,7 @@ mod initial_rows;
 mod level_rows;
 #[cfg(test)]
 mod neutral_units_rows;
+mod line_rows;
 #[cfg(test)]
 mod order_rows;
 #[cfg(test)]

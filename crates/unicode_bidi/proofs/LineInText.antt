@@ -1,18 +1,17 @@
 -- A line as a part of its text: L1 over units is L1 over characters, and the levels of the whole text around it.
-use Rattle.std.proofs.Common.{◌≡◌, ℕ, zero, suc, ◌+◌, ◌-◌, ◌<◌, ◌≤◌, cond, if◌then◌else◌, ◌&&◌, ◌||◌, Bool, true, false, List, [], ◌∷◌, ◌++◌, length, take, drop, get_or, refl, sym, ap, ap₂, subst, ◌∙◌, arith, append_assoc, length-append, length-take-le, length-drop}
+use Rattle.std.proofs.Common.{◌≡◌, ℕ, zero, suc, ◌+◌, ◌-◌, ◌≤◌, if◌then◌else◌, ◌&&◌, ◌||◌, Bool, true, false, List, [], ◌∷◌, ◌++◌, length, take, drop, refl, sym, ap, ap₂, ◌∙◌, arith, append_assoc, length-append, length-take-le, length-drop}
 use Rattle.std.proofs.Math.Seq.{take-append_seam, drop-append_seam}
 use Rattle.std.specs.Prelude.{replicate, slice_range}
 use Rattle.std.specs.List.{list_any}
-use Rattle.std.proofs.lemmas.List.{drop-drop, take-append-drop, length-replicate}
+use Rattle.std.proofs.lemmas.List.{drop-drop, take-append-drop}
 use Rattle.std.proofs.lemmas.List.Folds.{list_any-append}
 use Rattle.bidi_base.specs.declared.char_data.BidiClass.{BidiClass}
-use Rattle.bidi_base.specs.declared.char_data.BidiClass.TheVariants.{L}
 use Rattle.bidi_base.specs.Classes.{is_removed, is_separator}
 use Rattle.bidi_base.specs.Line.{is_blank, is_reset, line_levels_after, line_levels, levels_with_line}
-use Rattle.bidi_base.specs.Text.{place, text_len, per_unit, per_char, char_index, IsLine}
+use Rattle.bidi_base.specs.Text.{place, text_len, per_unit, char_index, IsLine}
 use Rattle.bidi_base.proofs.TextLemmas.{HasUnits}
-use Rattle.bidi_base.proofs.PlaceLemmas.{place-sum, place-mono, line_places, IsLineAt}
-use Rattle.bidi_base.proofs.PerUnit.{length-per_unit, take-per_unit, drop-per_unit, per_unit-append}
+use Rattle.bidi_base.proofs.PlaceLemmas.{place-sum, line_places, IsLineAt}
+use Rattle.bidi_base.proofs.PerUnit.{take-per_unit, drop-per_unit, per_unit-append}
 use Rattle.unicode_bidi.proofs.LineLevels.{length-line_levels}
 
 -- ---- parts of lists

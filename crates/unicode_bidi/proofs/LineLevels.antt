@@ -1,5 +1,5 @@
 -- L1 along a line: the level that each place takes, and what a pass over the line keeps true.
-use Rattle.std.proofs.Common.{◌≡◌, ℕ, zero, suc, ◌+◌, ◌-◌, ◌<◌, ◌≤◌, cond, if◌then◌else◌, ◌&&◌, ◌||◌, Bool, true, false, not, nat_lt, List, [], ◌∷◌, length, get_or, drop, set, All, refl, sym, ap, ap₂, subst, ◌∙◌, arith, inl, inr, drop-cons, get_or-set_other, get_or-set_same, length-set, ◌≢◌}
+use Rattle.std.proofs.Common.{◌≡◌, ℕ, zero, suc, ◌+◌, ◌-◌, ◌<◌, ◌≤◌, if◌then◌else◌, ◌&&◌, ◌||◌, Bool, true, false, not, nat_lt, List, [], ◌∷◌, length, get_or, drop, set, All, refl, sym, ap, ap₂, subst, ◌∙◌, arith, inl, inr, drop-cons, get_or-set_other, get_or-set_same, length-set, ◌≢◌}
 use Rattle.std.proofs.lemmas.Bool.{cases_lt, cond-true, cond-false, both_ways, ltb-true, ltb-false}
 use Rattle.std.proofs.lemmas.List.{get_or_default}
 use Rattle.std.proofs.lemmas.List.Folds.{list_any_at, list_any_none}

@@ -1,7 +1,6 @@
 -- The reordered text of a line within a text: its runs are parts of the text.
-use Rattle.std.proofs.Common.{◌≡◌, ℕ, zero, suc, ◌+◌, ◌-◌, ◌<◌, ◌≤◌, cond, List, [], ◌∷◌, flat_map, reverse, sum_by, slice_range, length, get_or, take, drop, refl, sym, ap, ap₂, ◌∙◌, arith, le_refl}
+use Rattle.std.proofs.Common.{◌≡◌, ℕ, ◌+◌, ◌-◌, ◌<◌, ◌≤◌, cond, List, flat_map, reverse, slice_range, length, get_or, sym, ap, ap₂, ◌∙◌, arith}
 use Rattle.std.proofs.lemmas.List.Folds.{flat_map-map}
-use Rattle.std.proofs.lemmas.List.Sums.{sum_by-append}
 use Rattle.std.proofs.lemmas.Grind.{same_number_lists}
 use Rattle.bidi_base.specs.Levels.{is_odd}
 use Rattle.bidi_base.specs.Text.{place, per_unit, char_index, subrange}

@@ -1,17 +1,16 @@
 -- The reordered text of a line is that of its runs, from left to right.
-use Rattle.std.proofs.Common.{◌≡◌, ℕ, zero, suc, ◌+◌, ◌-◌, ◌<◌, ◌≤◌, cond, nat_lt, List, [], ◌∷◌, ◌++◌, map, flat_map, reverse, sum_by, count_by, slice_range, length, get_or, take, drop, All, refl, sym, ap, ◌∙◌, arith, inl, inr, lt-ltb, le-ltb, ne_eqb, ◌%◌}
+use Rattle.std.proofs.Common.{◌≡◌, ℕ, zero, suc, ◌+◌, ◌-◌, ◌<◌, ◌≤◌, List, [], ◌∷◌, ◌++◌, map, flat_map, reverse, sum_by, slice_range, length, get_or, take, drop, All, refl, sym, ap, ◌∙◌, arith, inl, inr, ne_eqb, ◌%◌}
 use Rattle.std.specs.List.{range_with_len}
 use mathlib.Core.List.{reverse_aux}
 use Rattle.std.proofs.lemmas.Bool.{cases_Bool, cond-true, cond-false}
-use Rattle.std.proofs.lemmas.List.{get_or-map, length-map, take_more, drop-drop}
+use Rattle.std.proofs.lemmas.List.{get_or-map, length-map, drop-drop}
 use Rattle.std.proofs.lemmas.List.Folds.{flat_map-map}
-use Rattle.std.proofs.lemmas.List.Sums.{sum_by-cons, sum_by-append}
 use Rattle.std.proofs.lemmas.List.Elements.{All-tail}
 use Rattle.std.proofs.lemmas.List.Sorted.{All-permutation, IsPermutation-reverse}
 use Rattle.std.proofs.lemmas.Grind.{flat_map-append, same_number_lists}
 use Rattle.bidi_base.specs.Levels.{is_odd}
 use Rattle.bidi_base.specs.Places.{between}
-use Rattle.bidi_base.specs.Text.{place, text_len, per_unit, char_index, char_indices_from, subrange}
+use Rattle.bidi_base.specs.Text.{place, text_len, per_unit, char_index, subrange}
 use Rattle.bidi_base.specs.Order.{visual_order}
 use Rattle.bidi_base.specs.Display.{Run, run_level, visual_runs, written_run, written_runs, written_char, char_units, reordered_text, run_text, IsLevelRun, AreVisualRuns}
 use Rattle.bidi_base.proofs.OrderLemmas.{get_or-slice_range, length-slice_range}

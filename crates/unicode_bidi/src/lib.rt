@@ -28,6 +28,8 @@ pub use bidi_base::data_source::BidiDataSource;
 pub use bidi_base::level::{LTR_LEVEL, Level, RTL_LEVEL};
 pub use bidi_base::text::{TextSource, Utf8IndexLenIter};
 pub use bidi_base::{char_data, data_source, format_chars, level, sample, text};
+pub use bidi_rules::prepare::{LevelRun, LevelRunVec};
+pub use bidi_rules::{explicit, implicit, prepare};
 pub use info::BidiInfo;
 pub use initial_info::InitialInfo;
 pub use paragraph::Paragraph;

@@ -25,7 +25,7 @@ pub fn resolve_levels(processing_classes: &[BidiClass], levels: &mut [Level]) ->
     Level::new(greatest).unwrap()
 }
 
-// Sums in place of branches, so that a loop over it is done for many units at once.
+// Sums in place of branches, and no way out, so that a loop over it is done for many units at once.
 fn implicit_level(level: Level, class: BidiClass) -> Level
     requires { level ≤ 125 }
     ensures { result ≡ implicit_level_of level class }
@@ -36,5 +36,5 @@ fn implicit_level(level: Level, class: BidiClass) -> Level
     } else {
         2 * number + u8::from(class == R)
     };
-    Level::new(level.number() + added).unwrap()
+    Level::new(level.number() + added).unwrap_or(level)
 }

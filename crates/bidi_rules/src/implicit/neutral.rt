@@ -134,8 +134,9 @@ impl NeutralResolver {
             → OnOk result (AreGathered T.units (T.characters text) (D.source data_source.now) classes.now
             (before ++ read_in_runs T.units (T.characters text) classes.now (bounds run.now ∷ [])) self.new.classes.items self.new.brackets.items) }
     {
-        for (offset, c) in text.subrange(run.start..run.end).char_indices() {
-            let class = classes[run.start + offset];
+        let begin = run.start;
+        for (offset, c) in text.subrange(begin..run.end).char_indices() {
+            let class = classes[begin + offset];
             if is_read(class) {
                 self.push(data_source, class, c)?;
             }

@@ -1,6 +1,6 @@
 //! The walks over the units of a sequence's characters.
 
-ghost use Rattle.std.specs.Prelude.{◌≡◌, ◌+◌, ◌≤◌, [], ◌∷◌, ◌++◌, length, map, drop, find, All, IsTrue, OnOk};
+ghost use Rattle.std.specs.Prelude.{◌≡◌, ℕ, ◌+◌, ◌<◌, ◌≤◌, [], ◌∷◌, ◌++◌, length, map, drop, find, All, IsTrue, OnOk};
 ghost use Rattle.bidi_base.specs.declared.char_data.BidiClass.TheVariants.{L};
 ghost use Rattle.bidi_base.specs.Classes.{is_read as is_read_of};
 ghost use Rattle.bidi_base.specs.Places.{class_at};
@@ -65,8 +65,9 @@ fn gather_run_sources<T: TextSource>(
     ensures { OnOk result (sources.new.items ≡ sources.old.items ++ values_of L T.units (T.characters text) original_classes.now
         (read_in_runs T.units (T.characters text) processing_classes.now (bounds run.now ∷ []))) }
 {
-    for (offset, _) in text.subrange(run.start..run.end).char_indices() {
-        let start = run.start + offset;
+    let begin = run.start;
+    for (offset, _) in text.subrange(begin..run.end).char_indices() {
+        let start = begin + offset;
         if is_read(processing_classes[start]) {
             sources.push(original_classes[start])?;
         }
@@ -110,9 +111,10 @@ fn write_run<T: TextSource>(
     ensures classes { classes.new ≡ per_unit T.units (T.characters text)
         (put_at (read_in_runs T.units (T.characters text) classes.old (bounds run.now ∷ [])) (drop first resolved.now) (per_char L T.units (T.characters text) classes.old)) }
 {
+    let begin = run.start;
     let mut next = first;
-    for (offset, len) in text.subrange(run.start..run.end).indices_lengths() {
-        let start = run.start + offset;
+    for (offset, len) in text.subrange(begin..run.end).indices_lengths() {
+        let start = begin + offset;
         if is_read(classes[start]) {
             write(classes, start, len, resolved[next]);
             next += 1;
@@ -121,10 +123,15 @@ fn write_run<T: TextSource>(
     next
 }
 
-/// Writes a class to the units of a character.
+/// Gives the units of a character a class. Where they have it, as most do, nothing is written.
 fn write(classes: &mut [BidiClass], start: usize, len: usize, class: BidiClass)
-    requires { start + len ≤ length classes.old }
+    requires inside { start + len ≤ length classes.old }
+    requires some { 0 < len }
+    requires alike { (k : ℕ) → k < len → class_at classes.old (start + k) ≡ class_at classes.old start }
     ensures { classes.new ≡ filled start len class classes.old }
 {
+    if classes[start] == class {
+        return;
+    }
     classes[start..start + len].fill(class);
 }

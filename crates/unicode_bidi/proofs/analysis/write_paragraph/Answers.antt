@@ -6,6 +6,7 @@ use Rattle.bidi_base.specs.Text.{per_unit, subrange, text_len}
 use Rattle.unicode_bidi.specs.ParagraphFlags.{flags_of}
 use Rattle.unicode_bidi.proofs.LineInText.{length-part}
 use Rattle.unicode_bidi.proofs.ParagraphUnits.{paragraph-IsPart, paragraph-written}
+use Rattle.unicode_bidi.specs.ParagraphFlags.{flags_of}
 use Rattle.unicode_bidi.proofs.analysis.write_paragraph.Goals as goal
 
 pub slice_bounds-write_levels-end : goal.slice_bounds-write_levels-end

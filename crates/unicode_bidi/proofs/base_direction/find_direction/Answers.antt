@@ -1,6 +1,6 @@
 use Rattle.std.proofs.Common.{◌≡◌, ◌∙◌, ◌+◌, ◌≤◌, ◌∷◌, ◌++◌, [], ◌⊎◌, inl, inr, ℕ, List, false, length, drop, map, sym, ap, subst, arith}
 use Rattle.std.proofs.lemmas.List.{length_push, drop_all}
-use Rattle.bidi_base.specs.Classes.{is_strong, is_paragraph_separator}
+use Rattle.bidi_base.specs.Classes.{is_strong}
 use Rattle.bidi_base.proofs.DirectionWalk.{direction_from, direction_from-is, direction-decided, direction-ended, direction-next, direction-on, depth-le}
 use Rattle.bidi_base.proofs.PlaceLemmas.{char_turn, char_end}
 use Rattle.bidi_base.proofs.TextLemmas.{length-le-text_len}

@@ -1,6 +1,5 @@
-use Rattle.std.proofs.Common.{◌≡◌, ℕ, ◌+◌, ◌-◌, ◌<◌, ◌≤◌, ◌++◌, List, OnOk, Result, Ok, Err, length, map, flat_map, sym, ap, subst, ◌∙◌, arith, rules}
+use Rattle.std.proofs.Common.{◌≡◌, ℕ, ◌+◌, ◌-◌, ◌≤◌, ◌++◌, List, OnOk, Result, Ok, Err, length, map, flat_map, sym, ap, subst, ◌∙◌, arith, rules}
 use Rattle.bidi_base.specs.Display.{run_of, run_text_in, visual_runs, AreVisualRuns}
-use Rattle.bidi_base.specs.Line.{levels_of_line as levels_of_line_of}
 use Rattle.unicode_bidi.proofs.TextOfLine.{runs_begin, line-same_len, line-within, length-levels_of_line, runs_at_boundaries, flat_map-runs}
 use Rattle.unicode_bidi.proofs.line_text.write_line.Goals as goal
 

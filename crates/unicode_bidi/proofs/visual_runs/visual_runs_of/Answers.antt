@@ -1,4 +1,4 @@
-use Rattle.std.proofs.Common.{◌≡◌, ◌∙◌, Result, Ok, Err, IfOk, map, length, false, sym, ap}
+use Rattle.std.proofs.Common.{◌≡◌, ◌∙◌, Result, Ok, Err, IfOk, map, length, sym, ap}
 use Rattle.std.proofs.lemmas.List.{length-map}
 use Rattle.bidi_base.specs.Levels.{has_rtl}
 use Rattle.bidi_base.specs.Display.{run_of, run_level, level_runs}

@@ -22,8 +22,8 @@ overflow_add-class g c =
     let t = line_turn len_of h chars run.start run.end c.requires.line part c.subrange.ensures n c.in-Some.offset c.in-Some.c turn in
     omega (arith, t.some, t.below, c.fits-run)
 
-pub bounds-classes-run : goal.bounds-classes-run
-bounds-classes-run g c =
+pub bounds-classes-begin : goal.bounds-classes-begin
+bounds-classes-begin g c =
     let len_of = g.T.TextSource.units in
     let h = g.met.T.TextSource.has_units in
     let chars : List ℕ = g.T.TextSource.characters c.args.text in

@@ -1,0 +1,253 @@
+-- What `show` prints of the paragraphs of a text, read in the text, is what it prints of each by itself.
+use Rattle.std.proofs.Common.{◌≡◌, ℕ, ◌+◌, ◌-◌, ◌≤◌, List, [], ◌∷◌, ◌++◌, Option, length, map, flat_map, take, encode_utf8, refl, sym, ap, ap₂, subst, ◌∙◌, append_assoc, length-append, arith}
+use Rattle.std.proofs.Math.Seq.{take-append-add, take-append_seam, drop-append_seam}
+use Rattle.std.specs.Prelude.{slice_range, encode_utf8_all}
+use Rattle.std.specs.Char.{len_utf8}
+use Rattle.std.specs.Str.{chars, IsUtf8}
+use Rattle.std.proofs.lemmas.List.{take_all, take-append-le, length-map}
+use Rattle.std.proofs.lemmas.List.Sums.{sum_by-append}
+use Rattle.std.proofs.lemmas.Str.{encodes-chars, encodes-append, IsUtf8-between}
+use Rattle.bidi_base.specs.declared.char_data.BidiClass.{BidiClass}
+use Rattle.bidi_base.specs.declared.char_data.BidiClass.TheVariants.{L}
+use Rattle.bidi_base.specs.Display.{line_text, reordered_text}
+use Rattle.bidi_base.specs.Isolates.{paragraph_level, stored_classes}
+use Rattle.bidi_base.specs.Line.{line_levels}
+use Rattle.bidi_base.specs.Paragraphs.{paragraphs_of, each_separator, ranges_from}
+use Rattle.bidi_base.specs.Source.{Source}
+use Rattle.bidi_base.specs.Stored.{stored_levels, text_classes, text_levels, paragraph_levels}
+use Rattle.bidi_base.specs.Text.{place, text_len, char_index, subrange, per_unit, per_char, IsLine}
+use Rattle.bidi_base.proofs.LevelLaws.{length-stored_levels}
+use Rattle.bidi_base.proofs.ParagraphsLemmas.{joined, paragraphs-joined}
+use Rattle.bidi_base.proofs.PerUnit.{length-per_unit, per_unit-append, per_char-per_unit}
+use Rattle.bidi_base.proofs.PieceUnits.{length-values}
+use Rattle.bidi_base.proofs.PlaceLemmas.{place-le, place-zero, place-end, char_index-place, IsLine-places}
+use Rattle.bidi_base.proofs.StoredSteps.{length-stored_classes}
+use Rattle.bidi_base.proofs.StrLemmas.{has_units, text_len-encodes, subrange-from_str, IsCharBoundary-from_is_boundary}
+use Rattle.bidi_base.proofs.TextLemmas.{char_index-append, subrange-middle}
+use Rattle.bidi_show.specs.Shown.{levels_in, text_in, lines_in}
+use Rattle.bidi_show.specs.Texts.{heading, levels_line, text_line, without_separator, paragraph_lines, lines_from, shown_text}
+use Rattle.bidi_show.proofs.ShownLemmas.{without_separator-IsFront}
+use Rattle.unicode_bidi.specs.ParagraphInfo.{ranges_of, levels_of}
+use Rattle.unicode_bidi.specs.declared.paragraph_info.ParagraphInfo.{ParagraphInfo}
+
+-- ---- a part of a list
+
+part-middle : {X : Type 0} (xs ys zs : List X) (start n : ℕ) → length xs ≡ start → n ≤ length ys → slice_range (xs ++ (ys ++ zs)) start (start + n) ≡ take n ys
+part-middle {X} xs ys zs start n long short =
+    let many : (length xs + n) - length xs ≡ n = omega arith in
+    subst (λ k. slice_range (xs ++ (ys ++ zs)) k (k + n) ≡ take n ys) long
+    (ap (take ((length xs + n) - length xs)) (drop-append_seam xs (ys ++ zs)) ∙ ap (λ k. take k (ys ++ zs)) many ∙ take-append-le n ys zs short)
+
+part-front : {X : Type 0} (ys : List X) (n : ℕ) → slice_range ys 0 n ≡ take n ys
+part-front ys n =
+    let many : n - 0 ≡ n = omega arith in
+    ap (λ k. take k ys) many
+
+-- ---- a line of a piece in the middle of a text
+
+module _ (front piece back : List ℕ) (n : ℕ) (short : n ≤ length piece) where
+  place-middle : place len_utf8 (front ++ (piece ++ back)) (length front + n) ≡ text_len len_utf8 front + place len_utf8 piece n
+  place-middle =
+      ap (text_len len_utf8) (take-append-add front (piece ++ back) n ∙ ap (λ l. front ++ l) (take-append-le n piece back short))
+      ∙ sum_by-append len_utf8 front (take n piece)
+
+  char_index-middle : char_index len_utf8 (front ++ (piece ++ back)) (text_len len_utf8 front + place len_utf8 piece n) ≡ length front + n
+  char_index-middle =
+      ap (char_index len_utf8 (front ++ (piece ++ back))) (sym place-middle)
+      ∙ char_index-place len_utf8 (front ++ (piece ++ back)) has_units (length front + n) (omega (arith, length-append front (piece ++ back), length-append piece back))
+
+  char_index-zero : char_index len_utf8 piece 0 ≡ 0
+  char_index-zero = ap (char_index len_utf8 piece) (sym (place-zero len_utf8 piece)) ∙ char_index-place len_utf8 piece has_units 0 (omega arith)
+
+  module _ (level : ℕ) (cf cp cb : List BidiClass) (lf lp lb : List ℕ) (uf up ub : List ℕ)
+      (cf_long : length cf ≡ length front) (cp_long : length cp ≡ length piece) (lf_long : length lf ≡ length front) (lp_long : length lp ≡ length piece)
+      (uf_long : length uf ≡ text_len len_utf8 front) (up_long : length up ≡ text_len len_utf8 piece) where
+    -- the text of a line from the unit a up to b, whose characters are those from i up to j
+    abbrev line_at : List ℕ → List ℕ → List BidiClass → List ℕ → ℕ → ℕ → ℕ → ℕ → List ℕ
+    line_at cs units classes levels a b i j =
+        reordered_text len_utf8 encode_utf8 (slice_range cs i j) (slice_range units a b) (line_levels level (slice_range classes i j) (slice_range levels i j))
+
+    -- that of some characters
+    abbrev line_of : List ℕ → List ℕ → List BidiClass → List ℕ → List ℕ
+    line_of cs units classes levels = reordered_text len_utf8 encode_utf8 cs units (line_levels level classes levels)
+
+    abbrev shown : List ℕ
+    shown = line_of (take n piece) (take (place len_utf8 piece n) up) (take n cp) (take n lp)
+
+    line_of_parts : (cs cs' us us' : List ℕ) (ks ks' : List BidiClass) (ls ls' : List ℕ) → cs ≡ cs' → us ≡ us' → ks ≡ ks' → ls ≡ ls' → line_of cs us ks ls ≡ line_of cs' us' ks' ls'
+    line_of_parts cs cs' us us' ks ks' ls ls' c u k l =
+        ap₂ (λ x y. line_of x y ks ls) c u ∙ ap₂ (λ x y. line_of cs' us' x y) k l
+
+    line_text-middle : line_text len_utf8 encode_utf8 (front ++ (piece ++ back)) (uf ++ (up ++ ub)) level (cf ++ (cp ++ cb)) (lf ++ (lp ++ lb)) (text_len len_utf8 front) (text_len len_utf8 front + place len_utf8 piece n) ≡ shown
+    unfolding line_text
+    line_text-middle =
+        ap₂ (line_at (front ++ (piece ++ back)) (uf ++ (up ++ ub)) (cf ++ (cp ++ cb)) (lf ++ (lp ++ lb)) (text_len len_utf8 front) (text_len len_utf8 front + place len_utf8 piece n))
+        (char_index-append len_utf8 has_units front (piece ++ back)) char_index-middle
+        ∙ line_of_parts (slice_range (front ++ (piece ++ back)) (length front) (length front + n)) (take n piece)
+        (slice_range (uf ++ (up ++ ub)) (text_len len_utf8 front) (text_len len_utf8 front + place len_utf8 piece n)) (take (place len_utf8 piece n) up)
+        (slice_range (cf ++ (cp ++ cb)) (length front) (length front + n)) (take n cp)
+        (slice_range (lf ++ (lp ++ lb)) (length front) (length front + n)) (take n lp)
+        (part-middle front piece back (length front) n refl short)
+        (part-middle uf up ub (text_len len_utf8 front) (place len_utf8 piece n) uf_long (omega (arith, place-le len_utf8 piece n)))
+        (part-middle cf cp cb (length front) n cf_long (omega arith))
+        (part-middle lf lp lb (length front) n lf_long (omega arith))
+
+    line_text-alone : line_text len_utf8 encode_utf8 piece up level cp lp 0 (place len_utf8 piece n) ≡ shown
+    unfolding line_text
+    line_text-alone =
+        ap₂ (line_at piece up cp lp 0 (place len_utf8 piece n)) char_index-zero (char_index-place len_utf8 piece has_units n short)
+        ∙ line_of_parts (slice_range piece 0 n) (take n piece) (slice_range up 0 (place len_utf8 piece n)) (take (place len_utf8 piece n) up) (slice_range cp 0 n) (take n cp) (slice_range lp 0 n) (take n lp)
+        (part-front piece n) (part-front up (place len_utf8 piece n)) (part-front cp n) (part-front lp n)
+
+-- ---- values of a piece in the middle of a text
+
+module _ {X : Type 0} (front piece back : List ℕ) (vf vp vb : List X) (vf_long : length vf ≡ length front) (vp_long : length vp ≡ length piece) where
+  per_unit-three : per_unit len_utf8 (front ++ (piece ++ back)) (vf ++ (vp ++ vb)) ≡ per_unit len_utf8 front vf ++ (per_unit len_utf8 piece vp ++ per_unit len_utf8 back vb)
+  per_unit-three =
+      per_unit-append len_utf8 front (piece ++ back) vf (vp ++ vb) vf_long
+      ∙ ap (λ l. per_unit len_utf8 front vf ++ l) (per_unit-append len_utf8 piece back vp vb vp_long)
+
+  units-middle : slice_range (per_unit len_utf8 (front ++ (piece ++ back)) (vf ++ (vp ++ vb))) (text_len len_utf8 front) (text_len len_utf8 front + text_len len_utf8 piece) ≡ per_unit len_utf8 piece vp
+  units-middle =
+      let long : length (per_unit len_utf8 piece vp) ≡ text_len len_utf8 piece = length-per_unit len_utf8 piece vp vp_long in
+      ap (λ l. slice_range l (text_len len_utf8 front) (text_len len_utf8 front + text_len len_utf8 piece)) per_unit-three
+      ∙ part-middle (per_unit len_utf8 front vf) (per_unit len_utf8 piece vp) (per_unit len_utf8 back vb) (text_len len_utf8 front) (text_len len_utf8 piece) (length-per_unit len_utf8 front vf vf_long) (omega arith)
+      ∙ take_all (text_len len_utf8 piece) (per_unit len_utf8 piece vp) (omega arith)
+
+-- ---- a paragraph in the middle of a text
+
+abbrev own_classes : Source → List ℕ → List BidiClass
+own_classes source piece = stored_classes (map source.class_of piece)
+
+length-own_classes : (source : Source) (piece : List ℕ) → length (own_classes source piece) ≡ length piece
+length-own_classes source piece = length-stored_classes (map source.class_of piece) ∙ length-map piece source.class_of
+
+module _ (source : Source) (base : Option ℕ) (text : List ℕ) (utf8 : IsUtf8 text) (front piece back : List ℕ) (whole : chars text ≡ front ++ (piece ++ back))
+    (cf cb : List BidiClass) (lf lb : List ℕ) (cf_long : length cf ≡ length front) (lf_long : length lf ≡ length front) (cb_long : length cb ≡ length back) (lb_long : length lb ≡ length back) where
+  abbrev start : ℕ
+  start = text_len len_utf8 front
+
+  abbrev classes : List BidiClass
+  classes = cf ++ (own_classes source piece ++ cb)
+
+  abbrev levels : List ℕ
+  levels = lf ++ (stored_levels source base piece ++ lb)
+
+  line : IsLine len_utf8 (chars text) start (start + text_len len_utf8 piece)
+  line =
+      let first : place len_utf8 (front ++ (piece ++ back)) (length front) ≡ start = ap (text_len len_utf8) (take-append_seam front (piece ++ back)) in
+      let last : place len_utf8 (front ++ (piece ++ back)) (length front + length piece) ≡ start + text_len len_utf8 piece =
+      place-middle front piece back (length piece) (omega arith) ∙ ap (λ n. start + n) (place-end len_utf8 piece (length piece) (omega arith)) in
+      subst (λ cs. IsLine len_utf8 cs start (start + text_len len_utf8 piece)) (sym whole)
+      (subst (λ n. IsLine len_utf8 (front ++ (piece ++ back)) n (start + text_len len_utf8 piece)) first
+      (subst (IsLine len_utf8 (front ++ (piece ++ back)) (place len_utf8 (front ++ (piece ++ back)) (length front))) last
+      (IsLine-places len_utf8 (front ++ (piece ++ back)) (length front) (length front + length piece) (omega arith))))
+
+  is_piece : subrange len_utf8 (chars text) start (start + text_len len_utf8 piece) ≡ piece
+  is_piece = ap (λ cs. subrange len_utf8 cs start (start + text_len len_utf8 piece)) whole ∙ subrange-middle len_utf8 has_units front piece back
+
+  part_chars : chars (slice_range text start (start + text_len len_utf8 piece)) ≡ piece
+  part_chars =
+      let part : IsUtf8 (slice_range text start (start + text_len len_utf8 piece)) =
+      IsUtf8-between text start (start + text_len len_utf8 piece) utf8 (omega arith) (IsCharBoundary-from_is_boundary text start utf8 line.begins) (IsCharBoundary-from_is_boundary text (start + text_len len_utf8 piece) utf8 line.ends) in
+      sym (subrange-from_str text start (start + text_len len_utf8 piece) utf8 line part) ∙ is_piece
+
+  -- the levels of its characters
+  levels_in-piece : levels_in text (per_unit len_utf8 (chars text) levels) start (start + text_len len_utf8 piece) ≡ stored_levels source base piece
+  levels_in-piece =
+      ap₂ (per_char 0 len_utf8) part_chars
+      (ap (λ cs. slice_range (per_unit len_utf8 cs levels) start (start + text_len len_utf8 piece)) whole ∙ units-middle front piece back lf (stored_levels source base piece) lb lf_long (length-stored_levels source base piece))
+      ∙ per_char-per_unit len_utf8 has_units 0 piece (stored_levels source base piece) (length-stored_levels source base piece)
+
+  bytes : text ≡ encode_utf8_all front ++ (encode_utf8_all piece ++ encode_utf8_all back)
+  bytes =
+      sym (encodes-chars text utf8) ∙ ap encode_utf8_all whole ∙ encodes-append front (piece ++ back)
+      ∙ ap (λ l. encode_utf8_all front ++ l) (encodes-append piece back)
+
+  classes_back : per_char L len_utf8 (chars text) (per_unit len_utf8 (chars text) classes) ≡ classes
+  classes_back =
+      per_char-per_unit len_utf8 has_units L (chars text) classes
+      (omega (arith, ap length whole, length-append cf (own_classes source piece ++ cb), length-append (own_classes source piece) cb, length-append front (piece ++ back), length-append piece back, length-own_classes source piece))
+
+  levels_back : per_char 0 len_utf8 (chars text) (per_unit len_utf8 (chars text) levels) ≡ levels
+  levels_back =
+      per_char-per_unit len_utf8 has_units 0 (chars text) levels
+      (omega (arith, ap length whole, length-append lf (stored_levels source base piece ++ lb), length-append (stored_levels source base piece) lb, length-append front (piece ++ back), length-append piece back, length-stored_levels source base piece))
+
+  -- its text from left to right
+  text_in-piece : (level : ℕ) → text_in source text level (per_unit len_utf8 (chars text) classes) (per_unit len_utf8 (chars text) levels) start (start + text_len len_utf8 piece)
+      ≡ line_text len_utf8 encode_utf8 piece (encode_utf8_all piece) level (own_classes source piece) (stored_levels source base piece) 0 (text_len len_utf8 (without_separator source piece))
+  text_in-piece level =
+      let f = without_separator-IsFront source piece in
+      let n : text_len len_utf8 (without_separator source piece) ≡ place len_utf8 piece f.many = ap (text_len len_utf8) f.front in
+      ap (λ l. line_text len_utf8 encode_utf8 (chars text) text level (per_char L len_utf8 (chars text) (per_unit len_utf8 (chars text) classes)) (per_char 0 len_utf8 (chars text) (per_unit len_utf8 (chars text) levels)) start (start + l))
+      (ap (λ l. text_len len_utf8 (without_separator source l)) is_piece ∙ n)
+      ∙ ap₂ (λ ks ls. line_text len_utf8 encode_utf8 (chars text) text level ks ls start (start + place len_utf8 piece f.many)) classes_back levels_back
+      ∙ ap₂ (λ cs bs. line_text len_utf8 encode_utf8 cs bs level classes levels start (start + place len_utf8 piece f.many)) whole bytes
+      ∙ line_text-middle front piece back f.many f.short level cf (own_classes source piece) cb lf (stored_levels source base piece) lb (encode_utf8_all front) (encode_utf8_all piece) (encode_utf8_all back)
+      cf_long (length-own_classes source piece) lf_long (length-stored_levels source base piece) (sym (text_len-encodes front)) (sym (text_len-encodes piece))
+      ∙ sym (line_text-alone front piece back f.many f.short level cf (own_classes source piece) cb lf (stored_levels source base piece) lb (encode_utf8_all front) (encode_utf8_all piece) (encode_utf8_all back)
+      cf_long (length-own_classes source piece) lf_long (length-stored_levels source base piece) (sym (text_len-encodes front)) (sym (text_len-encodes piece)))
+      ∙ ap (line_text len_utf8 encode_utf8 piece (encode_utf8_all piece) level (own_classes source piece) (stored_levels source base piece) 0) (sym n)
+
+-- ---- all paragraphs
+
+cons_head : {X : Type 0} (x y : X) (xs ys : List X) → x ∷ xs ≡ y ∷ ys → x ≡ y
+cons_head x y xs ys e = cc
+
+cons_tail : {X : Type 0} (x y : X) (xs ys : List X) → x ∷ xs ≡ y ∷ ys → xs ≡ ys
+cons_tail x y xs ys e = cc
+
+nil_cons : {X : Type 0} (x : X) (xs : List X) → [] ≡ x ∷ xs → ⊥
+nil_cons x xs e = cc
+
+module _ (source : Source) (base : Option ℕ) (text : List ℕ) (utf8 : IsUtf8 text) (classes : List BidiClass) (levels : List ℕ) where
+  -- what `show` prints of a range with a level
+  abbrev lines_at : ℕ → ℕ → ℕ → List BidiClass → List ℕ → List ℕ
+  lines_at start end level ks ls = heading start end level ++ (levels_line (levels_in text ls start end) ++ text_line (text_in source text level ks ls start end))
+
+  -- those from a character on, where some characters stand before
+  lines_in-from : (front : List ℕ) (cf : List BidiClass) (lf : List ℕ) (pieces : List (List ℕ)) (ps : List ParagraphInfo)
+      → chars text ≡ front ++ joined pieces → length cf ≡ length front → length lf ≡ length front
+      → classes ≡ per_unit len_utf8 (chars text) (cf ++ flat_map (own_classes source) pieces) → levels ≡ per_unit len_utf8 (chars text) (lf ++ flat_map (stored_levels source base) pieces)
+      → ranges_of ps ≡ ranges_from len_utf8 (text_len len_utf8 front) pieces → levels_of ps ≡ map (λ piece. paragraph_level base (map source.class_of piece)) pieces
+      → flat_map (lines_in source text classes levels) ps ≡ lines_from source base (text_len len_utf8 front) pieces
+  lines_in-from front cf lf [] [] whole cf_long lf_long ks ls ranges own = refl
+  lines_in-from front cf lf [] (p ∷ ps) whole cf_long lf_long ks ls ranges own = absurd (nil_cons _ _ (sym ranges))
+  lines_in-from front cf lf (piece ∷ pieces) [] whole cf_long lf_long ks ls ranges own = absurd (nil_cons _ _ ranges)
+  lines_in-from front cf lf (piece ∷ pieces) (p ∷ ps) whole cf_long lf_long ks ls ranges own =
+      let start : ℕ = text_len len_utf8 front in
+      let end : ℕ = start + text_len len_utf8 piece in
+      let level : ℕ = paragraph_level base (map source.class_of piece) in
+      let cb : List BidiClass = flat_map (own_classes source) pieces in
+      let lb : List ℕ = flat_map (stored_levels source base) pieces in
+      let range : ◌≡◌ {A = ℕ × ℕ} (p.range.start, p.range.end) (start, end) = cons_head _ _ _ _ ranges in
+      let is_level : p.level ≡ level = cons_head _ _ _ _ own in
+      let cb_long : length cb ≡ length (joined pieces) = length-values (own_classes source) (length-own_classes source) pieces in
+      let lb_long : length lb ≡ length (joined pieces) = length-values (stored_levels source base) (length-stored_levels source base) pieces in
+      let sum : text_len len_utf8 (front ++ piece) ≡ end = sum_by-append len_utf8 front piece in
+      let one : lines_in source text classes levels p ≡ paragraph_lines source start piece level (own_classes source piece) (stored_levels source base piece) =
+      ap₂ (λ (r : ℕ × ℕ) (l : ℕ). lines_at r.0 r.1 l classes levels) range is_level
+      ∙ ap₂ (lines_at start end level) ks ls
+      ∙ ap₂ (λ (l s : List ℕ). heading start end level ++ (levels_line l ++ text_line s))
+      (levels_in-piece source base text utf8 front piece (joined pieces) whole cf cb lf lb cf_long lf_long cb_long lb_long)
+      (text_in-piece source base text utf8 front piece (joined pieces) whole cf cb lf lb cf_long lf_long cb_long lb_long level) in
+      let rest : flat_map (lines_in source text classes levels) ps ≡ lines_from source base (text_len len_utf8 (front ++ piece)) pieces =
+      lines_in-from (front ++ piece) (cf ++ own_classes source piece) (lf ++ stored_levels source base piece) pieces ps
+      (whole ∙ sym (append_assoc front piece (joined pieces)))
+      (omega (arith, length-append cf (own_classes source piece), length-append front piece, length-own_classes source piece))
+      (omega (arith, length-append lf (stored_levels source base piece), length-append front piece, length-stored_levels source base piece))
+      (ks ∙ ap (per_unit len_utf8 (chars text)) (sym (append_assoc cf (own_classes source piece) cb)))
+      (ls ∙ ap (per_unit len_utf8 (chars text)) (sym (append_assoc lf (stored_levels source base piece) lb)))
+      (cons_tail _ _ _ _ ranges ∙ ap (λ (n : ℕ). ranges_from len_utf8 n pieces) (sym sum))
+      (cons_tail _ _ _ _ own) in
+      ap₂ (λ (xs ys : List ℕ). xs ++ ys) one (rest ∙ ap (λ (n : ℕ). lines_from source base n pieces) sum)
+
+  -- and the whole text
+  pub lines_in-shown : (ps : List ParagraphInfo) → classes ≡ per_unit len_utf8 (chars text) (text_classes source (paragraphs_of (each_separator source) (chars text)))
+      → levels ≡ per_unit len_utf8 (chars text) (text_levels source base (paragraphs_of (each_separator source) (chars text)))
+      → ranges_of ps ≡ ranges_from len_utf8 0 (paragraphs_of (each_separator source) (chars text)) → levels_of ps ≡ paragraph_levels source base (paragraphs_of (each_separator source) (chars text))
+      → flat_map (lines_in source text classes levels) ps ≡ shown_text source base text
+  unfolding text_classes text_levels paragraph_levels shown_text
+  lines_in-shown ps ks ls ranges own =
+      lines_in-from [] [] [] (paragraphs_of (each_separator source) (chars text)) ps (sym (paragraphs-joined source (chars text))) refl refl ks ls ranges own

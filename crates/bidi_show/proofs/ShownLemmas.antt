@@ -1,0 +1,109 @@
+-- The lines that `show` prints, piece by piece.
+use Rattle.std.proofs.Common.{◌≡◌, ℕ, ◌+◌, ◌-◌, ◌<◌, ◌≤◌, List, [], ◌∷◌, ◌++◌, Result, Ok, Err, OnOk, is_ok, Bool, true, false, length, get_or, take, drop, flat_map, decimal, encode_utf8, refl, sym, ap, subst, ◌∙◌, append_assoc, append-nil, length-append, arith}
+use Rattle.std.proofs.Math.Seq.{take-append_seam, drop-append_seam}
+use Rattle.std.specs.Prelude.{codes, if◌then◌else◌, slice_range}
+use Rattle.std.specs.Char.{len_utf8}
+use Rattle.std.specs.Str.{chars, IsUtf8}
+use Rattle.std.proofs.lemmas.List.{take_all, take_more, flat_map_more}
+use Rattle.std.proofs.lemmas.Str.{chars-nil, chars-append, chars_past_char, IsUtf8-drop, IsCharBoundary-from_take}
+use Rattle.bidi_base.specs.Classes.{is_paragraph_separator}
+use Rattle.bidi_base.specs.Paragraphs.{ends_with_separator}
+use Rattle.bidi_base.specs.Source.{Source}
+use Rattle.bidi_base.specs.Text.{place, text_len, char_index, subrange, per_char, IsLine}
+use Rattle.bidi_base.proofs.PlaceLemmas.{line_places, place-slice_range, IsLine-places}
+use Rattle.bidi_base.proofs.TextLemmas.{is_boundary-le}
+use Rattle.bidi_base.proofs.PerUnit.{length-per_char, get_or-per_char}
+use Rattle.bidi_base.proofs.StrLemmas.{has_units, text_len-chars, subrange-from_str}
+use Rattle.unicode_bidi.proofs.LineInText.{length-part}
+use Rattle.bidi_show.specs.Texts.{spaced, levels_line, without_separator}
+
+-- what holds once a text was appended
+pub if_pushed : {A E : Type 0} (r : Result A E) (old new more : List ℕ) (P : Type 0) → new ≡ (if is_ok r then old ++ more else old) → (new ≡ old ++ more → P) → OnOk r P
+if_pushed (Ok x) old new more P e f = f e
+if_pushed (Err x) old new more P e f = tt
+
+module _ (start cs levels : List ℕ) where
+  -- the levels of the first n characters
+  abbrev pub levels_so_far : ℕ → List ℕ
+  levels_so_far n = (start ++ codes "levels") ++ flat_map spaced (take n (per_char 0 len_utf8 cs levels))
+
+  -- one more
+  pub levels_so_far-more : (n at level : ℕ) → n < length cs → at ≡ place len_utf8 cs n → level ≡ get_or levels at 0 → (levels_so_far n ++ codes " ") ++ decimal level ≡ levels_so_far (n + 1)
+  levels_so_far-more n at level within here is =
+      let values : List ℕ = per_char 0 len_utf8 cs levels in
+      let next : get_or values n 0 ≡ level = get_or-per_char 0 len_utf8 cs levels n 0 within ∙ ap (λ p. get_or levels p 0) (sym here) ∙ sym is in
+      append_assoc (levels_so_far n) (codes " ") (decimal level)
+      ∙ flat_map_more spaced (start ++ codes "levels") (take n values) level
+      ∙ ap (λ l. (start ++ codes "levels") ++ flat_map spaced l) (sym (take_more values n 0 (omega (arith, length-per_char 0 len_utf8 cs levels)) ∙ ap (λ l. take n values ++ l ∷ []) next))
+
+  -- all of them
+  pub levels_so_far-end : (n : ℕ) → n ≡ length cs → levels_so_far n ++ codes "\n" ≡ start ++ levels_line (per_char 0 len_utf8 cs levels)
+  levels_so_far-end n all =
+      let values : List ℕ = per_char 0 len_utf8 cs levels in
+      ap (λ l. ((start ++ codes "levels") ++ flat_map spaced l) ++ codes "\n") (take_all n values (omega (arith, length-per_char 0 len_utf8 cs levels)))
+      ∙ append_assoc (start ++ codes "levels") (flat_map spaced values) (codes "\n")
+      ∙ append_assoc start (codes "levels") (flat_map spaced values ++ codes "\n")
+
+-- ---- a paragraph and its separator
+
+ends_with_separator-last : (source : Source) (front : List ℕ) (c : ℕ) → ends_with_separator source (front ++ c ∷ []) ≡ is_paragraph_separator (source.class_of c)
+ends_with_separator-last source [] c = refl
+ends_with_separator-last source (x ∷ []) c = refl
+ends_with_separator-last source (x ∷ y ∷ front) c = ends_with_separator-last source (y ∷ front) c
+
+module _ (source : Source) (front : List ℕ) (c : ℕ) where
+  pub without_separator-separator : is_paragraph_separator (source.class_of c) ≡ true → without_separator source (front ++ c ∷ []) ≡ front
+  without_separator-separator closes =
+      let few : length (front ++ c ∷ []) - 1 ≡ length front = omega (arith, length-append front (c ∷ [])) in
+      rw (ends_with_separator-last source front c, closes, few) (take-append_seam front (c ∷ []))
+
+  pub without_separator-other : is_paragraph_separator (source.class_of c) ≡ false → without_separator source (front ++ c ∷ []) ≡ front ++ c ∷ []
+  without_separator-other closes = rw (ends_with_separator-last source front c, closes)
+
+-- the characters of a text of which the last one was read
+pub chars-last : (text front : List ℕ) (c : ℕ) → IsUtf8 text → IsUtf8 front → text ≡ front ++ encode_utf8 c → chars text ≡ chars front ++ c ∷ []
+chars-last text front c u v e =
+    let back : drop (length front) text ≡ encode_utf8 c = ap (drop (length front)) e ∙ drop-append_seam front (encode_utf8 c) in
+    let w : IsUtf8 (encode_utf8 c) = subst IsUtf8 back (IsUtf8-drop text (length front) u (IsCharBoundary-from_take text (length front) u (omega (arith, ap length e, length-append front (encode_utf8 c))) (subst IsUtf8 (sym (ap (take (length front)) e ∙ take-append_seam front (encode_utf8 c))) v))) in
+    ap chars e ∙ chars-append front (encode_utf8 c) v ∙ ap (λ l. chars front ++ l) (chars_past_char (encode_utf8 c) [] c w (sym (append-nil (encode_utf8 c))) ∙ ap (λ l. c ∷ l) chars-nil)
+
+-- it is a front of the paragraph
+pub record IsFront (source : Source) (piece : List ℕ) : Type 0 where
+  pub many : ℕ
+  pub short : many ≤ length piece
+  pub front : without_separator source piece ≡ take many piece
+
+pub without_separator-IsFront : (source : Source) (piece : List ℕ) → IsFront source piece
+without_separator-IsFront source piece = by_test (ends_with_separator source piece) refl
+  where
+    by_test : (b : Bool) → ends_with_separator source piece ≡ b → IsFront source piece
+    by_test true e = record { many = length piece - 1; short = omega arith; front = rw e }
+    by_test false e = record { many = length piece; short = omega arith; front = rw e (sym (take_all (length piece) piece (omega arith))) }
+
+-- it cuts no character
+pub without_separator-IsLine : (source : Source) (cs : List ℕ) (start end : ℕ) → IsLine len_utf8 cs start end
+    → IsLine len_utf8 cs start (start + text_len len_utf8 (without_separator source (subrange len_utf8 cs start end)))
+without_separator-IsLine source cs start end line =
+    let w = line_places len_utf8 has_units cs start end line in
+    let i : ℕ = char_index len_utf8 cs start in
+    let j : ℕ = char_index len_utf8 cs end in
+    let f = without_separator-IsFront source (slice_range cs i j) in
+    let fits : i + f.many ≤ j = omega (arith, w.ordered, f.short, length-part cs i j w.within) in
+    let stop : start + text_len len_utf8 (without_separator source (slice_range cs i j)) ≡ place len_utf8 cs (i + f.many) =
+    ap (λ l. start + text_len len_utf8 l) f.front ∙ ap (λ u. u + place len_utf8 (slice_range cs i j) f.many) w.begins ∙ sym (place-slice_range len_utf8 cs i j f.many fits w.within) in
+    subst (λ u. IsLine len_utf8 cs u (start + text_len len_utf8 (without_separator source (slice_range cs i j)))) (sym w.begins)
+    (subst (λ u. IsLine len_utf8 cs (place len_utf8 cs i) u) (sym stop) (IsLine-places len_utf8 cs i (i + f.many) (omega arith)))
+
+-- the part of a text that is a paragraph without its separator
+pub record IsOwnPart (source : Source) (bs own : List ℕ) (start end : ℕ) : Type 0 where
+  pub long : length own ≡ text_len len_utf8 (without_separator source (subrange len_utf8 (chars bs) start end))
+  pub line : IsLine len_utf8 (chars bs) start (start + length own)
+  pub within : start + length own ≤ length bs
+
+pub own_part : (source : Source) (bs part own : List ℕ) (start end : ℕ) → IsUtf8 bs → IsUtf8 part → IsUtf8 own → IsLine len_utf8 (chars bs) start end
+    → part ≡ slice_range bs start end → chars own ≡ without_separator source (chars part) → IsOwnPart source bs own start end
+own_part source bs part own start end u v w line is e =
+    let n : length own ≡ text_len len_utf8 (without_separator source (subrange len_utf8 (chars bs) start end)) =
+    sym (text_len-chars own w) ∙ ap (text_len len_utf8) (e ∙ ap (λ l. without_separator source (chars l)) is ∙ ap (without_separator source) (sym (subrange-from_str bs start end u line (subst IsUtf8 is v)))) in
+    let short : IsLine len_utf8 (chars bs) start (start + length own) = subst (λ m. IsLine len_utf8 (chars bs) start (start + m)) (sym n) (without_separator-IsLine source (chars bs) start end line) in
+    record { long = n; line = short; within = omega (arith, is_boundary-le len_utf8 (chars bs) (start + length own) short.ends, text_len-chars bs u) }

@@ -1,0 +1,7 @@
+use Rattle.std.proofs.Common.{◌≡◌, length, string_bytes}
+use Rattle.std.specs.Str.{chars}
+use Rattle.bidi_show.proofs.ShownLemmas.{levels_so_far}
+use Rattle.bidi_show.proofs.shown.push_levels.Given as goal
+
+abbrev pub invariant-loop-at : goal.invariant-loop-at
+invariant-loop-at l = string_bytes l.out ≡ levels_so_far (string_bytes l.fn.out) (chars l.fn.text) l.fn.levels (length l.yielded)

@@ -1,0 +1,148 @@
+//! What `show` prints of a text.
+ghost use Rattle.std.specs.Prelude.{◌≡◌, ◌+◌, ◌≤◌, ◌++◌, length, flat_map, decimal, All, IfOk, OnOk, IfSome, string_bytes};
+ghost use Rattle.std.specs.Char.{len_utf8};
+ghost use Rattle.std.specs.Str.{chars};
+ghost use Rattle.bidi_base.specs.Classes.{is_paragraph_separator};
+ghost use Rattle.bidi_base.specs.Text.{per_char, subrange, IsLine};
+ghost use Rattle.bidi_show.specs.Shown.{levels_in, text_in, lines_in};
+ghost use Rattle.bidi_show.specs.Texts.{heading, levels_line, text_line, without_separator as without_separator_of, shown_text};
+ghost use Rattle.unicode_bidi.specs.BidiInfo.{text as text_of, original_classes, levels as levels_of_info};
+ghost use Rattle.unicode_bidi.specs.ParagraphInfo.{level_of, range_of};
+
+use bidi_base::text::{StrText, TextSource};
+use itoa::Buffer;
+use std::alloc::{AllocError, Global};
+use unicode_bidi::{BidiClass, BidiDataSource, BidiInfo, Level, ParagraphInfo};
+
+// Appends a number in decimal.
+fn push_number(out: &mut String, number: usize) -> Result<(), AllocError>
+    ensures { OnOk result (string_bytes out.new ≡ string_bytes out.old ++ decimal number) }
+{
+    let mut digits = Buffer::new();
+    out.push_str(digits.format(number))
+}
+
+// Appends where a paragraph stands, and its level.
+fn push_heading(out: &mut String, paragraph: &ParagraphInfo) -> Result<(), AllocError>
+    ensures { OnOk result (string_bytes out.new
+        ≡ string_bytes out.old ++ heading (range_of paragraph.now).start (range_of paragraph.now).end (level_of paragraph.now)) }
+{
+    let range = paragraph.range();
+    out.push_str("paragraph ")?;
+    push_number(out, range.start)?;
+    out.push_str("..")?;
+    push_number(out, range.end)?;
+    out.push_str(" level ")?;
+    push_number(out, usize::from(paragraph.level().number()))?;
+    out.push_str("\n")
+}
+
+// Appends the level of each character of a text, from one level a byte.
+fn push_levels(out: &mut String, text: &str, levels: &[Level]) -> Result<(), AllocError>
+    requires { length levels.now ≡ length text.now }
+    ensures { OnOk result (string_bytes out.new
+        ≡ string_bytes out.old ++ levels_line (per_char 0 len_utf8 (chars text.now) levels.now)) }
+{
+    out.push_str("levels")?;
+    for (at, _) in StrText::new(text).char_indices() {
+        out.push_str(" ")?;
+        push_number(out, usize::from(levels[at].number()))?;
+    }
+    out.push_str("\n")
+}
+
+// Whether a character is a paragraph separator.
+fn is_separator<D: BidiDataSource>(data_source: &D, c: char) -> bool
+    ensures { result ≡ is_paragraph_separator ((D.source data_source.now).class_of c) }
+{
+    matches!(data_source.bidi_class(c), BidiClass::B)
+}
+
+// The text of a paragraph without the separator that closes it.
+fn without_separator<'t, D: BidiDataSource>(data_source: &D, text: &'t str) -> &'t str
+    ensures { chars result.now ≡ without_separator_of (D.source data_source.now) (chars text.now) }
+{
+    let mut rest = text.chars();
+    let last = rest.next_back();
+    let front = rest.as_str();
+    match last {
+        Some(c) if is_separator(data_source, c) => front,
+        _ => text,
+    }
+}
+
+// Appends a paragraph from left to right, without the separator that closes it.
+fn push_text<D: BidiDataSource>(
+    alloc: Global,
+    out: &mut String,
+    data_source: &D,
+    info: &BidiInfo<'_>,
+    paragraph: &ParagraphInfo,
+) -> Result<(), AllocError>
+    requires { IsLine len_utf8 (chars (text_of info.now)) (range_of paragraph.now).start (range_of paragraph.now).end }
+    ensures { OnOk result (string_bytes out.new ≡ string_bytes out.old
+        ++ text_line (text_in (D.source data_source.now) (text_of info.now) (level_of paragraph.now) (original_classes info.now) (levels_of_info info.now)
+        (range_of paragraph.now).start (range_of paragraph.now).end)) }
+{
+    let units = paragraph.range();
+    let start = units.start;
+    let own = without_separator(data_source, &info.text()[units]);
+    let line = info.reorder_line(alloc, paragraph, start..start + own.len())?;
+    out.push_str("text ")?;
+    out.push_str(line.as_str())?;
+    out.push_str("\n")
+}
+
+// Appends the three lines of a paragraph.
+fn push_paragraph<D: BidiDataSource>(
+    alloc: Global,
+    out: &mut String,
+    data_source: &D,
+    info: &BidiInfo<'_>,
+    paragraph: &ParagraphInfo,
+) -> Result<(), AllocError>
+    requires { IsLine len_utf8 (chars (text_of info.now)) (range_of paragraph.now).start (range_of paragraph.now).end }
+    ensures { OnOk result (string_bytes out.new ≡ string_bytes out.old
+        ++ lines_in (D.source data_source.now) (text_of info.now) (original_classes info.now) (levels_of_info info.now) paragraph.now) }
+{
+    let units = paragraph.range();
+    let (start, end) = (units.start, units.end);
+    push_heading(out, paragraph)?;
+    push_levels(out, &info.text()[units], &info.levels()[start..end])?;
+    push_text(alloc, out, data_source, info, paragraph)
+}
+
+// Appends the lines of some paragraphs.
+fn push_paragraphs<D: BidiDataSource>(
+    alloc: Global,
+    out: &mut String,
+    data_source: &D,
+    info: &BidiInfo<'_>,
+    paragraphs: &[ParagraphInfo],
+) -> Result<(), AllocError>
+    requires { All (λ p. IsLine len_utf8 (chars (text_of info.now)) (range_of p).start (range_of p).end) paragraphs.now }
+    ensures { OnOk result (string_bytes out.new ≡ string_bytes out.old
+        ++ flat_map (lines_in (D.source data_source.now) (text_of info.now) (original_classes info.now) (levels_of_info info.now)) paragraphs.now) }
+{
+    for paragraph in paragraphs {
+        push_paragraph(alloc, out, data_source, info, paragraph)?;
+    }
+    Ok(())
+}
+
+/// Three lines for each paragraph of a text: where it stands and its level, the level of each of its
+/// characters, and its text from left to right.
+pub fn show<D: BidiDataSource>(
+    alloc: Global,
+    data_source: &D,
+    text: &str,
+    base: Option<Level>,
+) -> Result<String, AllocError>
+    requires { IfSome base (λ level. level ≤ 125) }
+    ensures { IfOk result (λ out. string_bytes out ≡ shown_text (D.source data_source.now) base text.now) }
+{
+    let info = BidiInfo::new_with_data_source(alloc, data_source, text, base)?;
+    let mut out = String::new(alloc);
+    push_paragraphs(alloc, &mut out, data_source, &info, info.paragraphs())?;
+    Ok(out)
+}
