@@ -8,9 +8,9 @@ mod info_rows;
 mod initial_rows;
 #[cfg(test)]
 mod level_rows;
+mod line_rows;
 #[cfg(test)]
 mod neutral_units_rows;
-mod line_rows;
 #[cfg(test)]
 mod order_rows;
 #[cfg(test)]

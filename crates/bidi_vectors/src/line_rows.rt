@@ -298,8 +298,9 @@ impl Row<'_> {
 }
 
 fn sample() -> Result<TableBidiData<'static>, Fail> {
-    TableBidiData::new(&sample::RANGES, &sample::BRACKETS)
-        .map_err(|_| Fail::from("the sample is faultless"))
+    TableBidiData::new(&sample::RANGES, &sample::BRACKETS).map_err(|_| Fail::from(
+        "the sample is faultless",
+    ))
 }
 
 #[test]
