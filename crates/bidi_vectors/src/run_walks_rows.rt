@@ -1,6 +1,6 @@
 //! Rows of isolating run sequences in code, and of the walks over their units.
 
-use bidi_base::char_data::BidiClass::{self, AN, L, R};
+use bidi_base::char_data::BidiClass::{self, AN, EN, L, R};
 use bidi_base::text::StrText;
 use bidi_rules::prepare::{IsolatingRunSequence, LevelRun};
 use std::alloc::Global;
@@ -49,13 +49,14 @@ fn walks(
 #[test]
 fn what_makes_a_sequence(rt: HostRuntime) -> Result<(), Fail> {
     let alloc = rt.alloc();
-    assert!(rt; is_sequence(alloc, &[(0, 2), (2, 3)], R, L)?);
-    assert!(rt; !is_sequence(alloc, &[], R, L)?);
-    assert!(rt; !is_sequence(alloc, &[(0, 0)], R, L)?);
-    assert!(rt; !is_sequence(alloc, &[(2, 3), (0, 1)], R, L)?);
-    assert!(rt; !is_sequence(alloc, &[(0, 2), (1, 3)], R, L)?);
-    assert!(rt; !is_sequence(alloc, &[(0, 2)], AN, L)?);
-    assert!(rt; !is_sequence(alloc, &[(0, 2)], R, AN)?);
+    assert!(rt; is_sequence(alloc, &[(0, 2), (5, 7)], L, R)?);
+    assert!(rt; is_sequence(alloc, &[(0, 2), (2, 4)], L, R)?);
+    assert!(rt; !is_sequence(alloc, &[], L, R)?);
+    assert!(rt; !is_sequence(alloc, &[(0, 0)], L, R)?);
+    assert!(rt; !is_sequence(alloc, &[(2, 3), (0, 1)], L, R)?);
+    assert!(rt; !is_sequence(alloc, &[(0, 3), (2, 4)], L, R)?);
+    assert!(rt; !is_sequence(alloc, &[(0, 2)], EN, R)?);
+    assert!(rt; !is_sequence(alloc, &[(0, 2)], L, AN)?);
     Ok(())
 }
 
@@ -78,13 +79,14 @@ fn what_a_sequence_answers(rt: HostRuntime) -> Result<(), Fail> {
 #[test]
 fn units_of_a_sequence(rt: HostRuntime) -> Result<(), Fail> {
     let alloc = rt.alloc();
-    let sequence = sequence_of(alloc, &[(0, 2), (4, 6), (9, 10)])?;
+    let sequence = sequence_of(alloc, &[(0, 2), (5, 7), (9, 10)])?;
     for (pos, run, upwards, downwards) in [
-        (0, 0, [0, 1, 4, 5, 9].as_slice(), [].as_slice()),
-        (1, 0, [1, 4, 5, 9].as_slice(), [0].as_slice()),
-        (2, 0, [4, 5, 9].as_slice(), [1, 0].as_slice()),
-        (5, 1, [5, 9].as_slice(), [4, 1, 0].as_slice()),
-        (10, 2, [].as_slice(), [9, 5, 4, 1, 0].as_slice()),
+        (0, 0, [0, 1, 5, 6, 9].as_slice(), [].as_slice()),
+        (1, 0, [1, 5, 6, 9].as_slice(), [0].as_slice()),
+        (2, 0, [5, 6, 9].as_slice(), [1, 0].as_slice()),
+        (6, 1, [6, 9].as_slice(), [5, 1, 0].as_slice()),
+        (7, 1, [9].as_slice(), [6, 5, 1, 0].as_slice()),
+        (10, 2, [].as_slice(), [9, 6, 5, 1, 0].as_slice()),
     ] {
         let (forwards, backwards) = walks(alloc, &sequence, pos, run)?;
         assert_eq!(rt; forwards.as_slice(), upwards, "{pos} {run}");

@@ -101,20 +101,6 @@ fn sample_classes(alloc: Global, text: &str) -> Result<Vec<BidiClass>, Fail> {
     Ok(classes)
 }
 
-// A sequence of these runs.
-fn sequence(
-    alloc: Global,
-    runs: &[(usize, usize)],
-    sos: BidiClass,
-    eos: BidiClass,
-) -> Result<Option<IsolatingRunSequence>, Fail> {
-    let mut level_runs = Vec::new(alloc);
-    for (start, end) in runs {
-        level_runs.push(*start..*end)?;
-    }
-    Ok(IsolatingRunSequence::new(level_runs, sos, eos))
-}
-
 fn assert_runs(rt: &impl Abort, runs: &[LevelRun], wanted: &[(usize, usize)]) {
     assert_eq!(rt; runs.len(), wanted.len());
     for (run, (start, end)) in runs.iter().zip(wanted) {
@@ -339,70 +325,5 @@ fn as_over_lists(rt: HostRuntime) -> Result<(), Fail> {
     agree(&rt, 0, &[FSI, R, PDI])?;
     agree(&rt, 0, &[RLO, BN, L])?;
     agree(&rt, 0, &[R, LRI, L, B, PDI, RLE, R, PDF, PDI, R])?;
-    Ok(())
-}
-
-#[test]
-fn runs_that_are_a_sequence(rt: HostRuntime) -> Result<(), Fail> {
-    let alloc = rt.alloc();
-    assert!(rt; sequence(alloc, &[(0, 2), (5, 7)], L, R)?.is_some());
-    assert!(rt; sequence(alloc, &[(0, 2), (2, 4)], L, R)?.is_some());
-    assert!(rt; sequence(alloc, &[], L, R)?.is_none());
-    assert!(rt; sequence(alloc, &[(0, 0)], L, R)?.is_none());
-    assert!(rt; sequence(alloc, &[(0, 3), (2, 4)], L, R)?.is_none());
-    assert!(rt; sequence(alloc, &[(0, 2)], EN, R)?.is_none());
-    Ok(())
-}
-
-// The units of a sequence from a place in the run at an index upwards.
-fn forwards(
-    rt: &(impl AllocGlobal + Abort),
-    sequence: &IsolatingRunSequence,
-    pos: usize,
-    run: usize,
-) -> Result<Vec<usize>, Fail> {
-    let runs = sequence.runs();
-    assert!(rt; run < runs.len());
-    assert!(rt; runs[run].start <= pos && pos <= runs[run].end);
-    let mut units = Vec::new(rt.alloc());
-    for unit in sequence.iter_forwards_from(pos, run) {
-        units.push(unit)?;
-    }
-    Ok(units)
-}
-
-// The units of a sequence below a place in the run at an index, downwards.
-fn backwards(
-    rt: &(impl AllocGlobal + Abort),
-    sequence: &IsolatingRunSequence,
-    pos: usize,
-    run: usize,
-) -> Result<Vec<usize>, Fail> {
-    let runs = sequence.runs();
-    assert!(rt; run < runs.len());
-    assert!(rt; runs[run].start <= pos && pos <= runs[run].end);
-    let mut units = Vec::new(rt.alloc());
-    for unit in sequence.iter_backwards_from(pos, run) {
-        units.push(unit)?;
-    }
-    Ok(units)
-}
-
-#[test]
-fn walks_over_the_units_of_a_sequence(rt: HostRuntime) -> Result<(), Fail> {
-    let found = sequence(rt.alloc(), &[(0, 2), (5, 7)], L, R)?.ok_or("no sequence")?;
-    assert_eq!(rt;
-        forwards(&rt, &found, 1, 0)?.as_slice(),
-        [1, 5, 6].as_slice()
-    );
-    assert_eq!(rt;
-        backwards(&rt, &found, 6, 1)?.as_slice(),
-        [5, 1, 0].as_slice()
-    );
-    assert_eq!(rt;
-        backwards(&rt, &found, 7, 1)?.as_slice(),
-        [6, 5, 1, 0].as_slice()
-    );
-    assert!(rt; backwards(&rt, &found, 0, 0)?.is_empty());
     Ok(())
 }
