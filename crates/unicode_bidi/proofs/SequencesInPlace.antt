@@ -88,9 +88,6 @@ module _ (source : List BidiClass) (brackets : List (Option BidiMatchedOpeningBr
     none_of : (p : ℕ) → 0 < times_in (places_of seqs) p → times_in s.places p ≡ 0
     none_of p there = elim (cases_eq (times_in s.places p) 0) [ inl none ↦ none | inr some ↦ absurd (omega (arith, there, next.apart p (omega arith))) ]
 
-    none_removed : (p : ℕ) → is_kept_at stored p ≡ false → times_in s.places p ≡ 0
-    none_removed p gone = elim (cases_eq (times_in s.places p) 0) [ inl none ↦ none | inr some ↦ absurd (both_ways (is_kept_at stored p) gone (next.kept p (omega arith)).0) ]
-
     -- what is written is read, and what is not has not changed
     read_after : (old new : List BidiClass) → ((p : ℕ) → p < length stored → is_read (class_at old p) ≡ is_kept_at stored p) → StaysElsewhere s.places old new → list_all is_read (at_places L new s.places) ≡ true
         → (p : ℕ) → p < length stored → is_read (class_at new p) ≡ is_kept_at stored p
