@@ -1,7 +1,7 @@
 // One walk over a text: the class of each character, with each FSI resolved (X5c), and the
 // paragraphs (P1) with their levels (P2, P3).
-ghost use Rattle.std.specs.Prelude.{◌≡◌, ℕ, ◌+◌, ◌<◌, ◌≤◌, Bool, true, false, not, ◌&&◌, ◌||◌, [], ◌∷◌, ◌++◌, length, map, replicate, unwrap_or, OnOk, IfOk, All, None, Some, Option, MatchOption};
-ghost use Rattle.std.specs.Option.{option_or};
+ghost use Rattle.std.specs.Prelude.{◌≡◌, ◌↔◌, IsTrue, ℕ, ◌+◌, ◌<◌, ◌≤◌, Bool, true, false, not, ◌&&◌, ◌||◌, [], ◌∷◌, ◌++◌, length, map, replicate, unwrap_or, OnOk, IfOk, All, None, Some, Option, MatchOption};
+ghost use Rattle.std.specs.Option.{option_or, IsSome};
 ghost use Rattle.std.specs.declared.ops.Range.{Range};
 ghost use Rattle.bidi_base.specs.Classes.{is_initiator as is_initiator_class};
 ghost use Rattle.bidi_base.specs.Direction.{may_turn as may_turn_class};
@@ -85,6 +85,22 @@ pub(crate) struct ParagraphFlags {
     pub(crate) has_isolates: bool,
 }
 
+impl ParagraphFlags {
+    // The paragraph has a character of this class. It is quick where nothing changes, whatever the
+    // class: words and the spaces between them come in turn.
+    fn add(&mut self, class: BidiClass)
+        ensures pure { self.new.is_pure_ltr ≡ (self.old.is_pure_ltr && not (may_turn_class class)) }
+        ensures isolates { self.new.has_isolates ≡ (self.old.has_isolates || is_initiator_class class) }
+    {
+        if self.is_pure_ltr && may_turn(class) {
+            self.is_pure_ltr = false;
+        }
+        if is_initiator(class) {
+            self.has_isolates = true;
+        }
+    }
+}
+
 // The paragraph that is being read.
 #[derive(Drop)]
 struct Reading {
@@ -116,6 +132,13 @@ impl Reading {
         }
     }
 
+    // Whether the level is decided and no isolate is open: then initiators alone are of interest.
+    fn is_settled(&self) -> bool
+        ensures { IsTrue result ↔ ((self.now.initiators.items ≡ []) × IsSome self.now.deciding) }
+    {
+        self.initiators.is_empty() && self.deciding.is_some()
+    }
+
     // Reads the next character, whose units are given. `classes` are those of the units before it.
     fn read(
         &mut self,
@@ -131,8 +154,10 @@ impl Reading {
         ensures pure { OnOk result (self.new.flags.is_pure_ltr ≡ (self.old.flags.is_pure_ltr && not (may_turn_class class))) }
         ensures isolates { OnOk result (self.new.flags.has_isolates ≡ (self.old.flags.has_isolates || is_initiator_class class)) }
     {
-        self.flags.is_pure_ltr &= !may_turn(class);
-        self.flags.has_isolates |= is_initiator(class);
+        self.flags.add(class);
+        if self.is_settled() && !is_initiator(class) {
+            return Ok(());
+        }
         if is_strong(class) {
             match self.initiators.last() {
                 Some(initiator) => resolve(classes, initiator, class),
