@@ -10,6 +10,7 @@ pub mod Marks
 pub mod NeutralScan
 pub mod NeutralSteps
 pub mod NeutralUnits
+pub mod OneDirection
 pub mod PairWalkLemmas
 pub mod PassOverText
 pub mod PutAt

@@ -1,5 +1,5 @@
 -- N1 and N2 in one walk: the neutrals that have come wait for the next class with a direction.
-use Rattle.std.proofs.Common.{◌≡◌, ℕ, ◌+◌, ◌-◌, ◌<◌, ◌≤◌, true, false, List, ◌++◌, length, get_or, take, drop, replicate, unwrap_or, Option, Some, None, refl, sym, ap, subst, ◌∙◌, arith, drop-drop, inl, inr}
+use Rattle.std.proofs.Common.{◌≡◌, ℕ, ◌+◌, ◌-◌, ◌<◌, ◌≤◌, true, false, List, ◌++◌, length, get_or, take, replicate, unwrap_or, Option, Some, None, refl, sym, ap, subst, ◌∙◌, arith, drop-drop, inl, inr}
 use Rattle.std.proofs.lemmas.Bool.{cases_lt}
 use Rattle.std.proofs.lemmas.List.{get_or_default, get_or_past}
 use Rattle.std.specs.List.{list_all}

@@ -1,5 +1,5 @@
 -- The units of a sequence once its resolved classes are written back.
-use Rattle.std.proofs.Common.{◌≡◌, ℕ, zero, suc, ◌+◌, ◌-◌, ◌<◌, ◌≤◌, Bool, true, false, ◌||◌, List, [], ◌∷◌, ◌++◌, length, map, get_or, take, drop, refl, sym, ap, subst, ◌∙◌, arith, inl, inr}
+use Rattle.std.proofs.Common.{◌≡◌, ℕ, zero, suc, ◌+◌, ◌-◌, ◌<◌, ◌≤◌, Bool, true, false, List, [], ◌∷◌, length, map, get_or, refl, sym, ap, subst, ◌∙◌, arith, inl, inr}
 use Rattle.std.specs.Prelude.{filter, All}
 use Rattle.std.specs.List.{range_with_len}
 use Rattle.std.proofs.lemmas.Bool.{cases_Bool, cases_lt, cond-true, cond-false, or_left, or_right}
@@ -16,7 +16,7 @@ use Rattle.bidi_base.proofs.PerUnit.{length-per_char, length-per_unit, get_or-pe
 use Rattle.bidi_base.proofs.PlaceLemmas.{UnitOf, unit_of, line_places, place-lt, place-mono, place-more}
 use Rattle.bidi_base.proofs.TextLemmas.{HasUnits}
 use Rattle.bidi_base.proofs.UnitsLemmas.{length-from_IsPerChar}
-use Rattle.bidi_rules.specs.NeutralPass.{put_at, values_of}
+use Rattle.bidi_rules.specs.NeutralPass.{put_at}
 use Rattle.bidi_rules.proofs.InRuns.{in_run, in_run-inside}
 use Rattle.bidi_rules.proofs.PassOverText.{alike_class, in_runs-alike}
 use Rattle.bidi_rules.proofs.PutAt.{Ascends-within, length-put_at, put_at-failing, at_places-put_at}
@@ -38,7 +38,7 @@ all_between test low (suc n) each =
 
 module _ (len_of : ℕ → ℕ) (h : HasUnits len_of) (chars : List ℕ) where
   -- the characters of runs stand in the runs
-  places_in_runs : (runs : List (ℕ × ℕ)) → AreLines len_of chars runs → All (λ k. in_runs runs (place len_of chars k) ≡ true) (chars_in_runs len_of chars runs)
+  pub places_in_runs : (runs : List (ℕ × ℕ)) → AreLines len_of chars runs → All (λ k. in_runs runs (place len_of chars k) ≡ true) (chars_in_runs len_of chars runs)
   unfolding chars_in_runs
   places_in_runs [] lines = All-nil (λ k. in_runs [] (place len_of chars k) ≡ true)
   places_in_runs (r ∷ runs) lines =

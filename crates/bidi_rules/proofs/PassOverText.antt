@@ -62,7 +62,7 @@ module _ (len_of : ℕ → ℕ) (h : HasUnits len_of) (chars : List ℕ) where
       ap (λ b. b || in_runs runs u) (in_run-alike r (All-head (λ (q : ℕ × ℕ). IsLine len_of chars q.0 q.1) r runs lines) k u from below)
       ∙ ap (λ b. in_run r (place len_of chars k) || b) (in_runs-alike runs (All-tail (λ (q : ℕ × ℕ). IsLine len_of chars q.0 q.1) r runs lines) k u from below)
 
-  in_runs-within : (runs : List (ℕ × ℕ)) → AreLines len_of chars runs → (u : ℕ) → in_runs runs u ≡ true → u < text_len len_of chars
+  pub in_runs-within : (runs : List (ℕ × ℕ)) → AreLines len_of chars runs → (u : ℕ) → in_runs runs u ≡ true → u < text_len len_of chars
   in_runs-within [] lines u e = absurd (both_ways false refl e)
   in_runs-within (r ∷ runs) lines u e = elim (or_cases (in_run r u) (in_runs runs u) e) [
     | inl here ↦

@@ -1,5 +1,5 @@
 -- Values put at indexes of a list, and at the units of the characters with these indexes.
-use Rattle.std.proofs.Common.{◌≡◌, ◌≢◌, ℕ, zero, suc, ◌+◌, ◌<◌, ◌≤◌, Bool, true, false, List, [], ◌∷◌, ◌++◌, length, get_or, take, drop, set, refl, sym, ap, subst, ◌∙◌, arith, add-one, drop-cons, drop-set-lt, get_or-set_same, get_or-set_other, length-set}
+use Rattle.std.proofs.Common.{◌≡◌, ◌≢◌, ℕ, suc, ◌+◌, ◌<◌, ◌≤◌, Bool, true, false, List, [], ◌∷◌, ◌++◌, length, get_or, take, drop, set, refl, sym, ap, ◌∙◌, arith, add-one, drop-cons, drop-set-lt, get_or-set_same, get_or-set_other, length-set}
 use Rattle.std.specs.Prelude.{replicate, All}
 use Rattle.std.proofs.lemmas.Bool.{both_ways}
 use Rattle.std.proofs.lemmas.List.{take-append-drop, take-set}
@@ -7,7 +7,7 @@ use Rattle.std.proofs.lemmas.List.Elements.{All-head, All-tail}
 use Rattle.bidi_base.specs.Places.{at_places}
 use Rattle.bidi_base.specs.Text.{place, per_unit}
 use Rattle.bidi_base.proofs.PerUnit.{take-per_unit, drop-per_unit}
-use Rattle.bidi_base.proofs.PermutationLemmas.{Ascends, Ascends-lower}
+use Rattle.bidi_base.proofs.PermutationLemmas.{Ascends}
 use Rattle.bidi_base.proofs.PlaceLemmas.{place-more}
 use Rattle.bidi_rules.specs.ExplicitPass.{filled}
 use Rattle.bidi_rules.specs.NeutralPass.{put_at}

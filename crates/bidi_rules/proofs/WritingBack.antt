@@ -1,11 +1,11 @@
 -- Resolved classes, written back to the units of the characters that are read.
-use Rattle.std.proofs.Common.{◌≡◌, ℕ, zero, suc, ◌+◌, ◌-◌, ◌<◌, ◌≤◌, true, false, List, [], ◌∷◌, ◌++◌, length, map, get_or, take, drop, set, refl, sym, ap, ◌∙◌, arith, append-nil, get_or-drop, length-append, length-drop}
+use Rattle.std.proofs.Common.{◌≡◌, ℕ, zero, suc, ◌+◌, ◌-◌, ◌<◌, ◌≤◌, true, false, List, [], ◌∷◌, length, map, get_or, take, drop, set, sym, ap, ◌∙◌, arith, append-nil, get_or-drop, length-append, length-drop}
 use Rattle.std.specs.declared.ops.Range.{Range}
 use Rattle.bidi_base.specs.declared.char_data.BidiClass.{BidiClass}
 use Rattle.bidi_base.specs.declared.char_data.BidiClass.TheVariants.{L}
 use Rattle.bidi_base.specs.Classes.{is_read}
 use Rattle.bidi_base.specs.Places.{between, class_at}
-use Rattle.bidi_base.specs.Text.{place, IsLine, char_index, per_char, per_unit, IsPerChar}
+use Rattle.bidi_base.specs.Text.{place, char_index, per_char, per_unit, IsPerChar}
 use Rattle.bidi_base.specs.Units.{are_ordered, bounds, chars_in_runs, read_in_runs, AreLines}
 use Rattle.bidi_base.proofs.ChainLemmas.{filter_range-agree}
 use Rattle.bidi_base.proofs.PerUnit.{length-per_char, get_or-per_char, get_or-per_unit-place, per_char-per_unit}

@@ -18,8 +18,8 @@ use crate::prepare::{IsolatingRunSequence, LevelRun};
 use bidi_base::char_data::BidiClass;
 use bidi_base::text::TextSource;
 use steps::{
-    Before, carried, comes_after_al, comes_after_l, is_arabic_letter, is_left, marked,
-    numbered, strengthened,
+    Before, carried, comes_after_al, comes_after_l, is_arabic_letter, is_left, marked, numbered,
+    strengthened,
 };
 
 /// What a walk over a sequence knows of the characters that it has read.
@@ -39,7 +39,7 @@ struct Walk {
     first_run: usize,
 }
 
-// Writes the class over those units from `from` up to `to` that are not BN.
+/// Writes the class over those units from `from` up to `to` that are not BN.
 fn write_over(classes: &mut [BidiClass], from: usize, to: usize, class: BidiClass)
     requires { to ≤ length classes.old }
     ensures { IsWrittenOver (λ k. is_read_of (class_at classes.old k)) class from to classes.old classes.new }
@@ -51,8 +51,8 @@ fn write_over(classes: &mut [BidiClass], from: usize, to: usize, class: BidiClas
     }
 }
 
-// The same, of the units of some runs.
-fn write_over_runs(
+/// The same, of the units of some runs.
+pub(super) fn write_over_runs(
     runs: &[LevelRun],
     classes: &mut [BidiClass],
     from: usize,

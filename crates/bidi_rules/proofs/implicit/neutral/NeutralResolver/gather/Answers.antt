@@ -1,9 +1,9 @@
-use Rattle.std.proofs.Common.{◌≡◌, ℕ, List, [], map, take, get_or, sym, subst}
+use Rattle.std.proofs.Common.{ℕ, List, [], map, take, sym, subst}
 use Rattle.bidi_base.specs.Source.{Source}
 use Rattle.bidi_base.specs.Units.{bounds, read_in_runs}
 use Rattle.bidi_rules.specs.NeutralPass.{AreGathered}
 use Rattle.bidi_rules.proofs.Gathered.{AreGathered-none}
-use Rattle.bidi_rules.proofs.ReadRuns.{line_at, no_range, read_in_runs-none, read_in_runs-more}
+use Rattle.bidi_rules.proofs.ReadRuns.{line_at, read_in_runs-none, read_in_runs-more}
 use Rattle.bidi_rules.proofs.implicit.neutral.NeutralResolver.gather.Goals as goal
 
 pub loop-run-init : goal.loop-run-init

@@ -2,7 +2,7 @@ use Rattle.std.proofs.Common.{◌≡◌, ℕ, ◌+◌, List, [], ◌∷◌, ◌+
 use Rattle.std.proofs.lemmas.List.{length_push}
 use Rattle.bidi_base.specs.Places.{class_at}
 use Rattle.bidi_base.specs.Source.{Source}
-use Rattle.bidi_base.specs.Text.{place, char_index}
+use Rattle.bidi_base.specs.Text.{char_index}
 use Rattle.bidi_base.proofs.TextLemmas.{is_boundary-le}
 use Rattle.bidi_base.proofs.PlaceLemmas.{index_turn, index_end}
 use Rattle.bidi_rules.specs.NeutralPass.{AreGathered}

@@ -1,4 +1,4 @@
-use Rattle.std.proofs.Common.{◌≡◌, ◌-◌, length, refl, sym, ap, ◌∙◌, arith}
+use Rattle.std.proofs.Common.{◌-◌, length, refl, sym, ap, ◌∙◌, arith}
 use Rattle.bidi_base.specs.declared.char_data.BidiClass.{BidiClass}
 use Rattle.bidi_rules.specs.ExplicitPass.{filled}
 use Rattle.bidi_rules.proofs.NeutralScan.{IsScanned-start, IsScanned-neutral, IsScanned-direction, IsScanned-end}

@@ -1,4 +1,3 @@
-use Rattle.std.proofs.Common.{◌≡◌, length}
 use Rattle.bidi_rules.proofs.NeutralScan.{IsScanned}
 use Rattle.bidi_rules.proofs.implicit.neutral.directions.resolve_directions.Given as goal
 

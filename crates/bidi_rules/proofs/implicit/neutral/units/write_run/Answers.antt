@@ -1,4 +1,4 @@
-use Rattle.std.proofs.Common.{◌≡◌, ℕ, ◌+◌, ◌<◌, List, true, false, length, get_or, refl, sym, ap, ◌∙◌, arith, rules}
+use Rattle.std.proofs.Common.{◌≡◌, ℕ, ◌+◌, ◌<◌, List, true, length, get_or, refl, sym, ap, ◌∙◌, arith, rules}
 use Rattle.std.proofs.lemmas.List.{length_push}
 use Rattle.bidi_base.specs.Classes.{is_read}
 use Rattle.bidi_base.specs.Places.{class_at}
@@ -130,8 +130,7 @@ loop-offset-preserved g c =
     let t = line_turn len_of h chars run.start run.end c.requires.line part c.subrange.ensures n c.in-Some.offset (get_or part n 0) turn.turn in
     let at = run.start + c.in-Some.offset in
     let same = IsWrittenBack-reads len_of h chars units c.requires.per_char c.args.resolved.now run.start run.end c.args.first n c.loop-offset.next c.in-Some.offset (get_or part n 0) c.loop-offset.classes c.loop-offset.invariant.2 t in
-    let is_read_is = sym c.is_read.ensures in
-    (
+    let is_read_is = sym c.is_read.ensures in (
       c.in-Some.ensures.goes.keeps,
       (c.in-Some.ensures.goes.on c.loop-offset.invariant.1).1,
       rw length_push
