@@ -25,6 +25,7 @@ pub mod RunUnits
 pub mod StackLemmas
 pub mod WalkLemmas
 pub mod WeakPassLemmas
+pub mod WeakPlain
 pub mod WeakWalkLemmas
 pub mod WeakWalkText
 pub mod WritingBack

@@ -30,7 +30,7 @@ use Rattle.bidi_rules.specs.WeakWalk.{is_seen, IsWrittenOver}
 use Rattle.bidi_rules.proofs.Gathered.{length-values_of}
 use Rattle.bidi_rules.proofs.NeutralSteps.{IsReady, IsResolved, first-is, length-resolved, neutral_classes-is}
 use Rattle.bidi_rules.proofs.NeutralUnits.{places_in_runs}
-use Rattle.bidi_rules.proofs.PassOverText.{alike_class, in_runs-alike, in_runs-within}
+use Rattle.bidi_rules.proofs.PassOverText.{IsPerChar-alike, alike_class, in_runs-alike, in_runs-within}
 
 -- ---- over a list of classes
 
@@ -255,24 +255,7 @@ module _ (len_of : ℕ → ℕ) (h : HasUnits len_of) (chars : List ℕ) (runs :
         ]
 
     IsPerChar-one : IsPerChar len_of chars new
-    IsPerChar-one =
-        let values = per_char L len_of chars new in
-        let many : length values ≡ length chars = length-per_char L len_of chars new in
-        let all : length (per_unit len_of chars values) ≡ text_len len_of chars = length-per_unit len_of chars values many in
-        let long = w.long in
-        let old_size = size in (
-          values,
-          many,
-          ext_get_or L new (per_unit len_of chars values) (omega arith) (λ u below.
-              let at = unit_of len_of chars u (omega arith) in
-              let more = place-more len_of chars at.index 0 at.within in
-              let short = at.below in
-              let place_is = at.at_place in
-              even at.index at.within u (omega arith) (omega arith)
-              ∙ sym (get_or-per_char L len_of chars new at.index L at.within)
-              ∙ sym (get_or-per_unit len_of chars values at.index at.offset 0 L many at.within short)
-              ∙ sym (ap (class_at (per_unit len_of chars values)) at.at_place)),
-        )
+    IsPerChar-one = IsPerChar-alike len_of chars new (w.long ∙ size) even
 
     -- the steps have given the direction to all
     pub IsResolved-one : (source : Source) (levels : List ℕ) (original : List BidiClass) (eos : BidiClass) (first : ℕ) → sos ≡ e → eos ≡ e → Some first ≡ find (λ u. is_read (class_at old u)) (units_in_runs rs)

@@ -11,12 +11,14 @@ ghost use Rattle.bidi_rules.specs.RunSequence.{runs as runs_of, sos as sos_of};
 ghost use Rattle.bidi_rules.specs.WeakPass.{waits};
 ghost use Rattle.bidi_rules.specs.WeakWalk.{first_walk, is_seen, IsWrittenOver, Reads, ReadsTo};
 
+mod plain;
 mod steps;
 
 use super::is_read;
 use crate::prepare::{IsolatingRunSequence, LevelRun};
 use bidi_base::char_data::BidiClass;
 use bidi_base::text::TextSource;
+use plain::{are_plain, change};
 use steps::{
     Before, carried, comes_after_al, comes_after_l, is_arabic_letter, is_left, marked, numbered,
     strengthened,
@@ -170,8 +172,8 @@ impl Walk {
 /// The weak types of a sequence, in place: W1 to W7 over its characters that are not BN.
 ///
 /// Each unit of `processing_classes` has the class of its character, and the sequence fits the
-/// text. BN stays, and so do the units outside the sequence. No memory is taken: one walk looks at
-/// each character once, and goes over the units of terminators and separators that wait for the
+/// text. BN stays, and so do the units outside the sequence. No memory is taken. Without numbers and
+/// nonspacing marks each class changes by itself; otherwise one walk looks at each character once, and goes over the units of terminators and separators that wait for the
 /// character behind them once more.
 pub fn resolve_weak<T: TextSource>(
     text: T,
@@ -186,6 +188,10 @@ pub fn resolve_weak<T: TextSource>(
     ensures per_char { IsTrue (is_per_char ⟦<BidiClass as PartialEq>⟧.eq T.units (T.characters text) processing_classes.new) }
 {
     let runs = sequence.runs();
+    if are_plain(runs, processing_classes) {
+        change(runs, processing_classes);
+        return;
+    }
     let mut walk = Walk::new(sequence.sos());
     for run in 0..runs.len() {
         walk.read_run(text, runs, run, processing_classes);
