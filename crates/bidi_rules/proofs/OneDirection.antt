@@ -4,7 +4,6 @@ use Rattle.std.specs.Prelude.{filter, slice_range, All}
 use Rattle.std.specs.List.{list_all, list_any, cons_option}
 use Rattle.std.specs.declared.ops.Range.{Range}
 use Rattle.std.proofs.lemmas.Bool.{cases_Bool, both_ways, and_parts, and_from, and_left, and_right, or_left, cond-true, cond-false}
-use Rattle.std.proofs.lemmas.List.{ext_get_or}
 use Rattle.std.proofs.lemmas.List.Elements.{All-head, All-tail, All-nil, All-cons, All-map}
 use Rattle.bidi_base.specs.declared.char_data.BidiClass.{BidiClass}
 use Rattle.bidi_base.specs.declared.char_data.BidiClass.TheVariants.{L, R, EN, AN}
@@ -16,13 +15,11 @@ use Rattle.bidi_base.specs.Neutral.{nearest_direction, directions_between, pair_
 use Rattle.bidi_base.specs.Places.{at_places, class_at, first_or}
 use Rattle.bidi_base.specs.Sequences.{level_at}
 use Rattle.bidi_base.specs.Source.{Source}
-use Rattle.bidi_base.specs.Text.{place, text_len, per_char, per_unit, IsPerChar}
+use Rattle.bidi_base.specs.Text.{place, text_len, IsPerChar}
 use Rattle.bidi_base.specs.Units.{bounds, chars_in_runs, in_runs, read_in_runs, units_in_runs}
 use Rattle.bidi_base.proofs.ContextLemmas.{list_all-in_context}
 use Rattle.bidi_base.proofs.NeutralLemmas.{n0-keeps}
 use Rattle.bidi_base.proofs.PerCharTests.{class_eq, class_test}
-use Rattle.bidi_base.proofs.PerUnit.{length-per_char, length-per_unit, get_or-per_char, get_or-per_unit}
-use Rattle.bidi_base.proofs.PlaceLemmas.{unit_of, place-more}
 use Rattle.bidi_base.proofs.TextLemmas.{HasUnits}
 use Rattle.bidi_base.proofs.UnitsLemmas.{is_per_char-from_IsPerChar, length-from_IsPerChar}
 use Rattle.bidi_rules.specs.NeutralPass.{turns_from, values_of}

@@ -1,5 +1,5 @@
 -- W1 to W7 over a sequence without numbers and nonspacing marks: each class changes by itself.
-use Rattle.std.proofs.Common.{◌≡◌, ℕ, zero, suc, ◌+◌, ◌<◌, ◌≤◌, Bool, true, false, ◌&&◌, List, [], ◌∷◌, ◌++◌, length, get_or, map, replicate, refl, sym, ap, subst, ◌∙◌, arith, inl, inr, append-nil}
+use Rattle.std.proofs.Common.{◌≡◌, ℕ, zero, suc, Bool, true, false, List, [], ◌∷◌, ◌++◌, length, map, replicate, refl, sym, ap, ◌∙◌, inl, inr, append-nil}
 use Rattle.std.specs.Prelude.{filter, All}
 use Rattle.std.specs.List.{list_all}
 use Rattle.std.proofs.lemmas.Bool.{cases_Bool, and_parts, and_from}
@@ -8,7 +8,7 @@ use Rattle.bidi_base.specs.declared.char_data.BidiClass.{BidiClass}
 use Rattle.bidi_base.specs.declared.char_data.BidiClass.TheVariants.{L, R, AL, EN, ES, ET, AN, CS, NSM, BN, B, S, WS, ON, LRE, LRO, RLE, RLO, PDF, LRI, RLI, FSI, PDI}
 use Rattle.bidi_base.specs.Classes.{is_al, is_l, is_read}
 use Rattle.bidi_base.specs.Places.{at_places, class_at}
-use Rattle.bidi_base.specs.Text.{place, text_len, IsPerChar}
+use Rattle.bidi_base.specs.Text.{place, IsPerChar}
 use Rattle.bidi_base.specs.Units.{chars_in_runs, in_runs, read_in_runs, AreLines}
 use Rattle.bidi_base.specs.Weak.{carried, weak_classes}
 use Rattle.bidi_base.proofs.TextLemmas.{HasUnits}

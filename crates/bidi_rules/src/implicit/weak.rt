@@ -1,6 +1,6 @@
 //! The weak types in place (W1 to W7).
 
-ghost use Rattle.std.specs.Prelude.{◌≡◌, ℕ, ◌+◌, ◌<◌, ◌≤◌, true, false, length, map, drop, get_or, IsTrue};
+ghost use Rattle.std.specs.Prelude.{◌≡◌, ℕ, ◌+◌, ◌<◌, ◌≤◌, true, false, length, map, drop, get_or, if◌then◌else◌, IsTrue};
 ghost use Rattle.bidi_base.specs.Classes.{is_read as is_read_of};
 ghost use Rattle.bidi_base.specs.Places.{at_places, class_at};
 ghost use Rattle.bidi_base.specs.Text.{IsLine, is_per_char, place, text_len};
@@ -41,15 +41,20 @@ struct Walk {
     first_run: usize,
 }
 
+/// What is in the place of a class once another is written over it.
+fn written_over(before: BidiClass, class: BidiClass) -> BidiClass
+    ensures { result ≡ (if is_read_of before then class else before) }
+{
+    if is_read(before) { class } else { before }
+}
+
 /// Writes the class over those units from `from` up to `to` that are not BN.
 fn write_over(classes: &mut [BidiClass], from: usize, to: usize, class: BidiClass)
     requires { to ≤ length classes.old }
     ensures { IsWrittenOver (λ k. is_read_of (class_at classes.old k)) class from to classes.old classes.new }
 {
     for unit in from..to {
-        if is_read(classes[unit]) {
-            classes[unit] = class;
-        }
+        classes[unit] = written_over(classes[unit], class);
     }
 }
 
