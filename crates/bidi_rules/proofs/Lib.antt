@@ -10,6 +10,7 @@ pub mod Marks
 pub mod NeutralScan
 pub mod NeutralSteps
 pub mod NeutralUnits
+pub mod OneDirection
 pub mod PairWalkLemmas
 pub mod PassOverText
 pub mod PutAt
@@ -24,6 +25,7 @@ pub mod RunUnits
 pub mod StackLemmas
 pub mod WalkLemmas
 pub mod WeakPassLemmas
+pub mod WeakPlain
 pub mod WeakWalkLemmas
 pub mod WeakWalkText
 pub mod WritingBack

@@ -38,7 +38,7 @@ all_between test low (suc n) each =
 
 module _ (len_of : ℕ → ℕ) (h : HasUnits len_of) (chars : List ℕ) where
   -- the characters of runs stand in the runs
-  places_in_runs : (runs : List (ℕ × ℕ)) → AreLines len_of chars runs → All (λ k. in_runs runs (place len_of chars k) ≡ true) (chars_in_runs len_of chars runs)
+  pub places_in_runs : (runs : List (ℕ × ℕ)) → AreLines len_of chars runs → All (λ k. in_runs runs (place len_of chars k) ≡ true) (chars_in_runs len_of chars runs)
   unfolding chars_in_runs
   places_in_runs [] lines = All-nil (λ k. in_runs [] (place len_of chars k) ≡ true)
   places_in_runs (r ∷ runs) lines =

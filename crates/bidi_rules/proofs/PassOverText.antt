@@ -28,6 +28,26 @@ use Rattle.bidi_rules.specs.declared.implicit.weak.Walk.{Walk}
 abbrev pub text_pass : (ℕ → ℕ) → List ℕ → List (ℕ × ℕ) → BidiClass → List BidiClass → Pass
 text_pass len_of chars runs sos old = record { mark = λ k. is_seen runs old k && is_boundary len_of chars k; runs = runs; sos = sos; old = old }
 
+-- classes that are equal within each character
+pub IsPerChar-alike : (len_of : ℕ → ℕ) (chars : List ℕ) (new : List BidiClass) → length new ≡ text_len len_of chars
+    → ((k : ℕ) → k < length chars → (u : ℕ) → place len_of chars k ≤ u → u < place len_of chars (k + 1) → class_at new u ≡ class_at new (place len_of chars k)) → IsPerChar len_of chars new
+IsPerChar-alike len_of chars new long even =
+    let values = per_char L len_of chars new in
+    let many : length values ≡ length chars = length-per_char L len_of chars new in
+    let size : length (per_unit len_of chars values) ≡ text_len len_of chars = length-per_unit len_of chars values many in (
+      values,
+      many,
+      ext_get_or L new (per_unit len_of chars values) (omega arith) (λ u below.
+          let w = unit_of len_of chars u (omega arith) in
+          let more = place-more len_of chars w.index 0 w.within in
+          let short = w.below in
+          let place_is = w.at_place in
+          even w.index w.within u (omega arith) (omega arith)
+          ∙ sym (get_or-per_char L len_of chars new w.index L w.within)
+          ∙ sym (get_or-per_unit len_of chars values w.index w.offset 0 L many w.within short)
+          ∙ sym (ap (class_at (per_unit len_of chars values)) w.at_place)),
+    )
+
 module _ (len_of : ℕ → ℕ) (h : HasUnits len_of) (chars : List ℕ) where
   -- ---- the units of a character
 
@@ -62,7 +82,7 @@ module _ (len_of : ℕ → ℕ) (h : HasUnits len_of) (chars : List ℕ) where
       ap (λ b. b || in_runs runs u) (in_run-alike r (All-head (λ (q : ℕ × ℕ). IsLine len_of chars q.0 q.1) r runs lines) k u from below)
       ∙ ap (λ b. in_run r (place len_of chars k) || b) (in_runs-alike runs (All-tail (λ (q : ℕ × ℕ). IsLine len_of chars q.0 q.1) r runs lines) k u from below)
 
-  in_runs-within : (runs : List (ℕ × ℕ)) → AreLines len_of chars runs → (u : ℕ) → in_runs runs u ≡ true → u < text_len len_of chars
+  pub in_runs-within : (runs : List (ℕ × ℕ)) → AreLines len_of chars runs → (u : ℕ) → in_runs runs u ≡ true → u < text_len len_of chars
   in_runs-within [] lines u e = absurd (both_ways false refl e)
   in_runs-within (r ∷ runs) lines u e = elim (or_cases (in_run r u) (in_runs runs u) e) [
     | inl here ↦
@@ -245,23 +265,9 @@ module _ (len_of : ℕ → ℕ) (h : HasUnits len_of) (chars : List ℕ) where
 
         pub IsPerChar-text : IsPerChar len_of chars new
         IsPerChar-text =
-            let values = per_char L len_of chars new in
-            let many : length values ≡ length chars = length-per_char L len_of chars new in
-            let size : length (per_unit len_of chars values) ≡ text_len len_of chars = length-per_unit len_of chars values many in
-            let over_long = over.long in
-            let all = long in (
-              values,
-              many,
-              ext_get_or L new (per_unit len_of chars values) (omega arith) (λ u below.
-                  let w = unit_of len_of chars u (omega arith) in
-                  let more = place-more len_of chars w.index 0 w.within in
-                  let short = w.below in
-                  ap (class_at new) w.at_place
-                  ∙ even w.index w.within w.offset (omega arith)
-                  ∙ sym (get_or-per_char L len_of chars new w.index L w.within)
-                  ∙ sym (get_or-per_unit len_of chars values w.index w.offset 0 L many w.within short)
-                  ∙ sym (ap (class_at (per_unit len_of chars values)) w.at_place)),
-            )
+            IsPerChar-alike len_of chars new (over.long ∙ long) (λ k fits u from below.
+                let at : place len_of chars k + (u - place len_of chars k) ≡ u = omega arith in
+                ap (class_at new) (sym at) ∙ even k fits (u - place len_of chars k) (omega arith))
 
 -- ---- from run to run
 

@@ -1,7 +1,7 @@
 -- The neutrals of a sequence over the list of its characters: what is gathered from the units, and what is written back to them.
-use Rattle.std.specs.Prelude.{◌≡◌, ℕ, List, [], ◌∷◌, length, map, filter, slice_set, Option}
+use Rattle.std.specs.Prelude.{◌≡◌, ℕ, Bool, true, false, List, [], ◌∷◌, length, map, filter, slice_set, Option}
 use Rattle.bidi_base.specs.declared.char_data.BidiClass.{BidiClass}
-use Rattle.bidi_base.specs.declared.char_data.BidiClass.TheVariants.{L}
+use Rattle.bidi_base.specs.declared.char_data.BidiClass.TheVariants.{L, R, EN, AN}
 use Rattle.bidi_base.specs.declared.data_source.BidiMatchedOpeningBracket.{BidiMatchedOpeningBracket}
 use Rattle.bidi_base.specs.Classes.{is_read}
 use Rattle.bidi_base.specs.Places.{at_places, class_at}
@@ -40,3 +40,14 @@ pub record HasGatheredNothing (r : NeutralResolver) : Type 0 where
   pub brackets : r.brackets.items ≡ []
   pub pairs : r.pairs.items ≡ []
   pub sources : r.sources.items ≡ []
+
+-- a number, or the direction other than this one
+abbrev pub turns_from : BidiClass → BidiClass → Bool
+turns_from L R = true
+turns_from L EN = true
+turns_from L AN = true
+turns_from L _ = false
+turns_from _ L = true
+turns_from _ EN = true
+turns_from _ AN = true
+turns_from _ _ = false

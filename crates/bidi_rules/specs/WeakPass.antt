@@ -112,3 +112,18 @@ after_w7 after_l before n (c ∷ classes) =
     ++ (if waits (next_before c before)
     then after_w7 (is_after_l after_l c) (next_before c before) 1 classes
     else w7_by after_l (resolved c before) ∷ after_w7 (is_after_l after_l c) (next_before c before) 0 classes)
+
+-- neither a number nor a nonspacing mark: a class that W1 to W7 change by itself where no such class stands beside it
+abbrev pub is_plain : BidiClass → Bool
+is_plain EN = false
+is_plain AN = false
+is_plain NSM = false
+is_plain _ = true
+
+-- what it becomes then
+abbrev pub plainly : BidiClass → BidiClass
+plainly AL = R
+plainly ES = ON
+plainly ET = ON
+plainly CS = ON
+plainly c = c

@@ -19,16 +19,19 @@ ghost use Rattle.bidi_rules.specs.NeutralPass.{values_of, AreBracketsOf, AreGath
 ghost use Rattle.bidi_rules.specs.RunSequence.{runs as runs_of, sos as sos_of, eos as eos_of};
 
 mod directions;
+mod one_direction;
 mod units;
 
 use super::brackets::{Bracket, find_pairs, resolve_pairs};
 use super::is_read;
+use super::weak::write_over_runs;
 use crate::prepare::{IsolatingRunSequence, LevelRun};
 use bidi_base::char_data::BidiClass;
 use bidi_base::data_source::BidiDataSource;
 use bidi_base::level::Level;
 use bidi_base::text::TextSource;
 use directions::resolve_directions;
+use one_direction::stands_alone;
 use std::alloc::{AllocError, Global};
 use units::{first_read, gather_sources, write_back};
 
@@ -87,6 +90,12 @@ impl NeutralResolver {
             return Ok(());
         };
         let embedding = levels[first].bidi_class();
+        let eos = sequence.eos();
+        if stands_alone(embedding, sos, eos, runs, processing_classes) {
+            let end = processing_classes.len();
+            write_over_runs(runs, processing_classes, 0, end, embedding);
+            return Ok(());
+        }
         self.gather(text, data_source, runs, processing_classes)?;
         self.resolve_brackets(
             text,
@@ -96,7 +105,7 @@ impl NeutralResolver {
             embedding,
             sos,
         )?;
-        resolve_directions(embedding, sos, sequence.eos(), self.classes.as_mut_slice());
+        resolve_directions(embedding, sos, eos, self.classes.as_mut_slice());
         write_back(text, runs, self.classes.as_slice(), processing_classes);
         Ok(())
     }

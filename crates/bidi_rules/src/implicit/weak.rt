@@ -1,6 +1,6 @@
 //! The weak types in place (W1 to W7).
 
-ghost use Rattle.std.specs.Prelude.{◌≡◌, ℕ, ◌+◌, ◌<◌, ◌≤◌, true, false, length, map, drop, get_or, IsTrue};
+ghost use Rattle.std.specs.Prelude.{◌≡◌, ℕ, ◌+◌, ◌<◌, ◌≤◌, true, false, length, map, drop, get_or, if◌then◌else◌, IsTrue};
 ghost use Rattle.bidi_base.specs.Classes.{is_read as is_read_of};
 ghost use Rattle.bidi_base.specs.Places.{at_places, class_at};
 ghost use Rattle.bidi_base.specs.Text.{IsLine, is_per_char, place, text_len};
@@ -11,12 +11,14 @@ ghost use Rattle.bidi_rules.specs.RunSequence.{runs as runs_of, sos as sos_of};
 ghost use Rattle.bidi_rules.specs.WeakPass.{waits};
 ghost use Rattle.bidi_rules.specs.WeakWalk.{first_walk, is_seen, IsWrittenOver, Reads, ReadsTo};
 
+mod plain;
 mod steps;
 
 use super::is_read;
 use crate::prepare::{IsolatingRunSequence, LevelRun};
 use bidi_base::char_data::BidiClass;
 use bidi_base::text::TextSource;
+use plain::{are_plain, change};
 use steps::{
     Before, carried, comes_after_al, comes_after_l, is_arabic_letter, is_left, marked, numbered,
     strengthened,
@@ -39,20 +41,25 @@ struct Walk {
     first_run: usize,
 }
 
-// Writes the class over those units from `from` up to `to` that are not BN.
+/// What is in the place of a class once another is written over it.
+fn written_over(before: BidiClass, class: BidiClass) -> BidiClass
+    ensures { result ≡ (if is_read_of before then class else before) }
+{
+    if is_read(before) { class } else { before }
+}
+
+/// Writes the class over those units from `from` up to `to` that are not BN.
 fn write_over(classes: &mut [BidiClass], from: usize, to: usize, class: BidiClass)
     requires { to ≤ length classes.old }
     ensures { IsWrittenOver (λ k. is_read_of (class_at classes.old k)) class from to classes.old classes.new }
 {
     for unit in from..to {
-        if is_read(classes[unit]) {
-            classes[unit] = class;
-        }
+        classes[unit] = written_over(classes[unit], class);
     }
 }
 
-// The same, of the units of some runs.
-fn write_over_runs(
+/// The same, of the units of some runs.
+pub(super) fn write_over_runs(
     runs: &[LevelRun],
     classes: &mut [BidiClass],
     from: usize,
@@ -170,8 +177,8 @@ impl Walk {
 /// The weak types of a sequence, in place: W1 to W7 over its characters that are not BN.
 ///
 /// Each unit of `processing_classes` has the class of its character, and the sequence fits the
-/// text. BN stays, and so do the units outside the sequence. No memory is taken: one walk looks at
-/// each character once, and goes over the units of terminators and separators that wait for the
+/// text. BN stays, and so do the units outside the sequence. No memory is taken. Without numbers and
+/// nonspacing marks each class changes by itself; otherwise one walk looks at each character once, and goes over the units of terminators and separators that wait for the
 /// character behind them once more.
 pub fn resolve_weak<T: TextSource>(
     text: T,
@@ -186,6 +193,10 @@ pub fn resolve_weak<T: TextSource>(
     ensures per_char { IsTrue (is_per_char ⟦<BidiClass as PartialEq>⟧.eq T.units (T.characters text) processing_classes.new) }
 {
     let runs = sequence.runs();
+    if are_plain(runs, processing_classes) {
+        change(runs, processing_classes);
+        return;
+    }
     let mut walk = Walk::new(sequence.sos());
     for run in 0..runs.len() {
         walk.read_run(text, runs, run, processing_classes);

@@ -7,10 +7,12 @@ use Rattle.bidi_base.specs.declared.char_data.BidiClass.{BidiClass}
 use Rattle.bidi_base.specs.declared.char_data.BidiClass.TheVariants.{L, BN, ON}
 use Rattle.bidi_base.specs.Classes.{is_l_or_r}
 use Rattle.bidi_base.specs.Places.{at_places, class_at}
-use Rattle.bidi_base.specs.Text.{place, is_per_char, IsPerChar}
+use Rattle.bidi_base.specs.Text.{place, is_per_char, IsLine, IsPerChar}
 use Rattle.bidi_base.specs.Units.{bounds, are_ordered, in_runs, read_in_runs, AreLines}
 use Rattle.bidi_base.specs.Weak.{weak_classes}
-use Rattle.bidi_base.proofs.TextLemmas.{HasUnits}
+use Rattle.bidi_base.proofs.TextLemmas.{HasUnits, is_boundary-le}
+use Rattle.std.specs.Prelude.{All}
+use Rattle.std.proofs.lemmas.List.Elements.{All-weaker}
 use Rattle.bidi_base.proofs.PerCharTests.{class_eq, class_test}
 use Rattle.bidi_base.proofs.UnitsLemmas.{IsPerChar-from_is_per_char, is_per_char-from_IsPerChar, length-from_IsPerChar}
 use Rattle.bidi_rules.specs.declared.implicit.weak.Walk.{Walk}
@@ -20,6 +22,7 @@ use Rattle.bidi_rules.specs.WeakPass.{waits}
 use Rattle.bidi_rules.specs.WeakWalk.{is_seen, IsWrittenOver, IsOver, IsUnderWay}
 use Rattle.bidi_rules.proofs.InRuns.{start_or}
 use Rattle.bidi_rules.proofs.PassOverText.{text_pass, answers-text, removed-text, outside-text, IsPerChar-text, IsUnderWay-first_run, IsUnderWay-next_run, IsOver-last_run}
+use Rattle.bidi_rules.proofs.WeakPlain.{kept-plain, removed-plain, IsPerChar-plain}
 use Rattle.bidi_rules.proofs.WalkLemmas.{is_run_sequence-ordered}
 use Rattle.bidi_rules.proofs.implicit.weak.resolve_weak.Goals as goal
 
@@ -68,6 +71,71 @@ resolved len_of h chars sequence read old now new walk run is w past under held 
       outside = subst (λ (xs : List (Range ℕ)). (u : ℕ) → in_runs (map bounds xs) u ≡ false → class_at new u ≡ class_at old u) is outside;
       per_char = is_per_char-from_IsPerChar class_eq class_test len_of chars new (IsPerChar-text len_of h chars old w.per rs w.lines (sos sequence) new over);
     }
+
+-- the runs lie within the units
+within : (len_of : ℕ → ℕ) (chars : List ℕ) (read : List (Range ℕ)) (old : List BidiClass) → IsReady len_of chars read old → All (λ r. r.1 ≤ length old) (map bounds read)
+within len_of chars read old w =
+    let size = length-from_IsPerChar len_of chars old w.per in
+    All-weaker (λ (r : ℕ × ℕ). IsLine len_of chars r.0 r.1) (λ (r : ℕ × ℕ). r.1 ≤ length old) (λ r line. omega (arith, is_boundary-le len_of chars r.1 line.ends, size)) (map bounds read) w.lines
+
+pub are_plain-requires : goal.are_plain-requires
+are_plain-requires g c =
+    let len_of = g.T.TextSource.units in
+    let chars : List ℕ = g.T.TextSource.characters c.args.text in
+    let h = g.met.T.TextSource.has_units in
+    let old = c.args.processing_classes.now in
+    let rs = map bounds c.runs-runs.result.now in
+    let w = ready len_of h chars c.args.sequence.now c.runs-runs.result.now old c.runs-runs.ensures c.requires.fits c.requires.per_char in
+    within len_of chars c.runs-runs.result.now old w
+
+pub change-requires : goal.change-requires
+change-requires g c =
+    let len_of = g.T.TextSource.units in
+    let chars : List ℕ = g.T.TextSource.characters c.args.text in
+    let h = g.met.T.TextSource.has_units in
+    let old = c.args.processing_classes.now in
+    let rs = map bounds c.runs-runs.result.now in
+    let w = ready len_of h chars c.args.sequence.now c.runs-runs.result.now old c.runs-runs.ensures c.requires.fits c.requires.per_char in
+    within len_of chars c.runs-runs.result.now old w
+
+pub returns-then-are_plain-clause-kept : goal.returns-then-are_plain-clause-kept
+returns-then-are_plain-clause-kept g c =
+    let len_of = g.T.TextSource.units in
+    let chars : List ℕ = g.T.TextSource.characters c.args.text in
+    let h = g.met.T.TextSource.has_units in
+    let old = c.args.processing_classes.now in
+    let rs = map bounds c.runs-runs.result.now in
+    let w = ready len_of h chars c.args.sequence.now c.runs-runs.result.now old c.runs-runs.ensures c.requires.fits c.requires.per_char in
+    subst
+    (λ (xs : List (Range ℕ)). at_places L c.change.new.classes (map (place len_of chars) (read_in_runs len_of chars old (map bounds xs)))
+    ≡ weak_classes (sos c.args.sequence.now) (at_places L old (map (place len_of chars) (read_in_runs len_of chars old (map bounds xs)))))
+    c.runs-runs.ensures
+    (kept-plain len_of h chars old w.per rs w.lines c.change.new.classes c.change.ensures.changed c.change.ensures.same (sos c.args.sequence.now) (c.are_plain.ensures c.if-are_plain.true))
+
+pub returns-then-are_plain-clause-removed : goal.returns-then-are_plain-clause-removed
+returns-then-are_plain-clause-removed g c =
+    let len_of = g.T.TextSource.units in
+    let chars : List ℕ = g.T.TextSource.characters c.args.text in
+    let h = g.met.T.TextSource.has_units in
+    let old = c.args.processing_classes.now in
+    let rs = map bounds c.runs-runs.result.now in
+    let w = ready len_of h chars c.args.sequence.now c.runs-runs.result.now old c.runs-runs.ensures c.requires.fits c.requires.per_char in
+    removed-plain len_of h chars old w.per rs w.lines c.change.new.classes c.change.ensures.changed c.change.ensures.same
+
+pub returns-then-are_plain-clause-outside : goal.returns-then-are_plain-clause-outside
+returns-then-are_plain-clause-outside g c =
+    subst (λ (xs : List (Range ℕ)). (u : ℕ) → in_runs (map bounds xs) u ≡ false → class_at c.change.new.classes u ≡ class_at c.args.processing_classes.now u) c.runs-runs.ensures c.change.ensures.same
+
+pub returns-then-are_plain-clause-per_char : goal.returns-then-are_plain-clause-per_char
+returns-then-are_plain-clause-per_char g c =
+    let len_of = g.T.TextSource.units in
+    let chars : List ℕ = g.T.TextSource.characters c.args.text in
+    let h = g.met.T.TextSource.has_units in
+    let old = c.args.processing_classes.now in
+    let rs = map bounds c.runs-runs.result.now in
+    let w = ready len_of h chars c.args.sequence.now c.runs-runs.result.now old c.runs-runs.ensures c.requires.fits c.requires.per_char in
+    is_per_char-from_IsPerChar class_eq class_test len_of chars c.change.new.classes
+    (IsPerChar-plain len_of h chars old w.per rs w.lines c.change.new.classes c.change.ensures.changed c.change.ensures.same c.change.auto.classes)
 
 pub loop-run-init : goal.loop-run-init
 loop-run-init g c =

@@ -1,21 +1,31 @@
-use Rattle.std.proofs.Common.{◌≡◌, ℕ, Bool, get_or, sym, ◌∙◌, ap, arith}
+use Rattle.std.proofs.Common.{◌≡◌, ◌+◌, ℕ, Bool, List, get_or, set, sym, ◌∙◌, ap, subst, inl, inr, arith}
+use Rattle.std.proofs.lemmas.Bool.{cases_Bool, cond-true, cond-false}
+use Rattle.std.proofs.lemmas.List.{set-get_or}
+use Rattle.bidi_base.specs.declared.char_data.BidiClass.{BidiClass}
 use Rattle.bidi_base.specs.declared.char_data.BidiClass.TheVariants.{L}
 use Rattle.bidi_base.specs.Classes.{is_read}
+use Rattle.bidi_rules.specs.WeakWalk.{IsWrittenOver}
 use Rattle.bidi_rules.proofs.WrittenOver.{IsWrittenOver-skip, IsWrittenOver-set, IsWrittenOver-end}
 use Rattle.bidi_rules.proofs.implicit.weak.write_over.Goals as goal
-use Rattle.bidi_rules.proofs.implicit.weak.write_over.Goals.{then-is_read, else-is_read}
 
 pub loop-unit-preserved : goal.loop-unit-preserved
 loop-unit-preserved c =
     let old = c.args.classes.now in
+    let now = c.loop-unit.classes in
+    let class = c.args.class in
+    let from = c.args.from in
     let i = c.loop-unit.unit in
     let h = c.loop-unit.invariant.0 in
     let test : ℕ → Bool = λ (k : ℕ). is_read (get_or old k L) in
-    let reads : get_or c.loop-unit.classes i L ≡ get_or old i L = h.above i (omega arith) in
-    let answer : c.is_read.result ≡ test i = c.is_read.ensures ∙ ap is_read reads in (
-      elim c.if-is_read.branch [
-        | then-is_read w ↦ rw w.classes-is (IsWrittenOver-set test c.args.class c.args.from old i c.loop-unit.classes (omega arith) (omega (arith, c.requires)) (sym answer ∙ w.if-is_read.true) h)
-        | else-is_read w ↦ rw w.classes-is (IsWrittenOver-skip test c.args.class c.args.from old i c.loop-unit.classes (sym answer ∙ w.if-is_read.false) h)
+    let reads : get_or now i L ≡ get_or old i L = h.above i (omega arith) in
+    let answer : is_read (get_or now i L) ≡ test i = ap is_read reads in (
+      elim (cases_Bool (is_read (get_or now i L))) [
+        | inl seen ↦
+            let is : c.written_over.result ≡ class = c.written_over.ensures ∙ cond-true (is_read (get_or now i L)) class (get_or now i L) seen in
+            subst (λ (x : BidiClass). IsWrittenOver test class from (i + 1) old (set now i x)) (sym is) (IsWrittenOver-set test class from old i now (omega arith) (omega (arith, c.requires)) (sym answer ∙ seen) h)
+        | inr gone ↦
+            let is : c.written_over.result ≡ get_or now i L = c.written_over.ensures ∙ cond-false (is_read (get_or now i L)) class (get_or now i L) gone in
+            subst (λ (xs : List BidiClass). IsWrittenOver test class from (i + 1) old xs) (sym (ap (set now i) is ∙ set-get_or now i L)) (IsWrittenOver-skip test class from old i now (sym answer ∙ gone) h)
       ],
       λ none. absurd (omega arith),
     )

@@ -1,0 +1,60 @@
+//! Sequences in which one direction stands alone: N0 to N2 give it to each character that is read.
+
+ghost use Rattle.std.specs.Prelude.{◌≡◌, ℕ, ◌<◌, ◌≤◌, true, false, length, map, All, IsTrue};
+ghost use Rattle.bidi_base.specs.Places.{class_at};
+ghost use Rattle.bidi_base.specs.Units.{bounds, in_runs};
+ghost use Rattle.bidi_rules.specs.NeutralPass.{turns_from as turns_from_of};
+
+use crate::prepare::LevelRun;
+use bidi_base::char_data::BidiClass::{self, AN, EN, L, R};
+
+/// Whether sos and eos are this direction, and no class in the runs is a number or the other one.
+pub fn stands_alone(
+    direction: BidiClass,
+    sos: BidiClass,
+    eos: BidiClass,
+    runs: &[LevelRun],
+    classes: &[BidiClass],
+) -> bool
+    requires { All (λ r. r.1 ≤ length classes.now) (map bounds runs.now) }
+    ensures sos { IsTrue result → sos ≡ direction }
+    ensures eos { IsTrue result → eos ≡ direction }
+    ensures classes { IsTrue result → (u : ℕ) → in_runs (map bounds runs.now) u ≡ true → turns_from_of direction (class_at classes.now u) ≡ false }
+{
+    sos == direction && eos == direction && keep_to(direction, runs, classes)
+}
+
+/// Whether no class in the runs turns from a direction.
+fn keep_to(direction: BidiClass, runs: &[LevelRun], classes: &[BidiClass]) -> bool
+    requires { All (λ r. r.1 ≤ length classes.now) (map bounds runs.now) }
+    ensures { IsTrue result → (u : ℕ) → in_runs (map bounds runs.now) u ≡ true → turns_from_of direction (class_at classes.now u) ≡ false }
+{
+    for run in runs {
+        if has_turn(direction, run, classes) {
+            return false;
+        }
+    }
+    true
+}
+
+/// Whether a class in the run turns from a direction. All are looked at, many at once.
+fn has_turn(direction: BidiClass, run: &LevelRun, classes: &[BidiClass]) -> bool
+    requires { run.now.end ≤ length classes.now }
+    ensures { result ≡ false → (u : ℕ) → run.now.start ≤ u → u < run.now.end → turns_from_of direction (class_at classes.now u) ≡ false }
+{
+    let mut turns = false;
+    for unit in run.start..run.end {
+        turns |= turns_from(direction, classes[unit]);
+    }
+    turns
+}
+
+/// Whether a class is a number, or the direction other than this one.
+fn turns_from(direction: BidiClass, class: BidiClass) -> bool
+    ensures { result ≡ turns_from_of direction class }
+{
+    match direction {
+        L => matches!(class, R | EN | AN),
+        _ => matches!(class, L | EN | AN),
+    }
+}
