@@ -5,7 +5,7 @@ ghost use Rattle.std.specs.List.{zip};
 ghost use Rattle.bidi_base.specs.Implicit.{implicit_level as implicit_level_of};
 
 use bidi_base::char_data::BidiClass::{self, AN, EN, L, R};
-use bidi_base::level::Level;
+use bidi_base::level::{Level, MAX_IMPLICIT_DEPTH};
 
 /// The implicit level of each unit (I1, I2), from its class and its explicit level, which is at most
 /// 125. Classes other than L, R, EN and AN add nothing. Answers the greatest level after it, 0 if
@@ -25,7 +25,8 @@ pub fn resolve_levels(processing_classes: &[BidiClass], levels: &mut [Level]) ->
     Level::new(greatest).unwrap()
 }
 
-// Sums in place of branches, so that a loop over it is done for many units at once.
+// Sums in place of branches, and a bound that is never passed, so that a loop over it is done for
+// many units at once.
 fn implicit_level(level: Level, class: BidiClass) -> Level
     requires { level ≤ 125 }
     ensures { result ≡ implicit_level_of level class }
@@ -36,5 +37,5 @@ fn implicit_level(level: Level, class: BidiClass) -> Level
     } else {
         2 * number + u8::from(class == R)
     };
-    Level::new(level.number() + added).unwrap()
+    Level::new((level.number() + added).min(MAX_IMPLICIT_DEPTH)).unwrap()
 }
