@@ -72,6 +72,9 @@ pub(crate) fn visual_runs_of(
     ensures visual { IfOk result (λ v. AreVisualRuns start levels.now (map run_of v.items)) }
 {
     let runs = runs_upwards(alloc, levels, start)?;
+    if runs.len() <= 1 {
+        return Ok(runs);
+    }
     let of_runs = levels_of_runs(alloc, levels, start, runs.as_slice())?;
     if !has_rtl(of_runs.as_slice()) {
         return Ok(runs);

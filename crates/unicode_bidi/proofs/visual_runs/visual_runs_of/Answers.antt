@@ -1,12 +1,20 @@
-use Rattle.std.proofs.Common.{◌≡◌, ◌∙◌, Result, Ok, Err, IfOk, map, length, sym, ap}
+use Rattle.std.proofs.Common.{◌≡◌, ◌∙◌, Result, Ok, Err, IfOk, map, length, sym, ap, arith}
 use Rattle.std.proofs.lemmas.List.{length-map}
 use Rattle.bidi_base.specs.Levels.{has_rtl}
 use Rattle.bidi_base.specs.Display.{run_of, run_level, level_runs}
-use Rattle.unicode_bidi.proofs.FoundRuns.{runs_within, visual_runs-still, visual_runs-found, order_below, AreVisualRuns-from_same}
+use Rattle.unicode_bidi.proofs.FoundRuns.{runs_within, visual_runs-still, visual_runs-one, visual_runs-found, order_below, AreVisualRuns-from_same}
 use Rattle.unicode_bidi.proofs.visual_runs.visual_runs_of.Goals as goal
 
 pub levels_of_runs-requires : goal.levels_of_runs-requires
 levels_of_runs-requires c = runs_within c.args.start c.args.levels.now c.as_slice.result.now (ap (map run_of) c.as_slice.ensures.value ∙ c.in_ok-runs.ensures)
+
+pub returns-then-len-le1-clause-runs : goal.returns-then-len-le1-clause-runs
+returns-then-len-le1-clause-runs c =
+    c.in_ok-runs.ensures
+    ∙ visual_runs-one c.args.start c.args.levels.now (omega (arith, ap length c.in_ok-runs.ensures, length-map c.in_ok-runs.runs.items run_of, c.len.ensures, c.if-len-le1.true))
+
+pub returns-then-len-le1-clause-visual : goal.returns-then-len-le1-clause-visual
+returns-then-len-le1-clause-visual c = AreVisualRuns-from_same c.args.start c.args.levels.now _ (returns-then-len-le1-clause-runs c)
 
 pub returns-then-not-has_rtl-clause-runs : goal.returns-then-not-has_rtl-clause-runs
 returns-then-not-has_rtl-clause-runs c =
