@@ -1,8 +1,9 @@
 -- The pass over units that gives explicit levels, classes and level runs: what it has written once it read some characters.
-use Rattle.std.proofs.Common.{◌≡◌, ℕ, ◌+◌, ◌<◌, ◌≤◌, ◌^◌, true, false, List, [], ◌∷◌, ◌++◌, length, get_or, take, drop, Option, Some, None, unwrap_or, sym, ap, subst, ◌∙◌, arith, length-append, append_assoc}
+use native.Mathlib.Numerals.{unary_clauses}
+use Rattle.std.proofs.Common.{◌≡◌, ℕ, zero, suc, ◌+◌, ◌<◌, ◌≤◌, ◌^◌, true, false, List, [], ◌∷◌, ◌++◌, length, get_or, set, take, drop, Option, Some, None, unwrap_or, refl, sym, ap, subst, ◌∙◌, arith, length-append, append_assoc}
 use Rattle.std.specs.Prelude.{◌||◌, if◌then◌else◌, replicate}
 use Rattle.std.proofs.Math.Seq.{take-append_seam}
-use Rattle.std.proofs.lemmas.List.{length-take, length-drop, length-replicate}
+use Rattle.std.proofs.lemmas.List.{take-append-drop, length-take, length-drop, length-replicate}
 use Rattle.bidi_base.specs.declared.char_data.BidiClass.{BidiClass}
 use Rattle.bidi_base.specs.declared.char_data.BidiClass.TheVariants.{L, BN}
 use Rattle.bidi_base.specs.Classes.{is_paragraph_separator, is_removed}
@@ -40,6 +41,29 @@ length-filled from len x units fits =
       length-replicate len x,
       length-drop (from + len) units,
     )
+
+pub filled-none : {X : Type 0} (from : ℕ) (x : X) (units : List X) → filled from 0 x units ≡ units
+filled-none from x units =
+    let same : from + 0 ≡ from = omega arith in
+    ap (λ n. take from units ++ drop n units) same ∙ take-append-drop from units
+
+next-filled : {X : Type 0} (from len : ℕ) (x : X) (units : List X) → from + len < length units → set (filled from len x units) (from + len) x ≡ filled from (len + 1) x units
+next-filled from len x [] fits = absurd (omega arith)
+next-filled zero zero x (y ∷ units) fits = refl
+next-filled zero (suc len) x (y ∷ units) fits =
+    let rest : set (filled zero len x units) (zero + len) x ≡ filled zero (len + 1) x units = next-filled zero len x units (omega arith) in
+    simp unary_clauses (ap (λ us. x ∷ us) (simp unary_clauses at rest))
+next-filled (suc from) len x (y ∷ units) fits =
+    let here : suc from + len ≡ suc (from + len) = omega arith in
+    let next : suc (from + (len + 1)) ≡ suc from + (len + 1) = omega arith in
+    ap (λ n. set (y ∷ (take from units ++ (replicate len x ++ drop n (y ∷ units)))) n x) here
+    ∙ ap (λ us. y ∷ us) (next-filled from len x units (omega arith))
+    ∙ ap (λ n. y ∷ (take from units ++ (replicate (len + 1) x ++ drop n (y ∷ units)))) next
+
+-- one unit more
+pub filled-more : {X : Type 0} (from len at : ℕ) (x : X) (old units : List X) → at ≡ from + len → at < length old → units ≡ filled from len x old → set units at x ≡ filled from (len + 1) x old
+filled-more from len at x old units is fits h =
+    ap (λ us. set us at x) h ∙ ap (λ n. set (filled from len x old) n x) is ∙ next-filled from len x old (omega (arith, is, fits))
 
 take-filled : {X : Type 0} (from len : ℕ) (x : X) (units : List X) → from + len ≤ length units → take (from + len) (filled from len x units) ≡ take from units ++ replicate len x
 take-filled {X} from len x units fits =

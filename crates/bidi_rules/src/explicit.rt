@@ -47,6 +47,30 @@ fn own_class(class: BidiClass, override_class: Option<BidiClass>) -> BidiClass
     }
 }
 
+// Writes a value to `len` units from `start` on. A character has few, so they are written one by one.
+fn fill<X: Copy>(units: &mut [X], start: usize, len: usize, value: X)
+    requires { start + len ≤ length units.old }
+    ensures { units.new ≡ filled start len value units.old }
+{
+    match len {
+        1 => units[start] = value,
+        2 => {
+            units[start] = value;
+            units[start + 1] = value;
+        }
+        3 => {
+            units[start] = value;
+            units[start + 1] = value;
+            units[start + 2] = value;
+        }
+        _ => {
+            for unit in 0..len {
+                units[start + unit] = value;
+            }
+        }
+    }
+}
+
 // Writes the level and the class of a character to each of its units.
 fn write(
     levels: &mut [Level],
@@ -61,8 +85,8 @@ fn write(
     ensures levels { levels.new ≡ filled start len level levels.old }
     ensures classes { classes.new ≡ filled start len class classes.old }
 {
-    levels[start..start + len].fill(level);
-    classes[start..start + len].fill(class);
+    fill(levels, start, len, level);
+    fill(classes, start, len, class);
 }
 
 // Ends the level run that began at `run_start`, where the kept character at `start` has another

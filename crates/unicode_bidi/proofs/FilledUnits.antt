@@ -30,21 +30,19 @@ use Rattle.bidi_base.proofs.UnitsLemmas.{per_unit-from_is_per_char}
 
 -- ---- what X9 removed
 
--- of the first i units those of removed characters have their levels, and `before` is the level before the i-th
-pub record AreFilled (paragraph : ℕ) (classes : List BidiClass) (old : List ℕ) (i before : ℕ) (new : List ℕ) : Type 0 where
+-- of the first i units those of removed characters have their levels
+pub record AreFilled (paragraph : ℕ) (classes : List BidiClass) (old : List ℕ) (i : ℕ) (new : List ℕ) : Type 0 where
   pub kept : (p : ℕ) → p < i → is_kept_at classes p ≡ true → get_or new p 0 ≡ get_or old p 0
   pub rest : (p : ℕ) → i ≤ p → get_or new p 0 ≡ get_or old p 0
   pub front : 0 < i → is_kept_at classes 0 ≡ false → get_or new 0 0 ≡ paragraph
   pub removed : (p : ℕ) → p + 1 < i → is_kept_at classes (p + 1) ≡ false → get_or new (p + 1) 0 ≡ get_or new p 0
-  pub first : i ≡ 0 → before ≡ paragraph
-  pub last : (p : ℕ) → p + 1 ≡ i → before ≡ get_or new p 0
 
-pub AreFilled-start : (paragraph : ℕ) (classes : List BidiClass) (old : List ℕ) → AreFilled paragraph classes old 0 paragraph old
+pub AreFilled-start : (paragraph : ℕ) (classes : List BidiClass) (old : List ℕ) → AreFilled paragraph classes old 0 old
 AreFilled-start paragraph classes old =
-    record { kept = λ p h k. refl; rest = λ p h. refl; front = λ h k. absurd (omega arith); removed = λ p h k. absurd (omega arith); first = λ h. refl; last = λ p h. absurd (omega arith) }
+    record { kept = λ p h k. refl; rest = λ p h. refl; front = λ h k. absurd (omega arith); removed = λ p h k. absurd (omega arith) }
 
-module _ (paragraph : ℕ) (classes : List BidiClass) (old : List ℕ) (i before : ℕ) (new : List ℕ) (within : i < length new) (h : AreFilled paragraph classes old i before new) where
-  pub AreFilled-kept : is_kept_at classes i ≡ true → AreFilled paragraph classes old (i + 1) (get_or new i 0) new
+module _ (paragraph : ℕ) (classes : List BidiClass) (old : List ℕ) (i : ℕ) (new : List ℕ) (h : AreFilled paragraph classes old i new) where
+  pub AreFilled-kept : is_kept_at classes i ≡ true → AreFilled paragraph classes old (i + 1) new
   AreFilled-kept stays =
       record {
         kept = λ p below k. elim (cases_lt p i) [ inl earlier ↦ h.kept p earlier k | inr here ↦ h.rest p here ];
@@ -59,39 +57,36 @@ module _ (paragraph : ℕ) (classes : List BidiClass) (old : List ℕ) (i before
               let same : p + 1 ≡ i = omega arith in
               absurd (both_ways (is_kept_at classes (p + 1)) gone (ap (is_kept_at classes) same ∙ stays))
         ];
-        first = λ none. absurd (omega arith);
-        last = λ p same. ap (λ (n : ℕ). get_or new n 0) (let here : i ≡ p = omega arith in here);
       }
 
-  other : (p : ℕ) → p ≢ i → get_or (set new i before) p 0 ≡ get_or new p 0
-  other p apart = get_or-set_other new i p before 0 apart
+  module _ (before : ℕ) (within : i < length new) (at_front : i ≡ 0 → before ≡ paragraph) (inside : (p : ℕ) → p + 1 ≡ i → before ≡ get_or new p 0) where
+    other : (p : ℕ) → p ≢ i → get_or (set new i before) p 0 ≡ get_or new p 0
+    other p apart = get_or-set_other new i p before 0 apart
 
-  here : (p : ℕ) → p ≡ i → get_or (set new i before) p 0 ≡ before
-  here p same = ap (λ (n : ℕ). get_or (set new i before) n 0) same ∙ get_or-set_same new i before 0 within
+    here : (p : ℕ) → p ≡ i → get_or (set new i before) p 0 ≡ before
+    here p same = ap (λ (n : ℕ). get_or (set new i before) n 0) same ∙ get_or-set_same new i before 0 within
 
-  pub AreFilled-removed : is_kept_at classes i ≡ false → AreFilled paragraph classes old (i + 1) before (set new i before)
-  AreFilled-removed gone =
-      record {
-        kept = λ p below k. elim (cases_lt p i) [
-          | inl earlier ↦ other p (λ e. omega arith) ∙ h.kept p earlier k
-          | inr past ↦
-              let same : p ≡ i = omega arith in
-              absurd (both_ways (is_kept_at classes i) gone (ap (is_kept_at classes) (sym same) ∙ k))
-        ];
-        rest = λ p past. other p (λ e. omega arith) ∙ h.rest p (omega arith);
-        front = λ some k. elim (cases_eq i 0) [
-          | inl none ↦ here 0 (sym none) ∙ h.first none
-          | inr later ↦ other 0 (λ e. later (sym e)) ∙ h.front (omega arith) k
-        ];
-        removed = λ p below k. elim (cases_lt (p + 1) i) [
-          | inl earlier ↦ other (p + 1) (λ e. omega arith) ∙ h.removed p earlier k ∙ sym (other p (λ e. omega arith))
-          | inr past ↦
-              let same : p + 1 ≡ i = omega arith in
-              here (p + 1) same ∙ h.last p same ∙ sym (other p (λ e. omega arith))
-        ];
-        first = λ none. absurd (omega arith);
-        last = λ p same. sym (here p (omega arith));
-      }
+    pub AreFilled-removed : is_kept_at classes i ≡ false → AreFilled paragraph classes old (i + 1) (set new i before)
+    AreFilled-removed gone =
+        record {
+          kept = λ p below k. elim (cases_lt p i) [
+            | inl earlier ↦ other p (λ e. omega arith) ∙ h.kept p earlier k
+            | inr past ↦
+                let same : p ≡ i = omega arith in
+                absurd (both_ways (is_kept_at classes i) gone (ap (is_kept_at classes) (sym same) ∙ k))
+          ];
+          rest = λ p past. other p (λ e. omega arith) ∙ h.rest p (omega arith);
+          front = λ some k. elim (cases_eq i 0) [
+            | inl none ↦ here 0 (sym none) ∙ at_front none
+            | inr later ↦ other 0 (λ e. later (sym e)) ∙ h.front (omega arith) k
+          ];
+          removed = λ p below k. elim (cases_lt (p + 1) i) [
+            | inl earlier ↦ other (p + 1) (λ e. omega arith) ∙ h.removed p earlier k ∙ sym (other p (λ e. omega arith))
+            | inr past ↦
+                let same : p + 1 ≡ i = omega arith in
+                here (p + 1) same ∙ inside p same ∙ sym (other p (λ e. omega arith))
+          ];
+        }
 
 module _ (len_of : ℕ → ℕ) (h : HasUnits len_of) (chars : List ℕ) (stored : List BidiClass) (paragraph : ℕ) (classes : List BidiClass) (old new : List ℕ)
     (stored_long : length stored ≡ length chars) (is : classes ≡ per_unit len_of chars stored) (old_even : is_per_char level_eq len_of chars old ≡ true) (long : length new ≡ length classes)

@@ -3,13 +3,14 @@ use Rattle.std.proofs.Common.{◌≡◌, ℕ, ◌+◌, ◌<◌, ◌≤◌, ◌++
 use Rattle.std.specs.declared.ops.Range.{Range}
 use Rattle.std.specs.List.{range_with_len}
 use Rattle.std.proofs.lemmas.List.{get_or-map, length-map, map-append, take_more}
-use Rattle.std.proofs.lemmas.List.Sorted.{All-permutation}
+use Rattle.std.proofs.lemmas.List.FromFn.{length-range_with_len}
+use Rattle.std.proofs.lemmas.List.Sorted.{All-permutation, IsPermutation-refl}
 use Rattle.bidi_base.specs.Levels.{has_rtl}
 use Rattle.bidi_base.specs.Places.{indexes, at_places}
 use Rattle.bidi_base.specs.Order.{visual_order, IsVisualOrder}
 use Rattle.bidi_base.specs.Display.{Run, run_of, level_runs, run_level, visual_runs, IsLevelRun, AreVisualRuns}
 use Rattle.unicode_bidi.proofs.Ordered.{visual_order-still, none_odd}
-use Rattle.bidi_base.proofs.VisualOrderLemmas.{all_below}
+use Rattle.bidi_base.proofs.VisualOrderLemmas.{visual_order-unique, all_below}
 use Rattle.unicode_bidi.proofs.Pieces.{at_places-map}
 use Rattle.bidi_base.proofs.StoredLemmas.{at_places-append}
 use Rattle.unicode_bidi.proofs.RunsLemmas.{level_runs-each}
@@ -50,6 +51,26 @@ visual_runs-still start levels even = sym (
     ap (at_places (0, 0) (level_runs start levels)) (visual_order-still (map (run_level start levels) (level_runs start levels)) (none_odd (map (run_level start levels) (level_runs start levels)) even) ∙ ap (range_with_len 0) (length-map (level_runs start levels) (run_level start levels)))
     ∙ at_places-map (0, 0) (level_runs start levels) (range_with_len 0 (length (level_runs start levels)))
     ∙ all-runs (level_runs start levels))
+
+-- and so does one run
+pub visual_runs-one : (start : ℕ) (levels : List ℕ) → length (level_runs start levels) ≤ 1 → level_runs start levels ≡ visual_runs start levels
+unfolding visual_runs
+visual_runs-one start levels few = sym (
+    ap (at_places (0, 0) (level_runs start levels)) (sym (visual_order-unique of_runs (indexes of_runs) upwards) ∙ ap (range_with_len 0) long)
+    ∙ at_places-map (0, 0) (level_runs start levels) (range_with_len 0 (length (level_runs start levels)))
+    ∙ all-runs (level_runs start levels))
+  where
+    of_runs : List ℕ
+    of_runs = map (run_level start levels) (level_runs start levels)
+
+    long : length of_runs ≡ length (level_runs start levels)
+    long = length-map (level_runs start levels) (run_level start levels)
+
+    upwards : IsVisualOrder of_runs (indexes of_runs)
+    upwards = record {
+      all_indexes = IsPermutation-refl (indexes of_runs);
+      in_order = λ p q d before fits. absurd (omega (arith, before, fits, few, long, length-range_with_len 0 (length of_runs)));
+    }
 
 -- and otherwise in the order of their levels
 pub visual_runs-found : (start : ℕ) (levels of_runs order : List ℕ) (runs : List Run) → runs ≡ level_runs start levels → of_runs ≡ map (run_level start levels) runs → order ≡ visual_order of_runs

@@ -3,7 +3,7 @@
 ghost use Rattle.std.specs.Prelude.{◌≡◌, ℕ, ◌+◌, ◌<◌, ◌≤◌, true, false, length, map, slice_index, All, IsTrue, OnOk};
 ghost use Rattle.std.specs.List.{list_any};
 ghost use Rattle.bidi_base.specs.declared.char_data.BidiClass.TheVariants.{L};
-ghost use Rattle.bidi_base.specs.Classes.{is_initiator};
+ghost use Rattle.bidi_base.specs.Classes.{is_initiator, is_removed as is_removed_class};
 ghost use Rattle.bidi_base.specs.Explicit.{explicit_levels, explicit_classes, processing_classes};
 ghost use Rattle.bidi_base.specs.Isolates.{stored_classes};
 ghost use Rattle.bidi_base.specs.Sequences.{is_kept_at, sequences};
@@ -179,6 +179,42 @@ impl LevelResolver {
     }
 }
 
+// Whether X9 removes a class, without a branch.
+fn is_removed_unit(class: BidiClass) -> bool
+    ensures { result ≡ is_removed_class class }
+{
+    (class == BidiClass::BN)
+        | (class == BidiClass::PDF)
+        | (class == BidiClass::LRE)
+        | (class == BidiClass::RLE)
+        | (class == BidiClass::LRO)
+        | (class == BidiClass::RLO)
+}
+
+// Whether X9 removes some unit. The walk never stops early, so that many units are tested at once.
+fn has_removed(classes: &[BidiClass]) -> bool
+    ensures { result ≡ false → (u : ℕ) → u < length classes.now → is_kept_at classes.now u ≡ true }
+{
+    let mut found = false;
+    for i in 0..classes.len() {
+        found = found | is_removed_unit(classes[i]);
+    }
+    found
+}
+
+// The level before a unit, at the front the paragraph level.
+fn level_before(para_level: Level, levels: &[Level], unit: usize) -> Level
+    requires { unit ≤ length levels.now }
+    ensures front { unit ≡ 0 → result ≡ para_level }
+    ensures inside { (p : ℕ) → p + 1 ≡ unit → result ≡ slice_index levels.now p }
+{
+    if unit == 0 {
+        para_level
+    } else {
+        levels[unit - 1]
+    }
+}
+
 // Gives each unit of a removed character the level of the unit before it, those at the front the
 // paragraph level.
 fn fill_removed(para_level: Level, classes: &[BidiClass], levels: &mut [Level])
@@ -187,12 +223,12 @@ fn fill_removed(para_level: Level, classes: &[BidiClass], levels: &mut [Level])
     ensures front { 0 < length classes.now → is_kept_at classes.now 0 ≡ false → slice_index levels.new 0 ≡ para_level }
     ensures removed { (u : ℕ) → u + 1 < length classes.now → is_kept_at classes.now (u + 1) ≡ false → slice_index levels.new (u + 1) ≡ slice_index levels.new u }
 {
-    let mut before = para_level;
+    if !has_removed(classes) {
+        return;
+    }
     for i in 0..classes.len() {
         if is_removed(classes[i]) {
-            levels[i] = before;
-        } else {
-            before = levels[i];
+            levels[i] = level_before(para_level, levels, i);
         }
     }
 }

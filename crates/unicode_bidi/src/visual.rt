@@ -219,7 +219,7 @@ fn arrange_line(levels: &[Level], order: &mut [usize])
 }
 
 // The same, where a line without an odd level stays as it is.
-fn settle(levels: &[Level], order: &mut [usize])
+pub(crate) fn settle(levels: &[Level], order: &mut [usize])
     requires { order.old ≡ range_with_len 0 (length levels.now) }
     ensures order { order.new ≡ visual_order levels.now }
     ensures visual { IsVisualOrder levels.now order.new }

@@ -1,10 +1,12 @@
 // The visual runs of a line (L2).
 ghost use Rattle.std.specs.Prelude.{◌≡◌, ◌+◌, ◌<◌, ◌≤◌, length, IfOk, All, map};
 ghost use Rattle.bidi_base.specs.Display.{run_of, level_runs, run_level, visual_runs, AreVisualRuns};
+ghost use Rattle.std.specs.List.{range_with_len};
+ghost use Rattle.bidi_base.specs.Order.{visual_order};
 ghost use Rattle.bidi_base.specs.Places.{at_places};
 
-use crate::visual::{reorder_visual, run_end};
-use bidi_base::level::{Level, has_rtl};
+use crate::visual::{reorder_visual, run_end, settle};
+use bidi_base::level::{LTR_LEVEL, Level, has_rtl};
 use std::alloc::{AllocError, Global};
 use std::ops::Range;
 
@@ -26,6 +28,9 @@ fn runs_upwards(
     }
     Ok(runs)
 }
+
+/// How many runs a line may have so that no memory is taken for their levels and their order.
+const FEW_RUNS: usize = 16;
 
 // The level of each run.
 fn levels_of_runs(
@@ -60,6 +65,53 @@ fn runs_at(
     Ok(ordered)
 }
 
+// Writes the level of each run.
+fn write_levels(
+    of_runs: &mut [Level],
+    levels: &[Level],
+    start: usize,
+    runs: &[Range<usize>],
+)
+    requires same_len { length of_runs.old ≡ length runs.now }
+    requires within { All (λ r. start ≤ r.start × r.start < start + length levels.now) runs.now }
+    ensures { of_runs.new ≡ map (run_level start levels.now) (map run_of runs.now) }
+{
+    for k in 0..runs.len() {
+        of_runs[k] = levels[runs[k].start - start];
+    }
+}
+
+// Writes the indexes of a list upwards.
+fn write_indexes(order: &mut [usize])
+    ensures { order.new ≡ range_with_len 0 (length order.old) }
+{
+    for k in 0..order.len() {
+        order[k] = k;
+    }
+}
+
+// The runs of a line from left to right. `of_runs` and `order` have room for their levels and their
+// order.
+fn in_visual_order(
+    alloc: Global,
+    levels: &[Level],
+    start: usize,
+    runs: &[Range<usize>],
+    of_runs: &mut [Level],
+    order: &mut [usize],
+) -> Result<Vec<Range<usize>>, AllocError>
+    requires levels { length of_runs.old ≡ length runs.now }
+    requires order { length order.old ≡ length runs.now }
+    requires within { All (λ r. start ≤ r.start × r.start < start + length levels.now) runs.now }
+    ensures { IfOk result (λ v. map run_of v.items
+        ≡ at_places (0, 0) (map run_of runs.now) (visual_order (map (run_level start levels.now) (map run_of runs.now)))) }
+{
+    write_levels(of_runs, levels, start, runs);
+    write_indexes(order);
+    settle(of_runs, order);
+    runs_at(alloc, runs, order)
+}
+
 // The level runs of a line that starts at the unit `start`, from left to right. The levels are those
 // of the line's units after L1.
 pub(crate) fn visual_runs_of(
@@ -72,6 +124,22 @@ pub(crate) fn visual_runs_of(
     ensures visual { IfOk result (λ v. AreVisualRuns start levels.now (map run_of v.items)) }
 {
     let runs = runs_upwards(alloc, levels, start)?;
+    let count = runs.len();
+    if count <= 1 {
+        return Ok(runs);
+    }
+    if count <= FEW_RUNS {
+        let mut of_runs = [LTR_LEVEL; FEW_RUNS];
+        let mut order = [0; FEW_RUNS];
+        return in_visual_order(
+            alloc,
+            levels,
+            start,
+            runs.as_slice(),
+            &mut of_runs[..count],
+            &mut order[..count],
+        );
+    }
     let of_runs = levels_of_runs(alloc, levels, start, runs.as_slice())?;
     if !has_rtl(of_runs.as_slice()) {
         return Ok(runs);

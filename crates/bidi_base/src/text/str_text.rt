@@ -62,7 +62,7 @@ impl<'t> Iterator for Utf8IndexLenIter<'t> {
 
     fn next(&mut self) -> Option<(usize, usize)> {
         match self.iter.next() {
-            Some((at, c)) => Some((at, c.len_utf8())),
+            Some((at, _c)) => Some((at, self.iter.offset() - at)),
             None => None,
         }
     }

@@ -1,5 +1,4 @@
-use Rattle.std.proofs.Common.{◌≡◌, ◌∙◌, ◌+◌, not, false, true, get_or, sym, ap, subst, arith}
-use Rattle.std.proofs.lemmas.List.{get_or_read}
+use Rattle.std.proofs.Common.{◌≡◌, ◌∙◌, ◌+◌, not, false, true, sym, ap, subst, arith}
 use Rattle.bidi_base.specs.Sequences.{is_kept_at}
 use Rattle.unicode_bidi.proofs.FilledUnits.{AreFilled, AreFilled-start, AreFilled-kept, AreFilled-removed}
 use Rattle.unicode_bidi.proofs.level_resolver.fill_removed.Goals as goal
@@ -17,13 +16,11 @@ loop-i-preserved c =
     elim c.if-is_removed.branch [
       | then-is_removed w ↦
           let gone : is_kept_at classes i ≡ false = ap not (sym c.is_removed.ensures ∙ w.if-is_removed.true) in
-          subst (λ b. AreFilled para classes old (i + 1) b c.if-is_removed.levels) (sym w.before-is)
-          (subst (λ new. AreFilled para classes old (i + 1) c.loop-i.before new) (sym w.levels-is) (AreFilled-removed para classes old i c.loop-i.before c.loop-i.levels (omega arith) c.loop-i.invariant gone))
+          subst (AreFilled para classes old (i + 1)) (sym w.levels-is)
+          (AreFilled-removed para classes old i c.loop-i.levels c.loop-i.invariant w.level_before.result (omega arith) w.level_before.ensures.front w.level_before.ensures.inside gone)
       | else-is_removed w ↦
           let stays : is_kept_at classes i ≡ true = ap not (sym c.is_removed.ensures ∙ w.if-is_removed.false) in
-          let read : c.if-is_removed.before ≡ get_or c.loop-i.levels i 0 = w.before-is ∙ get_or_read c.loop-i.levels i w.index-levels-i.result (omega arith) w.index-levels-i.is 0 in
-          subst (λ b. AreFilled para classes old (i + 1) b c.if-is_removed.levels) (sym read)
-          (subst (λ new. AreFilled para classes old (i + 1) (get_or c.loop-i.levels i 0) new) (sym w.levels-is) (AreFilled-kept para classes old i c.loop-i.before c.loop-i.levels (omega arith) c.loop-i.invariant stays))
+          subst (AreFilled para classes old (i + 1)) (sym w.levels-is) (AreFilled-kept para classes old i c.loop-i.levels c.loop-i.invariant stays)
     ]
 
 pub returns-clause-kept : goal.returns-clause-kept
