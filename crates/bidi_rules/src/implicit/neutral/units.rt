@@ -113,18 +113,23 @@ fn write_run<T: TextSource>(
     let mut next = first;
     for (offset, len) in text.subrange(run.start..run.end).indices_lengths() {
         let start = run.start + offset;
-        if is_read(classes[start]) {
-            write(classes, start, len, resolved[next]);
+        let before = classes[start];
+        if is_read(before) {
+            write(classes, start, len, before, resolved[next]);
             next += 1;
         }
     }
     next
 }
 
-/// Writes a class to the units of a character.
-fn write(classes: &mut [BidiClass], start: usize, len: usize, class: BidiClass)
-    requires { start + len ≤ length classes.old }
+/// Writes a class to the units of a character, which have the class `before`. Most keep it.
+fn write(classes: &mut [BidiClass], start: usize, len: usize, before: BidiClass, class: BidiClass)
+    requires ends { start + len ≤ length classes.old }
+    requires alike { class ≡ before → classes.old ≡ filled start len class classes.old }
     ensures { classes.new ≡ filled start len class classes.old }
 {
+    if class == before {
+        return;
+    }
     classes[start..start + len].fill(class);
 }

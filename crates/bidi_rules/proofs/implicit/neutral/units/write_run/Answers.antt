@@ -6,7 +6,7 @@ use Rattle.bidi_base.proofs.TextLemmas.{is_boundary-le}
 use Rattle.bidi_base.proofs.UnitsLemmas.{length-from_IsPerChar}
 use Rattle.bidi_base.proofs.PlaceLemmas.{length_turn, length_end}
 use Rattle.bidi_rules.proofs.ReadRuns.{line_turn, line_end}
-use Rattle.bidi_rules.proofs.WritingBack.{IsWrittenBack-start, IsWrittenBack-reads, IsWrittenBack-room, IsWrittenBack-more, IsWrittenBack-skip, IsWrittenBack-next, IsWrittenBack-classes}
+use Rattle.bidi_rules.proofs.WritingBack.{IsWrittenBack-start, IsWrittenBack-reads, IsWrittenBack-room, IsWrittenBack-more, IsWrittenBack-still, IsWrittenBack-skip, IsWrittenBack-next, IsWrittenBack-classes}
 use Rattle.bidi_rules.proofs.implicit.neutral.units.write_run.Goals as goal
 
 pub loop-offset-init : goal.loop-offset-init
@@ -33,8 +33,8 @@ overflow_add-start g c =
     let t = line_turn len_of h chars run.start run.end c.requires.line part c.subrange.ensures n c.in-Some.offset (get_or part n 0) turn.turn in
     omega (arith, t.some, t.below, c.fits-run)
 
-pub slice_copy_out-is_read : goal.slice_copy_out-is_read
-slice_copy_out-is_read g c =
+pub slice_copy_out-before : goal.slice_copy_out-before
+slice_copy_out-before g c =
     let len_of = g.T.TextSource.units in
     let h = g.met.T.TextSource.has_units in
     let chars : List ℕ = g.T.TextSource.characters c.args.text in
@@ -63,8 +63,8 @@ bounds-resolved-next g c =
     let reads : is_read (class_at units at) ≡ true = ap is_read (sym same) ∙ is_read_is ∙ c.if-is_read.true in
     IsWrittenBack-room len_of h chars units c.requires.per_char c.args.resolved.now run.start run.end c.args.first n c.loop-offset.next c.in-Some.offset (get_or part n 0) c.loop-offset.classes c.loop-offset.invariant.2 t reads c.requires.resolved
 
-pub write-requires : goal.write-requires
-write-requires g c =
+pub write-requires-clause-ends : goal.write-requires-clause-ends
+write-requires-clause-ends g c =
     let len_of = g.T.TextSource.units in
     let h = g.met.T.TextSource.has_units in
     let chars : List ℕ = g.T.TextSource.characters c.args.text in
@@ -75,6 +75,20 @@ write-requires g c =
     let turn = length_turn len_of part c.indices_lengths-offset-items.ensures c.into_iter-offset-iterator.ensures.into_iter_gives c.loop-offset.yielded _ c.loop-offset.yielded_by _ _ c.in-Some.offset c.in-Some.len c.in-Some.is c.next.ensures.steps in
     let t = line_turn len_of h chars run.start run.end c.requires.line part c.subrange.ensures n c.in-Some.offset (get_or part n 0) turn.turn in
     omega (arith, t.some, t.below, turn.long, is_boundary-le len_of chars run.end c.requires.line.ends, length-from_IsPerChar len_of chars units c.requires.per_char, c.loop-offset.auto.classes)
+
+pub write-requires-clause-alike : goal.write-requires-clause-alike
+write-requires-clause-alike g c =
+    let len_of = g.T.TextSource.units in
+    let h = g.met.T.TextSource.has_units in
+    let chars : List ℕ = g.T.TextSource.characters c.args.text in
+    let part : List ℕ = g.T.TextSource.characters c.subrange.result in
+    let run = c.args.run.now in
+    let units = c.args.classes.now in
+    let n = length c.loop-offset.yielded in
+    let turn = length_turn len_of part c.indices_lengths-offset-items.ensures c.into_iter-offset-iterator.ensures.into_iter_gives c.loop-offset.yielded _ c.loop-offset.yielded_by _ _ c.in-Some.offset c.in-Some.len c.in-Some.is c.next.ensures.steps in
+    let t = line_turn len_of h chars run.start run.end c.requires.line part c.subrange.ensures n c.in-Some.offset (get_or part n 0) turn.turn in
+    λ same. IsWrittenBack-still len_of h chars units c.requires.per_char c.args.resolved.now run.start run.end c.args.first n c.loop-offset.next c.in-Some.offset (get_or part n 0) c.loop-offset.classes c.loop-offset.invariant.2 t
+    _ c.in-Some.len same turn.long
 
 pub overflow_add-next : goal.overflow_add-next
 overflow_add-next g c =
