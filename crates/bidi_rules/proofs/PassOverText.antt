@@ -266,8 +266,8 @@ module _ (len_of : ℕ → ℕ) (h : HasUnits len_of) (chars : List ℕ) where
         pub IsPerChar-text : IsPerChar len_of chars new
         IsPerChar-text =
             IsPerChar-alike len_of chars new (over.long ∙ long) (λ k fits u from below.
-                let at : place len_of chars k + (u - place len_of chars k) ≡ u = omega arith in
-                ap (class_at new) (sym at) ∙ even k fits (u - place len_of chars k) (omega arith))
+            let at : place len_of chars k + (u - place len_of chars k) ≡ u = omega arith in
+            ap (class_at new) (sym at) ∙ even k fits (u - place len_of chars k) (omega arith))
 
 -- ---- from run to run
 

@@ -131,10 +131,10 @@ module _ (len_of : ℕ → ℕ) (h : HasUnits len_of) (chars : List ℕ) (old : 
   pub IsPerChar-plain : length new ≡ length old → IsPerChar len_of chars new
   IsPerChar-plain long =
       IsPerChar-alike len_of chars new (long ∙ length-from_IsPerChar len_of chars old per) (λ k fits u from below.
-          let first = place len_of chars k in
-          let alike = in_runs-alike len_of h chars runs lines k u from below in
-          let before = alike_class len_of h chars old per k u fits from below in
-          elim (cases_Bool (in_runs runs first)) [
-            | inl inside ↦ changed u (alike ∙ inside) ∙ ap plainly before ∙ sym (changed first inside)
-            | inr out ↦ same u (alike ∙ out) ∙ before ∙ sym (same first out)
-          ])
+      let first = place len_of chars k in
+      let alike = in_runs-alike len_of h chars runs lines k u from below in
+      let before = alike_class len_of h chars old per k u fits from below in
+      elim (cases_Bool (in_runs runs first)) [
+        | inl inside ↦ changed u (alike ∙ inside) ∙ ap plainly before ∙ sym (changed first inside)
+        | inr out ↦ same u (alike ∙ out) ∙ before ∙ sym (same first out)
+      ])

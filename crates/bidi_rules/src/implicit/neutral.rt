@@ -1,7 +1,8 @@
 //! The neutrals in place (N0 to N2).
 //!
-//! The classes of a sequence's characters are gathered without what X9 removed, resolved as a list,
-//! and written back. So all memory is taken before the first class is written.
+//! A sequence with one direction alone takes it as it stands. Of others the classes of the characters
+//! are gathered without what X9 removed, resolved as a list, and written back. So all memory is taken
+//! before the first class is written.
 
 ghost use Rattle.std.specs.Prelude.{◌≡◌, ℕ, List, [], ◌∷◌, ◌++◌, false, length, map, IsTrue, OnOk, OnErr, Option};
 ghost use Rattle.std.specs.List.{list_all};
