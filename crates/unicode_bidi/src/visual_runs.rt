@@ -66,12 +66,7 @@ fn runs_at(
 }
 
 // Writes the level of each run.
-fn write_levels(
-    of_runs: &mut [Level],
-    levels: &[Level],
-    start: usize,
-    runs: &[Range<usize>],
-)
+fn write_levels(of_runs: &mut [Level], levels: &[Level], start: usize, runs: &[Range<usize>])
     requires same_len { length of_runs.old ≡ length runs.now }
     requires within { All (λ r. start ≤ r.start × r.start < start + length levels.now) runs.now }
     ensures { of_runs.new ≡ map (run_level start levels.now) (map run_of runs.now) }

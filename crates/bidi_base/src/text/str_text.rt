@@ -62,7 +62,10 @@ impl<'t> Iterator for Utf8IndexLenIter<'t> {
 
     fn next(&mut self) -> Option<(usize, usize)> {
         match self.iter.next() {
-            Some((at, _c)) => Some((at, self.iter.offset() - at)),
+            Some((at, _c)) => {
+                let len = self.iter.offset() - at;
+                Some((at, len))
+            }
             None => None,
         }
     }

@@ -12,8 +12,8 @@ use Rattle.bidi_base.proofs.text.str_text.Utf8IndexLenIterIterator.next.Goals as
 long : (s t : CharIndices) (at : ℕ) (c : ℕ) → char_indices_steps s (Some (at, c)) t → char_indices_offset t - at ≡ len_utf8 c
 long s t at c h = omega (arith, h.0, h.2, length-encode c)
 
-pub overflow_sub-result : goal.overflow_sub-result
-overflow_sub-result c = omega (arith, c.offset.ensures, c.in-Some.ensures.steps.0, c.in-Some.ensures.steps.2)
+pub overflow_sub-len : goal.overflow_sub-len
+overflow_sub-len c = omega (arith, c.offset.ensures, c.in-Some.ensures.steps.0, c.in-Some.ensures.steps.2)
 
 pub returns-in-Some-clause-steps : goal.returns-in-Some-clause-steps
 returns-in-Some-clause-steps c =
