@@ -1,6 +1,7 @@
 pub mod CharRuns
 pub mod DirectionLemmas
 pub mod Distinct
+pub mod FilledUnits
 pub mod FoundRuns
 pub mod Gathered
 pub mod Lanes
