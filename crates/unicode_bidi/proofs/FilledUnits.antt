@@ -1,9 +1,9 @@
 -- Units that get one value, as the walk over a text writes them.
-use Rattle.std.proofs.Common.{◌≡◌, ℕ, suc, ◌+◌, ◌-◌, ◌<◌, ◌≤◌, Bool, true, false, cond, List, [], ◌∷◌, ◌++◌, length, set, take, drop, Some, refl, sym, ap, ◌∙◌, arith, append_assoc, ◌⊎◌, inl, inr}
+use Rattle.std.proofs.Common.{◌≡◌, ℕ, ◌+◌, ◌-◌, ◌<◌, ◌≤◌, Bool, true, false, cond, List, [], ◌∷◌, ◌++◌, length, set, take, drop, Some, refl, sym, ap, ◌∙◌, arith, length-drop}
 use Rattle.std.specs.Prelude.{replicate}
 use Rattle.std.specs.declared.ops.Range.{Range}
 use Rattle.std.proofs.Math.Seq.{take-append-add}
-use Rattle.std.proofs.lemmas.List.{append-nil, take-take, drop-take, length-take-le, length-replicate, length-set, set_split, take_more_set, take-set, drop-set-lt, get_or-take}
+use Rattle.std.proofs.lemmas.List.{append-nil, take-take, drop-take, drop-drop, take-append-drop, length-take-le, length-replicate, set-append_right, get_or-take}
 use Rattle.bidi_base.specs.declared.char_data.BidiClass.{BidiClass}
 use Rattle.bidi_base.specs.declared.char_data.BidiClass.TheVariants.{L}
 use Rattle.bidi_base.specs.Classes.{is_strong}
@@ -11,35 +11,65 @@ use Rattle.bidi_base.specs.Isolates.{resolved_fsi}
 use Rattle.bidi_base.specs.Places.{class_at}
 use Rattle.bidi_base.specs.Reading.{is_fsi, filled, met_units}
 
--- ---- a character of one or two units
+-- ---- a character of at most four units, written from both ends
 
-one_unit : {X : Type 0} (start last size : ℕ) (x : X) (xs : List X) → last ≡ start → size ≡ 1 → start < length xs → set (set xs start x) last x ≡ take start xs ++ (replicate size x ++ drop (suc last) xs)
-one_unit {X} start last size x xs here one fits =
-    ap (λ n. set (set xs start x) n x) here
-    ∙ set_split (set xs start x) start x (omega (arith, length-set xs start x))
-    ∙ ap (λ (ys : List X). ys ++ x ∷ drop (suc start) (set xs start x)) (take-set xs start x)
-    ∙ ap (λ (ys : List X). take start xs ++ x ∷ ys) (drop-set-lt (suc start) xs start x (omega arith))
-    ∙ ap (λ n. take start xs ++ (replicate n x ++ drop (suc start) xs)) (sym one)
-    ∙ ap (λ n. take start xs ++ (replicate size x ++ drop (suc n) xs)) (sym here)
+two_written : {X : Type 0} (units rest : List X) (x : X) → 0 < length units → length units ≤ 2 → set (set (units ++ rest) 0 x) (length units - 1) x ≡ replicate (length units) x ++ rest
+two_written [] rest x some few = absurd (omega arith)
+two_written (a ∷ []) rest x some few = refl
+two_written (a ∷ b ∷ []) rest x some few = refl
+two_written (a ∷ b ∷ c ∷ units) rest x some few = absurd (omega arith)
 
-two_units : {X : Type 0} (start last size : ℕ) (x : X) (xs : List X) → last ≡ start + 1 → size ≡ 2 → last < length xs → set (set xs start x) last x ≡ take start xs ++ (replicate size x ++ drop (suc last) xs)
-two_units {X} start last size x xs next two fits =
-    set_split (set xs start x) last x (omega (arith, length-set xs start x))
-    ∙ ap (λ n. take n (set xs start x) ++ x ∷ drop (suc last) (set xs start x)) next
-    ∙ ap (λ (ys : List X). ys ++ x ∷ drop (suc last) (set xs start x)) (take_more_set xs start x (omega arith))
-    ∙ ap (λ (ys : List X). (take start xs ++ x ∷ []) ++ x ∷ ys) (drop-set-lt (suc last) xs start x (omega arith))
-    ∙ append_assoc (take start xs) (x ∷ []) (x ∷ drop (suc last) xs)
-    ∙ ap (λ n. take start xs ++ (replicate n x ++ drop (suc last) xs)) (sym two)
+four_written : {X : Type 0} (units rest : List X) (x : X) → 2 < length units → length units ≤ 4 → set (set (set (set (units ++ rest) 0 x) (length units - 1) x) 1 x) (length units - 2) x ≡ replicate (length units) x ++ rest
+four_written [] rest x some few = absurd (omega arith)
+four_written (a ∷ []) rest x some few = absurd (omega arith)
+four_written (a ∷ b ∷ []) rest x some few = absurd (omega arith)
+four_written (a ∷ b ∷ c ∷ []) rest x some few = refl
+four_written (a ∷ b ∷ c ∷ d ∷ []) rest x some few = refl
+four_written (a ∷ b ∷ c ∷ d ∷ e ∷ units) rest x some few = absurd (omega arith)
 
--- the value is written to the first unit and to the last
-pub filled-ends : {X : Type 0} (range : Range ℕ) (x : X) (xs : List X) → range.start < range.end → range.end - range.start ≤ 2 → range.end ≤ length xs → set (set xs range.start x) (range.end - 1) x ≡ filled range x xs
-filled-ends range x xs some few fits =
-    let end : suc (range.end - 1) ≡ range.end = omega arith in
-    let sizes : (range.end - range.start ≡ 1) ⊎ (range.end - range.start ≡ 2) = grind arith in
-    elim sizes [
-      | inl one ↦ one_unit range.start (range.end - 1) (range.end - range.start) x xs (omega arith) one (omega arith)
-      | inr two ↦ two_units range.start (range.end - 1) (range.end - range.start) x xs (omega arith) two (omega arith)
-    ] ∙ ap (λ n. take range.start xs ++ (replicate (range.end - range.start) x ++ drop n xs)) end
+module _ {X : Type 0} (range : Range ℕ) (x : X) (xs : List X) (some : range.start < range.end) (fits : range.end ≤ length xs) where
+  abbrev front : List X
+  front = take range.start xs
+
+  abbrev units : List X
+  units = take (range.end - range.start) (drop range.start xs)
+
+  units_length : length units ≡ range.end - range.start
+  units_length = length-take-le (range.end - range.start) (drop range.start xs) (omega (arith, length-drop range.start xs))
+
+  parts : xs ≡ front ++ (units ++ drop range.end xs)
+  parts =
+      let end : range.start + (range.end - range.start) ≡ range.end = omega arith in
+      sym (take-append-drop range.start xs)
+      ∙ ap (λ (ys : List X). front ++ ys) (sym (take-append-drop (range.end - range.start) (drop range.start xs)))
+      ∙ ap (λ (ys : List X). front ++ (units ++ ys)) (drop-drop (range.end - range.start) range.start xs ∙ ap (λ n. drop n xs) end)
+
+  -- a write behind the front
+  behind : (ys : List X) (place index : ℕ) → place ≡ range.start + index → set (front ++ ys) place x ≡ front ++ set ys index x
+  behind ys place index here =
+      set-append_right front ys range.start place x (length-take-le range.start xs (omega arith)) (omega arith)
+      ∙ ap (λ n. front ++ set ys n x) (omega arith)
+
+  of_length : front ++ (replicate (length units) x ++ drop range.end xs) ≡ filled range x xs
+  of_length = ap (λ n. front ++ (replicate n x ++ drop range.end xs)) units_length
+
+  pub filled-two : range.end - range.start ≤ 2 → set (set xs range.start x) (range.end - 1) x ≡ filled range x xs
+  filled-two few =
+      ap (λ (ys : List X). set (set ys range.start x) (range.end - 1) x) parts
+      ∙ ap (λ (ys : List X). set ys (range.end - 1) x) (behind (units ++ drop range.end xs) range.start 0 (omega arith))
+      ∙ behind (set (units ++ drop range.end xs) 0 x) (range.end - 1) (length units - 1) (omega (arith, units_length))
+      ∙ ap (λ (ys : List X). front ++ ys) (two_written units (drop range.end xs) x (omega (arith, units_length)) (omega (arith, units_length)))
+      ∙ of_length
+
+  pub filled-four : 2 < range.end - range.start → range.end - range.start ≤ 4 → set (set (set (set xs range.start x) (range.end - 1) x) (range.start + 1) x) (range.end - 2) x ≡ filled range x xs
+  filled-four more few =
+      ap (λ (ys : List X). set (set (set (set ys range.start x) (range.end - 1) x) (range.start + 1) x) (range.end - 2) x) parts
+      ∙ ap (λ (ys : List X). set (set (set ys (range.end - 1) x) (range.start + 1) x) (range.end - 2) x) (behind (units ++ drop range.end xs) range.start 0 (omega arith))
+      ∙ ap (λ (ys : List X). set (set ys (range.start + 1) x) (range.end - 2) x) (behind (set (units ++ drop range.end xs) 0 x) (range.end - 1) (length units - 1) (omega (arith, units_length)))
+      ∙ ap (λ (ys : List X). set ys (range.end - 2) x) (behind (set (set (units ++ drop range.end xs) 0 x) (length units - 1) x) (range.start + 1) 1 refl)
+      ∙ behind (set (set (set (units ++ drop range.end xs) 0 x) (length units - 1) x) 1 x) (range.end - 2) (length units - 2) (omega (arith, units_length))
+      ∙ ap (λ (ys : List X). front ++ ys) (four_written units (drop range.end xs) x (omega (arith, units_length)) (omega (arith, units_length)))
+      ∙ of_length
 
 -- ---- the units before some place
 

@@ -225,8 +225,8 @@ impl Initial {
     }
 }
 
-// Writes a character's class to each of its units. Most characters are one or two units long, and
-// for these it takes no loop.
+// Writes a character's class to each of its units. Up to four are written from both ends, which
+// takes no loop.
 fn write(classes: &mut [BidiClass], units: Range<usize>, class: BidiClass)
     requires begins { units.start < units.end }
     requires ends { units.end ≤ length classes.old }
@@ -234,10 +234,15 @@ fn write(classes: &mut [BidiClass], units: Range<usize>, class: BidiClass)
 {
     let start = units.start;
     let end = units.end;
+    if end - start > 4 {
+        classes[start..end].fill(class);
+        return;
+    }
     classes[start] = class;
     classes[end - 1] = class;
     if end - start > 2 {
-        classes[start..end].fill(class);
+        classes[start + 1] = class;
+        classes[end - 2] = class;
     }
 }
 
