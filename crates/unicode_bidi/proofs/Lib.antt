@@ -14,6 +14,7 @@ pub mod Ordered
 pub mod ParagraphUnits
 pub mod Passes
 pub mod Pieces
+pub mod PutUnits
 pub mod Reversed
 pub mod RunText
 pub mod RunsLemmas

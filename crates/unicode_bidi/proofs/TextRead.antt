@@ -1,5 +1,5 @@
 -- What the walk over a text holds once n characters were read.
-use Rattle.std.proofs.Common.{◌≡◌, ℕ, ◌+◌, ◌<◌, ◌≤◌, Bool, true, false, not, ◌&&◌, ◌||◌, List, [], ◌∷◌, ◌++◌, length, get_or, take, map, Option, Some, None, option_map, unwrap_or, refl, sym, ap, subst, ◌∙◌, arith, ◌⊎◌, inl, inr, append_assoc, length-append, length-take}
+use Rattle.std.proofs.Common.{◌≡◌, ℕ, ◌+◌, ◌<◌, ◌≤◌, Bool, true, false, not, ◌&&◌, ◌||◌, List, [], ◌∷◌, ◌++◌, length, get_or, take, map, Option, Some, None, option_map, unwrap_or, refl, sym, ap, subst, ◌∙◌, arith, ◌⊎◌, inl, inr, append_assoc, length-append, length-take, ◌-◌}
 use Rattle.std.specs.Prelude.{All, replicate}
 use Rattle.std.specs.Option.{option_or}
 use Rattle.std.specs.List.{list_any}
@@ -15,13 +15,13 @@ use Rattle.bidi_base.specs.Classes.{is_initiator, is_paragraph_separator}
 use Rattle.bidi_base.specs.Direction.{may_turn, is_pure_ltr}
 use Rattle.bidi_base.specs.Isolates.{deciding_class, level_by, paragraph_level, stored_classes}
 use Rattle.bidi_base.specs.Paragraphs.{pieces_of, paragraphs_of, each_separator, ranges_from}
-use Rattle.bidi_base.specs.Reading.{innermost, opened_by, decided_by, met_units}
+use Rattle.bidi_base.specs.Reading.{innermost, opened_by, decided_by, met_units, filled}
 use Rattle.bidi_base.specs.Source.{Source}
 use Rattle.bidi_base.specs.Stored.{text_classes, paragraph_levels}
 use Rattle.bidi_base.specs.Text.{place, text_len, per_unit}
 use Rattle.bidi_base.proofs.TextLemmas.{HasUnits}
-use Rattle.bidi_base.proofs.PerUnit.{per_unit-push, length-per_unit}
-use Rattle.bidi_base.proofs.PlaceLemmas.{place-lt, place-mono}
+use Rattle.bidi_base.proofs.PerUnit.{per_unit-push}
+use Rattle.bidi_base.proofs.PlaceLemmas.{place-le, place-end, place-lt, place-mono, place-more}
 use Rattle.bidi_base.proofs.ParagraphsLemmas.{joined, length-text_classes, IsCut, IsCut-start, IsCut-more, IsCut-stop, IsCut-last, IsCut-none, ranges_from-push}
 use Rattle.bidi_base.proofs.ReadingLemmas.{char_units, char_units-take, met_units-char, innermost-All, opened_by-map, decided_by-map}
 use Rattle.bidi_base.proofs.StoredSteps.{open_initiators, open_initiators-push, met_by, innermost-map, stored_classes-push, stored_classes-nil, length-stored_classes, length-met_by, open_initiators-below, deciding_class-push, deciding_class-nil}
@@ -30,6 +30,7 @@ use Rattle.unicode_bidi.specs.declared.initial.ParagraphFlags.{ParagraphFlags}
 use Rattle.unicode_bidi.specs.declared.initial.Reading.{Reading}
 use Rattle.unicode_bidi.specs.ParagraphInfo.{ranges_of, levels_of}
 use Rattle.unicode_bidi.specs.ParagraphFlags.{flags_of, paragraph_flags}
+use Rattle.unicode_bidi.proofs.PutUnits.{take-filled-end, take-met_units}
 
 pub take-turn : (chars : List ℕ) (n c : ℕ) → n < length chars → get_or chars n 0 ≡ c → take (n + 1) chars ≡ take n chars ++ c ∷ []
 take-turn chars n c within is_char = take_more chars n 0 within ∙ ap (λ (x : ℕ). take n chars ++ x ∷ []) is_char
@@ -56,7 +57,8 @@ module _ (source : Source) (len_of : ℕ → ℕ) (chars : List ℕ) where
   -- `done` are the paragraphs that have ended, and `current` is the one that is read
   pub record IsTextRead (base : Option ℕ) (n : ℕ) (done : List (List ℕ)) (current : List ℕ) (found : Initial) (reading : Reading) : Type 0 where
     pub whole : joined done ++ current ≡ take n chars
-    pub classes : found.original_classes.items ≡ per_unit len_of (take n chars) (text_classes source done ++ stored_classes (classes_of current))
+    pub sized : length found.original_classes.items ≡ text_len len_of chars
+    pub classes : take (place len_of chars n) found.original_classes.items ≡ per_unit len_of (take n chars) (text_classes source done ++ stored_classes (classes_of current))
     pub ranges : ranges_of found.paragraphs.items ≡ ranges_from len_of 0 done
     pub levels : levels_of found.paragraphs.items ≡ paragraph_levels source base done
     pub flags : found.flags.items ≡ paragraph_flags source done
@@ -68,7 +70,8 @@ module _ (source : Source) (len_of : ℕ → ℕ) (chars : List ℕ) where
   -- and once all of them have ended
   pub record IsTextDone (base : Option ℕ) (n : ℕ) (done : List (List ℕ)) (found : Initial) : Type 0 where
     pub whole : joined done ≡ take n chars
-    pub classes : found.original_classes.items ≡ per_unit len_of (take n chars) (text_classes source done)
+    pub sized : length found.original_classes.items ≡ text_len len_of chars
+    pub classes : take (place len_of chars n) found.original_classes.items ≡ per_unit len_of (take n chars) (text_classes source done)
     pub ranges : ranges_of found.paragraphs.items ≡ ranges_from len_of 0 done
     pub levels : levels_of found.paragraphs.items ≡ paragraph_levels source base done
     pub flags : found.flags.items ≡ paragraph_flags source done
@@ -93,11 +96,12 @@ module _ (source : Source) (len_of : ℕ → ℕ) (chars : List ℕ) where
 
   -- ---- the start
 
-  pub IsTextRead-start : (base : Option ℕ) (found : Initial) (reading : Reading) → found.original_classes.items ≡ [] → found.paragraphs.items ≡ [] → found.flags.items ≡ [] → IsFresh reading 0 → IsTextRead base 0 [] [] found reading
+  pub IsTextRead-start : (base : Option ℕ) (found : Initial) (reading : Reading) → length found.original_classes.items ≡ text_len len_of chars → found.paragraphs.items ≡ [] → found.flags.items ≡ [] → IsFresh reading 0 → IsTextRead base 0 [] [] found reading
   unfolding text_classes paragraph_levels paragraph_flags
-  IsTextRead-start base found reading no_classes no_paragraphs no_flags fresh = record {
+  IsTextRead-start base found reading sized no_paragraphs no_flags fresh = record {
     whole = refl;
-    classes = no_classes ∙ sym (ap (per_unit len_of []) stored_classes-nil);
+    sized = sized;
+    classes = sym (ap (per_unit len_of []) stored_classes-nil);
     ranges = ap ranges_of no_paragraphs;
     levels = ap levels_of no_paragraphs;
     flags = no_flags;
@@ -138,7 +142,8 @@ module _ (source : Source) (len_of : ℕ → ℕ) (chars : List ℕ) where
         → closed.flags.items ≡ found.flags.items ++ reading.flags ∷ [] → IsTextDone base n (done ++ current ∷ []) closed
     IsTextDone-close closed end here same ranges levels flags = record {
       whole = joined-push done current ∙ h.whole;
-      classes = same ∙ h.classes ∙ ap (per_unit len_of (take n chars)) (sym (text_classes-push done current));
+      sized = ap length same ∙ h.sized;
+      classes = ap (take (place len_of chars n)) same ∙ h.classes ∙ ap (per_unit len_of (take n chars)) (sym (text_classes-push done current));
       ranges =
           let front : 0 + text_len len_of (joined done) ≡ text_len len_of (joined done) = omega arith in
           ranges ∙ ap (λ (rs : List (ℕ × ℕ)). rs ++ (reading.start, end) ∷ []) h.ranges
@@ -154,6 +159,7 @@ module _ (source : Source) (len_of : ℕ → ℕ) (chars : List ℕ) where
   pub IsTextDone-none : (base : Option ℕ) (n : ℕ) (done : List (List ℕ)) (current : List ℕ) (found : Initial) (reading : Reading) → current ≡ [] → IsTextRead base n done current found reading → IsTextDone base n done found
   IsTextDone-none base n done current found reading none h = record {
     whole = sym (append-nil (joined done)) ∙ ap (λ (cs : List ℕ). joined done ++ cs) (sym none) ∙ h.whole;
+    sized = h.sized;
     classes =
         h.classes ∙ ap (λ (cs : List ℕ). per_unit len_of (take n chars) (text_classes source done ++ stored_classes (classes_of cs))) none
         ∙ ap (λ (cs : List BidiClass). per_unit len_of (take n chars) (text_classes source done ++ cs)) stored_classes-nil ∙ ap (per_unit len_of (take n chars)) (append-nil (text_classes source done));
@@ -166,6 +172,7 @@ module _ (source : Source) (len_of : ℕ → ℕ) (chars : List ℕ) where
   pub IsTextRead-next : (base : Option ℕ) (n : ℕ) (done : List (List ℕ)) (found : Initial) (reading : Reading) → IsTextDone base n done found → IsFresh reading (place len_of chars n) → IsTextRead base n done [] found reading
   IsTextRead-next base n done found reading h fresh = record {
     whole = append-nil (joined done) ∙ h.whole;
+    sized = h.sized;
     classes = h.classes ∙ ap (per_unit len_of (take n chars)) (sym (append-nil (text_classes source done)) ∙ ap (λ (cs : List BidiClass). text_classes source done ++ cs) (sym stored_classes-nil));
     ranges = h.ranges;
     levels = h.levels;
@@ -182,14 +189,7 @@ module _ (source : Source) (len_of : ℕ → ℕ) (chars : List ℕ) where
     long : length (joined done) + length current ≡ n
     long = omega (arith, length-append (joined done) current, ap length h.whole, length-take n chars)
 
-    -- the classes are as many as the units read
-    classes_long : length found.original_classes.items ≡ place len_of chars n
-    classes_long =
-        ap length h.classes
-        ∙ length-per_unit len_of (take n chars) (text_classes source done ++ stored_classes (classes_of current))
-        (omega (arith, length-append (text_classes source done) (stored_classes (classes_of current)), length-text_classes source done, length-stored_classes (classes_of current), length-map current source.class_of, long, length-take n chars))
-
-    -- the open initiators stand among them
+    -- the open initiators stand among the units read
     pub open_within : All (λ (r : Range ℕ). (r.start < r.end) × (r.end ≤ length found.original_classes.items)) reading.initiators.items
     open_within =
         subst (All (λ (r : Range ℕ). (r.start < r.end) × (r.end ≤ length found.original_classes.items))) (sym h.under)
@@ -199,7 +199,7 @@ module _ (source : Source) (len_of : ℕ → ℕ) (chars : List ℕ) where
         one : (q : ℕ) → q < length (classes_of current) → (place len_of chars (length (joined done) + q) < place len_of chars (length (joined done) + q + 1)) × (place len_of chars (length (joined done) + q + 1) ≤ length found.original_classes.items)
         one q below =
             let index : length (joined done) + q < n = omega (arith, long, length-map current source.class_of) in
-            (place-lt len_of chars units (length (joined done) + q) (length (joined done) + q + 1) (omega arith) (omega arith), omega (arith, classes_long, place-mono len_of chars (length (joined done) + q + 1) n (omega arith)))
+            (place-lt len_of chars units (length (joined done) + q) (length (joined done) + q + 1) (omega arith) (omega arith), omega (arith, h.sized, place-le len_of chars (length (joined done) + q + 1)))
 
     module _ (c : ℕ) (is_char : get_or chars n 0 ≡ c) (class : BidiClass) (is_class : class ≡ source.class_of c) where
       read_more : take (n + 1) chars ≡ take n chars ++ c ∷ []
@@ -210,26 +210,30 @@ module _ (source : Source) (len_of : ℕ → ℕ) (chars : List ℕ) where
 
       -- what the innermost open isolate makes of the units before it
       met : (o : Option ℕ) → innermost (open_initiators (classes_of current)) ≡ o
-          → met_units class (option_map (units_after done) o) found.original_classes.items ≡ per_unit len_of (take n chars) (text_classes source done ++ met_by class o (stored_classes (classes_of current)))
+          → take (place len_of chars n) (met_units class (option_map (units_after done) o) found.original_classes.items) ≡ per_unit len_of (take n chars) (text_classes source done ++ met_by class o (stored_classes (classes_of current)))
       met None e = h.classes
       met (Some q) e =
           let below : q < length (classes_of current) = innermost-All (λ (q : ℕ). q < length (classes_of current)) (open_initiators (classes_of current)) q (open_initiators-below (classes_of current)) e in
           let index : length (joined done) + q < n = omega (arith, long, length-map current source.class_of) in
-          ap (met_units class (Some (units_after done q))) h.classes
+          take-met_units class (units_after done q) found.original_classes.items (place len_of chars n)
+          (place-lt len_of chars units (length (joined done) + q) (length (joined done) + q + 1) (omega arith) (omega arith)) (place-mono len_of chars (length (joined done) + q + 1) n (omega arith)) (omega (arith, h.sized, place-le len_of chars n))
+          ∙ ap (met_units class (Some (units_after done q))) h.classes
           ∙ ap (λ (r : Range ℕ). met_units class (Some r) (per_unit len_of (take n chars) (text_classes source done ++ stored_classes (classes_of current))))
           (sym (char_units-take len_of chars n (length (joined done) + q) index) ∙ ap (λ (m : ℕ). char_units len_of (take n chars) (m + q)) (sym (length-text_classes source done)))
           ∙ met_units-char len_of units (take n chars) (text_classes source done) (stored_classes (classes_of current)) class q
           (omega (arith, length-text_classes source done, length-stored_classes (classes_of current), length-map current source.class_of, long, length-take n chars)) (omega (arith, below, length-stored_classes (classes_of current)))
 
       pub IsTextRead-more : (changed : List BidiClass) (range : Range ℕ) (longer : Initial) (after : Reading) → range ≡ char_units len_of chars n → changed ≡ met_units class (innermost reading.initiators.items) found.original_classes.items
-          → longer.original_classes.items ≡ changed ++ replicate (len_of c) class → longer.paragraphs.items ≡ found.paragraphs.items → longer.flags.items ≡ found.flags.items
+          → longer.original_classes.items ≡ filled range class changed → length changed ≡ length found.original_classes.items → length longer.original_classes.items ≡ length changed → longer.paragraphs.items ≡ found.paragraphs.items → longer.flags.items ≡ found.flags.items
           → after.start ≡ reading.start → after.initiators.items ≡ opened_by class range reading.initiators.items → after.deciding ≡ option_or reading.deciding (decided_by class reading.initiators.items)
           → after.flags.is_pure_ltr ≡ (reading.flags.is_pure_ltr && not (may_turn class)) → after.flags.has_isolates ≡ (reading.flags.has_isolates || is_initiator class)
           → IsTextRead base (n + 1) done (current ++ c ∷ []) longer after
-      IsTextRead-more changed range longer after is_range is_changed is_longer same_paragraphs same_flags same_start is_open is_deciding is_pure has_isolates = record {
+      IsTextRead-more changed range longer after is_range is_changed is_longer changed_length same_length same_paragraphs same_flags same_start is_open is_deciding is_pure has_isolates = record {
         whole = sym (append_assoc (joined done) current (c ∷ [])) ∙ ap (λ (cs : List ℕ). cs ++ c ∷ []) h.whole ∙ sym read_more;
+        sized = same_length ∙ changed_length ∙ h.sized;
         classes =
-            is_longer ∙ ap (λ (us : List BidiClass). us ++ replicate (len_of c) class) (is_changed ∙ ap (λ (o : Option (Range ℕ)). met_units class o found.original_classes.items) (ap innermost h.under ∙ innermost-map (units_after done) (open_initiators (classes_of current))) ∙ met (innermost (open_initiators (classes_of current))) refl)
+            written
+            ∙ ap (λ (us : List BidiClass). us ++ replicate (len_of c) class) (ap (λ (o : Option (Range ℕ)). take (place len_of chars n) (met_units class o found.original_classes.items)) (ap innermost h.under ∙ innermost-map (units_after done) (open_initiators (classes_of current))) ∙ met (innermost (open_initiators (classes_of current))) refl)
             ∙ sym (per_unit-push len_of (take n chars) (text_classes source done ++ met_by class (innermost (open_initiators (classes_of current))) (stored_classes (classes_of current))) c class values_long)
             ∙ ap (per_unit len_of (take n chars ++ c ∷ [])) (append_assoc (text_classes source done) (met_by class (innermost (open_initiators (classes_of current))) (stored_classes (classes_of current))) (class ∷ []) ∙ ap (λ (cs : List BidiClass). text_classes source done ++ cs) (sym (stored_classes-push (classes_of current) class) ∙ ap stored_classes (sym classes_more)))
             ∙ ap (λ (cs : List ℕ). per_unit len_of cs (text_classes source done ++ stored_classes (classes_of (current ++ c ∷ [])))) (sym read_more);
@@ -247,6 +251,15 @@ module _ (source : Source) (len_of : ℕ → ℕ) (chars : List ℕ) where
         turns = flags_same after.flags (flags_of (classes_of (current ++ c ∷ []))) pure isolates;
       }
         where
+          -- the units up to those of the character
+          written : take (place len_of chars (n + 1)) longer.original_classes.items ≡ take (place len_of chars n) (met_units class (innermost reading.initiators.items) found.original_classes.items) ++ replicate (len_of c) class
+          written =
+              let wide : place len_of chars (n + 1) - place len_of chars n ≡ len_of c = omega (arith, place-more len_of chars n 0 within, ap len_of is_char) in
+              ap (take (place len_of chars (n + 1))) (is_longer ∙ ap (λ (r : Range ℕ). filled r class changed) is_range)
+              ∙ take-filled-end (char_units len_of chars n) class changed (place-mono len_of chars n (n + 1) (omega arith)) (omega (arith, changed_length, h.sized, place-le len_of chars (n + 1)))
+              ∙ ap (λ (m : ℕ). take (place len_of chars n) changed ++ replicate m class) wide
+              ∙ ap (λ (us : List BidiClass). take (place len_of chars n) us ++ replicate (len_of c) class) is_changed
+
           values_long : length (text_classes source done ++ met_by class (innermost (open_initiators (classes_of current))) (stored_classes (classes_of current))) ≡ length (take n chars)
           values_long =
               omega (arith, length-append (text_classes source done) (met_by class (innermost (open_initiators (classes_of current))) (stored_classes (classes_of current))), length-text_classes source done, length-met_by class (innermost (open_initiators (classes_of current))) (stored_classes (classes_of current)), length-stored_classes (classes_of current), length-map current source.class_of, long, length-take n chars)
@@ -285,13 +298,13 @@ module _ (source : Source) (len_of : ℕ → ℕ) (chars : List ℕ) where
     pub one : split ≡ false → done ≡ []
     pub read : IsTextRead base n done current found reading
 
-  pub IsRead-start : (split : Bool) (base : Option ℕ) (found : Initial) (reading : Reading) → found.original_classes.items ≡ [] → found.paragraphs.items ≡ [] → found.flags.items ≡ [] → IsFresh reading 0 → IsRead split base 0 found reading
-  IsRead-start split base found reading no_classes no_paragraphs no_flags fresh = record {
+  pub IsRead-start : (split : Bool) (base : Option ℕ) (found : Initial) (reading : Reading) → length found.original_classes.items ≡ text_len len_of chars → found.paragraphs.items ≡ [] → found.flags.items ≡ [] → IsFresh reading 0 → IsRead split base 0 found reading
+  IsRead-start split base found reading sized no_paragraphs no_flags fresh = record {
     done = [];
     current = [];
     cut = IsCut-start (stops source split);
     one = λ e. refl;
-    read = IsTextRead-start base found reading no_classes no_paragraphs no_flags fresh;
+    read = IsTextRead-start base found reading sized no_paragraphs no_flags fresh;
   }
 
   -- the paragraph goes on
@@ -358,7 +371,9 @@ module _ (source : Source) (len_of : ℕ → ℕ) (chars : List ℕ) where
   IsTextDone-answer split base n done found all is h =
       let last : IsTextDone base n (pieces_of split source chars) found = subst (λ (ps : List (List ℕ)). IsTextDone base n ps found) is h in
       record {
-        classes = last.classes ∙ ap (λ (cs : List ℕ). per_unit len_of cs (text_classes source (pieces_of split source chars))) (take_all n chars (omega arith));
+        classes =
+            sym (take_all (place len_of chars n) found.original_classes.items (omega (arith, last.sized, place-end len_of chars n (omega arith))))
+            ∙ last.classes ∙ ap (λ (cs : List ℕ). per_unit len_of cs (text_classes source (pieces_of split source chars))) (take_all n chars (omega arith));
         ranges = last.ranges;
         levels = last.levels;
         flags = last.flags;

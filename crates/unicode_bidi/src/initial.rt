@@ -6,7 +6,7 @@ ghost use Rattle.std.specs.declared.ops.Range.{Range};
 ghost use Rattle.bidi_base.specs.Classes.{is_initiator as is_initiator_class};
 ghost use Rattle.bidi_base.specs.Direction.{may_turn as may_turn_class};
 ghost use Rattle.bidi_base.specs.Isolates.{level_by, resolved_fsi};
-ghost use Rattle.bidi_base.specs.Reading.{innermost, opened_by, decided_by, resolved_units, met_units};
+ghost use Rattle.bidi_base.specs.Reading.{innermost, opened_by, decided_by, filled, resolved_units, met_units};
 ghost use Rattle.bidi_base.specs.Paragraphs.{pieces_of, ranges_from};
 ghost use Rattle.bidi_base.specs.Stored.{text_classes, paragraph_levels};
 ghost use Rattle.bidi_base.specs.Text.{per_unit};
@@ -139,7 +139,7 @@ impl Reading {
         self.initiators.is_empty() && self.deciding.is_some()
     }
 
-    // Reads the next character, whose units are given. `classes` are those of the units before it.
+    // Reads the next character, whose units are given. `classes` has those of the units before it.
     fn read(
         &mut self,
         classes: &mut [BidiClass],
@@ -225,14 +225,25 @@ impl Initial {
     }
 }
 
-// Writes a character's class for each of its units.
-fn append(classes: &mut Vec<BidiClass>, class: BidiClass, count: usize) -> Result<(), AllocError>
-    ensures { OnOk result (classes.new.items ≡ classes.old.items ++ replicate count class) }
+// Writes a character's class to each of its units. Up to four are written from both ends, which
+// takes no loop.
+fn write(classes: &mut [BidiClass], units: Range<usize>, class: BidiClass)
+    requires begins { units.start < units.end }
+    requires ends { units.end ≤ length classes.old }
+    ensures { classes.new ≡ filled units class classes.old }
 {
-    for _i in 0..count {
-        classes.push(class)?;
+    let start = units.start;
+    let end = units.end;
+    if end - start > 4 {
+        classes[start..end].fill(class);
+        return;
     }
-    Ok(())
+    classes[start] = class;
+    classes[end - 1] = class;
+    if end - start > 2 {
+        classes[start + 1] = class;
+        classes[end - 2] = class;
+    }
 }
 
 /// The stored classes of a text, and its paragraphs with the levels that `base` or their characters
@@ -255,17 +266,17 @@ pub(crate) fn compute<D: BidiDataSource, T: TextSource>(
         IfOk result (λ i. i.flags.items ≡ paragraph_flags (D.source data_source.now) pieces) }
 {
     let mut found = Initial {
-        original_classes: Vec::with_capacity(alloc, text.len())?,
+        original_classes: vec![in alloc; BidiClass::L; text.len()]?,
         paragraphs: Vec::new(alloc),
         flags: Vec::new(alloc),
     };
     let mut reading = Reading::new(alloc);
     for (at, c) in text.char_indices() {
         let class = data_source.bidi_class(c);
-        let len = T::char_len(c);
-        let end = at + len;
-        reading.read(found.original_classes.as_mut_slice(), class, at..end)?;
-        append(&mut found.original_classes, class, len)?;
+        let end = at + T::char_len(c);
+        let classes = found.original_classes.as_mut_slice();
+        reading.read(classes, class, at..end)?;
+        write(classes, at..end, class);
         if split && is_separator(class) {
             found.close(&reading, end, base)?;
             reading.restart(end);

@@ -1,5 +1,5 @@
 use Rattle.std.proofs.Common.{◌≡◌, ◌∙◌, ◌+◌, ◌∷◌, [], ◌++◌, ℕ, ◌<◌, List, true, false, ◌⊎◌, inl, inr, length, refl, sym, ap, subst, arith}
-use Rattle.std.specs.Prelude.{replicate}
+use Rattle.std.specs.Vec.{with_items}
 use Rattle.std.specs.Iterator.{IsFinite}
 use Rattle.std.specs.declared.ops.Range.{Range}
 use Rattle.std.proofs.lemmas.List.{length_push, with_items_is}
@@ -7,87 +7,92 @@ use Rattle.std.proofs.lemmas.Bool.{and_from, and_left, and_right}
 use Rattle.bidi_base.specs.Classes.{is_paragraph_separator}
 use Rattle.bidi_base.specs.Reading.{innermost, met_units}
 use Rattle.bidi_base.specs.Text.{place}
-use Rattle.bidi_base.proofs.PlaceLemmas.{index_turn, index_end, place-le, place-end}
+use Rattle.bidi_base.proofs.PlaceLemmas.{CharTurn, index_turn, index_end, place-le, place-end}
 use Rattle.unicode_bidi.specs.declared.initial.Initial.{Initial}
 use Rattle.unicode_bidi.proofs.TextRead.{take-turn, same_range, stops, open_within, start-le, IsFresh, IsTextRead, IsTextRead-more, IsTextDone-close, IsRead, IsRead-start, IsRead-on, IsRead-stop, IsRead-last, IsRead-none, IsTextDone-none, IsAnswer, IsTextDone-answer}
 use Rattle.unicode_bidi.proofs.initial.compute.Goals as goal
-use Rattle.unicode_bidi.proofs.initial.compute.Goals.{else-split-via-then-split+else-is_separator, else-split-via-else-split, then-not-split+in_ok-close-2, then-not-split-via-then-not-split, then-not-split-via-else-not-split+then-reading-end, else-not-split+else-reading-end}
+use Rattle.unicode_bidi.proofs.initial.compute.Goals.{In-Some, After-write, else-split-via-then-split+else-is_separator, else-split-via-else-split, then-not-split+in_ok-close-2, then-not-split-via-then-not-split, then-not-split-via-else-not-split+then-reading-end, else-not-split+else-reading-end}
 use Rattle.unicode_bidi.proofs.initial.compute.Given.{Over}
 
 pub loop-at-init : goal.loop-at-init
 loop-at-init g c = (
   subst g.T.CharIndexIter.Iterator.can_next (sym c.into_iter-at-iterator.ensures.into_iter_gives) c.char_indices-at-items.ensures.can_next,
   subst (λ b. IsFinite (g.T.CharIndexIter.Iterator.remaining b)) (sym c.into_iter-at-iterator.ensures.into_iter_gives) c.char_indices-at-items.ensures.finite,
-  IsRead-start _ _ _ c.args.split c.args.base _ c.new-reading.result c.in_ok-with_capacity.ensures.items c.new.ensures.items c.new-2.ensures.items
+  IsRead-start _ _ _ c.args.split c.args.base _ c.new-reading.result (sym c.in_ok-vec.field-0.ok.0 ∙ c.in_ok-vec.ensures.len ∙ c.len.ensures) c.new.ensures.items c.new-2.ensures.items
       (record { here = c.new-reading.ensures.start; under = c.new-reading.ensures.initiators; deciding = c.new-reading.ensures.deciding; turns = c.new-reading.ensures.flags }),
 )
 
+-- the character that comes
+turn_of : (g : Over) (c : In-Some g) → CharTurn g.T.TextSource.units (g.T.TextSource.characters c.args.text) (length c.loop-at.yielded) c.in-Some.at c.in-Some.c
+turn_of g c =
+    index_turn g.T.TextSource.units (g.T.TextSource.characters c.args.text) c.char_indices-at-items.ensures c.into_iter-at-iterator.ensures.into_iter_gives c.loop-at.yielded _ c.loop-at.yielded_by _ _ c.in-Some.at c.in-Some.c c.in-Some.is c.next.ensures.steps
+
 pub overflow_add-end : goal.overflow_add-end
 overflow_add-end g c =
-    let len = g.T.TextSource.units in
-    let cs : List ℕ = g.T.TextSource.characters c.args.text in
-    let w = index_turn len cs c.char_indices-at-items.ensures c.into_iter-at-iterator.ensures.into_iter_gives c.loop-at.yielded _ c.loop-at.yielded_by _ _ c.in-Some.at c.in-Some.c c.in-Some.is c.next.ensures.steps in
-    omega (arith, w.fits, c.len.ensures, c.char_len-len.ensures)
+    let w = turn_of g (goal.at.overflow_add-end g c).In-Some in
+    omega (arith, w.fits, c.len.ensures, c.char_len.ensures)
 
 pub read-requires : goal.read-requires
 read-requires g c =
+    let h = c.loop-at.invariant.2 in
+    let w = turn_of g (goal.at.read-requires g c).In-Some in
+    rw c.as_mut_slice-classes.ensures.value
+    (open_within (g.D.BidiDataSource.source c.args.data_source.now) g.T.TextSource.units (g.T.TextSource.characters c.args.text) g.met.T.TextSource.has_units c.args.base (length c.loop-at.yielded) h.done h.current c.loop-at.found c.loop-at.reading w.within h.read)
+
+pub write-requires-clause-ends : goal.write-requires-clause-ends
+write-requires-clause-ends g c =
+    let h = c.loop-at.invariant.2 in
+    let w = turn_of g (goal.at.write-requires-clause-ends g c).In-Some in
+    omega (arith, w.fits, c.char_len.ensures, c.read.auto.classes, ap length c.as_mut_slice-classes.ensures.value, h.read.sized)
+
+-- what is found with that character
+found_with : (g : Over) → After-write g → Initial
+found_with g c = record { original_classes = with_items c.loop-at.found.original_classes c.write.new.classes; paragraphs = c.loop-at.found.paragraphs; flags = c.loop-at.found.flags }
+
+read_with : (g : Over) (c : After-write g) → CharTurn g.T.TextSource.units (g.T.TextSource.characters c.args.text) (length c.loop-at.yielded) c.in-Some.at c.in-Some.c
+    → IsTextRead (g.D.BidiDataSource.source c.args.data_source.now) g.T.TextSource.units (g.T.TextSource.characters c.args.text) c.args.base (length c.loop-at.yielded + 1) c.loop-at.invariant.2.done (c.loop-at.invariant.2.current ++ c.in-Some.c ∷ []) (found_with g c) c.read.new.self
+unfolding found_with
+read_with g c w =
     let len = g.T.TextSource.units in
     let cs : List ℕ = g.T.TextSource.characters c.args.text in
-    let w = index_turn len cs c.char_indices-at-items.ensures c.into_iter-at-iterator.ensures.into_iter_gives c.loop-at.yielded _ c.loop-at.yielded_by _ _ c.in-Some.at c.in-Some.c c.in-Some.is c.next.ensures.steps in
+    let n : ℕ = length c.loop-at.yielded in
     let h = c.loop-at.invariant.2 in
-    rw c.as_mut_slice.ensures.value
-    (open_within (g.D.BidiDataSource.source c.args.data_source.now) len cs g.met.T.TextSource.has_units c.args.base (length c.loop-at.yielded) h.done h.current c.loop-at.found c.loop-at.reading w.within h.read)
+    let class = c.bidi_class-class.result in
+    let end : c.in-Some.at + c.char_len.result ≡ place len cs (n + 1) = omega (arith, w.after, c.char_len.ensures) in
+    let range : Range ℕ = record { start = c.in-Some.at; end = c.in-Some.at + c.char_len.result } in
+    let changed : c.read.new.classes ≡ met_units class (innermost c.loop-at.reading.initiators.items) c.loop-at.found.original_classes.items =
+    c.in_ok-read.ensures.classes ∙ ap (met_units class (innermost c.loop-at.reading.initiators.items)) c.as_mut_slice-classes.ensures.value in
+    let kept : length c.read.new.classes ≡ length c.loop-at.found.original_classes.items = c.read.auto.classes ∙ ap length c.as_mut_slice-classes.ensures.value in
+    let written : (with_items c.loop-at.found.original_classes c.write.new.classes).items ≡ c.write.new.classes = with_items_is c.loop-at.found.original_classes c.write.new.classes (c.write.auto.classes ∙ c.read.auto.classes ∙ c.as_mut_slice-classes.ensures.len) in
+    IsTextRead-more (g.D.BidiDataSource.source c.args.data_source.now) len cs g.met.T.TextSource.has_units c.args.base n h.done h.current c.loop-at.found c.loop-at.reading w.within h.read c.in-Some.c w.is_char class c.bidi_class-class.ensures c.read.new.classes range (found_with g c) c.read.new.self
+    (same_range c.in-Some.at (place len cs n) (c.in-Some.at + c.char_len.result) (place len cs (n + 1)) w.at_place end) changed (written ∙ c.write.ensures) kept (ap length written ∙ c.write.auto.classes) refl refl
+    c.read.ensures.start c.in_ok-read.ensures.initiators c.in_ok-read.ensures.deciding c.in_ok-read.ensures.pure c.in_ok-read.ensures.isolates
 
 pub close-requires : goal.close-requires
 close-requires g c =
-    let source = g.D.BidiDataSource.source c.args.data_source.now in
     let len = g.T.TextSource.units in
-    let units = g.met.T.TextSource.has_units in
     let cs : List ℕ = g.T.TextSource.characters c.args.text in
     let n : ℕ = length c.loop-at.yielded in
-    let w = index_turn len cs c.char_indices-at-items.ensures c.into_iter-at-iterator.ensures.into_iter_gives c.loop-at.yielded _ c.loop-at.yielded_by _ _ c.in-Some.at c.in-Some.c c.in-Some.is c.next.ensures.steps in
     let h = c.loop-at.invariant.2 in
-    let class = c.bidi_class-class.result in
-    let end : c.in-Some.at + c.char_len-len.result ≡ place len cs (n + 1) = omega (arith, w.after, c.char_len-len.ensures) in
-    let range : Range ℕ = record { start = c.in-Some.at; end = c.in-Some.at + c.char_len-len.result } in
-    let changed : c.read.new.classes ≡ met_units class (innermost c.loop-at.reading.initiators.items) c.loop-at.found.original_classes.items =
-    c.in_ok-read.ensures.classes ∙ ap (met_units class (innermost c.loop-at.reading.initiators.items)) c.as_mut_slice.ensures.value in
-    let longer : c.append.new.classes.items ≡ c.read.new.classes ++ replicate (len c.in-Some.c) class =
-    c.in_ok-append.ensures ∙ ap (λ us. us ++ replicate c.char_len-len.result class) (with_items_is c.loop-at.found.original_classes c.read.new.classes (c.read.auto.classes ∙ c.as_mut_slice.ensures.len))
-    ∙ ap (λ m. c.read.new.classes ++ replicate m class) c.char_len-len.ensures in
-    let found : Initial = record { original_classes = c.append.new.classes; paragraphs = c.loop-at.found.paragraphs; flags = c.loop-at.found.flags } in
-    let more : IsTextRead source len cs c.args.base (n + 1) h.done (h.current ++ c.in-Some.c ∷ []) found c.read.new.self =
-    IsTextRead-more source len cs units c.args.base n h.done h.current c.loop-at.found c.loop-at.reading w.within h.read c.in-Some.c w.is_char class c.bidi_class-class.ensures c.read.new.classes range found c.read.new.self
-    (same_range c.in-Some.at (place len cs n) (c.in-Some.at + c.char_len-len.result) (place len cs (n + 1)) w.at_place end) changed longer refl refl
-    c.read.ensures.start c.in_ok-read.ensures.initiators c.in_ok-read.ensures.deciding c.in_ok-read.ensures.pure c.in_ok-read.ensures.isolates in
-    let le = start-le source len cs c.args.base (n + 1) h.done (h.current ++ c.in-Some.c ∷ []) found c.read.new.self more in
-    omega (arith, le, end)
+    let p = (goal.at.close-requires g c).After-write in
+    let w = turn_of g (goal.at.close-requires g c).In-Some in
+    let le = start-le (g.D.BidiDataSource.source c.args.data_source.now) len cs c.args.base (n + 1) h.done (h.current ++ c.in-Some.c ∷ []) (found_with g p) c.read.new.self (read_with g p w) in
+    omega (arith, le, w.after, c.char_len.ensures)
 
 pub loop-at-preserved-then-is_separator : goal.loop-at-preserved-then-is_separator
+unfolding found_with
 loop-at-preserved-then-is_separator g c =
     let source = g.D.BidiDataSource.source c.args.data_source.now in
     let len = g.T.TextSource.units in
-    let units = g.met.T.TextSource.has_units in
     let cs : List ℕ = g.T.TextSource.characters c.args.text in
     let n : ℕ = length c.loop-at.yielded in
-    let w = index_turn len cs c.char_indices-at-items.ensures c.into_iter-at-iterator.ensures.into_iter_gives c.loop-at.yielded _ c.loop-at.yielded_by _ _ c.in-Some.at c.in-Some.c c.in-Some.is c.next.ensures.steps in
     let h = c.loop-at.invariant.2 in
-    let class = c.bidi_class-class.result in
-    let end : c.in-Some.at + c.char_len-len.result ≡ place len cs (n + 1) = omega (arith, w.after, c.char_len-len.ensures) in
-    let range : Range ℕ = record { start = c.in-Some.at; end = c.in-Some.at + c.char_len-len.result } in
-    let changed : c.read.new.classes ≡ met_units class (innermost c.loop-at.reading.initiators.items) c.loop-at.found.original_classes.items =
-    c.in_ok-read.ensures.classes ∙ ap (met_units class (innermost c.loop-at.reading.initiators.items)) c.as_mut_slice.ensures.value in
-    let longer : c.append.new.classes.items ≡ c.read.new.classes ++ replicate (len c.in-Some.c) class =
-    c.in_ok-append.ensures ∙ ap (λ us. us ++ replicate c.char_len-len.result class) (with_items_is c.loop-at.found.original_classes c.read.new.classes (c.read.auto.classes ∙ c.as_mut_slice.ensures.len))
-    ∙ ap (λ m. c.read.new.classes ++ replicate m class) c.char_len-len.ensures in
-    let found : Initial = record { original_classes = c.append.new.classes; paragraphs = c.loop-at.found.paragraphs; flags = c.loop-at.found.flags } in
-    let more : IsTextRead source len cs c.args.base (n + 1) h.done (h.current ++ c.in-Some.c ∷ []) found c.read.new.self =
-    IsTextRead-more source len cs units c.args.base n h.done h.current c.loop-at.found c.loop-at.reading w.within h.read c.in-Some.c w.is_char class c.bidi_class-class.ensures c.read.new.classes range found c.read.new.self
-    (same_range c.in-Some.at (place len cs n) (c.in-Some.at + c.char_len-len.result) (place len cs (n + 1)) w.at_place end) changed longer refl refl
-    c.read.ensures.start c.in_ok-read.ensures.initiators c.in_ok-read.ensures.deciding c.in_ok-read.ensures.pure c.in_ok-read.ensures.isolates in
+    let p = (goal.at.loop-at-preserved-then-is_separator g c).After-write in
+    let w = turn_of g (goal.at.loop-at-preserved-then-is_separator g c).In-Some in
+    let end : c.in-Some.at + c.char_len.result ≡ place len cs (n + 1) = omega (arith, w.after, c.char_len.ensures) in
     let stop : stops source c.args.split c.in-Some.c ≡ true = and_from c.args.split (is_paragraph_separator (source.class_of c.in-Some.c)) c.if-split.true (ap is_paragraph_separator (sym c.bidi_class-class.ensures) ∙ sym c.is_separator.ensures ∙ c.if-is_separator.true) in
     let ended =
-    IsTextDone-close source len cs c.args.base (n + 1) h.done (h.current ++ c.in-Some.c ∷ []) found c.read.new.self more c.close.new.self (c.in-Some.at + c.char_len-len.result) end
+    IsTextDone-close source len cs c.args.base (n + 1) h.done (h.current ++ c.in-Some.c ∷ []) (found_with g p) c.read.new.self (read_with g p w) c.close.new.self (c.in-Some.at + c.char_len.result) end
     c.close.ensures.classes c.in_ok-close.ensures.ranges c.in_ok-close.ensures.levels c.in_ok-close.ensures.flags in
     let fresh : IsFresh c.restart.new.self (place len cs (n + 1)) = record { here = c.restart.ensures.start ∙ end; under = c.restart.ensures.initiators; deciding = c.restart.ensures.deciding; turns = c.restart.ensures.flags } in (
       c.in-Some.ensures.goes.keeps,
@@ -97,27 +102,15 @@ loop-at-preserved-then-is_separator g c =
     )
 
 pub loop-at-preserved : goal.loop-at-preserved
+unfolding found_with
 loop-at-preserved g c =
     let source = g.D.BidiDataSource.source c.args.data_source.now in
     let len = g.T.TextSource.units in
-    let units = g.met.T.TextSource.has_units in
     let cs : List ℕ = g.T.TextSource.characters c.args.text in
     let n : ℕ = length c.loop-at.yielded in
-    let w = index_turn len cs c.char_indices-at-items.ensures c.into_iter-at-iterator.ensures.into_iter_gives c.loop-at.yielded _ c.loop-at.yielded_by _ _ c.in-Some.at c.in-Some.c c.in-Some.is c.next.ensures.steps in
     let h = c.loop-at.invariant.2 in
-    let class = c.bidi_class-class.result in
-    let end : c.in-Some.at + c.char_len-len.result ≡ place len cs (n + 1) = omega (arith, w.after, c.char_len-len.ensures) in
-    let range : Range ℕ = record { start = c.in-Some.at; end = c.in-Some.at + c.char_len-len.result } in
-    let changed : c.read.new.classes ≡ met_units class (innermost c.loop-at.reading.initiators.items) c.loop-at.found.original_classes.items =
-    c.in_ok-read.ensures.classes ∙ ap (met_units class (innermost c.loop-at.reading.initiators.items)) c.as_mut_slice.ensures.value in
-    let longer : c.append.new.classes.items ≡ c.read.new.classes ++ replicate (len c.in-Some.c) class =
-    c.in_ok-append.ensures ∙ ap (λ us. us ++ replicate c.char_len-len.result class) (with_items_is c.loop-at.found.original_classes c.read.new.classes (c.read.auto.classes ∙ c.as_mut_slice.ensures.len))
-    ∙ ap (λ m. c.read.new.classes ++ replicate m class) c.char_len-len.ensures in
-    let found : Initial = record { original_classes = c.append.new.classes; paragraphs = c.loop-at.found.paragraphs; flags = c.loop-at.found.flags } in
-    let more : IsTextRead source len cs c.args.base (n + 1) h.done (h.current ++ c.in-Some.c ∷ []) found c.read.new.self =
-    IsTextRead-more source len cs units c.args.base n h.done h.current c.loop-at.found c.loop-at.reading w.within h.read c.in-Some.c w.is_char class c.bidi_class-class.ensures c.read.new.classes range found c.read.new.self
-    (same_range c.in-Some.at (place len cs n) (c.in-Some.at + c.char_len-len.result) (place len cs (n + 1)) w.at_place end) changed longer refl refl
-    c.read.ensures.start c.in_ok-read.ensures.initiators c.in_ok-read.ensures.deciding c.in_ok-read.ensures.pure c.in_ok-read.ensures.isolates in
+    let p = (goal.at.loop-at-preserved g c).After-write in
+    let w = turn_of g (goal.at.loop-at-preserved g c).In-Some in
     let on : stops source c.args.split c.in-Some.c ≡ false =
     elim c.else-split.branch [
       | else-split-via-then-split+else-is_separator w ↦ and_right c.args.split (is_paragraph_separator (source.class_of c.in-Some.c)) (ap is_paragraph_separator (sym c.bidi_class-class.ensures) ∙ sym w.is_separator.ensures ∙ w.if-is_separator.false)
@@ -125,8 +118,8 @@ loop-at-preserved g c =
     ] in (
       c.in-Some.ensures.goes.keeps,
       (c.in-Some.ensures.goes.on c.loop-at.invariant.1).1,
-      subst (λ m. IsRead source len cs c.args.split c.args.base m found c.read.new.self) (sym (length_push c.loop-at.yielded (c.in-Some.at, c.in-Some.c)))
-          (IsRead-on source len cs c.args.split c.args.base n c.in-Some.c c.loop-at.found c.loop-at.reading found c.read.new.self h (take-turn cs n c.in-Some.c w.within w.is_char) more on),
+      subst (λ m. IsRead source len cs c.args.split c.args.base m (found_with g p) c.read.new.self) (sym (length_push c.loop-at.yielded (c.in-Some.at, c.in-Some.c)))
+          (IsRead-on source len cs c.args.split c.args.base n c.in-Some.c c.loop-at.found c.loop-at.reading (found_with g p) c.read.new.self h (take-turn cs n c.in-Some.c w.within w.is_char) (read_with g p w) on),
     )
 
 pub close-requires-then-not-split : goal.close-requires-then-not-split
