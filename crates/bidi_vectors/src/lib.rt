@@ -3,11 +3,13 @@
 
 #[cfg(test)]
 mod explicit_units_rows;
+#[cfg(test)]
 mod info_rows;
 #[cfg(test)]
 mod initial_rows;
 #[cfg(test)]
 mod level_rows;
+#[cfg(test)]
 mod line_rows;
 #[cfg(test)]
 mod neutral_units_rows;
@@ -25,6 +27,7 @@ mod plain_weak;
 mod run_rows;
 #[cfg(test)]
 mod run_walks_rows;
+#[cfg(test)]
 mod sequence_units_rows;
 #[cfg(test)]
 mod source_rows;
