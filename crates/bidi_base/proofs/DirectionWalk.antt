@@ -10,8 +10,8 @@ use Rattle.bidi_base.specs.declared.char_data.Direction.{Direction}
 use Rattle.bidi_base.specs.declared.char_data.Direction.TheVariants.{Rtl, Mixed}
 use Rattle.bidi_base.specs.Classes.{is_strong, is_initiator, is_pdi, is_paragraph_separator}
 use Rattle.bidi_base.specs.Direction.{direction_by, base_direction, full_base_direction}
-use Rattle.bidi_base.specs.Isolates.{deciding_class, level_by, paragraph_level}
-use Rattle.bidi_base.specs.Paragraphs.{cut_after, paragraphs_of, each_separator}
+use Rattle.bidi_base.specs.Isolates.{deciding_class, paragraph_level}
+use Rattle.bidi_base.specs.Paragraphs.{paragraphs_of, each_separator}
 use Rattle.bidi_base.specs.Places.{first_or}
 use Rattle.bidi_base.specs.Source.{Source}
 use Rattle.bidi_base.proofs.IsolatesLemmas.{direction_by-Rtl}

@@ -1,5 +1,5 @@
 -- Isolates in one walk from the front, which counts those that are open: the matching PDI (BD9), the deciding character (P2), and what an FSI becomes (X5c).
-use Rattle.std.proofs.Common.{◌≡◌, ℕ, zero, suc, ◌+◌, ◌-◌, ◌<◌, ◌≤◌, Bool, true, false, not, ◌&&◌, ◌||◌, cond, ltb, List, [], ◌∷◌, ◌++◌, length, get_or, take, drop, map, find, Option, Some, None, unwrap_or, option_map, refl, sym, ap, subst, ◌∙◌, arith, ◌⊎◌, inl, inr, eq-eqb, ne_eqb, lt-ltb, le-ltb, length-drop}
+use Rattle.std.proofs.Common.{◌≡◌, ℕ, zero, suc, ◌+◌, ◌-◌, ◌<◌, ◌≤◌, Bool, true, false, not, ◌&&◌, ◌||◌, cond, ltb, List, [], ◌∷◌, ◌++◌, length, take, drop, map, find, Option, Some, None, unwrap_or, option_map, refl, sym, ap, ◌∙◌, arith, ◌⊎◌, inl, inr, eq-eqb, ne_eqb, lt-ltb, le-ltb, length-drop}
 use Rattle.std.specs.Prelude.{slice_range}
 use Rattle.std.specs.List.{range_with_len, list_any}
 use Rattle.std.proofs.lemmas.List.{drop-drop, get_or-drop, take_more}
@@ -7,7 +7,7 @@ use Rattle.std.proofs.lemmas.Bool.{cases_Bool, cases_lt, ltb-true, cond-true, co
 use Rattle.bidi_base.specs.declared.char_data.BidiClass.{BidiClass}
 use Rattle.bidi_base.specs.declared.char_data.BidiClass.TheVariants.{L, LRI, RLI, FSI, PDI}
 use Rattle.bidi_base.specs.Classes.{is_strong, is_initiator, is_pdi}
-use Rattle.bidi_base.specs.Places.{class_at, indexes, between, count_between}
+use Rattle.bidi_base.specs.Places.{class_at, count_between}
 use Rattle.bidi_base.specs.Matching.{is_closed_at, is_before, match_of}
 use Rattle.bidi_base.specs.Isolates.{is_initiator_at, is_pdi_at, matching_pdi, is_inside, is_isolated, deciding_class, isolated_classes, resolved_fsi, stored_class, stored_classes}
 use Rattle.bidi_base.proofs.MatchingLemmas.{count_between-more, count_between-none}

@@ -1,6 +1,5 @@
 -- Resolved classes, written back to the units of the characters that are read.
 use Rattle.std.proofs.Common.{◌≡◌, ℕ, zero, suc, ◌+◌, ◌-◌, ◌<◌, ◌≤◌, true, false, List, [], ◌∷◌, length, map, get_or, take, drop, set, sym, ap, ◌∙◌, arith, append-nil, get_or-drop, length-append, length-drop}
-use Rattle.std.proofs.lemmas.List.{set-get_or}
 use Rattle.std.specs.declared.ops.Range.{Range}
 use Rattle.bidi_base.specs.declared.char_data.BidiClass.{BidiClass}
 use Rattle.bidi_base.specs.declared.char_data.BidiClass.TheVariants.{L}
@@ -103,22 +102,6 @@ module _ (len_of : ℕ → ℕ) (h : HasUnits len_of) (chars : List ℕ) (units 
               ∙ ap (per_unit len_of chars) (sym (put_at-push so_far k ws values L (omega (arith, length-drop first resolved))))
               ∙ ap (λ (ks : List ℕ). per_unit len_of chars (put_at ks ws values)) (sym more);
         }
-
-    -- the next character may have the class already
-    pub IsWrittenBack-still : (class : BidiClass) (len : ℕ) → class ≡ class_at now (start + offset) → len ≡ len_of c → now ≡ filled (start + offset) len class now
-    IsWrittenBack-still class len is len_is =
-        let k = char_index len_of chars start + n in
-        let value : get_or (now_of n) k L ≡ class =
-        sym (
-        is
-        ∙ ap (λ (us : List BidiClass). class_at us (start + offset)) w.classes_are
-        ∙ ap (class_at (per_unit len_of chars (now_of n))) (sym turn.here)
-        ∙ get_or-per_unit-place len_of h chars (now_of n) k L (length-now_of n) turn.fits) in
-        w.classes_are
-        ∙ ap (per_unit len_of chars) (sym (set-get_or (now_of n) k L))
-        ∙ ap (λ (y : BidiClass). per_unit len_of chars (set (now_of n) k y)) value
-        ∙ sym (filled-per_unit len_of chars (now_of n) k (start + offset) len class turn.fits (length-now_of n) (sym turn.here) (len_is ∙ ap len_of (sym turn.is_char)))
-        ∙ ap (filled (start + offset) len class) (sym w.classes_are)
 
     pub IsWrittenBack-skip : is_read (class_at units (start + offset)) ≡ false → IsWrittenBack len_of chars units resolved start first (n + 1) next now
     IsWrittenBack-skip skips =

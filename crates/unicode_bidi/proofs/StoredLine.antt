@@ -1,6 +1,6 @@
 -- A line of a text of UTF-8 whose stored classes and levels pass the test `is_per_char`, as those of the info types do.
-use Rattle.std.proofs.Common.{◌≡◌, ℕ, ◌≤◌, List, length, false, sym, ◌∙◌}
-use Rattle.std.specs.Prelude.{IsTrue, ◌↔◌}
+use Rattle.std.proofs.Common.{◌≡◌, ℕ, ◌≤◌, List, length}
+use Rattle.std.specs.Prelude.{IsTrue}
 use Rattle.std.specs.Char.{len_utf8}
 use Rattle.std.specs.Str.{chars}
 use Rattle.bidi_base.specs.declared.char_data.BidiClass.{BidiClass}
@@ -9,7 +9,7 @@ use Rattle.bidi_base.specs.Line.{levels_of_line, levels_with_line}
 use Rattle.bidi_base.specs.Text.{per_unit, per_char, is_per_char, IsLine, IsPerChar}
 use Rattle.bidi_base.proofs.PerCharTests.{class_eq, class_test, level_eq, level_test}
 use Rattle.bidi_base.proofs.StrLemmas.{has_units}
-use Rattle.bidi_base.proofs.UnitsLemmas.{IsPerChar-from_is_per_char, length-from_IsPerChar}
+use Rattle.bidi_base.proofs.UnitsLemmas.{IsPerChar-from_is_per_char}
 use Rattle.unicode_bidi.specs.Lines.{char_levels_of_line, char_levels_with_line}
 use Rattle.unicode_bidi.proofs.TextOfLine as line_of
 
