@@ -271,18 +271,19 @@ pub(crate) fn compute<D: BidiDataSource, T: TextSource>(
         flags: Vec::new(alloc),
     };
     let mut reading = Reading::new(alloc);
-    for (at, c) in text.char_indices() {
+    let mut end = 0;
+    for c in text.chars() {
         let class = data_source.bidi_class(c);
-        let end = at + T::char_len(c);
+        let start = end;
+        end = start + T::char_len(c);
         let classes = found.original_classes.as_mut_slice();
-        reading.read(classes, class, at..end)?;
-        write(classes, at..end, class);
+        reading.read(classes, class, start..end)?;
+        write(classes, start..end, class);
         if split && is_separator(class) {
             found.close(&reading, end, base)?;
             reading.restart(end);
         }
     }
-    let end = text.len();
     if !split || reading.start < end {
         found.close(&reading, end, base)?;
     }
