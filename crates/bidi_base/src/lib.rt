@@ -3,6 +3,7 @@
 #![tactic(auto)]
 
 pub mod char_data;
+pub mod classes;
 pub mod data_source;
 pub mod format_chars;
 pub mod level;
