@@ -3,6 +3,7 @@ pub mod Blocks
 pub mod BracketRules
 pub mod BracketsLemmas
 pub mod ChainLemmas
+pub mod CharsLemmas
 pub mod ClassesLemmas
 pub mod ContextLemmas
 pub mod DirectionWalk
@@ -53,6 +54,8 @@ pub mod SuccessorLemmas
 pub mod TableLemmas
 pub mod TextLemmas
 pub mod UnitsLemmas
+pub mod Utf16Ends
+pub mod Utf16Lemmas
 pub mod VisualOrderLemmas
 pub mod WaitingLemmas
 pub mod WeakLemmas
