@@ -112,9 +112,9 @@ impl<'t> Iterator for Utf16CharIter<'t> {
     ghost remaining = { item_count (λ s. utf16_text s.rest.now) };
 
     fn next(&mut self) -> Option<char> {
-        let (c, len) = first_char(self.rest)?;
+        let (first, len) = first_char(self.rest)?;
         self.rest = &self.rest[len..];
-        Some(c)
+        Some(first)
     }
 }
 
@@ -122,9 +122,9 @@ impl<'t> DoubleEndedIterator for Utf16CharIter<'t> {
     ghost next_back_gives = { YieldsLast (λ s. utf16_text s.rest.now) };
 
     fn next_back(&mut self) -> Option<char> {
-        let (c, len) = last_char(self.rest)?;
+        let (last, len) = last_char(self.rest)?;
         self.rest = &self.rest[..self.rest.len() - len];
-        Some(c)
+        Some(last)
     }
 }
 
