@@ -17,7 +17,7 @@ struct Walks {
     lengths: Vec<(usize, usize)>,
 }
 
-fn walks<T: TextSource>(alloc: Global, text: T) -> Result<Walks, Fail> {
+fn walked<T: TextSource>(alloc: Global, text: T) -> Result<Walks, Fail> {
     Ok(Walks {
         characters: text.chars().collect(alloc)?,
         places: text.char_indices().collect(alloc)?,
@@ -42,7 +42,7 @@ fn characters_of_line<T: TextSource>(
 #[test]
 fn surrogates_in_and_out_of_pairs(rt: HostRuntime) -> Result<(), Fail> {
     let text = Utf16Text::new(&SURROGATES);
-    let walks = walks(rt.alloc(), text)?;
+    let walks = walked(rt.alloc(), text)?;
     assert_eq!(rt;
         walks.characters.as_slice(),
         ['\u{FFFD}', '\u{10000}', '\u{FFFD}'].as_slice()
@@ -111,7 +111,7 @@ fn lists_of_characters(rt: HostRuntime) -> Result<(), Fail> {
     assert_eq!(rt; text.char_at(1), Some(('\u{10000}', 1)));
     assert_eq!(rt; text.char_at(3), None);
     assert!(rt; text.is_boundary(2) && text.is_boundary(3) && !text.is_boundary(4));
-    let walks = walks(rt.alloc(), text)?;
+    let walks = walked(rt.alloc(), text)?;
     assert_eq!(rt; walks.characters.as_slice(), list.as_slice());
     assert_eq!(rt;
         walks.places.as_slice(),
