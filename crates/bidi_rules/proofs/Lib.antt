@@ -1,7 +1,5 @@
-pub mod BracketSearch
 pub mod ExplicitUnits
 pub mod FirstRead
-pub mod FoundBrackets
 pub mod Gathered
 pub mod InRuns
 pub mod KeptRangeLemmas
