@@ -4,6 +4,7 @@ pub mod BracketRules
 pub mod BracketSearch
 pub mod BracketsLemmas
 pub mod ChainLemmas
+pub mod CharsLemmas
 pub mod ClassesLemmas
 pub mod ContextLemmas
 pub mod DirectionWalk
@@ -55,6 +56,8 @@ pub mod SuccessorLemmas
 pub mod TableLemmas
 pub mod TextLemmas
 pub mod UnitsLemmas
+pub mod Utf16Ends
+pub mod Utf16Lemmas
 pub mod VisualOrderLemmas
 pub mod WaitingLemmas
 pub mod WeakLemmas
