@@ -1,6 +1,7 @@
 pub mod AgreeLemmas
 pub mod Blocks
 pub mod BracketRules
+pub mod BracketSearch
 pub mod BracketsLemmas
 pub mod ChainLemmas
 pub mod CharsLemmas
@@ -10,6 +11,7 @@ pub mod DirectionWalk
 pub mod EmbeddingsLemmas
 mod Examples
 pub mod ExplicitLemmas
+pub mod FoundBracketsLemmas
 pub mod GivesLemmas
 pub mod InPlace
 pub mod IsolateWalk
