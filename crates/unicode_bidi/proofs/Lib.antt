@@ -2,6 +2,7 @@ pub mod CharRuns
 pub mod DirectionLemmas
 pub mod Distinct
 pub mod FilledUnits
+pub mod FoundLaws
 pub mod FoundRuns
 pub mod Gathered
 pub mod Lanes

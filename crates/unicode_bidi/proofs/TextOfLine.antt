@@ -14,7 +14,7 @@ use Rattle.bidi_base.proofs.TextLemmas.{HasUnits}
 use Rattle.bidi_base.proofs.PlaceLemmas.{place-le, place-end, place-slice_range, line_places, text_len-subrange, IsLineAt, IsLine-places}
 use Rattle.bidi_base.proofs.PerUnit.{length-per_char, per_char-per_unit}
 use Rattle.bidi_base.proofs.UnitsLemmas.{per_unit-from_IsPerChar, length-from_IsPerChar}
-use Rattle.unicode_bidi.specs.Lines.{char_levels_of_line, char_levels_with_line}
+use Rattle.bidi_base.specs.Line.{char_levels_of_line, char_levels_with_line}
 use Rattle.unicode_bidi.proofs.CharRuns.{units_of, place_from, visual_runs-units}
 use Rattle.unicode_bidi.proofs.LineInText.{length-part, length-line, length-levels_with_line, slice_range-per_unit, line_levels-per_unit, levels_with_line-per_unit, list_any-per_unit}
 use Rattle.unicode_bidi.proofs.LineText.{reordered_text-line}
