@@ -64,9 +64,6 @@ module _ (classes : List BidiClass) (levels : List ℕ) where
   IsStateAt p out waits None = (out ≡ []) × (waits ≡ []) × ((k : ℕ) → k < p → is_kept_at classes k ≡ false)
   IsStateAt p out waits (Some e) = IsGoing p out waits e.0 e.1
 
-  pub IsStateAt-start : IsStateAt 0 [] [] None
-  IsStateAt-start = (refl, refl, λ k below. absurd (omega arith))
-
   one_place : (p : ℕ) → is_kept_at classes p ≡ true → filter (is_kept_at classes) (range_with_len p 1) ≡ p ∷ []
   one_place p kept = cond-true (is_kept_at classes p) (p ∷ []) [] kept
 

@@ -7,10 +7,11 @@ ghost use Rattle.bidi_base.specs.Levels.{has_rtl as has_rtl_of};
 ghost use Rattle.bidi_base.specs.Text.{is_per_char};
 
 use crate::level_direction::direction_of;
-use crate::lines::{levels_and_runs, levels_per_char, levels_with_line};
 use bidi_base::char_data::{BidiClass, Direction};
 use bidi_base::level::{Level, has_rtl};
 use bidi_base::text::TextSource;
+use bidi_lines::line_levels::{levels_per_char, levels_with_line};
+use bidi_lines::visual_runs::levels_and_runs;
 use std::alloc::{AllocError, Global};
 use std::ops::Range;
 

@@ -13,12 +13,13 @@ ghost use Rattle.bidi_base.specs.Text.{is_per_char, IsLine};
 ghost use Rattle.unicode_bidi.specs.ParagraphInfo.{level_of, range_of, ranges_of, levels_of};
 
 use crate::analysed::Analysed;
+use crate::engine;
 use crate::paragraph_info::ParagraphInfo;
-use crate::{engine, visual};
 use bidi_base::char_data::BidiClass;
 use bidi_base::data_source::BidiDataSource;
 use bidi_base::level::Level;
 use bidi_base::text::{StrText, TextSource};
+use bidi_lines::visual_order;
 use std::alloc::{AllocError, Global};
 use std::borrow::CowStr;
 use std::ops::Range;
@@ -211,6 +212,6 @@ impl<T: TextSource> BidiInfo<T> {
         ensures still { has_rtl_of levels.now ≡ false → IfOk result (λ v. v.items ≡ indexes levels.now) }
         ensures reversals { IfOk result (λ v. v.items ≡ order_by_reversals levels.now) }
     {
-        visual::reorder_visual(alloc, levels)
+        visual_order::reorder_visual(alloc, levels)
     }
 }

@@ -10,13 +10,10 @@ mod info;
 mod initial_info;
 mod level_direction;
 mod line_text;
-mod lines;
 mod paragraph;
 mod paragraph_bidi_info;
 mod paragraph_info;
 mod paragraph_levels;
-mod visual;
-mod visual_runs;
 
 pub use base_direction::{
     get_base_direction_full_with_data_source, get_base_direction_with_data_source,

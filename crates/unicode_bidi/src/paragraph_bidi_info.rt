@@ -11,11 +11,12 @@ ghost use Rattle.bidi_base.specs.Places.{indexes};
 ghost use Rattle.bidi_base.specs.Text.{is_per_char};
 
 use crate::analysed::Analysed;
-use crate::{engine, visual};
+use crate::engine;
 use bidi_base::char_data::{BidiClass, Direction};
 use bidi_base::data_source::BidiDataSource;
 use bidi_base::level::Level;
 use bidi_base::text::{StrText, TextSource};
+use bidi_lines::visual_order;
 use std::alloc::{AllocError, Global};
 use std::borrow::CowStr;
 use std::ops::Range;
@@ -207,6 +208,6 @@ impl<T: TextSource> ParagraphBidiInfo<T> {
         ensures still { has_rtl_of levels.now ≡ false → IfOk result (λ v. v.items ≡ indexes levels.now) }
         ensures reversals { IfOk result (λ v. v.items ≡ order_by_reversals levels.now) }
     {
-        visual::reorder_visual(alloc, levels)
+        visual_order::reorder_visual(alloc, levels)
     }
 }
