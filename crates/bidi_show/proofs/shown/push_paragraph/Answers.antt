@@ -2,7 +2,7 @@ use Rattle.std.proofs.Common.{◌≤◌, length, arith}
 use Rattle.std.specs.Char.{len_utf8}
 use Rattle.std.specs.Str.{chars}
 use Rattle.bidi_base.specs.Text.{IsLine}
-use Rattle.bidi_base.proofs.StrLemmas.{IsCharBoundary-from_is_boundary}
+use Rattle.bidi_base.proofs.StrLemmas.{has_units, IsCharBoundary-from_is_boundary}
 use Rattle.bidi_base.proofs.TextLemmas.{is_boundary-le}
 use Rattle.bidi_base.proofs.UnitsLemmas.{length-from_IsPerChar}
 use Rattle.bidi_show.proofs.shown.push_paragraph.Goals as goal
@@ -23,5 +23,5 @@ pub slice_bounds-push_levels-end : goal.slice_bounds-push_levels-end
 slice_bounds-push_levels-end g c =
     let line : IsLine len_utf8 (chars (text_of c.args.info.now)) c.range-units.result.start c.range-units.result.end = rw c.range-units.ensures c.requires in
     let within : c.range-units.result.end ≤ length c.levels.result.now =
-    omega (arith, is_boundary-le len_utf8 (chars (text_of c.args.info.now)) c.range-units.result.end line.ends, length-from_IsPerChar len_utf8 (chars (text_of c.args.info.now)) c.levels.result.now (levels_IsPerChar (text_of c.args.info.now) c.levels.result.now c.levels.ensures.per_char)) in
+    omega (arith, is_boundary-le len_utf8 (chars (text_of c.args.info.now)) c.range-units.result.end line.ends, length-from_IsPerChar len_utf8 (chars (text_of c.args.info.now)) c.levels.result.now (levels_IsPerChar len_utf8 has_units (chars (text_of c.args.info.now)) c.levels.result.now c.levels.ensures.per_char)) in
     within

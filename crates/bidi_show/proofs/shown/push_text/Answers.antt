@@ -53,7 +53,7 @@ returns g c =
     (per_char L len_utf8 (chars (text_of c.args.info.now)) (original_classes c.args.info.now)) (per_char 0 len_utf8 (chars (text_of c.args.info.now)) (levels_of_info c.args.info.now)) start end in
     let shown : cow_str_bytes c.in_ok-line.line
     ≡ text_in source (text_of c.args.info.now) (level_of c.args.paragraph.now) (original_classes c.args.info.now) (levels_of_info c.args.info.now) (range_of c.args.paragraph.now).start (range_of c.args.paragraph.now).end =
-    c.in_ok-line.ensures.text
+    c.in_ok-line.ensures.text.text
     ∙ ap (λ (r : Range ℕ). of_line (r.start) (r.start + length c.without_separator-own.result.now)) c.range-units.ensures
     ∙ ap (λ (n : ℕ). of_line ((range_of c.args.paragraph.now).start) ((range_of c.args.paragraph.now).start + n)) long in
     if_pushed c.push_str-3.result _ _ (codes "\n") _ c.push_str-3.ensures.bytes
