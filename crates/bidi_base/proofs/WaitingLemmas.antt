@@ -10,7 +10,7 @@ use Rattle.bidi_base.specs.declared.char_data.BidiClass.{BidiClass}
 use Rattle.bidi_base.specs.Places.{class_at, last_or}
 use Rattle.bidi_base.specs.Isolates.{is_initiator_at, is_pdi_at, matching_pdi}
 use Rattle.bidi_base.specs.Sequences.{is_kept_at, kept_places, next_kept, have_one_level, successor, is_first, sequences}
-use Rattle.bidi_base.proofs.ReadStack.{Member, IsReadStack, IsReadStack-start, IsReadStack-push, IsReadStack-pop, IsReadStack-stay}
+use Rattle.bidi_base.proofs.ReadStack.{Member, IsReadStack, IsReadStack-start, IsReadStack-more, IsReadStack-stay}
 use Rattle.bidi_base.proofs.OpenMatches.{IsReadStack-opens, IsReadStack-match, IsReadStack-no_match}
 use Rattle.bidi_base.proofs.IsolatesLemmas.{initiators_apart, pdis_apart, matching_pdi-is_pdi}
 use Rattle.bidi_base.proofs.PermutationLemmas.{count_of, count_of-cons, count_of-IsPermutation, Ascends, Ascends-push, Ascends-higher, Ascends-filter, Ascends-range}
@@ -156,11 +156,11 @@ module _ (classes : List BidiClass) (levels : List ℕ) where
 
   pub IsPass-initiator : (a m : ℕ) (out : List (List ℕ)) (stack : List ℕ) (waits : List (Option ℕ)) (w : Option ℕ) → IsPass a m out stack waits → is_initiator_at classes m ≡ true → IsWaiting out m w → IsPass a (m + 1) out (m ∷ stack) (w ∷ waits)
   IsPass-initiator a m out stack waits w h here wait =
-      record { begun = h.begun; shares = h.shares; in_order = h.in_order; isolates = IsReadStack-push (is_initiator_at classes) (is_pdi_at classes) m stack h.isolates here (initiators_apart classes m here); waiting = (wait, h.waiting) }
+      record { begun = h.begun; shares = h.shares; in_order = h.in_order; isolates = IsReadStack-more (is_initiator_at classes) (is_pdi_at classes) m true false stack here (initiators_apart classes m here) (λ e. refl) h.isolates; waiting = (wait, h.waiting) }
 
   pub IsPass-pdi : (a m i : ℕ) (out : List (List ℕ)) (stack : List ℕ) (w : Option ℕ) (waits : List (Option ℕ)) → IsPass a m out (i ∷ stack) (w ∷ waits) → is_pdi_at classes m ≡ true → IsPass a (m + 1) out stack waits
   IsPass-pdi a m i out stack w waits h here =
-      record { begun = h.begun; shares = h.shares; in_order = h.in_order; isolates = IsReadStack-pop (is_initiator_at classes) (is_pdi_at classes) m i stack h.isolates (pdis_apart classes m here) here; waiting = h.waiting.1 }
+      record { begun = h.begun; shares = h.shares; in_order = h.in_order; isolates = IsReadStack-more (is_initiator_at classes) (is_pdi_at classes) m false true (i ∷ stack) (pdis_apart classes m here) here (λ e. absurd (cc e)) h.isolates; waiting = h.waiting.1 }
 
   -- the kept characters from a on, which follow one another, begin a sequence
   pub IsPass-begin : (a n m p : ℕ) (ps : List ℕ) (out : List (List ℕ)) (stack : List ℕ) (waits : List (Option ℕ)) → IsPass a m out stack waits → filter (is_kept_at classes) (range_with_len a n) ≡ p ∷ ps → a + n ≤ length classes → AreSuccessors classes levels (p ∷ ps) → is_first classes levels p ≡ true
