@@ -4,8 +4,7 @@ use Rattle.std.specs.Prelude.{⊤}
 use Rattle.std.specs.List.{range_with_len, cons_option, AllByRecursion}
 use Rattle.std.specs.Option.{option_or}
 use Rattle.std.proofs.lemmas.Bool.{cases_Bool, cases_lt, cases_eq, and_right, lt-leb, cases_order, both_ways, and_parts, and_from, and_left, or_parts, cond-true, cond-false, not-true, le-leb}
-use Rattle.std.proofs.lemmas.List.{reverse-append}
-use Rattle.std.proofs.lemmas.List.Elements.{filter-append, All-from_recursion}
+use Rattle.std.proofs.lemmas.List.Elements.{All-from_recursion, filter_agree}
 use Rattle.std.proofs.lemmas.List.Folds.{find-append, list_any-append}
 use Rattle.std.proofs.lemmas.List.FromFn.{fill_by_all, length-map-range_with_len, get_or-map-range_with_len}
 use Rattle.std.proofs.lemmas.List.Sums.{fold_push}
@@ -15,6 +14,8 @@ use Rattle.bidi_base.specs.Places.{between, indexes, find_last}
 use Rattle.bidi_base.specs.Brackets.{max_open_brackets, counted_bracket, counted_brackets, bracket_at, is_opening, is_closing, is_same_bracket, is_taken, is_available, available, partner, with_closing, closed_pairs, bracket_limit, pairs_of, bracket_pairs, ArePairsWithin}
 use Rattle.bidi_base.proofs.PlacesLemmas.{range_with_len-more, IsLeast, find-between-is, find-between-is_None, find_last-range_with_len}
 use Rattle.bidi_base.proofs.BracketsLemmas.{AllClosedBefore, available-opening, available-pair, available-other}
+use Rattle.bidi_base.proofs.Lists.{find-filter, filter-reverse, filter_map-same, option_or-None}
+use Rattle.std.proofs.Math.Bool.{and-true, or-false}
 
 -- the pairs that are closed before j
 abbrev pub closed_before : List (Option BidiMatchedOpeningBracket) → ℕ → List (ℕ × ℕ)
@@ -46,33 +47,6 @@ AreClosedFrom-push : (k i j : ℕ) (pairs : List (ℕ × ℕ)) → AreClosedFrom
 AreClosedFrom-push k i j [] h l = (l, h)
 AreClosedFrom-push k i j (p ∷ pairs) h l = (h.0, AreClosedFrom-push k i j pairs h.1 l)
 
--- searches in a filtered list
-find-filter : (p q : ℕ → Bool) (xs : List ℕ) → find q (filter p xs) ≡ find (λ x. p x && q x) xs
-find-filter p q [] = refl
-find-filter p q (x ∷ xs) = by_test (p x) ∙ ap (λ (o : Option ℕ). cond (p x && q x) (Some x) o) (find-filter p q xs)
-  where
-    by_test : (b : Bool) → find q (cond b (x ∷ filter p xs) (filter p xs)) ≡ cond (b && q x) (Some x) (find q (filter p xs))
-    by_test true = refl
-    by_test false = refl
-
-filter-reverse : (p : ℕ → Bool) (xs : List ℕ) → reverse (filter p xs) ≡ filter p (reverse xs)
-filter-reverse p [] = refl
-filter-reverse p (x ∷ xs) =
-    by_test (p x) ∙ ap (λ (ys : List ℕ). ys ++ cond (p x) (x ∷ []) []) (filter-reverse p xs)
-    ∙ sym (filter-append p (reverse xs) (x ∷ [])) ∙ ap (filter p) (sym (reverse-append (x ∷ []) xs))
-  where
-    by_test : (b : Bool) → reverse (cond b (x ∷ filter p xs) (filter p xs)) ≡ reverse (filter p xs) ++ cond b (x ∷ []) []
-    by_test true = reverse-append (x ∷ []) (filter p xs)
-    by_test false = sym (append-nil (reverse (filter p xs)))
-
-filter-same : (p q : ℕ → Bool) (xs : List ℕ) → ((x : ℕ) → p x ≡ q x) → filter p xs ≡ filter q xs
-filter-same p q [] same = refl
-filter-same p q (x ∷ xs) same = ap (λ b. cond b (x ∷ filter p xs) (filter p xs)) (same x) ∙ ap (λ (ys : List ℕ). cond (q x) (x ∷ ys) ys) (filter-same p q xs same)
-
-filter_map-same : (f g : ℕ → Option (ℕ × ℕ)) (xs : List ℕ) → ((x : ℕ) → f x ≡ g x) → filter_map f xs ≡ filter_map g xs
-filter_map-same f g [] same = refl
-filter_map-same f g (x ∷ xs) same = ap (λ (o : Option (ℕ × ℕ)). cons_option o (filter_map f xs)) (same x) ∙ ap (cons_option (g x)) (filter_map-same f g xs same)
-
 filter_map-All : (Q : ℕ × ℕ → Type 0) (f : ℕ → Option (ℕ × ℕ)) → ((x : ℕ) (y : ℕ × ℕ) → f x ≡ Some y → Q y) → (xs : List ℕ) → AllByRecursion Q (filter_map f xs)
 filter_map-All Q f each [] = tt
 filter_map-All Q f each (x ∷ xs) = by_option (f x) refl (filter_map-All Q f each xs)
@@ -88,7 +62,7 @@ module _ (brackets : List (Option BidiMatchedOpeningBracket)) where
   partner-available pairs j =
       let p : ℕ → Bool = is_available brackets pairs j in
       let q : ℕ → Bool = λ i. is_same_bracket (bracket_at brackets i) (bracket_at brackets j) in
-      sym (find-filter p q (reverse (between 0 j))) ∙ ap (find q) (sym (filter-reverse p (between 0 j)))
+      sym (find-filter p q (reverse (between 0 j))) ∙ ap (find q) (filter-reverse p (between 0 j))
 
   -- one step of the pairs
   pub with_closing-none : (pairs : List (ℕ × ℕ)) (j : ℕ) → partner brackets pairs j ≡ None → with_closing brackets pairs j ≡ pairs
@@ -168,21 +142,17 @@ module _ (brackets : List (Option BidiMatchedOpeningBracket)) where
   -- at k it does not matter what is closed from there on
   is_taken-later : (pairs later : List (ℕ × ℕ)) (k i : ℕ) → AreClosedFrom k later → is_taken (pairs ++ later) k i ≡ is_taken pairs k i
   is_taken-later pairs later k i h =
-      list_any-append (λ p. ltb p.1 k && leb p.0 i && ltb i p.1) pairs later ∙ ap (λ b. is_taken pairs k i || b) (none later h) ∙ or_false (is_taken pairs k i)
+      list_any-append (λ p. ltb p.1 k && leb p.0 i && ltb i p.1) pairs later ∙ ap (λ b. is_taken pairs k i || b) (none later h) ∙ or-false (is_taken pairs k i)
     where
       none : (ps : List (ℕ × ℕ)) → AreClosedFrom k ps → is_taken ps k i ≡ false
       none [] g = refl
       none (p ∷ ps) g = ap (λ b. (b && leb p.0 i && ltb i p.1) || is_taken ps k i) (le-ltb p.1 k g.0) ∙ none ps g.1
 
-      or_false : (b : Bool) → (b || false) ≡ b
-      or_false true = refl
-      or_false false = refl
-
   available-later : (pairs later : List (ℕ × ℕ)) (k : ℕ) → AreClosedFrom k later → available brackets (pairs ++ later) k ≡ available brackets pairs k
   unfolding available
   available-later pairs later k h =
-      filter-same (is_available brackets (pairs ++ later) k) (is_available brackets pairs k) (between 0 k)
-      (λ i. ap (λ b. is_opening (bracket_at brackets i) && not b) (is_taken-later pairs later k i h))
+      filter_agree (is_available brackets (pairs ++ later) k) (is_available brackets pairs k)
+      (λ i. ap (λ b. is_opening (bracket_at brackets i) && not b) (is_taken-later pairs later k i h)) (between 0 k)
 
   available-at : (k n : ℕ) → available brackets (closed_before brackets (k + n)) k ≡ available brackets (closed_before brackets k) k
   available-at k n =
@@ -393,12 +363,8 @@ module _ (brackets : List (Option BidiMatchedOpeningBracket)) where
   find_below j i [] h = refl
   find_below j i (p ∷ pairs) h =
       ap (λ b. cond (eqb p.0 i && b) (Some p) (find (λ q. eqb q.0 i && ltb q.1 j) pairs)) (lt-ltb p.1 j h.0)
-      ∙ ap (λ b. cond b (Some p) (find (λ q. eqb q.0 i && ltb q.1 j) pairs)) (and_true (eqb p.0 i))
+      ∙ ap (λ b. cond b (Some p) (find (λ q. eqb q.0 i && ltb q.1 j) pairs)) (and-true (eqb p.0 i))
       ∙ ap (λ (o : Option (ℕ × ℕ)). cond (eqb p.0 i) (Some p) o) (find_below j i pairs h.1)
-    where
-      and_true : (b : Bool) → (b && true) ≡ b
-      and_true true = refl
-      and_true false = refl
 
   find_later : (j i : ℕ) (pairs : List (ℕ × ℕ)) → AreClosedFrom j pairs → find (λ p. eqb p.0 i && ltb p.1 j) pairs ≡ None
   find_later j i [] h = refl
@@ -415,12 +381,8 @@ module _ (brackets : List (Option BidiMatchedOpeningBracket)) where
       ∙ ap (find test) split.1
       ∙ find-append test (closed_before brackets j) split.0
       ∙ ap (option_or (find test (closed_before brackets j))) (find_later j i split.0 split.2)
-      ∙ or_none (find test (closed_before brackets j))
+      ∙ option_or-None (find test (closed_before brackets j))
       ∙ find_below j i (closed_before brackets j) (closed_before-closed j)
-    where
-      or_none : (o : Option (ℕ × ℕ)) → option_or o None ≡ o
-      or_none None = refl
-      or_none (Some p) = refl
 
   -- what the pass has found are the pairs
   pub pairs_of-found : (j : ℕ) (waiting : List ℕ) → IsUnderWay j waiting → j ≤ length brackets → HasEnded j waiting
@@ -469,13 +431,9 @@ closings-pair closings pairs n i j is fits free =
           ∙ ap (λ (cs : List (Option ℕ)). get_or cs k None) is
           ∙ get_or-map-range_with_len (closing_in pairs) 0 n k k None below (omega arith)
           ∙ sym (ap (option_map (λ (p : ℕ × ℕ). p.1))
-          (find-append (λ (p : ℕ × ℕ). eqb p.0 k) pairs ((i, j) ∷ []) ∙ ap (λ b. option_or (find (λ (p : ℕ × ℕ). eqb p.0 k) pairs) (cond b (Some (i, j)) None)) (ne_eqb i k (λ e. other (sym e))) ∙ or_none (find (λ (p : ℕ × ℕ). eqb p.0 k) pairs)))
+          (find-append (λ (p : ℕ × ℕ). eqb p.0 k) pairs ((i, j) ∷ []) ∙ ap (λ b. option_or (find (λ (p : ℕ × ℕ). eqb p.0 k) pairs) (cond b (Some (i, j)) None)) (ne_eqb i k (λ e. other (sym e))) ∙ option_or-None (find (λ (p : ℕ × ℕ). eqb p.0 k) pairs)))
     ])
   where
-    or_none : (o : Option (ℕ × ℕ)) → option_or o None ≡ o
-    or_none None = refl
-    or_none (Some p) = refl
-
     at_i : find (λ (p : ℕ × ℕ). eqb p.0 i) (pairs ++ (i, j) ∷ []) ≡ option_or None (cond (eqb i i) (Some (i, j)) None)
     at_i = find-append (λ (p : ℕ × ℕ). eqb p.0 i) pairs ((i, j) ∷ []) ∙ ap (λ (o : Option (ℕ × ℕ)). option_or o (cond (eqb i i) (Some (i, j)) None)) free
 

@@ -12,6 +12,7 @@ use Rattle.bidi_base.specs.Places.{class_at}
 use Rattle.bidi_base.specs.Reading.{innermost, outer, opened_by, decided_by, is_fsi}
 use Rattle.bidi_base.specs.Isolates.{deciding_class, resolved_fsi, stored_classes}
 use Rattle.bidi_base.proofs.IsolateWalk.{Kind, opening, closing, neither, kind_of, opens_one, depth_by, depth_after, depth_after-deeper, is_zero, ends_by, has_end, has_end-append, deciding_from, deciding_class-from, resolving_from, stored_by, stored_from, stored_classes-from, strong_kind}
+use Rattle.bidi_base.proofs.Lists.{option_or-None}
 
 -- the indexes of the initiators of the isolates that some characters leave open, outermost first
 abbrev pub onto_later : Bool → List ℕ → List ℕ
@@ -216,13 +217,9 @@ resolved-strong R e = refl
 resolved-strong AL e = refl
 resolved-strong _ e = absurd (cc e)
 
-or_none : (o : Option BidiClass) → option_or o None ≡ o
-or_none None = refl
-or_none (Some s) = refl
-
 -- what stands first is stored as before, where the new character says nothing of it
 first_stays : (x c : BidiClass) (xs : List BidiClass) → found_by c xs ≡ None → stored_by x (resolving_from 0 (xs ++ c ∷ [])) ≡ stored_by x (resolving_from 0 xs)
-first_stays x c xs none = ap (stored_by x) (resolving-push xs c ∙ ap (option_or (resolving_from 0 xs)) none ∙ or_none (resolving_from 0 xs))
+first_stays x c xs none = ap (stored_by x) (resolving-push xs c ∙ ap (option_or (resolving_from 0 xs)) none ∙ option_or-None (resolving_from 0 xs))
 
 stored_alone : (c : BidiClass) → stored_by c None ≡ c
 stored_alone FSI = refl

@@ -1,5 +1,5 @@
 -- What a table of ranges and one of brackets answer, by indexes, and when a table has a fault.
-use Rattle.std.proofs.Common.{◌≡◌, ℕ, zero, suc, ◌+◌, ◌-◌, ◌<◌, ◌≤◌, Bool, true, false, ◌&&◌, min, nat_le, nat_lt, if◌then◌else◌, List, [], ◌∷◌, ◌++◌, length, get_or, take, drop, replicate, find, Option, Some, None, is_some, option_map, option_and_then, unwrap_or, refl, sym, ap, subst, ◌∙◌, arith, cond, inl, inr}
+use Rattle.std.proofs.Common.{◌≡◌, ℕ, zero, suc, ◌+◌, ◌-◌, ◌<◌, ◌≤◌, Bool, true, false, ◌&&◌, min, nat_le, nat_lt, if◌then◌else◌, List, [], ◌++◌, length, get_or, take, drop, replicate, find, Option, Some, None, is_some, option_map, option_and_then, unwrap_or, refl, sym, ap, subst, ◌∙◌, arith, cond, inl, inr}
 use Rattle.std.specs.List.{range_with_len}
 use Rattle.std.proofs.lemmas.Bool.{cases_lt, both_ways, cond-true, cond-false}
 use Rattle.std.proofs.lemmas.List.{at_drop_more, get_or-append_right, get_or_append_left, get_or-replicate, get_or-take, get_or-drop, length-replicate, length-drop, length-take-le}
@@ -12,20 +12,7 @@ use Rattle.bidi_base.specs.declared.data_source.TableError.TheVariants.{Reversed
 use Rattle.bidi_base.specs.Places.{between, indexes}
 use Rattle.bidi_base.specs.Source.{in_range, table_class, is_member, bracket_in, table_bracket, range_at, fault_at, table_fault}
 use Rattle.bidi_base.proofs.PlacesLemmas.{IsLeast, find-between, find-between-is, find-between-is_None, find-between-None}
-
--- a search over a list finds the first element that passes, and nothing where none does
-pub find-first : {X : Type 0} (test : X → Bool) (xs : List X) (i : ℕ) (d : X) → i < length xs → test (get_or xs i d) ≡ true → ((k : ℕ) → k < i → test (get_or xs k d) ≡ false) → find test xs ≡ Some (get_or xs i d)
-find-first test [] i d below passes before = absurd (omega arith)
-find-first test (x ∷ xs) zero d below passes before = cond-true (test x) (Some x) (find test xs) passes
-find-first test (x ∷ xs) (suc i) d below passes before =
-    cond-false (test x) (Some x) (find test xs) (before 0 (omega arith))
-    ∙ find-first test xs i d (omega arith) passes (λ k h. before (suc k) (omega arith))
-
-pub find-none : {X : Type 0} (test : X → Bool) (xs : List X) (d : X) → ((k : ℕ) → k < length xs → test (get_or xs k d) ≡ false) → find test xs ≡ None
-find-none test [] d none = refl
-find-none test (x ∷ xs) d none =
-    cond-false (test x) (Some x) (find test xs) (none 0 (omega arith))
-    ∙ find-none test xs d (λ k h. none (suc k) (omega arith))
+use Rattle.bidi_base.proofs.Lists.{find-first, find-none}
 
 -- the class where a range holds the character and none before it does, and where none does
 pub table_class-at : (ranges : List (ℕ × ℕ × BidiClass)) (c i : ℕ) → i < length ranges → in_range c (range_at ranges i) ≡ true → ((k : ℕ) → k < i → in_range c (range_at ranges k) ≡ false) → table_class ranges c ≡ (range_at ranges i).2

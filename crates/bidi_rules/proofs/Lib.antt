@@ -1,10 +1,11 @@
 pub mod BracketSearch
 pub mod ExplicitUnits
-pub mod FirstRead
+pub mod FirstKept
 pub mod FoundBrackets
 pub mod Gathered
 pub mod InRuns
 pub mod KeptRangeLemmas
+pub mod KeptRuns
 pub mod LevelRunLemmas
 pub mod Marks
 pub mod NeutralScan
@@ -14,7 +15,6 @@ pub mod OneDirection
 pub mod PairWalkLemmas
 pub mod PassOverText
 pub mod PutAt
-pub mod ReadRuns
 pub mod RunCutting
 pub mod RunJoined
 pub mod RunJoining

@@ -1,7 +1,8 @@
 use Rattle.std.proofs.Common.{◌≡◌, ℕ, ◌+◌, ◌-◌, ◌<◌, ◌≤◌, List, length, slice_index, slice_range, arith, inl, inr, ap, ◌∙◌}
 use Rattle.std.proofs.lemmas.Bool.{cases_lt}
-use Rattle.bidi_base.proofs.OrderLemmas.{get_or-slice_range, length-slice_range}
+use Rattle.bidi_base.proofs.OrderLemmas.{get_or-slice_range}
 use Rattle.unicode_bidi.proofs.visual.least_above.Goals as goal
+use Rattle.bidi_base.proofs.Lists.{length-slice_range}
 
 -- the levels of a part
 part_at : (levels : List ℕ) (from end p : ℕ) → from ≤ p → p < end → slice_index (slice_range levels from end) (p - from) ≡ slice_index levels p
