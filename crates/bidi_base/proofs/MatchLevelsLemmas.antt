@@ -1,5 +1,5 @@
 -- A matching PDI stands inside the same isolates and embeddings as its initiator, and so has its explicit level.
-use Rattle.std.proofs.Common.{◌≡◌, ℕ, zero, suc, ◌+◌, ◌-◌, ◌<◌, ◌≤◌, Bool, true, false, not, ◌&&◌, ◌||◌, cond, ltb, eqb, List, [], ◌∷◌, reverse, length, get_or, map, append-nil, Option, Some, None, refl, sym, ap, subst, ◌∙◌, arith, inl, inr, eqb-true, ltb-true, lt-ltb}
+use Rattle.std.proofs.Common.{◌≡◌, ℕ, zero, suc, ◌+◌, ◌-◌, ◌<◌, ◌≤◌, Bool, true, false, not, ◌&&◌, ◌||◌, cond, ltb, eqb, List, [], ◌∷◌, reverse, length, get_or, map, append-nil, Option, Some, None, refl, sym, ap, subst, ◌∙◌, arith, ◌⊎◌, inl, inr, eqb-true, ltb-true, lt-ltb}
 use Rattle.std.proofs.lemmas.Bool.{cases_Bool, cases_eq, cases_lt, both_ways, cond-true, cond-false, false_from_ne_true, and_parts, and_left, and_right, or_from, or_cases, not-true}
 use Rattle.std.proofs.lemmas.List.Sums.{sum_by-cons}
 use Rattle.bidi_base.specs.declared.char_data.BidiClass.{BidiClass}
@@ -13,30 +13,32 @@ use Rattle.bidi_base.specs.Sequences.{RunSequence, level_at, successor, sequence
 use Rattle.bidi_base.proofs.IsolatesLemmas.{initiators_apart, matching_pdi-IsLeast, matching_pdi-is_pdi}
 use Rattle.bidi_base.proofs.ExplicitLemmas.{level_at-explicit_levels}
 use Rattle.bidi_base.proofs.ChainLemmas.{chain-None}
-use Rattle.bidi_base.proofs.OpenMatches.{IsReadStack-opens, IsReadStack-match, IsReadStack-no_match}
+use Rattle.bidi_base.proofs.OpenMatches.{IsReadStack-match, IsReadStack-no_match}
 use Rattle.bidi_base.proofs.SuccessorLemmas.{SameLevelAtMatch, successor-level, matching_pdi-injective}
-use Rattle.bidi_base.proofs.OpenersStack.{below_isolate, openers_read, left_at, closed_by-pdi, initiators, initiators-openers_read, below_isolate-first, openers_read-IsPushed, open_at-closed_by}
-use Rattle.bidi_base.proofs.ReadStack.{IsReadStack, read_stack-IsReadStack}
+use Rattle.bidi_base.proofs.OpenersStack.{below_isolate, openers_read, left_at, closed_by-pdi, openers_read-IsPushed, IsFlat, HasInnermost, innermost, initiators-IsReadStack, open_at-closed_by}
+use Rattle.bidi_base.proofs.ReadStack.{IsReadStack}
 use Rattle.bidi_base.proofs.SequencePlaces.{times_in, sequence-begun, sequence-kept}
 
 -- a matching PDI leaves open what its initiator left open
 left_at-match : (classes : List BidiClass) (p q : ℕ) → is_initiator_at classes p ≡ true → matching_pdi classes p ≡ Some q → left_at classes q ≡ left_at classes p
 unfolding matching_pdi
-left_at-match classes p q opening matches = closed_by-pdi classes q (openers_read classes q) (matching_pdi-is_pdi classes p q matches) ∙ by_stack (initiators classes (openers_read classes q)) refl isolates
+left_at-match classes p q opening matches =
+    closed_by-pdi classes q (openers_read classes q) pdi ∙ by_innermost (innermost classes q (openers_read classes q) (openers_read-IsPushed classes q))
   where
-    isolates : IsReadStack (is_initiator_at classes) (is_pdi_at classes) q (initiators classes (openers_read classes q))
-    isolates = subst (IsReadStack (is_initiator_at classes) (is_pdi_at classes) q) (sym (initiators-openers_read classes q)) (read_stack-IsReadStack (is_initiator_at classes) (is_pdi_at classes) (initiators_apart classes) q)
+    stack : List ℕ
+    stack = openers_read classes q
 
-    by_stack : (xs : List ℕ) → initiators classes (openers_read classes q) ≡ xs → IsReadStack (is_initiator_at classes) (is_pdi_at classes) q (initiators classes (openers_read classes q))
-        → below_isolate classes (openers_read classes q) (openers_read classes q) ≡ left_at classes p
-    by_stack [] e h = absurd (IsReadStack-no_match (is_initiator_at classes) (is_pdi_at classes) (initiators_apart classes) (length classes) q p (subst (IsReadStack (is_initiator_at classes) (is_pdi_at classes) q) e h) opening matches)
-    by_stack (x ∷ rest) e h =
-        let top : IsReadStack (is_initiator_at classes) (is_pdi_at classes) q (x ∷ rest) = subst (IsReadStack (is_initiator_at classes) (is_pdi_at classes) q) e h in
-        let opens : is_initiator_at classes x ≡ true = IsReadStack-opens (is_initiator_at classes) (is_pdi_at classes) (initiators_apart classes) q x rest top in
-        let closes : matching_pdi classes x ≡ Some q = IsReadStack-match (is_initiator_at classes) (is_pdi_at classes) (initiators_apart classes) (length classes) q x rest top
-        (matching_pdi-is_pdi classes p q matches) (matching_pdi-IsLeast classes p q matches).below in
-        (below_isolate-first classes q x (openers_read classes q) (openers_read classes q) rest (openers_read-IsPushed classes q) e).0
-        ∙ ap (left_at classes) (matching_pdi-injective classes x p q opens opening closes matches)
+    pdi : is_pdi_at classes q ≡ true
+    pdi = matching_pdi-is_pdi classes p q matches
+
+    by_innermost : IsFlat classes (openers_read classes q) ⊎ ((x : ℕ) × HasInnermost classes (openers_read classes q) x) → below_isolate classes (openers_read classes q) (openers_read classes q) ≡ left_at classes p
+    by_innermost (inl flat) =
+        let none : IsReadStack (is_initiator_at classes) (is_pdi_at classes) q [] = subst (IsReadStack (is_initiator_at classes) (is_pdi_at classes) q) flat.isolates (initiators-IsReadStack classes q) in
+        absurd (IsReadStack-no_match (is_initiator_at classes) (is_pdi_at classes) (initiators_apart classes) (length classes) q p none opening matches)
+    by_innermost (inr (x, i)) =
+        let top = subst (IsReadStack (is_initiator_at classes) (is_pdi_at classes) q) i.isolates (initiators-IsReadStack classes q) in
+        let closes : matching_pdi classes x ≡ Some q = IsReadStack-match (is_initiator_at classes) (is_pdi_at classes) (initiators_apart classes) (length classes) q x _ top pdi (matching_pdi-IsLeast classes p q matches).below in
+        i.drops (openers_read classes q) ∙ ap (left_at classes) (matching_pdi-injective classes x p q i.opens opening closes matches)
 
 -- so the same openers are open at both
 open_at-match : (classes : List BidiClass) (p q : ℕ) → is_initiator_at classes p ≡ true → matching_pdi classes p ≡ Some q → open_at classes q ≡ open_at classes p
