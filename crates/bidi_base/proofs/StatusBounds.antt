@@ -1,6 +1,6 @@
 -- The status stack holds at most 126 entries, and each count is at most the number of characters read; how a vector holds the stack.
 use Rattle.std.proofs.Common.{◌≡◌, ℕ, suc, ◌+◌, ◌<◌, ◌≤◌, cond, List, [], ◌∷◌, ◌++◌, length, reverse, refl, sym, ap, subst, ◌∙◌, arith, inl, inr}
-use Rattle.std.proofs.lemmas.Bool.{cases_Bool, cases_eq, cond-true, cond-false}
+use Rattle.std.proofs.lemmas.Bool.{cond_both}
 use Rattle.std.proofs.lemmas.List.{reverse-append, length-reverse}
 use Rattle.bidi_base.specs.declared.char_data.BidiClass.{BidiClass}
 use Rattle.bidi_base.specs.Classes.{is_initiator}
@@ -9,7 +9,7 @@ use Rattle.bidi_base.specs.Explicit.{asked_level}
 use Rattle.bidi_base.proofs.ExplicitLemmas.{asked_level-above}
 use Rattle.bidi_base.proofs.OpenersStack.{closed_by, openers_read, left_at, IsPushed, left_at-IsPushed}
 use Rattle.bidi_base.specs.StatusMachine.{Entry, State, entry_of, taken, refused, entered, drop_isolate, closed, step, state_at, AreBelow, IsWithinDepth, counted, IsPoppable}
-use Rattle.bidi_base.proofs.StatusMachine.{state_of, entered-cases, refused-initiator, refused-embedding, refused-inside, HasOverflowed, refused-HasOverflowed, IsInsideOf, overflowed, inside, SplitState, split_state, closed-state_of, state_at-state_of}
+use Rattle.bidi_base.proofs.StatusMachine.{state_of, EnteredAs, as_taken, as_isolate, as_embedding, as_unseen, entered_as, IsInsideOf, overflowed, inside, SplitState, split_state, closed-state_of, state_at-state_of}
 
 length_below : (paragraph level : ℕ) (es : List Entry) → paragraph ≤ level → AreBelow paragraph level es → length es + paragraph ≤ level
 length_below paragraph level [] order h = omega arith
@@ -24,25 +24,18 @@ IsTaken-room paragraph c s h fits =
     let n : length (s.top ∷ s.below) ≡ suc (length s.below) = refl in
     omega arith
 
-pub entered-IsWithinDepth : (paragraph : ℕ) (c : BidiClass) (s : State) → IsWithinDepth paragraph s → IsWithinDepth paragraph (entered c s)
-entered-IsWithinDepth paragraph c s h = elim (entered-cases c s) [
-  | inl t ↦
-      let more : s.top.status.level < asked_level c s.top.status.level = asked_level-above c s.top.status.level in
-      subst (IsWithinDepth paragraph) (sym t.is) (record { from = omega (arith, h.from); top = t.asked; below = (h.from, more, h.below) })
-  | inr r ↦ subst (IsWithinDepth paragraph) (sym r.is) (stays (refused-HasOverflowed c s))
-]
-  where
-    stays : HasOverflowed s (refused c s) → IsWithinDepth paragraph (refused c s)
-    stays o = record {
-      from = subst (λ (e : Entry). paragraph ≤ e.status.level) (sym o.0) h.from;
-      top = subst (λ (e : Entry). e.status.level ≤ 125) (sym o.0) h.top;
-      below = subst (λ (e : Entry). AreBelow paragraph e.status.level (refused c s).below) (sym o.0) (subst (AreBelow paragraph s.top.status.level) (sym o.1) h.below);
-    }
+entered-IsWithinDepth : (paragraph : ℕ) (c : BidiClass) (s t : State) → EnteredAs c s t → IsWithinDepth paragraph s → IsWithinDepth paragraph t
+entered-IsWithinDepth paragraph c s t (as_taken fits k) h =
+    let more : s.top.status.level < asked_level c s.top.status.level = asked_level-above c s.top.status.level in
+    record { from = omega (arith, h.from); top = k.asked; below = (h.from, more, h.below) }
+entered-IsWithinDepth paragraph c s t (as_isolate high isolate) h = record { from = h.from; top = h.top; below = h.below }
+entered-IsWithinDepth paragraph c s t (as_embedding high other none) h = record { from = h.from; top = h.top; below = h.below }
+entered-IsWithinDepth paragraph c s t (as_unseen high other some) h = h
 
 pub state_of-IsWithinDepth : (paragraph : ℕ) (classes : List BidiClass) (stack : List ℕ) → paragraph ≤ 125 → IsWithinDepth paragraph (state_of paragraph classes stack)
 unfolding state_of
 state_of-IsWithinDepth paragraph classes [] fits = record { from = omega arith; top = fits; below = tt }
-state_of-IsWithinDepth paragraph classes (q ∷ stack) fits = entered-IsWithinDepth paragraph (class_at classes q) (state_of paragraph classes stack) (state_of-IsWithinDepth paragraph classes stack fits)
+state_of-IsWithinDepth paragraph classes (q ∷ stack) fits = entered-IsWithinDepth paragraph (class_at classes q) (state_of paragraph classes stack) _ (entered_as (class_at classes q) (state_of paragraph classes stack)) (state_of-IsWithinDepth paragraph classes stack fits)
 
 closed_state : (paragraph : ℕ) (classes : List BidiClass) (p : ℕ) → closed (class_at classes p) (state_at paragraph classes p) ≡ state_of paragraph classes (closed_by classes p (openers_read classes p))
 closed_state paragraph classes p = ap (closed (class_at classes p)) (state_at-state_of paragraph classes p) ∙ closed-state_of paragraph classes p (openers_read classes p)
@@ -50,26 +43,17 @@ closed_state paragraph classes p = ap (closed (class_at classes p)) (state_at-st
 pub closed-IsWithinDepth : (paragraph : ℕ) (classes : List BidiClass) (p : ℕ) → paragraph ≤ 125 → IsWithinDepth paragraph (closed (class_at classes p) (state_at paragraph classes p))
 closed-IsWithinDepth paragraph classes p fits = subst (IsWithinDepth paragraph) (sym (closed_state paragraph classes p)) (state_of-IsWithinDepth paragraph classes (closed_by classes p (openers_read classes p)) fits)
 
-entered_counted : (c : BidiClass) (s : State) → counted (entered c s) ≤ counted s + 1
-entered_counted c s = elim (entered-cases c s) [
-  | inl t ↦ subst (λ (x : State). counted x ≤ counted s + 1) (sym t.is) (elim (cases_Bool (is_initiator c)) [
-    | inl e ↦ let one : cond {A = ℕ} (is_initiator c) 1 0 ≡ 1 = cond-true (is_initiator c) 1 0 e in omega arith
-    | inr e ↦ let one : cond {A = ℕ} (is_initiator c) 1 0 ≡ 0 = cond-false (is_initiator c) 1 0 e in omega arith
-  ])
-  | inr r ↦ subst (λ (x : State). counted x ≤ counted s + 1) (sym r.is) (elim (cases_Bool (is_initiator c)) [
-    | inl e ↦ subst (λ (x : State). counted x ≤ counted s + 1) (sym (refused-initiator c s e)) (omega arith)
-    | inr e ↦ elim (cases_eq s.overflow_isolates 0) [
-      | inl none ↦ subst (λ (x : State). counted x ≤ counted s + 1) (sym (refused-embedding c s e none)) (omega arith)
-      | inr some ↦ subst (λ (x : State). counted x ≤ counted s + 1) (sym (refused-inside c s e (omega arith))) (omega arith)
-    ]
-  ])
-]
+entered_counted : (c : BidiClass) (s t : State) → EnteredAs c s t → counted t ≤ counted s + 1
+entered_counted c s t (as_taken fits k) = cond_both (is_initiator c) 1 0 (λ n. s.overflow_isolates + s.overflow_embeddings + (s.valid_isolates + n) ≤ counted s + 1) (λ e. omega arith) (λ e. omega arith)
+entered_counted c s t (as_isolate high isolate) = omega arith
+entered_counted c s t (as_embedding high other none) = omega arith
+entered_counted c s t (as_unseen high other some) = omega arith
 
 state_of_counted : (paragraph : ℕ) (classes : List BidiClass) (stack : List ℕ) → counted (state_of paragraph classes stack) ≤ length stack
 unfolding state_of
 state_of_counted paragraph classes [] = omega arith
 state_of_counted paragraph classes (q ∷ stack) =
-    let more : counted (entered (class_at classes q) (state_of paragraph classes stack)) ≤ counted (state_of paragraph classes stack) + 1 = entered_counted (class_at classes q) (state_of paragraph classes stack) in
+    let more : counted (entered (class_at classes q) (state_of paragraph classes stack)) ≤ counted (state_of paragraph classes stack) + 1 = entered_counted (class_at classes q) (state_of paragraph classes stack) _ (entered_as (class_at classes q) (state_of paragraph classes stack)) in
     let rest : counted (state_of paragraph classes stack) ≤ length stack = state_of_counted paragraph classes stack in
     omega arith
 
