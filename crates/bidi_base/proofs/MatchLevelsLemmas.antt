@@ -13,10 +13,9 @@ use Rattle.bidi_base.specs.Sequences.{RunSequence, level_at, successor, sequence
 use Rattle.bidi_base.proofs.IsolatesLemmas.{initiators_apart, matching_pdi-IsLeast, matching_pdi-is_pdi}
 use Rattle.bidi_base.proofs.ExplicitLemmas.{level_at-explicit_levels}
 use Rattle.bidi_base.proofs.ChainLemmas.{chain-None}
-use Rattle.bidi_base.proofs.OpenMatches.{IsReadStack-match, IsReadStack-no_match}
-use Rattle.bidi_base.proofs.SuccessorLemmas.{SameLevelAtMatch, successor-level, matching_pdi-injective}
-use Rattle.bidi_base.proofs.OpenersStack.{below_isolate, openers_read, left_at, closed_by-pdi, openers_read-IsPushed, IsFlat, HasInnermost, innermost, initiators-IsReadStack, open_at-closed_by}
-use Rattle.bidi_base.proofs.ReadStack.{IsReadStack}
+use Rattle.bidi_base.proofs.OpenMatches.{IsReadStack-matched}
+use Rattle.bidi_base.proofs.SuccessorLemmas.{SameLevelAtMatch, successor-level}
+use Rattle.bidi_base.proofs.OpenersStack.{below_isolate, openers_read, left_at, closed_by-pdi, initiators, openers_read-IsPushed, IsFlat, HasInnermost, innermost, initiators-IsReadStack, open_at-closed_by}
 use Rattle.bidi_base.proofs.SequencePlaces.{times_in, sequence-begun, sequence-kept}
 
 -- a matching PDI leaves open what its initiator left open
@@ -25,20 +24,19 @@ unfolding matching_pdi
 left_at-match classes p q opening matches =
     closed_by-pdi classes q (openers_read classes q) pdi ∙ by_innermost (innermost classes q (openers_read classes q) (openers_read-IsPushed classes q))
   where
-    stack : List ℕ
-    stack = openers_read classes q
-
     pdi : is_pdi_at classes q ≡ true
     pdi = matching_pdi-is_pdi classes p q matches
 
-    by_innermost : IsFlat classes (openers_read classes q) ⊎ ((x : ℕ) × HasInnermost classes (openers_read classes q) x) → below_isolate classes (openers_read classes q) (openers_read classes q) ≡ left_at classes p
-    by_innermost (inl flat) =
-        let none : IsReadStack (is_initiator_at classes) (is_pdi_at classes) q [] = subst (IsReadStack (is_initiator_at classes) (is_pdi_at classes) q) flat.isolates (initiators-IsReadStack classes q) in
-        absurd (IsReadStack-no_match (is_initiator_at classes) (is_pdi_at classes) (initiators_apart classes) (length classes) q p none opening matches)
+    top : (rest : List ℕ) × (initiators classes (openers_read classes q) ≡ p ∷ rest)
+    top = IsReadStack-matched (is_initiator_at classes) (is_pdi_at classes) (initiators_apart classes) (length classes) q p _ (initiators-IsReadStack classes q) opening matches
+
+    by_innermost : IsFlat classes (openers_read classes q) ⊎ ((x : ℕ) × HasInnermost classes (openers_read classes q) x)
+        → below_isolate classes (openers_read classes q) (openers_read classes q) ≡ left_at classes p
+    by_innermost (inl flat) = absurd (cc (sym flat.isolates ∙ top.1))
     by_innermost (inr (x, i)) =
-        let top = subst (IsReadStack (is_initiator_at classes) (is_pdi_at classes) q) i.isolates (initiators-IsReadStack classes q) in
-        let closes : matching_pdi classes x ≡ Some q = IsReadStack-match (is_initiator_at classes) (is_pdi_at classes) (initiators_apart classes) (length classes) q x _ top pdi (matching_pdi-IsLeast classes p q matches).below in
-        i.drops (openers_read classes q) ∙ ap (left_at classes) (matching_pdi-injective classes x p q i.opens opening closes matches)
+        let both : x ∷ initiators classes (left_at classes x) ≡ p ∷ top.0 = sym i.isolates ∙ top.1 in
+        let same : x ≡ p = cc both in
+        i.drops (openers_read classes q) ∙ ap (left_at classes) same
 
 -- so the same openers are open at both
 open_at-match : (classes : List BidiClass) (p q : ℕ) → is_initiator_at classes p ≡ true → matching_pdi classes p ≡ Some q → open_at classes q ≡ open_at classes p
