@@ -15,14 +15,13 @@ use Rattle.bidi_base.proofs.ExplicitLemmas.{level_at-explicit_levels}
 use Rattle.bidi_base.proofs.ChainLemmas.{chain-None}
 use Rattle.bidi_base.proofs.OpenMatches.{IsReadStack-matched}
 use Rattle.bidi_base.proofs.SuccessorLemmas.{SameLevelAtMatch, successor-level}
-use Rattle.bidi_base.proofs.OpenersStack.{below_isolate, openers_read, left_at, closed_by-pdi, initiators, openers_read-IsPushed, IsFlat, HasInnermost, innermost, initiators-IsReadStack, open_at-closed_by}
+use Rattle.bidi_base.proofs.OpenersStack.{openers_read, left_at, initiators, HasInnermost, Leaves, closes_isolate, closes_embedding, closes_nothing, leaves_at, pdf_apart, initiators-IsReadStack, open_at-closed_by}
 use Rattle.bidi_base.proofs.SequencePlaces.{times_in, sequence-begun, sequence-kept}
 
 -- a matching PDI leaves open what its initiator left open
 left_at-match : (classes : List BidiClass) (p q : ℕ) → is_initiator_at classes p ≡ true → matching_pdi classes p ≡ Some q → left_at classes q ≡ left_at classes p
 unfolding matching_pdi
-left_at-match classes p q opening matches =
-    closed_by-pdi classes q (openers_read classes q) pdi ∙ by_innermost (innermost classes q (openers_read classes q) (openers_read-IsPushed classes q))
+left_at-match classes p q opening matches = by_leaves (openers_read classes q) (left_at classes q) (leaves_at classes q) top.1
   where
     pdi : is_pdi_at classes q ≡ true
     pdi = matching_pdi-is_pdi classes p q matches
@@ -30,13 +29,13 @@ left_at-match classes p q opening matches =
     top : (rest : List ℕ) × (initiators classes (openers_read classes q) ≡ p ∷ rest)
     top = IsReadStack-matched (is_initiator_at classes) (is_pdi_at classes) (initiators_apart classes) (length classes) q p _ (initiators-IsReadStack classes q) opening matches
 
-    by_innermost : IsFlat classes (openers_read classes q) ⊎ ((x : ℕ) × HasInnermost classes (openers_read classes q) x)
-        → below_isolate classes (openers_read classes q) (openers_read classes q) ≡ left_at classes p
-    by_innermost (inl flat) = absurd (cc (sym flat.isolates ∙ top.1))
-    by_innermost (inr (x, i)) =
-        let both : x ∷ initiators classes (left_at classes x) ≡ p ∷ top.0 = sym i.isolates ∙ top.1 in
+    by_leaves : (stack left : List ℕ) → Leaves classes q stack left → initiators classes stack ≡ p ∷ top.0 → left ≡ left_at classes p
+    by_leaves stack left (closes_isolate _ x closing i) e =
+        let both : x ∷ initiators classes (left_at classes x) ≡ p ∷ top.0 = sym i.isolates ∙ e in
         let same : x ≡ p = cc both in
-        i.drops (openers_read classes q) ∙ ap (left_at classes) same
+        ap (left_at classes) same
+    by_leaves stack left (closes_embedding r below pdf other) e = absurd (pdf_apart _ pdf pdi)
+    by_leaves stack left (closes_nothing _ flat on_top) e = absurd (cc (sym (flat pdi) ∙ e))
 
 -- so the same openers are open at both
 open_at-match : (classes : List BidiClass) (p q : ℕ) → is_initiator_at classes p ≡ true → matching_pdi classes p ≡ Some q → open_at classes q ≡ open_at classes p
