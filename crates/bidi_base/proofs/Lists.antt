@@ -1,13 +1,14 @@
 -- Facts on lists and searches that several files use.
-use Rattle.std.proofs.Common.{◌≡◌, ℕ, zero, suc, ◌-◌, ◌<◌, ◌≤◌, Bool, true, false, cond, ◌&&◌, List, [], ◌∷◌, ◌++◌, length, map, get_or, take, drop, reverse, filter, filter_map, find, Option, Some, None, option_map, refl, sym, ap, ◌∙◌, arith, ◌⊎◌, inl, inr, append-nil, le_refl, length-append, length-drop}
-use Rattle.std.specs.Prelude.{slice_range}
+use Rattle.std.proofs.Common.{◌≡◌, ℕ, zero, suc, ◌+◌, ◌-◌, ◌<◌, ◌≤◌, Bool, true, false, cond, ◌&&◌, List, [], ◌∷◌, ◌++◌, length, map, get_or, take, drop, reverse, filter, filter_map, find, Option, Some, None, option_map, refl, sym, ap, ◌∙◌, arith, ◌⊎◌, inl, inr, append-nil, le_refl, length-append, length-drop}
+use Rattle.std.specs.Prelude.{replicate, slice_range}
 use Rattle.std.specs.List.{list_all}
 use Rattle.std.specs.Option.{option_or}
 use Rattle.std.proofs.lemmas.Bool.{cases_Bool, and_parts, and_from}
-use Rattle.std.proofs.lemmas.List.{reverse-append, reverse-reverse, take-append-le, take_all, length-take-le}
+use Rattle.std.proofs.lemmas.List.{reverse-append, reverse-reverse, take-append-le, take_all, length-take-le, get_or-append_right, get_or_append_left, get_or-replicate, get_or-take, get_or-drop, length-replicate}
 use Rattle.std.proofs.lemmas.List.Elements.{filter-append}
 use Rattle.bidi_base.specs.Places.{last_or}
 use mathlib.Core.List.{reverse_aux}
+use borrow.Rule.Slice.PartMut.{put_mid, post_of}
 
 -- the two cases of an option, with what it is
 pub cases_Option : {X : Type 0} (o : Option X) → (o ≡ None) ⊎ ((x : X) × (o ≡ Some x))
@@ -125,3 +126,30 @@ filter_map-same f g xs same = λ i. filter_map (λ x. same x i) xs
 
 pub length-slice_range : {X : Type 0} (xs : List X) (a b : ℕ) → b ≤ length xs → length (slice_range xs a b) ≡ b - a
 length-slice_range xs a b within = length-take-le (b - a) (drop a xs) (omega (arith, length-drop a xs))
+
+-- ---- a list of which a part is written over by one value
+
+module _ {X : Type 0} (start count : ℕ) (xs : List X) (x d : X) (n : ℕ) where
+  pub put_mid-inside : start + count ≤ length xs → start ≤ n → n < start + count → get_or (put_mid start count xs (replicate count x)) n d ≡ x
+  put_mid-inside fits from to =
+      get_or-append_right (take start xs) (replicate count x ++ post_of start count xs) start n d (length-take-le start xs (omega arith)) from
+      ∙ get_or_append_left (replicate count x) (post_of start count xs) d (n - start) (omega (arith, length-replicate count x))
+      ∙ get_or-replicate count (n - start) x d (omega arith)
+
+  pub put_mid-before : start ≤ length xs → n < start → get_or (put_mid start count xs (replicate count x)) n d ≡ get_or xs n d
+  put_mid-before fits before =
+      get_or_append_left (take start xs) (replicate count x ++ post_of start count xs) d n (omega (arith, length-take-le start xs fits))
+      ∙ get_or-take start xs n d before
+
+  pub put_mid-after : start + count ≤ length xs → start + count ≤ n → get_or (put_mid start count xs (replicate count x)) n d ≡ get_or xs n d
+  put_mid-after fits after =
+      get_or-append_right (take start xs) (replicate count x ++ post_of start count xs) start n d (length-take-le start xs (omega arith)) (omega arith)
+      ∙ get_or-append_right (replicate count x) (post_of start count xs) count (n - start) d (length-replicate count x) (omega arith)
+      ∙ get_or-drop count (drop start xs) (n - start - count) d
+      ∙ get_or-drop start xs (count + (n - start - count)) d
+      ∙ ap (λ (k : ℕ). get_or xs k d) (let same : start + (count + (n - start - count)) ≡ n = omega arith in same)
+
+pub length-put_mid : {X : Type 0} (start count : ℕ) (xs : List X) (x : X) → start + count ≤ length xs → length (put_mid start count xs (replicate count x)) ≡ length xs
+length-put_mid start count xs x fits =
+    length-append (take start xs) (replicate count x ++ post_of start count xs)
+    ∙ omega (arith, length-append (replicate count x) (post_of start count xs), length-replicate count x, length-take-le start xs (omega arith), length-drop start xs, length-drop count (drop start xs))
