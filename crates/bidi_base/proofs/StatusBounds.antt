@@ -76,8 +76,8 @@ pub state_of-IsPoppable : (paragraph : ℕ) (classes : List BidiClass) (stack : 
 state_of-IsPoppable paragraph classes stack = record { pops = λ none some. by_split none some (split_state paragraph classes stack) }
   where
     by_inside : (s t : State) → t.overflow_isolates ≡ 0 → IsInsideOf s t → (u : State) × (drop_isolate (t.top ∷ t.below) ≡ u.top ∷ u.below)
-    by_inside s t none (overflowed same) = absurd (let more : t.overflow_isolates ≡ s.overflow_isolates + 1 = ap (λ (x : State). x.overflow_isolates) same in omega arith)
-    by_inside s t none (inside a b c d drops) = (s, drops)
+    by_inside s t none overflowed = absurd (omega arith)
+    by_inside s t none (inside _ a b c d drops) = (s, drops)
 
     by_split : (state_of paragraph classes stack).overflow_isolates ≡ 0 → 0 < (state_of paragraph classes stack).valid_isolates → SplitState paragraph classes stack → (t : State) × (drop_isolate ((state_of paragraph classes stack).top ∷ (state_of paragraph classes stack).below) ≡ t.top ∷ t.below)
     by_split none some (inl h) = absurd (omega (arith, h.2))

@@ -75,54 +75,42 @@ entered-embedding c s t (as_isolate high isolate) other = absurd (both_ways (is_
 entered-embedding c s t (as_embedding high same none) other = (refl, refl)
 entered-embedding c s t (as_unseen high same some) other = (refl, refl)
 
--- t is s with further openers inside one isolate: the isolate overflowed, or it was taken
-pub data IsInsideOf (s t : State) : Type 0 where
-  overflowed : t ≡ record s { overflow_isolates = s.overflow_isolates + 1 } → IsInsideOf s t
-  inside : s.overflow_isolates ≡ 0 → s.overflow_embeddings ≡ 0 → t.overflow_isolates ≡ 0 → t.valid_isolates ≡ s.valid_isolates + 1 → drop_isolate (t.top ∷ t.below) ≡ s.top ∷ s.below → IsInsideOf s t
+-- s with further openers inside one isolate: the isolate overflowed, or it was taken
+pub data IsInsideOf (s : State) : State → Type 0 where
+  overflowed : IsInsideOf s (record s { overflow_isolates = s.overflow_isolates + 1 })
+  inside : (t : State) → s.overflow_isolates ≡ 0 → s.overflow_embeddings ≡ 0 → t.overflow_isolates ≡ 0 → t.valid_isolates ≡ s.valid_isolates + 1 → drop_isolate (t.top ∷ t.below) ≡ s.top ∷ s.below → IsInsideOf s t
 
 entered-IsInsideOf : (c : BidiClass) (s t : State) → EnteredAs c s t → is_initiator c ≡ true → IsInsideOf s t
 entered-IsInsideOf c s t (as_taken fits k) isolate =
-    inside k.no_isolates k.no_embeddings k.no_isolates (taken_valid c s true isolate) (cond-true (is_initiator c) (s.top ∷ s.below) (drop_isolate (s.top ∷ s.below)) isolate)
-entered-IsInsideOf c s t (as_isolate high same) isolate = overflowed refl
+    inside t k.no_isolates k.no_embeddings k.no_isolates (taken_valid c s true isolate) (cond-true (is_initiator c) (s.top ∷ s.below) (drop_isolate (s.top ∷ s.below)) isolate)
+entered-IsInsideOf c s t (as_isolate high same) isolate = overflowed
 entered-IsInsideOf c s t (as_embedding high other none) isolate = absurd (both_ways (is_initiator c) other isolate)
 entered-IsInsideOf c s t (as_unseen high other some) isolate = absurd (both_ways (is_initiator c) other isolate)
 
 IsInsideOf-entered : (c : BidiClass) (s t u : State) → EnteredAs c t u → is_initiator c ≡ false → IsInsideOf s t → IsInsideOf s u
-IsInsideOf-entered c s t u (as_taken fits k) other (overflowed same) = absurd (omega (arith, k.no_isolates, ap (λ (x : State). x.overflow_isolates) same))
-IsInsideOf-entered c s t u (as_taken fits k) other (inside no_isolates no_embeddings none more drops) =
-    inside no_isolates no_embeddings none (omega (arith, taken_valid c t false other)) (cond-false (is_initiator c) (t.top ∷ t.below) (drop_isolate (t.top ∷ t.below)) other ∙ drops)
+IsInsideOf-entered c s t u (as_taken fits k) other overflowed = absurd (omega (arith, k.no_isolates))
+IsInsideOf-entered c s t u (as_taken fits k) other (inside _ no_isolates no_embeddings none more drops) =
+    inside u no_isolates no_embeddings none (omega (arith, taken_valid c t false other)) (cond-false (is_initiator c) (t.top ∷ t.below) (drop_isolate (t.top ∷ t.below)) other ∙ drops)
 IsInsideOf-entered c s t u (as_isolate high isolate) other h = absurd (both_ways (is_initiator c) other isolate)
-IsInsideOf-entered c s t u (as_embedding high same nothing) other (overflowed is) = absurd (omega (arith, ap (λ (x : State). x.overflow_isolates) is))
-IsInsideOf-entered c s t u (as_embedding high same nothing) other (inside no_isolates no_embeddings none more drops) = inside no_isolates no_embeddings none more drops
+IsInsideOf-entered c s t u (as_embedding high same nothing) other overflowed = absurd (omega arith)
+IsInsideOf-entered c s t u (as_embedding high same nothing) other (inside _ no_isolates no_embeddings none more drops) = inside u no_isolates no_embeddings none more drops
 IsInsideOf-entered c s t u (as_unseen high same some) other h = h
 
 -- so a PDI leaves what was there before the isolate
 pub close_isolate-IsInsideOf : (s t : State) → IsInsideOf s t → close_isolate t ≡ s
 unfolding close_isolate
-close_isolate-IsInsideOf s t (overflowed same) = ap close_isolate same ∙ counted
-  where
-    more : State
-    more = record s { overflow_isolates = s.overflow_isolates + 1 }
-
-    counted : close_isolate (record s { overflow_isolates = s.overflow_isolates + 1 }) ≡ s
-    counted =
-        let back : s.overflow_isolates + 1 - 1 ≡ s.overflow_isolates = omega arith in
-        cond-true (ltb 0 (s.overflow_isolates + 1)) _ _ (lt-ltb 0 (s.overflow_isolates + 1) (omega arith))
-        ∙ ap (λ (n : ℕ). record s { overflow_isolates = n }) back
-close_isolate-IsInsideOf s t (inside no_isolates no_embeddings none more drops) =
+close_isolate-IsInsideOf s t overflowed =
+    let back : s.overflow_isolates + 1 - 1 ≡ s.overflow_isolates = omega arith in
+    cond-true (ltb 0 (s.overflow_isolates + 1)) _ _ (lt-ltb 0 (s.overflow_isolates + 1) (omega arith)) ∙ ap (λ (n : ℕ). record s { overflow_isolates = n }) back
+close_isolate-IsInsideOf s t (inside _ no_isolates no_embeddings none more drops) =
     cond-false (ltb 0 t.overflow_isolates) _ _ (le-ltb 0 t.overflow_isolates (omega arith))
     ∙ cond-false (eqb t.valid_isolates 0) _ _ (ne_eqb t.valid_isolates 0 (λ e. omega arith))
     ∙ ap (with_stack (record t { overflow_embeddings = 0; valid_isolates = t.valid_isolates - 1 })) drops
-    ∙ same_counts
+    ∙ same_counts (none ∙ sym no_isolates) (sym no_embeddings) (omega (arith, more))
   where
-    valid : t.valid_isolates - 1 ≡ s.valid_isolates
-    valid = omega (arith, more)
-
-    isolates : t.overflow_isolates ≡ s.overflow_isolates
-    isolates = none ∙ sym no_isolates
-
-    same_counts : with_stack (record t { overflow_embeddings = 0; valid_isolates = t.valid_isolates - 1 }) (s.top ∷ s.below) ≡ s
-    same_counts = λ i. record { top = s.top; below = s.below; overflow_isolates = isolates i; overflow_embeddings = sym no_embeddings i; valid_isolates = valid i }
+    same_counts : t.overflow_isolates ≡ s.overflow_isolates → 0 ≡ s.overflow_embeddings → t.valid_isolates - 1 ≡ s.valid_isolates
+        → with_stack (record t { overflow_embeddings = 0; valid_isolates = t.valid_isolates - 1 }) (s.top ∷ s.below) ≡ s
+    same_counts e f g = λ i. record { top = s.top; below = s.below; overflow_isolates = e i; overflow_embeddings = f i; valid_isolates = g i }
 
 pub close_isolate-none : (s : State) → s.overflow_isolates ≡ 0 → s.valid_isolates ≡ 0 → close_isolate s ≡ s
 unfolding close_isolate
@@ -171,40 +159,28 @@ abbrev inside_one : BidiClass → Bool → Status → Status
 inside_one c cut status =
     if not cut && nat_le (asked_level c status.level) max_depth then record { level = asked_level c status.level; override = override_of c } else status
 
-status_inside-more : (status : Status) (openers : List BidiClass) (c : BidiClass) → status_inside status (openers ++ c ∷ []) ≡ inside_one c (is_cut status openers) (status_inside status openers)
-unfolding status_inside
-status_inside-more status [] c = refl
-status_inside-more status (o ∷ openers) c =
-    by_test (leb (asked_level o status.level) 125) (status_inside-more (record { level = asked_level o status.level; override = override_of o }) openers c)
-  where
-    inner : Status
-    inner = record { level = asked_level o status.level; override = override_of o }
-
-    by_test : (b : Bool) → status_inside inner (openers ++ c ∷ []) ≡ inside_one c (is_cut inner openers) (status_inside inner openers)
-        → cond b (status_inside inner (openers ++ c ∷ [])) status ≡ inside_one c (cond b (is_cut inner openers) true) (cond b (status_inside inner openers) status)
-    by_test true rest = rest
-    by_test false rest = refl
-
 abbrev fits_after : BidiClass → Bool → Status → Bool
 fits_after c cut status = not cut && leb (asked_level c status.level) 125
 
-is_cut-more : (status : Status) (openers : List BidiClass) (c : BidiClass) → not (is_cut status (openers ++ c ∷ [])) ≡ fits_after c (is_cut status openers) (status_inside status openers)
+status_inside-more : (status : Status) (openers : List BidiClass) (c : BidiClass) → (status_inside status (openers ++ c ∷ []) ≡ inside_one c (is_cut status openers) (status_inside status openers))
+    × (not (is_cut status (openers ++ c ∷ [])) ≡ fits_after c (is_cut status openers) (status_inside status openers))
 unfolding status_inside
-is_cut-more status [] c = by_test (leb (asked_level c status.level) 125)
+status_inside-more status [] c = (refl, by_test (leb (asked_level c status.level) 125))
   where
     by_test : (b : Bool) → not (cond b false true) ≡ b
     by_test true = refl
     by_test false = refl
-is_cut-more status (o ∷ openers) c =
-    by_test (leb (asked_level o status.level) 125) (is_cut-more (record { level = asked_level o status.level; override = override_of o }) openers c)
+status_inside-more status (o ∷ openers) c = by_test (leb (asked_level o status.level) 125) (status_inside-more (record { level = asked_level o status.level; override = override_of o }) openers c)
   where
     inner : Status
     inner = record { level = asked_level o status.level; override = override_of o }
 
-    by_test : (b : Bool) → not (is_cut inner (openers ++ c ∷ [])) ≡ fits_after c (is_cut inner openers) (status_inside inner openers)
-        → not (cond b (is_cut inner (openers ++ c ∷ [])) true) ≡ fits_after c (cond b (is_cut inner openers) true) (cond b (status_inside inner openers) status)
+    by_test : (b : Bool) → (status_inside inner (openers ++ c ∷ []) ≡ inside_one c (is_cut inner openers) (status_inside inner openers))
+        × (not (is_cut inner (openers ++ c ∷ [])) ≡ fits_after c (is_cut inner openers) (status_inside inner openers))
+        → (cond b (status_inside inner (openers ++ c ∷ [])) status ≡ inside_one c (cond b (is_cut inner openers) true) (cond b (status_inside inner openers) status))
+        × (not (cond b (is_cut inner (openers ++ c ∷ [])) true) ≡ fits_after c (cond b (is_cut inner openers) true) (cond b (status_inside inner openers) status))
     by_test true rest = rest
-    by_test false rest = refl
+    by_test false rest = (refl, refl)
 
 -- nothing has overflowed
 abbrev is_clear : State → Bool
@@ -311,10 +287,10 @@ module _ (paragraph : ℕ) (classes : List BidiClass) where
       record {
         top =
             now.0 ∙ ap (λ b. cond b (entry_of c s).status s.top.status) fits ∙ ap (inside_one c cut) h.top
-            ∙ sym (ap (status_inside (start_status paragraph)) (classes_of-more q stack) ∙ status_inside-more (start_status paragraph) (classes_of stack) c);
+            ∙ sym (ap (status_inside (start_status paragraph)) (classes_of-more q stack) ∙ (status_inside-more (start_status paragraph) (classes_of stack) c).0);
         clear =
             now.1 ∙ fits ∙ ap (fits_after c cut) h.top
-            ∙ sym (ap (λ (cs : List BidiClass). not (is_cut (start_status paragraph) cs)) (classes_of-more q stack) ∙ is_cut-more (start_status paragraph) (classes_of stack) c);
+            ∙ sym (ap (λ (cs : List BidiClass). not (is_cut (start_status paragraph) cs)) (classes_of-more q stack) ∙ (status_inside-more (start_status paragraph) (classes_of stack) c).1);
       }
 
   -- the machine's status at p is the one that the definitions give
