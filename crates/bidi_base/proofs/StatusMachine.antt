@@ -1,5 +1,6 @@
 -- The directional status stack answers at each character the level and the class that the definitions give.
-use Rattle.std.proofs.Common.{◌≡◌, ℕ, zero, suc, ◌+◌, ◌-◌, ◌<◌, ◌≤◌, Bool, true, false, not, ◌&&◌, ◌||◌, cond, ltb, leb, eqb, List, [], ◌∷◌, ◌++◌, length, map, reverse, unwrap_or, refl, sym, ap, subst, ◌∙◌, arith, ◌⊎◌, inl, inr, lt-ltb, leb-true, eqb-true, eq-eqb, ne_eqb}
+use Rattle.std.proofs.Common.{◌≡◌, ℕ, zero, suc, ◌+◌, ◌-◌, ◌<◌, ◌≤◌, Bool, true, false, not, ◌&&◌, ◌||◌, cond, ltb, leb, eqb, List, [], ◌∷◌, ◌++◌}
+use Rattle.std.proofs.Common.{length, map, reverse, unwrap_or, refl, sym, ap, subst, ◌∙◌, arith, ◌⊎◌, inl, inr, lt-ltb, leb-true, eqb-true, eq-eqb, ne_eqb}
 use Rattle.std.specs.Prelude.{nat_le, if◌then◌else◌}
 use Rattle.std.proofs.lemmas.Bool.{cases_Bool, cases_eq, both_ways, cond-true, cond-false, and_parts, and_from, and_left, and_right, le-leb, le-ltb, leb-false, eqb-false}
 use Rattle.std.proofs.lemmas.List.{reverse-append, map-append}
@@ -10,7 +11,7 @@ use Rattle.bidi_base.specs.Places.{class_at}
 use Rattle.bidi_base.specs.Isolates.{is_initiator_at, is_pdi_at}
 use Rattle.bidi_base.specs.Embeddings.{open_at}
 use Rattle.bidi_base.specs.Explicit.{Status, override_of, asked_level, status_inside, status_at, explicit_level, explicit_class}
-use Rattle.bidi_base.proofs.OpenersStack.{below_isolate, below_embedding, closed_by, opened_by, openers_read, open_at-closed_by}
+use Rattle.bidi_base.proofs.OpenersStack.{below_isolate, below_embedding, closed_by, opened_by, openers_read, left_at, open_at-closed_by}
 use Rattle.bidi_base.specs.StatusMachine.{Entry, State, start_status, start, fits_in, entry_of, taken, refused, entered, drop_isolate, with_stack, close_isolate, close_embedding, closed, opened, step, answer_level, answer_class, state_at}
 
 -- the state that a stack of openers leaves, each entered in text order
@@ -200,68 +201,78 @@ fits_in-clear c s = turn (leb (asked_level c s.top.status.level) 125) (eqb s.ove
     turn a b d = grind arith
 
 module _ (paragraph : ℕ) (classes : List BidiClass) where
+  -- the state inside the openers of a stack
+  abbrev inside_all : List ℕ → State
+  inside_all stack = state_of paragraph classes stack
+
+  pub state_of-EnteredAs : (q : ℕ) (stack : List ℕ) → EnteredAs (class_at classes q) (inside_all stack) (inside_all (q ∷ stack))
+  unfolding state_of
+  state_of-EnteredAs q stack = entered_as (class_at classes q) (inside_all stack)
+
   -- a stack has no isolate, or its state is inside that of what stands below its innermost isolate
   abbrev pub SplitState : List ℕ → Type 0
   SplitState stack =
-      (((whole : List ℕ) → below_isolate classes whole stack ≡ whole) × ((state_of paragraph classes stack).overflow_isolates ≡ 0) × ((state_of paragraph classes stack).valid_isolates ≡ 0))
-      ⊎ ((below : List ℕ) × ((whole : List ℕ) → below_isolate classes whole stack ≡ below) × IsInsideOf (state_of paragraph classes below) (state_of paragraph classes stack))
+      (((whole : List ℕ) → below_isolate classes whole stack ≡ whole) × ((inside_all stack).overflow_isolates ≡ 0) × ((inside_all stack).valid_isolates ≡ 0))
+      ⊎ ((below : List ℕ) × ((whole : List ℕ) → below_isolate classes whole stack ≡ below) × IsInsideOf (inside_all below) (inside_all stack))
 
   split_more : (q : ℕ) (stack : List ℕ) → is_initiator_at classes q ≡ false → SplitState stack → SplitState (q ∷ stack)
-  unfolding state_of
   split_more q stack other (inl h) =
-      let s = entered-embedding (class_at classes q) (state_of paragraph classes stack) _ (entered_as (class_at classes q) (state_of paragraph classes stack)) other in
-      inl (λ whole. cond-false _ _ _ other ∙ h.0 whole, s.0 ∙ h.1, s.1 ∙ h.2)
-  split_more q stack other (inr h) =
-      inr (h.0, λ whole. cond-false _ _ _ other ∙ h.1 whole, IsInsideOf-entered (class_at classes q) (state_of paragraph classes h.0) (state_of paragraph classes stack) _ (entered_as (class_at classes q) (state_of paragraph classes stack)) other h.2)
+      let s = entered-embedding (class_at classes q) _ _ (state_of-EnteredAs q stack) other in inl (λ whole. cond-false _ _ _ other ∙ h.0 whole, s.0 ∙ h.1, s.1 ∙ h.2)
+  split_more q stack other (inr h) = inr (h.0, λ whole. cond-false _ _ _ other ∙ h.1 whole, IsInsideOf-entered (class_at classes q) _ _ _ (state_of-EnteredAs q stack) other h.2)
 
   pub split_state : (stack : List ℕ) → SplitState stack
   unfolding state_of
   split_state [] = inl (λ whole. refl, refl, refl)
   split_state (q ∷ stack) = elim (cases_Bool (is_initiator_at classes q)) [
-    | inl initiator ↦ inr (stack, λ whole. cond-true _ _ _ initiator, entered-IsInsideOf (class_at classes q) (state_of paragraph classes stack) _ (entered_as (class_at classes q) (state_of paragraph classes stack)) initiator)
+    | inl initiator ↦ inr (stack, λ whole. cond-true _ _ _ initiator, entered-IsInsideOf (class_at classes q) _ _ (state_of-EnteredAs q stack) initiator)
     | inr other ↦ split_more q stack other (split_state stack)
   ]
 
-  pub close_isolate-state_of : (stack : List ℕ) → close_isolate (state_of paragraph classes stack) ≡ state_of paragraph classes (below_isolate classes stack stack)
+  close_isolate-state_of : (stack : List ℕ) → close_isolate (inside_all stack) ≡ inside_all (below_isolate classes stack stack)
   close_isolate-state_of stack = by_split (split_state stack)
     where
-      by_split : SplitState stack → close_isolate (state_of paragraph classes stack) ≡ state_of paragraph classes (below_isolate classes stack stack)
-      by_split (inl h) = close_isolate-none (state_of paragraph classes stack) h.1 h.2 ∙ ap (state_of paragraph classes) (sym (h.0 stack))
-      by_split (inr h) = close_isolate-IsInsideOf (state_of paragraph classes h.0) (state_of paragraph classes stack) h.2 ∙ ap (state_of paragraph classes) (sym (h.1 stack))
+      by_split : SplitState stack → close_isolate (inside_all stack) ≡ inside_all (below_isolate classes stack stack)
+      by_split (inl h) = close_isolate-none (inside_all stack) h.1 h.2 ∙ ap inside_all (sym (h.0 stack))
+      by_split (inr h) = close_isolate-IsInsideOf (inside_all h.0) (inside_all stack) h.2 ∙ ap inside_all (sym (h.1 stack))
 
-  pub close_embedding-state_of : (stack : List ℕ) → close_embedding (state_of paragraph classes stack) ≡ state_of paragraph classes (below_embedding classes stack)
+  close_embedding-state_of : (stack : List ℕ) → close_embedding (inside_all stack) ≡ inside_all (below_embedding classes stack)
   unfolding state_of
   close_embedding-state_of [] = close_embedding-start paragraph
   close_embedding-state_of (q ∷ stack) = elim (cases_Bool (is_initiator_at classes q)) [
-    | inl initiator ↦ close_embedding-isolate (class_at classes q) (state_of paragraph classes stack) _ (entered_as (class_at classes q) (state_of paragraph classes stack)) initiator ∙ ap (state_of paragraph classes) (sym (cond-true (is_initiator_at classes q) (q ∷ stack) stack initiator))
-    | inr other ↦ close_embedding-embedding (class_at classes q) (state_of paragraph classes stack) _ (entered_as (class_at classes q) (state_of paragraph classes stack)) other ∙ ap (state_of paragraph classes) (sym (cond-false (is_initiator_at classes q) (q ∷ stack) stack other))
+    | inl initiator ↦ close_embedding-isolate (class_at classes q) _ _ (state_of-EnteredAs q stack) initiator ∙ ap inside_all (sym (cond-true _ _ _ initiator))
+    | inr other ↦ close_embedding-embedding (class_at classes q) _ _ (state_of-EnteredAs q stack) other ∙ ap inside_all (sym (cond-false _ _ _ other))
   ]
 
   -- what p closes and opens on the stack of indexes is what the machine does
-  pub closed-state_of : (p : ℕ) (stack : List ℕ) → closed (class_at classes p) (state_of paragraph classes stack) ≡ state_of paragraph classes (closed_by classes p stack)
+  pub closed-state_of : (p : ℕ) (stack : List ℕ) → closed (class_at classes p) (inside_all stack) ≡ inside_all (closed_by classes p stack)
   unfolding closed closed_by
-  closed-state_of p stack = elim (cases_Bool (is_pdi_at classes p)) [
-    | inl pdi ↦ cond-true _ _ _ pdi ∙ close_isolate-state_of stack ∙ ap (state_of paragraph classes) (sym (cond-true (is_pdi_at classes p) _ _ pdi))
-    | inr no_pdi ↦ cond-false _ _ _ no_pdi ∙ elim (cases_Bool (is_pdf (class_at classes p))) [
-      | inl pdf ↦ cond-true _ _ _ pdf ∙ close_embedding-state_of stack ∙ ap (state_of paragraph classes) (sym (cond-true (is_pdf (class_at classes p)) _ _ pdf))
-      | inr no_pdf ↦ cond-false _ _ _ no_pdf ∙ ap (state_of paragraph classes) (sym (cond-false (is_pdf (class_at classes p)) _ _ no_pdf))
-    ] ∙ ap (state_of paragraph classes) (sym (cond-false (is_pdi_at classes p) _ _ no_pdi))
-  ]
+  closed-state_of p stack = by_tests (is_pdi_at classes p) (is_pdf (class_at classes p))
+    where
+      by_tests : (a b : Bool) → cond a (close_isolate (inside_all stack)) (cond b (close_embedding (inside_all stack)) (inside_all stack))
+          ≡ inside_all (cond a (below_isolate classes stack stack) (cond b (below_embedding classes stack) stack))
+      by_tests true b = close_isolate-state_of stack
+      by_tests false true = close_embedding-state_of stack
+      by_tests false false = refl
 
-  pub opened-state_of : (p : ℕ) (stack : List ℕ) → opened (class_at classes p) (state_of paragraph classes stack) ≡ state_of paragraph classes (opened_by classes p stack)
+  opened-state_of : (p : ℕ) (stack : List ℕ) → opened (class_at classes p) (inside_all stack) ≡ inside_all (opened_by classes p stack)
   unfolding opened opened_by state_of
-  opened-state_of p stack = elim (cases_Bool (is_opener (class_at classes p))) [
-    | inl opener ↦ cond-true _ _ _ opener ∙ ap (state_of paragraph classes) (sym (cond-true (is_opener (class_at classes p)) (p ∷ stack) stack opener))
-    | inr other ↦ cond-false _ _ _ other ∙ ap (state_of paragraph classes) (sym (cond-false (is_opener (class_at classes p)) (p ∷ stack) stack other))
-  ]
+  opened-state_of p stack = by_test (is_opener (class_at classes p))
+    where
+      by_test : (a : Bool) → cond a (entered (class_at classes p) (inside_all stack)) (inside_all stack) ≡ inside_all (cond a (p ∷ stack) stack)
+      by_test true = refl
+      by_test false = refl
 
-  pub state_at-state_of : (p : ℕ) → state_at paragraph classes p ≡ state_of paragraph classes (openers_read classes p)
+  pub state_at-state_of : (p : ℕ) → state_at paragraph classes p ≡ inside_all (openers_read classes p)
   unfolding state_at state_of openers_read
   state_at-state_of zero = refl
   state_at-state_of (suc p) =
       ap (λ (s : State). step (class_at classes p) s) (state_at-state_of p)
       ∙ ap (opened (class_at classes p)) (closed-state_of p (openers_read classes p))
-      ∙ opened-state_of p (closed_by classes p (openers_read classes p))
+      ∙ opened-state_of p (left_at classes p)
+
+  -- so what a character leaves is the state inside what it leaves open
+  pub closed-state_at : (p : ℕ) → closed (class_at classes p) (state_at paragraph classes p) ≡ inside_all (left_at classes p)
+  closed-state_at p = ap (closed (class_at classes p)) (state_at-state_of p) ∙ closed-state_of p (openers_read classes p)
 
   abbrev classes_of : List ℕ → List BidiClass
   classes_of stack = map (class_at classes) (reverse stack)
@@ -271,15 +282,15 @@ module _ (paragraph : ℕ) (classes : List BidiClass) where
 
   -- the status on top is that inside the openers, and nothing overflowed exactly if none of them asks for too high a level
   record IsStatusOf (stack : List ℕ) : Type 0 where
-    top : (state_of paragraph classes stack).top.status ≡ status_inside (start_status paragraph) (classes_of stack)
-    clear : is_clear (state_of paragraph classes stack) ≡ not (is_cut (start_status paragraph) (classes_of stack))
+    top : (inside_all stack).top.status ≡ status_inside (start_status paragraph) (classes_of stack)
+    clear : is_clear (inside_all stack) ≡ not (is_cut (start_status paragraph) (classes_of stack))
 
   status_of : (stack : List ℕ) → IsStatusOf stack
   unfolding state_of status_inside
   status_of [] = record { top = refl; clear = refl }
   status_of (q ∷ stack) =
       let c = class_at classes q in
-      let s : State = state_of paragraph classes stack in
+      let s : State = inside_all stack in
       let h : IsStatusOf stack = status_of stack in
       let cut : Bool = is_cut (start_status paragraph) (classes_of stack) in
       let now = entered-status c s (entered c s) (entered_as c s) in
@@ -294,17 +305,12 @@ module _ (paragraph : ℕ) (classes : List BidiClass) where
       }
 
   -- the machine's status at p is the one that the definitions give
-  pub status_at-state_of : (p : ℕ) (stack : List ℕ) → open_at classes p ≡ reverse (closed_by classes p stack) → (closed (class_at classes p) (state_of paragraph classes stack)).top.status ≡ status_at paragraph classes p
+  status_at-state_at : (p : ℕ) → p < length classes → (closed (class_at classes p) (state_at paragraph classes p)).top.status ≡ status_at paragraph classes p
   unfolding status_at
-  status_at-state_of p stack e =
-      ap (λ (x : State). x.top.status) (closed-state_of p stack)
-      ∙ (status_of (closed_by classes p stack)).top
-      ∙ ap (λ (qs : List ℕ). status_inside (start_status paragraph) (map (class_at classes) qs)) (sym e)
-
-  pub status_at-state_at : (p : ℕ) → p < length classes → (closed (class_at classes p) (state_at paragraph classes p)).top.status ≡ status_at paragraph classes p
   status_at-state_at p fits =
-      ap (λ (x : State). (closed (class_at classes p) x).top.status) (state_at-state_of p)
-      ∙ status_at-state_of p (openers_read classes p) (open_at-closed_by classes p fits)
+      ap (λ (x : State). x.top.status) (closed-state_at p)
+      ∙ (status_of (left_at classes p)).top
+      ∙ ap (λ (qs : List ℕ). status_inside (start_status paragraph) (map (class_at classes) qs)) (sym (open_at-closed_by classes p fits))
 
   -- the machine answers the explicit level and the class after X of each character
   pub answer_level-explicit_level : (p : ℕ) → p < length classes → answer_level paragraph (class_at classes p) (state_at paragraph classes p) ≡ explicit_level paragraph classes p
@@ -314,4 +320,5 @@ module _ (paragraph : ℕ) (classes : List BidiClass) where
   pub answer_class-explicit_class : (p : ℕ) → p < length classes → answer_class (class_at classes p) (state_at paragraph classes p) ≡ explicit_class paragraph classes p
   unfolding explicit_class
   answer_class-explicit_class p fits =
-      ap (λ (x : Status). if is_paragraph_separator (class_at classes p) || is_removed (class_at classes p) then class_at classes p else unwrap_or x.override (class_at classes p)) (status_at-state_at p fits)
+      let own = class_at classes p in
+      ap (λ (x : Status). if is_paragraph_separator own || is_removed own then own else unwrap_or x.override own) (status_at-state_at p fits)
