@@ -33,18 +33,13 @@ IsTaken-fits_in c s e =
 
 -- what a refusal does, by kind
 pub refused-initiator : (c : BidiClass) (s : State) → is_initiator c ≡ true → refused c s ≡ record s { overflow_isolates = s.overflow_isolates + 1 }
-refused-initiator c s e =
-    cond-true (is_initiator c) (record s { overflow_isolates = s.overflow_isolates + 1 }) (cond (eqb s.overflow_isolates 0) (record s { overflow_embeddings = s.overflow_embeddings + 1 }) s) e
+refused-initiator c s e = cond-true _ _ _ e
 
 pub refused-embedding : (c : BidiClass) (s : State) → is_initiator c ≡ false → s.overflow_isolates ≡ 0 → refused c s ≡ record s { overflow_embeddings = s.overflow_embeddings + 1 }
-refused-embedding c s e none =
-    cond-false (is_initiator c) (record s { overflow_isolates = s.overflow_isolates + 1 }) (cond (eqb s.overflow_isolates 0) (record s { overflow_embeddings = s.overflow_embeddings + 1 }) s) e
-    ∙ cond-true (eqb s.overflow_isolates 0) (record s { overflow_embeddings = s.overflow_embeddings + 1 }) s (eq-eqb s.overflow_isolates 0 none)
+refused-embedding c s e none = cond-false _ _ _ e ∙ cond-true _ _ _ (eq-eqb s.overflow_isolates 0 none)
 
 pub refused-inside : (c : BidiClass) (s : State) → is_initiator c ≡ false → 0 < s.overflow_isolates → refused c s ≡ s
-refused-inside c s e some =
-    cond-false (is_initiator c) (record s { overflow_isolates = s.overflow_isolates + 1 }) (cond (eqb s.overflow_isolates 0) (record s { overflow_embeddings = s.overflow_embeddings + 1 }) s) e
-    ∙ cond-false (eqb s.overflow_isolates 0) (record s { overflow_embeddings = s.overflow_embeddings + 1 }) s (ne_eqb s.overflow_isolates 0 (λ e. omega arith))
+refused-inside c s e some = cond-false _ _ _ e ∙ cond-false _ _ _ (ne_eqb s.overflow_isolates 0 (λ e. omega arith))
 
 -- an opener is taken, or it overflows: as an isolate, as an embedding, or, inside an isolate that overflowed, unseen
 pub data EnteredAs (c : BidiClass) (s : State) : State → Type 0 where
@@ -79,11 +74,12 @@ entered-embedding c s t (as_unseen high same some) other = (refl, refl)
 -- s with further openers inside one isolate: the isolate overflowed, or it was taken
 pub data IsInsideOf (s : State) : State → Type 0 where
   overflowed : IsInsideOf s (record s { overflow_isolates = s.overflow_isolates + 1 })
-  inside : (t : State) → s.overflow_isolates ≡ 0 → s.overflow_embeddings ≡ 0 → t.overflow_isolates ≡ 0 → t.valid_isolates ≡ s.valid_isolates + 1 → drop_isolate (t.top ∷ t.below) ≡ s.top ∷ s.below → IsInsideOf s t
+  inside : (t : State) → s.overflow_isolates ≡ 0 → s.overflow_embeddings ≡ 0 → t.overflow_isolates ≡ 0 → t.valid_isolates ≡ s.valid_isolates + 1
+      → drop_isolate (t.top ∷ t.below) ≡ s.top ∷ s.below → IsInsideOf s t
 
 entered-IsInsideOf : (c : BidiClass) (s t : State) → EnteredAs c s t → is_initiator c ≡ true → IsInsideOf s t
 entered-IsInsideOf c s t (as_taken fits k) isolate =
-    inside t k.no_isolates k.no_embeddings k.no_isolates (taken_valid c s true isolate) (cond-true (is_initiator c) (s.top ∷ s.below) (drop_isolate (s.top ∷ s.below)) isolate)
+    inside t k.no_isolates k.no_embeddings k.no_isolates (taken_valid c s true isolate) (cond-true _ _ _ isolate)
 entered-IsInsideOf c s t (as_isolate high same) isolate = overflowed
 entered-IsInsideOf c s t (as_embedding high other none) isolate = absurd (both_ways (is_initiator c) other isolate)
 entered-IsInsideOf c s t (as_unseen high other some) isolate = absurd (both_ways (is_initiator c) other isolate)
@@ -91,7 +87,7 @@ entered-IsInsideOf c s t (as_unseen high other some) isolate = absurd (both_ways
 IsInsideOf-entered : (c : BidiClass) (s t u : State) → EnteredAs c t u → is_initiator c ≡ false → IsInsideOf s t → IsInsideOf s u
 IsInsideOf-entered c s t u (as_taken fits k) other overflowed = absurd (omega (arith, k.no_isolates))
 IsInsideOf-entered c s t u (as_taken fits k) other (inside _ no_isolates no_embeddings none more drops) =
-    inside u no_isolates no_embeddings none (omega (arith, taken_valid c t false other)) (cond-false (is_initiator c) (t.top ∷ t.below) (drop_isolate (t.top ∷ t.below)) other ∙ drops)
+    inside u no_isolates no_embeddings none (omega (arith, taken_valid c t false other)) (cond-false _ _ _ other ∙ drops)
 IsInsideOf-entered c s t u (as_isolate high isolate) other h = absurd (both_ways (is_initiator c) other isolate)
 IsInsideOf-entered c s t u (as_embedding high same nothing) other overflowed = absurd (omega arith)
 IsInsideOf-entered c s t u (as_embedding high same nothing) other (inside _ no_isolates no_embeddings none more drops) = inside u no_isolates no_embeddings none more drops
