@@ -29,8 +29,8 @@ left_at-match classes p q opening matches = by_leaves (openers_read classes q) (
     top = IsReadStack-matched (is_initiator_at classes) (is_pdi_at classes) (initiators_apart classes) (length classes) q p _ (initiators-IsReadStack classes q) opening matches
 
     by_leaves : (stack left : List ℕ) → Leaves classes q stack left → initiators classes stack ≡ p ∷ top.0 → left ≡ left_at classes p
-    by_leaves stack left (closes_isolate _ x closing i) e =
-        let both : x ∷ initiators classes (left_at classes x) ≡ p ∷ top.0 = sym i.isolates ∙ e in
+    by_leaves stack left (closes_isolate _ x closing first) e =
+        let both : x ∷ initiators classes (left_at classes x) ≡ p ∷ top.0 = sym first ∙ e in
         let same : x ≡ p = cc both in
         ap (left_at classes) same
     by_leaves stack left (closes_embedding r below pdf other) e = absurd (pdf_apart _ pdf pdi)
