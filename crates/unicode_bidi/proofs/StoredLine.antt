@@ -10,7 +10,7 @@ use Rattle.bidi_base.specs.Text.{per_unit, per_char, is_per_char, IsLine, IsPerC
 use Rattle.bidi_base.proofs.PerCharTests.{class_eq, class_test, level_eq, level_test}
 use Rattle.bidi_base.proofs.StrLemmas.{has_units}
 use Rattle.bidi_base.proofs.UnitsLemmas.{IsPerChar-from_is_per_char}
-use Rattle.unicode_bidi.specs.Lines.{char_levels_of_line, char_levels_with_line}
+use Rattle.bidi_base.specs.Line.{char_levels_of_line, char_levels_with_line}
 use Rattle.unicode_bidi.proofs.TextOfLine as line_of
 
 pub classes_IsPerChar : (text : List ℕ) (classes : List BidiClass) → IsTrue (is_per_char class_eq len_utf8 (chars text) classes) → IsPerChar len_utf8 (chars text) classes

@@ -1,7 +1,6 @@
 pub mod Analysis
 pub mod BidiInfo
 pub mod InitialInfo
-pub mod Lines
 pub mod Paragraph
 pub mod ParagraphBidiInfo
 pub mod ParagraphFlags

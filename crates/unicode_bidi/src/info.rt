@@ -5,12 +5,13 @@ ghost use Rattle.std.specs.Str.{chars};
 ghost use Rattle.bidi_base.specs.Text.{is_per_char, IsLine};
 ghost use Rattle.unicode_bidi.specs.ParagraphInfo.{range_of as paragraph_range};
 
+use crate::analysis;
 use crate::paragraph_info::ParagraphInfo;
-use crate::{analysis, visual};
 use bidi_base::char_data::BidiClass;
 use bidi_base::data_source::BidiDataSource;
 use bidi_base::level::{Level, has_rtl};
 use bidi_base::text::StrText;
+use bidi_lines::visual_order;
 use std::alloc::{AllocError, Global};
 
 /// What the algorithm finds out about a text of UTF-8: its paragraphs, and the class and the level
@@ -140,6 +141,6 @@ impl<'t> BidiInfo<'t> {
         ensures still { has_rtl_of levels.now ≡ false → IfOk result (λ v. v.items ≡ indexes levels.now) }
         ensures reversals { IfOk result (λ v. v.items ≡ order_by_reversals levels.now) }
     {
-        visual::reorder_visual(alloc, levels)
+        visual_order::reorder_visual(alloc, levels)
     }
 }

@@ -11,10 +11,11 @@ ghost use Rattle.bidi_base.specs.declared.char_data.BidiClass.TheVariants.{L};
 
 use crate::info::BidiInfo;
 use crate::line_text;
-use crate::lines::{levels_and_runs, levels_per_char, levels_with_line};
 use crate::paragraph_info::ParagraphInfo;
 use bidi_base::level::Level;
 use bidi_base::text::StrText;
+use bidi_lines::line_levels::{levels_per_char, levels_with_line};
+use bidi_lines::visual_runs::levels_and_runs;
 use std::alloc::{AllocError, Global};
 use std::borrow::CowStr;
 use std::ops::Range;
@@ -24,7 +25,7 @@ use std::ops::Range;
 // whichever that is.
 impl<'t> BidiInfo<'t> {
     ghost use Rattle.unicode_bidi.specs.BidiInfo.{text as text_of, original_classes, levels as levels_of_info};
-    ghost use Rattle.unicode_bidi.specs.Lines.{char_levels_of_line, char_levels_with_line};
+    ghost use Rattle.bidi_base.specs.Line.{char_levels_of_line, char_levels_with_line};
     ghost use Rattle.unicode_bidi.specs.ParagraphInfo.{level_of};
 
     /// The level of each byte of the whole text, where those of the line are as L1 leaves them and

@@ -12,13 +12,10 @@ mod initial_info;
 mod level_direction;
 mod level_resolver;
 mod line_text;
-mod lines;
 mod paragraph;
 mod paragraph_bidi_info;
 mod paragraph_bidi_info_lines;
 mod paragraph_info;
-mod visual;
-mod visual_runs;
 
 pub use base_direction::{
     get_base_direction_full_with_data_source, get_base_direction_with_data_source,

@@ -9,11 +9,11 @@ ghost use Rattle.bidi_base.specs.Line.{levels_of_line as levels_of_line_of};
 ghost use Rattle.bidi_base.specs.Text.{text_len, subrange, per_char, IsLine, IsPerChar};
 ghost use Rattle.bidi_base.specs.declared.char_data.BidiClass.TheVariants.{L};
 
-use crate::lines::{levels_of_line, line_has_rtl};
-use crate::visual_runs::visual_runs_of;
 use bidi_base::char_data::BidiClass;
 use bidi_base::level::Level;
 use bidi_base::text::{StrText, TextSource};
+use bidi_lines::line_levels::{levels_of_line, line_has_rtl};
+use bidi_lines::visual_runs::visual_runs_of;
 use std::alloc::{AllocError, Global};
 use std::borrow::CowStr;
 use std::ops::Range;

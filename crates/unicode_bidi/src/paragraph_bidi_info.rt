@@ -4,12 +4,13 @@ ghost use Rattle.std.specs.Char.{len_utf8};
 ghost use Rattle.std.specs.Str.{chars};
 ghost use Rattle.bidi_base.specs.Text.{is_per_char};
 
+use crate::analysis;
 use crate::level_direction::direction_of;
-use crate::{analysis, visual};
 use bidi_base::char_data::{BidiClass, Direction};
 use bidi_base::data_source::BidiDataSource;
 use bidi_base::level::{Level, has_rtl};
 use bidi_base::text::StrText;
+use bidi_lines::visual_order;
 use std::alloc::{AllocError, Global};
 
 /// What the algorithm finds out about a text of UTF-8 that is taken as one paragraph, whatever
@@ -148,6 +149,6 @@ impl<'t> ParagraphBidiInfo<'t> {
         ensures still { has_rtl_of levels.now ≡ false → IfOk result (λ v. v.items ≡ indexes levels.now) }
         ensures reversals { IfOk result (λ v. v.items ≡ order_by_reversals levels.now) }
     {
-        visual::reorder_visual(alloc, levels)
+        visual_order::reorder_visual(alloc, levels)
     }
 }

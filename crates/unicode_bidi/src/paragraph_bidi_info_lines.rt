@@ -10,10 +10,11 @@ ghost use Rattle.bidi_base.specs.Text.{per_unit, per_char, IsLine};
 ghost use Rattle.bidi_base.specs.declared.char_data.BidiClass.TheVariants.{L};
 
 use crate::line_text;
-use crate::lines::{levels_and_runs, levels_per_char, levels_with_line};
 use crate::paragraph_bidi_info::ParagraphBidiInfo;
 use bidi_base::level::Level;
 use bidi_base::text::StrText;
+use bidi_lines::line_levels::{levels_per_char, levels_with_line};
+use bidi_lines::visual_runs::levels_and_runs;
 use std::alloc::{AllocError, Global};
 use std::borrow::CowStr;
 use std::ops::Range;
@@ -22,7 +23,7 @@ use std::ops::Range;
 // length (see `is_line`).
 impl<'t> ParagraphBidiInfo<'t> {
     ghost use Rattle.unicode_bidi.specs.ParagraphBidiInfo.{text as text_of, original_classes, levels as levels_of_info, paragraph_level};
-    ghost use Rattle.unicode_bidi.specs.Lines.{char_levels_of_line, char_levels_with_line};
+    ghost use Rattle.bidi_base.specs.Line.{char_levels_of_line, char_levels_with_line};
 
     /// The level of each byte of the whole text, where those of the line are as L1 leaves them and
     /// all others are the stored ones.

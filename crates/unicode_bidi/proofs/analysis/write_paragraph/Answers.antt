@@ -4,7 +4,7 @@ use Rattle.std.proofs.lemmas.Result.{on_ok_weaker}
 use Rattle.bidi_base.specs.Isolates.{stored_classes}
 use Rattle.bidi_base.specs.Text.{per_unit, subrange, text_len}
 use Rattle.unicode_bidi.specs.ParagraphFlags.{flags_of}
-use Rattle.unicode_bidi.proofs.LineInText.{length-part}
+use Rattle.bidi_lines.proofs.LineInText.{length-part}
 use Rattle.unicode_bidi.proofs.ParagraphUnits.{paragraph-IsPart, paragraph-written}
 use Rattle.unicode_bidi.specs.ParagraphFlags.{flags_of}
 use Rattle.unicode_bidi.proofs.analysis.write_paragraph.Goals as goal
