@@ -1,4 +1,3 @@
-pub mod Arranged
 pub mod Brackets
 pub mod Classes
 pub mod Direction
