@@ -11,7 +11,7 @@ use Rattle.bidi_base.specs.Places.{at_places, class_at}
 use Rattle.bidi_base.specs.Text.{place}
 use Rattle.bidi_base.specs.Units.{kept_in_place}
 use Rattle.bidi_base.proofs.ContextLemmas.{list_all-get_or}
-use Rattle.bidi_vectors.proofs.neutral_units_rows.resolve.Goals as goal
+use Rattle.bidi_rule_vectors.proofs.neutrals.resolve.Goals as goal
 
 abbrev taken : BidiClass → Bool
 taken c = is_weak_resolved c || not (is_kept_in_place c)
@@ -39,10 +39,10 @@ all_resolved len_of chars classes (k ∷ ks) all =
       | inr no' ↦ ap (λ (js : List ℕ). list_all is_weak_resolved (at_places L classes (map (place len_of chars) js))) (cond-false (is_kept_in_place (class_at classes u)) (k ∷ rest) rest no') ∙ others
     ]
 
-pub resolve-outcome-requires-clause-resolved : goal.resolve-outcome-requires-clause-resolved
+pub resolve-requires-clause-resolved : goal.resolve-requires-clause-resolved
 unfolding kept_in_place
-resolve-outcome-requires-clause-resolved g c = all_resolved _ _ c.args.classes.now _ (sym c.are_taken.ensures ∙ c.if-not-are_taken.false)
+resolve-requires-clause-resolved g c = all_resolved _ _ c.args.classes.now _ (sym c.are_left_or_removed.ensures ∙ c.if-not-are_left_or_removed.false)
 
-pub resolve_neutral-outcome-requires-clause-resolved : goal.resolve_neutral-outcome-requires-clause-resolved
+pub resolve_neutral-requires-clause-resolved : goal.resolve_neutral-requires-clause-resolved
 unfolding kept_in_place
-resolve_neutral-outcome-requires-clause-resolved g c = all_resolved _ _ c.args.classes.now _ (sym c.are_taken.ensures ∙ c.if-not-are_taken.false)
+resolve_neutral-requires-clause-resolved g c = all_resolved _ _ c.args.classes.now _ (sym c.are_left_or_removed.ensures ∙ c.if-not-are_left_or_removed.false)
