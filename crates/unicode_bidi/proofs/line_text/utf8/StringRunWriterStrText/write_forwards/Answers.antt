@@ -1,5 +1,5 @@
 use Rattle.bidi_base.proofs.StrLemmas.{IsCharBoundary-from_is_boundary}
-use Rattle.unicode_bidi.proofs.line_text.StringRunWriterStrText.write_forwards.Goals as goal
+use Rattle.unicode_bidi.proofs.line_text.utf8.StringRunWriterStrText.write_forwards.Goals as goal
 
 pub range-requires-clause-start_boundary : goal.range-requires-clause-start_boundary
 range-requires-clause-start_boundary c = λ _. IsCharBoundary-from_is_boundary c.as_str-text.result.now c.args.run.start c.as_str-text.utf8 (rw c.as_str-text.ensures c.requires.begins)

@@ -2,10 +2,9 @@ use Rattle.std.proofs.Common.{◌≡◌, ℕ, List, [], ◌∷◌, ◌++◌, fla
 use Rattle.std.specs.Str.{chars, encode_utf8_all, IsUtf8}
 use Rattle.std.specs.Char.{encode_utf8}
 use Rattle.std.specs.Prelude.{string_bytes}
-use Rattle.std.proofs.lemmas.List.{append-nil, nil_from_length, reverse-append, reverse-reverse}
+use Rattle.std.proofs.lemmas.List.{flat_map_more, nil_from_length, reverse-append, reverse-reverse}
 use Rattle.std.proofs.lemmas.Str.{chars_from_encodes}
-use Rattle.std.proofs.lemmas.Grind.{flat_map-append}
-use Rattle.unicode_bidi.proofs.line_text.push_reversed.Goals as goal
+use Rattle.unicode_bidi.proofs.line_text.utf8.push_reversed.Goals as goal
 
 -- one more character comes off the end
 taken : (text before after xs : List ℕ) (c : ℕ) → before ++ encode_utf8_all (reverse xs) ≡ text → before ≡ after ++ encode_utf8 c → after ++ encode_utf8_all (reverse (xs ++ c ∷ [])) ≡ text
@@ -14,12 +13,6 @@ taken text before after xs c h e =
     ∙ sym (append_assoc after (encode_utf8 c) (encode_utf8_all (reverse xs)))
     ∙ ap (λ bs. bs ++ encode_utf8_all (reverse xs)) (sym e)
     ∙ h
-
-pushed : (begun old new xs : List ℕ) (c : ℕ) → old ≡ begun ++ flat_map encode_utf8 xs → new ≡ old ++ encode_utf8 c → new ≡ begun ++ flat_map encode_utf8 (xs ++ c ∷ [])
-pushed begun old new xs c h e =
-    e ∙ ap (λ bs. bs ++ encode_utf8 c) h
-    ∙ append_assoc begun (flat_map encode_utf8 xs) (encode_utf8 c)
-    ∙ ap (λ bs. begun ++ bs) (sym (flat_map-append encode_utf8 xs (c ∷ []) ∙ ap (λ bs. flat_map encode_utf8 xs ++ bs) (append-nil (encode_utf8 c))))
 
 -- at the end all have come
 all_taken : (text rest xs : List ℕ) → IsUtf8 text → rest ++ encode_utf8_all (reverse xs) ≡ text → length rest ≡ 0 → xs ≡ reverse (chars text)
@@ -30,7 +23,7 @@ all_taken text rest xs u h e =
 pub loop-c-preserved : goal.loop-c-preserved
 loop-c-preserved c = record {
   rest = taken c.args.text.now _ _ c.loop-c.yielded c.in-Some.c c.loop-c.invariant.rest c.in-Some.ensures.steps;
-  written = pushed _ _ _ c.loop-c.yielded c.in-Some.c c.loop-c.invariant.written c.in_ok-push.ensures.bytes;
+  written = c.in_ok-push.ensures.bytes ∙ ap (λ bs. bs ++ encode_utf8 c.in-Some.c) c.loop-c.invariant.written ∙ flat_map_more encode_utf8 (string_bytes c.args.out.now) c.loop-c.yielded c.in-Some.c;
 }
 
 pub returns : goal.returns
