@@ -122,11 +122,6 @@ find-same p q (x ∷ xs) d same = rw (same 0 (omega arith), find-same p q xs d (
 pub filter_map-same : {X Y : Type 0} (f g : X → Option Y) (xs : List X) → ((x : X) → f x ≡ g x) → filter_map f xs ≡ filter_map g xs
 filter_map-same f g xs same = λ i. filter_map (λ x. same x i) xs
 
--- ---- a part of a list
-
-pub length-slice_range : {X : Type 0} (xs : List X) (a b : ℕ) → b ≤ length xs → length (slice_range xs a b) ≡ b - a
-length-slice_range xs a b within = length-take-le (b - a) (drop a xs) (omega (arith, length-drop a xs))
-
 -- ---- a list of which a part is written over by one value
 
 module _ {X : Type 0} (start count : ℕ) (xs : List X) (x d : X) (n : ℕ) where

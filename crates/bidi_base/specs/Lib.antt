@@ -1,10 +1,11 @@
-pub mod Arranged
+pub mod Analysed
 pub mod Brackets
 pub mod Classes
 pub mod Direction
 pub mod Display
 pub mod Embeddings
 pub mod Explicit
+pub mod FoundBrackets
 pub mod Implicit
 pub mod Isolates
 pub mod Laws

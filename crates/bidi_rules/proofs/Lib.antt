@@ -1,7 +1,5 @@
-pub mod BracketSearch
 pub mod ExplicitUnits
 pub mod FirstKept
-pub mod FoundBrackets
 pub mod Gathered
 pub mod InRuns
 pub mod KeptRangeLemmas

@@ -7,9 +7,9 @@ use Rattle.bidi_base.specs.Classes.{is_kept_in_place}
 use Rattle.bidi_base.specs.Places.{at_places, class_at}
 use Rattle.bidi_base.specs.Source.{Source}
 use Rattle.bidi_base.specs.Text.{place}
-use Rattle.bidi_rules.specs.declared.implicit.brackets.Bracket.{Bracket}
+use Rattle.bidi_base.specs.declared.brackets.Bracket.{Bracket}
 use Rattle.bidi_rules.specs.declared.implicit.neutral.NeutralResolver.{NeutralResolver}
-use Rattle.bidi_rules.specs.FoundBrackets.{found_brackets}
+use Rattle.bidi_base.specs.FoundBrackets.{found_brackets}
 
 -- the characters among those with these indexes that the pass takes as kept, where `units` has the class of each unit
 abbrev pub kept_among : (ℕ → ℕ) → List ℕ → List BidiClass → List ℕ → List ℕ

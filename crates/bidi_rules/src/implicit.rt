@@ -2,14 +2,14 @@
 //! characters (I1, I2), in place over the units of one paragraph.
 
 ghost use Rattle.std.specs.Prelude.{◌≡◌};
-ghost use Rattle.bidi_base.specs.Classes.{as_direction as as_direction_of, is_kept_in_place as is_kept_in_place_of};
+ghost use Rattle.bidi_base.specs.Classes.{is_kept_in_place as is_kept_in_place_of};
 
 mod brackets;
 mod levels;
 mod neutral;
 mod weak;
 
-use bidi_base::char_data::BidiClass::{self, AN, BN, EN, L, R};
+use bidi_base::char_data::BidiClass::{self, BN};
 pub use levels::resolve_levels;
 pub use neutral::{NeutralResolver, resolve_neutral};
 pub use weak::resolve_weak;
@@ -19,15 +19,4 @@ fn is_kept_in_place(class: BidiClass) -> bool
     ensures { result ≡ is_kept_in_place_of class }
 {
     !matches!(class, BN)
-}
-
-/// The direction that a class stands for in N0 and N1, where numbers stand for R.
-fn as_direction(class: BidiClass) -> Option<BidiClass>
-    ensures { result ≡ as_direction_of class }
-{
-    match class {
-        L => Some(L),
-        R | EN | AN => Some(R),
-        _ => None,
-    }
 }

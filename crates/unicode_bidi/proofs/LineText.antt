@@ -7,11 +7,10 @@ use Rattle.bidi_base.specs.Text.{place, per_unit, char_index, subrange}
 use Rattle.bidi_base.specs.Display.{Run, run_level, visual_runs, reordered_text, run_text, run_text_in, IsLevelRun, AreVisualRuns}
 use Rattle.bidi_base.proofs.TextLemmas.{HasUnits}
 use Rattle.bidi_base.proofs.PlaceLemmas.{place-mono, place-slice_range, char_index-place}
-use Rattle.bidi_base.proofs.OrderLemmas.{get_or-slice_range}
-use Rattle.unicode_bidi.proofs.VisualRuns.{visual_runs-are}
+use Rattle.bidi_base.proofs.OrderLemmas.{get_or-slice_range, length-slice_range}
+use Rattle.bidi_lines.proofs.VisualRuns.{visual_runs-are}
 use Rattle.unicode_bidi.proofs.CharRuns.{units_of, place_from, visual_runs-units}
 use Rattle.unicode_bidi.proofs.RunText.{reordered_text-runs, flat_map-same_on}
-use Rattle.bidi_base.proofs.Lists.{length-slice_range}
 
 -- a part of a part
 pub slice_range-slice_range : (xs : List ℕ) (i j a b : ℕ) → a ≤ b → i + b ≤ j → j ≤ length xs → slice_range (slice_range xs i j) a b ≡ slice_range xs (i + a) (i + b)

@@ -12,16 +12,16 @@ use Rattle.bidi_base.specs.Places.{between}
 use Rattle.bidi_base.specs.Text.{place, text_len, per_unit, char_index, subrange}
 use Rattle.bidi_base.specs.Order.{visual_order}
 use Rattle.bidi_base.specs.Display.{Run, run_level, visual_runs, written_run, written_runs, written_char, char_units, reordered_text, run_text, IsLevelRun, AreVisualRuns}
-use Rattle.bidi_base.proofs.OrderLemmas.{get_or-slice_range}
-use Rattle.unicode_bidi.proofs.Pieces.{All-between, length-between, get_or-between}
+use Rattle.bidi_base.proofs.OrderLemmas.{get_or-slice_range, length-slice_range}
+use Rattle.bidi_lines.proofs.Pieces.{All-between, length-between, get_or-between}
 use Rattle.std.proofs.lemmas.List.FromFn.{length-range_with_len, get_or-range_with_len}
-use Rattle.bidi_base.specs.Arranged.{NoneIsOdd}
+use Rattle.bidi_lines.specs.Arranged.{NoneIsOdd}
 use Rattle.bidi_base.proofs.TextLemmas.{HasUnits}
 use Rattle.bidi_base.proofs.PlaceLemmas.{place-more, place-mono, char_index-place}
-use Rattle.unicode_bidi.proofs.Ordered.{visual_order-still}
-use Rattle.unicode_bidi.proofs.VisualRuns.{visual_runs-are}
+use Rattle.bidi_lines.proofs.Ordered.{visual_order-still}
+use Rattle.bidi_lines.proofs.VisualRuns.{visual_runs-are}
 use Rattle.unicode_bidi.proofs.CharRuns.{units_of, place_from, visual_runs-units, run_level-units}
-use Rattle.bidi_base.proofs.Lists.{length-slice_range, map-reverse}
+use Rattle.bidi_base.proofs.Lists.{map-reverse}
 
 pub flat_map-same_on : {A B : Type 0} (f g : A → List B) (xs : List A) → All (λ x. f x ≡ g x) xs → flat_map f xs ≡ flat_map g xs
 flat_map-same_on f g [] h = refl

@@ -15,7 +15,7 @@ ghost use Rattle.bidi_base.specs.Places.{at_places, class_at, first_or};
 ghost use Rattle.bidi_base.specs.Sequences.{level_at};
 ghost use Rattle.bidi_base.specs.Text.{is_per_char, place, text_len, IsLine};
 ghost use Rattle.bidi_base.specs.Units.{bounds, in_runs, kept_in_place, AreLines};
-ghost use Rattle.bidi_rules.specs.FoundBrackets.{brackets_from, found_brackets};
+ghost use Rattle.bidi_base.specs.FoundBrackets.{brackets_from, found_brackets};
 ghost use Rattle.bidi_rules.specs.NeutralPass.{values_of, AreBracketsOf, AreGathered, HasGatheredNothing};
 ghost use Rattle.bidi_rules.specs.RunSequence.{runs as runs_of, sos as sos_of, eos as eos_of};
 
@@ -23,10 +23,11 @@ mod directions;
 mod one_direction;
 mod units;
 
-use super::brackets::{Bracket, find_pairs, resolve_pairs};
+use super::brackets::resolve_pairs;
 use super::is_kept_in_place;
 use super::weak::write_over_runs;
 use crate::prepare::{IsolatingRunSequence, LevelRun};
+use bidi_base::brackets::{Bracket, find_pairs};
 use bidi_base::char_data::BidiClass;
 use bidi_base::data_source::BidiDataSource;
 use bidi_base::level::Level;

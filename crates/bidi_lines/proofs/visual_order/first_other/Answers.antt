@@ -1,0 +1,25 @@
+use Rattle.std.proofs.Common.{◌≡◌, ℕ, ◌≢◌, eqb, not, true, false, Bool, refl, arith, w8}
+use Rattle.std.proofs.lemmas.Bool.{eqb-true, eq-eqb}
+use Rattle.std.proofs.lemmas.Simd.{bitmask_splat}
+use Rattle.bidi_lines.proofs.Lanes.{counted_lanes, lanes_long}
+use Rattle.bidi_lines.proofs.visual_order.first_other.Goals as goal
+
+abbrev other : ℕ → ℕ → Bool
+other level x = not (eqb x level)
+
+same_level : (x level : ℕ) → other level x ≡ false → x ≡ level
+same_level x level h = eqb-true x level (twice (eqb x level) h)
+  where
+    twice : (b : Bool) → not b ≡ false → b ≡ true
+    twice true h = refl
+    twice false h = cc
+
+other_level : (x level : ℕ) → other level x ≡ true → x ≢ level
+other_level x level h e = let k : eqb x level ≡ true = eq-eqb x level e in cc
+
+pub returns : goal.returns
+returns c =
+    let v = c.sixteen_numbers.result in
+    let bits = bitmask_splat w8 (λ a b. not (eqb a b)) v 16 c.args.level (lanes_long v c.args.levels.now c.args.at c.sixteen_numbers.ensures c.requires) (omega arith) in
+    let f = counted_lanes (other c.args.level) c.args.levels.now v c.args.at _ _ c.requires c.sixteen_numbers.ensures bits c.lanes_before.ensures in
+    record { within = f.0; same = λ p a b. same_level _ c.args.level (f.1 p a b); stops = λ a. other_level _ c.args.level (f.2 a) }
