@@ -97,7 +97,8 @@ sequence-one_level paragraph classes k d within p there =
     let places_are : s.places ≡ chain (successor classes levels) (length classes) (Some b.0) = ap (λ (r : RunSequence). r.places) b.1 in
     let inside = (sequence-kept paragraph classes levels k d within p there).1 in
     let same = explicit_levels-SameLevelAtMatch paragraph classes in
-    let found = chain-level (successor classes levels) levels (λ p r. successor-level classes levels p r same) (length classes) (Some b.0) p (subst (λ (ps : List ℕ). 0 < times_in ps p) places_are there) in
+    let on_chain : 0 < times_in (chain (successor classes levels) (length classes) (Some b.0)) p = subst (λ (ps : List ℕ). 0 < times_in ps p) places_are there in
+    let found = chain-level (successor classes levels) levels (λ p r. successor-level classes levels p r same) (length classes) (Some b.0) p on_chain in
     let first : first_or 0 s.places ≡ b.0 = ap (first_or 0) places_are ∙ first_of_chain (successor classes levels) (length classes) b.0 (omega (arith, inside)) in
     let begun : b.0 ≡ found.0 = cc found.1 in
     found.2 ∙ ap (level_at levels) (sym (first ∙ begun))

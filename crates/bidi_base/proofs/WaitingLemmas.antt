@@ -239,7 +239,8 @@ module _ (classes : List BidiClass) (levels : List ℕ) where
   pub is_first-none_open : (a m : ℕ) (out : List (List ℕ)) (waits : List (Option ℕ)) → IsPass a m out [] waits → BeginsRun classes levels m → is_first classes levels m ≡ true
   unfolding matching_pdi
   is_first-none_open a m out waits h begins =
-      is_first-run classes levels m begins (λ i opens matches ends. IsReadStack-no_match (is_initiator_at classes) (is_pdi_at classes) (initiators_apart classes) (length classes) m i h.isolates opens matches)
+      is_first-run classes levels m begins
+      (λ i opens matches ends. IsReadStack-no_match (is_initiator_at classes) (is_pdi_at classes) (initiators_apart classes) (length classes) m i h.isolates opens matches)
 
   pub is_first-not_waiting : (a m i : ℕ) (out : List (List ℕ)) (stack : List ℕ) (waits : List (Option ℕ)) → IsPass a m out (i ∷ stack) (None ∷ waits)
       → m < length classes → is_pdi_at classes m ≡ true → BeginsRun classes levels m → is_first classes levels m ≡ true
