@@ -1,6 +1,6 @@
 -- Facts on lists and searches that several files use.
 use Rattle.std.proofs.Common.{◌≡◌, ℕ, zero, suc, ◌+◌, ◌-◌, ◌<◌, ◌≤◌, Bool, true, false, cond, ◌&&◌, List, [], ◌∷◌, ◌++◌, length, map, get_or, take, drop, reverse, filter, filter_map, find, Option, Some, None, option_map, refl, sym, ap, ◌∙◌, arith, ◌⊎◌, inl, inr, append-nil, le_refl, length-append, length-drop}
-use Rattle.std.specs.Prelude.{replicate, slice_range}
+use Rattle.std.specs.Prelude.{replicate}
 use Rattle.std.specs.List.{list_all}
 use Rattle.std.specs.Option.{option_or}
 use Rattle.std.proofs.lemmas.Bool.{cases_Bool, and_parts, and_from}
