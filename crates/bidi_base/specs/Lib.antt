@@ -1,4 +1,4 @@
-pub mod Arranged
+pub mod Analysed
 pub mod Brackets
 pub mod Classes
 pub mod Direction

@@ -1,6 +1,7 @@
 pub mod CharRuns
 pub mod DirectionLemmas
 pub mod FilledUnits
+pub mod FoundLaws
 pub mod LevelPasses
 pub mod LineUnits
 pub mod LineText

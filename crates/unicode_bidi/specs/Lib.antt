@@ -1,5 +1,6 @@
-pub mod Analysis
+pub mod Analysed
 pub mod BidiInfo
+pub mod Engine
 pub mod InitialInfo
 pub mod Paragraph
 pub mod ParagraphBidiInfo
