@@ -82,7 +82,8 @@ with_bracket-filled source classes ys b m d long inside counted filled =
     rw (filled, part, same)
     (fill_by_all (λ k. cond (eqb k b || is_mark_after source b k) d (class_at classes k)) (put_mid b (1 + m) classes (replicate (1 + m) d)) (length classes) L
     (length-put_mid b (1 + m) classes d room)
-    (λ k fits. at k room fits ∙ ap (λ t. cond (eqb k b || t) d (class_at classes k)) (ap (λ (n : ℕ). ltb b k && ltb k (b + 1 + n)) marks ∙ sym (is_mark_after-prefix_len source b k (omega arith) (omega arith)))))
+    (λ k fits.
+    at k room fits ∙ ap (λ t. cond (eqb k b || t) d (class_at classes k)) (ap (λ (n : ℕ). ltb b k && ltb k (b + 1 + n)) marks ∙ sym (is_mark_after-prefix_len source b k (omega arith) (omega arith)))))
   where
     at : (k : ℕ) → b + (1 + m) ≤ length classes → k < length classes
         → get_or (put_mid b (1 + m) classes (replicate (1 + m) d)) k L ≡ cond (eqb k b || (ltb b k && ltb k (b + 1 + m))) d (class_at classes k)
