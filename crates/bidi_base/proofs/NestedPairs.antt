@@ -1,8 +1,8 @@
 -- Bracket pairs never cross: each stands behind those that open before it, or within them.
 use Rattle.std.proofs.Common.{◌≡◌, ℕ, zero, suc, ◌+◌, ◌-◌, ◌<◌, Bool, true, false, not, ◌&&◌, eqb, ltb, leb, List, [], ◌∷◌, ◌++◌, length, get_or, find, filter_map, Option, Some, None, refl, sym, ap, subst, ◌∙◌, ◌⊎◌, arith, inl, inr, add-one, eqb-true, lt-ltb}
 use Rattle.std.specs.Prelude.{All}
-use Rattle.std.specs.List.{range_with_len, cons_option, AllByRecursion, AllPairs}
-use Rattle.std.proofs.lemmas.Bool.{cases_Bool, cases_lt, cases_order, both_ways, and_parts, and_from, le-leb, not-true, false_from_ne_true}
+use Rattle.std.specs.List.{range_with_len, AllByRecursion, AllPairs}
+use Rattle.std.proofs.lemmas.Bool.{cases_Bool, cases_lt, cases_order, both_ways, and_parts, le-leb, not-true, false_from_ne_true}
 use Rattle.std.proofs.lemmas.List.{length-append, get_or_append_left}
 use Rattle.std.proofs.Math.Seq.{get_or-append_seam}
 use Rattle.std.proofs.lemmas.List.Elements.{All-append, All-cons, All-nil, All-from_recursion}
