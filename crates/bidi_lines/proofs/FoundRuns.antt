@@ -27,13 +27,6 @@ runs_within start levels ranges e k d fits =
     (there.starts_within, omega (arith, there.not_empty, there.ends_within))
 
 -- one more place
-pub at_places-more : (ranges : List (Range ℕ)) (order : List ℕ) (i : ℕ) (d : Range ℕ) → i < length order → get_or order i 0 < length ranges
-    → at_places (0, 0) (map run_of ranges) (take (i + 1) order) ≡ at_places (0, 0) (map run_of ranges) (take i order) ++ run_of (get_or ranges (get_or order i 0) d) ∷ []
-at_places-more ranges order i d fits inside =
-    ap (at_places (0, 0) (map run_of ranges)) (take_more order i 0 fits)
-    ∙ at_places-append (0, 0) (map run_of ranges) (take i order) (get_or order i 0 ∷ [])
-    ∙ ap (λ (r : Run). at_places (0, 0) (map run_of ranges) (take i order) ++ r ∷ []) (get_or-map run_of ranges (get_or order i 0) d (0, 0) inside)
-
 pub pushed-more : (ranges old new : List (Range ℕ)) (order : List ℕ) (i : ℕ) (d x : Range ℕ) → i < length order → get_or order i 0 < length ranges
     → map run_of old ≡ at_places (0, 0) (map run_of ranges) (take i order) → new ≡ old ++ x ∷ [] → run_of x ≡ run_of (get_or ranges (get_or order i 0) d)
     → map run_of new ≡ at_places (0, 0) (map run_of ranges) (take (i + 1) order)
@@ -42,7 +35,9 @@ pushed-more ranges old new order i d x fits inside h e same =
     ∙ map-append run_of old (x ∷ [])
     ∙ ap (λ (l : List Run). l ++ run_of x ∷ []) h
     ∙ ap (λ (r : Run). at_places (0, 0) (map run_of ranges) (take i order) ++ r ∷ []) same
-    ∙ sym (at_places-more ranges order i d fits inside)
+    ∙ sym (ap (at_places (0, 0) (map run_of ranges)) (take_more order i 0 fits)
+    ∙ at_places-append (0, 0) (map run_of ranges) (take i order) (get_or order i 0 ∷ [])
+    ∙ ap (λ (r : Run). at_places (0, 0) (map run_of ranges) (take i order) ++ r ∷ []) (get_or-map run_of ranges (get_or order i 0) d (0, 0) inside))
 
 -- where no run has an odd level, the runs stand as they are
 pub visual_runs-still : (start : ℕ) (levels : List ℕ) → has_rtl (map (run_level start levels) (level_runs start levels)) ≡ false → level_runs start levels ≡ visual_runs start levels
