@@ -74,8 +74,5 @@ unfolding visual_runs
 visual_runs-found start levels of_runs order runs e f g =
     ap (at_places (0, 0) runs) (g ∙ ap visual_order f) ∙ ap (λ rs. at_places (0, 0) rs (visual_order (map (run_level start levels) rs))) e
 
-pub order_below : (of_runs order : List ℕ) (n : ℕ) → length of_runs ≡ n → IsVisualOrder of_runs order → All (λ k. k < n) order
-order_below of_runs order n e h k d fits = let r : get_or order k d < length of_runs = All-permutation (λ i. i < length of_runs) (indexes of_runs) order h.all_indexes (all_below of_runs) k d fits in omega arith
-
 pub AreVisualRuns-from_same : (start : ℕ) (levels : List ℕ) (runs : List Run) → runs ≡ visual_runs start levels → AreVisualRuns start levels runs
 AreVisualRuns-from_same start levels runs e = subst (AreVisualRuns start levels) (sym e) (visual_runs-are start levels)
