@@ -382,17 +382,16 @@ module _ (level : ℕ) (classes : List BidiClass) (levels : List ℕ) where
   pub IsQuietFrom-start : IsQuietFrom level classes levels true (length classes)
   IsQuietFrom-start = record { within = omega arith; reset_next = sym (is_reset-end classes); none = λ k from below. absurd (omega arith) }
 
-  -- the unit before it
-  pub reset-before : (at : ℕ) (next reset : Bool) → at < length classes → next ≡ is_reset (drop (at + 1) classes) → reset ≡ (is_separator (class_at classes at) || (is_blank (class_at classes at) && next)) → reset ≡ is_reset (drop at classes)
-  reset-before at next reset fits e f =
-      f ∙ ap (λ r. is_separator (class_at classes at) || (is_blank (class_at classes at) && r)) (e ∙ ap (λ n. is_reset (drop n classes)) (let n : at + 1 ≡ suc at = omega arith in n))
-      ∙ sym (ap is_reset (drop-cons classes at L fits))
-
-  -- what is read at a unit
-  pub shows_rtl-at : (at : ℕ) (reset shows : Bool) (own : ℕ) → reset ≡ is_reset (drop at classes) → own ≡ get_or levels at 0
-      → shows ≡ (if reset then is_odd level else (not (is_removed (class_at classes at)) && is_odd own)) → shows ≡ shows_rtl level classes levels at
-  shows_rtl-at at reset shows own e f g =
-      g ∙ ap₂ (λ r x. if r then is_odd level else (not (is_removed (class_at classes at)) && is_odd x)) e f
+  -- what is read at a unit: whether it is reset, and whether it shows an odd level
+  pub read-at : (at : ℕ) (next reset shows : Bool) (own : ℕ) → at < length classes → next ≡ is_reset (drop (at + 1) classes)
+      → reset ≡ (is_separator (class_at classes at) || (is_blank (class_at classes at) && next)) → own ≡ get_or levels at 0
+      → shows ≡ (if reset then is_odd level else (not (is_removed (class_at classes at)) && is_odd own)) → (reset ≡ is_reset (drop at classes)) × (shows ≡ shows_rtl level classes levels at)
+  read-at at next reset shows own fits e f g h = (here, h ∙ ap₂ (λ r x. if r then is_odd level else (not (is_removed (class_at classes at)) && is_odd x)) here g)
+    where
+      here : reset ≡ is_reset (drop at classes)
+      here =
+          f ∙ ap (λ r. is_separator (class_at classes at) || (is_blank (class_at classes at) && r)) (e ∙ ap (λ n. is_reset (drop n classes)) (let n : at + 1 ≡ suc at = omega arith in n))
+          ∙ sym (ap is_reset (drop-cons classes at L fits))
 
   pub IsQuietFrom-more : (at : ℕ) (next reset : Bool) → at < length classes → reset ≡ is_reset (drop at classes) → shows_rtl level classes levels at ≡ false → IsQuietFrom level classes levels next (at + 1) → IsQuietFrom level classes levels reset at
   IsQuietFrom-more at next reset fits e here h = record { within = omega arith; reset_next = e; none = each }

@@ -48,6 +48,14 @@ follow-apart a b (run ∷ runs) h j zero before fits = absurd (omega arith)
 follow-apart a b (run ∷ runs) h zero (suc k) before fits = follow-low run.1 b runs h.2 k (omega arith)
 follow-apart a b (run ∷ runs) h (suc j) (suc k) before fits = follow-apart run.1 b runs h.2 j k (omega arith) (omega arith)
 
+-- and so neither its begin nor its end is after the other's
+follow-ordered : (a b : ℕ) (runs : List Run) → Follow a b runs → (j k : ℕ) → j ≤ k → k < length runs → (run_at runs k).0 < (run_at runs k).1 → (run_at runs j).0 < (run_at runs j).1
+    → ((run_at runs j).0 ≤ (run_at runs k).0) × ((run_at runs j).1 ≤ (run_at runs k).1)
+follow-ordered a b runs h j k order fits some some' = elim (cases_lt j k) [
+  | inl before ↦ let g = follow-apart a b runs h j k before fits in (omega arith, omega arith)
+  | inr same ↦ let e : k ≡ j = omega arith in rw e (le_refl _, le_refl _)
+]
+
 -- a line cut into its level runs
 record Cut (from : ℕ) (levels : List ℕ) (runs : List Run) : Type 0 where
   follow : Follow from (from + length levels) runs
@@ -110,20 +118,10 @@ least-runs from levels runs cut k l u w order fits unit unit' up = omega (arith,
         let begins = first.starts_within in
         let ends = last.ends_within in
         let some = here.not_empty in
-        let unit_y : IsUnitOf (run_at runs j) (max u (run_at runs j).0) = elim (cases_order k j) [
-          | inl e ↦ let e' : run_at runs k ≡ run_at runs j = ap (run_at runs) e in let p : IsUnitOf (run_at runs j) u = subst (λ (r : Run). IsUnitOf r u) e' unit in (omega (arith, p.0), omega (arith, p.1, p.0))
-          | inr apart ↦ elim apart [
-            | inl c ↦ let g = follow-apart from (from + length levels) runs cut.follow k j c (omega arith) in (omega arith, omega (arith, g, unit.1, some))
-            | inr c ↦ absurd (omega arith)
-          ]
-        ] in
-        let within : max u (run_at runs j).0 ≤ w = elim (cases_order j l) [
-          | inl e ↦ let e' : run_at runs l ≡ run_at runs j = ap (run_at runs) (sym e) in let p : IsUnitOf (run_at runs j) w = subst (λ (r : Run). IsUnitOf r w) e' unit' in omega (arith, p.0)
-          | inr apart ↦ elim apart [
-            | inl c ↦ let g = follow-apart from (from + length levels) runs cut.follow j l c fits in omega (arith, g, unit'.0, some)
-            | inr c ↦ absurd (omega arith)
-          ]
-        ] in
+        let g = follow-ordered from (from + length levels) runs cut.follow k j a (omega arith) some first.not_empty in
+        let h = follow-ordered from (from + length levels) runs cut.follow j l b fits last.not_empty some in
+        let unit_y : IsUnitOf (run_at runs j) (max u (run_at runs j).0) = (omega arith, omega (arith, g.1, unit.1)) in
+        let within : max u (run_at runs j).0 ≤ w = omega (arith, h.0, unit'.0) in
         let same : get_or levels (max u (run_at runs j).0 - from) 0 ≡ get_or (run_levels from levels runs) j 0 = unit_level from levels runs cut j (max u (run_at runs j).0) (omega arith) unit_y in
         let le : least_between levels (u - from) (w - from) ≤ get_or levels (max u (run_at runs j).0 - from) 0 =
         le-least_between levels (u - from) (w - from) (least_between levels (u - from) (w - from)) (omega arith) (omega (arith, unit'.1, unit.0)) (le_refl _) (max u (run_at runs j).0 - from) (omega arith) (omega arith) in
