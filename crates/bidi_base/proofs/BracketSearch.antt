@@ -15,7 +15,7 @@ use Rattle.bidi_base.proofs.ChainLemmas.{range_with_len-append}
 use Rattle.bidi_base.proofs.PlacesLemmas.{find-passes, find-index, find_last-index, range_with_len-more}
 use Rattle.bidi_base.proofs.NestedPairs.{closed_before-pairs}
 use Rattle.bidi_base.proofs.OpeningSearch.{opening_of, find_last-entries}
-use Rattle.bidi_base.proofs.PairsLemmas.{closed_before, IsUnderWay, IsUnderWay-start, IsUnderWay-other, IsUnderWay-opening, IsUnderWay-unmatched, IsUnderWay-pair, IsUnderWay-entry, HasEnded, pairs_of-found, closing_in}
+use Rattle.bidi_base.proofs.PairsLemmas.{closed_before, IsUnderWay, IsUnderWay-start, IsUnderWay-other, IsUnderWay-opening, IsUnderWay-unmatched, IsUnderWay-pair, IsUnderWay-entry, HasEnded, pairs_of-found, closing_in, filter_map-same}
 use Rattle.bidi_base.specs.declared.brackets.Bracket.{Bracket}
 use Rattle.bidi_base.specs.declared.brackets.Waiting.{Waiting}
 use Rattle.bidi_base.specs.FoundBrackets.{brackets_from}
@@ -346,9 +346,6 @@ module _ (counted : List (Option BidiMatchedOpeningBracket)) where
   filter_map_none f low zero none = refl
   filter_map_none f low (suc n) none = ap (λ (o : Option (ℕ × ℕ)). cons_option o (filter_map f (range_with_len (low + 1) n))) (none low (omega arith)) ∙ filter_map_none f (low + 1) n (λ k from. none k (omega arith))
 
-  filter_map_same : (f g : ℕ → Option (ℕ × ℕ)) (xs : List ℕ) → ((x : ℕ) → f x ≡ g x) → filter_map f xs ≡ filter_map g xs
-  filter_map_same f g xs same = λ i. filter_map (λ x. same x i) xs
-
   -- where the search ends, the openings that have a closing are the pairs
   IsPairing-end : (slots : List (ℕ × ℕ)) (waiting : List Waiting) (j : ℕ) → IsPairing slots waiting j → (j ≡ length counted) ⊎ ((opens j ≡ true) × (max_open_brackets ≤ length waiting))
       → filter (λ (p : ℕ × ℕ). ltb p.0 p.1) slots ≡ pairs_of counted
@@ -362,7 +359,7 @@ module _ (counted : List (Option BidiMatchedOpeningBracket)) where
       let place : j + (n - j) ≡ n = omega arith in
       ap (filter (λ (p : ℕ × ℕ). ltb p.0 p.1)) h.found
       ∙ kept_slots closed 0 j
-      ∙ filter_map_same (kept_at closed) begins (range_with_len 0 j) (kept_is j)
+      ∙ filter_map-same (kept_at closed) begins (range_with_len 0 j) (kept_is j)
       ∙ sym (append-nil (filter_map begins (range_with_len 0 j)))
       ∙ ap (λ (ps : List (ℕ × ℕ)). filter_map begins (range_with_len 0 j) ++ ps) (sym (filter_map_none begins (0 + j) (n - j) (λ k from. none_from j k (omega arith))))
       ∙ sym (filter_map-append begins (range_with_len 0 j) (range_with_len (0 + j) (n - j)))

@@ -69,7 +69,7 @@ filter-same : (p q : ℕ → Bool) (xs : List ℕ) → ((x : ℕ) → p x ≡ q 
 filter-same p q [] same = refl
 filter-same p q (x ∷ xs) same = ap (λ b. cond b (x ∷ filter p xs) (filter p xs)) (same x) ∙ ap (λ (ys : List ℕ). cond (q x) (x ∷ ys) ys) (filter-same p q xs same)
 
-filter_map-same : (f g : ℕ → Option (ℕ × ℕ)) (xs : List ℕ) → ((x : ℕ) → f x ≡ g x) → filter_map f xs ≡ filter_map g xs
+pub filter_map-same : (f g : ℕ → Option (ℕ × ℕ)) (xs : List ℕ) → ((x : ℕ) → f x ≡ g x) → filter_map f xs ≡ filter_map g xs
 filter_map-same f g [] same = refl
 filter_map-same f g (x ∷ xs) same = ap (λ (o : Option (ℕ × ℕ)). cons_option o (filter_map f xs)) (same x) ∙ ap (cons_option (g x)) (filter_map-same f g xs same)
 
@@ -454,76 +454,11 @@ module _ (brackets : List (Option BidiMatchedOpeningBracket)) where
 abbrev pub closing_in : List (ℕ × ℕ) → ℕ → Option ℕ
 closing_in pairs i = option_map (λ (p : ℕ × ℕ). p.1) (find (λ (p : ℕ × ℕ). eqb p.0 i) pairs)
 
-pub closings-pair : (closings : List (Option ℕ)) (pairs : List (ℕ × ℕ)) (n i j : ℕ) → closings ≡ map (closing_in pairs) (range_with_len 0 n) → i < n → find (λ (p : ℕ × ℕ). eqb p.0 i) pairs ≡ None
-    → set closings i (Some j) ≡ map (closing_in (pairs ++ (i, j) ∷ [])) (range_with_len 0 n)
-closings-pair closings pairs n i j is fits free =
-    let long : length closings ≡ n = ap length is ∙ length-map-range_with_len (closing_in pairs) 0 n in
-    fill_by_all (closing_in (pairs ++ (i, j) ∷ [])) (set closings i (Some j)) n None (length-set closings i (Some j) ∙ long)
-    (λ k below. elim (cases_eq k i) [
-      | inl here ↦
-          let lt : i < length closings = omega arith in
-          ap (λ (m : ℕ). get_or (set closings i (Some j)) m None) here ∙ get_or-set_same closings i (Some j) None lt
-          ∙ sym (ap (closing_in (pairs ++ (i, j) ∷ [])) here ∙ ap (option_map (λ (p : ℕ × ℕ). p.1)) (at_i ∙ ap (λ b. option_or None (cond b (Some (i, j)) None)) (eq-eqb i i refl)))
-      | inr other ↦
-          get_or-set_other closings i k (Some j) None other
-          ∙ ap (λ (cs : List (Option ℕ)). get_or cs k None) is
-          ∙ get_or-map-range_with_len (closing_in pairs) 0 n k k None below (omega arith)
-          ∙ sym (ap (option_map (λ (p : ℕ × ℕ). p.1))
-          (find-append (λ (p : ℕ × ℕ). eqb p.0 k) pairs ((i, j) ∷ []) ∙ ap (λ b. option_or (find (λ (p : ℕ × ℕ). eqb p.0 k) pairs) (cond b (Some (i, j)) None)) (ne_eqb i k (λ e. other (sym e))) ∙ or_none (find (λ (p : ℕ × ℕ). eqb p.0 k) pairs)))
-    ])
-  where
-    or_none : (o : Option (ℕ × ℕ)) → option_or o None ≡ o
-    or_none None = refl
-    or_none (Some p) = refl
-
-    at_i : find (λ (p : ℕ × ℕ). eqb p.0 i) (pairs ++ (i, j) ∷ []) ≡ option_or None (cond (eqb i i) (Some (i, j)) None)
-    at_i = find-append (λ (p : ℕ × ℕ). eqb p.0 i) pairs ((i, j) ∷ []) ∙ ap (λ (o : Option (ℕ × ℕ)). option_or o (cond (eqb i i) (Some (i, j)) None)) free
-
--- a pair with its opening
-closing-back : (i : ℕ) (pairs : List (ℕ × ℕ)) → option_map (λ (c : ℕ). (i, c)) (closing_in pairs i) ≡ find (λ (p : ℕ × ℕ). eqb p.0 i) pairs
-closing-back i [] = refl
-closing-back i (p ∷ pairs) = elim (cases_Bool (eqb p.0 i)) [
-  | inl yes' ↦
-      let here : find (λ (q : ℕ × ℕ). eqb q.0 i) (p ∷ pairs) ≡ Some p = cond-true (eqb p.0 i) (Some p) (find (λ (q : ℕ × ℕ). eqb q.0 i) pairs) yes' in
-      let first : p.0 ≡ i = eqb-true p.0 i yes' in
-      ap (λ (o : Option (ℕ × ℕ)). option_map (λ (c : ℕ). (i, c)) (option_map (λ (q : ℕ × ℕ). q.1) o)) here ∙ ap (λ (k : ℕ). Some (k, p.1)) (sym first) ∙ sym here
-  | inr no' ↦
-      let there : find (λ (q : ℕ × ℕ). eqb q.0 i) (p ∷ pairs) ≡ find (λ (q : ℕ × ℕ). eqb q.0 i) pairs = cond-false (eqb p.0 i) (Some p) (find (λ (q : ℕ × ℕ). eqb q.0 i) pairs) no' in
-      ap (λ (o : Option (ℕ × ℕ)). option_map (λ (c : ℕ). (i, c)) (option_map (λ (q : ℕ × ℕ). q.1) o)) there ∙ closing-back i pairs ∙ sym there
-]
-
-filter_map-range : (f g : ℕ → Option (ℕ × ℕ)) (low n : ℕ) → ((k : ℕ) → low ≤ k → k < low + n → f k ≡ g k) → filter_map f (range_with_len low n) ≡ filter_map g (range_with_len low n)
-filter_map-range f g low zero same = refl
-filter_map-range f g low (suc n) same =
-    ap (λ (o : Option (ℕ × ℕ)). cons_option o (filter_map f (range_with_len (low + 1) n))) (same low (omega arith) (omega arith))
-    ∙ ap (cons_option (g low)) (filter_map-range f g (low + 1) n (λ k from below. same k (omega arith) (omega arith)))
-
--- the closings listed with their openings
-pub closings-listed : (closings : List (Option ℕ)) (pairs : List (ℕ × ℕ)) (n : ℕ) → closings ≡ map (closing_in pairs) (range_with_len 0 n)
-    → filter_map (λ (i : ℕ). option_map (λ (c : ℕ). (i, c)) (get_or closings i None)) (indexes closings) ≡ filter_map (λ i. find (λ (p : ℕ × ℕ). eqb p.0 i) pairs) (range_with_len 0 n)
-closings-listed closings pairs n is =
-    let long : length closings ≡ n = ap length is ∙ length-map-range_with_len (closing_in pairs) 0 n in
-    ap (λ (m : ℕ). filter_map (λ (i : ℕ). option_map (λ (c : ℕ). (i, c)) (get_or closings i None)) (range_with_len 0 m)) long
-    ∙ filter_map-range (λ (i : ℕ). option_map (λ (c : ℕ). (i, c)) (get_or closings i None)) (λ i. find (λ (p : ℕ × ℕ). eqb p.0 i) pairs) 0 n
-    (λ k from below.
-    ap (λ (cs : List (Option ℕ)). option_map (λ (c : ℕ). (k, c)) (get_or cs k None)) is
-    ∙ ap (option_map (λ (c : ℕ). (k, c))) (get_or-map-range_with_len (closing_in pairs) 0 n k k None (omega arith) (omega arith))
-    ∙ closing-back k pairs)
-
--- the counted brackets, one a class
 pub length-counted_brackets : (classes : List BidiClass) (brackets : List (Option BidiMatchedOpeningBracket)) → length brackets ≡ length classes → length (counted_brackets classes brackets) ≡ length classes
 length-counted_brackets [] brackets h = refl
 length-counted_brackets (c ∷ classes) [] h = absurd (omega arith)
 length-counted_brackets (c ∷ classes) (b ∷ brackets) h = ap suc (length-counted_brackets classes brackets (omega arith))
 
-pub bracket_at-counted : (classes : List BidiClass) (brackets : List (Option BidiMatchedOpeningBracket)) (k : ℕ) (d : BidiClass) → length brackets ≡ length classes → k < length classes
-    → bracket_at (counted_brackets classes brackets) k ≡ counted_bracket (get_or classes k d) (get_or brackets k None)
-bracket_at-counted [] brackets k d h fits = absurd (omega arith)
-bracket_at-counted (c ∷ classes) [] k d h fits = absurd (omega arith)
-bracket_at-counted (c ∷ classes) (b ∷ brackets) zero d h fits = refl
-bracket_at-counted (c ∷ classes) (b ∷ brackets) (suc k) d h fits = bracket_at-counted classes brackets k d (omega arith) (omega arith)
-
--- the pairs of a sequence lie in it
 pub bracket_pairs-in_order : (classes : List BidiClass) (brackets : List (Option BidiMatchedOpeningBracket)) → length brackets ≡ length classes
     → ArePairsWithin (length classes) (bracket_pairs classes brackets)
 unfolding bracket_pairs

@@ -64,6 +64,3 @@ ReadsTo-more len_of chars runs run at end first before after old now new fits c 
       run_ends = c.below;
     })
     (h p same over start)
-
-pub ReadsTo-none : (len_of : ℕ → ℕ) (chars : List ℕ) (runs : List (ℕ × ℕ)) (from at : ℕ) (walk : Walk) (old : List BidiClass) → at ≡ from → ReadsTo len_of chars runs from at walk walk old old
-ReadsTo-none len_of chars runs from at walk old e = λ p same over start. subst (IsUnderWay p old walk) (sym e) start
