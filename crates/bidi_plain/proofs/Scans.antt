@@ -1,10 +1,10 @@
 -- A pass over a slice of classes that rewrites it by a rule in context, and carries along the nearest class before that passes a test.
-use Rattle.std.proofs.Common.{◌≡◌, ℕ, ◌+◌, ◌<◌, Bool, cond, List, length, get_or, take, drop, set, reverse, refl, sym, ap, ◌∙◌}
+use Rattle.std.proofs.Common.{◌≡◌, ℕ, ◌+◌, ◌<◌, Bool, cond, List, length, get_or, take, drop, set, reverse, sym, ap, ◌∙◌}
 use Rattle.bidi_base.specs.declared.char_data.BidiClass.{BidiClass}
 use Rattle.bidi_base.specs.declared.char_data.BidiClass.TheVariants.{L}
 use Rattle.bidi_base.specs.Places.{nearest}
 use Rattle.bidi_base.proofs.PlacesLemmas.{reverse-take_more, nearest-more}
-use Rattle.bidi_base.proofs.InPlace.{IsRewritten, IsRewritten-start, IsRewritten-read, IsRewritten-write, IsRewritten-keep}
+use Rattle.bidi_base.proofs.InPlace.{IsRewritten, IsRewritten-read, IsRewritten-write}
 
 module _ (rule : List BidiClass → BidiClass → List BidiClass → BidiClass) (test : BidiClass → Bool) (start : BidiClass) where
   -- the first i classes are rewritten, and `nearest_one` is the nearest class before i that passes the test

@@ -2,7 +2,7 @@
 
 ghost use Rattle.std.specs.Prelude.{◌≡◌, not, ◌||◌};
 ghost use Rattle.std.specs.List.{list_all};
-ghost use Rattle.bidi_base.specs.Classes.{is_read, is_weak_resolved};
+ghost use Rattle.bidi_base.specs.Classes.{is_kept_in_place, is_weak_resolved};
 
 use bidi_base::char_data::BidiClass::{
     self, AN, B, BN, CS, EN, FSI, L, LRI, NSM, ON, PDF, PDI, R, RLE, RLI, S, WS,
@@ -20,7 +20,7 @@ use std::test::Fail;
 
 // Whether a unit may have this class: BN, or one that the weak types leave.
 fn is_taken(class: BidiClass) -> bool
-    ensures { result ≡ (is_weak_resolved class || not (is_read class)) }
+    ensures { result ≡ (is_weak_resolved class || not (is_kept_in_place class)) }
 {
     matches!(
         class,
@@ -29,7 +29,7 @@ fn is_taken(class: BidiClass) -> bool
 }
 
 fn are_taken(classes: &[BidiClass]) -> bool
-    ensures { result ≡ list_all (λ c. is_weak_resolved c || not (is_read c)) classes.now }
+    ensures { result ≡ list_all (λ c. is_weak_resolved c || not (is_kept_in_place c)) classes.now }
 {
     classes.iter().all(|class| is_taken(*class))
 }

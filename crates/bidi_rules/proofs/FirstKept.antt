@@ -1,4 +1,4 @@
--- The first unit of some runs that is read, and the first character.
+-- The first unit of some runs that is kept, and the first character.
 use Rattle.std.proofs.Common.{◌≡◌, ℕ, zero, suc, ◌+◌, ◌-◌, ◌<◌, ◌≤◌, Bool, true, false, List, [], ◌∷◌, ◌++◌, length, map, get_or, take, drop, find, Option, Some, None, slice_get, refl, sym, ap, ◌∙◌, arith, append-nil, inl, inr}
 use Rattle.std.specs.List.{range_with_len}
 use Rattle.std.specs.Option.{option_or}
@@ -9,16 +9,16 @@ use Rattle.std.proofs.lemmas.List.{map-append, take_more, take-append-drop}
 use Rattle.std.proofs.lemmas.List.Elements.{All-head, All-tail, filter-append}
 use Rattle.std.proofs.lemmas.List.Folds.{find-append}
 use Rattle.bidi_base.specs.declared.char_data.BidiClass.{BidiClass}
-use Rattle.bidi_base.specs.Classes.{is_read}
+use Rattle.bidi_base.specs.Classes.{is_kept_in_place}
 use Rattle.bidi_base.specs.Places.{between, class_at, first_or}
 use Rattle.bidi_base.specs.Text.{place, IsLine, char_index, IsPerChar}
-use Rattle.bidi_base.specs.Units.{bounds, chars_in_runs, read_in_runs, units_in_runs, AreLines}
+use Rattle.bidi_base.specs.Units.{bounds, chars_in_runs, kept_in_place, units_in_runs, AreLines}
 use Rattle.bidi_base.proofs.PlaceLemmas.{line_places, place-lt, place-mono}
 use Rattle.bidi_base.proofs.PlacesLemmas.{IsLeast, find-between-is, find-between-is_None}
 use Rattle.bidi_base.proofs.TextLemmas.{HasUnits}
-use Rattle.bidi_rules.specs.NeutralPass.{read_among}
+use Rattle.bidi_rules.specs.NeutralPass.{kept_among}
 use Rattle.bidi_rules.proofs.PassOverText.{alike_class}
-use Rattle.bidi_rules.proofs.ReadRuns.{no_range}
+use Rattle.bidi_rules.proofs.KeptRuns.{no_range}
 
 -- ---- a search through the runs one after another
 
@@ -72,10 +72,10 @@ first-append (x ∷ xs) ys = refl
 
 module _ (len_of : ℕ → ℕ) (h : HasUnits len_of) (chars : List ℕ) (units : List BidiClass) (per : IsPerChar len_of chars units) where
   abbrev reads : ℕ → Bool
-  reads u = is_read (class_at units u)
+  reads u = is_kept_in_place (class_at units u)
 
   -- of the n characters from i on
-  first_in_line : (i n : ℕ) → i + n ≤ length chars → find reads (between (place len_of chars i) (place len_of chars (i + n))) ≡ slice_get (map (place len_of chars) (read_among len_of chars units (range_with_len i n))) 0
+  first_in_line : (i n : ℕ) → i + n ≤ length chars → find reads (between (place len_of chars i) (place len_of chars (i + n))) ≡ slice_get (map (place len_of chars) (kept_among len_of chars units (range_with_len i n))) 0
   first_in_line i zero fits =
       let same : i + 0 ≡ i = omega arith in
       let none : place len_of chars (i + 0) - place len_of chars i ≡ 0 = omega (arith, ap (place len_of chars) same) in
@@ -87,7 +87,7 @@ module _ (len_of : ℕ → ℕ) (h : HasUnits len_of) (chars : List ℕ) (units 
       let end_is = ap (place len_of chars) next in
       let some = place-lt len_of chars h i (i + 1) (omega arith) (omega arith) in
       let order = place-mono len_of chars (i + 1) (i + suc n) (omega arith) in
-      let more = read_among len_of chars units (range_with_len (i + 1) n) in
+      let more = kept_among len_of chars units (range_with_len (i + 1) n) in
       let rest : find reads (between b (place len_of chars (i + suc n))) ≡ slice_get (map (place len_of chars) more) 0 =
       ap (λ u. find reads (between b u)) (sym end_is) ∙ first_in_line (i + 1) n (omega arith)
       in
@@ -100,28 +100,28 @@ module _ (len_of : ℕ → ℕ) (h : HasUnits len_of) (chars : List ℕ) (units 
             ∙ ap (λ (ks : List ℕ). slice_get (map (place len_of chars) ks) 0) (sym (cond-true (reads a) (i ∷ more) more yes'))
         | inr no' ↦
             ap (λ (o : Option ℕ). option_or o (find reads (between b (place len_of chars (i + suc n)))))
-            (find-between-is_None reads a b (λ k from below. ap is_read (alike_class len_of h chars units per i k (omega arith) from below) ∙ no'))
+            (find-between-is_None reads a b (λ k from below. ap is_kept_in_place (alike_class len_of h chars units per i k (omega arith) from below) ∙ no'))
             ∙ rest
             ∙ ap (λ (ks : List ℕ). slice_get (map (place len_of chars) ks) 0) (sym (cond-false (reads a) (i ∷ more) more no'))
       ]
 
-  pub first_read-is : (runs : List (ℕ × ℕ)) → AreLines len_of chars runs → find reads (units_in_runs runs) ≡ slice_get (map (place len_of chars) (read_in_runs len_of chars units runs)) 0
-  unfolding read_in_runs chars_in_runs
-  first_read-is [] lines = refl
-  first_read-is (r ∷ runs) lines =
+  pub first_kept-is : (runs : List (ℕ × ℕ)) → AreLines len_of chars runs → find reads (units_in_runs runs) ≡ slice_get (map (place len_of chars) (kept_in_place len_of chars units runs)) 0
+  unfolding kept_in_place chars_in_runs
+  first_kept-is [] lines = refl
+  first_kept-is (r ∷ runs) lines =
       let i = char_index len_of chars r.0 in
       let j = char_index len_of chars r.1 in
       let line = All-head (λ (q : ℕ × ℕ). IsLine len_of chars q.0 q.1) r runs lines in
       let w = line_places len_of h chars r.0 r.1 line in
       let whole : i + (j - i) ≡ j = omega (arith, w.ordered) in
-      let here = read_among len_of chars units (between i j) in
-      let later = read_among len_of chars units (chars_in_runs len_of chars runs) in
+      let here = kept_among len_of chars units (between i j) in
+      let later = kept_among len_of chars units (chars_in_runs len_of chars runs) in
       find-append reads (between r.0 r.1) (units_in_runs runs)
       ∙ ap (λ (o : Option ℕ). option_or o (find reads (units_in_runs runs)))
       (ap (λ u. find reads (between u r.1)) w.begins
       ∙ ap (λ u. find reads (between (place len_of chars i) u)) (w.ends ∙ ap (place len_of chars) (sym whole))
       ∙ first_in_line i (j - i) (omega (arith, w.within)))
-      ∙ ap (option_or (slice_get (map (place len_of chars) here) 0)) (first_read-is runs (All-tail (λ (q : ℕ × ℕ). IsLine len_of chars q.0 q.1) r runs lines))
+      ∙ ap (option_or (slice_get (map (place len_of chars) here) 0)) (first_kept-is runs (All-tail (λ (q : ℕ × ℕ). IsLine len_of chars q.0 q.1) r runs lines))
       ∙ sym (first-append (map (place len_of chars) here) (map (place len_of chars) later))
       ∙ ap (λ (us : List ℕ). slice_get us 0) (sym (map-append (place len_of chars) here later) ∙ ap (map (place len_of chars)) (sym (filter-append (λ k. reads (place len_of chars k)) (between i j) (chars_in_runs len_of chars runs))))
 

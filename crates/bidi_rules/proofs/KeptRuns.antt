@@ -1,4 +1,4 @@
--- The characters of runs that the passes read, one after another.
+-- The characters of runs that the passes take as kept, one after another.
 use Rattle.std.proofs.Common.{◌≡◌, ℕ, zero, suc, ◌+◌, ◌-◌, ◌<◌, ◌≤◌, true, false, List, [], ◌∷◌, ◌++◌, length, map, get_or, take, drop, refl, sym, ap, subst, ◌∙◌, arith, append-nil, add-one, take_all, length-append}
 use Rattle.std.specs.List.{range_with_len}
 use Rattle.std.proofs.lemmas.Bool.{cond-true, cond-false}
@@ -7,16 +7,16 @@ use Rattle.std.proofs.lemmas.List.{get_or-take, get_or-drop, get_or-map, length-
 use Rattle.std.proofs.lemmas.List.Elements.{All-get_or, All-head, All-tail, filter-append}
 use Rattle.std.specs.declared.ops.Range.{Range}
 use Rattle.bidi_base.specs.declared.char_data.BidiClass.{BidiClass}
-use Rattle.bidi_base.specs.Classes.{is_read}
+use Rattle.bidi_base.specs.Classes.{is_kept_in_place}
 use Rattle.bidi_base.specs.Places.{at_places, between, class_at}
 use Rattle.bidi_base.specs.Text.{place, IsLine, char_index, subrange}
-use Rattle.bidi_base.specs.Units.{are_ordered, are_ordered_from, bounds, chars_in_runs, read_in_runs, AreLines}
+use Rattle.bidi_base.specs.Units.{are_ordered, are_ordered_from, bounds, chars_in_runs, kept_in_place, AreLines}
 use Rattle.bidi_base.proofs.StoredLemmas.{at_places-append}
 use Rattle.bidi_base.proofs.TextLemmas.{HasUnits}
 use Rattle.bidi_base.proofs.PermutationLemmas.{Ascends, Ascends-filter, Ascends-lower, Ascends-range}
 use Rattle.bidi_base.proofs.PlaceLemmas.{CharTurn, char_index-le, line_places, place-le-back, place-slice_range, text_len-subrange}
 use Rattle.bidi_base.proofs.PlacesLemmas.{range_with_len-more}
-use Rattle.bidi_rules.specs.NeutralPass.{read_among, values_of}
+use Rattle.bidi_rules.specs.NeutralPass.{kept_among, values_of}
 use Rattle.bidi_rules.proofs.WalkLemmas.{are_ordered-front, map-take}
 
 -- ---- the turns of a loop over the characters of a line
@@ -75,74 +75,74 @@ module _ (len_of : ℕ → ℕ) (chars : List ℕ) where
 
   module _ (units : List BidiClass) where
     -- of the first n characters from `start` on
-    abbrev pub read_so_far : ℕ → ℕ → List ℕ
-    read_so_far start n = read_among len_of chars units (range_with_len (char_index len_of chars start) n)
+    abbrev pub kept_so_far : ℕ → ℕ → List ℕ
+    kept_so_far start n = kept_among len_of chars units (range_with_len (char_index len_of chars start) n)
 
-    pub read_so_far-step : (start n : ℕ) → read_so_far start (n + 1) ≡ read_so_far start n ++ read_among len_of chars units ((char_index len_of chars start + n) ∷ [])
-    read_so_far-step start n =
+    pub kept_so_far-step : (start n : ℕ) → kept_so_far start (n + 1) ≡ kept_so_far start n ++ kept_among len_of chars units ((char_index len_of chars start + n) ∷ [])
+    kept_so_far-step start n =
         let i = char_index len_of chars start in
-        ap (λ m. read_among len_of chars units (range_with_len i m)) (add-one n)
-        ∙ ap (read_among len_of chars units) (range_with_len-more i n)
-        ∙ filter-append (λ k. is_read (class_at units (place len_of chars k))) (range_with_len i n) ((i + n) ∷ [])
+        ap (λ m. kept_among len_of chars units (range_with_len i m)) (add-one n)
+        ∙ ap (kept_among len_of chars units) (range_with_len-more i n)
+        ∙ filter-append (λ k. is_kept_in_place (class_at units (place len_of chars k))) (range_with_len i n) ((i + n) ∷ [])
 
-    pub read_so_far-more : (start n at : ℕ) → place len_of chars (char_index len_of chars start + n) ≡ at → is_read (class_at units at) ≡ true → read_so_far start (n + 1) ≡ read_so_far start n ++ (char_index len_of chars start + n) ∷ []
-    read_so_far-more start n at here reads =
+    pub kept_so_far-more : (start n at : ℕ) → place len_of chars (char_index len_of chars start + n) ≡ at → is_kept_in_place (class_at units at) ≡ true → kept_so_far start (n + 1) ≡ kept_so_far start n ++ (char_index len_of chars start + n) ∷ []
+    kept_so_far-more start n at here reads =
         let k = char_index len_of chars start + n in
-        read_so_far-step start n
-        ∙ ap (λ (js : List ℕ). read_so_far start n ++ js) (cond-true (is_read (class_at units (place len_of chars k))) (k ∷ []) [] (ap (λ u. is_read (class_at units u)) here ∙ reads))
+        kept_so_far-step start n
+        ∙ ap (λ (js : List ℕ). kept_so_far start n ++ js) (cond-true (is_kept_in_place (class_at units (place len_of chars k))) (k ∷ []) [] (ap (λ u. is_kept_in_place (class_at units u)) here ∙ reads))
 
-    pub read_so_far-skip : (start n at : ℕ) → place len_of chars (char_index len_of chars start + n) ≡ at → is_read (class_at units at) ≡ false → read_so_far start (n + 1) ≡ read_so_far start n
-    read_so_far-skip start n at here skips =
+    pub kept_so_far-skip : (start n at : ℕ) → place len_of chars (char_index len_of chars start + n) ≡ at → is_kept_in_place (class_at units at) ≡ false → kept_so_far start (n + 1) ≡ kept_so_far start n
+    kept_so_far-skip start n at here skips =
         let k = char_index len_of chars start + n in
-        read_so_far-step start n
-        ∙ ap (λ (js : List ℕ). read_so_far start n ++ js) (cond-false (is_read (class_at units (place len_of chars k))) (k ∷ []) [] (ap (λ u. is_read (class_at units u)) here ∙ skips))
-        ∙ append-nil (read_so_far start n)
+        kept_so_far-step start n
+        ∙ ap (λ (js : List ℕ). kept_so_far start n ++ js) (cond-false (is_kept_in_place (class_at units (place len_of chars k))) (k ∷ []) [] (ap (λ u. is_kept_in_place (class_at units u)) here ∙ skips))
+        ∙ append-nil (kept_so_far start n)
 
     -- all characters of a run
-    pub read_so_far-end : (start stop n : ℕ) → char_index len_of chars start + n ≡ char_index len_of chars stop → read_so_far start n ≡ read_in_runs len_of chars units ((start, stop) ∷ [])
-    unfolding read_in_runs chars_in_runs
-    read_so_far-end start stop n all =
+    pub kept_so_far-end : (start stop n : ℕ) → char_index len_of chars start + n ≡ char_index len_of chars stop → kept_so_far start n ≡ kept_in_place len_of chars units ((start, stop) ∷ [])
+    unfolding kept_in_place chars_in_runs
+    kept_so_far-end start stop n all =
         let i = char_index len_of chars start in
         let count : n ≡ char_index len_of chars stop - i = omega arith in
-        ap (λ m. read_among len_of chars units (range_with_len i m)) count
-        ∙ ap (read_among len_of chars units) (sym (append-nil (between i (char_index len_of chars stop))))
+        ap (λ m. kept_among len_of chars units (range_with_len i m)) count
+        ∙ ap (kept_among len_of chars units) (sym (append-nil (between i (char_index len_of chars stop))))
 
     -- some runs, and then others
-    pub read_in_runs-append : (runs others : List (ℕ × ℕ)) → read_in_runs len_of chars units (runs ++ others) ≡ read_in_runs len_of chars units runs ++ read_in_runs len_of chars units others
-    unfolding read_in_runs chars_in_runs
-    read_in_runs-append runs others =
-        ap (read_among len_of chars units) (flat_map-append (λ (x : ℕ × ℕ). between (char_index len_of chars x.0) (char_index len_of chars x.1)) runs others)
-        ∙ filter-append (λ k. is_read (class_at units (place len_of chars k))) (chars_in_runs len_of chars runs) (chars_in_runs len_of chars others)
+    pub kept_in_place-append : (runs others : List (ℕ × ℕ)) → kept_in_place len_of chars units (runs ++ others) ≡ kept_in_place len_of chars units runs ++ kept_in_place len_of chars units others
+    unfolding kept_in_place chars_in_runs
+    kept_in_place-append runs others =
+        ap (kept_among len_of chars units) (flat_map-append (λ (x : ℕ × ℕ). between (char_index len_of chars x.0) (char_index len_of chars x.1)) runs others)
+        ∙ filter-append (λ k. is_kept_in_place (class_at units (place len_of chars k))) (chars_in_runs len_of chars runs) (chars_in_runs len_of chars others)
 
     -- the first runs, one after another
-    pub read_in_runs-none : read_in_runs len_of chars units [] ≡ []
-    unfolding read_in_runs chars_in_runs
-    read_in_runs-none = refl
+    pub kept_in_place-none : kept_in_place len_of chars units [] ≡ []
+    unfolding kept_in_place chars_in_runs
+    kept_in_place-none = refl
 
-    pub read_in_runs-more : (runs : List (Range ℕ)) (i : ℕ) → i < length runs
-        → read_in_runs len_of chars units (map bounds (take (i + 1) runs)) ≡ read_in_runs len_of chars units (map bounds (take i runs)) ++ read_in_runs len_of chars units (bounds (get_or runs i no_range) ∷ [])
-    read_in_runs-more runs i fits =
-        ap (λ (rs : List (Range ℕ)). read_in_runs len_of chars units (map bounds rs)) (take_more runs i no_range fits)
-        ∙ ap (read_in_runs len_of chars units) (map-append bounds (take i runs) (get_or runs i no_range ∷ []))
-        ∙ read_in_runs-append (map bounds (take i runs)) (bounds (get_or runs i no_range) ∷ [])
+    pub kept_in_place-more : (runs : List (Range ℕ)) (i : ℕ) → i < length runs
+        → kept_in_place len_of chars units (map bounds (take (i + 1) runs)) ≡ kept_in_place len_of chars units (map bounds (take i runs)) ++ kept_in_place len_of chars units (bounds (get_or runs i no_range) ∷ [])
+    kept_in_place-more runs i fits =
+        ap (λ (rs : List (Range ℕ)). kept_in_place len_of chars units (map bounds rs)) (take_more runs i no_range fits)
+        ∙ ap (kept_in_place len_of chars units) (map-append bounds (take i runs) (get_or runs i no_range ∷ []))
+        ∙ kept_in_place-append (map bounds (take i runs)) (bounds (get_or runs i no_range) ∷ [])
 
-    pub read_in_runs-whole : (runs : List (Range ℕ)) (i : ℕ) → length runs ≤ i → read_in_runs len_of chars units (map bounds (take i runs)) ≡ read_in_runs len_of chars units (map bounds runs)
-    read_in_runs-whole runs i past = ap (λ (rs : List (Range ℕ)). read_in_runs len_of chars units (map bounds rs)) (take_all i runs past)
+    pub kept_in_place-whole : (runs : List (Range ℕ)) (i : ℕ) → length runs ≤ i → kept_in_place len_of chars units (map bounds (take i runs)) ≡ kept_in_place len_of chars units (map bounds runs)
+    kept_in_place-whole runs i past = ap (λ (rs : List (Range ℕ)). kept_in_place len_of chars units (map bounds rs)) (take_all i runs past)
 
-    pub length-read_in_runs-take : (runs : List (Range ℕ)) (i : ℕ) → length (read_in_runs len_of chars units (map bounds (take i runs))) ≤ length (read_in_runs len_of chars units (map bounds runs))
-    length-read_in_runs-take runs i =
-        let parts = ap (λ (rs : List (Range ℕ)). read_in_runs len_of chars units (map bounds rs)) (take-append-drop i runs) in
-        let both = ap (read_in_runs len_of chars units) (map-append bounds (take i runs) (drop i runs)) ∙ read_in_runs-append (map bounds (take i runs)) (map bounds (drop i runs)) in
-        omega (arith, ap length parts, ap length both, length-append (read_in_runs len_of chars units (map bounds (take i runs))) (read_in_runs len_of chars units (map bounds (drop i runs))))
+    pub length-kept_in_place-take : (runs : List (Range ℕ)) (i : ℕ) → length (kept_in_place len_of chars units (map bounds (take i runs))) ≤ length (kept_in_place len_of chars units (map bounds runs))
+    length-kept_in_place-take runs i =
+        let parts = ap (λ (rs : List (Range ℕ)). kept_in_place len_of chars units (map bounds rs)) (take-append-drop i runs) in
+        let both = ap (kept_in_place len_of chars units) (map-append bounds (take i runs) (drop i runs)) ∙ kept_in_place-append (map bounds (take i runs)) (map bounds (drop i runs)) in
+        omega (arith, ap length parts, ap length both, length-append (kept_in_place len_of chars units (map bounds (take i runs))) (kept_in_place len_of chars units (map bounds (drop i runs))))
 
     -- the values of what is read
-    pub values_so_far-more : {X : Type 0} (d : X) (values : List X) (start n at : ℕ) → place len_of chars (char_index len_of chars start + n) ≡ at → is_read (class_at units at) ≡ true
-        → values_of d len_of chars values (read_so_far start (n + 1)) ≡ values_of d len_of chars values (read_so_far start n) ++ get_or values at d ∷ []
+    pub values_so_far-more : {X : Type 0} (d : X) (values : List X) (start n at : ℕ) → place len_of chars (char_index len_of chars start + n) ≡ at → is_kept_in_place (class_at units at) ≡ true
+        → values_of d len_of chars values (kept_so_far start (n + 1)) ≡ values_of d len_of chars values (kept_so_far start n) ++ get_or values at d ∷ []
     values_so_far-more {X} d values start n at here reads =
         let k = char_index len_of chars start + n in
-        ap (values_of d len_of chars values) (read_so_far-more start n at here reads)
-        ∙ values_of-append d values (read_so_far start n) (k ∷ [])
-        ∙ ap {B = List X} (λ u. values_of d len_of chars values (read_so_far start n) ++ get_or values u d ∷ []) here
+        ap (values_of d len_of chars values) (kept_so_far-more start n at here reads)
+        ∙ values_of-append d values (kept_so_far start n) (k ∷ [])
+        ∙ ap {B = List X} (λ u. values_of d len_of chars values (kept_so_far start n) ++ get_or values u d ∷ []) here
 
 -- ---- the characters of runs in order rise
 
@@ -185,17 +185,17 @@ module _ (len_of : ℕ → ℕ) (h : HasUnits len_of) (chars : List ℕ) where
       (chars-all j runs (All-tail (λ (q : ℕ × ℕ). IsLine len_of chars q.0 q.1) r runs lines) one.2 (char_index-le len_of chars r.1))
 
   module _ (units : List BidiClass) where
-    pub read_in_runs-before : (runs : List (Range ℕ)) (n : ℕ) → AreLines len_of chars (map bounds runs) → are_ordered (map bounds runs) ≡ true → n < length runs
-        → Ascends 0 (read_in_runs len_of chars units (map bounds (take n runs))) (char_index len_of chars (get_or runs n no_range).start)
-    unfolding read_in_runs
-    read_in_runs-before runs n lines ordered fits =
+    pub kept_in_place-before : (runs : List (Range ℕ)) (n : ℕ) → AreLines len_of chars (map bounds runs) → are_ordered (map bounds runs) ≡ true → n < length runs
+        → Ascends 0 (kept_in_place len_of chars units (map bounds (take n runs))) (char_index len_of chars (get_or runs n no_range).start)
+    unfolding kept_in_place
+    kept_in_place-before runs n lines ordered fits =
         let rs = map bounds runs in
         let all : Ascends 0 (chars_in_runs len_of chars (take n rs)) (char_index len_of chars (get_or rs n (0, 0)).0) = chars-before 0 rs n lines ordered (omega arith) (omega (arith, length-map runs bounds)) in
-        Ascends-filter (λ k. is_read (class_at units (place len_of chars k))) 0 (char_index len_of chars (get_or runs n no_range).start) (chars_in_runs len_of chars (map bounds (take n runs)))
+        Ascends-filter (λ k. is_kept_in_place (class_at units (place len_of chars k))) 0 (char_index len_of chars (get_or runs n no_range).start) (chars_in_runs len_of chars (map bounds (take n runs)))
         (subst (λ (xs : List (ℕ × ℕ)). Ascends 0 (chars_in_runs len_of chars xs) (char_index len_of chars (get_or runs n no_range).start)) (sym (map-take bounds n runs))
         (subst (λ (r : ℕ × ℕ). Ascends 0 (chars_in_runs len_of chars (take n rs)) (char_index len_of chars r.0)) (get_or-map bounds runs n no_range (0, 0) fits) all))
 
-    pub read_in_runs-Ascends : (runs : List (ℕ × ℕ)) → AreLines len_of chars runs → are_ordered runs ≡ true → Ascends 0 (read_in_runs len_of chars units runs) (length chars)
-    unfolding read_in_runs
-    read_in_runs-Ascends runs lines ordered =
-        Ascends-filter (λ k. is_read (class_at units (place len_of chars k))) 0 (length chars) (chars_in_runs len_of chars runs) (chars-all 0 runs lines ordered (omega arith))
+    pub kept_in_place-Ascends : (runs : List (ℕ × ℕ)) → AreLines len_of chars runs → are_ordered runs ≡ true → Ascends 0 (kept_in_place len_of chars units runs) (length chars)
+    unfolding kept_in_place
+    kept_in_place-Ascends runs lines ordered =
+        Ascends-filter (λ k. is_kept_in_place (class_at units (place len_of chars k))) 0 (length chars) (chars_in_runs len_of chars runs) (chars-all 0 runs lines ordered (omega arith))
