@@ -1,15 +1,15 @@
 -- A paragraph of level 0 without a character that may turn it: all its levels are 0.
-use Rattle.std.proofs.Common.{◌≡◌, ℕ, zero, suc, ◌+◌, ◌-◌, ◌<◌, Bool, true, false, not, ◌&&◌, ◌||◌, cond, List, [], ◌∷◌, length, get_or, map, take, drop, reverse, max, filter_map, find, Option, Some, None, unwrap_or, option_map, refl, sym, ap, ◌∙◌, arith, inl, inr}
-use Rattle.std.specs.Prelude.{replicate, slice_range}
-use Rattle.std.specs.List.{list_all, list_any, cons_option}
-use Rattle.std.proofs.lemmas.Bool.{cases_Bool, cases_lt, both_ways, and_parts, and_from, and_left, or_from, or_cases, not-true, cond-true, cond-false, false_from_ne_true}
+use Rattle.std.proofs.Common.{◌≡◌, ℕ, zero, suc, ◌+◌, ◌-◌, ◌<◌, Bool, true, false, not, ◌&&◌, ◌||◌, cond, List, [], ◌∷◌, length, get_or, map, max, Option, Some, None, unwrap_or, refl, sym, ap, ◌∙◌, arith, inl, inr}
+use Rattle.std.specs.Prelude.{replicate}
+use Rattle.std.specs.List.{list_all, list_any}
+use Rattle.std.proofs.lemmas.Bool.{cases_Bool, cases_lt, both_ways, and_parts, and_from, and_left, or_from, not-true, cond-true, cond-false, false_from_ne_true}
 use Rattle.std.proofs.lemmas.List.{get_or_past, length-replicate}
 use Rattle.std.proofs.lemmas.List.Folds.{list_any_at}
 use Rattle.std.proofs.lemmas.List.Sorted.{IsPermutation-refl}
 use Rattle.bidi_base.specs.declared.char_data.BidiClass.{BidiClass}
 use Rattle.bidi_base.specs.declared.char_data.BidiClass.TheVariants.{L, R, AL, EN, ES, ET, AN, CS, NSM, B, S, WS, ON, LRE, LRO, RLE, RLO, LRI, RLI, FSI, PDI}
 use Rattle.bidi_base.specs.declared.data_source.BidiMatchedOpeningBracket.{BidiMatchedOpeningBracket}
-use Rattle.bidi_base.specs.Classes.{as_direction, is_initiator, is_embedding, is_kept, is_nsm, is_al, is_en, is_et, is_l, is_l_or_r, is_neutral, is_paragraph_separator, is_removed, is_strong, is_weak_resolved, same_class}
+use Rattle.bidi_base.specs.Classes.{is_initiator, is_embedding, is_kept, is_nsm, is_al, is_en, is_et, is_l, is_l_or_r, is_paragraph_separator, is_removed, is_strong, is_weak_resolved, same_class}
 use Rattle.bidi_base.specs.Levels.{direction_of}
 use Rattle.bidi_base.specs.Direction.{may_turn, is_pure_ltr}
 use Rattle.bidi_base.specs.Places.{class_at, at_places, first_or, nearest, nearest_is}
@@ -18,8 +18,7 @@ use Rattle.bidi_base.specs.Embeddings.{is_embedded, is_open_at, open_at}
 use Rattle.bidi_base.specs.Explicit.{Status, status_inside, status_at, explicit_level, explicit_class, explicit_levels, explicit_classes}
 use Rattle.bidi_base.specs.Sequences.{RunSequence, is_kept_at, level_at, level_or, kept_before, next_kept, start_class, end_class, sequence_from, sequences}
 use Rattle.bidi_base.specs.Weak.{carried, w1_rule, w2_rule, w3_rule, w4_rule, w5_rule, w6_rule, w7_rule, w1, w2, w3, w4, w5, w6, weak_classes}
-use Rattle.bidi_base.specs.Brackets.{bracket_pairs}
-use Rattle.bidi_base.specs.Neutral.{nearest_direction, directions_between, pair_direction, n0, n1_rule, neutral_classes}
+use Rattle.bidi_base.specs.Neutral.{neutral_classes}
 use Rattle.bidi_base.specs.Implicit.{implicit_levels}
 use Rattle.bidi_base.specs.Stored.{resolved_levels, levels_in}
 use Rattle.bidi_base.proofs.ChainLemmas.{filter_range-none}
