@@ -1,19 +1,17 @@
 -- The pass over level runs, one by one, and over the characters of each.
-use Rattle.std.proofs.Common.{◌≡◌, ℕ, zero, suc, ◌+◌, ◌-◌, ◌<◌, ◌≤◌, Bool, true, false, cond, eqb, List, [], ◌∷◌, ◌++◌, length, map, get_or, set, take, reverse, length-append, Option, Some, None, refl, sym, ap, subst, ◌∙◌, arith, inl, inr, eqb-true, le_refl}
+use Rattle.std.proofs.Common.{◌≡◌, ℕ, zero, suc, ◌+◌, ◌-◌, ◌<◌, ◌≤◌, Bool, true, cond, eqb, List, [], ◌∷◌, ◌++◌, length, get_or, set, reverse, length-append, Option, Some, None, refl, sym, subst, arith, inl, inr, eqb-true}
 use Rattle.std.specs.Prelude.{filter, IfSome}
 use Rattle.std.specs.List.{range_with_len}
 use Rattle.std.proofs.lemmas.Bool.{cases_Bool, cases_eq, cond-true, cond-false, eqb-false}
-use Rattle.std.proofs.lemmas.List.{reverse-append, reverse-reverse, take-append-le, take_all, get_or_push, get_or-set_same, length-set}
+use Rattle.std.proofs.lemmas.List.{get_or_push, get_or-set_same, length-set}
 use Rattle.bidi_base.specs.declared.char_data.BidiClass.{BidiClass}
-use Rattle.bidi_base.specs.Classes.{is_initiator, is_pdi}
 use Rattle.bidi_base.specs.Places.{class_at, last_or}
-use Rattle.bidi_base.specs.Isolates.{is_initiator_at, is_pdi_at}
-use Rattle.bidi_base.specs.Sequences.{is_kept_at, successor, is_first, sequences}
-use Rattle.bidi_base.specs.SequencePass.{read_class, waiting_for}
+use Rattle.bidi_base.specs.Sequences.{is_kept_at, successor, is_first}
+use Rattle.bidi_base.specs.SequencePass.{waiting_for}
 use Rattle.bidi_base.proofs.ReadStack.{Member}
 use Rattle.bidi_base.proofs.OpenPass.{IsAt, goes_on}
 use Rattle.bidi_base.proofs.RunsLemmas.{EndsRun, IsRun, IsLevelRun, IsRun-IsLevelRun, AreRunSteps-successors, IsFront, front_of}
-use Rattle.bidi_base.proofs.WaitingLemmas.{Member-append_right, IsWaiting, IsPass, IsPass-start, IsPass-end, IsPass-begin, IsPass-join, IsPass-stay, IsPass-skip, IsPass-initiator, IsPass-pdi, successor-waiting, is_first-no_pdi, is_first-none_open, is_first-not_waiting, inside_run}
+use Rattle.bidi_base.proofs.WaitingLemmas.{Member-append_right, IsWaiting, IsPass, IsPass-begin, IsPass-join, IsPass-skip, inside_run}
 
 -- the characters of a run come to the sequence at s, or to a new one
 abbrev pub with_places : Option ℕ → List ℕ → List (List ℕ) → List (List ℕ)

@@ -5,7 +5,7 @@ use Rattle.bidi_base.specs.Text.{place, IsLine, char_index, subrange}
 use Rattle.bidi_base.proofs.TextLemmas.{HasUnits}
 use Rattle.bidi_base.proofs.PlaceLemmas.{place-slice_range, line_places, text_len-subrange, LengthTurn}
 use Rattle.bidi_rules.specs.declared.implicit.weak.Walk.{Walk}
-use Rattle.bidi_rules.specs.WeakWalk.{IsCharacter, IsUnderWay, Reads, ReadsTo}
+use Rattle.bidi_rules.specs.WeakWalk.{IsCharacter, Reads, ReadsTo}
 
 -- ---- the characters of a line
 

@@ -14,7 +14,7 @@ use Rattle.bidi_base.specs.contracts.char_data.BidiClassPartialEq.TheImpl.{ghost
 use Rattle.bidi_base.proofs.PerCharTests.{class_test}
 use Rattle.bidi_base.proofs.UnitsLemmas.{length-from_is_per_char}
 use Rattle.bidi_rules.proofs.RunCutting.{IsCutTo-end, IsCutTo-none}
-use Rattle.bidi_rules.proofs.ExplicitUnits.{CanRead, IsTurn, IsRead-start, IsRead-can, IsRead-kept, IsRead-removed, IsRead-levels, IsRead-classes, turn_of, few_characters, text_len-some}
+use Rattle.bidi_rules.proofs.ExplicitUnits.{IsTurn, IsRead-start, IsRead-can, IsRead-kept, IsRead-removed, IsRead-levels, IsRead-classes, turn_of, few_characters, text_len-some}
 use Rattle.bidi_rules.proofs.explicit.compute.Given.{Over}
 use Rattle.bidi_rules.proofs.explicit.compute.Goals as goal
 use Rattle.bidi_rules.proofs.explicit.compute.Goals.{In-Some, In-None}

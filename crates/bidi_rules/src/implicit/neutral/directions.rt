@@ -10,17 +10,28 @@ use bidi_base::char_data::BidiClass;
 use bidi_base::classes::as_direction;
 use bidi_base::neutrals::common_direction;
 
+/// The directions that neutrals of a sequence can take beside those among them.
+#[derive(Clone, Copy, Debug)]
+pub struct Directions {
+    /// That of the sequence's level.
+    pub embedding: BidiClass,
+    /// That before its first character.
+    pub sos: BidiClass,
+    /// That after its last character.
+    pub eos: BidiClass,
+}
+
 /// N1 and N2: neutrals take the direction on both their sides, where sos and eos stand at the ends,
 /// and the embedding direction where the two differ.
-pub fn resolve_directions(
-    embedding: BidiClass,
-    sos: BidiClass,
-    eos: BidiClass,
-    classes: &mut [BidiClass],
-)
+pub fn resolve_directions(directions: Directions, classes: &mut [BidiClass])
     requires { IsTrue (list_all is_weak_resolved classes.old) }
-    ensures { classes.new ≡ n1_n2 embedding sos eos classes.old }
+    ensures { classes.new ≡ n1_n2 directions.embedding directions.sos directions.eos classes.old }
 {
+    let Directions {
+        embedding,
+        sos,
+        eos,
+    } = directions;
     let mut left = sos;
     let mut start = 0;
     for at in 0..classes.len() {
