@@ -24,7 +24,7 @@ reverse_front {X} xs v vs e =
     (ap (λ k. take k xs) count ∙ ap (take (length (reverse vs))) whole ∙ take-append-le (length (reverse vs)) (reverse vs) (v ∷ []) (le_refl _) ∙ take_all (length (reverse vs)) (reverse vs) (le_refl _))
     ∙ reverse-reverse vs
 
-last_or-append : {X : Type 0} (d : X) (xs : List X) (v : X) → last_or d (xs ++ v ∷ []) ≡ v
+pub last_or-append : {X : Type 0} (d : X) (xs : List X) (v : X) → last_or d (xs ++ v ∷ []) ≡ v
 last_or-append d [] v = refl
 last_or-append d (x ∷ xs) v = last_or-append x xs v
 

@@ -47,7 +47,7 @@ pub struct NeutralResolver {
     /// The bracket pairs, as indexes of these characters.
     pairs: Vec<(usize, usize)>,
     /// The classes of these characters before the weak types were resolved, where there are pairs.
-    sources: Vec<BidiClass>,
+    original_classes: Vec<BidiClass>,
 }
 
 impl NeutralResolver {
@@ -59,7 +59,7 @@ impl NeutralResolver {
             classes: Vec::new(alloc),
             brackets: Vec::new(alloc),
             pairs: Vec::new(alloc),
-            sources: Vec::new(alloc),
+            original_classes: Vec::new(alloc),
         }
     }
 
@@ -104,13 +104,7 @@ impl NeutralResolver {
             return Ok(());
         }
         self.gather(text, data_source, runs, processing_classes)?;
-        self.resolve_brackets(
-            text,
-            runs,
-            original_classes,
-            processing_classes,
-            directions,
-        )?;
+        self.resolve_brackets(text, runs, original_classes, processing_classes, directions)?;
         resolve_directions(directions, self.classes.as_mut_slice());
         write_back(text, runs, self.classes.as_slice(), processing_classes);
         Ok(())
@@ -212,12 +206,12 @@ impl NeutralResolver {
             runs,
             original_classes,
             processing_classes,
-            &mut self.sources,
+            &mut self.original_classes,
         )?;
         resolve_pairs(
             directions.embedding,
             directions.sos,
-            self.sources.as_slice(),
+            self.original_classes.as_slice(),
             self.pairs.as_slice(),
             self.classes.as_mut_slice(),
         );

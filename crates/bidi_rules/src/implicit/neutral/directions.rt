@@ -36,17 +36,17 @@ pub fn resolve_directions(directions: Directions, classes: &mut [BidiClass])
     let mut start = 0;
     for at in 0..classes.len() {
         if let Some(right) = as_direction(classes[at]) {
-            settle(classes, start, at, common_direction(embedding, left, right));
+            fill_between(classes, start, at, common_direction(embedding, left, right));
             left = right;
             start = at + 1;
         }
     }
     let end = classes.len();
-    settle(classes, start, end, common_direction(embedding, left, eos));
+    fill_between(classes, start, end, common_direction(embedding, left, eos));
 }
 
 /// Writes a class to the part from `start` to `end`, which is mostly empty.
-fn settle(classes: &mut [BidiClass], start: usize, end: usize, class: BidiClass)
+fn fill_between(classes: &mut [BidiClass], start: usize, end: usize, class: BidiClass)
     requires begins { start ≤ end }
     requires ends { end ≤ length classes.old }
     ensures { classes.new ≡ filled start (end - start) class classes.old }
