@@ -12,13 +12,14 @@ use Rattle.bidi_base.specs.declared.data_source.BidiMatchedOpeningBracket.{BidiM
 use Rattle.bidi_base.specs.Places.{find_last}
 use Rattle.bidi_base.specs.Brackets.{max_open_brackets, bracket_at, is_opening, is_closing, is_same_bracket, pairs_of}
 use Rattle.bidi_base.proofs.ChainLemmas.{range_with_len-append}
-use Rattle.bidi_base.proofs.PlacesLemmas.{find-passes, find-index, find_last-index, range_with_len-more}
+use Rattle.bidi_base.proofs.PlacesLemmas.{find_last-index, range_with_len-more}
 use Rattle.bidi_base.proofs.NestedPairs.{closed_before-pairs}
 use Rattle.bidi_base.proofs.OpeningSearch.{opening_of, find_last-entries}
-use Rattle.bidi_base.proofs.PairsLemmas.{closed_before, IsUnderWay, IsUnderWay-start, IsUnderWay-other, IsUnderWay-opening, IsUnderWay-unmatched, IsUnderWay-pair, IsUnderWay-entry, HasEnded, pairs_of-found, closing_in, filter_map-same}
+use Rattle.bidi_base.proofs.PairsLemmas.{closed_before, IsUnderWay, IsUnderWay-start, IsUnderWay-other, IsUnderWay-opening, IsUnderWay-unmatched, IsUnderWay-pair, IsUnderWay-entry, HasEnded, pairs_of-found, closing_in}
 use Rattle.bidi_base.specs.declared.brackets.Bracket.{Bracket}
 use Rattle.bidi_base.specs.declared.brackets.Waiting.{Waiting}
 use Rattle.bidi_base.specs.FoundBrackets.{brackets_from}
+use Rattle.bidi_base.proofs.Lists.{find-passes, find-index, filter_map-same, option_or-None}
 
 -- the numbers from `low` on below i that pass a test
 module _ (p : ℕ → Bool) (i : ℕ) where
@@ -235,13 +236,8 @@ module _ (counted : List (Option BidiMatchedOpeningBracket)) where
       (
       find-append (λ (p : ℕ × ℕ). eqb p.0 k) pairs ((i, j) ∷ [])
       ∙ ap (λ b. option_or (find (λ (p : ℕ × ℕ). eqb p.0 k) pairs) (cond b (Some (i, j)) None)) (ne_eqb i k (λ e. other (sym e)))
-      ∙ or_none (find (λ (p : ℕ × ℕ). eqb p.0 k) pairs)
+      ∙ option_or-None (find (λ (p : ℕ × ℕ). eqb p.0 k) pairs)
       ))
-    where
-      or_none : (o : Option (ℕ × ℕ)) → option_or o None ≡ o
-      or_none None = refl
-      or_none (Some p) = refl
-
   -- the opening that a search over the entries finds
   found_opening : (slots : List (ℕ × ℕ)) (waiting : List Waiting) (j k : ℕ) (b : BidiMatchedOpeningBracket) (h : IsPairing slots waiting j) → bracket_at counted j ≡ Some b → k < length h.places
       → find_last (λ (e : Waiting). eqb e.opening b.opening) waiting ≡ Some (entry_of (get_or h.places k 0))

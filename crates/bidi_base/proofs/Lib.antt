@@ -4,6 +4,7 @@ pub mod BracketRules
 pub mod BracketSearch
 pub mod BracketsLemmas
 pub mod ChainLemmas
+pub mod CharsLemmas
 pub mod ClassesLemmas
 pub mod ContextLemmas
 pub mod DirectionWalk
@@ -19,6 +20,7 @@ pub mod LevelLaws
 pub mod LevelTableLemmas
 pub mod LevelsInLemmas
 pub mod LevelsLemmas
+pub mod Lists
 pub mod MatchLevelsLemmas
 pub mod MatchingLemmas
 pub mod NestedPairs
@@ -57,6 +59,8 @@ pub mod SuccessorLemmas
 pub mod TableLemmas
 pub mod TextLemmas
 pub mod UnitsLemmas
+pub mod Utf16Ends
+pub mod Utf16Lemmas
 pub mod VisualOrderLemmas
 pub mod WaitingLemmas
 pub mod WeakLemmas

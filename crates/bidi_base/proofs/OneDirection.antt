@@ -1,8 +1,8 @@
 -- A list in which each class is a neutral or one direction, which stands at its ends too: N0 to N2 give that direction to all.
-use Rattle.std.proofs.Common.{◌≡◌, ℕ, zero, suc, ◌+◌, ◌-◌, Bool, true, false, cond, List, [], ◌∷◌, length, take, drop, reverse, filter_map, find, Option, Some, option_map, refl, sym, ap, ◌∙◌, arith, inl, inr}
+use Rattle.std.proofs.Common.{◌≡◌, ℕ, ◌+◌, ◌-◌, Bool, true, false, cond, List, [], ◌∷◌, length, take, drop, reverse, filter_map, find, Option, Some, option_map, refl, sym, ap, ◌∙◌, arith, inl, inr}
 use Rattle.std.specs.Prelude.{slice_range}
 use Rattle.std.specs.List.{list_all, list_any, cons_option}
-use Rattle.std.proofs.lemmas.Bool.{cases_Bool, both_ways, and_parts, and_from, or_left, cond-true, cond-false}
+use Rattle.std.proofs.lemmas.Bool.{cases_Bool, both_ways, and_parts, or_left, cond-true, cond-false}
 use Rattle.bidi_base.specs.declared.char_data.BidiClass.{BidiClass}
 use Rattle.bidi_base.specs.declared.char_data.BidiClass.TheVariants.{L, R, EN, AN}
 use Rattle.bidi_base.specs.declared.data_source.BidiMatchedOpeningBracket.{BidiMatchedOpeningBracket}
@@ -12,6 +12,7 @@ use Rattle.bidi_base.specs.Levels.{direction_of}
 use Rattle.bidi_base.specs.Neutral.{nearest_direction, directions_between, pair_direction, n0, n1_rule, n1_n2, neutral_classes}
 use Rattle.bidi_base.specs.Places.{first_or}
 use Rattle.bidi_base.proofs.ContextLemmas.{list_all-in_context}
+use Rattle.bidi_base.proofs.Lists.{list_all-take, list_all-drop}
 use Rattle.bidi_base.proofs.NeutralLemmas.{n0-keeps}
 
 -- a class that is this direction, or a neutral
@@ -69,18 +70,6 @@ left_over L _ s h k = absurd (both_ways _ k h)
 left_over R R s h k = refl
 left_over R _ s h k = absurd (both_ways _ k h)
 left_over _ c s h k = absurd (cc s)
-
-list_all-take : (p : BidiClass → Bool) (n : ℕ) (cs : List BidiClass) → list_all p cs ≡ true → list_all p (take n cs) ≡ true
-list_all-take p zero cs h = refl
-list_all-take p (suc n) [] h = refl
-list_all-take p (suc n) (c ∷ cs) h =
-    let parts = and_parts (p c) (list_all p cs) h in
-    and_from (p c) (list_all p (take n cs)) parts.0 (list_all-take p n cs parts.1)
-
-list_all-drop : (p : BidiClass → Bool) (n : ℕ) (cs : List BidiClass) → list_all p cs ≡ true → list_all p (drop n cs) ≡ true
-list_all-drop p zero cs h = h
-list_all-drop p (suc n) [] h = refl
-list_all-drop p (suc n) (c ∷ cs) h = list_all-drop p n cs (and_parts (p c) (list_all p cs) h).1
 
 module _ (e : BidiClass) (side : is_l_or_r e ≡ true) where
   nearest-is : (cs : List BidiClass) → list_all (goes_with e) cs ≡ true → nearest_direction e cs ≡ e

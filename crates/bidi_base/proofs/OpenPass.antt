@@ -1,38 +1,17 @@
 -- The pass from the front, with what is open as the code keeps it: the innermost last.
-use Rattle.std.proofs.Common.{◌≡◌, ℕ, ◌+◌, ◌-◌, ◌<◌, ◌≤◌, Bool, true, false, cond, List, [], ◌∷◌, ◌++◌, length, map, get_or, take, reverse, length-append, Option, Some, None, refl, sym, ap, subst, ◌∙◌, ◌⊎◌, arith, inl, inr, le_refl}
+use Rattle.std.proofs.Common.{◌≡◌, ℕ, ◌+◌, ◌-◌, ◌<◌, ◌≤◌, Bool, true, false, cond, List, [], ◌∷◌, ◌++◌, length, map, get_or, take, reverse, Option, Some, None, refl, sym, ap, subst, ◌∙◌, ◌⊎◌, inl, inr}
 use Rattle.std.proofs.lemmas.Bool.{cases_Bool, cond-true, cond-false}
-use Rattle.std.proofs.lemmas.List.{reverse-append, reverse-reverse, take-append-le, take_all}
+use Rattle.std.proofs.lemmas.List.{reverse-append}
 use Rattle.bidi_base.specs.declared.char_data.BidiClass.{BidiClass}
 use Rattle.bidi_base.specs.Classes.{is_initiator, is_pdi}
 use Rattle.bidi_base.specs.Places.{class_at, last_or}
 use Rattle.bidi_base.specs.Isolates.{is_initiator_at, is_pdi_at}
 use Rattle.bidi_base.specs.Sequences.{successor, is_first, sequences}
 use Rattle.bidi_base.specs.SequencePass.{read_class, waiting_for}
+use Rattle.bidi_base.proofs.Lists.{reverse_front, last_or-reverse, reverse_none}
 use Rattle.bidi_base.proofs.PassLemmas.{sequence_of}
 use Rattle.bidi_base.proofs.RunsLemmas.{BeginsRun}
 use Rattle.bidi_base.proofs.WaitingLemmas.{IsWaiting, IsPass, IsPass-start, IsPass-end, IsPass-stay, IsPass-initiator, IsPass-pdi, successor-waiting, is_first-no_pdi, is_first-none_open, is_first-not_waiting}
-
--- taking away the last is taking away the first of the reverse
-split_last : {X : Type 0} (xs : List X) (v : X) (vs : List X) → reverse xs ≡ v ∷ vs → xs ≡ reverse vs ++ v ∷ []
-split_last xs v vs e = sym (reverse-reverse xs) ∙ ap reverse e ∙ reverse-append (v ∷ []) vs
-
-reverse_front : {X : Type 0} (xs : List X) (v : X) (vs : List X) → reverse xs ≡ v ∷ vs → reverse (take (length xs - 1) xs) ≡ vs
-reverse_front {X} xs v vs e =
-    let whole : xs ≡ reverse vs ++ v ∷ [] = split_last xs v vs e in
-    let count : length xs - 1 ≡ length (reverse vs) = omega (arith, ap length whole, length-append (reverse vs) (v ∷ [])) in
-    ap reverse
-    (ap (λ k. take k xs) count ∙ ap (take (length (reverse vs))) whole ∙ take-append-le (length (reverse vs)) (reverse vs) (v ∷ []) (le_refl _) ∙ take_all (length (reverse vs)) (reverse vs) (le_refl _))
-    ∙ reverse-reverse vs
-
-pub last_or-append : {X : Type 0} (d : X) (xs : List X) (v : X) → last_or d (xs ++ v ∷ []) ≡ v
-last_or-append d [] v = refl
-last_or-append d (x ∷ xs) v = last_or-append x xs v
-
-last_or-reverse : {X : Type 0} (d : X) (xs : List X) (v : X) (vs : List X) → reverse xs ≡ v ∷ vs → last_or d xs ≡ v
-last_or-reverse {X} d xs v vs e = ap (last_or d) (split_last xs v vs e) ∙ last_or-append d (reverse vs) v
-
-reverse_none : {X : Type 0} (xs : List X) → reverse xs ≡ [] → xs ≡ []
-reverse_none xs e = sym (reverse-reverse xs) ∙ ap reverse e
 
 module _ (classes : List BidiClass) (levels : List ℕ) where
   -- the runs up to a came, and what is open was read up to m

@@ -31,6 +31,7 @@ use Rattle.bidi_base.proofs.ResolvedLemmas.{length-resolved_levels, AreResolved-
 use Rattle.bidi_base.proofs.SequencePlaces.{sequence-begun, sequence-kept}
 use Rattle.bidi_base.proofs.StoredLemmas.{class_at-stored_classes, list_all-at_places}
 use Rattle.bidi_base.proofs.StoredSteps.{length-stored_classes}
+use Rattle.bidi_base.proofs.Lists.{chosen}
 
 -- ---- W1 to W7
 
@@ -106,10 +107,6 @@ w4_quiet (EN ∷ before) CS (_ ∷ after) k h = refl
 w4_quiet (EN ∷ before) _ after k h = h
 w4_quiet (AN ∷ before) c after k h = absurd (cc k)
 w4_quiet (_ ∷ before) c after k h = h
-
-chosen : (p : BidiClass → Bool) (b : Bool) (x y : BidiClass) → p x ≡ true → p y ≡ true → p (cond b x y) ≡ true
-chosen p true x y h k = h
-chosen p false x y h k = k
 
 w5_quiet : (before : List BidiClass) (c : BidiClass) (after : List BidiClass) → is_quiet_after_w1 c ≡ true → is_quiet_after_w1 (w5_rule before c after) ≡ true
 w5_quiet before ET after h =

@@ -1,3 +1,4 @@
+pub mod Analysed
 pub mod Arranged
 pub mod Brackets
 pub mod Classes

@@ -1,5 +1,5 @@
 -- The pass over a list of characters, one by one.
-use Rattle.std.proofs.Common.{◌≡◌, ℕ, zero, suc, ◌+◌, ◌-◌, ◌<◌, ◌≤◌, Bool, true, false, eqb, List, [], ◌∷◌, ◌++◌, length, map, get_or, set, reverse, length-append, le_refl, Option, Some, None, refl, sym, ap, subst, ◌∙◌, arith, inl, inr, eqb-true, ne_eqb}
+use Rattle.std.proofs.Common.{◌≡◌, ℕ, zero, suc, ◌+◌, ◌-◌, ◌<◌, Bool, true, false, eqb, List, [], ◌∷◌, ◌++◌, length, map, get_or, set, reverse, length-append, le_refl, Option, Some, None, refl, sym, ap, subst, ◌∙◌, arith, inl, inr, eqb-true, ne_eqb}
 use Rattle.std.specs.Prelude.{filter, IfSome}
 use Rattle.std.specs.List.{range_with_len}
 use Rattle.std.proofs.lemmas.Bool.{cases_eq, cond-true, cond-false, eqb-false}
@@ -10,16 +10,12 @@ use Rattle.bidi_base.specs.Sequences.{with_ends, is_kept_at, next_kept, level_at
 use Rattle.bidi_base.specs.SequencePass.{read_class, waiting_for, wait_of, choice, waits_before, choice_at, with_entry, index_of, ArePlaces}
 use Rattle.bidi_base.proofs.ReadStack.{Member}
 use Rattle.bidi_base.proofs.SuccessorLemmas.{successor-IsLaterKept, have_one_level-from, next_kept-is, kept_before-is, kept_before-is_None, successor-run_step}
-use Rattle.bidi_base.proofs.OpenPass.{last_or-append, IsAt, IsAt-read, goes_on}
+use Rattle.bidi_base.proofs.OpenPass.{IsAt, IsAt-read, goes_on}
 use Rattle.bidi_base.proofs.PassLemmas.{AreSuccessors, IsBegunList, AllBegun}
 use Rattle.bidi_base.proofs.RunsLemmas.{BeginsRun, EndsRun}
+use Rattle.bidi_base.proofs.ChainLemmas.{filter_range-none}
+use Rattle.bidi_base.proofs.Lists.{last_or-append}
 use Rattle.bidi_base.proofs.WaitingLemmas.{Member-append_right, IsWaiting, IsPass, IsPass-start, IsPass-end, IsPass-begin, IsPass-join, IsPass-removed, IsPass-skip, is_first-none_open}
-
-nothing_kept : (f : ℕ → Bool) (low n : ℕ) → ((k : ℕ) → low ≤ k → k < low + n → f k ≡ false) → filter f (range_with_len low n) ≡ []
-nothing_kept f low zero none = refl
-nothing_kept f low (suc n) none =
-    cond-false (f low) (low ∷ filter f (range_with_len (low + 1) n)) (filter f (range_with_len (low + 1) n)) (none low (omega arith) (omega arith))
-    ∙ nothing_kept f (low + 1) n (λ k from below. none k (omega arith) (omega arith))
 
 module _ (classes : List BidiClass) (levels : List ℕ) where
   -- all before p came, l was the last of them that X9 keeps, and came to the sequence at s; what is open was read up to l
@@ -105,7 +101,7 @@ module _ (classes : List BidiClass) (levels : List ℕ) where
   pass_none : (p : ℕ) → ((k : ℕ) → k < p → is_kept_at classes k ≡ false) → IsPass classes levels p p [] [] []
   pass_none p none =
       let place : 0 + p ≡ p = omega arith in
-      let moved : IsPass classes levels (0 + p) 0 [] [] [] = IsPass-removed classes levels 0 p 0 [] [] [] (IsPass-start classes levels) (nothing_kept (is_kept_at classes) 0 p (λ k from below. none k (omega arith))) in
+      let moved : IsPass classes levels (0 + p) 0 [] [] [] = IsPass-removed classes levels 0 p 0 [] [] [] (IsPass-start classes levels) (filter_range-none (is_kept_at classes) 0 p (λ k from below. none k (omega arith))) in
       let both : IsPass classes levels (0 + p) (0 + p) [] [] [] = IsPass-skip classes levels p (0 + p) 0 [] [] [] moved (λ k from below. none k (omega arith)) in
       subst (λ (x : ℕ). IsPass classes levels x x [] [] []) place both
 

@@ -2,6 +2,8 @@
 #![tactic(auto)]
 
 #[cfg(test)]
+mod encoding_rows;
+#[cfg(test)]
 mod explicit_units_rows;
 #[cfg(test)]
 mod info_rows;
