@@ -238,6 +238,7 @@ module _ (counted : List (Option BidiMatchedOpeningBracket)) where
       ∙ ap (λ b. option_or (find (λ (p : ℕ × ℕ). eqb p.0 k) pairs) (cond b (Some (i, j)) None)) (ne_eqb i k (λ e. other (sym e)))
       ∙ option_or-None (find (λ (p : ℕ × ℕ). eqb p.0 k) pairs)
       ))
+
   -- the opening that a search over the entries finds
   found_opening : (slots : List (ℕ × ℕ)) (waiting : List Waiting) (j k : ℕ) (b : BidiMatchedOpeningBracket) (h : IsPairing slots waiting j) → bracket_at counted j ≡ Some b → k < length h.places
       → find_last (λ (e : Waiting). eqb e.opening b.opening) waiting ≡ Some (entry_of (get_or h.places k 0))

@@ -105,9 +105,9 @@ module _ (brackets : List (Option BidiMatchedOpeningBracket)) where
   free_between j i q h opening free order = elim (cases_order i q.1) [
     | inl same ↦ absurd (never_both (bracket_at brackets i) opening (subst (λ (n : ℕ). is_closing (bracket_at brackets n) ≡ true) (sym same) h.closing))
     | inr (inl inside) ↦ (
-      let taken : (ltb q.1 j && leb q.0 i && ltb i q.1) ≡ true = rw (lt-ltb q.1 j h.below, le-leb q.0 i (omega arith), lt-ltb i q.1 inside) refl in
-      absurd (both_ways _ free taken)
-    )
+        let taken : (ltb q.1 j && leb q.0 i && ltb i q.1) ≡ true = rw (lt-ltb q.1 j h.below, le-leb q.0 i (omega arith), lt-ltb i q.1 inside) refl in
+        absurd (both_ways _ free taken)
+        )
     | inr (inr behind) ↦ behind
   ]
 

@@ -22,11 +22,13 @@ module _ (classes : List BidiClass) (levels : List ℕ) where
   pub IsAt-start : IsAt 0 0 [] []
   IsAt-start = record { stack = []; pass = IsPass-start classes levels }
 
-  pub IsAt-end : (paragraph m : ℕ) (out : List (List ℕ)) (waits : List (Option ℕ)) → IsAt (length classes) m out waits → map (sequence_of classes levels paragraph) out ≡ sequences paragraph classes levels
+  pub IsAt-end : (paragraph m : ℕ) (out : List (List ℕ)) (waits : List (Option ℕ)) → IsAt (length classes) m out waits → map (sequence_of classes levels paragraph) out ≡ sequences paragraph
+      classes levels
   IsAt-end paragraph m out waits h = IsPass-end classes levels paragraph m out h.stack (reverse waits) h.pass
 
   -- one character is read for what is open
-  pub IsAt-read : (a m : ℕ) (out : List (List ℕ)) (waits : List (Option ℕ)) (w : Option ℕ) → IsAt a m out waits → (is_initiator_at classes m ≡ true → IsWaiting classes levels out m w) → IsAt a (m + 1) out (read_class (class_at classes m) w waits)
+  pub IsAt-read : (a m : ℕ) (out : List (List ℕ)) (waits : List (Option ℕ)) (w : Option ℕ) → IsAt a m out waits → (is_initiator_at classes m ≡ true → IsWaiting classes levels out m w) → IsAt
+      a (m + 1) out (read_class (class_at classes m) w waits)
   IsAt-read a m out waits w h wait = elim (cases_Bool (is_initiator_at classes m)) [
     | inl opens ↦
         rw (cond-true (is_initiator (class_at classes m)) (waits ++ w ∷ []) (cond (is_pdi (class_at classes m)) (take (length waits - 1) waits) waits) opens)
@@ -44,7 +46,8 @@ module _ (classes : List BidiClass) (levels : List ℕ) where
       finish : (now : List (Option ℕ)) (st : List ℕ) (r : List (Option ℕ)) → IsPass classes levels a (m + 1) out st r → r ≡ reverse now → IsAt a (m + 1) out now
       finish now st r pass e = record { stack = st; pass = subst (λ (x : List (Option ℕ)). IsPass classes levels a (m + 1) out st x) e pass }
 
-      popped : is_initiator_at classes m ≡ false → is_pdi_at classes m ≡ true → (st : List ℕ) (r : List (Option ℕ)) → reverse waits ≡ r → IsPass classes levels a m out st r → IsAt a (m + 1) out (take (length waits - 1) waits)
+      popped : is_initiator_at classes m ≡ false → is_pdi_at classes m ≡ true → (st : List ℕ) (r : List (Option ℕ)) → reverse waits ≡ r → IsPass classes levels a m out st r → IsAt a (m + 1)
+          out (take (length waits - 1) waits)
       popped other closes [] [] e pass =
           let none : waits ≡ [] = reverse_none waits e in
           finish (take (length waits - 1) waits) [] [] (IsPass-stay classes levels a m out [] [] pass other (inr refl)) (sym (ap (λ (x : List (Option ℕ)). reverse (take (length x - 1) x)) none))
@@ -66,9 +69,19 @@ module _ (classes : List BidiClass) (levels : List ℕ) where
       by_top closes [] (v ∷ vs) f pass = absurd pass.waiting
       by_top closes (i ∷ st) [] f pass = absurd pass.waiting
       by_top closes (i ∷ st) (None ∷ vs) f pass =
-          inl (cond-true (is_pdi (class_at classes p)) (last_or None waits) None closes ∙ last_or-reverse None waits None vs f, is_first-not_waiting classes levels a p i out st vs pass within closes begins)
+          inl (
+            cond-true (is_pdi (class_at classes p)) (last_or None waits) None closes ∙ last_or-reverse None waits None vs f,
+            is_first-not_waiting classes levels a p i out st vs pass
+                within closes begins,
+          )
       by_top closes (i ∷ st) (Some t ∷ vs) f pass =
-          inr (t, cond-true (is_pdi (class_at classes p)) (last_or None waits) None closes ∙ last_or-reverse None waits (Some t) vs f, pass.waiting.0.0, successor-waiting classes levels a p i t out st vs pass from within closes begins)
+          inr (
+            t,
+            cond-true (is_pdi (class_at classes p)) (last_or None waits) None closes ∙ last_or-reverse None waits (Some t) vs f,
+            pass.waiting.0.0,
+            successor-waiting classes levels a p
+                i t out st vs pass from within closes begins,
+          )
 
       by_pdi : (c : Bool) → is_pdi_at classes p ≡ c
           → ((waiting_for (class_at classes p) waits ≡ None) × (is_first classes levels p ≡ true))

@@ -29,7 +29,8 @@ here : (c : goal.Joined-bracket) → (counted : List (Option BidiMatchedOpeningB
     → IsAt counted c.loop-bracket.pairs.items c.loop-bracket.waiting.items (read c ∷ drop (c.loop-bracket.bracket-index + 1) c.args.brackets.now)
 here c counted is =
     let s = c.loop-bracket in
-    subst (λ (rest : List Bracket). IsAt counted s.pairs.items s.waiting.items rest) (drop_more c.args.brackets.now s.bracket-index (record { index = 0; opening = 0; is_open = false }) c.loop-bracket-test.true)
+    subst (λ (rest : List Bracket). IsAt counted s.pairs.items s.waiting.items rest) (drop_more c.args.brackets.now s.bracket-index (record { index = 0; opening = 0; is_open = false })
+    c.loop-bracket-test.true)
     (s.invariant.found counted is)
 
 pub loop-bracket-preserved : goal.loop-bracket-preserved
@@ -79,7 +80,8 @@ returns c = λ classes sources is.
     ∙ elim c.loop-bracket-test.branch [
       | else-loop-bracket-test w ↦
           rw w.pairs-is
-          (IsAt-end counted s.pairs.items s.waiting.items (subst (λ (rest : List Bracket). IsAt counted s.pairs.items s.waiting.items rest) (drop_all s.bracket-index c.args.brackets.now (omega (arith, w.loop-bracket-test.false))) at))
+          (IsAt-end counted s.pairs.items s.waiting.items
+          (subst (λ (rest : List Bracket). IsAt counted s.pairs.items s.waiting.items rest) (drop_all s.bracket-index c.args.brackets.now (omega (arith, w.loop-bracket-test.false))) at))
       | then-loop-bracket-test+then-bracket+in_ok-had_room+then-not-had_room w ↦
           let d : Bracket = record { index = 0; opening = 0; is_open = false } in
           let bracket = get_or c.args.brackets.now s.bracket-index d in
