@@ -63,10 +63,6 @@ get_at p i low (suc n) d passes from to = elim (cases_lt low i) [
       rw (below_none p i low here, ap p here ∙ passes) (omega arith, here)
 ]
 
--- a stack that is not full has room
-pub has_room : (n cap : ℕ) → n ≤ cap → eqb n cap ≡ false → n < cap
-has_room n cap fits other = elim (cases_lt n cap) [ inl less ↦ less | inr more ↦ absurd (both_ways (eqb n cap) other (eq-eqb n cap (omega arith))) ]
-
 -- the entries' places in a list of n pairs
 abbrev pub AreWithin : ℕ → List Waiting → Type 0
 AreWithin n waiting = All (λ (e : Waiting). e.pair < n) waiting
