@@ -1,18 +1,17 @@
 -- Sequences and level runs read levels at kept characters alone.
-use Rattle.std.proofs.Common.{◌≡◌, ℕ, zero, suc, ◌+◌, ◌<◌, Bool, true, false, not, ◌&&◌, cond, eqb, max, List, [], ◌∷◌, length, map, Option, Some, None, refl, sym, ap, subst, ◌∙◌, arith, inl, inr}
-use Rattle.std.specs.Prelude.{filter, is_some, option_and_then}
-use Rattle.std.proofs.lemmas.Bool.{cases_Bool, and_left}
+use Rattle.std.proofs.Common.{◌≡◌, ℕ, zero, suc, ◌+◌, ◌<◌, Bool, true, false, cond, eqb, max, List, [], ◌∷◌, length, map, Option, Some, None, refl, sym, ap, subst, ◌∙◌, arith}
+use Rattle.std.specs.Prelude.{filter, option_and_then}
 use Rattle.std.proofs.lemmas.List.Elements.{filter_agree}
 use Rattle.bidi_base.specs.declared.char_data.BidiClass.{BidiClass}
 use Rattle.bidi_base.specs.Classes.{is_initiator}
 use Rattle.bidi_base.specs.Levels.{direction_of}
 use Rattle.bidi_base.specs.Places.{class_at, chain, last_or}
 use Rattle.bidi_base.specs.Isolates.{matching_pdi}
-use Rattle.bidi_base.specs.Sequences.{RunSequence, is_kept_at, kept_places, next_kept, kept_before, level_at, level_or, have_one_level, resumed_at, successor, is_first, start_class, end_class, sequence_from, sequences, HasExplicitLevels, begins_run, run_starts}
+use Rattle.bidi_base.specs.Sequences.{RunSequence, is_kept_at, kept_places, next_kept, kept_before, level_at, level_or, have_one_level, resumed_at, successor, is_first, start_class, end_class, sequence_from, sequences, HasExplicitLevels}
 use Rattle.bidi_base.specs.Explicit.{explicit_level, explicit_levels}
 use Rattle.std.proofs.lemmas.List.FromFn.{get_or-map-range_with_len}
 use Rattle.bidi_base.proofs.PlacesLemmas.{IsLeast, IsGreatest}
-use Rattle.bidi_base.proofs.ChainLemmas.{filter_range-agree, chain-None, IsMaximal, IsMaximal-chain}
+use Rattle.bidi_base.proofs.ChainLemmas.{chain-None, IsMaximal, IsMaximal-chain}
 use Rattle.bidi_base.proofs.SuccessorLemmas.{next_kept-IsLeast, kept_before-IsGreatest, IsLaterKept, successor-IsLaterKept, is_kept-pdi}
 use Rattle.bidi_base.proofs.IsolatesLemmas.{matching_pdi-IsLeast, matching_pdi-is_pdi}
 use Rattle.bidi_base.proofs.EmbeddingsLemmas.{same_if}
@@ -33,15 +32,6 @@ module _ (classes : List BidiClass) (levels other : List ℕ) (agree : (p : ℕ)
   before_level p q within e =
       let h : IsGreatest (is_kept_at classes) 0 p q = kept_before-IsGreatest classes p q e in
       agree q h.passes (omega (arith, h.below))
-
-  pub begins_run-agree : (p : ℕ) → p < length classes → begins_run classes levels p ≡ begins_run classes other p
-  unfolding begins_run
-  begins_run-agree p within = elim (cases_Bool (is_kept_at classes p)) [
-    | inl kept ↦ ap (λ b. is_kept_at classes p && is_some (kept_before classes p) && not b) (one_level (kept_before classes p) p (λ q e. before_level p q within e) (agree p kept within))
-    | inr gone ↦
-        and_left (is_kept_at classes p && is_some (kept_before classes p)) (not (have_one_level levels (kept_before classes p) p)) (and_left (is_kept_at classes p) (is_some (kept_before classes p)) gone)
-        ∙ sym (and_left (is_kept_at classes p && is_some (kept_before classes p)) (not (have_one_level other (kept_before classes p) p)) (and_left (is_kept_at classes p) (is_some (kept_before classes p)) gone))
-  ]
 
   resumed_at-agree : (p : ℕ) → resumed_at classes levels p ≡ resumed_at classes other p
   unfolding resumed_at
@@ -132,12 +122,6 @@ module _ (classes : List BidiClass) (levels other : List ℕ) (agree : (p : ℕ)
       all_agree (p ∷ ps) h =
           ap (λ (s : RunSequence). s ∷ map (sequence_from paragraph classes levels) ps) (sequence_from-agree paragraph p h.0 h.1)
           ∙ ap {B = List RunSequence} (λ seqs. sequence_from paragraph classes other p ∷ seqs) (all_agree ps h.3)
-
-pub run_starts-agree : (classes : List BidiClass) (levels other : List ℕ) → ((p : ℕ) → is_kept_at classes p ≡ true → p < length classes → level_at levels p ≡ level_at other p) → run_starts classes levels ≡ run_starts classes other
-unfolding run_starts
-run_starts-agree [] levels other agree = refl
-run_starts-agree (c ∷ classes) levels other agree =
-    ap {B = List ℕ} (λ xs. 0 ∷ xs) (filter_range-agree (begins_run (c ∷ classes) levels) (begins_run (c ∷ classes) other) 0 (length (c ∷ classes)) (λ k from below. begins_run-agree (c ∷ classes) levels other agree k (omega arith)))
 
 -- with the explicit levels at kept characters, the sequences are those of all explicit levels
 pub sequences-explicit_levels : (paragraph : ℕ) (classes : List BidiClass) (levels : List ℕ) → HasExplicitLevels paragraph classes levels → sequences paragraph classes levels ≡ sequences paragraph classes (explicit_levels paragraph classes)

@@ -18,14 +18,6 @@ use Rattle.bidi_base.specs.Stored.{sequence_levels, AreResolved, level_in, fille
 use Rattle.bidi_base.proofs.SequencesLemmas.{IsPermutation-sequences}
 use Rattle.bidi_base.proofs.LevelTableLemmas.{sum_by-flat_map, level_in-sum, count_by-zip, count_at-range, count_at-in}
 
--- what fills the removed characters reads the table by its answers alone
-pub filled_levels-agree : (table other : List (ℕ × ℕ)) → ((p : ℕ) → level_in table p ≡ level_in other p) → (p before : ℕ) (classes : List BidiClass) → filled_levels table p before classes ≡ filled_levels other p before classes
-unfolding filled_levels
-filled_levels-agree table other same p before [] = refl
-filled_levels-agree table other same p before (c ∷ classes) =
-    ap (λ (x : ℕ). cond (is_removed c) before x ∷ filled_levels table (p + 1) (cond (is_removed c) before x) classes) (same p)
-    ∙ ap (λ (xs : List ℕ). cond (is_removed c) before (level_in other p) ∷ xs) (filled_levels-agree table other same (p + 1) (cond (is_removed c) before (level_in other p)) classes)
-
 -- entries of sequences, each no more than its places
 module _ (entries : RunSequence → List (ℕ × ℕ)) (few : (test : ℕ → Bool) (s : RunSequence) → count_by (λ (e : ℕ × ℕ). test e.0) (entries s) ≤ count_by test s.places) where
   once_in_table : (classes : List BidiClass) (seqs : List RunSequence) (p : ℕ) → IsPermutation (kept_places classes) (flat_map (λ (s : RunSequence). s.places) seqs)
@@ -60,20 +52,6 @@ few_entries : (source : List BidiClass) (brackets : List (Option BidiMatchedOpen
     → count_by (λ (e : ℕ × ℕ). test e.0) (sequence_levels source brackets levels classes s) ≤ count_by test s.places
 unfolding sequence_levels
 few_entries source brackets levels classes test s = count_by-zip test s.places _
-
--- the levels of the paragraph, from the sequences in any order
-pub levels_in-order : (paragraph : ℕ) (source : List BidiClass) (brackets : List (Option BidiMatchedOpeningBracket)) (seqs : List RunSequence)
-    → IsPermutation (sequences paragraph (stored_classes source) (explicit_levels paragraph (stored_classes source))) seqs
-    → filled_levels (flat_map (sequence_levels source brackets (explicit_levels paragraph (stored_classes source)) (explicit_classes paragraph (stored_classes source))) seqs) 0 paragraph (stored_classes source)
-    ≡ levels_in paragraph source brackets
-unfolding levels_in
-levels_in-order paragraph source brackets seqs moved =
-    let stored = stored_classes source in
-    let levels = explicit_levels paragraph stored in
-    let entries = sequence_levels source brackets levels (explicit_classes paragraph stored) in
-    filled_levels-agree (flat_map entries seqs) (flat_map entries (sequences paragraph stored levels))
-    (λ p. level_in-order entries (few_entries source brackets levels (explicit_classes paragraph stored)) stored (sequences paragraph stored levels) seqs p (IsPermutation-sequences stored levels paragraph) moved)
-    0 paragraph stored
 
 zip-at_places : (new ps : List ℕ) → zip ps (at_places 0 new ps) ≡ map (λ p. (p, level_at new p)) ps
 zip-at_places new [] = refl

@@ -1,14 +1,17 @@
 pub mod AgreeLemmas
 pub mod Blocks
 pub mod BracketRules
+pub mod BracketSearch
 pub mod BracketsLemmas
 pub mod ChainLemmas
+pub mod CharsLemmas
 pub mod ClassesLemmas
 pub mod ContextLemmas
 pub mod DirectionWalk
 pub mod EmbeddingsLemmas
 mod Examples
 pub mod ExplicitLemmas
+pub mod FoundBracketsLemmas
 pub mod GivesLemmas
 pub mod InPlace
 pub mod IsolateWalk
@@ -17,6 +20,7 @@ pub mod LevelLaws
 pub mod LevelTableLemmas
 pub mod LevelsInLemmas
 pub mod LevelsLemmas
+pub mod Lists
 pub mod MatchLevelsLemmas
 pub mod MatchingLemmas
 pub mod NestedPairs
@@ -53,6 +57,8 @@ pub mod SuccessorLemmas
 pub mod TableLemmas
 pub mod TextLemmas
 pub mod UnitsLemmas
+pub mod Utf16Ends
+pub mod Utf16Lemmas
 pub mod VisualOrderLemmas
 pub mod WaitingLemmas
 pub mod WeakLemmas

@@ -6,7 +6,7 @@ use Rattle.std.proofs.Math.Seq.{drop-nil, take-append-add, take-append_seam}
 use Rattle.std.proofs.lemmas.List.{take-append-drop, drop-drop, take_all, take-take, get_or-drop}
 use Rattle.std.proofs.lemmas.List.Sums.{sum_by-append, sum_by-cons, sum_by_more, sum_by_more_le, sum_by-take-le, count_by-le-length}
 use Rattle.bidi_base.specs.Text.{text_len, place, char_indices_from, char_indices, indices_lengths_from, indices_lengths, char_at, is_boundary, IsLine, char_index, subrange, one_unit, Gives}
-use Rattle.bidi_base.proofs.TextLemmas.{HasUnits, is_boundary-char_at, char_at-append, char_at-end, is_boundary-append, char_index-append, is_boundary-zero, cut_at}
+use Rattle.bidi_base.proofs.TextLemmas.{HasUnits, is_boundary-char_at, char_at-append, char_at-end, is_boundary-append, char_index-append, cut_at}
 use Rattle.bidi_base.proofs.GivesLemmas.{turn_drop, end}
 
 -- ---- places
@@ -14,11 +14,6 @@ use Rattle.bidi_base.proofs.GivesLemmas.{turn_drop, end}
 pub place-zero : (len_of : ℕ → ℕ) (chars : List ℕ) → place len_of chars 0 ≡ 0
 place-zero len_of [] = refl
 place-zero len_of (c ∷ cs) = refl
-
-pub place-cons : (len_of : ℕ → ℕ) (c : ℕ) (cs : List ℕ) (k : ℕ) → place len_of (c ∷ cs) (k + 1) ≡ len_of c + place len_of cs k
-place-cons len_of c cs k =
-    let next : k + 1 ≡ suc k = omega arith in
-    ap (place len_of (c ∷ cs)) next ∙ sum_by-cons len_of c (take k cs)
 
 module _ (len_of : ℕ → ℕ) (chars : List ℕ) where
   pub place-more : (k c : ℕ) → k < length chars → place len_of chars (k + 1) ≡ place len_of chars k + len_of (get_or chars k c)
@@ -32,10 +27,6 @@ module _ (len_of : ℕ → ℕ) (chars : List ℕ) where
 
   pub place-end : (k : ℕ) → length chars ≤ k → place len_of chars k ≡ text_len len_of chars
   place-end k past = ap (text_len len_of) (take_all k chars past)
-
-  -- the text in three parts, cut at indexes i and j
-  three : (i j : ℕ) → chars ≡ take i chars ++ (slice_range chars i j ++ drop (j - i) (drop i chars))
-  three i j = sym (take-append-drop i chars) ∙ ap (λ x. take i chars ++ x) (sym (take-append-drop (j - i) (drop i chars)))
 
   take_both : (i j : ℕ) → i ≤ j → i ≤ length chars → take j chars ≡ take i chars ++ slice_range chars i j
   take_both i j le short =
@@ -71,23 +62,13 @@ module _ (len_of : ℕ → ℕ) (chars : List ℕ) where
       below (inl order) = order
       below (inr past) = absurd (omega (arith, place-lt h j i past (omega arith)))
 
-  pub place-same-back : HasUnits len_of → (i j : ℕ) → i ≤ length chars → j ≤ length chars → place len_of chars i ≡ place len_of chars j → i ≡ j
-  place-same-back h i j first second e = omega (arith, place-le-back h i j first (omega arith), place-le-back h j i second (omega arith))
-
   -- ---- boundaries and ranges at places
 
   pub is_boundary-place : (k : ℕ) → is_boundary len_of chars (place len_of chars k) ≡ true
   is_boundary-place k = subst (λ cs. is_boundary len_of cs (place len_of chars k) ≡ true) (take-append-drop k chars) (is_boundary-append len_of (take k chars) (drop k chars))
 
-  pub is_boundary-end : is_boundary len_of chars (text_len len_of chars) ≡ true
-  is_boundary-end = subst (λ u. is_boundary len_of chars u ≡ true) (place-end (length chars) (omega arith)) (is_boundary-place (length chars))
-
   pub IsLine-places : (i j : ℕ) → i ≤ j → IsLine len_of chars (place len_of chars i) (place len_of chars j)
   IsLine-places i j le = record { ordered = place-mono i j le; begins = is_boundary-place i; ends = is_boundary-place j }
-
-  -- the whole text is a line
-  pub IsLine-whole : IsLine len_of chars 0 (text_len len_of chars)
-  IsLine-whole = record { ordered = omega arith; begins = is_boundary-zero len_of chars; ends = is_boundary-end }
 
   pub char_index-place : HasUnits len_of → (k : ℕ) → k ≤ length chars → char_index len_of chars (place len_of chars k) ≡ k
   char_index-place h k short =
@@ -105,16 +86,6 @@ module _ (len_of : ℕ → ℕ) (chars : List ℕ) where
       let none : j - 0 ≡ j = omega arith in
       subst (λ u. subrange len_of chars u (place len_of chars j) ≡ slice_range chars 0 j) (place-zero len_of chars) (subrange-places h 0 j (omega arith) short)
       ∙ ap (λ n. take n chars) none
-
-  pub subrange-back : HasUnits len_of → (i : ℕ) → i ≤ length chars → subrange len_of chars (place len_of chars i) (text_len len_of chars) ≡ drop i chars
-  subrange-back h i short =
-      subst (λ u. subrange len_of chars (place len_of chars i) u ≡ slice_range chars i (length chars)) (place-end (length chars) (omega arith)) (subrange-places h i (length chars) short (omega arith))
-      ∙ take_all (length chars - i) (drop i chars) (omega (arith, length-drop i chars))
-
-  pub subrange-whole : HasUnits len_of → subrange len_of chars 0 (text_len len_of chars) ≡ chars
-  subrange-whole h =
-      subst (λ u. subrange len_of chars 0 u ≡ take (length chars) chars) (place-end (length chars) (omega arith)) (subrange-front h (length chars) (omega arith))
-      ∙ take_all (length chars) chars (omega arith)
 
 -- ---- the index of a boundary
 

@@ -12,7 +12,7 @@ use Rattle.std.proofs.lemmas.Str.{encodes-chars, encodes-append, chars-append, s
 use Rattle.std.proofs.lemmas.Iterator.{YieldsList}
 use Rattle.std.proofs.lemmas.Iterator.Splits.{YieldsList-from_shown_while}
 use Rattle.bidi_base.specs.Text.{text_len, char_indices, char_indices_from, indices_lengths_from, char_at, is_boundary, subrange, IsLine}
-use Rattle.bidi_base.proofs.TextLemmas.{HasUnits, cut_at, is_boundary-append, char_at-append, subrange-middle, char_at-None, char_at-zero}
+use Rattle.bidi_base.proofs.TextLemmas.{HasUnits, cut_at, char_at-append, subrange-middle, char_at-None, char_at-zero}
 
 pub has_units : HasUnits len_utf8
 has_units c = (len_utf8_bounds c).0
@@ -31,12 +31,6 @@ chars_cut bs i u b = ap chars (sym (take-append-drop i bs)) ∙ chars-append (ta
 
 text_len-front : (bs : List ℕ) (i : ℕ) → IsUtf8 bs → IsCharBoundary bs i → text_len len_utf8 (chars (take i bs)) ≡ i
 text_len-front bs i u b = omega (arith, text_len-chars (take i bs) (IsUtf8-take bs i u b), length-take i bs, b.0)
-
-pub is_boundary-from_str : (bs : List ℕ) (i : ℕ) → IsUtf8 bs → IsCharBoundary bs i → is_boundary len_utf8 (chars bs) i ≡ true
-is_boundary-from_str bs i u b =
-    let P : List ℕ → ℕ → Type 0 = λ cs n. is_boundary len_utf8 cs n ≡ true in
-    subst (λ cs. P cs i) (sym (chars_cut bs i u b))
-    (subst (λ n. P (chars (take i bs) ++ chars (drop i bs)) n) (text_len-front bs i u b) (is_boundary-append len_utf8 (chars (take i bs)) (chars (drop i bs))))
 
 and_right : (a b : Bool) → (a && b) ≡ true → b ≡ true
 and_right a b e = grind arith

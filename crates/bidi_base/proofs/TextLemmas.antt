@@ -1,7 +1,7 @@
 -- Texts cut at boundaries: a boundary is the length of some first characters.
-use Rattle.std.proofs.Common.{◌≡◌, ◌==◌, ℕ, ◌+◌, ◌-◌, ◌≤◌, Bool, true, false, ◌&&◌, ◌||◌, nat_le, nat_lt, cond, if◌then◌else◌, List, [], ◌∷◌, ◌++◌, length, drop, Option, Some, None, is_some, ◌⊎◌, inl, inr, option_map, slice_get, count_by, refl, sym, ◌∙◌, ap, subst, append_assoc, arith, lt-ltb, le-ltb, length-append}
+use Rattle.std.proofs.Common.{◌≡◌, ◌==◌, ℕ, ◌+◌, ◌-◌, ◌≤◌, Bool, true, false, ◌&&◌, ◌||◌, nat_le, nat_lt, cond, if◌then◌else◌, List, [], ◌∷◌, ◌++◌, length, Option, Some, None, is_some, ◌⊎◌, inl, inr, option_map, slice_get, count_by, refl, sym, ◌∙◌, ap, subst, append_assoc, arith, lt-ltb, le-ltb, length-append}
 use Rattle.std.proofs.Math.Seq.{take-append_seam, drop-append_seam}
-use Rattle.std.proofs.lemmas.List.Sums.{sum_by-cons, sum_by-append, sum_by_push}
+use Rattle.std.proofs.lemmas.List.Sums.{sum_by-cons, sum_by-append}
 use Rattle.std.proofs.lemmas.Bool.{cond-true, cond-false}
 use Rattle.std.proofs.lemmas.Bool.Decides.{nat_tests}
 use Rattle.bidi_base.specs.Text.{text_len, char_at, is_boundary, char_indices_from, char_index, subrange}
@@ -25,10 +25,6 @@ pub is_boundary-char_at : (len_of : ℕ → ℕ) → HasUnits len_of → (chars 
 is_boundary-char_at len_of h [] u = grind (arith, nat_tests)
 is_boundary-char_at len_of h (c ∷ cs) u =
     rw (sum_by-cons len_of c cs) (boundary_step u (len_of c) (text_len len_of cs) _ (char_at len_of cs (u - len_of c)) (c, len_of c) (h c) (is_boundary-char_at len_of h cs (u - len_of c)))
-
-pub is_boundary-zero : (len_of : ℕ → ℕ) (chars : List ℕ) → is_boundary len_of chars 0 ≡ true
-is_boundary-zero len_of [] = refl
-is_boundary-zero len_of (c ∷ cs) = refl
 
 pub char_at-zero : (len_of : ℕ → ℕ) (chars : List ℕ) → char_at len_of chars 0 ≡ option_map (λ c. (c, len_of c)) (slice_get chars 0)
 char_at-zero len_of [] = refl
@@ -134,28 +130,3 @@ is_boundary-le len_of chars u e =
     rw w.joined (omega (arith, sum_by-append len_of w.front w.back, w.long))
 
 -- ---- a cursor that goes from place to place
-
-first_here : (len_of : ℕ → ℕ) (chars : List ℕ) (c l : ℕ) → char_at len_of chars 0 ≡ Some (c, l) → (chars ≡ c ∷ drop 1 chars) × (l ≡ len_of c)
-first_here len_of [] c l e = absurd (none_some (c, l) e)
-  where
-    none_some : (p : ℕ × ℕ) → None ≡ Some p → ⊥
-    none_some p e = cc e
-first_here len_of (d ∷ ds) c l e =
-    let p : (d, len_of d) ≡ (c, l) = some_same (d, len_of d) (c, l) e in
-    (ap (λ q. q.0 ∷ ds) p, sym (ap (λ q. q.1) p) ∙ ap (λ q. len_of q.0) p)
-  where
-    some_same : (p q : ℕ × ℕ) → Some p ≡ Some q → p ≡ q
-    some_same p q e = cc e
-
--- past the character at a boundary is a boundary
-pub is_boundary-next : (len_of : ℕ → ℕ) → HasUnits len_of → (chars : List ℕ) (u c l : ℕ) → is_boundary len_of chars u ≡ true → char_at len_of chars u ≡ Some (c, l) → (is_boundary len_of chars (u + l) ≡ true) × (1 ≤ l)
-is_boundary-next len_of h chars u c l b e =
-    let w = cut_at len_of chars u b in
-    let here : char_at len_of w.back 0 ≡ Some (c, l) =
-    sym (char_at-append len_of h w.front w.back) ∙ ap (λ ds. char_at len_of ds (text_len len_of w.front)) (sym w.joined) ∙ ap (char_at len_of chars) w.long ∙ e in
-    let f = first_here len_of w.back c l here in
-    let parts : chars ≡ (w.front ++ c ∷ []) ++ drop 1 w.back = w.joined ∙ ap (λ z. w.front ++ z) f.0 ∙ sym (append_assoc w.front (c ∷ []) (drop 1 w.back)) in
-    let past : text_len len_of (w.front ++ c ∷ []) ≡ u + l = omega (arith, sum_by_push len_of w.front c, w.long, f.1) in (
-      subst (λ ds. is_boundary len_of ds (u + l) ≡ true) (sym parts) (subst (λ m. is_boundary len_of ((w.front ++ c ∷ []) ++ drop 1 w.back) m ≡ true) past (is_boundary-append len_of (w.front ++ c ∷ []) (drop 1 w.back))),
-      omega (arith, f.1, h c),
-    )

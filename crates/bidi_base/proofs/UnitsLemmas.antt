@@ -1,10 +1,10 @@
 -- What the test `is_per_char` says of entries that go with units.
-use Rattle.std.proofs.Common.{◌≡◌, ◌==◌, ◌↔◌, ℕ, zero, suc, ◌<◌, ◌≤◌, Bool, true, false, ◌&&◌, nat_le, List, [], ◌∷◌, ◌++◌, length, get_or, take, drop, refl, sym, ap, ◌∙◌, arith, length-append, length-take}
+use Rattle.std.proofs.Common.{◌≡◌, ◌==◌, ℕ, zero, suc, ◌<◌, ◌≤◌, Bool, true, false, ◌&&◌, nat_le, List, [], ◌∷◌, ◌++◌, length, get_or, take, drop, refl, sym, ap, ◌∙◌, arith, length-append, length-take}
 use Rattle.std.proofs.Math.Seq.{take-append_seam, drop-append_seam}
 use Rattle.std.proofs.lemmas.List.{nil_from_length, take-append-drop, length-replicate}
 use Rattle.std.proofs.lemmas.Bool.Decides.{nat_tests}
 use Rattle.std.specs.List.{list_all}
-use Rattle.std.specs.Prelude.{replicate, IsTrue}
+use Rattle.std.specs.Prelude.{replicate}
 use Rattle.bidi_base.specs.Text.{text_len, per_unit, per_char, all_same, is_per_char, IsPerChar}
 use Rattle.bidi_base.proofs.TextLemmas.{HasUnits}
 use Rattle.bidi_base.proofs.PerUnit.{length-per_unit, per_char-per_unit}
@@ -114,10 +114,6 @@ module _ {X : Type 0} (eq : X → X → Bool) (test : IsSameTest eq) where
 
   pub is_per_char-from_IsPerChar : (len_of : ℕ → ℕ) (chars : List ℕ) (units : List X) → IsPerChar len_of chars units → is_per_char eq len_of chars units ≡ true
   is_per_char-from_IsPerChar len_of chars units w = ap (is_per_char eq len_of chars) w.2 ∙ is_per_char-per_unit len_of chars w.0 w.1
-
-  -- the test says just that
-  pub is_per_char-is : (len_of : ℕ → ℕ) → HasUnits len_of → (chars : List ℕ) (units : List X) → IsTrue (is_per_char eq len_of chars units) ↔ IsPerChar len_of chars units
-  is_per_char-is len_of h chars units = (IsPerChar-from_is_per_char len_of h chars units, is_per_char-from_IsPerChar len_of chars units)
 
   pub per_unit-from_is_per_char : (d : X) (len_of : ℕ → ℕ) → HasUnits len_of → (chars : List ℕ) (units : List X) → is_per_char eq len_of chars units ≡ true → units ≡ per_unit len_of chars (per_char d len_of chars units)
   per_unit-from_is_per_char d len_of h chars units e = per_unit-from_IsPerChar d len_of h chars units (IsPerChar-from_is_per_char len_of h chars units e)

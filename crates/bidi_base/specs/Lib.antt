@@ -1,3 +1,4 @@
+pub mod Analysed
 pub mod Arranged
 pub mod Brackets
 pub mod Classes
@@ -5,6 +6,7 @@ pub mod Direction
 pub mod Display
 pub mod Embeddings
 pub mod Explicit
+pub mod FoundBrackets
 pub mod Implicit
 pub mod Isolates
 pub mod Laws

@@ -1,5 +1,5 @@
 -- The characters that code units of UTF-16 mean.
-use Rattle.std.specs.Prelude.{ℕ, ◌+◌, ◌-◌, ◌*◌, Bool, ◌&&◌, ◌||◌, nat_le, nat_lt, if◌then◌else◌, List, [], ◌∷◌}
+use Rattle.std.specs.Prelude.{◌≡◌, ℕ, ◌+◌, ◌-◌, ◌*◌, ◌≤◌, Bool, ◌&&◌, ◌||◌, nat_le, nat_lt, if◌then◌else◌, List, [], ◌∷◌, ◌++◌, length, take, drop, slice_index}
 
 -- u and v are a high surrogate and a low one
 abbrev pub is_pair : ℕ → ℕ → Bool
@@ -22,3 +22,19 @@ utf16_text (u ∷ v ∷ us) = if is_pair u v then pair_char u v ∷ utf16_text u
 -- how many units a character takes
 abbrev pub utf16_len : ℕ → ℕ
 utf16_len c = if nat_lt c 0x10000 then 1 else 2
+
+-- the index i lies between the units of a pair
+abbrev pub splits_pair : List ℕ → ℕ → Bool
+splits_pair us i = nat_lt 0 i && is_pair (slice_index us (i - 1)) (slice_index us i)
+
+-- the units begin with the character c, n units long
+pub record IsFirst (us : List ℕ) (c n : ℕ) : Type 0 where
+  pub long : n ≡ utf16_len c
+  pub within : n ≤ length us
+  pub text : utf16_text us ≡ c ∷ utf16_text (drop n us)
+
+-- the units end with the character c, n units long
+pub record IsLast (us : List ℕ) (c n : ℕ) : Type 0 where
+  pub long : n ≡ utf16_len c
+  pub within : n ≤ length us
+  pub text : utf16_text us ≡ utf16_text (take (length us - n) us) ++ c ∷ []

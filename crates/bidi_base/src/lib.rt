@@ -2,10 +2,13 @@
 //! and texts. Its folder `specs` has every definition that a contract cites, one module a topic.
 #![tactic(auto)]
 
+pub mod brackets;
 pub mod char_data;
 pub mod classes;
 pub mod data_source;
 pub mod format_chars;
+pub mod isolates;
 pub mod level;
+pub mod neutrals;
 pub mod sample;
 pub mod text;

@@ -9,9 +9,13 @@ ghost use Rattle.bidi_base.specs.Text.{text_len, char_indices, indices_lengths, 
 
 use std::ops::Range;
 
+mod chars_text;
 mod str_text;
+mod utf16_text;
 
+pub use chars_text::{CharsCharIndexIter, CharsCharIter, CharsIndexLenIter, CharsText};
 pub use str_text::{StrText, Utf8IndexLenIter};
+pub use utf16_text::{Utf16CharIndexIter, Utf16CharIter, Utf16IndexLenIter, Utf16Text};
 
 /// A text: a list of characters, each at least one unit long.
 pub trait TextSource: Copy {

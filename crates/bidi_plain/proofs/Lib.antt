@@ -1,4 +1,3 @@
-mod BracketPass
 mod ExplicitPass
 mod ListPass
 mod OpenersLemmas

@@ -1,19 +1,16 @@
 -- A pass over a slice of classes that rewrites it by a rule in context, and carries along the nearest class before that passes a test.
-use Rattle.std.proofs.Common.{◌≡◌, ℕ, ◌+◌, ◌<◌, Bool, cond, List, length, get_or, take, drop, set, reverse, refl, sym, ap, ◌∙◌}
+use Rattle.std.proofs.Common.{◌≡◌, ℕ, ◌+◌, ◌<◌, Bool, cond, List, length, get_or, take, drop, set, reverse, sym, ap, ◌∙◌}
 use Rattle.bidi_base.specs.declared.char_data.BidiClass.{BidiClass}
 use Rattle.bidi_base.specs.declared.char_data.BidiClass.TheVariants.{L}
 use Rattle.bidi_base.specs.Places.{nearest}
 use Rattle.bidi_base.proofs.PlacesLemmas.{reverse-take_more, nearest-more}
-use Rattle.bidi_base.proofs.InPlace.{IsRewritten, IsRewritten-start, IsRewritten-read, IsRewritten-write, IsRewritten-keep}
+use Rattle.bidi_base.proofs.InPlace.{IsRewritten, IsRewritten-read, IsRewritten-write}
 
 module _ (rule : List BidiClass → BidiClass → List BidiClass → BidiClass) (test : BidiClass → Bool) (start : BidiClass) where
   -- the first i classes are rewritten, and `nearest_one` is the nearest class before i that passes the test
   pub record IsScanned (old now : List BidiClass) (nearest_one : BidiClass) (i : ℕ) : Type 0 where
     pub rewritten : IsRewritten rule old now i
     pub is_nearest : nearest_one ≡ nearest test (reverse (take i old)) start
-
-  pub IsScanned-start : (old : List BidiClass) → IsScanned old old start 0
-  IsScanned-start old = record { rewritten = IsRewritten-start rule old; is_nearest = refl }
 
   nearest_later : (old now : List BidiClass) (s : BidiClass) (i : ℕ) (c : BidiClass) → IsScanned old now s i → i < length old → get_or now i L ≡ c
       → cond (test c) c s ≡ nearest test (reverse (take (i + 1) old)) start
@@ -40,13 +37,5 @@ module _ (rule : List BidiClass → BidiClass → List BidiClass → BidiClass) 
       → Answers old s i c y → IsScanned old (set now i y) t (i + 1)
   IsScanned-write old now s t i c y h fits is next answers = record {
     rewritten = IsRewritten-write rule old now i y L fits (answer_here old now s i c y h is answers) h.rewritten;
-    is_nearest = next ∙ nearest_later old now s i c h fits is;
-  }
-
-  -- the rule keeps the class at i
-  pub IsScanned-keep : (old now : List BidiClass) (s t : BidiClass) (i : ℕ) (c : BidiClass) → IsScanned old now s i → i < length old → get_or now i L ≡ c → t ≡ cond (test c) c s
-      → Answers old s i c c → IsScanned old now t (i + 1)
-  IsScanned-keep old now s t i c h fits is next answers = record {
-    rewritten = IsRewritten-keep rule old now i L fits (sym (IsRewritten-read rule old now i L h.rewritten) ∙ is ∙ answer_here old now s i c c h is answers) h.rewritten;
     is_nearest = next ∙ nearest_later old now s i c h fits is;
   }

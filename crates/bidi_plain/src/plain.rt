@@ -3,7 +3,6 @@
 mod bracket_pairs;
 mod embeddings;
 mod implicit_levels;
-mod kinds;
 mod neutrals;
 mod run_sequences;
 mod weak_types;

@@ -2,7 +2,7 @@
 
 ghost use Rattle.std.specs.Prelude.{◌≡◌, not, ◌||◌};
 ghost use Rattle.std.specs.List.{list_all, list_any};
-ghost use Rattle.bidi_base.specs.Classes.{is_initiator as is_initiator_of, is_kept, is_l_or_r, is_read, is_weak_resolved, has_direction};
+ghost use Rattle.bidi_base.specs.Classes.{is_initiator as is_initiator_of, is_kept, is_l_or_r, is_kept_in_place, is_weak_resolved, has_direction};
 
 use bidi_base::char_data::BidiClass::{self, AN, B, BN, EN, FSI, L, LRI, ON, PDI, R, RLI, S, WS};
 use bidi_base::classes::is_initiator;
@@ -41,14 +41,14 @@ pub fn are_left(classes: &[BidiClass]) -> bool
 
 // Whether a unit may have a class: BN, or one that the weak types leave.
 fn is_left_or_removed(class: BidiClass) -> bool
-    ensures { result ≡ (is_weak_resolved class || not (is_read class)) }
+    ensures { result ≡ (is_weak_resolved class || not (is_kept_in_place class)) }
 {
     is_left(class) || matches!(class, BN)
 }
 
 /// Whether the weak types leave all the classes but BN.
 pub fn are_left_or_removed(classes: &[BidiClass]) -> bool
-    ensures { result ≡ list_all (λ c. is_weak_resolved c || not (is_read c)) classes.now }
+    ensures { result ≡ list_all (λ c. is_weak_resolved c || not (is_kept_in_place c)) classes.now }
 {
     classes.iter().all(|class| is_left_or_removed(*class))
 }

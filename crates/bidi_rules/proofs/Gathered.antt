@@ -9,11 +9,11 @@ use Rattle.bidi_base.specs.Places.{at_places, class_at}
 use Rattle.bidi_base.specs.Source.{Source}
 use Rattle.bidi_base.specs.Text.{place}
 use Rattle.bidi_base.proofs.StoredLemmas.{at_places-append, length-at_places}
-use Rattle.bidi_rules.specs.declared.implicit.brackets.Bracket.{Bracket}
-use Rattle.bidi_rules.specs.FoundBrackets.{brackets_from, found_brackets}
+use Rattle.bidi_base.specs.declared.brackets.Bracket.{Bracket}
+use Rattle.bidi_base.specs.FoundBrackets.{brackets_from, found_brackets}
 use Rattle.bidi_rules.specs.NeutralPass.{values_of, AreBracketsOf, AreGathered}
-use Rattle.bidi_rules.proofs.FoundBrackets.{found_brackets-push}
-use Rattle.bidi_rules.proofs.ReadRuns.{values_of-append}
+use Rattle.bidi_base.proofs.FoundBracketsLemmas.{found_brackets-push}
+use Rattle.bidi_rules.proofs.KeptRuns.{values_of-append}
 
 found_brackets-none : found_brackets [] [] ≡ []
 unfolding found_brackets

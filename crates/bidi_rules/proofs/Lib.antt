@@ -1,10 +1,9 @@
-pub mod BracketSearch
 pub mod ExplicitUnits
-pub mod FirstRead
-pub mod FoundBrackets
+pub mod FirstKept
 pub mod Gathered
 pub mod InRuns
 pub mod KeptRangeLemmas
+pub mod KeptRuns
 pub mod LevelRunLemmas
 pub mod Marks
 pub mod NeutralScan
@@ -14,7 +13,6 @@ pub mod OneDirection
 pub mod PairWalkLemmas
 pub mod PassOverText
 pub mod PutAt
-pub mod ReadRuns
 pub mod RunCutting
 pub mod RunJoined
 pub mod RunJoining

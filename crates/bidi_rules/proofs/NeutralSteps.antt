@@ -10,14 +10,14 @@ use Rattle.bidi_base.specs.declared.char_data.BidiClass.{BidiClass}
 use Rattle.bidi_base.specs.declared.char_data.BidiClass.TheVariants.{L, BN}
 use Rattle.bidi_base.specs.declared.data_source.BidiMatchedOpeningBracket.{BidiMatchedOpeningBracket}
 use Rattle.bidi_base.specs.Brackets.{bracket_pairs}
-use Rattle.bidi_base.specs.Classes.{is_l_or_r, is_read, is_weak_resolved}
+use Rattle.bidi_base.specs.Classes.{is_l_or_r, is_kept_in_place, is_weak_resolved}
 use Rattle.bidi_base.specs.Levels.{direction_of}
 use Rattle.bidi_base.specs.Neutral.{n0, n1_rule, n1_n2, neutral_classes}
 use Rattle.bidi_base.specs.Places.{at_places, class_at, first_or}
 use Rattle.bidi_base.specs.Sequences.{level_at}
 use Rattle.bidi_base.specs.Source.{Source}
 use Rattle.bidi_base.specs.Text.{place, text_len, is_per_char, per_char, per_unit, IsLine, IsPerChar}
-use Rattle.bidi_base.specs.Units.{bounds, are_ordered, in_runs, read_in_runs, units_in_runs, AreLines}
+use Rattle.bidi_base.specs.Units.{bounds, are_ordered, in_runs, kept_in_place, units_in_runs, AreLines}
 use Rattle.bidi_base.proofs.NeutralLemmas.{direction_of-l_or_r, n0-resolved}
 use Rattle.bidi_base.proofs.PermutationLemmas.{Ascends}
 use Rattle.bidi_base.proofs.PerCharTests.{class_eq, class_test}
@@ -29,11 +29,11 @@ use Rattle.bidi_base.proofs.UnitsLemmas.{IsPerChar-from_is_per_char, is_per_char
 use Rattle.bidi_rules.specs.declared.prepare.sequence.IsolatingRunSequence.{IsolatingRunSequence}
 use Rattle.bidi_rules.specs.NeutralPass.{put_at, values_of}
 use Rattle.bidi_rules.specs.RunSequence.{runs as runs_of, sos as sos_of, eos as eos_of}
-use Rattle.bidi_rules.proofs.FirstRead.{first_read-is, first-Some, first-None}
+use Rattle.bidi_rules.proofs.FirstKept.{first_kept-is, first-Some, first-None}
 use Rattle.bidi_rules.proofs.Gathered.{length-values_of}
 use Rattle.bidi_rules.proofs.NeutralUnits.{kept_units, removed_units, outside_units, IsPerChar-units}
 use Rattle.bidi_rules.proofs.PutAt.{Ascends-within}
-use Rattle.bidi_rules.proofs.ReadRuns.{read_in_runs-Ascends}
+use Rattle.bidi_rules.proofs.KeptRuns.{kept_in_place-Ascends}
 use Rattle.bidi_rules.proofs.WalkLemmas.{is_run_sequence-ordered}
 
 -- what the steps over these runs stand on
@@ -42,11 +42,11 @@ pub record IsReady (len_of : ℕ → ℕ) (chars : List ℕ) (runs : List (Range
   pub lines : AreLines len_of chars (map bounds runs)
   pub per_char : IsPerChar len_of chars old
   pub side : is_l_or_r sos ≡ true
-  pub resolved : list_all is_weak_resolved (values_of L len_of chars old (read_in_runs len_of chars old (map bounds runs))) ≡ true
+  pub resolved : list_all is_weak_resolved (values_of L len_of chars old (kept_in_place len_of chars old (map bounds runs))) ≡ true
 
 pub IsReady-sequence : (len_of : ℕ → ℕ) → HasUnits len_of → (chars : List ℕ) (sequence : IsolatingRunSequence) (runs : List (Range ℕ)) (sos : BidiClass) (old : List BidiClass) → runs ≡ runs_of sequence → sos ≡ sos_of sequence
     → is_per_char class_eq len_of chars old ≡ true → AreLines len_of chars (map bounds (runs_of sequence))
-    → list_all is_weak_resolved (values_of L len_of chars old (read_in_runs len_of chars old (map bounds (runs_of sequence)))) ≡ true → IsReady len_of chars runs sos old
+    → list_all is_weak_resolved (values_of L len_of chars old (kept_in_place len_of chars old (map bounds (runs_of sequence)))) ≡ true → IsReady len_of chars runs sos old
 IsReady-sequence len_of h chars sequence runs sos old runs_is sos_is per lines resolved =
     let all = map bounds sequence.runs.items in
     let sides = is_l_or_r sequence.sos && is_l_or_r sequence.eos in
@@ -63,7 +63,7 @@ IsReady-sequence len_of h chars sequence runs sos old runs_is sos_is per lines r
 
 module _ (len_of : ℕ → ℕ) (h : HasUnits len_of) (chars : List ℕ) (runs : List (Range ℕ)) (sos : BidiClass) (old : List BidiClass) (ready : IsReady len_of chars runs sos old) where
   abbrev read : List ℕ
-  read = read_in_runs len_of chars old (map bounds runs)
+  read = kept_in_place len_of chars old (map bounds runs)
 
   pub long : length old ≡ text_len len_of chars
   long = length-from_IsPerChar len_of chars old ready.per_char
@@ -73,12 +73,12 @@ module _ (len_of : ℕ → ℕ) (h : HasUnits len_of) (chars : List ℕ) (runs :
       All-weaker (λ (r : ℕ × ℕ). IsLine len_of chars r.0 r.1) (λ (r : ℕ × ℕ). r.1 ≤ length old) (λ r line. omega (arith, is_boundary-le len_of chars r.1 line.ends, long)) (map bounds runs) ready.lines
 
   -- the first unit that is read
-  pub first-is : (first : ℕ) → Some first ≡ find (λ u. is_read (class_at old u)) (units_in_runs (map bounds runs)) → first_or 0 (map (place len_of chars) read) ≡ first
+  pub first-is : (first : ℕ) → Some first ≡ find (λ u. is_kept_in_place (class_at old u)) (units_in_runs (map bounds runs)) → first_or 0 (map (place len_of chars) read) ≡ first
   first-is first found =
-      first-Some (map (place len_of chars) read) first (sym (first_read-is len_of h chars old ready.per_char (map bounds runs) ready.lines) ∙ sym found)
+      first-Some (map (place len_of chars) read) first (sym (first_kept-is len_of h chars old ready.per_char (map bounds runs) ready.lines) ∙ sym found)
 
-  pub first-within : (first : ℕ) → Some first ≡ find (λ u. is_read (class_at old u)) (units_in_runs (map bounds runs)) → first < length old
-  first-within first found = by_list read (read_in_runs-Ascends len_of h chars old (map bounds runs) ready.lines ready.ordered) (sym (first_read-is len_of h chars old ready.per_char (map bounds runs) ready.lines) ∙ sym found)
+  pub first-within : (first : ℕ) → Some first ≡ find (λ u. is_kept_in_place (class_at old u)) (units_in_runs (map bounds runs)) → first < length old
+  first-within first found = by_list read (kept_in_place-Ascends len_of h chars old (map bounds runs) ready.lines ready.ordered) (sym (first_kept-is len_of h chars old ready.per_char (map bounds runs) ready.lines) ∙ sym found)
     where
       by_list : (ks : List ℕ) → Ascends 0 ks (length chars) → slice_get (map (place len_of chars) ks) 0 ≡ Some first → first < length old
       by_list [] rises e = absurd (cc e)
@@ -87,8 +87,8 @@ module _ (len_of : ℕ → ℕ) (h : HasUnits len_of) (chars : List ℕ) (runs :
           let fits : k < length chars = omega (arith, Ascends-within (k + 1) (length chars) ks rises.1) in
           omega (arith, at, place-lt len_of chars h k (length chars) fits fits, place-end len_of chars (length chars) (omega arith), long)
 
-  pub none-read : None ≡ find (λ u. is_read (class_at old u)) (units_in_runs (map bounds runs)) → read ≡ []
-  none-read found = no_places read (first-None (map (place len_of chars) read) (sym (first_read-is len_of h chars old ready.per_char (map bounds runs) ready.lines) ∙ sym found))
+  pub none-read : None ≡ find (λ u. is_kept_in_place (class_at old u)) (units_in_runs (map bounds runs)) → read ≡ []
+  none-read found = no_places read (first-None (map (place len_of chars) read) (sym (first_kept-is len_of h chars old ready.per_char (map bounds runs) ready.lines) ∙ sym found))
     where
       no_places : (ks : List ℕ) → map (place len_of chars) ks ≡ [] → ks ≡ []
       no_places [] e = refl
@@ -117,7 +117,7 @@ neutral_classes-none level sos eos source brackets =
 
 -- the classes after the steps, over the units
 pub record IsResolved (len_of : ℕ → ℕ) (chars : List ℕ) (source : Source) (levels : List ℕ) (original old new : List BidiClass) (runs : List (Range ℕ)) (sos eos : BidiClass) : Type 0 where
-  pub kept : let read = read_in_runs len_of chars old (map bounds runs) in
+  pub kept : let read = kept_in_place len_of chars old (map bounds runs) in
       let places = map (place len_of chars) read in
       at_places L new places
       ≡ neutral_classes (level_at levels (first_or 0 places)) sos eos (at_places L original places) (map source.bracket_of (at_places 0 chars read)) (at_places L old places)
@@ -134,11 +134,11 @@ pub record AreSteps (len_of : ℕ → ℕ) (chars : List ℕ) (source : Source) 
   pub new_are : new ≡ per_unit len_of chars (put_at read directed (per_char L len_of chars old))
 
 pub IsResolved-steps : (len_of : ℕ → ℕ) (h : HasUnits len_of) (chars : List ℕ) (source : Source) (levels : List ℕ) (original old : List BidiClass) (runs : List (Range ℕ)) (e sos eos : BidiClass) (gathered paired directed new : List BidiClass) (first : ℕ)
-    → IsReady len_of chars runs sos old → Some first ≡ find (λ u. is_read (class_at old u)) (units_in_runs (map bounds runs))
-    → AreSteps len_of chars source (level_at levels first) original old (read_in_runs len_of chars old (map bounds runs)) e sos eos gathered paired directed new → IsResolved len_of chars source levels original old new runs sos eos
+    → IsReady len_of chars runs sos old → Some first ≡ find (λ u. is_kept_in_place (class_at old u)) (units_in_runs (map bounds runs))
+    → AreSteps len_of chars source (level_at levels first) original old (kept_in_place len_of chars old (map bounds runs)) e sos eos gathered paired directed new → IsResolved len_of chars source levels original old new runs sos eos
 IsResolved-steps len_of h chars source levels original old runs e sos eos gathered paired directed new first ready found s =
     let rs = map bounds runs in
-    let read = read_in_runs len_of chars old rs in
+    let read = kept_in_place len_of chars old rs in
     let places = map (place len_of chars) read in
     let sources = values_of L len_of chars original read in
     let brackets = map source.bracket_of (at_places 0 chars read) in
@@ -161,7 +161,7 @@ IsResolved-steps len_of h chars source levels original old runs e sos eos gather
 
 -- without a character that is read nothing is to be done
 pub IsResolved-none : (len_of : ℕ → ℕ) (h : HasUnits len_of) (chars : List ℕ) (source : Source) (levels : List ℕ) (original old : List BidiClass) (runs : List (Range ℕ)) (sos eos : BidiClass) → IsReady len_of chars runs sos old
-    → None ≡ find (λ u. is_read (class_at old u)) (units_in_runs (map bounds runs)) → IsResolved len_of chars source levels original old old runs sos eos
+    → None ≡ find (λ u. is_kept_in_place (class_at old u)) (units_in_runs (map bounds runs)) → IsResolved len_of chars source levels original old old runs sos eos
 IsResolved-none len_of h chars source levels original old runs sos eos ready found =
     let none = none-read len_of h chars runs sos old ready found in
     record {

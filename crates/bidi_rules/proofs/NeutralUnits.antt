@@ -7,10 +7,10 @@ use Rattle.std.proofs.lemmas.List.{get_or_past}
 use Rattle.std.proofs.lemmas.List.Elements.{All-append, All-cons, All-nil, All-filter, All-head, All-tail, All-weaker}
 use Rattle.bidi_base.specs.declared.char_data.BidiClass.{BidiClass}
 use Rattle.bidi_base.specs.declared.char_data.BidiClass.TheVariants.{L, BN}
-use Rattle.bidi_base.specs.Classes.{is_read}
+use Rattle.bidi_base.specs.Classes.{is_kept_in_place}
 use Rattle.bidi_base.specs.Places.{at_places, between, class_at}
 use Rattle.bidi_base.specs.Text.{place, text_len, char_index, per_char, per_unit, IsLine, IsPerChar}
-use Rattle.bidi_base.specs.Units.{are_ordered, chars_in_runs, in_runs, read_in_runs, AreLines}
+use Rattle.bidi_base.specs.Units.{are_ordered, chars_in_runs, in_runs, kept_in_place, AreLines}
 use Rattle.bidi_base.proofs.PermutationLemmas.{Ascends}
 use Rattle.bidi_base.proofs.PerUnit.{length-per_char, length-per_unit, get_or-per_char, get_or-per_unit, get_or-per_unit-place}
 use Rattle.bidi_base.proofs.PlaceLemmas.{UnitOf, unit_of, line_places, place-lt, place-mono, place-more}
@@ -20,7 +20,7 @@ use Rattle.bidi_rules.specs.NeutralPass.{put_at}
 use Rattle.bidi_rules.proofs.InRuns.{in_run, in_run-inside}
 use Rattle.bidi_rules.proofs.PassOverText.{alike_class, in_runs-alike}
 use Rattle.bidi_rules.proofs.PutAt.{Ascends-within, length-put_at, put_at-failing, at_places-put_at}
-use Rattle.bidi_rules.proofs.ReadRuns.{read_in_runs-Ascends}
+use Rattle.bidi_rules.proofs.KeptRuns.{kept_in_place-Ascends}
 
 all_pass : (test : ℕ → Bool) (ks : List ℕ) → All (λ k. test k ≡ true) (filter test ks)
 all_pass test [] = All-nil (λ k. test k ≡ true)
@@ -67,19 +67,19 @@ module _ (len_of : ℕ → ℕ) (h : HasUnits len_of) (chars : List ℕ) where
       ∙ ap (λ (cs : List BidiClass). get_or xs k L ∷ cs) (at_places-per_unit (k + 1) high ks xs long within rises.1)
 
   module _ (old : List BidiClass) (per : IsPerChar len_of chars old) (runs : List (ℕ × ℕ)) (lines : AreLines len_of chars runs) (ordered : are_ordered runs ≡ true) (resolved new : List BidiClass)
-      (written : new ≡ per_unit len_of chars (put_at (read_in_runs len_of chars old runs) resolved (per_char L len_of chars old))) where
+      (written : new ≡ per_unit len_of chars (put_at (kept_in_place len_of chars old runs) resolved (per_char L len_of chars old))) where
     abbrev read : List ℕ
-    read = read_in_runs len_of chars old runs
+    read = kept_in_place len_of chars old runs
 
     abbrev values : List BidiClass
-    values = put_at (read_in_runs len_of chars old runs) resolved (per_char L len_of chars old)
+    values = put_at (kept_in_place len_of chars old runs) resolved (per_char L len_of chars old)
 
     length-values : length values ≡ length chars
     length-values = length-put_at read resolved (per_char L len_of chars old) ∙ length-per_char L len_of chars old
 
     pub kept_units : length resolved ≡ length read → at_places L new (map (place len_of chars) read) ≡ resolved
     kept_units long =
-        let rises = read_in_runs-Ascends len_of h chars old runs lines ordered in
+        let rises = kept_in_place-Ascends len_of h chars old runs lines ordered in
         ap (λ (us : List BidiClass). at_places L us (map (place len_of chars) read)) written
         ∙ at_places-per_unit 0 (length chars) read values length-values (omega arith) rises
         ∙ at_places-put_at 0 (length chars) read resolved (per_char L len_of chars old) L rises (omega (arith, length-per_char L len_of chars old)) long
@@ -105,21 +105,21 @@ module _ (len_of : ℕ → ℕ) (h : HasUnits len_of) (chars : List ℕ) where
         ]
 
     pub removed_units : (u : ℕ) → class_at old u ≡ BN → class_at new u ≡ BN
-    unfolding read_in_runs
+    unfolding kept_in_place
     removed_units u is =
-        still (λ k. is_read (class_at old (place len_of chars k))) (all_pass (λ k. is_read (class_at old (place len_of chars k))) (chars_in_runs len_of chars runs)) u
+        still (λ k. is_kept_in_place (class_at old (place len_of chars k))) (all_pass (λ k. is_kept_in_place (class_at old (place len_of chars k))) (chars_in_runs len_of chars runs)) u
         (λ w.
         let more = place-more len_of chars w.index 0 w.within in
         let at = w.at_place in
         let short = w.below in
-        ap is_read (sym (alike_class len_of h chars old per w.index u w.within (omega arith) (omega arith)) ∙ is))
+        ap is_kept_in_place (sym (alike_class len_of h chars old per w.index u w.within (omega arith) (omega arith)) ∙ is))
         ∙ is
 
     pub outside_units : (u : ℕ) → in_runs runs u ≡ false → class_at new u ≡ class_at old u
-    unfolding read_in_runs
+    unfolding kept_in_place
     outside_units u out =
         still (λ k. in_runs runs (place len_of chars k))
-        (All-filter (λ k. is_read (class_at old (place len_of chars k))) (λ k. in_runs runs (place len_of chars k) ≡ true) (chars_in_runs len_of chars runs) (places_in_runs runs lines)) u
+        (All-filter (λ k. is_kept_in_place (class_at old (place len_of chars k))) (λ k. in_runs runs (place len_of chars k) ≡ true) (chars_in_runs len_of chars runs) (places_in_runs runs lines)) u
         (λ w.
         let more = place-more len_of chars w.index 0 w.within in
         let at = w.at_place in

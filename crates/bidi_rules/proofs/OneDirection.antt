@@ -1,5 +1,5 @@
 -- A sequence in which each class is a neutral or one direction, which stands at its ends too: N0 to N2 give that direction to all.
-use Rattle.std.proofs.Common.{◌≡◌, ℕ, zero, suc, ◌+◌, ◌-◌, ◌<◌, ◌≤◌, Bool, true, false, ◌&&◌, cond, List, [], ◌∷◌, length, map, take, drop, reverse, filter_map, find, Option, Some, option_map, refl, sym, ap, subst, ◌∙◌, arith, inl, inr}
+use Rattle.std.proofs.Common.{◌≡◌, ℕ, ◌+◌, ◌-◌, ◌<◌, ◌≤◌, Bool, true, false, ◌&&◌, cond, List, [], ◌∷◌, length, map, take, drop, reverse, filter_map, find, Option, Some, option_map, refl, sym, ap, subst, ◌∙◌, arith, inl, inr}
 use Rattle.std.specs.Prelude.{filter, slice_range, All}
 use Rattle.std.specs.List.{list_all, list_any, cons_option}
 use Rattle.std.specs.declared.ops.Range.{Range}
@@ -9,14 +9,14 @@ use Rattle.bidi_base.specs.declared.char_data.BidiClass.{BidiClass}
 use Rattle.bidi_base.specs.declared.char_data.BidiClass.TheVariants.{L, R, EN, AN}
 use Rattle.bidi_base.specs.declared.data_source.BidiMatchedOpeningBracket.{BidiMatchedOpeningBracket}
 use Rattle.bidi_base.specs.Brackets.{bracket_pairs}
-use Rattle.bidi_base.specs.Classes.{as_direction, is_l_or_r, is_neutral, is_read, is_weak_resolved, same_class}
+use Rattle.bidi_base.specs.Classes.{as_direction, is_l_or_r, is_neutral, is_kept_in_place, is_weak_resolved, same_class}
 use Rattle.bidi_base.specs.Levels.{direction_of}
 use Rattle.bidi_base.specs.Neutral.{nearest_direction, directions_between, pair_direction, n0, n1_rule, neutral_classes}
 use Rattle.bidi_base.specs.Places.{at_places, class_at, first_or}
 use Rattle.bidi_base.specs.Sequences.{level_at}
 use Rattle.bidi_base.specs.Source.{Source}
 use Rattle.bidi_base.specs.Text.{place, text_len, IsPerChar}
-use Rattle.bidi_base.specs.Units.{bounds, chars_in_runs, in_runs, read_in_runs, units_in_runs}
+use Rattle.bidi_base.specs.Units.{bounds, chars_in_runs, in_runs, kept_in_place, units_in_runs}
 use Rattle.bidi_base.proofs.ContextLemmas.{list_all-in_context}
 use Rattle.bidi_base.proofs.NeutralLemmas.{n0-keeps}
 use Rattle.bidi_base.proofs.PerCharTests.{class_eq, class_test}
@@ -28,6 +28,7 @@ use Rattle.bidi_rules.proofs.Gathered.{length-values_of}
 use Rattle.bidi_rules.proofs.NeutralSteps.{IsReady, IsResolved, first-is, length-resolved, neutral_classes-is}
 use Rattle.bidi_rules.proofs.NeutralUnits.{places_in_runs}
 use Rattle.bidi_rules.proofs.PassOverText.{IsPerChar-alike, alike_class, in_runs-alike, in_runs-within}
+use Rattle.bidi_base.proofs.Lists.{list_all-take, list_all-drop}
 
 -- ---- over a list of classes
 
@@ -99,18 +100,6 @@ left_over L _ s h k = absurd (both_ways _ k h)
 left_over R R s h k = refl
 left_over R _ s h k = absurd (both_ways _ k h)
 left_over _ c s h k = absurd (cc s)
-
-list_all-take : (p : BidiClass → Bool) (n : ℕ) (cs : List BidiClass) → list_all p cs ≡ true → list_all p (take n cs) ≡ true
-list_all-take p zero cs h = refl
-list_all-take p (suc n) [] h = refl
-list_all-take p (suc n) (c ∷ cs) h =
-    let parts = and_parts (p c) (list_all p cs) h in
-    and_from (p c) (list_all p (take n cs)) parts.0 (list_all-take p n cs parts.1)
-
-list_all-drop : (p : BidiClass → Bool) (n : ℕ) (cs : List BidiClass) → list_all p cs ≡ true → list_all p (drop n cs) ≡ true
-list_all-drop p zero cs h = h
-list_all-drop p (suc n) [] h = refl
-list_all-drop p (suc n) (c ∷ cs) h = list_all-drop p n cs (and_parts (p c) (list_all p cs) h).1
 
 module _ (e : BidiClass) (side : is_l_or_r e ≡ true) where
   nearest-is : (cs : List BidiClass) → list_all (goes_with e) cs ≡ true → nearest_direction e cs ≡ e
@@ -210,7 +199,7 @@ module _ (len_of : ℕ → ℕ) (h : HasUnits len_of) (chars : List ℕ) (runs :
   rs = map bounds runs
 
   abbrev read : List ℕ
-  read = read_in_runs len_of chars old rs
+  read = kept_in_place len_of chars old rs
 
   abbrev places : List ℕ
   places = map (place len_of chars) read
@@ -219,23 +208,23 @@ module _ (len_of : ℕ → ℕ) (h : HasUnits len_of) (chars : List ℕ) (runs :
   size = length-from_IsPerChar len_of chars old ready.per_char
 
   -- a property of the units at which a character is read
-  at_read : (P : ℕ → Type 0) → ((u : ℕ) → in_runs rs u ≡ true → is_read (class_at old u) ≡ true → P u) → All P places
-  unfolding read_in_runs
+  at_read : (P : ℕ → Type 0) → ((u : ℕ) → in_runs rs u ≡ true → is_kept_in_place (class_at old u) ≡ true → P u) → All P places
+  unfolding kept_in_place
   at_read P holds =
       All-map P (place len_of chars) read
-      (read_each (λ k. is_read (class_at old (place len_of chars k))) (λ k. in_runs rs (place len_of chars k)) (λ k. P (place len_of chars k))
+      (read_each (λ k. is_kept_in_place (class_at old (place len_of chars k))) (λ k. in_runs rs (place len_of chars k)) (λ k. P (place len_of chars k))
       (λ k inside reads. holds (place len_of chars k) inside reads) (chars_in_runs len_of chars rs) (places_in_runs len_of h chars rs ready.lines))
 
   module _ (e : BidiClass) (side : is_l_or_r e ≡ true) (keeps : (u : ℕ) → in_runs rs u ≡ true → turns_from e (class_at old u) ≡ false) (new : List BidiClass)
       (w : IsWrittenOver (is_seen rs old) e 0 (length old) old new) where
     written : (u : ℕ) → is_seen rs old u ≡ true → class_at new u ≡ e
-    written u seen = w.inside u (omega arith) (omega (arith, size, in_runs-within len_of h chars rs ready.lines u (and_parts (in_runs rs u) (is_read (class_at old u)) seen).0)) seen
+    written u seen = w.inside u (omega arith) (omega (arith, size, in_runs-within len_of h chars rs ready.lines u (and_parts (in_runs rs u) (is_kept_in_place (class_at old u)) seen).0)) seen
 
     kept-one : (level : ℕ) (source : List BidiClass) (brackets : List (Option BidiMatchedOpeningBracket)) → e ≡ direction_of level → at_places L new places ≡ neutral_classes level e e source brackets (at_places L old places)
     kept-one level source brackets is =
         let classes = values_of L len_of chars old read in
         same_lists e side (at_places L new places) (neutral_classes level e e source brackets classes)
-        (all_same e side new places (at_read (λ u. class_at new u ≡ e) (λ u inside reads. written u (and_from (in_runs rs u) (is_read (class_at old u)) inside reads))))
+        (all_same e side new places (at_read (λ u. class_at new u ≡ e) (λ u inside reads. written u (and_from (in_runs rs u) (is_kept_in_place (class_at old u)) inside reads))))
         (neutral_classes-one e side level source brackets classes is (all_go e side old places ready.resolved (at_read (λ u. turns_from e (class_at old u) ≡ false) (λ u inside reads. keeps u inside))))
         (length-values_of len_of chars L new read
         ∙ sym (ap length (sym (neutral_classes-is e e e level source classes brackets is)) ∙ length-resolved e e e source classes (bracket_pairs classes brackets) ∙ length-values_of len_of chars L old read))
@@ -245,7 +234,7 @@ module _ (len_of : ℕ → ℕ) (h : HasUnits len_of) (chars : List ℕ) (runs :
         let first = place len_of chars k in
         let same : class_at old u ≡ class_at old first = alike_class len_of h chars old ready.per_char k u fits from below in
         let alike : is_seen rs old u ≡ is_seen rs old first =
-        ap (λ b. b && is_read (class_at old u)) (in_runs-alike len_of h chars rs ready.lines k u from below) ∙ ap (λ c. in_runs rs first && is_read c) same in
+        ap (λ b. b && is_kept_in_place (class_at old u)) (in_runs-alike len_of h chars rs ready.lines k u from below) ∙ ap (λ c. in_runs rs first && is_kept_in_place c) same in
         elim (cases_Bool (is_seen rs old first)) [
           | inl here ↦ written u (alike ∙ here) ∙ sym (written first here)
           | inr gone ↦ w.failing u (alike ∙ gone) ∙ same ∙ sym (w.failing first gone)
@@ -255,7 +244,7 @@ module _ (len_of : ℕ → ℕ) (h : HasUnits len_of) (chars : List ℕ) (runs :
     IsPerChar-one = IsPerChar-alike len_of chars new (w.long ∙ size) even
 
     -- the steps have given the direction to all
-    pub IsResolved-one : (source : Source) (levels : List ℕ) (original : List BidiClass) (eos : BidiClass) (first : ℕ) → sos ≡ e → eos ≡ e → Some first ≡ find (λ u. is_read (class_at old u)) (units_in_runs rs)
+    pub IsResolved-one : (source : Source) (levels : List ℕ) (original : List BidiClass) (eos : BidiClass) (first : ℕ) → sos ≡ e → eos ≡ e → Some first ≡ find (λ u. is_kept_in_place (class_at old u)) (units_in_runs rs)
         → e ≡ direction_of (level_at levels first) → IsResolved len_of chars source levels original old new runs sos eos
     IsResolved-one source levels original eos first sos_is eos_is found is =
         let at : first_or 0 places ≡ first = first-is len_of h chars runs sos old ready first found in
@@ -265,7 +254,7 @@ module _ (len_of : ℕ → ℕ) (h : HasUnits len_of) (chars : List ℕ) (runs :
           kept = kept-one (level_at levels (first_or 0 places)) sources brackets (is ∙ ap (λ (u : ℕ). direction_of (level_at levels u)) (sym at))
               ∙ ap (λ (s : BidiClass). neutral_classes (level_at levels (first_or 0 places)) s e sources brackets (at_places L old places)) (sym sos_is)
               ∙ ap (λ (s : BidiClass). neutral_classes (level_at levels (first_or 0 places)) sos s sources brackets (at_places L old places)) (sym eos_is);
-          removed = λ u gone. w.failing u (and_right (in_runs rs u) (is_read (class_at old u)) (ap is_read gone)) ∙ gone;
-          outside = λ u out. w.failing u (and_left (in_runs rs u) (is_read (class_at old u)) out);
+          removed = λ u gone. w.failing u (and_right (in_runs rs u) (is_kept_in_place (class_at old u)) (ap is_kept_in_place gone)) ∙ gone;
+          outside = λ u out. w.failing u (and_left (in_runs rs u) (is_kept_in_place (class_at old u)) out);
           per_char = is_per_char-from_IsPerChar class_eq class_test len_of chars new IsPerChar-one;
         }

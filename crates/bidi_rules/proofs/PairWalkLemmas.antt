@@ -9,7 +9,7 @@ use Rattle.std.proofs.lemmas.List.Sums.{prefix_len_passes, prefix_len_stops}
 use Rattle.std.proofs.Math.Seq.{take-add}
 use Rattle.bidi_base.specs.declared.char_data.BidiClass.{BidiClass}
 use Rattle.bidi_base.specs.declared.char_data.BidiClass.TheVariants.{L}
-use Rattle.bidi_base.specs.Classes.{is_nsm}
+use Rattle.bidi_base.specs.Classes.{has_direction, is_nsm, stands_for}
 use Rattle.bidi_base.specs.Places.{class_at}
 use Rattle.bidi_base.specs.Brackets.{IsBehindOrWithin, AreNestedPairs}
 use Rattle.bidi_base.specs.Neutral.{nearest_direction, pair_direction, n0_pair}
@@ -17,7 +17,7 @@ use Rattle.bidi_base.proofs.BracketRules.{pair_direction-tests}
 use Rattle.bidi_base.proofs.NeutralLemmas.{nearest_direction-append}
 use Rattle.bidi_base.proofs.PairChanges.{goes_with_pair-before, goes_with_pair-within, length-n0_pair, n0_pair-elsewhere}
 use Rattle.bidi_rules.specs.declared.implicit.brackets.PairWalk.{PairWalk}
-use Rattle.bidi_rules.specs.PairWalk.{stands_for, is_directed, first_pair_walk, next_from, come_to, enclosed_in, taken}
+use Rattle.bidi_rules.specs.PairWalk.{first_pair_walk, next_from, come_to, enclosed_in, taken}
 
 -- the pair at an index
 abbrev pub pair_at : List (ℕ × ℕ) → ℕ → ℕ × ℕ
@@ -140,7 +140,7 @@ module _ (e sos : BidiClass) (source : List BidiClass) (pairs : List (ℕ × ℕ
     pub inside : walk.at ≤ length classes
     pub context : walk.context ≡ nearest_direction sos (reverse (take walk.at classes))
     pub embedding : Foresees (stands_for e) source pairs classes k walk.next_embedding
-    pub direction : Foresees is_directed source pairs classes k walk.next_direction
+    pub direction : Foresees has_direction source pairs classes k walk.next_direction
 
   pub IsWalkedTo-start : (classes : List BidiClass) (walk : PairWalk) → walk ≡ first_pair_walk sos → IsWalkedTo classes 0 walk
   IsWalkedTo-start classes walk is = rw is (record {
@@ -148,7 +148,7 @@ module _ (e sos : BidiClass) (source : List BidiClass) (pairs : List (ℕ × ℕ
     inside = omega arith;
     context = refl;
     embedding = Foresees-start (stands_for e) source pairs classes;
-    direction = Foresees-start is_directed source pairs classes;
+    direction = Foresees-start has_direction source pairs classes;
   })
 
   context_upto : (classes : List BidiClass) (context : BidiClass) (from to : ℕ) → from ≤ to → to ≤ length classes → context ≡ nearest_direction sos (reverse (take from classes))
@@ -169,7 +169,7 @@ module _ (e sos : BidiClass) (source : List BidiClass) (pairs : List (ℕ × ℕ
         inside = omega (arith, within.0, within.1);
         context = context_upto classes walk.context walk.at (pair_at pairs k).0 (h.ahead k (omega arith) fits) (omega (arith, within.0, within.1)) h.context;
         embedding = (Foresees-next (stands_for e) source pairs classes k walk.next_embedding nested fits h.embedding).0;
-        direction = (Foresees-next is_directed source pairs classes k walk.next_direction nested fits h.direction).0;
+        direction = (Foresees-next has_direction source pairs classes k walk.next_direction nested fits h.direction).0;
       }
 
   -- what the pair at k takes, by what was looked for ahead, and by what stands between its brackets
@@ -182,14 +182,14 @@ module _ (e sos : BidiClass) (source : List BidiClass) (pairs : List (ℕ × ℕ
       ap (λ (d : BidiClass). taken e d (record { embedding = ltb w.next_embedding j; any = ltb w.next_direction j })) here.context
       ∙ sym (pair_direction-tests e sos classes (pair_at pairs k) (ltb w.next_embedding j) (ltb w.next_direction j)
       (Foresees-between (stands_for e) source pairs classes k w.next_embedding nested fits here.embedding none (Foresees-next (stands_for e) source pairs classes k walk.next_embedding nested fits h.embedding).1)
-      (Foresees-between is_directed source pairs classes k w.next_direction nested fits here.direction none (Foresees-next is_directed source pairs classes k walk.next_direction nested fits h.direction).1))
+      (Foresees-between has_direction source pairs classes k w.next_direction nested fits here.direction none (Foresees-next has_direction source pairs classes k walk.next_direction nested fits h.direction).1))
 
   pub taken-looked : (classes : List BidiClass) (k : ℕ) (walk : PairWalk) → AreNestedPairs (length classes) pairs → k < length pairs → IsWalkedTo classes k walk
       → taken e (come_to e classes (pair_at pairs k).0 walk).context (enclosed_in e (slice_range classes ((pair_at pairs k).0 + 1) (pair_at pairs k).1)) ≡ pair_direction e sos classes (pair_at pairs k)
   taken-looked classes k walk nested fits h =
       let inside = slice_range classes ((pair_at pairs k).0 + 1) (pair_at pairs k).1 in
       ap (λ (d : BidiClass). taken e d (enclosed_in e inside)) (IsWalkedTo-come classes k walk nested fits h).context
-      ∙ sym (pair_direction-tests e sos classes (pair_at pairs k) (list_any (stands_for e) inside) (list_any is_directed inside) refl refl)
+      ∙ sym (pair_direction-tests e sos classes (pair_at pairs k) (list_any (stands_for e) inside) (list_any has_direction inside) refl refl)
 
   -- and once N0 was done for it
   pub IsWalkedTo-pair : (classes : List BidiClass) (k : ℕ) (walk : PairWalk) → length source ≡ length classes → AreNestedPairs (length classes) pairs → k < length pairs → IsWalkedTo classes k walk
@@ -208,5 +208,5 @@ module _ (e sos : BidiClass) (source : List BidiClass) (pairs : List (ℕ × ℕ
             ∙ ap (λ (cs : List BidiClass). nearest_direction sos (reverse cs))
             (sym (same_front pair.0 now classes (omega (arith, within.0, within.1)) (omega (arith, within.0, within.1)) (λ x below. n0_pair-elsewhere e sos source classes pair x (omega (arith, within.0, within.1)) (goes_with_pair-before source pair x within.0 below))));
         embedding = Foresees-pair (stands_for e) source pairs e sos classes k w.next_embedding long nested fits here.embedding;
-        direction = Foresees-pair is_directed source pairs e sos classes k w.next_direction long nested fits here.direction;
+        direction = Foresees-pair has_direction source pairs e sos classes k w.next_direction long nested fits here.direction;
       }

@@ -7,10 +7,10 @@ use Rattle.std.proofs.lemmas.List.{map-append, ext_get_or}
 use Rattle.std.proofs.lemmas.List.Elements.{All-head, All-tail, All-get_or, filter-append}
 use Rattle.bidi_base.specs.declared.char_data.BidiClass.{BidiClass}
 use Rattle.bidi_base.specs.declared.char_data.BidiClass.TheVariants.{L, BN, ON}
-use Rattle.bidi_base.specs.Classes.{is_read}
+use Rattle.bidi_base.specs.Classes.{is_kept_in_place}
 use Rattle.bidi_base.specs.Places.{between, at_places, class_at}
 use Rattle.bidi_base.specs.Text.{text_len, place, is_boundary, IsLine, char_index, per_unit, per_char, IsPerChar}
-use Rattle.bidi_base.specs.Units.{are_ordered_from, are_ordered, in_runs, chars_in_runs, read_in_runs, AreLines}
+use Rattle.bidi_base.specs.Units.{are_ordered_from, are_ordered, in_runs, chars_in_runs, kept_in_place, AreLines}
 use Rattle.bidi_base.specs.Weak.{weak_classes}
 use Rattle.bidi_base.proofs.TextLemmas.{HasUnits, is_boundary-le}
 use Rattle.bidi_base.proofs.PlaceLemmas.{place-more, place-le, place-mono, place-lt, is_boundary-place, place-char_index, line_places, unit_of}
@@ -123,8 +123,8 @@ module _ (len_of : ℕ → ℕ) (h : HasUnits len_of) (chars : List ℕ) where
 
       alike : (k u : ℕ) → k < length chars → place len_of chars k ≤ u → u < place len_of chars (k + 1) → seen p u ≡ seen p (place len_of chars k)
       alike k u fits from below =
-          ap (λ b. b && is_read (class_at old u)) (in_runs-alike runs lines k u from below)
-          ∙ ap (λ c. in_runs runs (place len_of chars k) && is_read c) (alike_class k u fits from below)
+          ap (λ b. b && is_kept_in_place (class_at old u)) (in_runs-alike runs lines k u from below)
+          ∙ ap (λ c. in_runs runs (place len_of chars k) && is_kept_in_place c) (alike_class k u fits from below)
 
       mark_at : (k : ℕ) → p.mark (place len_of chars k) ≡ seen p (place len_of chars k)
       mark_at k = ap (λ b. seen p (place len_of chars k) && b) (is_boundary-place len_of chars k) ∙ and_true (seen p (place len_of chars k))
@@ -147,7 +147,7 @@ module _ (len_of : ℕ → ℕ) (h : HasUnits len_of) (chars : List ℕ) where
 
       behind : (k : ℕ) → seen p (k + 1) ≡ true → p.mark (k + 1) ≡ false → seen p k ≡ true
       behind k here plain =
-          let inside = in_runs-within runs lines (k + 1) (and_parts (in_runs runs (k + 1)) (is_read (class_at old (k + 1))) here).0 in
+          let inside = in_runs-within runs lines (k + 1) (and_parts (in_runs runs (k + 1)) (is_kept_in_place (class_at old (k + 1))) here).0 in
           let w = unit_of len_of chars (k + 1) inside in
           let more = place-more len_of chars w.index 0 w.within in
           let at = w.at_place in
@@ -165,41 +165,41 @@ module _ (len_of : ℕ → ℕ) (h : HasUnits len_of) (chars : List ℕ) where
 
       -- ---- the marks are the places of what is read
 
-      abbrev is_read_char : ℕ → Bool
-      is_read_char k = is_read (class_at old (place len_of chars k))
+      abbrev is_kept_char : ℕ → Bool
+      is_kept_char k = is_kept_in_place (class_at old (place len_of chars k))
 
       marks-line : (i n : ℕ) → i + n ≤ length chars → ((u : ℕ) → place len_of chars i ≤ u → u < place len_of chars (i + n) → in_runs runs u ≡ true)
-          → marked p.mark (place len_of chars i) (place len_of chars (i + n)) ≡ map (place len_of chars) (filter is_read_char (range_with_len i n))
+          → marked p.mark (place len_of chars i) (place len_of chars (i + n)) ≡ map (place len_of chars) (filter is_kept_char (range_with_len i n))
       marks-line i zero fits inside = let same : i + 0 ≡ i = omega arith in marked-none p.mark (place len_of chars i) (place len_of chars (i + 0)) (omega (arith, ap (place len_of chars) same))
       marks-line i (suc n) fits inside =
           let next : i + 1 + n ≡ i + suc n = omega arith in
           let end_is : place len_of chars (i + 1 + n) ≡ place len_of chars (i + suc n) = ap (place len_of chars) next in
           let first = place-lt len_of chars h i (i + 1) (omega arith) (omega arith) in
           let last = place-mono len_of chars (i + 1) (i + suc n) (omega arith) in
-          let more = filter is_read_char (range_with_len (i + 1) n) in
-          let seen_is : seen p (place len_of chars i) ≡ is_read_char i = ap (λ b. b && is_read_char i) (inside (place len_of chars i) (omega arith) (omega arith)) in
+          let more = filter is_kept_char (range_with_len (i + 1) n) in
+          let seen_is : seen p (place len_of chars i) ≡ is_kept_char i = ap (λ b. b && is_kept_char i) (inside (place len_of chars i) (omega arith) (omega arith)) in
           let rest : marked p.mark (place len_of chars (i + 1)) (place len_of chars (i + suc n)) ≡ map (place len_of chars) more =
           ap (marked p.mark (place len_of chars (i + 1))) (sym end_is) ∙ marks-line (i + 1) n (omega arith) (λ u a b. inside u (omega arith) (omega arith)) in
           marked-parts p.mark (place len_of chars i) (place len_of chars (i + 1)) (place len_of chars (i + suc n)) (omega arith) last
-          ∙ elim (cases_Bool (is_read_char i)) [
+          ∙ elim (cases_Bool (is_kept_char i)) [
             | inl yes' ↦
                 ap (λ (us : List ℕ). us ++ marked p.mark (place len_of chars (i + 1)) (place len_of chars (i + suc n)))
                 (marked-one p.mark (place len_of chars i) (place len_of chars (i + 1)) first (mark_at i ∙ seen_is ∙ yes') (λ u a b. no_mark i u a b))
                 ∙ ap (λ (us : List ℕ). place len_of chars i ∷ us) rest
-                ∙ ap (map (place len_of chars)) (sym (cond-true (is_read_char i) (i ∷ more) more yes'))
+                ∙ ap (map (place len_of chars)) (sym (cond-true (is_kept_char i) (i ∷ more) more yes'))
             | inr no' ↦
                 ap (λ (us : List ℕ). us ++ marked p.mark (place len_of chars (i + 1)) (place len_of chars (i + suc n)))
                 (marked-empty p.mark (place len_of chars i) (place len_of chars (i + 1))
                 (λ u a b. and_left (seen p u) (is_boundary len_of chars u) (alike i u (omega arith) a b ∙ seen_is ∙ no')))
                 ∙ rest
-                ∙ ap (map (place len_of chars)) (sym (cond-false (is_read_char i) (i ∷ more) more no'))
+                ∙ ap (map (place len_of chars)) (sym (cond-false (is_kept_char i) (i ∷ more) more no'))
           ]
 
       marks-from : (low : ℕ) (rs : List (ℕ × ℕ)) → AreLines len_of chars rs → are_ordered_from low rs ≡ true → low ≤ text_len len_of chars → ((u : ℕ) → low ≤ u → in_runs runs u ≡ in_runs rs u)
-          → marked p.mark low (text_len len_of chars) ≡ map (place len_of chars) (filter is_read_char (chars_in_runs len_of chars rs))
+          → marked p.mark low (text_len len_of chars) ≡ map (place len_of chars) (filter is_kept_char (chars_in_runs len_of chars rs))
       unfolding chars_in_runs
       marks-from low [] lines' ordered fits same =
-          marked-empty p.mark low (text_len len_of chars) (λ u a b. and_left (seen p u) (is_boundary len_of chars u) (and_left (in_runs runs u) (is_read (class_at old u)) (same u a)))
+          marked-empty p.mark low (text_len len_of chars) (λ u a b. and_left (seen p u) (is_boundary len_of chars u) (and_left (in_runs runs u) (is_kept_in_place (class_at old u)) (same u a)))
       marks-from low (r ∷ rs) lines' ordered fits same =
           let line = All-head (λ (q : ℕ × ℕ). IsLine len_of chars q.0 q.1) r rs lines' in
           let f = are_ordered-front low r rs ordered in
@@ -216,37 +216,37 @@ module _ (len_of : ℕ → ℕ) (h : HasUnits len_of) (chars : List ℕ) where
           let later = flat_map (λ (q : ℕ × ℕ). between (char_index len_of chars q.0) (char_index len_of chars q.1)) rs in
           let before : marked p.mark low r.0 ≡ [] =
           marked-empty p.mark low r.0
-          (λ u a b. and_left (seen p u) (is_boundary len_of chars u) (and_left (in_runs runs u) (is_read (class_at old u)) (same u a ∙ or_from (in_run r u) (in_runs rs u) (in_run-below r u b) (in_runs-below r.1 rs u f.later (omega arith))))) in
-          let here : marked p.mark r.0 r.1 ≡ map (place len_of chars) (filter is_read_char (between i j)) =
+          (λ u a b. and_left (seen p u) (is_boundary len_of chars u) (and_left (in_runs runs u) (is_kept_in_place (class_at old u)) (same u a ∙ or_from (in_run r u) (in_runs rs u) (in_run-below r u b) (in_runs-below r.1 rs u f.later (omega arith))))) in
+          let here : marked p.mark r.0 r.1 ≡ map (place len_of chars) (filter is_kept_char (between i j)) =
           ap (λ u. marked p.mark u r.1) begins ∙ ap (marked p.mark (place len_of chars i)) (ends ∙ ap (place len_of chars) (sym end_is))
           ∙ marks-line i (j - i) (omega (arith, w.within))
           (λ u a b. same u (omega arith) ∙ ap (λ t. t || in_runs rs u) (in_run-inside r u (omega arith) (omega (arith, ap (place len_of chars) end_is)))) in
-          let rest : marked p.mark r.1 (text_len len_of chars) ≡ map (place len_of chars) (filter is_read_char later) =
+          let rest : marked p.mark r.1 (text_len len_of chars) ≡ map (place len_of chars) (filter is_kept_char later) =
           marks-from r.1 rs (All-tail (λ (q : ℕ × ℕ). IsLine len_of chars q.0 q.1) r rs lines') f.later past
           (λ u a. same u (omega arith) ∙ ap (λ t. t || in_runs rs u) (in_run-above r u a)) in
           marked-parts p.mark low r.0 (text_len len_of chars) from (omega arith)
           ∙ ap (λ (us : List ℕ). us ++ marked p.mark r.0 (text_len len_of chars)) before
           ∙ marked-parts p.mark r.0 r.1 (text_len len_of chars) (omega arith) past
           ∙ ap (λ (us : List ℕ). us ++ marked p.mark r.1 (text_len len_of chars)) here
-          ∙ ap (λ (us : List ℕ). map (place len_of chars) (filter is_read_char (between i j)) ++ us) rest
-          ∙ sym (map-append (place len_of chars) (filter is_read_char (between i j)) (filter is_read_char later))
-          ∙ ap (map (place len_of chars)) (sym (filter-append is_read_char (between i j) later))
+          ∙ ap (λ (us : List ℕ). map (place len_of chars) (filter is_kept_char (between i j)) ++ us) rest
+          ∙ sym (map-append (place len_of chars) (filter is_kept_char (between i j)) (filter is_kept_char later))
+          ∙ ap (map (place len_of chars)) (sym (filter-append is_kept_char (between i j) later))
 
-      pub marks-text : are_ordered runs ≡ true → marks p 0 (length old) ≡ map (place len_of chars) (read_in_runs len_of chars old runs)
-      unfolding read_in_runs
+      pub marks-text : are_ordered runs ≡ true → marks p 0 (length old) ≡ map (place len_of chars) (kept_in_place len_of chars old runs)
+      unfolding kept_in_place
       marks-text ordered = ap (marked p.mark 0) long ∙ marks-from 0 runs lines ordered (omega arith) (λ u a. refl)
 
       -- ---- the end
 
       module _ (new : List BidiClass) (over : IsOver p new) where
-        pub answers-text : are_ordered runs ≡ true → at_places L new (map (place len_of chars) (read_in_runs len_of chars old runs)) ≡ weak_classes sos (at_places L old (map (place len_of chars) (read_in_runs len_of chars old runs)))
+        pub answers-text : are_ordered runs ≡ true → at_places L new (map (place len_of chars) (kept_in_place len_of chars old runs)) ≡ weak_classes sos (at_places L old (map (place len_of chars) (kept_in_place len_of chars old runs)))
         answers-text ordered = subst (λ (us : List ℕ). at_places L new us ≡ weak_classes sos (at_places L old us)) (marks-text ordered) over.answers
 
         pub removed-text : (u : ℕ) → class_at old u ≡ BN → class_at new u ≡ BN
-        removed-text u is = over.unseen u (and_right (in_runs runs u) (is_read (class_at old u)) (ap is_read is)) ∙ is
+        removed-text u is = over.unseen u (and_right (in_runs runs u) (is_kept_in_place (class_at old u)) (ap is_kept_in_place is)) ∙ is
 
         pub outside-text : (u : ℕ) → in_runs runs u ≡ false → class_at new u ≡ class_at old u
-        outside-text u out = over.unseen u (and_left (in_runs runs u) (is_read (class_at old u)) out)
+        outside-text u out = over.unseen u (and_left (in_runs runs u) (is_kept_in_place (class_at old u)) out)
 
         even : (k : ℕ) → k < length chars → (j : ℕ) → place len_of chars k + j < place len_of chars (k + 1) → class_at new (place len_of chars k + j) ≡ class_at new (place len_of chars k)
         even k fits zero below = let same : place len_of chars k + 0 ≡ place len_of chars k = omega arith in ap (class_at new) same
@@ -296,7 +296,7 @@ module _ (len_of : ℕ → ℕ) (h : HasUnits len_of) (chars : List ℕ) (old : 
   pub IsUnderWay-first_run : 0 < length runs → IsUnderWay q old (first_walk sos) (start_or runs 0 (length old))
   IsUnderWay-first_run some =
       IsUnderWay-unseen q over_text.marks_are old (first_walk sos) 0 (IsUnderWay-start q some) (start_or runs 0 (length old)) (omega arith) (start_within 0)
-      (λ k a b. and_left (in_runs runs k) (is_read (class_at old k)) (gap_before 0 runs k (length old) ordered b))
+      (λ k a b. and_left (in_runs runs k) (is_kept_in_place (class_at old k)) (gap_before 0 runs k (length old) ordered b))
 
   -- after a run, up to the next
   pub IsUnderWay-next_run : (run : ℕ) (now new : List BidiClass) (before after : Walk) → run < length runs → ReadsTo len_of chars runs (get_or runs run (0, 0)).0 (get_or runs run (0, 0)).1 before after now new
@@ -306,7 +306,7 @@ module _ (len_of : ℕ → ℕ) (h : HasUnits len_of) (chars : List ℕ) (old : 
       let read : IsUnderWay q new after (get_or runs run (0, 0)).1 = reads q refl over_text (subst (IsUnderWay q now before) (start_or-at runs run (length old) fits) start) in
       subst (λ (r : ℕ). IsUnderWay q new after (start_or runs r (length old))) (sym next)
       (IsUnderWay-unseen q over_text.marks_are new after (get_or runs run (0, 0)).1 read (start_or runs (suc run) (length old)) (next_start 0 run runs (length old) ordered fits (end_within run fits)) (start_within (suc run))
-      (λ k a b. and_left (in_runs runs k) (is_read (class_at old k)) (gap_after 0 run runs k (length old) ordered fits a b)))
+      (λ k a b. and_left (in_runs runs k) (is_kept_in_place (class_at old k)) (gap_after 0 run runs k (length old) ordered fits a b)))
 
   -- after the last run, once what waits is settled
   pub IsOver-last_run : (run to : ℕ) (now new : List BidiClass) (w : Walk) → length runs ≤ run → to ≡ length now → IsUnderWay q now w (start_or runs run (length old))

@@ -6,10 +6,10 @@ use Rattle.std.proofs.lemmas.Bool.{cases_Bool, and_parts, and_from}
 use Rattle.std.proofs.lemmas.List.Elements.{All-head, All-tail, All-filter, All-map, All-weaker}
 use Rattle.bidi_base.specs.declared.char_data.BidiClass.{BidiClass}
 use Rattle.bidi_base.specs.declared.char_data.BidiClass.TheVariants.{L, R, AL, EN, ES, ET, AN, CS, NSM, BN, B, S, WS, ON, LRE, LRO, RLE, RLO, PDF, LRI, RLI, FSI, PDI}
-use Rattle.bidi_base.specs.Classes.{is_al, is_l, is_read}
+use Rattle.bidi_base.specs.Classes.{is_al, is_l, is_kept_in_place}
 use Rattle.bidi_base.specs.Places.{at_places, class_at}
 use Rattle.bidi_base.specs.Text.{place, IsPerChar}
-use Rattle.bidi_base.specs.Units.{chars_in_runs, in_runs, read_in_runs, AreLines}
+use Rattle.bidi_base.specs.Units.{chars_in_runs, in_runs, kept_in_place, AreLines}
 use Rattle.bidi_base.specs.Weak.{carried, weak_classes}
 use Rattle.bidi_base.proofs.TextLemmas.{HasUnits}
 use Rattle.bidi_base.proofs.UnitsLemmas.{length-from_IsPerChar}
@@ -107,15 +107,15 @@ all_changed old new (p ∷ ps) a =
 module _ (len_of : ℕ → ℕ) (h : HasUnits len_of) (chars : List ℕ) (old : List BidiClass) (per : IsPerChar len_of chars old) (runs : List (ℕ × ℕ)) (lines : AreLines len_of chars runs) (new : List BidiClass)
     (changed : (u : ℕ) → in_runs runs u ≡ true → class_at new u ≡ plainly (class_at old u)) (same : (u : ℕ) → in_runs runs u ≡ false → class_at new u ≡ class_at old u) where
   abbrev places : List ℕ
-  places = map (place len_of chars) (read_in_runs len_of chars old runs)
+  places = map (place len_of chars) (kept_in_place len_of chars old runs)
 
   at_read : (P : ℕ → Type 0) → ((u : ℕ) → in_runs runs u ≡ true → P u) → All P places
-  unfolding read_in_runs
+  unfolding kept_in_place
   at_read P holds =
-      let read = filter (λ k. is_read (class_at old (place len_of chars k))) (chars_in_runs len_of chars runs) in
+      let read = filter (λ k. is_kept_in_place (class_at old (place len_of chars k))) (chars_in_runs len_of chars runs) in
       All-map P (place len_of chars) read
       (All-weaker (λ k. in_runs runs (place len_of chars k) ≡ true) (λ k. P (place len_of chars k)) (λ k is. holds (place len_of chars k) is) read
-      (All-filter (λ k. is_read (class_at old (place len_of chars k))) (λ k. in_runs runs (place len_of chars k) ≡ true) (chars_in_runs len_of chars runs) (places_in_runs len_of h chars runs lines)))
+      (All-filter (λ k. is_kept_in_place (class_at old (place len_of chars k))) (λ k. in_runs runs (place len_of chars k) ≡ true) (chars_in_runs len_of chars runs) (places_in_runs len_of h chars runs lines)))
 
   pub kept-plain : (sos : BidiClass) → ((u : ℕ) → in_runs runs u ≡ true → is_plain (class_at old u) ≡ true) → at_places L new places ≡ weak_classes sos (at_places L old places)
   kept-plain sos plain =

@@ -3,7 +3,7 @@ use Rattle.std.proofs.Common.{◌≡◌, ℕ, suc, ◌+◌, ◌<◌, ◌≤◌, 
 use Rattle.std.proofs.lemmas.Bool.{cond-true, cond-false, cases_Bool, cases_lt, cases_eq, both_ways, and_parts}
 use Rattle.bidi_base.specs.declared.char_data.BidiClass.{BidiClass}
 use Rattle.bidi_base.specs.declared.char_data.BidiClass.TheVariants.{L, ET, ON}
-use Rattle.bidi_base.specs.Classes.{is_read}
+use Rattle.bidi_base.specs.Classes.{is_kept_in_place}
 use Rattle.bidi_base.specs.Places.{at_places, class_at}
 use Rattle.bidi_base.specs.Units.{are_ordered, in_runs}
 use Rattle.bidi_base.specs.Weak.{carried, weak_classes}
@@ -132,7 +132,7 @@ module _ (p : Pass) (are : AreMarks p) (now : List BidiClass) (w : Walk) (i : �
         let r = h.waiting wait in
         let run = r.run in
         IsWrittenOver-same_test (is_seen (drop w.first_run p.runs) now) (seen p) v w.first i now now1
-        (λ k a b. ap (λ t. t && is_read (class_at now k)) (in_runs-drop 0 w.first_run p.runs k ordered h.run (omega arith)) ∙ ap (λ c. in_runs p.runs k && is_read c) (h.unwritten k a))
+        (λ k a b. ap (λ t. t && is_kept_in_place (class_at now k)) (in_runs-drop 0 w.first_run p.runs k ordered h.run (omega arith)) ∙ ap (λ c. in_runs p.runs k && is_kept_in_place c) (h.unwritten k a))
         (some wait)
     | inr free ↦
         subst (IsWrittenOver (seen p) v w.first i now) (sym (none free))
@@ -248,12 +248,12 @@ module _ (p : Pass) (are : AreMarks p) (now : List BidiClass) (w : Walk) (i : �
               run = run_fits;
             }
 
-        pub IsUnderWay-decides : waits (next_before z w.before) ≡ false → (now2 : List BidiClass) → IsWrittenOver (λ k. is_read (class_at now1 k)) u i j now1 now2 → IsUnderWay p now2 (next_walk w x j w.first_run) j
+        pub IsUnderWay-decides : waits (next_before z w.before) ≡ false → (now2 : List BidiClass) → IsWrittenOver (λ k. is_kept_in_place (class_at now1 k)) u i j now1 now2 → IsUnderWay p now2 (next_walk w x j w.first_run) j
         IsUnderWay-decides free now2 r =
             let some = c.some in
             let order = h.order in
-            let readable : (k : ℕ) → i ≤ k → k < j → is_read (class_at now1 k) ≡ true =
-            λ k a b. ap is_read (s.above k a ∙ h.unwritten k (omega arith)) ∙ (and_parts (in_runs p.runs k) (is_read (class_at p.old k)) (c.alike k a b ∙ is_seen_here)).1 in
+            let readable : (k : ℕ) → i ≤ k → k < j → is_kept_in_place (class_at now1 k) ≡ true =
+            λ k a b. ap is_kept_in_place (s.above k a ∙ h.unwritten k (omega arith)) ∙ (and_parts (in_runs p.runs k) (is_kept_in_place (class_at p.old k)) (c.alike k a b ∙ is_seen_here)).1 in
             let written : (k : ℕ) → i ≤ k → k < j → class_at now2 k ≡ u = λ k a b. r.inside k a b (readable k a b) in
             let nothing : marks p j j ≡ [] = marked-none p.mark j j (omega arith) in
             let up_to : at_places L now2 (marks p 0 j) ≡ (front ++ replicate n v) ++ u ∷ [] =

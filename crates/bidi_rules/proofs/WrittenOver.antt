@@ -3,7 +3,7 @@ use Rattle.std.proofs.Common.{◌≡◌, ℕ, ◌+◌, ◌<◌, ◌≤◌, Bool,
 use Rattle.std.proofs.lemmas.Bool.{cases_lt, cases_eq, cases_Bool, and_parts, and_from, and_left, and_cases, or_cases, or_parts, both_ways}
 use Rattle.bidi_base.specs.declared.char_data.BidiClass.{BidiClass}
 use Rattle.bidi_base.specs.declared.char_data.BidiClass.TheVariants.{L}
-use Rattle.bidi_base.specs.Classes.{is_read}
+use Rattle.bidi_base.specs.Classes.{is_kept_in_place}
 use Rattle.bidi_base.specs.Places.{class_at}
 use Rattle.bidi_base.specs.Units.{are_ordered, in_runs}
 use Rattle.bidi_rules.specs.WeakWalk.{is_seen, IsWrittenOver}
@@ -73,13 +73,13 @@ module _ (runs : List (ℕ × ℕ)) (class : BidiClass) (from to : ℕ) (old : L
 
   -- one range more
   module _ (index : ℕ) (fits : index < length runs) (now new : List BidiClass) (h : IsWrittenOver (is_seen (take index runs) old) class from to old now) (start end : ℕ)
-      (start_is : start ≡ max (get_or runs index (0, 0)).0 from) (end_is : end ≡ min (get_or runs index (0, 0)).1 to) (w : IsWrittenOver (λ k. is_read (class_at now k)) class start end now new) where
+      (start_is : start ≡ max (get_or runs index (0, 0)).0 from) (end_is : end ≡ min (get_or runs index (0, 0)).1 to) (w : IsWrittenOver (λ k. is_kept_in_place (class_at now k)) class start end now new) where
     abbrev run : ℕ × ℕ
     run = get_or runs index (0, 0)
 
     -- what is written stays
     stays : (k : ℕ) → class_at now k ≡ class → class_at new k ≡ class
-    stays k written = elim (cases_Bool (is_read (class_at now k))) [
+    stays k written = elim (cases_Bool (is_kept_in_place (class_at now k))) [
       | inr removed ↦ w.failing k removed ∙ written
       | inl read ↦ elim (cases_lt k start) [
         | inl low ↦ w.below k low ∙ written
@@ -93,7 +93,7 @@ module _ (runs : List (ℕ × ℕ)) (class : BidiClass) (from to : ℕ) (old : L
     pub runs-more : IsWrittenOver (is_seen (take (index + 1) runs) old) class from to old new
     runs-more = record {
       inside = λ k a b t.
-          let parts = and_parts (in_runs (take (index + 1) runs) k) (is_read (class_at old k)) t in
+          let parts = and_parts (in_runs (take (index + 1) runs) k) (is_kept_in_place (class_at old k)) t in
           elim (cases_Bool (in_runs (take index runs) k)) [
             | inl earlier ↦ stays k (h.inside k a b (and_from _ _ earlier parts.1))
             | inr new' ↦
@@ -102,13 +102,13 @@ module _ (runs : List (ℕ × ℕ)) (class : BidiClass) (from to : ℕ) (old : L
                   | inr is ↦ is
                 ] in
                 let ends = in_run-true run k here in
-                let before : class_at now k ≡ class_at old k = h.failing k (and_left (in_runs (take index runs) k) (is_read (class_at old k)) new') in
-                w.inside k (omega arith) (omega arith) (ap is_read before ∙ parts.1)
+                let before : class_at now k ≡ class_at old k = h.failing k (and_left (in_runs (take index runs) k) (is_kept_in_place (class_at old k)) new') in
+                w.inside k (omega arith) (omega arith) (ap is_kept_in_place before ∙ parts.1)
           ];
-      failing = λ k t. elim (and_cases (in_runs (take (index + 1) runs) k) (is_read (class_at old k)) t) [
+      failing = λ k t. elim (and_cases (in_runs (take (index + 1) runs) k) (is_kept_in_place (class_at old k)) t) [
         | inl outside ↦
             let parts = or_parts (in_runs (take index runs) k) (in_run run k) (sym (in_runs-more index runs k fits) ∙ outside) in
-            let before : class_at now k ≡ class_at old k = h.failing k (and_left (in_runs (take index runs) k) (is_read (class_at old k)) parts.0) in
+            let before : class_at now k ≡ class_at old k = h.failing k (and_left (in_runs (take index runs) k) (is_kept_in_place (class_at old k)) parts.0) in
             let unchanged : class_at new k ≡ class_at now k = elim (cases_lt k start) [
               | inl low ↦ w.below k low
               | inr high ↦ elim (cases_lt k end) [
@@ -118,8 +118,8 @@ module _ (runs : List (ℕ × ℕ)) (class : BidiClass) (from to : ℕ) (old : L
             ] in
             unchanged ∙ before
         | inr removed ↦
-            let before : class_at now k ≡ class_at old k = h.failing k (and_right' (in_runs (take index runs) k) (is_read (class_at old k)) removed) in
-            w.failing k (ap is_read before ∙ removed) ∙ before
+            let before : class_at now k ≡ class_at old k = h.failing k (and_right' (in_runs (take index runs) k) (is_kept_in_place (class_at old k)) removed) in
+            w.failing k (ap is_kept_in_place before ∙ removed) ∙ before
       ];
       below = λ k a. w.below k (omega arith) ∙ h.below k a;
       above = λ k a. w.above k (omega arith) ∙ h.above k a;
@@ -133,4 +133,4 @@ module _ (runs : List (ℕ × ℕ)) (class : BidiClass) (from to : ℕ) (old : L
   pub runs-stop : (index : ℕ) (now : List BidiClass) → are_ordered runs ≡ true → index < length runs → to ≤ (get_or runs index (0, 0)).0 → IsWrittenOver (is_seen (take index runs) old) class from to old now → IsWrittenOver (is_seen runs old) class from to old now
   runs-stop index now ordered fits past h =
       IsWrittenOver-same_test (is_seen (take index runs) old) (is_seen runs old) class from to old now
-      (λ k a b. ap (λ t. t && is_read (class_at old k)) (in_runs-take 0 index runs k ordered fits (omega arith))) h
+      (λ k a b. ap (λ t. t && is_kept_in_place (class_at old k)) (in_runs-take 0 index runs k ordered fits (omega arith))) h

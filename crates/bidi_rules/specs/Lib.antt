@@ -1,5 +1,4 @@
 pub mod ExplicitPass
-pub mod FoundBrackets
 pub mod Joining
 pub mod NeutralPass
 pub mod PairWalk

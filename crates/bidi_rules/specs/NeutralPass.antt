@@ -3,17 +3,17 @@ use Rattle.std.specs.Prelude.{◌≡◌, ℕ, Bool, true, false, List, [], ◌�
 use Rattle.bidi_base.specs.declared.char_data.BidiClass.{BidiClass}
 use Rattle.bidi_base.specs.declared.char_data.BidiClass.TheVariants.{L, R, EN, AN}
 use Rattle.bidi_base.specs.declared.data_source.BidiMatchedOpeningBracket.{BidiMatchedOpeningBracket}
-use Rattle.bidi_base.specs.Classes.{is_read}
+use Rattle.bidi_base.specs.Classes.{is_kept_in_place}
 use Rattle.bidi_base.specs.Places.{at_places, class_at}
 use Rattle.bidi_base.specs.Source.{Source}
 use Rattle.bidi_base.specs.Text.{place}
-use Rattle.bidi_rules.specs.declared.implicit.brackets.Bracket.{Bracket}
+use Rattle.bidi_base.specs.declared.brackets.Bracket.{Bracket}
 use Rattle.bidi_rules.specs.declared.implicit.neutral.NeutralResolver.{NeutralResolver}
-use Rattle.bidi_rules.specs.FoundBrackets.{found_brackets}
+use Rattle.bidi_base.specs.FoundBrackets.{found_brackets}
 
--- the characters among those with these indexes that the pass reads, where `units` has the class of each unit
-abbrev pub read_among : (ℕ → ℕ) → List ℕ → List BidiClass → List ℕ → List ℕ
-read_among len_of chars units indexes = filter (λ k. is_read (class_at units (place len_of chars k))) indexes
+-- the characters among those with these indexes that the pass takes as kept, where `units` has the class of each unit
+abbrev pub kept_among : (ℕ → ℕ) → List ℕ → List BidiClass → List ℕ → List ℕ
+kept_among len_of chars units indexes = filter (λ k. is_kept_in_place (class_at units (place len_of chars k))) indexes
 
 -- the values of the characters with these indexes, where `units` has one a unit
 abbrev pub values_of : {X : Type 0} → X → (ℕ → ℕ) → List ℕ → List X → List ℕ → List X

@@ -1,19 +1,11 @@
 -- N0 in one walk over the pairs: what it knows at an opening, and what follows for the pair.
-use Rattle.std.specs.Prelude.{ℕ, ◌+◌, nat_lt, Bool, false, not, if◌then◌else◌, List, drop, reverse, slice_range, Option, Some, None, is_some}
+use Rattle.std.specs.Prelude.{ℕ, ◌+◌, nat_lt, Bool, false, not, if◌then◌else◌, List, drop, reverse, slice_range, Option, Some, None}
 use Rattle.std.specs.List.{list_any, prefix_len}
-use Rattle.std.specs.Option.{option_map_or}
 use Rattle.bidi_base.specs.declared.char_data.BidiClass.{BidiClass}
-use Rattle.bidi_base.specs.Classes.{as_direction, same_class}
+use Rattle.bidi_base.specs.Classes.{has_direction, stands_for}
 use Rattle.bidi_base.specs.Neutral.{nearest_direction}
 use Rattle.bidi_rules.specs.declared.implicit.brackets.Enclosed.{Enclosed}
 use Rattle.bidi_rules.specs.declared.implicit.brackets.PairWalk.{PairWalk}
-
--- a class stands for this direction, or for one at all
-abbrev pub stands_for : BidiClass → BidiClass → Bool
-stands_for direction c = option_map_or (same_class direction) (as_direction c) false
-
-abbrev pub is_directed : BidiClass → Bool
-is_directed c = is_some (as_direction c)
 
 -- the first index from `from` on whose class passes, which `known` is already if it does not lie before
 abbrev pub next_from : (BidiClass → Bool) → List BidiClass → ℕ → ℕ → ℕ
@@ -28,12 +20,12 @@ come_to e classes opening walk = record {
   at = opening;
   context = nearest_direction walk.context (reverse (slice_range classes walk.at opening));
   next_embedding = next_from (stands_for e) classes (opening + 1) walk.next_embedding;
-  next_direction = next_from is_directed classes (opening + 1) walk.next_direction;
+  next_direction = next_from has_direction classes (opening + 1) walk.next_direction;
 }
 
 -- the directions among classes
 abbrev pub enclosed_in : BidiClass → List BidiClass → Enclosed
-enclosed_in e classes = record { embedding = list_any (stands_for e) classes; any = list_any is_directed classes }
+enclosed_in e classes = record { embedding = list_any (stands_for e) classes; any = list_any has_direction classes }
 
 -- what a pair takes that encloses these directions (N0 b to d)
 abbrev pub taken : BidiClass → BidiClass → Enclosed → Option BidiClass

@@ -2,7 +2,7 @@
 use Rattle.std.specs.Prelude.{◌≡◌, ℕ, ◌+◌, ◌<◌, ◌≤◌, Bool, true, false, ◌&&◌, List, ◌++◌, length, filter, get_or}
 use Rattle.bidi_base.specs.declared.char_data.BidiClass.{BidiClass}
 use Rattle.bidi_base.specs.declared.char_data.BidiClass.TheVariants.{L}
-use Rattle.bidi_base.specs.Classes.{is_al, is_l, is_read}
+use Rattle.bidi_base.specs.Classes.{is_al, is_l, is_kept_in_place}
 use Rattle.bidi_base.specs.Places.{between, at_places, class_at}
 use Rattle.bidi_base.specs.Text.{place}
 use Rattle.bidi_base.specs.Units.{in_runs}
@@ -17,7 +17,7 @@ first_walk sos = record { mark = carried sos; after_al = is_al sos; after_l = is
 
 -- a unit of some ranges whose class is read
 abbrev pub is_seen : List (ℕ × ℕ) → List BidiClass → ℕ → Bool
-is_seen runs units k = in_runs runs k && is_read (class_at units k)
+is_seen runs units k = in_runs runs k && is_kept_in_place (class_at units k)
 
 -- the class was written over those units from `from` up to `to` that pass the test, and nowhere else
 pub record IsWrittenOver (test : ℕ → Bool) (class : BidiClass) (from to : ℕ) (old new : List BidiClass) : Type 0 where

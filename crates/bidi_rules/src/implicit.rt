@@ -2,32 +2,21 @@
 //! characters (I1, I2), in place over the units of one paragraph.
 
 ghost use Rattle.std.specs.Prelude.{◌≡◌};
-ghost use Rattle.bidi_base.specs.Classes.{as_direction as as_direction_of, is_read as is_read_of};
+ghost use Rattle.bidi_base.specs.Classes.{is_kept_in_place as is_kept_in_place_of};
 
 mod brackets;
 mod levels;
 mod neutral;
 mod weak;
 
-use bidi_base::char_data::BidiClass::{self, AN, BN, EN, L, R};
+use bidi_base::char_data::BidiClass::{self, BN};
 pub use levels::resolve_levels;
 pub use neutral::{NeutralResolver, resolve_neutral};
 pub use weak::resolve_weak;
 
-/// Whether characters of this class are read: all but BN, which stands for what X9 removed.
-fn is_read(class: BidiClass) -> bool
-    ensures { result ≡ is_read_of class }
+/// Whether the passes in place take characters of this class as kept: all but BN, which stands for what X9 removed.
+fn is_kept_in_place(class: BidiClass) -> bool
+    ensures { result ≡ is_kept_in_place_of class }
 {
     !matches!(class, BN)
-}
-
-/// The direction that a class stands for in N0 and N1, where numbers stand for R.
-fn as_direction(class: BidiClass) -> Option<BidiClass>
-    ensures { result ≡ as_direction_of class }
-{
-    match class {
-        L => Some(L),
-        R | EN | AN => Some(R),
-        _ => None,
-    }
 }

@@ -7,6 +7,7 @@ mod joining;
 mod sequence;
 
 use bidi_base::char_data::BidiClass;
+use bidi_base::classes::is_removed;
 pub use joining::isolating_run_sequences;
 pub use sequence::{BackwardsFrom, ForwardsFrom, IsolatingRunSequence};
 use std::ops::Range;
@@ -22,15 +23,7 @@ pub type IsolatingRunSequenceVec = Vec<IsolatingRunSequence>;
 pub fn removed_by_x9(class: BidiClass) -> bool
     ensures { result ≡ is_removed class }
 {
-    matches!(
-        class,
-        BidiClass::RLE
-            | BidiClass::LRE
-            | BidiClass::RLO
-            | BidiClass::LRO
-            | BidiClass::PDF
-            | BidiClass::BN
-    )
+    is_removed(class)
 }
 
 /// Whether X9 keeps characters of this class.

@@ -14,7 +14,7 @@ use Rattle.bidi_base.proofs.PlaceLemmas.{line_places, place-slice_range, IsLine-
 use Rattle.bidi_base.proofs.TextLemmas.{is_boundary-le}
 use Rattle.bidi_base.proofs.PerUnit.{length-per_char, get_or-per_char}
 use Rattle.bidi_base.proofs.StrLemmas.{has_units, text_len-chars, subrange-from_str}
-use Rattle.unicode_bidi.proofs.LineInText.{length-part}
+use Rattle.bidi_base.proofs.OrderLemmas.{length-slice_range}
 use Rattle.bidi_show.specs.Texts.{spaced, levels_line, without_separator}
 
 -- what holds once a text was appended
@@ -88,7 +88,7 @@ without_separator-IsLine source cs start end line =
     let i : ℕ = char_index len_utf8 cs start in
     let j : ℕ = char_index len_utf8 cs end in
     let f = without_separator-IsFront source (slice_range cs i j) in
-    let fits : i + f.many ≤ j = omega (arith, w.ordered, f.short, length-part cs i j w.within) in
+    let fits : i + f.many ≤ j = omega (arith, w.ordered, f.short, length-slice_range cs i j w.within) in
     let stop : start + text_len len_utf8 (without_separator source (slice_range cs i j)) ≡ place len_utf8 cs (i + f.many) =
     ap (λ l. start + text_len len_utf8 l) f.front ∙ ap (λ u. u + place len_utf8 (slice_range cs i j) f.many) w.begins ∙ sym (place-slice_range len_utf8 cs i j f.many fits w.within) in
     subst (λ u. IsLine len_utf8 cs u (start + text_len len_utf8 (without_separator source (slice_range cs i j)))) (sym w.begins)

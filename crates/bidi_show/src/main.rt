@@ -6,13 +6,13 @@ ghost use Rattle.bidi_show.specs.declared.fault.ShowFault.TheVariants.{Device};
 
 mod command;
 mod ends;
-mod failure_count;
 mod fault;
 mod input;
 mod number;
 mod run;
 mod shown;
 mod streams;
+mod tally;
 #[cfg(test)]
 mod tests;
 
@@ -37,7 +37,8 @@ fn arguments(rt: &(impl Env + AllocGlobal)) -> Result<Vec<String>, ShowFault>
 
 fn serve(rt: &(impl Env + Input + Print + AllocGlobal)) -> Result<(), ShowFault> {
     let words = arguments(rt)?;
-    run_over_streams(rt.alloc(), words.as_slice(), rt.reader(), io::writer(rt))
+    let run = run_over_streams(rt.alloc(), words.as_slice(), rt.reader(), io::writer(rt));
+    run.outcome
 }
 
 fn main(rt: HostRuntime) -> ExitCode {

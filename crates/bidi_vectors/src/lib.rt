@@ -10,6 +10,8 @@ mod class_groups;
 #[cfg(test)]
 mod constructors;
 #[cfg(test)]
+mod encoding_rows;
+#[cfg(test)]
 mod levels;
 #[cfg(test)]
 mod lines;

@@ -11,11 +11,11 @@ use Rattle.bidi_base.specs.Order.{visual_order}
 use Rattle.bidi_base.proofs.TextLemmas.{HasUnits}
 use Rattle.bidi_base.proofs.PerUnit.{get_or-per_unit-place}
 use Rattle.bidi_base.specs.Display.{Run, level_runs_from, level_runs, run_level, visual_runs, IsLevelRun}
-use Rattle.unicode_bidi.proofs.Ordered.{visual_order-is}
-use Rattle.unicode_bidi.proofs.FoundRuns.{order_below}
-use Rattle.unicode_bidi.proofs.Pieces.{at_places-map}
-use Rattle.unicode_bidi.proofs.RunsLemmas.{level_runs-each}
-use Rattle.unicode_bidi.proofs.VisualRuns.{run_at}
+use Rattle.bidi_lines.proofs.Ordered.{visual_order-is}
+use Rattle.bidi_lines.proofs.FoundRuns.{order_below}
+use Rattle.bidi_lines.proofs.Pieces.{at_places-map}
+use Rattle.bidi_lines.proofs.RunsLemmas.{level_runs-each}
+use Rattle.bidi_lines.proofs.VisualRuns.{run_at}
 
 -- units of the same level go on with the run
 more_units : (start from level n : ℕ) (rest : List ℕ) → level_runs_from start from level (replicate n level ++ rest) ≡ level_runs_from start (from + n) level rest

@@ -18,7 +18,7 @@ use Rattle.bidi_base.specs.Neutral.{neutral_classes}
 use Rattle.bidi_base.specs.Implicit.{implicit_level}
 use Rattle.bidi_base.specs.Stored.{AreResolved}
 use Rattle.bidi_base.specs.Text.{text_len, place, is_per_char, per_unit, per_char}
-use Rattle.bidi_base.specs.Units.{AreLines, are_ordered, in_runs, is_run_sequence, kept_in_runs, read_in_runs}
+use Rattle.bidi_base.specs.Units.{AreLines, are_ordered, in_runs, is_run_sequence, kept_in_runs, kept_in_place}
 use Rattle.bidi_base.proofs.ExplicitLemmas.{length-explicit_levels}
 use Rattle.bidi_base.proofs.LevelLaws.{All-per_unit}
 use Rattle.bidi_base.proofs.NeutralSource.{neutral_classes-source, marks-stored_classes}
@@ -31,7 +31,7 @@ use Rattle.bidi_base.proofs.UnitsLemmas.{per_unit-from_is_per_char, is_per_char-
 use Rattle.bidi_rules.specs.RunSequence.{run_bounds, sequence_in, sequences_in}
 use Rattle.bidi_rules.specs.declared.prepare.sequence.IsolatingRunSequence.{IsolatingRunSequence}
 use Rattle.unicode_bidi.proofs.SequencesInPlace.{IsUnderWay, IsNext, IsWeakNext, IsWeakNext-from, weak_next-resolved, IsUnderWay-more, IsUnderWay-start, IsNext-at, AreResolved-all}
-use Rattle.unicode_bidi.proofs.SequenceUnits.{at_places-map, at_places-place, level_at-first, read_in_runs-kept, kept_in_runs-within, stays_elsewhere}
+use Rattle.unicode_bidi.proofs.SequenceUnits.{at_places-map, at_places-place, level_at-first, kept_in_place-kept, kept_in_runs-within, stays_elsewhere}
 
 is_run_sequence-sos : (runs : List (ℕ × ℕ)) (sos eos : BidiClass) → is_run_sequence runs sos eos ≡ true → is_l_or_r sos ≡ true
 is_run_sequence-sos runs sos eos e = (and_parts (is_l_or_r sos) (is_l_or_r eos) (and_parts (are_ordered runs) (is_l_or_r sos && is_l_or_r eos) (and_parts (nat_lt 0 (length runs)) (are_ordered runs && (is_l_or_r sos && is_l_or_r eos)) e).1).1).0
@@ -121,7 +121,7 @@ module _ (len_of : ℕ → ℕ) (h : HasUnits len_of) (chars : List ℕ) (source
 
     -- W1 to W7
     pub AreWeakTo-from : (old new : List BidiClass) → AreResolvedTo seqs old
-        → at_places L new (map (place len_of chars) (read_in_runs len_of chars old runs)) ≡ weak_classes s.sos (at_places L old (map (place len_of chars) (read_in_runs len_of chars old runs)))
+        → at_places L new (map (place len_of chars) (kept_in_place len_of chars old runs)) ≡ weak_classes s.sos (at_places L old (map (place len_of chars) (kept_in_place len_of chars old runs)))
         → ((u : ℕ) → class_at old u ≡ BN → class_at new u ≡ BN) → ((u : ℕ) → in_runs runs u ≡ false → class_at new u ≡ class_at old u) → is_per_char class_eq len_of chars new ≡ true
         → AreWeakTo seqs s new
     AreWeakTo-from old new now kept removed outside per =
@@ -129,7 +129,7 @@ module _ (len_of : ℕ → ℕ) (h : HasUnits len_of) (chars : List ℕ) (source
         let is = per_unit-from_is_per_char class_eq class_test L len_of h chars new per in
         let old_long = as_long now.values now.under_way.long in
         let new_long = length-per_char L len_of chars new in
-        let read = read_in_runs-kept len_of h chars stored now.values old runs old_long now.is (λ p there. now.under_way.read p (within p there)) in
+        let read = kept_in_place-kept len_of h chars stored now.values old runs old_long now.is (λ p there. now.under_way.read p (within p there)) in
         let inside = kept_in_runs-within len_of h chars stored runs in
         let answer : at_places L values ps ≡ weak_classes s.sos (at_places L now.values ps) =
         sym (at_places-place len_of h chars L values new ps new_long is inside)
@@ -143,18 +143,18 @@ module _ (len_of : ℕ → ℕ) (h : HasUnits len_of) (chars : List ℕ) (source
         }
 
     -- so N0 to N2 can go on
-    pub AreWeakTo-resolved : (units : List BidiClass) → AreWeakTo seqs s units → list_all is_weak_resolved (at_places L units (map (place len_of chars) (read_in_runs len_of chars units runs))) ≡ true
+    pub AreWeakTo-resolved : (units : List BidiClass) → AreWeakTo seqs s units → list_all is_weak_resolved (at_places L units (map (place len_of chars) (kept_in_place len_of chars units runs))) ≡ true
     AreWeakTo-resolved units now =
         let long = as_long now.values now.next.long in
-        let read = read_in_runs-kept len_of h chars stored now.values units runs long now.is (λ p there. now.next.read p (within p there)) in
+        let read = kept_in_place-kept len_of h chars stored now.values units runs long now.is (λ p there. now.next.read p (within p there)) in
         ap (λ (rs : List ℕ). list_all is_weak_resolved (at_places L units (map (place len_of chars) rs))) read
         ∙ ap (list_all is_weak_resolved) (at_places-place len_of h chars L now.values units ps long now.is (kept_in_runs-within len_of h chars stored runs))
         ∙ weak_next-resolved source brackets stored levels classes seqs (characters s) next now.values now.next
 
     -- N0 to N2
     pub AreResolvedTo-more : (old new original : List BidiClass) (unit_levels : List ℕ) → original ≡ per_unit len_of chars stored → unit_levels ≡ per_unit len_of chars levels → AreWeakTo seqs s old
-        → at_places L new (map (place len_of chars) (read_in_runs len_of chars old runs)) ≡ neutral_classes (level_at unit_levels (first_or 0 (map (place len_of chars) (read_in_runs len_of chars old runs)))) s.sos s.eos
-        (at_places L original (map (place len_of chars) (read_in_runs len_of chars old runs))) (map bracket_of (at_places 0 chars (read_in_runs len_of chars old runs))) (at_places L old (map (place len_of chars) (read_in_runs len_of chars old runs)))
+        → at_places L new (map (place len_of chars) (kept_in_place len_of chars old runs)) ≡ neutral_classes (level_at unit_levels (first_or 0 (map (place len_of chars) (kept_in_place len_of chars old runs)))) s.sos s.eos
+        (at_places L original (map (place len_of chars) (kept_in_place len_of chars old runs))) (map bracket_of (at_places 0 chars (kept_in_place len_of chars old runs))) (at_places L old (map (place len_of chars) (kept_in_place len_of chars old runs)))
         → ((u : ℕ) → class_at old u ≡ BN → class_at new u ≡ BN) → ((u : ℕ) → in_runs runs u ≡ false → class_at new u ≡ class_at old u) → is_per_char class_eq len_of chars new ≡ true
         → AreResolvedTo (seqs ++ characters s ∷ []) new
     AreResolvedTo-more old new original unit_levels original_is levels_is now kept removed outside per =
@@ -163,7 +163,7 @@ module _ (len_of : ℕ → ℕ) (h : HasUnits len_of) (chars : List ℕ) (source
         let old_long = as_long now.values now.next.long in
         let new_long = length-per_char L len_of chars new in
         let stored_long = as_long stored refl in
-        let read = read_in_runs-kept len_of h chars stored now.values old runs old_long now.is (λ p there. now.next.read p (within p there)) in
+        let read = kept_in_place-kept len_of h chars stored now.values old runs old_long now.is (λ p there. now.next.read p (within p there)) in
         let inside = kept_in_runs-within len_of h chars stored runs in
         let level = level_at levels (first_or 0 ps) in
         let own = at_places L now.values ps in

@@ -8,7 +8,7 @@ use Rattle.bidi_base.specs.Display.{Run, run_level, visual_runs, reordered_text,
 use Rattle.bidi_base.proofs.TextLemmas.{HasUnits}
 use Rattle.bidi_base.proofs.PlaceLemmas.{place-mono, place-slice_range, char_index-place}
 use Rattle.bidi_base.proofs.OrderLemmas.{get_or-slice_range, length-slice_range}
-use Rattle.unicode_bidi.proofs.VisualRuns.{visual_runs-are}
+use Rattle.bidi_lines.proofs.VisualRuns.{visual_runs-are}
 use Rattle.unicode_bidi.proofs.CharRuns.{units_of, place_from, visual_runs-units}
 use Rattle.unicode_bidi.proofs.RunText.{reordered_text-runs, flat_map-same_on}
 

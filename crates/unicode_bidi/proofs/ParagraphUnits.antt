@@ -25,7 +25,7 @@ use Rattle.bidi_base.proofs.PerUnit.{length-per_unit}
 use Rattle.bidi_base.proofs.ResolvedLemmas.{length-levels_in}
 use Rattle.bidi_base.proofs.TextLemmas.{HasUnits, is_boundary-le, subrange-middle}
 use Rattle.unicode_bidi.specs.declared.paragraph_info.ParagraphInfo.{ParagraphInfo}
-use Rattle.unicode_bidi.specs.Analysis.{unit_levels, own_flags, CanWrite, Follow, chars_of}
+use Rattle.unicode_bidi.specs.Engine.{unit_levels, own_flags, CanWrite, Follow, chars_of}
 use Rattle.unicode_bidi.specs.ParagraphFlags.{flags_of, paragraph_flags}
 use Rattle.unicode_bidi.specs.ParagraphInfo.{range_of, level_of, ranges_of, levels_of}
 

@@ -8,11 +8,11 @@ use Rattle.std.proofs.lemmas.List.Elements.{filter-append, All-head, All-tail}
 use Rattle.std.proofs.lemmas.List.Sums.{sum_by-append}
 use Rattle.bidi_base.specs.declared.char_data.BidiClass.{BidiClass}
 use Rattle.bidi_base.specs.declared.char_data.BidiClass.TheVariants.{L, BN}
-use Rattle.bidi_base.specs.Classes.{is_read}
+use Rattle.bidi_base.specs.Classes.{is_kept_in_place}
 use Rattle.bidi_base.specs.Places.{class_at, at_places, between, first_or}
 use Rattle.bidi_base.specs.Sequences.{is_kept_at, level_at}
 use Rattle.bidi_base.specs.Text.{text_len, place, IsLine, char_index, per_unit}
-use Rattle.bidi_base.specs.Units.{AreLines, in_runs, chars_in_runs, kept_in_runs, read_in_runs}
+use Rattle.bidi_base.specs.Units.{AreLines, in_runs, chars_in_runs, kept_in_runs, kept_in_place}
 use Rattle.bidi_base.proofs.ChainLemmas.{filter_range-agree}
 use Rattle.bidi_base.proofs.LevelTableLemmas.{count_at-in}
 use Rattle.bidi_base.proofs.PerUnit.{length-per_unit, get_or-per_unit-place}
@@ -65,24 +65,24 @@ module _ (len_of : ℕ → ℕ) (h : HasUnits len_of) (chars : List ℕ) where
       ap (λ (us : List ℕ). level_at us (place len_of chars p)) is ∙ get_or-per_unit-place len_of h chars levels p 0 long (AreWithin-first chars p ps within)
 
   -- where BN stands exactly for what X9 removed, what is read is what it keeps
-  pub read_in_runs-kept : (stored values units : List BidiClass) (runs : List (ℕ × ℕ)) → length values ≡ length chars → units ≡ per_unit len_of chars values
-      → ((p : ℕ) → p < length chars → is_read (class_at values p) ≡ is_kept_at stored p) → read_in_runs len_of chars units runs ≡ kept_in_runs len_of chars stored runs
-  unfolding read_in_runs kept_in_runs chars_in_runs
-  read_in_runs-kept stored values units [] long is read = refl
-  read_in_runs-kept stored values units (r ∷ runs) long is read =
+  pub kept_in_place-kept : (stored values units : List BidiClass) (runs : List (ℕ × ℕ)) → length values ≡ length chars → units ≡ per_unit len_of chars values
+      → ((p : ℕ) → p < length chars → is_kept_in_place (class_at values p) ≡ is_kept_at stored p) → kept_in_place len_of chars units runs ≡ kept_in_runs len_of chars stored runs
+  unfolding kept_in_place kept_in_runs chars_in_runs
+  kept_in_place-kept stored values units [] long is read = refl
+  kept_in_place-kept stored values units (r ∷ runs) long is read =
       let i = char_index len_of chars r.0 in
       let j = char_index len_of chars r.1 in
       let rest = flat_map (λ (q : ℕ × ℕ). between (char_index len_of chars q.0) (char_index len_of chars q.1)) runs in
-      let test : ℕ → Bool = λ k. is_read (class_at units (place len_of chars k)) in
+      let test : ℕ → Bool = λ k. is_kept_in_place (class_at units (place len_of chars k)) in
       let short = char_index-le len_of chars r.1 in
       let here : filter test (between i j) ≡ filter (is_kept_at stored) (between i j) =
       filter_range-agree test (is_kept_at stored) i (j - i)
       (λ k from below.
       let fits : k < length chars = omega arith in
-      ap is_read (ap (λ (us : List BidiClass). class_at us (place len_of chars k)) is ∙ get_or-per_unit-place len_of h chars values k L long fits) ∙ read k fits) in
+      ap is_kept_in_place (ap (λ (us : List BidiClass). class_at us (place len_of chars k)) is ∙ get_or-per_unit-place len_of h chars values k L long fits) ∙ read k fits) in
       filter-append test (between i j) rest
       ∙ ap (λ (ks : List ℕ). ks ++ filter test rest) here
-      ∙ ap (λ (ks : List ℕ). filter (is_kept_at stored) (between i j) ++ ks) (read_in_runs-kept stored values units runs long is read)
+      ∙ ap (λ (ks : List ℕ). filter (is_kept_at stored) (between i j) ++ ks) (kept_in_place-kept stored values units runs long is read)
       ∙ sym (filter-append (is_kept_at stored) (between i j) rest)
 
   -- the kept characters of some runs are kept, and stand in the text
@@ -128,13 +128,13 @@ module _ (len_of : ℕ → ℕ) (h : HasUnits len_of) (chars : List ℕ) where
       in_range : (low u high : ℕ) → (nat_le low u && nat_lt u high) ≡ true → (low ≤ u) × (u < high)
       in_range low u high e = grind (arith, nat_tests)
 
-  is_bn : (c : BidiClass) → is_read c ≡ false → c ≡ BN
+  is_bn : (c : BidiClass) → is_kept_in_place c ≡ false → c ≡ BN
   is_bn BN e = refl
   is_bn _ e = absurd (cc e)
 
   -- a pass that leaves BN and what stands outside some runs changes no other character than theirs
   pub stays_elsewhere : (stored old new units units' : List BidiClass) (runs : List (ℕ × ℕ)) → AreLines len_of chars runs → length old ≡ length chars → length new ≡ length chars → units ≡ per_unit len_of chars old → units' ≡ per_unit len_of chars new
-      → ((p : ℕ) → p < length chars → is_read (class_at old p) ≡ is_kept_at stored p)
+      → ((p : ℕ) → p < length chars → is_kept_in_place (class_at old p) ≡ is_kept_at stored p)
       → ((u : ℕ) → class_at units u ≡ BN → class_at units' u ≡ BN) → ((u : ℕ) → in_runs runs u ≡ false → class_at units' u ≡ class_at units u)
       → (p : ℕ) → times_in (kept_in_runs len_of chars stored runs) p ≡ 0 → class_at new p ≡ class_at old p
   stays_elsewhere stored old new units units' runs lines long long' is is' read removed outside p none = elim (cases_lt p (length chars)) [

@@ -8,7 +8,7 @@ use Rattle.std.proofs.lemmas.List.Sums.{sum_by-append, count_by-le-length}
 use Rattle.bidi_base.specs.declared.char_data.BidiClass.{BidiClass}
 use Rattle.bidi_base.specs.declared.char_data.BidiClass.TheVariants.{L, BN}
 use Rattle.bidi_base.specs.declared.data_source.BidiMatchedOpeningBracket.{BidiMatchedOpeningBracket}
-use Rattle.bidi_base.specs.Classes.{has_direction, is_kept, is_l_or_r, is_read, is_removed, is_weak_resolved}
+use Rattle.bidi_base.specs.Classes.{has_direction, is_kept, is_l_or_r, is_kept_in_place, is_removed, is_weak_resolved}
 use Rattle.bidi_base.specs.Places.{class_at, at_places, first_or}
 use Rattle.bidi_base.specs.Explicit.{explicit_class, explicit_levels, explicit_classes, processing_class, processing_classes}
 use Rattle.bidi_base.specs.Sequences.{RunSequence, is_kept_at, level_at, has_places, sequences}
@@ -23,17 +23,17 @@ use Rattle.bidi_base.proofs.SequencePlaces.{times_in, times_in-parts, places_of,
 use Rattle.bidi_base.proofs.StoredLemmas.{explicit_class-kept, explicit_classes-kept, at_places-agree, times_in-first, times_in-later, list_all-at_places, list_all-at_places_back}
 use Rattle.bidi_base.proofs.WeakLemmas.{weak_classes-resolved}
 
-is_read-kept : (c : BidiClass) → is_kept c ≡ true → is_read c ≡ true
-is_read-kept BN h = absurd (cc h)
-is_read-kept _ h = refl
+is_kept_in_place-kept : (c : BidiClass) → is_kept c ≡ true → is_kept_in_place c ≡ true
+is_kept_in_place-kept BN h = absurd (cc h)
+is_kept_in_place-kept _ h = refl
 
-is_read-directed : (c : BidiClass) → has_direction c ≡ true → is_read c ≡ true
-is_read-directed BN h = absurd (cc h)
-is_read-directed _ h = refl
+is_kept_in_place-directed : (c : BidiClass) → has_direction c ≡ true → is_kept_in_place c ≡ true
+is_kept_in_place-directed BN h = absurd (cc h)
+is_kept_in_place-directed _ h = refl
 
-is_read-resolved : (c : BidiClass) → is_weak_resolved c ≡ true → is_read c ≡ true
-is_read-resolved BN h = absurd (cc h)
-is_read-resolved _ h = refl
+is_kept_in_place-resolved : (c : BidiClass) → is_weak_resolved c ≡ true → is_kept_in_place c ≡ true
+is_kept_in_place-resolved BN h = absurd (cc h)
+is_kept_in_place-resolved _ h = refl
 
 module _ (source : List BidiClass) (brackets : List (Option BidiMatchedOpeningBracket)) (stored : List BidiClass) (levels : List ℕ) (classes : List BidiClass) where
   -- the classes that W1 to N2 give a sequence
@@ -61,7 +61,7 @@ module _ (source : List BidiClass) (brackets : List (Option BidiMatchedOpeningBr
   -- some sequences are resolved, and all other characters have their explicit classes, with BN for what X9 removes
   pub record IsUnderWay (seqs : List RunSequence) (now : List BidiClass) : Type 0 where
     pub long : length now ≡ length stored
-    pub read : (p : ℕ) → p < length stored → is_read (class_at now p) ≡ is_kept_at stored p
+    pub read : (p : ℕ) → p < length stored → is_kept_in_place (class_at now p) ≡ is_kept_at stored p
     pub done : AreNeutral now seqs
     pub rest : (p : ℕ) → p < length stored → is_kept_at stored p ≡ true → times_in (places_of seqs) p ≡ 0 → class_at now p ≡ class_at classes p
 
@@ -75,7 +75,7 @@ module _ (source : List BidiClass) (brackets : List (Option BidiMatchedOpeningBr
   -- its weak types are resolved as well
   pub record IsWeakNext (seqs : List RunSequence) (s : RunSequence) (now : List BidiClass) : Type 0 where
     pub long : length now ≡ length stored
-    pub read : (p : ℕ) → p < length stored → is_read (class_at now p) ≡ is_kept_at stored p
+    pub read : (p : ℕ) → p < length stored → is_kept_in_place (class_at now p) ≡ is_kept_at stored p
     pub done : AreNeutral now seqs
     pub weak : at_places L now s.places ≡ weak_classes s.sos (at_places L classes s.places)
     pub rest : (p : ℕ) → p < length stored → is_kept_at stored p ≡ true → times_in (places_of seqs) p ≡ 0 → times_in s.places p ≡ 0 → class_at now p ≡ class_at classes p
@@ -89,18 +89,18 @@ module _ (source : List BidiClass) (brackets : List (Option BidiMatchedOpeningBr
     none_of p there = elim (cases_eq (times_in s.places p) 0) [ inl none ↦ none | inr some ↦ absurd (omega (arith, there, next.apart p (omega arith))) ]
 
     -- what is written is read, and what is not has not changed
-    read_after : (old new : List BidiClass) → ((p : ℕ) → p < length stored → is_read (class_at old p) ≡ is_kept_at stored p) → StaysElsewhere s.places old new → list_all is_read (at_places L new s.places) ≡ true
-        → (p : ℕ) → p < length stored → is_read (class_at new p) ≡ is_kept_at stored p
+    read_after : (old new : List BidiClass) → ((p : ℕ) → p < length stored → is_kept_in_place (class_at old p) ≡ is_kept_at stored p) → StaysElsewhere s.places old new → list_all is_kept_in_place (at_places L new s.places) ≡ true
+        → (p : ℕ) → p < length stored → is_kept_in_place (class_at new p) ≡ is_kept_at stored p
     read_after old new read stays all p within = elim (cases_eq (times_in s.places p) 0) [
-      | inl none ↦ ap is_read (stays p none) ∙ read p within
-      | inr some ↦ list_all-at_places_back is_read L new s.places p all (omega arith) ∙ sym (next.kept p (omega arith)).0
+      | inl none ↦ ap is_kept_in_place (stays p none) ∙ read p within
+      | inr some ↦ list_all-at_places_back is_kept_in_place L new s.places p all (omega arith) ∙ sym (next.kept p (omega arith)).0
     ]
 
-    all_read : (test : BidiClass → Bool) → ((c : BidiClass) → test c ≡ true → is_read c ≡ true) → (cs : List BidiClass) → list_all test cs ≡ true → list_all is_read cs ≡ true
+    all_read : (test : BidiClass → Bool) → ((c : BidiClass) → test c ≡ true → is_kept_in_place c ≡ true) → (cs : List BidiClass) → list_all test cs ≡ true → list_all is_kept_in_place cs ≡ true
     all_read test reads [] h = refl
     all_read test reads (c ∷ cs) h =
         let parts = and_parts (test c) (list_all test cs) h in
-        and_from (is_read c) (list_all is_read cs) (reads c parts.0) (all_read test reads cs parts.1)
+        and_from (is_kept_in_place c) (list_all is_kept_in_place cs) (reads c parts.0) (all_read test reads cs parts.1)
 
     weak_resolved : list_all is_weak_resolved (weak_classes s.sos (at_places L classes s.places)) ≡ true
     weak_resolved = weak_classes-resolved s.sos (at_places L classes s.places) next.sos (list_all-at_places is_kept L classes s.places (λ p there. next.explicit p there))
@@ -112,7 +112,7 @@ module _ (source : List BidiClass) (brackets : List (Option BidiMatchedOpeningBr
         let answer : at_places L new s.places ≡ weak_classes s.sos (at_places L classes s.places) = weak ∙ ap (weak_classes s.sos) own in
         record {
           long = long ∙ h.long;
-          read = read_after old new h.read stays (all_read is_weak_resolved is_read-resolved (at_places L new s.places) (ap (list_all is_weak_resolved) answer ∙ weak_resolved));
+          read = read_after old new h.read stays (all_read is_weak_resolved is_kept_in_place-resolved (at_places L new s.places) (ap (list_all is_weak_resolved) answer ∙ weak_resolved));
           done = AreNeutral-kept old new seqs (λ p there. stays p (none_of p there)) h.done;
           weak = answer;
           rest = λ p within kept none apart. stays p apart ∙ h.rest p within kept none;
@@ -139,7 +139,7 @@ module _ (source : List BidiClass) (brackets : List (Option BidiMatchedOpeningBr
         ap (list_all has_direction) answer ∙ neutral_classes-directed level s.sos s.eos own_source own_brackets (weak_classes s.sos (at_places L classes s.places)) next.sos weak_resolved in
         record {
           long = long ∙ h.long;
-          read = read_after old new h.read stays (all_read has_direction is_read-directed (at_places L new s.places) directed);
+          read = read_after old new h.read stays (all_read has_direction is_kept_in_place-directed (at_places L new s.places) directed);
           done = AreNeutral-push new seqs s (AreNeutral-kept old new seqs (λ p there. stays p (none_of p there)) h.done) answer;
           rest = λ p within kept none.
               let both = places_push p in
@@ -183,7 +183,7 @@ pub IsUnderWay-start : (paragraph : ℕ) (source : List BidiClass) (brackets : L
 unfolding processing_class
 IsUnderWay-start paragraph source brackets stored levels = record {
   long = length-processing_classes paragraph stored;
-  read = λ p within. ap is_read (class_at-processing_classes paragraph stored p within) ∙ by_test p;
+  read = λ p within. ap is_kept_in_place (class_at-processing_classes paragraph stored p within) ∙ by_test p;
   done = tt;
   rest = λ p within kept none.
       class_at-processing_classes paragraph stored p within
@@ -191,12 +191,12 @@ IsUnderWay-start paragraph source brackets stored levels = record {
       ∙ sym (class_at-explicit_classes paragraph stored p within);
 }
   where
-    by_test : (p : ℕ) → is_read (cond (is_removed (class_at stored p)) BN (explicit_class paragraph stored p)) ≡ is_kept_at stored p
+    by_test : (p : ℕ) → is_kept_in_place (cond (is_removed (class_at stored p)) BN (explicit_class paragraph stored p)) ≡ is_kept_at stored p
     by_test p = elim (cases_Bool (is_removed (class_at stored p))) [
-      | inl gone ↦ ap is_read (cond-true (is_removed (class_at stored p)) BN (explicit_class paragraph stored p) gone) ∙ sym (ap not gone)
+      | inl gone ↦ ap is_kept_in_place (cond-true (is_removed (class_at stored p)) BN (explicit_class paragraph stored p) gone) ∙ sym (ap not gone)
       | inr stays ↦
-          ap is_read (cond-false (is_removed (class_at stored p)) BN (explicit_class paragraph stored p) stays)
-          ∙ is_read-kept (explicit_class paragraph stored p) (explicit_class-kept paragraph stored p (ap not stays))
+          ap is_kept_in_place (cond-false (is_removed (class_at stored p)) BN (explicit_class paragraph stored p) stays)
+          ∙ is_kept_in_place-kept (explicit_class paragraph stored p) (explicit_class-kept paragraph stored p (ap not stays))
           ∙ sym (ap not stays)
     ]
 

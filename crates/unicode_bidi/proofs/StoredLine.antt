@@ -1,37 +1,64 @@
--- A line of a text of UTF-8 whose stored classes and levels pass the test `is_per_char`, as those of the info types do.
-use Rattle.std.proofs.Common.{◌≡◌, ℕ, ◌≤◌, List, length}
-use Rattle.std.specs.Prelude.{IsTrue}
-use Rattle.std.specs.Char.{len_utf8}
-use Rattle.std.specs.Str.{chars}
+-- A line of a text whose stored classes and levels pass the test `is_per_char`, as those of the info types do.
+use Rattle.std.proofs.Common.{◌≡◌, ◌∙◌, ℕ, ◌≤◌, List, length, sym, false}
+use Rattle.std.specs.Prelude.{IsTrue, slice_range}
+use Rattle.std.specs.declared.ops.Range.{Range}
+use Rattle.bidi_base.specs.Analysed.{AreLevelsWithLine, IsTextOfLine, levels_with_line_per_char}
 use Rattle.bidi_base.specs.declared.char_data.BidiClass.{BidiClass}
+use Rattle.bidi_base.specs.declared.char_data.BidiClass.TheVariants.{L}
+use Rattle.bidi_base.specs.Display.{line_text}
 use Rattle.bidi_base.specs.Levels.{has_rtl}
-use Rattle.bidi_base.specs.Line.{levels_of_line, levels_with_line}
-use Rattle.bidi_base.specs.Text.{per_unit, per_char, is_per_char, IsLine, IsPerChar}
+use Rattle.bidi_base.specs.Line.{levels_of_line, levels_with_line, char_levels_of_line}
+use Rattle.bidi_base.specs.Text.{text_len, per_char, is_per_char, IsLine, IsPerChar}
 use Rattle.bidi_base.proofs.PerCharTests.{class_eq, class_test, level_eq, level_test}
-use Rattle.bidi_base.proofs.StrLemmas.{has_units}
-use Rattle.bidi_base.proofs.UnitsLemmas.{IsPerChar-from_is_per_char}
-use Rattle.unicode_bidi.specs.Lines.{char_levels_of_line, char_levels_with_line}
+use Rattle.bidi_base.proofs.TextLemmas.{HasUnits}
+use Rattle.bidi_base.proofs.UnitsLemmas.{IsPerChar-from_is_per_char, length-from_IsPerChar}
 use Rattle.unicode_bidi.proofs.TextOfLine as line_of
 
-pub classes_IsPerChar : (text : List ℕ) (classes : List BidiClass) → IsTrue (is_per_char class_eq len_utf8 (chars text) classes) → IsPerChar len_utf8 (chars text) classes
-classes_IsPerChar text classes h = IsPerChar-from_is_per_char class_eq class_test len_utf8 has_units (chars text) classes h
+module _ (len_of : ℕ → ℕ) (some : HasUnits len_of) (chars : List ℕ) where
+  pub classes_IsPerChar : (classes : List BidiClass) → IsTrue (is_per_char class_eq len_of chars classes) → IsPerChar len_of chars classes
+  classes_IsPerChar classes h = IsPerChar-from_is_per_char class_eq class_test len_of some chars classes h
 
-pub levels_IsPerChar : (text levels : List ℕ) → IsTrue (is_per_char level_eq len_utf8 (chars text) levels) → IsPerChar len_utf8 (chars text) levels
-levels_IsPerChar text levels h = IsPerChar-from_is_per_char level_eq level_test len_utf8 has_units (chars text) levels h
+  pub levels_IsPerChar : (levels : List ℕ) → IsTrue (is_per_char level_eq len_of chars levels) → IsPerChar len_of chars levels
+  levels_IsPerChar levels h = IsPerChar-from_is_per_char level_eq level_test len_of some chars levels h
 
-module _ (text : List ℕ) (level : ℕ) (classes : List BidiClass) (levels : List ℕ) (start end : ℕ)
-    (of_classes : IsTrue (is_per_char class_eq len_utf8 (chars text) classes)) (of_levels : IsTrue (is_per_char level_eq len_utf8 (chars text) levels)) (line : IsLine len_utf8 (chars text) start end) where
-  pub same_len : length levels ≡ length classes
-  same_len = line_of.line-same_len len_utf8 has_units (chars text) level classes levels start end (classes_IsPerChar text classes of_classes) (levels_IsPerChar text levels of_levels) line
+  module _ (level : ℕ) (classes : List BidiClass) (levels : List ℕ) (line : Range ℕ)
+      (of_classes : IsTrue (is_per_char class_eq len_of chars classes)) (of_levels : IsTrue (is_per_char level_eq len_of chars levels)) (is_line : IsLine len_of chars line.start line.end) where
+    pub same_len : length levels ≡ length classes
+    same_len = line_of.line-same_len len_of some chars level classes levels line.start line.end (classes_IsPerChar classes of_classes) (levels_IsPerChar levels of_levels) is_line
 
-  pub within : end ≤ length levels
-  within = line_of.line-within len_utf8 has_units (chars text) level classes levels start end (classes_IsPerChar text classes of_classes) (levels_IsPerChar text levels of_levels) line
+    pub within : line.end ≤ length levels
+    within = line_of.line-within len_of some chars level classes levels line.start line.end (classes_IsPerChar classes of_classes) (levels_IsPerChar levels of_levels) is_line
 
-  pub levels_with_line-chars : levels_with_line level classes levels start end ≡ per_unit len_utf8 (chars text) (char_levels_with_line len_utf8 (chars text) level classes levels start end)
-  levels_with_line-chars = line_of.levels_with_line-chars len_utf8 has_units (chars text) level classes levels start end (classes_IsPerChar text classes of_classes) (levels_IsPerChar text levels of_levels) line
+    pub one_a_unit : length levels ≡ text_len len_of chars
+    one_a_unit = length-from_IsPerChar len_of chars levels (levels_IsPerChar levels of_levels)
 
-  pub per_char-levels_with_line : per_char 0 len_utf8 (chars text) (levels_with_line level classes levels start end) ≡ char_levels_with_line len_utf8 (chars text) level classes levels start end
-  per_char-levels_with_line = line_of.per_char-levels_with_line len_utf8 has_units (chars text) level classes levels start end (classes_IsPerChar text classes of_classes) (levels_IsPerChar text levels of_levels) line
+    pub of_units : (shown : List ℕ) → shown ≡ levels_with_line level classes levels line.start line.end
+        → AreLevelsWithLine (record { len_of = len_of; chars = chars; classes = classes; levels = levels }) level line shown
+    of_units shown e = record {
+      characters =
+          e ∙ line_of.levels_with_line-chars len_of some chars level classes levels line.start line.end (classes_IsPerChar classes of_classes) (levels_IsPerChar levels of_levels) is_line;
+      units = e;
+    }
 
-  pub has_rtl-chars : has_rtl (levels_of_line level classes levels start end) ≡ has_rtl (char_levels_of_line len_utf8 (chars text) level classes levels start end)
-  has_rtl-chars = line_of.has_rtl-chars len_utf8 has_units (chars text) level classes levels start end (classes_IsPerChar text classes of_classes) (levels_IsPerChar text levels of_levels) line
+    pub of_chars : (shown : List ℕ) → shown ≡ per_char 0 len_of chars (levels_with_line level classes levels line.start line.end)
+        → shown ≡ levels_with_line_per_char (record { len_of = len_of; chars = chars; classes = classes; levels = levels }) level line
+    of_chars shown e =
+        e ∙ line_of.per_char-levels_with_line len_of some chars level classes levels line.start line.end (classes_IsPerChar classes of_classes) (levels_IsPerChar levels of_levels) is_line
+
+    pub has_rtl-chars : has_rtl (levels_of_line level classes levels line.start line.end) ≡ has_rtl (char_levels_of_line len_of chars level classes levels line.start line.end)
+    has_rtl-chars = line_of.has_rtl-chars len_of some chars level classes levels line.start line.end (classes_IsPerChar classes of_classes) (levels_IsPerChar levels of_levels) is_line
+
+    pub of_text : (encode : ℕ → List ℕ) (units shown : List ℕ)
+        → shown ≡ line_text len_of encode chars units level (per_char L len_of chars classes) (per_char 0 len_of chars levels) line.start line.end
+        → IsTextOfLine encode units (record { len_of = len_of; chars = chars; classes = classes; levels = levels }) level line shown
+    of_text encode units shown e = record {
+      text = e;
+      empty = λ none. e ∙ line_of.line_text-empty len_of encode chars units level (per_char L len_of chars classes) (per_char 0 len_of chars levels) line.start line.end none;
+    }
+
+    -- where no level of the line is odd its text is the line's part of the text
+    pub still : (encode : ℕ → List ℕ) (units shown : List ℕ) → length units ≡ text_len len_of chars → has_rtl (levels_of_line level classes levels line.start line.end) ≡ false
+        → shown ≡ slice_range units line.start line.end → IsTextOfLine encode units (record { len_of = len_of; chars = chars; classes = classes; levels = levels }) level line shown
+    still encode units shown long even e =
+        of_text encode units shown
+        (e ∙ sym (line_of.line_text-still len_of some chars level classes levels line.start line.end (classes_IsPerChar classes of_classes) (levels_IsPerChar levels of_levels) is_line encode units long even))

@@ -14,13 +14,14 @@ use Rattle.bidi_base.proofs.TextLemmas.{HasUnits}
 use Rattle.bidi_base.proofs.PlaceLemmas.{place-le, place-end, place-slice_range, line_places, text_len-subrange, IsLineAt, IsLine-places}
 use Rattle.bidi_base.proofs.PerUnit.{length-per_char, per_char-per_unit}
 use Rattle.bidi_base.proofs.UnitsLemmas.{per_unit-from_IsPerChar, length-from_IsPerChar}
-use Rattle.unicode_bidi.specs.Lines.{char_levels_of_line, char_levels_with_line}
+use Rattle.bidi_base.specs.Line.{char_levels_of_line, char_levels_with_line}
 use Rattle.unicode_bidi.proofs.CharRuns.{units_of, place_from, visual_runs-units}
-use Rattle.unicode_bidi.proofs.LineInText.{length-part, length-line, length-levels_with_line, slice_range-per_unit, line_levels-per_unit, levels_with_line-per_unit, list_any-per_unit}
+use Rattle.bidi_lines.proofs.LineInText.{length-part, length-line, length-levels_with_line}
+use Rattle.unicode_bidi.proofs.LineUnits.{slice_range-per_unit, line_levels-per_unit, levels_with_line-per_unit, list_any-per_unit}
 use Rattle.unicode_bidi.proofs.LineText.{reordered_text-line}
-use Rattle.unicode_bidi.proofs.Ordered.{none_odd}
+use Rattle.bidi_lines.proofs.Ordered.{none_odd}
 use Rattle.unicode_bidi.proofs.RunText.{reordered_text-still}
-use Rattle.unicode_bidi.proofs.VisualRuns.{visual_runs-are}
+use Rattle.bidi_lines.proofs.VisualRuns.{visual_runs-are}
 
 -- an empty line has no text
 pub line_text-empty : (len_of : ℕ → ℕ) (encode : ℕ → List ℕ) (chars units : List ℕ) (level : ℕ) (classes : List BidiClass) (levels : List ℕ) (start end : ℕ) → start ≡ end

@@ -25,9 +25,9 @@ use Rattle.bidi_base.proofs.PlaceLemmas.{place-le, place-end, place-lt, place-mo
 use Rattle.bidi_base.proofs.ParagraphsLemmas.{joined, length-text_classes, IsCut, IsCut-start, IsCut-more, IsCut-stop, IsCut-last, IsCut-none, ranges_from-push}
 use Rattle.bidi_base.proofs.ReadingLemmas.{char_units, char_units-take, met_units-char, innermost-All, opened_by-map, decided_by-map}
 use Rattle.bidi_base.proofs.StoredSteps.{open_initiators, open_initiators-push, met_by, innermost-map, stored_classes-push, stored_classes-nil, length-stored_classes, length-met_by, open_initiators-below, deciding_class-push, deciding_class-nil}
-use Rattle.unicode_bidi.specs.declared.initial.Initial.{Initial}
-use Rattle.unicode_bidi.specs.declared.initial.ParagraphFlags.{ParagraphFlags}
-use Rattle.unicode_bidi.specs.declared.initial.Reading.{Reading}
+use Rattle.unicode_bidi.specs.declared.first_walk.Found.{Found}
+use Rattle.unicode_bidi.specs.declared.first_walk.ParagraphFlags.{ParagraphFlags}
+use Rattle.unicode_bidi.specs.declared.first_walk.Reading.{Reading}
 use Rattle.unicode_bidi.specs.ParagraphInfo.{ranges_of, levels_of}
 use Rattle.unicode_bidi.specs.ParagraphFlags.{flags_of, paragraph_flags}
 use Rattle.unicode_bidi.proofs.PutUnits.{take-filled-end, take-met_units}
@@ -55,7 +55,7 @@ module _ (source : Source) (len_of : ℕ → ℕ) (chars : List ℕ) where
   units_after done q = char_units len_of chars (length (joined done) + q)
 
   -- `done` are the paragraphs that have ended, and `current` is the one that is read
-  pub record IsTextRead (base : Option ℕ) (n : ℕ) (done : List (List ℕ)) (current : List ℕ) (found : Initial) (reading : Reading) : Type 0 where
+  pub record IsTextRead (base : Option ℕ) (n : ℕ) (done : List (List ℕ)) (current : List ℕ) (found : Found) (reading : Reading) : Type 0 where
     pub whole : joined done ++ current ≡ take n chars
     pub sized : length found.original_classes.items ≡ text_len len_of chars
     pub classes : take (place len_of chars n) found.original_classes.items ≡ per_unit len_of (take n chars) (text_classes source done ++ stored_classes (classes_of current))
@@ -68,7 +68,7 @@ module _ (source : Source) (len_of : ℕ → ℕ) (chars : List ℕ) where
     pub turns : reading.flags ≡ flags_of (classes_of current)
 
   -- and once all of them have ended
-  pub record IsTextDone (base : Option ℕ) (n : ℕ) (done : List (List ℕ)) (found : Initial) : Type 0 where
+  pub record IsTextDone (base : Option ℕ) (n : ℕ) (done : List (List ℕ)) (found : Found) : Type 0 where
     pub whole : joined done ≡ take n chars
     pub sized : length found.original_classes.items ≡ text_len len_of chars
     pub classes : take (place len_of chars n) found.original_classes.items ≡ per_unit len_of (take n chars) (text_classes source done)
@@ -96,7 +96,7 @@ module _ (source : Source) (len_of : ℕ → ℕ) (chars : List ℕ) where
 
   -- ---- the start
 
-  pub IsTextRead-start : (base : Option ℕ) (found : Initial) (reading : Reading) → length found.original_classes.items ≡ text_len len_of chars → found.paragraphs.items ≡ [] → found.flags.items ≡ [] → IsFresh reading 0 → IsTextRead base 0 [] [] found reading
+  pub IsTextRead-start : (base : Option ℕ) (found : Found) (reading : Reading) → length found.original_classes.items ≡ text_len len_of chars → found.paragraphs.items ≡ [] → found.flags.items ≡ [] → IsFresh reading 0 → IsTextRead base 0 [] [] found reading
   unfolding text_classes paragraph_levels paragraph_flags
   IsTextRead-start base found reading sized no_paragraphs no_flags fresh = record {
     whole = refl;
@@ -113,7 +113,7 @@ module _ (source : Source) (len_of : ℕ → ℕ) (chars : List ℕ) where
 
   -- ---- the end of a paragraph
 
-  module _ (base : Option ℕ) (n : ℕ) (done : List (List ℕ)) (current : List ℕ) (found : Initial) (reading : Reading) (h : IsTextRead base n done current found reading) where
+  module _ (base : Option ℕ) (n : ℕ) (done : List (List ℕ)) (current : List ℕ) (found : Found) (reading : Reading) (h : IsTextRead base n done current found reading) where
     -- where it is read to
     read_to : place len_of chars n ≡ text_len len_of (joined done) + text_len len_of current
     read_to = ap (text_len len_of) (sym h.whole) ∙ sum_by-append len_of (joined done) current
@@ -136,7 +136,7 @@ module _ (source : Source) (len_of : ℕ → ℕ) (chars : List ℕ) where
         none [] e = refl
         none (c ∷ cs) e = absurd (omega (arith, h.start, sum_by-cons len_of c cs, units c))
 
-    pub IsTextDone-close : (closed : Initial) (end : ℕ) → end ≡ place len_of chars n → closed.original_classes.items ≡ found.original_classes.items
+    pub IsTextDone-close : (closed : Found) (end : ℕ) → end ≡ place len_of chars n → closed.original_classes.items ≡ found.original_classes.items
         → ranges_of closed.paragraphs.items ≡ ranges_of found.paragraphs.items ++ (reading.start, end) ∷ []
         → levels_of closed.paragraphs.items ≡ levels_of found.paragraphs.items ++ unwrap_or base (level_by reading.deciding) ∷ []
         → closed.flags.items ≡ found.flags.items ++ reading.flags ∷ [] → IsTextDone base n (done ++ current ∷ []) closed
@@ -156,7 +156,7 @@ module _ (source : Source) (len_of : ℕ → ℕ) (chars : List ℕ) where
       flags = flags ∙ ap (λ (fs : List ParagraphFlags). fs ++ reading.flags ∷ []) h.flags ∙ ap (λ (f : ParagraphFlags). paragraph_flags source done ++ f ∷ []) h.turns ∙ sym (paragraph_flags-push done current);
     }
 
-  pub IsTextDone-none : (base : Option ℕ) (n : ℕ) (done : List (List ℕ)) (current : List ℕ) (found : Initial) (reading : Reading) → current ≡ [] → IsTextRead base n done current found reading → IsTextDone base n done found
+  pub IsTextDone-none : (base : Option ℕ) (n : ℕ) (done : List (List ℕ)) (current : List ℕ) (found : Found) (reading : Reading) → current ≡ [] → IsTextRead base n done current found reading → IsTextDone base n done found
   IsTextDone-none base n done current found reading none h = record {
     whole = sym (append-nil (joined done)) ∙ ap (λ (cs : List ℕ). joined done ++ cs) (sym none) ∙ h.whole;
     sized = h.sized;
@@ -169,7 +169,7 @@ module _ (source : Source) (len_of : ℕ → ℕ) (chars : List ℕ) where
   }
 
   -- the next paragraph begins
-  pub IsTextRead-next : (base : Option ℕ) (n : ℕ) (done : List (List ℕ)) (found : Initial) (reading : Reading) → IsTextDone base n done found → IsFresh reading (place len_of chars n) → IsTextRead base n done [] found reading
+  pub IsTextRead-next : (base : Option ℕ) (n : ℕ) (done : List (List ℕ)) (found : Found) (reading : Reading) → IsTextDone base n done found → IsFresh reading (place len_of chars n) → IsTextRead base n done [] found reading
   IsTextRead-next base n done found reading h fresh = record {
     whole = append-nil (joined done) ∙ h.whole;
     sized = h.sized;
@@ -185,7 +185,7 @@ module _ (source : Source) (len_of : ℕ → ℕ) (chars : List ℕ) where
 
   -- ---- one more character
 
-  module _ (units : HasUnits len_of) (base : Option ℕ) (n : ℕ) (done : List (List ℕ)) (current : List ℕ) (found : Initial) (reading : Reading) (within : n < length chars) (h : IsTextRead base n done current found reading) where
+  module _ (units : HasUnits len_of) (base : Option ℕ) (n : ℕ) (done : List (List ℕ)) (current : List ℕ) (found : Found) (reading : Reading) (within : n < length chars) (h : IsTextRead base n done current found reading) where
     long : length (joined done) + length current ≡ n
     long = omega (arith, length-append (joined done) current, ap length h.whole, length-take n chars)
 
@@ -223,7 +223,7 @@ module _ (source : Source) (len_of : ℕ → ℕ) (chars : List ℕ) where
           ∙ met_units-char len_of units (take n chars) (text_classes source done) (stored_classes (classes_of current)) class q
           (omega (arith, length-text_classes source done, length-stored_classes (classes_of current), length-map current source.class_of, long, length-take n chars)) (omega (arith, below, length-stored_classes (classes_of current)))
 
-      pub IsTextRead-more : (changed : List BidiClass) (range : Range ℕ) (longer : Initial) (after : Reading) → range ≡ char_units len_of chars n → changed ≡ met_units class (innermost reading.initiators.items) found.original_classes.items
+      pub IsTextRead-more : (changed : List BidiClass) (range : Range ℕ) (longer : Found) (after : Reading) → range ≡ char_units len_of chars n → changed ≡ met_units class (innermost reading.initiators.items) found.original_classes.items
           → longer.original_classes.items ≡ filled range class changed → length changed ≡ length found.original_classes.items → length longer.original_classes.items ≡ length changed → longer.paragraphs.items ≡ found.paragraphs.items → longer.flags.items ≡ found.flags.items
           → after.start ≡ reading.start → after.initiators.items ≡ opened_by class range reading.initiators.items → after.deciding ≡ option_or reading.deciding (decided_by class reading.initiators.items)
           → after.flags.is_pure_ltr ≡ (reading.flags.is_pure_ltr && not (may_turn class)) → after.flags.has_isolates ≡ (reading.flags.has_isolates || is_initiator class)
@@ -291,14 +291,14 @@ module _ (source : Source) (len_of : ℕ → ℕ) (chars : List ℕ) where
 
   -- ---- the whole walk
 
-  pub record IsRead (split : Bool) (base : Option ℕ) (n : ℕ) (found : Initial) (reading : Reading) : Type 0 where
+  pub record IsRead (split : Bool) (base : Option ℕ) (n : ℕ) (found : Found) (reading : Reading) : Type 0 where
     pub done : List (List ℕ)
     pub current : List ℕ
     pub cut : IsCut (stops source split) (take n chars) done current
     pub one : split ≡ false → done ≡ []
     pub read : IsTextRead base n done current found reading
 
-  pub IsRead-start : (split : Bool) (base : Option ℕ) (found : Initial) (reading : Reading) → length found.original_classes.items ≡ text_len len_of chars → found.paragraphs.items ≡ [] → found.flags.items ≡ [] → IsFresh reading 0 → IsRead split base 0 found reading
+  pub IsRead-start : (split : Bool) (base : Option ℕ) (found : Found) (reading : Reading) → length found.original_classes.items ≡ text_len len_of chars → found.paragraphs.items ≡ [] → found.flags.items ≡ [] → IsFresh reading 0 → IsRead split base 0 found reading
   IsRead-start split base found reading sized no_paragraphs no_flags fresh = record {
     done = [];
     current = [];
@@ -308,7 +308,7 @@ module _ (source : Source) (len_of : ℕ → ℕ) (chars : List ℕ) where
   }
 
   -- the paragraph goes on
-  pub IsRead-on : (split : Bool) (base : Option ℕ) (n c : ℕ) (found : Initial) (reading : Reading) (longer : Initial) (after : Reading) (h : IsRead split base n found reading) → take (n + 1) chars ≡ take n chars ++ c ∷ []
+  pub IsRead-on : (split : Bool) (base : Option ℕ) (n c : ℕ) (found : Found) (reading : Reading) (longer : Found) (after : Reading) (h : IsRead split base n found reading) → take (n + 1) chars ≡ take n chars ++ c ∷ []
       → IsTextRead base (n + 1) h.done (h.current ++ c ∷ []) longer after → stops source split c ≡ false → IsRead split base (n + 1) longer after
   IsRead-on split base n c found reading longer after h more read on = record {
     done = h.done;
@@ -319,7 +319,7 @@ module _ (source : Source) (len_of : ℕ → ℕ) (chars : List ℕ) where
   }
 
   -- or it ends, and the next one begins
-  pub IsRead-stop : (split : Bool) (base : Option ℕ) (n c : ℕ) (found : Initial) (reading : Reading) (closed : Initial) (after : Reading) (h : IsRead split base n found reading) → take (n + 1) chars ≡ take n chars ++ c ∷ []
+  pub IsRead-stop : (split : Bool) (base : Option ℕ) (n c : ℕ) (found : Found) (reading : Reading) (closed : Found) (after : Reading) (h : IsRead split base n found reading) → take (n + 1) chars ≡ take n chars ++ c ∷ []
       → IsTextDone base (n + 1) (h.done ++ (h.current ++ c ∷ []) ∷ []) closed → IsFresh after (place len_of chars (n + 1)) → stops source split c ≡ true → IsRead split base (n + 1) closed after
   IsRead-stop split base n c found reading closed after h more ended fresh stop = record {
     done = h.done ++ (h.current ++ c ∷ []) ∷ [];
@@ -330,7 +330,7 @@ module _ (source : Source) (len_of : ℕ → ℕ) (chars : List ℕ) where
   }
 
   -- at the end of the text, what is left is the last paragraph
-  module _ (units : HasUnits len_of) (split : Bool) (base : Option ℕ) (n : ℕ) (found : Initial) (reading : Reading) (all : n ≡ length chars) (h : IsRead split base n found reading) where
+  module _ (units : HasUnits len_of) (split : Bool) (base : Option ℕ) (n : ℕ) (found : Found) (reading : Reading) (all : n ≡ length chars) (h : IsRead split base n found reading) where
     whole_text : take n chars ≡ chars
     whole_text = take_all n chars (omega arith)
 
@@ -361,13 +361,13 @@ module _ (source : Source) (len_of : ℕ → ℕ) (chars : List ℕ) where
 
   -- ---- what the walk answers
 
-  pub record IsAnswer (split : Bool) (base : Option ℕ) (found : Initial) : Type 0 where
+  pub record IsAnswer (split : Bool) (base : Option ℕ) (found : Found) : Type 0 where
     pub classes : found.original_classes.items ≡ per_unit len_of chars (text_classes source (pieces_of split source chars))
     pub ranges : ranges_of found.paragraphs.items ≡ ranges_from len_of 0 (pieces_of split source chars)
     pub levels : levels_of found.paragraphs.items ≡ paragraph_levels source base (pieces_of split source chars)
     pub flags : found.flags.items ≡ paragraph_flags source (pieces_of split source chars)
 
-  pub IsTextDone-answer : (split : Bool) (base : Option ℕ) (n : ℕ) (done : List (List ℕ)) (found : Initial) → n ≡ length chars → done ≡ pieces_of split source chars → IsTextDone base n done found → IsAnswer split base found
+  pub IsTextDone-answer : (split : Bool) (base : Option ℕ) (n : ℕ) (done : List (List ℕ)) (found : Found) → n ≡ length chars → done ≡ pieces_of split source chars → IsTextDone base n done found → IsAnswer split base found
   IsTextDone-answer split base n done found all is h =
       let last : IsTextDone base n (pieces_of split source chars) found = subst (λ (ps : List (List ℕ)). IsTextDone base n ps found) is h in
       record {

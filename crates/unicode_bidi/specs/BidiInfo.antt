@@ -1,18 +1,27 @@
 -- What the accessors of `BidiInfo` show.
 use Rattle.std.specs.Prelude.{ℕ, List}
+use Rattle.bidi_base.specs.Analysed.{AnalysedText}
 use Rattle.bidi_base.specs.declared.char_data.BidiClass.{BidiClass}
+use Rattle.bidi_base.specs.declared.text.str_text.StrText.{StrText}
+use Rattle.unicode_bidi.specs.Analysed as of
 use Rattle.unicode_bidi.specs.declared.info.BidiInfo.{BidiInfo}
 use Rattle.unicode_bidi.specs.declared.paragraph_info.ParagraphInfo.{ParagraphInfo}
 
--- `i.text()`, `i.original_classes()`, `i.levels()` and `i.paragraphs()`
-abbrev pub text : BidiInfo → List ℕ
-text i = i.text.now
+-- `i.text()`, of UTF-8
+abbrev pub text : {C I L : Type 0} {t : _} {c : _} {i : _} {l : _} → BidiInfo StrText C I L t c i l → List ℕ
+text i = i.analysed.text.text.now
 
-abbrev pub original_classes : BidiInfo → List BidiClass
-original_classes i = i.original_classes.items
+module _ {T C I L : Type 0} {t : _} {c : _} {i : _} {l : _} (info : BidiInfo T C I L t c i l) where
+  -- the text, as its characters, with `i.original_classes()` and `i.levels()`
+  abbrev pub analysed : AnalysedText
+  analysed = of.analysed info.analysed
 
-abbrev pub levels : BidiInfo → List ℕ
-levels i = i.levels.items
+  -- `i.original_classes()`, `i.levels()` and `i.paragraphs()`
+  abbrev pub original_classes : List BidiClass
+  original_classes = analysed.classes
 
-abbrev pub paragraphs : BidiInfo → List ParagraphInfo
-paragraphs i = i.paragraphs.items
+  abbrev pub levels : List ℕ
+  levels = analysed.levels
+
+  abbrev pub paragraphs : List ParagraphInfo
+  paragraphs = info.paragraphs.items

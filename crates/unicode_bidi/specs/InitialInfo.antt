@@ -1,15 +1,25 @@
 -- What the accessors of `InitialInfo` show.
 use Rattle.std.specs.Prelude.{ℕ, List}
 use Rattle.bidi_base.specs.declared.char_data.BidiClass.{BidiClass}
+use Rattle.bidi_base.specs.declared.text.str_text.StrText.{StrText}
 use Rattle.unicode_bidi.specs.declared.initial_info.InitialInfo.{InitialInfo}
 use Rattle.unicode_bidi.specs.declared.paragraph_info.ParagraphInfo.{ParagraphInfo}
 
--- `i.text()`, `i.original_classes()` and `i.paragraphs()`
-abbrev pub text : InitialInfo → List ℕ
-text i = i.text.now
+-- `i.text()`, of UTF-8
+abbrev pub text : {C I L : Type 0} {t : _} {c : _} {i : _} {l : _} → InitialInfo StrText C I L t c i l → List ℕ
+text i = i.text.text.now
 
-abbrev pub original_classes : InitialInfo → List BidiClass
-original_classes i = i.original_classes.items
+module _ {T C I L : Type 0} {t : _} {c : _} {i : _} {l : _} (info : InitialInfo T C I L t c i l) where
+  -- the lengths of the text's characters, and the characters
+  abbrev pub len_of : ℕ → ℕ
+  len_of = t.units
 
-abbrev pub paragraphs : InitialInfo → List ParagraphInfo
-paragraphs i = i.paragraphs.items
+  abbrev pub chars_of : List ℕ
+  chars_of = t.characters info.text
+
+  -- `i.original_classes()` and `i.paragraphs()`
+  abbrev pub original_classes : List BidiClass
+  original_classes = info.original_classes.items
+
+  abbrev pub paragraphs : List ParagraphInfo
+  paragraphs = info.paragraphs.items

@@ -1,7 +1,7 @@
-pub mod Analysis
+pub mod Analysed
 pub mod BidiInfo
+pub mod Engine
 pub mod InitialInfo
-pub mod Lines
 pub mod Paragraph
 pub mod ParagraphBidiInfo
 pub mod ParagraphFlags

@@ -1,20 +1,29 @@
 -- What the accessors of `ParagraphBidiInfo` show.
 use Rattle.std.specs.Prelude.{ℕ, Bool, List}
+use Rattle.bidi_base.specs.Analysed.{AnalysedText}
 use Rattle.bidi_base.specs.declared.char_data.BidiClass.{BidiClass}
+use Rattle.bidi_base.specs.declared.text.str_text.StrText.{StrText}
+use Rattle.unicode_bidi.specs.Analysed as of
 use Rattle.unicode_bidi.specs.declared.paragraph_bidi_info.ParagraphBidiInfo.{ParagraphBidiInfo}
 
--- `i.text()`, `i.original_classes()`, `i.levels()`, `i.paragraph_level()` and `i.is_pure_ltr()`
-abbrev pub text : ParagraphBidiInfo → List ℕ
-text i = i.text.now
+-- `i.text()`, of UTF-8
+abbrev pub text : {C I L : Type 0} {t : _} {c : _} {i : _} {l : _} → ParagraphBidiInfo StrText C I L t c i l → List ℕ
+text i = i.analysed.text.text.now
 
-abbrev pub original_classes : ParagraphBidiInfo → List BidiClass
-original_classes i = i.original_classes.items
+module _ {T C I L : Type 0} {t : _} {c : _} {i : _} {l : _} (info : ParagraphBidiInfo T C I L t c i l) where
+  -- the text, as its characters, with `i.original_classes()` and `i.levels()`
+  abbrev pub analysed : AnalysedText
+  analysed = of.analysed info.analysed
 
-abbrev pub levels : ParagraphBidiInfo → List ℕ
-levels i = i.levels.items
+  -- `i.original_classes()`, `i.levels()`, `i.paragraph_level()` and `i.is_pure_ltr()`
+  abbrev pub original_classes : List BidiClass
+  original_classes = analysed.classes
 
-abbrev pub paragraph_level : ParagraphBidiInfo → ℕ
-paragraph_level i = i.paragraph_level
+  abbrev pub levels : List ℕ
+  levels = analysed.levels
 
-abbrev pub is_pure_ltr : ParagraphBidiInfo → Bool
-is_pure_ltr i = i.is_pure_ltr
+  abbrev pub paragraph_level : ℕ
+  paragraph_level = info.paragraph_level
+
+  abbrev pub is_pure_ltr : Bool
+  is_pure_ltr = info.is_pure_ltr

@@ -5,7 +5,7 @@ use Rattle.bidi_base.specs.declared.char_data.BidiClass.{BidiClass}
 use Rattle.bidi_base.specs.Classes.{is_initiator}
 use Rattle.bidi_base.specs.Direction.{is_pure_ltr}
 use Rattle.bidi_base.specs.Source.{Source}
-use Rattle.unicode_bidi.specs.declared.initial.ParagraphFlags.{ParagraphFlags}
+use Rattle.unicode_bidi.specs.declared.first_walk.ParagraphFlags.{ParagraphFlags}
 
 -- the flags of a paragraph, by its source classes
 abbrev pub flags_of : List BidiClass → ParagraphFlags

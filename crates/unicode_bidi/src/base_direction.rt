@@ -7,8 +7,8 @@ ghost use Rattle.bidi_base.specs.Paragraphs.{paragraphs_of, each_separator};
 ghost use Rattle.bidi_base.specs.Places.{first_or};
 ghost use Rattle.bidi_base.specs.declared.char_data.Direction.TheVariants.{Rtl};
 
-use crate::classes::{is_initiator, is_pdi, is_separator, is_strong};
 use bidi_base::char_data::{BidiClass, Direction};
+use bidi_base::classes::{is_initiator, is_paragraph_separator, is_pdi, is_strong};
 use bidi_base::data_source::BidiDataSource;
 use bidi_base::text::TextSource;
 
@@ -80,7 +80,7 @@ fn find_direction<D: BidiDataSource, T: TextSource>(
         if depth == 0 && is_strong(class) {
             return direction_of(class);
         }
-        if is_separator(class) {
+        if is_paragraph_separator(class) {
             if !full {
                 return Direction::Mixed;
             }

@@ -3,8 +3,8 @@
 ghost use Rattle.std.specs.Prelude.{◌≡◌, ◌<◌, ◌≤◌, length, slice_range, IfOk, map};
 ghost use Rattle.bidi_base.specs.Display.{run_of, visual_runs as visual_runs_from, AreVisualRuns};
 
-use crate::visual_runs::visual_runs_of;
 use bidi_base::level::Level;
+use bidi_lines::visual_runs::visual_runs_of;
 use std::alloc::{AllocError, Global};
 use std::ops::Range;
 

@@ -1,41 +1,40 @@
 // What the algorithm finds out about a text.
-ghost use Rattle.std.specs.Prelude.{◌≡◌, ◌≤◌, IsTrue, IfOk, IfSome, All, slice_range, false};
-ghost use Rattle.std.specs.Char.{len_utf8};
-ghost use Rattle.std.specs.Str.{chars};
+ghost use Rattle.std.specs.Prelude.{◌≡◌, ◌<◌, ◌≤◌, ◌↔◌, IsTrue, IfOk, IfSome, All, map, slice_range, true, false, encode_utf8};
+ghost use Rattle.std.specs.Cow.{cow_str_bytes, IsBorrowedStr};
+ghost use Rattle.bidi_base.specs.Analysed.{IsLineOf, IsPerCharText, IsAnalysis, AreLevelsWithLine, AreRunsOfLine, IsTextOfLine, StaysInOrder, levels_with_line_per_char};
+ghost use Rattle.bidi_base.specs.Display.{run_of};
+ghost use Rattle.bidi_base.specs.Laws.{HasOwnUnits, AreLevelsFrom, BoundaryNeutralsAreAlike, StaysLeftToRight};
+ghost use Rattle.bidi_base.specs.Levels.{has_rtl as has_rtl_of};
+ghost use Rattle.bidi_base.specs.Order.{visual_order, IsVisualOrder, order_by_reversals};
+ghost use Rattle.bidi_base.specs.Paragraphs.{AreParagraphRanges};
+ghost use Rattle.bidi_base.specs.Places.{indexes};
+ghost use Rattle.bidi_base.specs.Stored.{stored_levels};
 ghost use Rattle.bidi_base.specs.Text.{is_per_char, IsLine};
-ghost use Rattle.unicode_bidi.specs.ParagraphInfo.{range_of as paragraph_range};
+ghost use Rattle.unicode_bidi.specs.ParagraphInfo.{level_of, range_of, ranges_of, levels_of};
 
+use crate::analysed::Analysed;
+use crate::engine;
 use crate::paragraph_info::ParagraphInfo;
-use crate::{analysis, visual};
 use bidi_base::char_data::BidiClass;
 use bidi_base::data_source::BidiDataSource;
-use bidi_base::level::{Level, has_rtl};
-use bidi_base::text::StrText;
+use bidi_base::level::Level;
+use bidi_base::text::{StrText, TextSource};
+use bidi_lines::visual_order;
 use std::alloc::{AllocError, Global};
+use std::borrow::CowStr;
+use std::ops::Range;
 
-/// What the algorithm finds out about a text of UTF-8: its paragraphs, and the class and the level
-/// of each character.
+/// What the algorithm finds out about a text: its paragraphs, and the class and the level of each
+/// character.
 #[derive(PartialEq, Debug, Drop)]
-pub struct BidiInfo<'t> {
-    text: &'t str,
-    original_classes: Vec<BidiClass>,
-    levels: Vec<Level>,
+pub struct BidiInfo<T: TextSource> {
+    analysed: Analysed<T>,
     paragraphs: Vec<ParagraphInfo>,
-    ghost classes_per_char: { IsTrue (is_per_char ⟦<BidiClass as PartialEq>⟧.eq len_utf8 (chars text.now) original_classes.items) },
-    ghost levels_per_char: { IsTrue (is_per_char ⟦<Level as PartialEq>⟧.eq len_utf8 (chars text.now) levels.items) },
-    ghost paragraphs_are_lines: { All (λ p. IsLine len_utf8 (chars text.now) (paragraph_range p).start (paragraph_range p).end) paragraphs.items },
+    ghost paragraphs_are_lines: { All (λ p. IsLine T.units (T.characters analysed.text) (range_of p).start (range_of p).end) paragraphs.items },
 }
 
-impl<'t> BidiInfo<'t> {
-    ghost use Rattle.bidi_base.specs.Laws.{HasOwnUnits, AreLevelsFrom, BoundaryNeutralsAreAlike, StaysLeftToRight};
-    ghost use Rattle.bidi_base.specs.Levels.{has_rtl as has_rtl_of};
-    ghost use Rattle.bidi_base.specs.Order.{visual_order, IsVisualOrder, order_by_reversals};
-    ghost use Rattle.bidi_base.specs.Paragraphs.{paragraphs_of, each_separator, ranges_from, AreParagraphRanges};
-    ghost use Rattle.bidi_base.specs.Places.{indexes};
-    ghost use Rattle.bidi_base.specs.Stored.{text_classes, text_levels, stored_levels, paragraph_levels};
-    ghost use Rattle.bidi_base.specs.Text.{per_unit};
-    ghost use Rattle.unicode_bidi.specs.BidiInfo.{text as text_of, original_classes, levels as levels_of_info, paragraphs};
-    ghost use Rattle.unicode_bidi.specs.ParagraphInfo.{level_of, range_of, ranges_of, levels_of};
+impl<'t> BidiInfo<StrText<'t>> {
+    ghost use Rattle.unicode_bidi.specs.BidiInfo.{text as text_of, analysed as analysed_of, paragraphs};
 
     /// Finds the paragraphs of a text (P1) with their levels (P2, P3), the class of each character,
     /// with each FSI resolved (X5c), and its level (X1 to I2). A base level that is given is the
@@ -45,30 +44,23 @@ impl<'t> BidiInfo<'t> {
         data_source: &D,
         text: &'t str,
         default_para_level: Option<Level>,
-    ) -> Result<BidiInfo<'t>, AllocError>
+    ) -> Result<BidiInfo<StrText<'t>>, AllocError>
         requires { IfSome default_para_level (λ level. level ≤ 125) }
         ensures text { IfOk result (λ i. text_of i ≡ text.now) }
-        ensures classes { let pieces = paragraphs_of (each_separator (D.source data_source.now)) (chars text.now) in
-            IfOk result (λ i. original_classes i ≡ per_unit len_utf8 (chars text.now) (text_classes (D.source data_source.now) pieces)) }
-        ensures levels { let pieces = paragraphs_of (each_separator (D.source data_source.now)) (chars text.now) in
-            IfOk result (λ i. levels_of_info i ≡ per_unit len_utf8 (chars text.now) (text_levels (D.source data_source.now) default_para_level pieces)) }
-        ensures ranges { let pieces = paragraphs_of (each_separator (D.source data_source.now)) (chars text.now) in
-            IfOk result (λ i. ranges_of (paragraphs i) ≡ ranges_from len_utf8 0 pieces) }
-        ensures paragraph_levels { let pieces = paragraphs_of (each_separator (D.source data_source.now)) (chars text.now) in
-            IfOk result (λ i. levels_of (paragraphs i) ≡ paragraph_levels (D.source data_source.now) default_para_level pieces) }
+        ensures analysis { IfOk result (λ i. IsAnalysis (D.source data_source.now) default_para_level true (analysed_of i) (ranges_of (paragraphs i)) (levels_of (paragraphs i))) }
 
         // Every unit is in one paragraph, and separators stand at the paragraphs' ends alone.
-        ensures parted { IfOk result (λ i. AreParagraphRanges (D.source data_source.now) len_utf8 (chars text.now) (ranges_of (paragraphs i))) }
+        ensures parted { IfOk result (λ i. let a = analysed_of i in AreParagraphRanges (D.source data_source.now) a.len_of a.chars (ranges_of (paragraphs i))) }
 
         // All units of a character have one class and one level.
-        ensures classes_per_char { IfOk result (λ i. IsTrue (is_per_char ⟦<BidiClass as PartialEq>⟧.eq len_utf8 (chars text.now) (original_classes i))) }
-        ensures levels_per_char { IfOk result (λ i. IsTrue (is_per_char ⟦<Level as PartialEq>⟧.eq len_utf8 (chars text.now) (levels_of_info i))) }
+        ensures per_char { IfOk result (λ i. IsPerCharText (analysed_of i)) }
 
         // No level is below that of its paragraph or above the greatest.
-        ensures bounded { IfOk result (λ i. All (λ p. AreLevelsFrom (level_of p) (slice_range (levels_of_info i) (range_of p).start (range_of p).end)) (paragraphs i)) }
+        ensures bounded { IfOk result (λ i. All (λ p. AreLevelsFrom (level_of p) (slice_range (analysed_of i).levels (range_of p).start (range_of p).end)) (paragraphs i)) }
 
         // Each paragraph has the levels that its characters would have as the whole text.
-        ensures each_by_itself { IfOk result (λ i. All (HasOwnUnits len_utf8 (stored_levels (D.source data_source.now) default_para_level) (chars text.now) (levels_of_info i)) (ranges_of (paragraphs i))) }
+        ensures each_by_itself { IfOk result (λ i. let a = analysed_of i in
+            All (HasOwnUnits a.len_of (stored_levels (D.source data_source.now) default_para_level) a.chars a.levels) (ranges_of (paragraphs i))) }
 
         // Which character of class BN stands at a place changes no level of its paragraph.
         ensures boundary_neutrals_alike { BoundaryNeutralsAreAlike (D.source data_source.now) default_para_level }
@@ -76,50 +68,86 @@ impl<'t> BidiInfo<'t> {
         // A paragraph of level 0 in which nothing can turn the direction has level 0 throughout.
         ensures stays_left_to_right { StaysLeftToRight (D.source data_source.now) default_para_level }
     {
-        let found = analysis::analyse(
-            alloc,
-            data_source,
-            StrText::new(text),
-            default_para_level,
-            true,
-        )?;
-        Ok(BidiInfo {
-            text,
-            original_classes: found.original_classes,
-            levels: found.levels,
-            paragraphs: found.paragraphs,
-        })
+        BidiInfo::of_text(alloc, data_source, StrText::new(text), default_para_level)
     }
 
     /// The text.
     pub fn text(&self) -> &'t str
         ensures { result.now ≡ text_of self.now }
     {
-        self.text
+        self.analysed.text().as_str()
     }
 
-    /// The class of each byte's character. An FSI whose isolate has a deciding character stands
+    /// The text of the line from left to right: its characters in the order of L2, by their levels
+    /// after L1. Neither combining marks (L3) nor mirrored characters (L4) are seen to. The text is
+    /// borrowed, and takes no memory, exactly where no level of the line is odd after L1.
+    pub fn reorder_line(
+        &self,
+        alloc: Global,
+        para: &ParagraphInfo,
+        line: Range<usize>,
+    ) -> Result<CowStr<'t>, AllocError>
+        requires { IsLineOf (analysed_of self.now) line }
+        ensures text { IfOk result (λ c. IsTextOfLine encode_utf8 (text_of self.now) (analysed_of self.now) (level_of para.now) line (cow_str_bytes c)) }
+        ensures borrowed { IfOk result (λ c. IsBorrowedStr c ↔ StaysInOrder (analysed_of self.now) (level_of para.now) line) }
+    {
+        self.analysed.reorder_line(alloc, para.level(), line)
+    }
+}
+
+// A line goes from one unit up to another, both of which have to begin a character or be the text's
+// length (see `is_line`). It takes its paragraph's level from the paragraph that is handed in,
+// whichever that is.
+impl<T: TextSource> BidiInfo<T> {
+    ghost use Rattle.unicode_bidi.specs.BidiInfo.{analysed as analysed_of, paragraphs, original_classes, levels as levels_of_info};
+
+    // The same of any text.
+    pub(crate) fn of_text<D: BidiDataSource>(
+        alloc: Global,
+        data_source: &D,
+        text: T,
+        default_para_level: Option<Level>,
+    ) -> Result<BidiInfo<T>, AllocError>
+        requires { IfSome default_para_level (λ level. level ≤ 125) }
+        ensures text { IfOk result (λ i. i.analysed.text ≡ text) }
+        ensures analysis { IfOk result (λ i. IsAnalysis (D.source data_source.now) default_para_level true (analysed_of i) (ranges_of (paragraphs i)) (levels_of (paragraphs i))) }
+        ensures parted { IfOk result (λ i. let a = analysed_of i in AreParagraphRanges (D.source data_source.now) a.len_of a.chars (ranges_of (paragraphs i))) }
+        ensures per_char { IfOk result (λ i. IsPerCharText (analysed_of i)) }
+        ensures bounded { IfOk result (λ i. All (λ p. AreLevelsFrom (level_of p) (slice_range (analysed_of i).levels (range_of p).start (range_of p).end)) (paragraphs i)) }
+        ensures each_by_itself { IfOk result (λ i. let a = analysed_of i in
+            All (HasOwnUnits a.len_of (stored_levels (D.source data_source.now) default_para_level) a.chars a.levels) (ranges_of (paragraphs i))) }
+        ensures boundary_neutrals_alike { BoundaryNeutralsAreAlike (D.source data_source.now) default_para_level }
+        ensures stays_left_to_right { StaysLeftToRight (D.source data_source.now) default_para_level }
+    {
+        let found = engine::analyse(alloc, data_source, text, default_para_level, true)?;
+        Ok(BidiInfo {
+            analysed: Analysed::new(text, found.original_classes, found.levels),
+            paragraphs: found.paragraphs,
+        })
+    }
+
+    /// The class of each unit's character. An FSI whose isolate has a deciding character stands
     /// here as RLI or LRI.
     pub fn original_classes(&self) -> &[BidiClass]
         ensures classes { result.now ≡ original_classes self.now }
-        ensures per_char { IsTrue (is_per_char ⟦<BidiClass as PartialEq>⟧.eq len_utf8 (chars (text_of self.now)) result.now) }
+        ensures per_char { let a = analysed_of self.now in IsTrue (is_per_char ⟦<BidiClass as PartialEq>⟧.eq a.len_of a.chars result.now) }
     {
-        self.original_classes.as_slice()
+        self.analysed.original_classes()
     }
 
-    /// The level of each byte's character, before L1. A character that X9 removes has the level of
+    /// The level of each unit's character, before L1. A character that X9 removes has the level of
     /// the character before it, the paragraph's first one the paragraph level.
     pub fn levels(&self) -> &[Level]
         ensures levels { result.now ≡ levels_of_info self.now }
-        ensures per_char { IsTrue (is_per_char ⟦<Level as PartialEq>⟧.eq len_utf8 (chars (text_of self.now)) result.now) }
+        ensures per_char { let a = analysed_of self.now in IsTrue (is_per_char ⟦<Level as PartialEq>⟧.eq a.len_of a.chars result.now) }
     {
-        self.levels.as_slice()
+        self.analysed.levels()
     }
 
     /// The paragraphs, in order. Together they take the whole text.
     pub fn paragraphs(&self) -> &[ParagraphInfo]
         ensures paragraphs { result.now ≡ paragraphs self.now }
-        ensures lines { All (λ p. IsLine len_utf8 (chars (text_of self.now)) (range_of p).start (range_of p).end) result.now }
+        ensures lines { All (λ p. IsLineOf (analysed_of self.now) (range_of p)) result.now }
     {
         self.paragraphs.as_slice()
     }
@@ -128,7 +156,51 @@ impl<'t> BidiInfo<'t> {
     pub fn has_rtl(&self) -> bool
         ensures { result ≡ has_rtl_of (levels_of_info self.now) }
     {
-        has_rtl(self.levels.as_slice())
+        self.analysed.has_rtl()
+    }
+
+    /// The level of each unit of the whole text, where those of the line are as L1 leaves them and
+    /// all others are the stored ones.
+    pub fn reordered_levels(
+        &self,
+        alloc: Global,
+        para: &ParagraphInfo,
+        line: Range<usize>,
+    ) -> Result<Vec<Level>, AllocError>
+        requires { IsLineOf (analysed_of self.now) line }
+        ensures { IfOk result (λ v. AreLevelsWithLine (analysed_of self.now) (level_of para.now) line v.items) }
+    {
+        self.analysed.reordered_levels(alloc, para.level(), line)
+    }
+
+    /// The same with one level for each character of the whole text.
+    pub fn reordered_levels_per_char(
+        &self,
+        alloc: Global,
+        para: &ParagraphInfo,
+        line: Range<usize>,
+    ) -> Result<Vec<Level>, AllocError>
+        requires { IsLineOf (analysed_of self.now) line }
+        ensures { IfOk result (λ v. v.items ≡ levels_with_line_per_char (analysed_of self.now) (level_of para.now) line) }
+    {
+        self.analysed
+            .reordered_levels_per_char(alloc, para.level(), line)
+    }
+
+    /// The levels of `reordered_levels`, and the level runs (BD7) of the line by them, in units of
+    /// the text, from left to right by L2. The line must not be empty.
+    pub fn visual_runs(
+        &self,
+        alloc: Global,
+        para: &ParagraphInfo,
+        line: Range<usize>,
+    ) -> Result<(Vec<Level>, Vec<Range<usize>>), AllocError>
+        requires is_line { IsLineOf (analysed_of self.now) line }
+        requires not_empty { line.start < line.end }
+        ensures levels { IfOk result (λ r. AreLevelsWithLine (analysed_of self.now) (level_of para.now) line r.0.items) }
+        ensures runs { IfOk result (λ r. AreRunsOfLine (analysed_of self.now) (level_of para.now) line (map run_of r.1.items)) }
+    {
+        self.analysed.visual_runs(alloc, para.level(), line)
     }
 
     /// The visual order of a line's items by L2: at each place from the left, the index in `levels`
@@ -140,6 +212,6 @@ impl<'t> BidiInfo<'t> {
         ensures still { has_rtl_of levels.now ≡ false → IfOk result (λ v. v.items ≡ indexes levels.now) }
         ensures reversals { IfOk result (λ v. v.items ≡ order_by_reversals levels.now) }
     {
-        visual::reorder_visual(alloc, levels)
+        visual_order::reorder_visual(alloc, levels)
     }
 }

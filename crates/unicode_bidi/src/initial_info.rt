@@ -1,33 +1,30 @@
 // The paragraphs and the stored classes of a text.
 ghost use Rattle.std.specs.Prelude.{◌≡◌, IsTrue, IfOk, true};
-ghost use Rattle.std.specs.Char.{len_utf8};
-ghost use Rattle.std.specs.Str.{chars};
-ghost use Rattle.bidi_base.specs.Text.{is_per_char};
+ghost use Rattle.bidi_base.specs.Paragraphs.{pieces_of, ranges_from, AreParagraphRanges};
+ghost use Rattle.bidi_base.specs.Stored.{text_classes, paragraph_levels};
+ghost use Rattle.bidi_base.specs.Text.{is_per_char, per_unit};
+ghost use Rattle.unicode_bidi.specs.ParagraphInfo.{ranges_of, levels_of};
 
-use crate::initial;
+use crate::first_walk;
 use crate::paragraph_info::ParagraphInfo;
 use bidi_base::char_data::BidiClass;
 use bidi_base::data_source::BidiDataSource;
 use bidi_base::level::Level;
-use bidi_base::text::StrText;
+use bidi_base::text::{StrText, TextSource};
 use std::alloc::{AllocError, Global};
 
-/// The paragraphs of a text of UTF-8 and the classes of its characters: what there is before any
-/// level is resolved.
+/// The paragraphs of a text and the classes of its characters: what there is before any level is
+/// resolved.
 #[derive(PartialEq, Debug, Drop)]
-pub struct InitialInfo<'t> {
-    text: &'t str,
+pub struct InitialInfo<T: TextSource> {
+    text: T,
     original_classes: Vec<BidiClass>,
     paragraphs: Vec<ParagraphInfo>,
-    ghost classes_per_char: { IsTrue (is_per_char ⟦<BidiClass as PartialEq>⟧.eq len_utf8 (chars text.now) original_classes.items) },
+    ghost classes_per_char: { IsTrue (is_per_char ⟦<BidiClass as PartialEq>⟧.eq T.units (T.characters text) original_classes.items) },
 }
 
-impl<'t> InitialInfo<'t> {
-    ghost use Rattle.bidi_base.specs.Paragraphs.{paragraphs_of, each_separator, ranges_from, AreParagraphRanges};
-    ghost use Rattle.bidi_base.specs.Stored.{text_classes, paragraph_levels};
-    ghost use Rattle.bidi_base.specs.Text.{per_unit};
-    ghost use Rattle.unicode_bidi.specs.ParagraphInfo.{ranges_of, levels_of};
-    ghost use Rattle.unicode_bidi.specs.InitialInfo.{text as text_of, original_classes, paragraphs};
+impl<'t> InitialInfo<StrText<'t>> {
+    ghost use Rattle.unicode_bidi.specs.InitialInfo.{text as text_of, len_of, chars_of, original_classes, paragraphs};
 
     /// Finds the paragraphs of a text (P1) with their levels (P2, P3), and the class of each
     /// character, with each FSI resolved (X5c). A base level that is given, which may be any, is
@@ -37,26 +34,51 @@ impl<'t> InitialInfo<'t> {
         data_source: &D,
         text: &'t str,
         default_para_level: Option<Level>,
-    ) -> Result<InitialInfo<'t>, AllocError>
+    ) -> Result<InitialInfo<StrText<'t>>, AllocError>
         ensures text { IfOk result (λ i. text_of i ≡ text.now) }
-        ensures classes { let pieces = paragraphs_of (each_separator (D.source data_source.now)) (chars text.now) in
-            IfOk result (λ i. original_classes i ≡ per_unit len_utf8 (chars text.now) (text_classes (D.source data_source.now) pieces)) }
-        ensures ranges { let pieces = paragraphs_of (each_separator (D.source data_source.now)) (chars text.now) in
-            IfOk result (λ i. ranges_of (paragraphs i) ≡ ranges_from len_utf8 0 pieces) }
-        ensures levels { let pieces = paragraphs_of (each_separator (D.source data_source.now)) (chars text.now) in
-            IfOk result (λ i. levels_of (paragraphs i) ≡ paragraph_levels (D.source data_source.now) default_para_level pieces) }
+        ensures classes { IfOk result (λ i. let pieces = pieces_of true (D.source data_source.now) (chars_of i) in
+            original_classes i ≡ per_unit (len_of i) (chars_of i) (text_classes (D.source data_source.now) pieces)) }
+        ensures ranges { IfOk result (λ i. let pieces = pieces_of true (D.source data_source.now) (chars_of i) in
+            ranges_of (paragraphs i) ≡ ranges_from (len_of i) 0 pieces) }
+        ensures levels { IfOk result (λ i. let pieces = pieces_of true (D.source data_source.now) (chars_of i) in
+            levels_of (paragraphs i) ≡ paragraph_levels (D.source data_source.now) default_para_level pieces) }
 
         // Every unit is in one paragraph, and separators stand at the paragraphs' ends alone.
-        ensures parted { IfOk result (λ i. AreParagraphRanges (D.source data_source.now) len_utf8 (chars text.now) (ranges_of (paragraphs i))) }
-        ensures per_char { IfOk result (λ i. IsTrue (is_per_char ⟦<BidiClass as PartialEq>⟧.eq len_utf8 (chars text.now) (original_classes i))) }
+        ensures parted { IfOk result (λ i. AreParagraphRanges (D.source data_source.now) (len_of i) (chars_of i) (ranges_of (paragraphs i))) }
+        ensures per_char { IfOk result (λ i. IsTrue (is_per_char ⟦<BidiClass as PartialEq>⟧.eq (len_of i) (chars_of i) (original_classes i))) }
     {
-        let found = initial::compute(
-            alloc,
-            data_source,
-            StrText::new(text),
-            default_para_level,
-            true,
-        )?;
+        InitialInfo::of_text(alloc, data_source, StrText::new(text), default_para_level)
+    }
+
+    /// The text.
+    pub fn text(&self) -> &'t str
+        ensures { result.now ≡ text_of self.now }
+    {
+        self.text.as_str()
+    }
+}
+
+impl<T: TextSource> InitialInfo<T> {
+    ghost use Rattle.unicode_bidi.specs.InitialInfo.{len_of, chars_of, original_classes, paragraphs};
+
+    // The same of any text.
+    pub(crate) fn of_text<D: BidiDataSource>(
+        alloc: Global,
+        data_source: &D,
+        text: T,
+        default_para_level: Option<Level>,
+    ) -> Result<InitialInfo<T>, AllocError>
+        ensures text { IfOk result (λ i. i.text ≡ text) }
+        ensures classes { IfOk result (λ i. let pieces = pieces_of true (D.source data_source.now) (chars_of i) in
+            original_classes i ≡ per_unit (len_of i) (chars_of i) (text_classes (D.source data_source.now) pieces)) }
+        ensures ranges { IfOk result (λ i. let pieces = pieces_of true (D.source data_source.now) (chars_of i) in
+            ranges_of (paragraphs i) ≡ ranges_from (len_of i) 0 pieces) }
+        ensures levels { IfOk result (λ i. let pieces = pieces_of true (D.source data_source.now) (chars_of i) in
+            levels_of (paragraphs i) ≡ paragraph_levels (D.source data_source.now) default_para_level pieces) }
+        ensures parted { IfOk result (λ i. AreParagraphRanges (D.source data_source.now) (len_of i) (chars_of i) (ranges_of (paragraphs i))) }
+        ensures per_char { IfOk result (λ i. IsTrue (is_per_char ⟦<BidiClass as PartialEq>⟧.eq (len_of i) (chars_of i) (original_classes i))) }
+    {
+        let found = first_walk::walk(alloc, data_source, text, default_para_level, true)?;
         Ok(InitialInfo {
             text,
             original_classes: found.original_classes,
@@ -64,18 +86,11 @@ impl<'t> InitialInfo<'t> {
         })
     }
 
-    /// The text.
-    pub fn text(&self) -> &'t str
-        ensures { result.now ≡ text_of self.now }
-    {
-        self.text
-    }
-
-    /// The class of each byte's character. An FSI whose isolate has a deciding character stands
+    /// The class of each unit's character. An FSI whose isolate has a deciding character stands
     /// here as RLI or LRI.
     pub fn original_classes(&self) -> &[BidiClass]
         ensures classes { result.now ≡ original_classes self.now }
-        ensures per_char { IsTrue (is_per_char ⟦<BidiClass as PartialEq>⟧.eq len_utf8 (chars (text_of self.now)) result.now) }
+        ensures per_char { IsTrue (is_per_char ⟦<BidiClass as PartialEq>⟧.eq (len_of self.now) (chars_of self.now) result.now) }
     {
         self.original_classes.as_slice()
     }

@@ -1,24 +1,19 @@
 //! The Unicode Bidirectional Algorithm (UAX #9), proved.
 #![tactic(auto)]
 
-mod analysis;
+mod analysed;
 mod base_direction;
-mod classes;
 pub mod deprecated;
+mod engine;
+mod first_walk;
 mod info;
-mod info_lines;
-mod initial;
 mod initial_info;
 mod level_direction;
-mod level_resolver;
 mod line_text;
-mod lines;
 mod paragraph;
 mod paragraph_bidi_info;
-mod paragraph_bidi_info_lines;
 mod paragraph_info;
-mod visual;
-mod visual_runs;
+mod paragraph_levels;
 
 pub use base_direction::{
     get_base_direction_full_with_data_source, get_base_direction_with_data_source,
@@ -26,12 +21,21 @@ pub use base_direction::{
 pub use bidi_base::char_data::{BidiClass, Direction};
 pub use bidi_base::data_source::BidiDataSource;
 pub use bidi_base::level::{LTR_LEVEL, Level, RTL_LEVEL};
+use bidi_base::text::StrText;
 pub use bidi_base::text::{TextSource, Utf8IndexLenIter};
 pub use bidi_base::{char_data, data_source, format_chars, level, sample, text};
 pub use bidi_rules::prepare::{LevelRun, LevelRunVec};
 pub use bidi_rules::{explicit, implicit, prepare};
-pub use info::BidiInfo;
-pub use initial_info::InitialInfo;
-pub use paragraph::Paragraph;
-pub use paragraph_bidi_info::ParagraphBidiInfo;
 pub use paragraph_info::ParagraphInfo;
+
+/// What the algorithm finds out about a text of UTF-8, whose units are bytes.
+pub type BidiInfo<'t> = info::BidiInfo<StrText<'t>>;
+
+/// The same where the text is one paragraph.
+pub type ParagraphBidiInfo<'t> = paragraph_bidi_info::ParagraphBidiInfo<StrText<'t>>;
+
+/// What there is before any level is resolved.
+pub type InitialInfo<'t> = initial_info::InitialInfo<StrText<'t>>;
+
+/// A paragraph of a text of UTF-8.
+pub type Paragraph<'a, 't> = paragraph::Paragraph<'a, StrText<'t>>;

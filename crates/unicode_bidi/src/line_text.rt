@@ -1,19 +1,17 @@
 // The text of a line from left to right (L2).
-ghost use Rattle.std.specs.Prelude.{◌≡◌, ℕ, ◌+◌, ◌<◌, ◌≤◌, ◌++◌, List, length, slice_range, reverse, flat_map, map, IfOk, OnOk, All, ◌↔◌, false, string_bytes, encode_utf8};
-ghost use Rattle.std.specs.Char.{len_utf8};
+ghost use Rattle.std.specs.Prelude.{◌≡◌, ℕ, ◌+◌, ◌<◌, ◌≤◌, ◌++◌, List, length, slice_range, reverse, flat_map, map, IfOk, OnOk, All, ◌↔◌, string_bytes, encode_utf8};
 ghost use Rattle.std.specs.Cow.{cow_str_bytes, IsBorrowedStr};
 ghost use Rattle.std.specs.Str.{chars};
+ghost use Rattle.bidi_base.specs.Analysed.{IsLineOf, IsTextOfLine, StaysInOrder};
 ghost use Rattle.bidi_base.specs.Display.{run_of, run_text_in, line_text};
-ghost use Rattle.bidi_base.specs.Levels.{has_rtl};
-ghost use Rattle.bidi_base.specs.Line.{levels_of_line as levels_of_line_of};
-ghost use Rattle.bidi_base.specs.Text.{text_len, subrange, per_char, IsLine, IsPerChar};
+ghost use Rattle.bidi_base.specs.Text.{text_len, subrange, per_char, IsLine};
 ghost use Rattle.bidi_base.specs.declared.char_data.BidiClass.TheVariants.{L};
 
-use crate::lines::{levels_of_line, line_has_rtl};
-use crate::visual_runs::visual_runs_of;
-use bidi_base::char_data::BidiClass;
+use crate::analysed::Analysed;
 use bidi_base::level::Level;
 use bidi_base::text::{StrText, TextSource};
+use bidi_lines::line_levels::{levels_of_line, line_has_rtl};
+use bidi_lines::visual_runs::visual_runs_of;
 use std::alloc::{AllocError, Global};
 use std::borrow::CowStr;
 use std::ops::Range;
@@ -65,28 +63,29 @@ fn write_runs<T: TextSource, W: RunWriter<T>>(
     Ok(())
 }
 
-// Writes a line of a text from left to right, from the stored classes and levels of the whole text.
-fn write_line<T: TextSource, W: RunWriter<T>>(
-    alloc: Global,
-    out: &mut W,
-    text: T,
-    level: Level,
-    classes: &[BidiClass],
-    levels: &[Level],
-    line: Range<usize>,
-) -> Result<(), AllocError>
-    requires units { length (W.units_of text) ≡ text_len T.units (T.characters text) }
-    requires classes_per_char { IsPerChar T.units (T.characters text) classes.now }
-    requires levels_per_char { IsPerChar T.units (T.characters text) levels.now }
-    requires is_line { IsLine T.units (T.characters text) line.start line.end }
-    ensures { OnOk result (W.written out.new ≡ W.written out.old
-        ++ line_text T.units W.encode (T.characters text) (W.units_of text) level
-        (per_char L T.units (T.characters text) classes.now) (per_char 0 T.units (T.characters text) levels.now) line.start line.end) }
-{
-    let start = line.start;
-    let shown = levels_of_line(alloc, level, classes, levels, line)?;
-    let runs = visual_runs_of(alloc, shown.as_slice(), start)?;
-    write_runs(out, text, start, shown.as_slice(), runs.as_slice())
+impl<T: TextSource> Analysed<T> {
+    ghost use Rattle.unicode_bidi.specs.Analysed.{analysed, text_of};
+
+    // Writes a line from left to right.
+    fn write_line<W: RunWriter<T>>(
+        &self,
+        alloc: Global,
+        out: &mut W,
+        level: Level,
+        line: Range<usize>,
+    ) -> Result<(), AllocError>
+        requires units { length (W.units_of (text_of self.now)) ≡ text_len T.units (T.characters (text_of self.now)) }
+        requires is_line { IsLineOf (analysed self.now) line }
+        ensures { let a = analysed self.now in OnOk result (W.written out.new ≡ W.written out.old
+            ++ line_text a.len_of W.encode a.chars (W.units_of (text_of self.now)) level
+            (per_char L a.len_of a.chars a.classes) (per_char 0 a.len_of a.chars a.levels) line.start line.end) }
+    {
+        let start = line.start;
+        let classes = self.original_classes();
+        let shown = levels_of_line(alloc, level, classes, self.levels(), line)?;
+        let runs = visual_runs_of(alloc, shown.as_slice(), start)?;
+        write_runs(out, self.text(), start, shown.as_slice(), runs.as_slice())
+    }
 }
 
 // Appends the characters of a text, last first.
@@ -116,37 +115,30 @@ impl<'t> RunWriter<StrText<'t>> for String {
     }
 }
 
-// The text of a line of UTF-8 from left to right, from the stored classes and levels of the whole
-// text's units. It is borrowed exactly where no level of the line is odd after L1.
-pub(crate) fn reorder_line<'t>(
-    alloc: Global,
-    text: &'t str,
-    level: Level,
-    classes: &[BidiClass],
-    levels: &[Level],
-    line: Range<usize>,
-) -> Result<CowStr<'t>, AllocError>
-    requires classes_per_char { IsPerChar len_utf8 (chars text.now) classes.now }
-    requires levels_per_char { IsPerChar len_utf8 (chars text.now) levels.now }
-    requires is_line { IsLine len_utf8 (chars text.now) line.start line.end }
-    ensures text { IfOk result (λ c. cow_str_bytes c
-        ≡ line_text len_utf8 encode_utf8 (chars text.now) text.now level
-        (per_char L len_utf8 (chars text.now) classes.now) (per_char 0 len_utf8 (chars text.now) levels.now) line.start line.end) }
-    ensures borrowed { IfOk result (λ c. IsBorrowedStr c ↔ (has_rtl (levels_of_line_of level classes.now levels.now line.start line.end) ≡ false)) }
-{
-    let (start, end) = (line.start, line.end);
-    if !line_has_rtl(level, &classes[start..end], &levels[start..end]) {
-        return Ok(CowStr::Borrowed(&text[line]));
+impl<'t> Analysed<StrText<'t>> {
+    ghost use Rattle.unicode_bidi.specs.Analysed.{analysed, text_of};
+
+    /// The text of a line of UTF-8 from left to right. It is borrowed exactly where no level of the
+    /// line is odd after L1.
+    pub(crate) fn reorder_line(
+        &self,
+        alloc: Global,
+        level: Level,
+        line: Range<usize>,
+    ) -> Result<CowStr<'t>, AllocError>
+        requires { IsLineOf (analysed self.now) line }
+        ensures text { IfOk result (λ c. IsTextOfLine encode_utf8 (text_of self.now).text.now (analysed self.now) level line (cow_str_bytes c)) }
+        ensures borrowed { IfOk result (λ c. IsBorrowedStr c ↔ StaysInOrder (analysed self.now) level line) }
+    {
+        let (start, end) = (line.start, line.end);
+        let text = self.text().as_str();
+        let classes = self.original_classes();
+        let levels = self.levels();
+        if !line_has_rtl(level, &classes[start..end], &levels[start..end]) {
+            return Ok(CowStr::Borrowed(&text[line]));
+        }
+        let mut out = String::with_capacity(alloc, end - start)?;
+        self.write_line(alloc, &mut out, level, line)?;
+        Ok(CowStr::Owned(out))
     }
-    let mut out = String::with_capacity(alloc, end - start)?;
-    write_line(
-        alloc,
-        &mut out,
-        StrText::new(text),
-        level,
-        classes,
-        levels,
-        line,
-    )?;
-    Ok(CowStr::Owned(out))
 }

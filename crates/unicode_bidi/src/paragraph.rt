@@ -1,27 +1,28 @@
 // One paragraph of a text.
 ghost use Rattle.std.specs.Prelude.{◌≡◌, ◌+◌, ◌<◌, ◌≤◌, length, slice_index, slice_range};
+ghost use Rattle.bidi_base.specs.Direction.{direction_of_levels};
+ghost use Rattle.unicode_bidi.specs.BidiInfo.{levels as levels_of_info};
+ghost use Rattle.unicode_bidi.specs.ParagraphInfo.{range_of};
 
 use crate::info::BidiInfo;
 use crate::level_direction::direction_of;
 use crate::paragraph_info::ParagraphInfo;
 use bidi_base::char_data::Direction;
 use bidi_base::level::Level;
+use bidi_base::text::TextSource;
 
 /// A paragraph together with what was found out about its text.
 #[derive(Debug, Drop)]
-pub struct Paragraph<'a, 't> {
-    info: &'a BidiInfo<'t>,
+pub struct Paragraph<'a, T: TextSource> {
+    info: &'a BidiInfo<T>,
     para: &'a ParagraphInfo,
 }
 
-impl<'a, 't> Paragraph<'a, 't> {
-    ghost use Rattle.bidi_base.specs.Direction.{direction_of_levels};
-    ghost use Rattle.unicode_bidi.specs.BidiInfo.{levels as levels_of_info};
+impl<'a, T: TextSource> Paragraph<'a, T> {
     ghost use Rattle.unicode_bidi.specs.Paragraph.{info_of, para_of};
-    ghost use Rattle.unicode_bidi.specs.ParagraphInfo.{range_of};
 
     /// A paragraph of this text, or any range of it with a level.
-    pub fn new(info: &'a BidiInfo<'t>, para: &'a ParagraphInfo) -> Paragraph<'a, 't>
+    pub fn new(info: &'a BidiInfo<T>, para: &'a ParagraphInfo) -> Paragraph<'a, T>
         ensures info { info_of result ≡ info.now }
         ensures para { para_of result ≡ para.now }
     {
@@ -29,7 +30,7 @@ impl<'a, 't> Paragraph<'a, 't> {
     }
 
     /// What was found out about the text.
-    pub fn info(&self) -> &'a BidiInfo<'t>
+    pub fn info(&self) -> &'a BidiInfo<T>
         ensures { result.now ≡ info_of self.now }
     {
         self.info
@@ -53,7 +54,7 @@ impl<'a, 't> Paragraph<'a, 't> {
         direction_of(&info.levels()[para.range()])
     }
 
-    /// The level of the character at a byte, counted from the paragraph's start. The byte must lie
+    /// The level of the character at a unit, counted from the paragraph's start. The unit must lie
     /// in the text.
     pub fn level_at(&self, pos: usize) -> Level
         requires { (range_of (para_of self.now)).start + pos < length (levels_of_info (info_of self.now)) }

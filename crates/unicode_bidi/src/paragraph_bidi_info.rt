@@ -1,40 +1,37 @@
 // What the algorithm finds out about a text that is one paragraph.
-ghost use Rattle.std.specs.Prelude.{◌≡◌, ◌≤◌, IsTrue, IfOk, IfSome, map, false};
-ghost use Rattle.std.specs.Char.{len_utf8};
-ghost use Rattle.std.specs.Str.{chars};
+ghost use Rattle.std.specs.Prelude.{◌≡◌, ◌<◌, ◌≤◌, ◌↔◌, IsTrue, IfOk, IfSome, map, false, encode_utf8};
+ghost use Rattle.std.specs.Cow.{cow_str_bytes, IsBorrowedStr};
+ghost use Rattle.bidi_base.specs.Analysed.{IsLineOf, IsPerCharText, IsParagraphAnalysis, AreLevelsWithLine, AreRunsOfLine, IsTextOfLine, StaysInOrder, levels_with_line_per_char};
+ghost use Rattle.bidi_base.specs.Direction.{direction_of_levels};
+ghost use Rattle.bidi_base.specs.Display.{run_of};
+ghost use Rattle.bidi_base.specs.Laws.{AreLevelsFrom, BoundaryNeutralsAreAlike, StaysLeftToRight};
+ghost use Rattle.bidi_base.specs.Levels.{has_rtl as has_rtl_of};
+ghost use Rattle.bidi_base.specs.Order.{visual_order, IsVisualOrder, order_by_reversals};
+ghost use Rattle.bidi_base.specs.Places.{indexes};
 ghost use Rattle.bidi_base.specs.Text.{is_per_char};
 
-use crate::level_direction::direction_of;
-use crate::{analysis, visual};
+use crate::analysed::Analysed;
+use crate::engine;
 use bidi_base::char_data::{BidiClass, Direction};
 use bidi_base::data_source::BidiDataSource;
-use bidi_base::level::{Level, has_rtl};
-use bidi_base::text::StrText;
+use bidi_base::level::Level;
+use bidi_base::text::{StrText, TextSource};
+use bidi_lines::visual_order;
 use std::alloc::{AllocError, Global};
+use std::borrow::CowStr;
+use std::ops::Range;
 
-/// What the algorithm finds out about a text of UTF-8 that is taken as one paragraph, whatever
-/// separators stand in it.
+/// What the algorithm finds out about a text that is taken as one paragraph, whatever separators
+/// stand in it.
 #[derive(PartialEq, Debug, Drop)]
-pub struct ParagraphBidiInfo<'t> {
-    text: &'t str,
-    original_classes: Vec<BidiClass>,
-    levels: Vec<Level>,
+pub struct ParagraphBidiInfo<T: TextSource> {
+    analysed: Analysed<T>,
     paragraph_level: Level,
     is_pure_ltr: bool,
-    ghost classes_per_char: { IsTrue (is_per_char ⟦<BidiClass as PartialEq>⟧.eq len_utf8 (chars text.now) original_classes.items) },
-    ghost levels_per_char: { IsTrue (is_per_char ⟦<Level as PartialEq>⟧.eq len_utf8 (chars text.now) levels.items) },
 }
 
-impl<'t> ParagraphBidiInfo<'t> {
-    ghost use Rattle.bidi_base.specs.Direction.{direction_of_levels, is_pure_ltr as is_pure_ltr_of};
-    ghost use Rattle.bidi_base.specs.Isolates.{paragraph_level as paragraph_level_of, stored_classes};
-    ghost use Rattle.bidi_base.specs.Laws.{AreLevelsFrom, BoundaryNeutralsAreAlike, StaysLeftToRight};
-    ghost use Rattle.bidi_base.specs.Levels.{has_rtl as has_rtl_of};
-    ghost use Rattle.bidi_base.specs.Order.{visual_order, IsVisualOrder, order_by_reversals};
-    ghost use Rattle.bidi_base.specs.Places.{indexes};
-    ghost use Rattle.bidi_base.specs.Stored.{stored_levels};
-    ghost use Rattle.bidi_base.specs.Text.{per_unit};
-    ghost use Rattle.unicode_bidi.specs.ParagraphBidiInfo.{text as text_of, original_classes, levels as levels_of_info, paragraph_level, is_pure_ltr};
+impl<'t> ParagraphBidiInfo<StrText<'t>> {
+    ghost use Rattle.unicode_bidi.specs.ParagraphBidiInfo.{text as text_of, analysed as analysed_of, levels as levels_of_info, paragraph_level, is_pure_ltr};
 
     /// Finds the level of a text that is one paragraph (P2, P3), the class of each character, with
     /// each FSI resolved (X5c), and its level (X1 to I2). A base level that is given is the level
@@ -44,20 +41,13 @@ impl<'t> ParagraphBidiInfo<'t> {
         data_source: &D,
         text: &'t str,
         default_para_level: Option<Level>,
-    ) -> Result<ParagraphBidiInfo<'t>, AllocError>
+    ) -> Result<ParagraphBidiInfo<StrText<'t>>, AllocError>
         requires { IfSome default_para_level (λ level. level ≤ 125) }
         ensures text { IfOk result (λ i. text_of i ≡ text.now) }
-        ensures classes { let source = D.source data_source.now in
-            IfOk result (λ i. original_classes i ≡ per_unit len_utf8 (chars text.now) (stored_classes (map source.class_of (chars text.now)))) }
-        ensures levels { IfOk result (λ i. levels_of_info i ≡ per_unit len_utf8 (chars text.now) (stored_levels (D.source data_source.now) default_para_level (chars text.now))) }
-        ensures paragraph_level { let source = D.source data_source.now in
-            IfOk result (λ i. paragraph_level i ≡ paragraph_level_of default_para_level (map source.class_of (chars text.now))) }
-        ensures pure_ltr { let source = D.source data_source.now in
-            IfOk result (λ i. is_pure_ltr i ≡ is_pure_ltr_of (map source.class_of (chars text.now))) }
+        ensures analysis { IfOk result (λ i. IsParagraphAnalysis (D.source data_source.now) default_para_level (analysed_of i) (paragraph_level i) (is_pure_ltr i)) }
 
         // All units of a character have one class and one level.
-        ensures classes_per_char { IfOk result (λ i. IsTrue (is_per_char ⟦<BidiClass as PartialEq>⟧.eq len_utf8 (chars text.now) (original_classes i))) }
-        ensures levels_per_char { IfOk result (λ i. IsTrue (is_per_char ⟦<Level as PartialEq>⟧.eq len_utf8 (chars text.now) (levels_of_info i))) }
+        ensures per_char { IfOk result (λ i. IsPerCharText (analysed_of i)) }
 
         // No level is below that of the paragraph or above the greatest.
         ensures bounded { IfOk result (λ i. AreLevelsFrom (paragraph_level i) (levels_of_info i)) }
@@ -68,45 +58,73 @@ impl<'t> ParagraphBidiInfo<'t> {
         // A paragraph of level 0 in which nothing can turn the direction has level 0 throughout.
         ensures stays_left_to_right { StaysLeftToRight (D.source data_source.now) default_para_level }
     {
-        let found = analysis::analyse(
-            alloc,
-            data_source,
-            StrText::new(text),
-            default_para_level,
-            false,
-        )?;
-        Ok(ParagraphBidiInfo {
-            text,
-            original_classes: found.original_classes,
-            levels: found.levels,
-            paragraph_level: found.paragraphs[0].level(),
-            is_pure_ltr: found.flags[0].is_pure_ltr,
-        })
+        ParagraphBidiInfo::of_text(alloc, data_source, StrText::new(text), default_para_level)
     }
 
     /// The text.
     pub fn text(&self) -> &'t str
         ensures { result.now ≡ text_of self.now }
     {
-        self.text
+        self.analysed.text().as_str()
     }
 
-    /// The class of each byte's character. An FSI whose isolate has a deciding character stands
+    /// The text of the line from left to right: its characters in the order of L2, by their levels
+    /// after L1. Neither combining marks (L3) nor mirrored characters (L4) are seen to. The text is
+    /// borrowed, and takes no memory, exactly where no level of the line is odd after L1.
+    pub fn reorder_line(&self, alloc: Global, line: Range<usize>) -> Result<CowStr<'t>, AllocError>
+        requires { IsLineOf (analysed_of self.now) line }
+        ensures text { IfOk result (λ c. IsTextOfLine encode_utf8 (text_of self.now) (analysed_of self.now) (paragraph_level self.now) line (cow_str_bytes c)) }
+        ensures borrowed { IfOk result (λ c. IsBorrowedStr c ↔ StaysInOrder (analysed_of self.now) (paragraph_level self.now) line) }
+    {
+        self.analysed
+            .reorder_line(alloc, self.paragraph_level, line)
+    }
+}
+
+// A line goes from one unit up to another, both of which have to begin a character or be the text's
+// length (see `is_line`).
+impl<T: TextSource> ParagraphBidiInfo<T> {
+    ghost use Rattle.unicode_bidi.specs.ParagraphBidiInfo.{analysed as analysed_of, original_classes, levels as levels_of_info, paragraph_level, is_pure_ltr};
+
+    // The same of any text.
+    pub(crate) fn of_text<D: BidiDataSource>(
+        alloc: Global,
+        data_source: &D,
+        text: T,
+        default_para_level: Option<Level>,
+    ) -> Result<ParagraphBidiInfo<T>, AllocError>
+        requires { IfSome default_para_level (λ level. level ≤ 125) }
+        ensures text { IfOk result (λ i. i.analysed.text ≡ text) }
+        ensures analysis { IfOk result (λ i. IsParagraphAnalysis (D.source data_source.now) default_para_level (analysed_of i) (paragraph_level i) (is_pure_ltr i)) }
+        ensures per_char { IfOk result (λ i. IsPerCharText (analysed_of i)) }
+        ensures bounded { IfOk result (λ i. AreLevelsFrom (paragraph_level i) (levels_of_info i)) }
+        ensures boundary_neutrals_alike { BoundaryNeutralsAreAlike (D.source data_source.now) default_para_level }
+        ensures stays_left_to_right { StaysLeftToRight (D.source data_source.now) default_para_level }
+    {
+        let found = engine::analyse(alloc, data_source, text, default_para_level, false)?;
+        Ok(ParagraphBidiInfo {
+            analysed: Analysed::new(text, found.original_classes, found.levels),
+            paragraph_level: found.paragraphs[0].level(),
+            is_pure_ltr: found.flags[0].is_pure_ltr,
+        })
+    }
+
+    /// The class of each unit's character. An FSI whose isolate has a deciding character stands
     /// here as RLI or LRI.
     pub fn original_classes(&self) -> &[BidiClass]
         ensures classes { result.now ≡ original_classes self.now }
-        ensures per_char { IsTrue (is_per_char ⟦<BidiClass as PartialEq>⟧.eq len_utf8 (chars (text_of self.now)) result.now) }
+        ensures per_char { let a = analysed_of self.now in IsTrue (is_per_char ⟦<BidiClass as PartialEq>⟧.eq a.len_of a.chars result.now) }
     {
-        self.original_classes.as_slice()
+        self.analysed.original_classes()
     }
 
-    /// The level of each byte's character, before L1. A character that X9 removes has the level of
+    /// The level of each unit's character, before L1. A character that X9 removes has the level of
     /// the character before it, the text's first one the paragraph level.
     pub fn levels(&self) -> &[Level]
         ensures levels { result.now ≡ levels_of_info self.now }
-        ensures per_char { IsTrue (is_per_char ⟦<Level as PartialEq>⟧.eq len_utf8 (chars (text_of self.now)) result.now) }
+        ensures per_char { let a = analysed_of self.now in IsTrue (is_per_char ⟦<Level as PartialEq>⟧.eq a.len_of a.chars result.now) }
     {
-        self.levels.as_slice()
+        self.analysed.levels()
     }
 
     /// The paragraph level (BD4).
@@ -128,7 +146,7 @@ impl<'t> ParagraphBidiInfo<'t> {
     pub fn has_rtl(&self) -> bool
         ensures { result ≡ has_rtl_of (levels_of_info self.now) }
     {
-        has_rtl(self.levels.as_slice())
+        self.analysed.has_rtl()
     }
 
     /// The direction of the levels: left to right if there are some and all are even, right to left
@@ -136,7 +154,49 @@ impl<'t> ParagraphBidiInfo<'t> {
     pub fn direction(&self) -> Direction
         ensures { result ≡ direction_of_levels (levels_of_info self.now) }
     {
-        direction_of(self.levels.as_slice())
+        self.analysed.direction()
+    }
+
+    /// The level of each unit of the whole text, where those of the line are as L1 leaves them and
+    /// all others are the stored ones.
+    pub fn reordered_levels(
+        &self,
+        alloc: Global,
+        line: Range<usize>,
+    ) -> Result<Vec<Level>, AllocError>
+        requires { IsLineOf (analysed_of self.now) line }
+        ensures { IfOk result (λ v. AreLevelsWithLine (analysed_of self.now) (paragraph_level self.now) line v.items) }
+    {
+        self.analysed
+            .reordered_levels(alloc, self.paragraph_level, line)
+    }
+
+    /// The same with one level for each character of the whole text.
+    pub fn reordered_levels_per_char(
+        &self,
+        alloc: Global,
+        line: Range<usize>,
+    ) -> Result<Vec<Level>, AllocError>
+        requires { IsLineOf (analysed_of self.now) line }
+        ensures { IfOk result (λ v. v.items ≡ levels_with_line_per_char (analysed_of self.now) (paragraph_level self.now) line) }
+    {
+        self.analysed
+            .reordered_levels_per_char(alloc, self.paragraph_level, line)
+    }
+
+    /// The levels of `reordered_levels`, and the level runs (BD7) of the line by them, in units of
+    /// the text, from left to right by L2. The line must not be empty.
+    pub fn visual_runs(
+        &self,
+        alloc: Global,
+        line: Range<usize>,
+    ) -> Result<(Vec<Level>, Vec<Range<usize>>), AllocError>
+        requires is_line { IsLineOf (analysed_of self.now) line }
+        requires not_empty { line.start < line.end }
+        ensures levels { IfOk result (λ r. AreLevelsWithLine (analysed_of self.now) (paragraph_level self.now) line r.0.items) }
+        ensures runs { IfOk result (λ r. AreRunsOfLine (analysed_of self.now) (paragraph_level self.now) line (map run_of r.1.items)) }
+    {
+        self.analysed.visual_runs(alloc, self.paragraph_level, line)
     }
 
     /// The visual order of a line's items by L2: at each place from the left, the index in `levels`
@@ -148,6 +208,6 @@ impl<'t> ParagraphBidiInfo<'t> {
         ensures still { has_rtl_of levels.now ≡ false → IfOk result (λ v. v.items ≡ indexes levels.now) }
         ensures reversals { IfOk result (λ v. v.items ≡ order_by_reversals levels.now) }
     {
-        visual::reorder_visual(alloc, levels)
+        visual_order::reorder_visual(alloc, levels)
     }
 }

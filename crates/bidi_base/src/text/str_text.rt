@@ -12,7 +12,7 @@ use std::ops::Range;
 use std::str::{CharIndices, Chars};
 
 /// A text of UTF-8. Its units are bytes, so a character is 1 to 4 units long.
-#[derive(Clone, Copy)]
+#[derive(Clone, Copy, PartialEq, Debug)]
 pub struct StrText<'t> {
     text: &'t str,
 }

@@ -6,8 +6,8 @@ ghost use Rattle.bidi_base.specs.Classes.{is_paragraph_separator, is_removed};
 ghost use Rattle.bidi_base.specs.Explicit.{asked_level, override_of, status_inside, explicit_levels, explicit_classes};
 ghost use Rattle.bidi_base.specs.Openers.{outside_isolate, left_open, then_open};
 
-use super::kinds::{is_embedding, is_initiator, is_removed};
 use bidi_base::char_data::{BidiClass, is_rtl};
+use bidi_base::classes::{is_embedding, is_initiator, is_removed};
 use bidi_base::level::{Error, Level};
 use std::alloc::{AllocError, Global};
 use std::marker::Model;

@@ -1,18 +1,20 @@
 //! The neutrals of an isolating run sequence (N0 to N2). A class stands for a direction if it is L, R
 //! or a number, and numbers stand for R.
 
-ghost use Rattle.std.specs.Prelude.{◌≡◌, ◌==◌, ◌||◌, false, ◌<◌, ◌≤◌, length, vec_len, slice_index_or, reverse, map, if◌then◌else◌, IsTrue, IfOk, is_some, unwrap_or};
-ghost use Rattle.std.specs.List.{list_all, list_any, prefix_len};
-ghost use Rattle.std.specs.Option.{option_map_or};
-ghost use Rattle.bidi_base.specs.Classes.{as_direction as as_direction_of, has_direction, is_kept, is_l_or_r, is_neutral, is_nsm, is_weak_resolved, same_class};
-ghost use Rattle.bidi_base.specs.Places.{class_at, indexes};
+ghost use Rattle.std.specs.Prelude.{◌≡◌, ◌<◌, ◌≤◌, length, vec_len, slice_index_or, IsTrue, IfOk, unwrap_or};
+ghost use Rattle.std.specs.List.{list_all, prefix_len};
+ghost use Rattle.bidi_base.specs.Classes.{as_direction, has_direction, is_kept, is_l_or_r, is_neutral, is_weak_resolved};
 ghost use Rattle.bidi_base.specs.Brackets.{ArePairsWithin};
-ghost use Rattle.bidi_base.specs.Neutral.{is_mark_after, n0, n1_n2, nearest_direction, neutral_classes, pair_direction as pair_direction_of};
+ghost use Rattle.bidi_base.specs.Neutral.{n0, n1_n2, neutral_classes, pair_direction as pair_direction_of};
 
 use super::bracket_pairs::pairs;
-use bidi_base::char_data::BidiClass::{self, AN, B, EN, FSI, L, LRI, NSM, ON, PDI, R, RLI, S, WS};
+use bidi_base::char_data::BidiClass;
+use bidi_base::classes::{as_direction, is_neutral};
 use bidi_base::data_source::BidiMatchedOpeningBracket;
 use bidi_base::level::Level;
+use bidi_base::neutrals::{
+    common_direction, contains_any_direction, contains_direction, nearest_direction, set_direction,
+};
 use std::alloc::{AllocError, Global};
 
 /// The classes of a sequence after N0 to N2, each of them L, R, EN or AN. `level` is the explicit
@@ -106,82 +108,12 @@ fn pair_direction(
     ensures { result ≡ pair_direction_of embedding sos classes.now pair }
 {
     let inside = &classes[pair.0 + 1..pair.1];
-    if has_direction(inside, embedding) {
+    if contains_direction(inside, embedding) {
         Some(embedding)
-    } else if has_any_direction(inside) {
-        Some(context(sos, &classes[..pair.0]))
+    } else if contains_any_direction(inside) {
+        Some(nearest_direction(sos, &classes[..pair.0]))
     } else {
         None
-    }
-}
-
-fn has_direction(inside: &[BidiClass], direction: BidiClass) -> bool
-    ensures { result
-        ≡ list_any (λ c. option_map_or (same_class direction) (as_direction_of c) false) inside.now }
-{
-    inside.iter().any(|class| stands_for(*class, direction))
-}
-
-fn has_any_direction(inside: &[BidiClass]) -> bool
-    ensures { result ≡ list_any (λ c. is_some (as_direction_of c)) inside.now }
-{
-    inside.iter().any(|class| as_direction(*class).is_some())
-}
-
-/// The nearest direction before a pair, looked for backwards, else sos.
-fn context(sos: BidiClass, before: &[BidiClass]) -> BidiClass
-    ensures { result ≡ nearest_direction sos (reverse before.now) }
-{
-    for class in before.iter().rev() {
-        if let Some(direction) = as_direction(*class) {
-            return direction;
-        }
-    }
-    sos
-}
-
-/// Gives a bracket a direction, and the characters directly after it that are nonspacing marks by
-/// their source classes.
-fn set_direction(
-    source: &[BidiClass],
-    classes: &mut [BidiClass],
-    bracket: usize,
-    direction: BidiClass,
-)
-    requires lengths { length source.now ≡ length classes.old }
-    requires bracket { bracket < length classes.old }
-    ensures { classes.new ≡ map (λ k. if k == bracket || is_mark_after source.now bracket k
-        then direction else class_at classes.old k) (indexes classes.old) }
-{
-    let end = bracket + 1 + marks(&source[bracket + 1..]);
-    classes[bracket..end].fill(direction);
-}
-
-/// How many nonspacing marks the list begins with.
-fn marks(source: &[BidiClass]) -> usize
-    ensures count { result ≡ prefix_len is_nsm source.now }
-    ensures within { result ≤ length source.now }
-{
-    source.iter().take_while(|class| **class == NSM).count()
-}
-
-/// The direction that a class stands for.
-fn as_direction(class: BidiClass) -> Option<BidiClass>
-    ensures { result ≡ as_direction_of class }
-{
-    match class {
-        L => Some(L),
-        R | EN | AN => Some(R),
-        _ => None,
-    }
-}
-
-fn stands_for(class: BidiClass, direction: BidiClass) -> bool
-    ensures { result ≡ option_map_or (same_class direction) (as_direction_of class) false }
-{
-    match as_direction(class) {
-        Some(found) => direction == found,
-        None => false,
     }
 }
 
@@ -209,25 +141,18 @@ fn neutrals(classes: &[BidiClass]) -> usize
 {
     classes
         .iter()
-        .take_while(|class| matches!(class, B | S | WS | ON | LRI | RLI | FSI | PDI))
+        .take_while(|class| is_neutral(**class))
         .count()
 }
 
 /// The direction at a place, or eos past the end.
 fn direction_at(classes: &[BidiClass], place: usize, eos: BidiClass) -> BidiClass
     ensures { result
-        ≡ unwrap_or (as_direction_of (slice_index_or classes.now place BidiClass.ON)) eos }
+        ≡ unwrap_or (as_direction (slice_index_or classes.now place BidiClass.ON)) eos }
 {
     if place < classes.len() {
         as_direction(classes[place]).unwrap_or(eos)
     } else {
         eos
     }
-}
-
-/// What neutrals between two directions take.
-fn common_direction(embedding: BidiClass, left: BidiClass, right: BidiClass) -> BidiClass
-    ensures { result ≡ (if same_class left right then left else embedding) }
-{
-    if left == right { left } else { embedding }
 }

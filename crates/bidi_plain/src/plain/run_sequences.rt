@@ -3,10 +3,11 @@
 ghost use Rattle.std.specs.Prelude.{◌≡◌, ℕ, ◌<◌, ◌≤◌, length, map, All, IfOk, IfSome};
 ghost use Rattle.bidi_base.specs.Explicit.{explicit_levels};
 ghost use Rattle.bidi_base.specs.Sequences.{level_or, kept_before, next_kept, start_class, end_class, with_ends, sequences, HasExplicitLevels};
-ghost use Rattle.bidi_base.specs.SequencePass.{read_class, waiting_for, waits_before, choice_at, with_entry, index_of, ArePlaces};
+ghost use Rattle.bidi_base.specs.SequencePass.{waits_before, choice_at, with_entry, index_of, ArePlaces};
 
-use super::kinds::{is_initiator, is_removed};
 use bidi_base::char_data::BidiClass;
+use bidi_base::classes::{is_initiator, is_removed};
+use bidi_base::isolates::{WaitingSequences, read_class, waiting_for};
 use bidi_base::level::Level;
 use std::alloc::{AllocError, Global};
 use std::marker::Model;
@@ -51,46 +52,11 @@ impl PlainSequence {
     }
 }
 
-/// For each isolate that is open, the innermost last, the sequence that waits for its PDI: that of
-/// its initiator, or none where the level run goes on after the initiator.
-type Waiting = Vec<Option<usize>>;
-
-/// Reads a character for what is open.
-fn read_class(
-    waiting: &mut Waiting,
-    class: BidiClass,
-    wait: Option<usize>,
-) -> Result<(), AllocError>
-    ensures { IfOk result (λ _. waiting.new.items ≡ read_class class wait waiting.old.items) }
-{
-    match class {
-        BidiClass::LRI | BidiClass::RLI | BidiClass::FSI => waiting.push(wait)?,
-        BidiClass::PDI => {
-            let _ = waiting.pop();
-        }
-        _ => {}
-    }
-    Ok(())
-}
-
-/// The sequence that waits for a character of this class, where that begins a level run.
-fn sequence_for(waiting: &[Option<usize>], class: BidiClass) -> Option<usize>
-    ensures { result ≡ waiting_for class waiting.now }
-{
-    match class {
-        BidiClass::PDI => match waiting.last() {
-            Some(wait) => *wait,
-            None => None,
-        },
-        _ => None,
-    }
-}
-
 /// Reads the last kept character before a place for what is open: `last` is its place and the
 /// sequence in which it stands, or none at the front. Finds the sequence that the character at the
 /// place goes on with, or none where it begins one.
 fn go_on(
-    waiting: &mut Waiting,
+    waiting: &mut WaitingSequences,
     classes: &[BidiClass],
     levels: &[Level],
     last: Option<(usize, usize)>,
@@ -110,7 +76,7 @@ fn go_on(
         }
         Some((before, s)) => {
             read_class(waiting, classes[before], Some(s))?;
-            Ok(sequence_for(waiting, classes[place]))
+            Ok(waiting_for(waiting, classes[place]))
         }
         None => Ok(None),
     }
@@ -157,7 +123,7 @@ fn sequence_places(
     ensures places { IfOk result (λ v. All (λ places. ArePlaces (length classes.now) places.items) v.items) }
 {
     let mut sequences: Vec<Vec<usize>> = Vec::new(alloc);
-    let mut waiting: Waiting = Vec::new(alloc);
+    let mut waiting: WaitingSequences = Vec::new(alloc);
     let mut last: Option<(usize, usize)> = None;
     for place in 0..classes.len() {
         if !is_removed(classes[place]) {

@@ -14,8 +14,8 @@ ghost use Rattle.bidi_base.specs.Neutral.{n0, neutral_classes};
 ghost use Rattle.bidi_base.specs.Places.{at_places, class_at, first_or};
 ghost use Rattle.bidi_base.specs.Sequences.{level_at};
 ghost use Rattle.bidi_base.specs.Text.{is_per_char, place, text_len, IsLine};
-ghost use Rattle.bidi_base.specs.Units.{bounds, in_runs, read_in_runs, AreLines};
-ghost use Rattle.bidi_rules.specs.FoundBrackets.{brackets_from, found_brackets};
+ghost use Rattle.bidi_base.specs.Units.{bounds, in_runs, kept_in_place, AreLines};
+ghost use Rattle.bidi_base.specs.FoundBrackets.{brackets_from, found_brackets};
 ghost use Rattle.bidi_rules.specs.NeutralPass.{values_of, AreBracketsOf, AreGathered, HasGatheredNothing};
 ghost use Rattle.bidi_rules.specs.RunSequence.{runs as runs_of, sos as sos_of, eos as eos_of};
 
@@ -23,10 +23,11 @@ mod directions;
 mod one_direction;
 mod units;
 
-use super::brackets::{Bracket, find_pairs, resolve_pairs};
-use super::is_read;
+use super::brackets::resolve_pairs;
+use super::is_kept_in_place;
 use super::weak::write_over_runs;
 use crate::prepare::{IsolatingRunSequence, LevelRun};
+use bidi_base::brackets::{Bracket, find_pairs};
 use bidi_base::char_data::BidiClass;
 use bidi_base::data_source::BidiDataSource;
 use bidi_base::level::Level;
@@ -34,7 +35,7 @@ use bidi_base::text::TextSource;
 use directions::resolve_directions;
 use one_direction::stands_alone;
 use std::alloc::{AllocError, Global};
-use units::{first_read, gather_sources, write_back};
+use units::{first_kept, gather_sources, write_back};
 
 /// Resolves the neutrals of one sequence after another, and keeps its memory from each to the next.
 #[derive(Debug, Drop)]
@@ -76,10 +77,10 @@ impl NeutralResolver {
         requires fits { AreLines T.units (T.characters text) (map bounds (runs_of sequence.now)) }
         requires levels { length levels.now ≡ length processing_classes.old }
         requires original { length original_classes.now ≡ length processing_classes.old }
-        requires resolved { let places = map (place T.units (T.characters text)) (read_in_runs T.units (T.characters text) processing_classes.old (map bounds (runs_of sequence.now))) in IsTrue (list_all is_weak_resolved (at_places L processing_classes.old places)) }
-        ensures kept { let read = read_in_runs T.units (T.characters text) processing_classes.old (map bounds (runs_of sequence.now)) in let places = map (place T.units (T.characters text)) read in
+        requires resolved { let places = map (place T.units (T.characters text)) (kept_in_place T.units (T.characters text) processing_classes.old (map bounds (runs_of sequence.now))) in IsTrue (list_all is_weak_resolved (at_places L processing_classes.old places)) }
+        ensures kept { let indexes = kept_in_place T.units (T.characters text) processing_classes.old (map bounds (runs_of sequence.now)) in let places = map (place T.units (T.characters text)) indexes in
             OnOk result (at_places L processing_classes.new places ≡ neutral_classes (level_at levels.now (first_or 0 places)) (sos_of sequence.now) (eos_of sequence.now)
-            (at_places L original_classes.now places) (map (D.source data_source.now).bracket_of (at_places 0 (T.characters text) read)) (at_places L processing_classes.old places)) }
+            (at_places L original_classes.now places) (map (D.source data_source.now).bracket_of (at_places 0 (T.characters text) indexes)) (at_places L processing_classes.old places)) }
         ensures removed { (u : ℕ) → class_at processing_classes.old u ≡ BN → class_at processing_classes.new u ≡ BN }
         ensures outside { (u : ℕ) → in_runs (map bounds (runs_of sequence.now)) u ≡ false → class_at processing_classes.new u ≡ class_at processing_classes.old u }
         ensures per_char { IsTrue (is_per_char ⟦<BidiClass as PartialEq>⟧.eq T.units (T.characters text) processing_classes.new) }
@@ -87,7 +88,7 @@ impl NeutralResolver {
     {
         let runs = sequence.runs();
         let sos = sequence.sos();
-        let Some(first) = first_read(runs, processing_classes) else {
+        let Some(first) = first_kept(runs, processing_classes) else {
             return Ok(());
         };
         let embedding = levels[first].bidi_class();
@@ -122,7 +123,7 @@ impl NeutralResolver {
         requires lines { AreLines T.units (T.characters text) (map bounds runs.now) }
         requires long { length classes.now ≡ text_len T.units (T.characters text) }
         ensures { OnOk result (AreGathered T.units (T.characters text) (D.source data_source.now) classes.now
-            (read_in_runs T.units (T.characters text) classes.now (map bounds runs.now)) self.new.classes.items self.new.brackets.items) }
+            (kept_in_place T.units (T.characters text) classes.now (map bounds runs.now)) self.new.classes.items self.new.brackets.items) }
     {
         self.classes.clear();
         self.brackets.clear();
@@ -144,12 +145,12 @@ impl NeutralResolver {
         requires long { length classes.now ≡ text_len T.units (T.characters text) }
         ensures { (before : List ℕ) → AreGathered T.units (T.characters text) (D.source data_source.now) classes.now before self.old.classes.items self.old.brackets.items
             → OnOk result (AreGathered T.units (T.characters text) (D.source data_source.now) classes.now
-            (before ++ read_in_runs T.units (T.characters text) classes.now (bounds run.now ∷ [])) self.new.classes.items self.new.brackets.items) }
+            (before ++ kept_in_place T.units (T.characters text) classes.now (bounds run.now ∷ [])) self.new.classes.items self.new.brackets.items) }
     {
         let begin = run.start;
         for (offset, c) in text.subrange(begin..run.end).char_indices() {
             let class = classes[begin + offset];
-            if is_read(class) {
+            if is_kept_in_place(class) {
                 self.push(data_source, class, c)?;
             }
         }
@@ -193,10 +194,10 @@ impl NeutralResolver {
         requires lines { AreLines T.units (T.characters text) (map bounds runs.now) }
         requires long { length processing_classes.now ≡ text_len T.units (T.characters text) }
         requires original { length original_classes.now ≡ text_len T.units (T.characters text) }
-        requires gathered { length self.old.classes.items ≡ length (read_in_runs T.units (T.characters text) processing_classes.now (map bounds runs.now)) }
+        requires gathered { length self.old.classes.items ≡ length (kept_in_place T.units (T.characters text) processing_classes.now (map bounds runs.now)) }
         requires brackets { AreBracketsOf self.old.classes.items self.old.brackets.items }
         ensures { (brackets : List (Option BidiMatchedOpeningBracket)) → self.old.brackets.items ≡ found_brackets self.old.classes.items brackets
-            → OnOk result (self.new.classes.items ≡ n0 embedding sos (values_of L T.units (T.characters text) original_classes.now (read_in_runs T.units (T.characters text) processing_classes.now (map bounds runs.now)))
+            → OnOk result (self.new.classes.items ≡ n0 embedding sos (values_of L T.units (T.characters text) original_classes.now (kept_in_place T.units (T.characters text) processing_classes.now (map bounds runs.now)))
             (bracket_pairs self.old.classes.items brackets) self.old.classes.items) }
     {
         find_pairs(self.brackets.as_slice(), &mut self.pairs)?;
@@ -244,10 +245,10 @@ pub fn resolve_neutral<D: BidiDataSource, T: TextSource>(
     requires fits { AreLines T.units (T.characters text) (map bounds (runs_of sequence.now)) }
     requires levels { length levels.now ≡ length processing_classes.old }
     requires original { length original_classes.now ≡ length processing_classes.old }
-    requires resolved { let places = map (place T.units (T.characters text)) (read_in_runs T.units (T.characters text) processing_classes.old (map bounds (runs_of sequence.now))) in IsTrue (list_all is_weak_resolved (at_places L processing_classes.old places)) }
-    ensures kept { let read = read_in_runs T.units (T.characters text) processing_classes.old (map bounds (runs_of sequence.now)) in let places = map (place T.units (T.characters text)) read in
+    requires resolved { let places = map (place T.units (T.characters text)) (kept_in_place T.units (T.characters text) processing_classes.old (map bounds (runs_of sequence.now))) in IsTrue (list_all is_weak_resolved (at_places L processing_classes.old places)) }
+    ensures kept { let indexes = kept_in_place T.units (T.characters text) processing_classes.old (map bounds (runs_of sequence.now)) in let places = map (place T.units (T.characters text)) indexes in
         OnOk result (at_places L processing_classes.new places ≡ neutral_classes (level_at levels.now (first_or 0 places)) (sos_of sequence.now) (eos_of sequence.now)
-        (at_places L original_classes.now places) (map (D.source data_source.now).bracket_of (at_places 0 (T.characters text) read)) (at_places L processing_classes.old places)) }
+        (at_places L original_classes.now places) (map (D.source data_source.now).bracket_of (at_places 0 (T.characters text) indexes)) (at_places L processing_classes.old places)) }
     ensures removed { (u : ℕ) → class_at processing_classes.old u ≡ BN → class_at processing_classes.new u ≡ BN }
     ensures outside { (u : ℕ) → in_runs (map bounds (runs_of sequence.now)) u ≡ false → class_at processing_classes.new u ≡ class_at processing_classes.old u }
     ensures per_char { IsTrue (is_per_char ⟦<BidiClass as PartialEq>⟧.eq T.units (T.characters text) processing_classes.new) }

@@ -1,10 +1,10 @@
 //! The weak types in place (W1 to W7).
 
 ghost use Rattle.std.specs.Prelude.{◌≡◌, ℕ, ◌+◌, ◌<◌, ◌≤◌, true, false, length, map, drop, get_or, if◌then◌else◌, IsTrue};
-ghost use Rattle.bidi_base.specs.Classes.{is_read as is_read_of};
+ghost use Rattle.bidi_base.specs.Classes.{is_kept_in_place as is_kept_in_place_of};
 ghost use Rattle.bidi_base.specs.Places.{at_places, class_at};
 ghost use Rattle.bidi_base.specs.Text.{IsLine, is_per_char, place, text_len};
-ghost use Rattle.bidi_base.specs.Units.{bounds, are_ordered, in_runs, read_in_runs, AreLines};
+ghost use Rattle.bidi_base.specs.Units.{bounds, are_ordered, in_runs, kept_in_place, AreLines};
 ghost use Rattle.bidi_base.specs.Weak.{weak_classes};
 ghost use Rattle.bidi_base.specs.declared.char_data.BidiClass.TheVariants.{L, BN};
 ghost use Rattle.bidi_rules.specs.RunSequence.{runs as runs_of, sos as sos_of};
@@ -14,7 +14,7 @@ ghost use Rattle.bidi_rules.specs.WeakWalk.{first_walk, is_seen, IsWrittenOver, 
 mod plain;
 mod steps;
 
-use super::is_read;
+use super::is_kept_in_place;
 use crate::prepare::{IsolatingRunSequence, LevelRun};
 use bidi_base::char_data::BidiClass;
 use bidi_base::text::TextSource;
@@ -43,15 +43,19 @@ struct Walk {
 
 /// What is in the place of a class once another is written over it.
 fn written_over(before: BidiClass, class: BidiClass) -> BidiClass
-    ensures { result ≡ (if is_read_of before then class else before) }
+    ensures { result ≡ (if is_kept_in_place_of before then class else before) }
 {
-    if is_read(before) { class } else { before }
+    if is_kept_in_place(before) {
+        class
+    } else {
+        before
+    }
 }
 
 /// Writes the class over those units from `from` up to `to` that are not BN.
 fn write_over(classes: &mut [BidiClass], from: usize, to: usize, class: BidiClass)
     requires { to ≤ length classes.old }
-    ensures { IsWrittenOver (λ k. is_read_of (class_at classes.old k)) class from to classes.old classes.new }
+    ensures { IsWrittenOver (λ k. is_kept_in_place_of (class_at classes.old k)) class from to classes.old classes.new }
 {
     for unit in from..to {
         classes[unit] = written_over(classes[unit], class);
@@ -125,7 +129,7 @@ impl Walk {
         ensures reads { Reads (map bounds runs.now) run start end self.old self.new classes.old classes.new }
     {
         let class = classes[start];
-        if !is_read(class) {
+        if !is_kept_in_place(class) {
             return;
         }
         let marked = marked(self.mark, class);
@@ -187,7 +191,7 @@ pub fn resolve_weak<T: TextSource>(
 )
     requires per_char { IsTrue (is_per_char ⟦<BidiClass as PartialEq>⟧.eq T.units (T.characters text) processing_classes.old) }
     requires fits { AreLines T.units (T.characters text) (map bounds (runs_of sequence.now)) }
-    ensures kept { let places = map (place T.units (T.characters text)) (read_in_runs T.units (T.characters text) processing_classes.old (map bounds (runs_of sequence.now))) in at_places L processing_classes.new places ≡ weak_classes (sos_of sequence.now) (at_places L processing_classes.old places) }
+    ensures kept { let places = map (place T.units (T.characters text)) (kept_in_place T.units (T.characters text) processing_classes.old (map bounds (runs_of sequence.now))) in at_places L processing_classes.new places ≡ weak_classes (sos_of sequence.now) (at_places L processing_classes.old places) }
     ensures removed { (u : ℕ) → class_at processing_classes.old u ≡ BN → class_at processing_classes.new u ≡ BN }
     ensures outside { (u : ℕ) → in_runs (map bounds (runs_of sequence.now)) u ≡ false → class_at processing_classes.new u ≡ class_at processing_classes.old u }
     ensures per_char { IsTrue (is_per_char ⟦<BidiClass as PartialEq>⟧.eq T.units (T.characters text) processing_classes.new) }

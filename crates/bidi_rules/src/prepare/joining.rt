@@ -6,7 +6,6 @@ ghost use Rattle.bidi_base.specs.declared.char_data.BidiClass.TheVariants.{L};
 ghost use Rattle.bidi_base.specs.Classes.{is_initiator, is_l_or_r};
 ghost use Rattle.bidi_base.specs.Explicit.{explicit_levels};
 ghost use Rattle.bidi_base.specs.Levels.{direction_of};
-ghost use Rattle.bidi_base.specs.SequencePass.{read_class, waiting_for};
 ghost use Rattle.bidi_base.specs.Sequences.{sequences, HasExplicitLevels};
 ghost use Rattle.bidi_base.specs.Text.{IsLine, is_boundary, is_per_char, per_char};
 ghost use Rattle.bidi_base.specs.Units.{bounds, level_run_ranges, AreLines};
@@ -17,13 +16,11 @@ use super::{
     IsolatingRunSequence, IsolatingRunSequenceVec, LevelRun, LevelRunVec, not_removed_by_x9,
 };
 use bidi_base::char_data::BidiClass;
+use bidi_base::classes::is_initiator;
+use bidi_base::isolates::{WaitingSequences, read_class, waiting_for};
 use bidi_base::level::Level;
 use bidi_base::text::TextSource;
 use std::alloc::{AllocError, Global};
-
-/// For each isolate that is open, the innermost last, the sequence that waits for its PDI: that of
-/// its initiator, or none where the level run goes on after the initiator.
-type Waiting = Vec<Option<usize>>;
 
 // The end of the last unit of a run whose class X9 keeps, or the run's start where there is none.
 fn kept_end(classes: &[BidiClass], run: &LevelRun) -> usize
@@ -46,57 +43,23 @@ fn side(inner: Level, outer: Level) -> BidiClass
     inner.max(outer).bidi_class()
 }
 
-// Whether a character of this class opens an isolate.
-fn opens_isolate(class: BidiClass) -> bool
-    ensures { result ≡ is_initiator class }
-{
-    matches!(class, BidiClass::LRI | BidiClass::RLI | BidiClass::FSI)
-}
-
 // The level beyond a run that ends at a unit and whose last kept character has this class: that of
 // the next run. After an initiator and at the end of the text the paragraph level counts.
 fn level_after(para_level: Level, class: BidiClass, levels: &[Level], end: usize) -> Level
     requires { end ≤ length levels.now }
     ensures { result ≡ level_after_run para_level class levels.now end }
 {
-    if opens_isolate(class) || end == levels.len() {
+    if is_initiator(class) || end == levels.len() {
         para_level
     } else {
         levels[end]
     }
 }
 
-// The sequence that waits for a character of this class, where that begins a level run.
-fn sequence_for(waiting: &[Option<usize>], class: BidiClass) -> Option<usize>
-    ensures { result ≡ waiting_for class waiting.now }
-{
-    match class {
-        BidiClass::PDI => match waiting.last() {
-            Some(wait) => *wait,
-            None => None,
-        },
-        _ => None,
-    }
-}
-
-// Reads a character for what is open.
-fn read(waiting: &mut Waiting, class: BidiClass, wait: Option<usize>) -> Result<(), AllocError>
-    ensures { OnOk result (waiting.new.items ≡ read_class class wait waiting.old.items) }
-{
-    match class {
-        BidiClass::LRI | BidiClass::RLI | BidiClass::FSI => waiting.push(wait)?,
-        BidiClass::PDI => {
-            let _ = waiting.pop();
-        }
-        _ => {}
-    }
-    Ok(())
-}
-
 // Reads the characters of a run for what is open. The one that ends at `kept_end` is the last that
 // X9 keeps; if it opens an isolate, the sequence at `s` waits for the PDI.
 fn read_run<T: TextSource>(
-    waiting: &mut Waiting,
+    waiting: &mut WaitingSequences,
     text: T,
     classes: &[BidiClass],
     run: &LevelRun,
@@ -111,7 +74,7 @@ fn read_run<T: TextSource>(
     for (offset, len) in text.subrange(run.start..run.end).indices_lengths() {
         let start = run.start + offset;
         let wait = (start + len == kept_end).then_some(s);
-        read(waiting, classes[start], wait)?;
+        read_class(waiting, classes[start], wait)?;
     }
     Ok(())
 }
@@ -170,7 +133,7 @@ pub fn isolating_run_sequences<T: TextSource>(
     ensures runs { OnOk result (IsPermutation (map bounds runs.items) (flat_map run_bounds out.new.items)) }
     ensures fits { OnOk result (All (λ s. AreLines T.units (T.characters text) (run_bounds s)) out.new.items) }
 {
-    let mut waiting: Waiting = Vec::new(alloc);
+    let mut waiting: WaitingSequences = Vec::new(alloc);
     let mut level_before = para_level;
     for run in runs {
         let kept_end = kept_end(original_classes, &run);
@@ -184,7 +147,7 @@ pub fn isolating_run_sequences<T: TextSource>(
         let last_class = original_classes[kept_end - 1];
         let sos = side(level, level_before);
         let eos = side(level, level_after(para_level, last_class, levels, run.end));
-        let waits = sequence_for(&waiting, original_classes[run.start]);
+        let waits = waiting_for(&waiting, original_classes[run.start]);
         if has_isolate_controls {
             let s = waits.unwrap_or(out.len());
             read_run(&mut waiting, text, original_classes, &run, kept_end, s)?;

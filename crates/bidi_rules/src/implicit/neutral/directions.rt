@@ -1,13 +1,14 @@
 //! N1 and N2 over the classes of a sequence's characters.
 
-ghost use Rattle.std.specs.Prelude.{◌≡◌, ◌-◌, ◌≤◌, length, if◌then◌else◌, IsTrue};
+ghost use Rattle.std.specs.Prelude.{◌≡◌, ◌-◌, ◌≤◌, length, IsTrue};
 ghost use Rattle.std.specs.List.{list_all};
-ghost use Rattle.bidi_base.specs.Classes.{is_weak_resolved, same_class};
+ghost use Rattle.bidi_base.specs.Classes.{is_weak_resolved};
 ghost use Rattle.bidi_base.specs.Neutral.{n1_n2};
 ghost use Rattle.bidi_rules.specs.ExplicitPass.{filled};
 
-use crate::implicit::as_direction;
 use bidi_base::char_data::BidiClass;
+use bidi_base::classes::as_direction;
+use bidi_base::neutrals::common_direction;
 
 /// N1 and N2: neutrals take the direction on both their sides, where sos and eos stand at the ends,
 /// and the embedding direction where the two differ.
@@ -31,13 +32,6 @@ pub fn resolve_directions(
     }
     let end = classes.len();
     settle(classes, start, end, common_direction(embedding, left, eos));
-}
-
-/// What neutrals between two directions take.
-fn common_direction(embedding: BidiClass, left: BidiClass, right: BidiClass) -> BidiClass
-    ensures { result ≡ (if same_class left right then left else embedding) }
-{
-    if left == right { left } else { embedding }
 }
 
 /// Writes a class to the part from `start` to `end`, which is mostly empty.

@@ -1,4 +1,4 @@
-//! Sequences in which one direction stands alone: N0 to N2 give it to each character that is read.
+//! Sequences in which one direction stands alone: N0 to N2 give it to each character but BN.
 
 ghost use Rattle.std.specs.Prelude.{◌≡◌, ℕ, ◌<◌, ◌≤◌, true, false, length, map, All, IsTrue};
 ghost use Rattle.bidi_base.specs.Places.{class_at};

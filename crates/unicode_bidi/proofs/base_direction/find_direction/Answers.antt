@@ -23,11 +23,11 @@ returns-then-not-full g c =
     let cs : List ℕ = g.T.TextSource.characters c.args.text in
     let n : ℕ = length c.loop-c.yielded in
     let w = char_turn g.T.TextSource.units cs c.chars-c-items.ensures c.into_iter-c-iterator.ensures.into_iter_gives c.loop-c.yielded _ c.loop-c.yielded_by _ _ c.in-Some.c c.in-Some.is c.next.ensures.steps in
-    direction-ended source.class_of cs n c.in-Some.c c.bidi_class-class.result w.next c.bidi_class-class.ensures c.loop-c.depth c.args.full c.if-not-full.true (sym c.is_separator.ensures ∙ c.if-is_separator.true)
+    direction-ended source.class_of cs n c.in-Some.c c.bidi_class-class.result w.next c.bidi_class-class.ensures c.loop-c.depth c.args.full c.if-not-full.true (sym c.is_paragraph_separator.ensures ∙ c.if-is_paragraph_separator.true)
     ∙ sym c.loop-c.invariant.3 ∙ direction_from-is source cs c.args.full
 
-pub loop-c-preserved-then-is_separator : goal.loop-c-preserved-then-is_separator
-loop-c-preserved-then-is_separator g c =
+pub loop-c-preserved-then-is_paragraph_separator : goal.loop-c-preserved-then-is_paragraph_separator
+loop-c-preserved-then-is_paragraph_separator g c =
     let source = g.D.BidiDataSource.source c.args.data_source.now in
     let cs : List ℕ = g.T.TextSource.characters c.args.text in
     let n : ℕ = length c.loop-c.yielded in
@@ -36,7 +36,7 @@ loop-c-preserved-then-is_separator g c =
       (c.in-Some.ensures.goes.on c.loop-c.invariant.1).1,
       omega arith,
       c.loop-c.invariant.3
-          ∙ direction-next source.class_of cs n c.in-Some.c c.bidi_class-class.result w.next c.bidi_class-class.ensures c.loop-c.depth c.args.full c.if-not-full.false (sym c.is_separator.ensures ∙ c.if-is_separator.true)
+          ∙ direction-next source.class_of cs n c.in-Some.c c.bidi_class-class.result w.next c.bidi_class-class.ensures c.loop-c.depth c.args.full c.if-not-full.false (sym c.is_paragraph_separator.ensures ∙ c.if-is_paragraph_separator.true)
           ∙ ap (λ m. direction_from c.args.full 0 (map source.class_of (drop m cs))) (sym (length_push c.loop-c.yielded c.in-Some.c)),
     )
 
@@ -64,7 +64,7 @@ loop-c-preserved g c =
       (c.in-Some.ensures.goes.on c.loop-c.invariant.1).1,
       omega (arith, few, longer),
       c.loop-c.invariant.3
-          ∙ direction-on source.class_of cs n c.in-Some.c class w.next c.bidi_class-class.ensures c.loop-c.depth c.args.full c.depth_after-depth.result c.depth_after-depth.ensures undecided (sym c.is_separator.ensures ∙ c.if-is_separator.false)
+          ∙ direction-on source.class_of cs n c.in-Some.c class w.next c.bidi_class-class.ensures c.loop-c.depth c.args.full c.depth_after-depth.result c.depth_after-depth.ensures undecided (sym c.is_paragraph_separator.ensures ∙ c.if-is_paragraph_separator.false)
           ∙ ap (λ m. direction_from c.args.full c.depth_after-depth.result (map source.class_of (drop m cs))) (sym longer),
     )
 

@@ -8,7 +8,7 @@ use Rattle.bidi_base.specs.declared.char_data.BidiClass.TheVariants.{L, BN, ON}
 use Rattle.bidi_base.specs.Classes.{is_l_or_r}
 use Rattle.bidi_base.specs.Places.{at_places, class_at}
 use Rattle.bidi_base.specs.Text.{place, is_per_char, IsLine, IsPerChar}
-use Rattle.bidi_base.specs.Units.{bounds, are_ordered, in_runs, read_in_runs, AreLines}
+use Rattle.bidi_base.specs.Units.{bounds, are_ordered, in_runs, kept_in_place, AreLines}
 use Rattle.bidi_base.specs.Weak.{weak_classes}
 use Rattle.bidi_base.proofs.TextLemmas.{HasUnits, is_boundary-le}
 use Rattle.std.specs.Prelude.{All}
@@ -47,7 +47,7 @@ ready len_of h chars sequence read old is lines per =
 
 -- what holds at the end
 record IsResolved (len_of : ℕ → ℕ) (chars : List ℕ) (sequence : IsolatingRunSequence) (old new : List BidiClass) : Type 0 where
-  kept : let places = map (place len_of chars) (read_in_runs len_of chars old (map bounds (runs sequence))) in at_places L new places ≡ weak_classes (sos sequence) (at_places L old places)
+  kept : let places = map (place len_of chars) (kept_in_place len_of chars old (map bounds (runs sequence))) in at_places L new places ≡ weak_classes (sos sequence) (at_places L old places)
   removed : (u : ℕ) → class_at old u ≡ BN → class_at new u ≡ BN
   outside : (u : ℕ) → in_runs (map bounds (runs sequence)) u ≡ false → class_at new u ≡ class_at old u
   per_char : is_per_char class_eq len_of chars new ≡ true
@@ -59,13 +59,13 @@ resolved len_of h chars sequence read old now new walk run is w past under held 
     let rs = map bounds read in
     let over : IsOver (text_pass len_of chars rs (sos sequence) old) new =
     IsOver-last_run len_of h chars old w.per rs w.lines (sos sequence) w.ordered run (length now) now new walk (omega (arith, length-map read bounds)) refl under held idle in
-    let kept : at_places L new (map (place len_of chars) (read_in_runs len_of chars old rs)) ≡ weak_classes (sos sequence) (at_places L old (map (place len_of chars) (read_in_runs len_of chars old rs))) =
+    let kept : at_places L new (map (place len_of chars) (kept_in_place len_of chars old rs)) ≡ weak_classes (sos sequence) (at_places L old (map (place len_of chars) (kept_in_place len_of chars old rs))) =
     answers-text len_of h chars old w.per rs w.lines (sos sequence) new over w.ordered in
     let outside : (u : ℕ) → in_runs rs u ≡ false → class_at new u ≡ class_at old u = outside-text len_of h chars old w.per rs w.lines (sos sequence) new over in
     record {
       kept = subst
-          (λ (xs : List (Range ℕ)). at_places L new (map (place len_of chars) (read_in_runs len_of chars old (map bounds xs)))
-          ≡ weak_classes (sos sequence) (at_places L old (map (place len_of chars) (read_in_runs len_of chars old (map bounds xs)))))
+          (λ (xs : List (Range ℕ)). at_places L new (map (place len_of chars) (kept_in_place len_of chars old (map bounds xs)))
+          ≡ weak_classes (sos sequence) (at_places L old (map (place len_of chars) (kept_in_place len_of chars old (map bounds xs)))))
           is kept;
       removed = removed-text len_of h chars old w.per rs w.lines (sos sequence) new over;
       outside = subst (λ (xs : List (Range ℕ)). (u : ℕ) → in_runs (map bounds xs) u ≡ false → class_at new u ≡ class_at old u) is outside;
@@ -107,8 +107,8 @@ returns-then-are_plain-clause-kept g c =
     let rs = map bounds c.runs-runs.result.now in
     let w = ready len_of h chars c.args.sequence.now c.runs-runs.result.now old c.runs-runs.ensures c.requires.fits c.requires.per_char in
     subst
-    (λ (xs : List (Range ℕ)). at_places L c.change.new.classes (map (place len_of chars) (read_in_runs len_of chars old (map bounds xs)))
-    ≡ weak_classes (sos c.args.sequence.now) (at_places L old (map (place len_of chars) (read_in_runs len_of chars old (map bounds xs)))))
+    (λ (xs : List (Range ℕ)). at_places L c.change.new.classes (map (place len_of chars) (kept_in_place len_of chars old (map bounds xs)))
+    ≡ weak_classes (sos c.args.sequence.now) (at_places L old (map (place len_of chars) (kept_in_place len_of chars old (map bounds xs)))))
     c.runs-runs.ensures
     (kept-plain len_of h chars old w.per rs w.lines c.change.new.classes c.change.ensures.changed c.change.ensures.same (sos c.args.sequence.now) (c.are_plain.ensures c.if-are_plain.true))
 

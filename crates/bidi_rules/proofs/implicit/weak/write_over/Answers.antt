@@ -3,7 +3,7 @@ use Rattle.std.proofs.lemmas.Bool.{cases_Bool, cond-true, cond-false}
 use Rattle.std.proofs.lemmas.List.{set-get_or}
 use Rattle.bidi_base.specs.declared.char_data.BidiClass.{BidiClass}
 use Rattle.bidi_base.specs.declared.char_data.BidiClass.TheVariants.{L}
-use Rattle.bidi_base.specs.Classes.{is_read}
+use Rattle.bidi_base.specs.Classes.{is_kept_in_place}
 use Rattle.bidi_rules.specs.WeakWalk.{IsWrittenOver}
 use Rattle.bidi_rules.proofs.WrittenOver.{IsWrittenOver-skip, IsWrittenOver-set, IsWrittenOver-end}
 use Rattle.bidi_rules.proofs.implicit.weak.write_over.Goals as goal
@@ -16,15 +16,15 @@ loop-unit-preserved c =
     let from = c.args.from in
     let i = c.loop-unit.unit in
     let h = c.loop-unit.invariant.0 in
-    let test : ℕ → Bool = λ (k : ℕ). is_read (get_or old k L) in
+    let test : ℕ → Bool = λ (k : ℕ). is_kept_in_place (get_or old k L) in
     let reads : get_or now i L ≡ get_or old i L = h.above i (omega arith) in
-    let answer : is_read (get_or now i L) ≡ test i = ap is_read reads in (
-      elim (cases_Bool (is_read (get_or now i L))) [
+    let answer : is_kept_in_place (get_or now i L) ≡ test i = ap is_kept_in_place reads in (
+      elim (cases_Bool (is_kept_in_place (get_or now i L))) [
         | inl seen ↦
-            let is : c.written_over.result ≡ class = c.written_over.ensures ∙ cond-true (is_read (get_or now i L)) class (get_or now i L) seen in
+            let is : c.written_over.result ≡ class = c.written_over.ensures ∙ cond-true (is_kept_in_place (get_or now i L)) class (get_or now i L) seen in
             subst (λ (x : BidiClass). IsWrittenOver test class from (i + 1) old (set now i x)) (sym is) (IsWrittenOver-set test class from old i now (omega arith) (omega (arith, c.requires)) (sym answer ∙ seen) h)
         | inr gone ↦
-            let is : c.written_over.result ≡ get_or now i L = c.written_over.ensures ∙ cond-false (is_read (get_or now i L)) class (get_or now i L) gone in
+            let is : c.written_over.result ≡ get_or now i L = c.written_over.ensures ∙ cond-false (is_kept_in_place (get_or now i L)) class (get_or now i L) gone in
             subst (λ (xs : List BidiClass). IsWrittenOver test class from (i + 1) old xs) (sym (ap (set now i) is ∙ set-get_or now i L)) (IsWrittenOver-skip test class from old i now (sym answer ∙ gone) h)
       ],
       λ none. absurd (omega arith),
@@ -33,4 +33,4 @@ loop-unit-preserved c =
 pub returns : goal.returns
 returns c =
     let old = c.args.classes.now in
-    IsWrittenOver-end (λ k. is_read (get_or old k L)) c.args.class c.args.from old c.loop-unit.unit c.args.to c.loop-unit.classes (λ h. omega arith) (omega arith) c.loop-unit.invariant.1 c.loop-unit.invariant.0
+    IsWrittenOver-end (λ k. is_kept_in_place (get_or old k L)) c.args.class c.args.from old c.loop-unit.unit c.args.to c.loop-unit.classes (λ h. omega arith) (omega arith) c.loop-unit.invariant.1 c.loop-unit.invariant.0

@@ -268,7 +268,7 @@ put_run-requires-clause-fits g c =
     let run = c.in-Some.run' in
     let turn = YieldsList-turn items came c.loop-run.run-iterator c.loop-run.yielded_by c.next.result c.next.new.self run c.in-Some.is c.next.ensures.steps in
     let next = next_run len_of h chars units unit_levels runs given (length came) run turn.0 turn.1 in
-    waiting_fits len_of h chars units unit_levels runs given c.args.para_level c.args.has_isolate_controls came run c.loop-run.out.items c.loop-run.waiting.items c.loop-run.level_before c.kept_end-kept_end.result c.sequence_for-waits.result c.loop-run.invariant next c.kept_end-kept_end.ensures c.if-kept_end-run.false (c.sequence_for-waits.ensures ∙ ap (waiting_for (class_at units run.start)) c.deref.ensures.value)
+    waiting_fits len_of h chars units unit_levels runs given c.args.para_level c.args.has_isolate_controls came run c.loop-run.out.items c.loop-run.waiting.items c.loop-run.level_before c.kept_end-kept_end.result c.waiting_for-waits.result c.loop-run.invariant next c.kept_end-kept_end.ensures c.if-kept_end-run.false (c.waiting_for-waits.ensures ∙ ap (waiting_for (class_at units run.start)) c.deref.ensures.value)
 
 pub put_run-requires-clause-later : goal.put_run-requires-clause-later
 put_run-requires-clause-later g c =
@@ -305,12 +305,12 @@ loop-run-preserved g c =
     elim c.if-has_isolate_controls.branch [
       | then-has_isolate_controls+in_ok-read_run w ↦
           rw w.waiting-is
-          (AreJoinedSoFar-read len_of h chars units unit_levels runs given c.args.para_level c.args.has_isolate_controls came run c.loop-run.out.items c.loop-run.waiting.items c.loop-run.level_before c.kept_end-kept_end.result c.sequence_for-waits.result c.loop-run.invariant next c.kept_end-kept_end.ensures c.if-kept_end-run.false
-          (c.sequence_for-waits.ensures ∙ ap (waiting_for (class_at units run.start)) c.deref.ensures.value) _ _ _ _ c.index-levels-kept_end.is c.level_after.ensures c.side-sos.ensures c.side-eos.ensures c.put_run.new.sequences.items c.in_ok-put_run.ensures w.read_run.new.waiting.items w.if-has_isolate_controls.true (w.in_ok-read_run.ensures ∙ ap (λ (n : ℕ). read_units len_of chars units c.kept_end-kept_end.result n run.start run.end c.loop-run.waiting.items) (w.unwrap_or-s.ensures ∙ ap (unwrap_or c.sequence_for-waits.result) (w.len.ensures ∙ c.loop-run.out.ok.0))))
+          (AreJoinedSoFar-read len_of h chars units unit_levels runs given c.args.para_level c.args.has_isolate_controls came run c.loop-run.out.items c.loop-run.waiting.items c.loop-run.level_before c.kept_end-kept_end.result c.waiting_for-waits.result c.loop-run.invariant next c.kept_end-kept_end.ensures c.if-kept_end-run.false
+          (c.waiting_for-waits.ensures ∙ ap (waiting_for (class_at units run.start)) c.deref.ensures.value) _ _ _ _ c.index-levels-kept_end.is c.level_after.ensures c.side-sos.ensures c.side-eos.ensures c.put_run.new.sequences.items c.in_ok-put_run.ensures w.read_run.new.waiting.items w.if-has_isolate_controls.true (w.in_ok-read_run.ensures ∙ ap (λ (n : ℕ). read_units len_of chars units c.kept_end-kept_end.result n run.start run.end c.loop-run.waiting.items) (w.unwrap_or-s.ensures ∙ ap (unwrap_or c.waiting_for-waits.result) (w.len.ensures ∙ c.loop-run.out.ok.0))))
       | else-has_isolate_controls w ↦
           rw w.waiting-is
-          (AreJoinedSoFar-unread len_of h chars units unit_levels runs given c.args.para_level c.args.has_isolate_controls came run c.loop-run.out.items c.loop-run.waiting.items c.loop-run.level_before c.kept_end-kept_end.result c.sequence_for-waits.result c.loop-run.invariant next c.kept_end-kept_end.ensures c.if-kept_end-run.false
-          (c.sequence_for-waits.ensures ∙ ap (waiting_for (class_at units run.start)) c.deref.ensures.value) _ _ _ _ c.index-levels-kept_end.is c.level_after.ensures c.side-sos.ensures c.side-eos.ensures c.put_run.new.sequences.items c.in_ok-put_run.ensures w.if-has_isolate_controls.false c.requires.isolates)
+          (AreJoinedSoFar-unread len_of h chars units unit_levels runs given c.args.para_level c.args.has_isolate_controls came run c.loop-run.out.items c.loop-run.waiting.items c.loop-run.level_before c.kept_end-kept_end.result c.waiting_for-waits.result c.loop-run.invariant next c.kept_end-kept_end.ensures c.if-kept_end-run.false
+          (c.waiting_for-waits.ensures ∙ ap (waiting_for (class_at units run.start)) c.deref.ensures.value) _ _ _ _ c.index-levels-kept_end.is c.level_after.ensures c.side-sos.ensures c.side-eos.ensures c.put_run.new.sequences.items c.in_ok-put_run.ensures w.if-has_isolate_controls.false c.requires.isolates)
     ]
 
 pub returns-clause-sequences : goal.returns-clause-sequences

@@ -51,8 +51,8 @@ loop-offset-preserved g c =
       c.in-Some.ensures.goes.keeps,
       (c.in-Some.ensures.goes.on c.loop-offset.invariant.1).1,
       rw length_push
-          (IsReadTo-more len_of g.met.T.TextSource.has_units chars c.args.classes.now c.requires.per_char run.start run.end c.requires.line c.args.kept_end c.args.s n c.in-Some.offset c.in-Some.len c.args.waiting.now.items c.loop-offset.waiting.items c.read.new.waiting.items _
-          c.requires.kept_end turn c.loop-offset.invariant.2 c.then_some-wait.ensures c.in_ok-read.ensures),
+          (IsReadTo-more len_of g.met.T.TextSource.has_units chars c.args.classes.now c.requires.per_char run.start run.end c.requires.line c.args.kept_end c.args.s n c.in-Some.offset c.in-Some.len c.args.waiting.now.items c.loop-offset.waiting.items c.read_class.new.waiting.items _
+          c.requires.kept_end turn c.loop-offset.invariant.2 c.then_some-wait.ensures c.in_ok-read_class.ensures),
     )
 
 pub returns : goal.returns

@@ -1,9 +1,9 @@
 use Rattle.std.proofs.Common.{ℕ, List, [], map, take, sym, subst}
 use Rattle.bidi_base.specs.Source.{Source}
-use Rattle.bidi_base.specs.Units.{bounds, read_in_runs}
+use Rattle.bidi_base.specs.Units.{bounds, kept_in_place}
 use Rattle.bidi_rules.specs.NeutralPass.{AreGathered}
 use Rattle.bidi_rules.proofs.Gathered.{AreGathered-none}
-use Rattle.bidi_rules.proofs.ReadRuns.{line_at, read_in_runs-none, read_in_runs-more}
+use Rattle.bidi_rules.proofs.KeptRuns.{line_at, kept_in_place-none, kept_in_place-more}
 use Rattle.bidi_rules.proofs.implicit.neutral.NeutralResolver.gather.Goals as goal
 
 pub loop-run-init : goal.loop-run-init
@@ -11,8 +11,8 @@ loop-run-init g c =
     let len_of = g.T.TextSource.units in
     let chars : List ℕ = g.T.TextSource.characters c.args.text in
     let units = c.args.classes.now in
-    AreGathered-none len_of chars (g.D.BidiDataSource.source c.args.data_source.now) units (read_in_runs len_of chars units []) c.clear.new.self.items c.clear-2.new.self.items
-    (read_in_runs-none len_of chars units) c.clear.ensures.items c.clear-2.ensures.items
+    AreGathered-none len_of chars (g.D.BidiDataSource.source c.args.data_source.now) units (kept_in_place len_of chars units []) c.clear.new.self.items c.clear-2.new.self.items
+    (kept_in_place-none len_of chars units) c.clear.ensures.items c.clear-2.ensures.items
 
 pub gather_run-requires-clause-line : goal.gather_run-requires-clause-line
 gather_run-requires-clause-line g c =
@@ -27,5 +27,5 @@ loop-run-preserved g c =
     let i = c.loop-run.run-index in
     let new = c.gather_run.new.self in
     subst (λ (ks : List ℕ). AreGathered len_of chars source units ks new.classes.items new.brackets.items)
-    (sym (read_in_runs-more len_of chars units c.args.runs.now i c.loop-run-test.true))
-    (c.in_ok-gather_run.ensures (read_in_runs len_of chars units (map bounds (take i c.args.runs.now))) c.loop-run.invariant)
+    (sym (kept_in_place-more len_of chars units c.args.runs.now i c.loop-run-test.true))
+    (c.in_ok-gather_run.ensures (kept_in_place len_of chars units (map bounds (take i c.args.runs.now))) c.loop-run.invariant)

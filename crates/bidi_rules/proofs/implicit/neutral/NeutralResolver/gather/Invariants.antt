@@ -1,6 +1,6 @@
 -- The runs so far are gathered.
 use Rattle.std.proofs.Common.{map, take}
-use Rattle.bidi_base.specs.Units.{bounds, read_in_runs}
+use Rattle.bidi_base.specs.Units.{bounds, kept_in_place}
 use Rattle.bidi_rules.specs.NeutralPass.{AreGathered}
 use Rattle.bidi_rules.proofs.implicit.neutral.NeutralResolver.gather.Given as goal
 
@@ -8,4 +8,4 @@ abbrev pub invariant-loop-run : goal.invariant-loop-run
 invariant-loop-run g l =
     let len_of = g.T.TextSource.units in
     let chars = g.T.TextSource.characters l.fn.text in
-    AreGathered len_of chars (g.D.BidiDataSource.source l.data_source) l.classes (read_in_runs len_of chars l.classes (map bounds (take l.run-index l.runs))) l.self.classes.items l.self.brackets.items
+    AreGathered len_of chars (g.D.BidiDataSource.source l.data_source) l.classes (kept_in_place len_of chars l.classes (map bounds (take l.run-index l.runs))) l.self.classes.items l.self.brackets.items

@@ -7,7 +7,7 @@ use Rattle.bidi_base.proofs.TextLemmas.{is_boundary-le}
 use Rattle.bidi_base.proofs.PlaceLemmas.{index_turn, index_end}
 use Rattle.bidi_rules.specs.NeutralPass.{AreGathered}
 use Rattle.bidi_rules.proofs.Gathered.{AreGathered-more}
-use Rattle.bidi_rules.proofs.ReadRuns.{line_turn, line_end, read_so_far, read_so_far-more, read_so_far-skip, read_so_far-end}
+use Rattle.bidi_rules.proofs.KeptRuns.{line_turn, line_end, kept_so_far, kept_so_far-more, kept_so_far-skip, kept_so_far-end}
 use Rattle.bidi_rules.proofs.implicit.neutral.NeutralResolver.gather_run.Goals as goal
 
 pub overflow_add-class : goal.overflow_add-class
@@ -53,10 +53,10 @@ loop-offset-preserved-in-Continue-1 g c =
       c.in-Some.ensures.goes.keeps,
       (c.in-Some.ensures.goes.on c.loop-offset.invariant.1).1,
       λ before held.
-          let so_far = read_so_far len_of chars units run.start n in
+          let so_far = kept_so_far len_of chars units run.start n in
           rw length_push
           (subst (λ (ks : List ℕ). AreGathered len_of chars source units ks new.classes.items new.brackets.items)
-          (append_assoc before so_far (k ∷ []) ∙ ap (λ (ks : List ℕ). before ++ ks) (sym (read_so_far-more len_of chars units run.start n at t.here (sym c.is_read.ensures ∙ c.if-is_read.true))))
+          (append_assoc before so_far (k ∷ []) ∙ ap (λ (ks : List ℕ). before ++ ks) (sym (kept_so_far-more len_of chars units run.start n at t.here (sym c.is_kept_in_place.ensures ∙ c.if-is_kept_in_place.true))))
           (AreGathered-more len_of chars source units (before ++ so_far) k c.in-Some.c (class_at units at) old.classes.items new.classes.items old.brackets.items new.brackets.items
           (ap (class_at units) t.here) t.is_char c.in_ok-push.ensures.classes c.in_ok-push.ensures.brackets (c.loop-offset.invariant.2 before held))),
     )
@@ -80,7 +80,7 @@ loop-offset-preserved g c =
       λ before held.
           rw length_push
           (subst (λ (ks : List ℕ). AreGathered len_of chars source units (before ++ ks) old.classes.items old.brackets.items)
-          (sym (read_so_far-skip len_of chars units run.start n at t.here (sym c.is_read.ensures ∙ c.if-is_read.false)))
+          (sym (kept_so_far-skip len_of chars units run.start n at t.here (sym c.is_kept_in_place.ensures ∙ c.if-is_kept_in_place.false)))
           (c.loop-offset.invariant.2 before held)),
     )
 
@@ -98,5 +98,5 @@ returns g c =
     let all : n ≡ length part = index_end len_of part c.char_indices-offset-items.ensures c.into_iter-offset-iterator.ensures.into_iter_gives c.loop-offset.yielded _ c.loop-offset.yielded_by _ _ c.in-None.is c.next.ensures.steps in
     λ before held.
     subst (λ (ks : List ℕ). AreGathered len_of chars source units (before ++ ks) now.classes.items now.brackets.items)
-    (read_so_far-end len_of chars units run.start run.end n (line_end len_of h chars run.start run.end c.requires.line part c.subrange.ensures n all))
+    (kept_so_far-end len_of chars units run.start run.end n (line_end len_of h chars run.start run.end c.requires.line part c.subrange.ensures n all))
     (c.loop-offset.invariant.2 before held)

@@ -1,7 +1,7 @@
 -- The characters of the run that came are gathered.
 use Rattle.std.proofs.Common.{ℕ, List, ◌++◌, length}
 use Rattle.bidi_rules.specs.NeutralPass.{AreGathered}
-use Rattle.bidi_rules.proofs.ReadRuns.{read_so_far}
+use Rattle.bidi_rules.proofs.KeptRuns.{kept_so_far}
 use Rattle.bidi_rules.proofs.implicit.neutral.NeutralResolver.gather_run.Given as goal
 
 abbrev pub invariant-loop-offset : goal.invariant-loop-offset
@@ -11,4 +11,4 @@ invariant-loop-offset g l =
     let source = g.D.BidiDataSource.source l.data_source in
     (goal.iterator-loop-offset g).can_next l.offset-iterator × (goal.iterator-loop-offset g).is_finite l.offset-iterator
     × ((before : List ℕ) → AreGathered len_of chars source l.classes before l.fn.self.classes.items l.fn.self.brackets.items
-    → AreGathered len_of chars source l.classes (before ++ read_so_far len_of chars l.classes l.run.start (length l.yielded)) l.self.classes.items l.self.brackets.items)
+    → AreGathered len_of chars source l.classes (before ++ kept_so_far len_of chars l.classes l.run.start (length l.yielded)) l.self.classes.items l.self.brackets.items)

@@ -8,7 +8,7 @@ use Rattle.bidi_base.specs.Neutral.{n1_n2}
 use Rattle.bidi_base.specs.Places.{at_places}
 use Rattle.bidi_base.specs.Sequences.{level_at}
 use Rattle.bidi_base.specs.Source.{Source}
-use Rattle.bidi_base.specs.Units.{bounds, read_in_runs}
+use Rattle.bidi_base.specs.Units.{bounds, kept_in_place}
 use Rattle.bidi_rules.specs.NeutralPass.{values_of}
 use Rattle.bidi_rules.proofs.OneDirection.{IsResolved-one}
 use Rattle.bidi_base.proofs.NeutralLemmas.{direction_of-l_or_r}
@@ -21,8 +21,8 @@ use Rattle.bidi_rules.proofs.implicit.neutral.NeutralResolver.resolve.Goals as g
 level_is : (levels : List ℕ) (first level : ℕ) → first < length levels → level ≡ get_or levels first level → level ≡ level_at levels first
 level_is levels first level within is = is ∙ get_or_default levels first level 0 within
 
-pub first_read-requires : goal.first_read-requires
-first_read-requires g c =
+pub first_kept-requires : goal.first_kept-requires
+first_kept-requires g c =
     let len_of = g.T.TextSource.units in
     let h = g.met.T.TextSource.has_units in
     let chars : List ℕ = g.T.TextSource.characters c.args.text in
@@ -42,7 +42,7 @@ returns-in_default-clause-kept g c =
     let source : Source = g.D.BidiDataSource.source c.args.data_source.now in
     let eos = eos_of c.args.sequence.now in
     (IsResolved-sequence len_of chars source c.args.levels.now c.args.original_classes.now old old c.args.sequence.now runs c.sos-sos.result eos c.runs-runs.ensures c.sos-sos.ensures refl
-    (IsResolved-none len_of h chars source c.args.levels.now c.args.original_classes.now old runs c.sos-sos.result eos ready (sym c.in_default.is ∙ c.first_read.ensures))).kept
+    (IsResolved-none len_of h chars source c.args.levels.now c.args.original_classes.now old runs c.sos-sos.result eos ready (sym c.in_default.is ∙ c.first_kept.ensures))).kept
 
 pub bounds-levels-first : goal.bounds-levels-first
 bounds-levels-first g c =
@@ -52,7 +52,7 @@ bounds-levels-first g c =
     let old = c.args.processing_classes.now in
     let runs = c.runs-runs.result.now in
     let ready = IsReady-sequence len_of h chars c.args.sequence.now runs c.sos-sos.result old c.runs-runs.ensures c.sos-sos.ensures c.requires.per_char c.requires.fits c.requires.resolved in
-    let found = sym c.in-Some.is ∙ c.first_read.ensures in
+    let found = sym c.in-Some.is ∙ c.first_kept.ensures in
     omega (arith, first-within len_of h chars runs c.sos-sos.result old ready c.in-Some.first found, c.requires.levels)
 
 pub stands_alone-requires : goal.stands_alone-requires
@@ -74,7 +74,7 @@ returns-then-stands_alone-clause-kept g c =
     let runs = c.runs-runs.result.now in
     let ready = IsReady-sequence len_of h chars c.args.sequence.now runs c.sos-sos.result old c.runs-runs.ensures c.sos-sos.ensures c.requires.per_char c.requires.fits c.requires.resolved in
     let source : Source = g.D.BidiDataSource.source c.args.data_source.now in
-    let found = sym c.in-Some.is ∙ c.first_read.ensures in
+    let found = sym c.in-Some.is ∙ c.first_kept.ensures in
     let within : c.in-Some.first < length c.args.levels.now = omega (arith, first-within len_of h chars runs c.sos-sos.result old ready c.in-Some.first found, c.requires.levels) in
     let embedding = c.bidi_class-embedding.ensures ∙ ap direction_of (level_is c.args.levels.now c.in-Some.first c.index-levels-first.result within c.index-levels-first.is) in
     let side = ap is_l_or_r embedding ∙ direction_of-l_or_r (level_at c.args.levels.now c.in-Some.first) in
@@ -91,7 +91,7 @@ returns-then-stands_alone-clause-per_char g c =
     let runs = c.runs-runs.result.now in
     let ready = IsReady-sequence len_of h chars c.args.sequence.now runs c.sos-sos.result old c.runs-runs.ensures c.sos-sos.ensures c.requires.per_char c.requires.fits c.requires.resolved in
     let source : Source = g.D.BidiDataSource.source c.args.data_source.now in
-    let found = sym c.in-Some.is ∙ c.first_read.ensures in
+    let found = sym c.in-Some.is ∙ c.first_kept.ensures in
     let within : c.in-Some.first < length c.args.levels.now = omega (arith, first-within len_of h chars runs c.sos-sos.result old ready c.in-Some.first found, c.requires.levels) in
     let embedding = c.bidi_class-embedding.ensures ∙ ap direction_of (level_is c.args.levels.now c.in-Some.first c.index-levels-first.result within c.index-levels-first.is) in
     let side = ap is_l_or_r embedding ∙ direction_of-l_or_r (level_at c.args.levels.now c.in-Some.first) in
@@ -138,7 +138,7 @@ resolve_brackets-requires-clause-gathered g c =
     let runs = c.runs-runs.result.now in
     let ready = IsReady-sequence len_of h chars c.args.sequence.now runs c.sos-sos.result old c.runs-runs.ensures c.sos-sos.ensures c.requires.per_char c.requires.fits c.requires.resolved in
     let source : Source = g.D.BidiDataSource.source c.args.data_source.now in
-    let read = read_in_runs len_of chars old (map bounds runs) in
+    let read = kept_in_place len_of chars old (map bounds runs) in
     let gathered = c.gather.new.self.classes.items in
     let brackets = map source.bracket_of (at_places 0 chars read) in
     AreGathered-length len_of chars source old read gathered c.gather.new.self.brackets.items c.in_ok-gather.ensures
@@ -152,7 +152,7 @@ resolve_brackets-requires-clause-brackets g c =
     let runs = c.runs-runs.result.now in
     let ready = IsReady-sequence len_of h chars c.args.sequence.now runs c.sos-sos.result old c.runs-runs.ensures c.sos-sos.ensures c.requires.per_char c.requires.fits c.requires.resolved in
     let source : Source = g.D.BidiDataSource.source c.args.data_source.now in
-    let read = read_in_runs len_of chars old (map bounds runs) in
+    let read = kept_in_place len_of chars old (map bounds runs) in
     let gathered = c.gather.new.self.classes.items in
     let brackets = map source.bracket_of (at_places 0 chars read) in
     AreGathered-brackets len_of chars source old read gathered c.gather.new.self.brackets.items c.in_ok-gather.ensures
@@ -166,10 +166,10 @@ resolve_directions-requires g c =
     let runs = c.runs-runs.result.now in
     let ready = IsReady-sequence len_of h chars c.args.sequence.now runs c.sos-sos.result old c.runs-runs.ensures c.sos-sos.ensures c.requires.per_char c.requires.fits c.requires.resolved in
     let source : Source = g.D.BidiDataSource.source c.args.data_source.now in
-    let read = read_in_runs len_of chars old (map bounds runs) in
+    let read = kept_in_place len_of chars old (map bounds runs) in
     let gathered = c.gather.new.self.classes.items in
     let brackets = map source.bracket_of (at_places 0 chars read) in
-    let found = sym c.in-Some.is ∙ c.first_read.ensures in
+    let found = sym c.in-Some.is ∙ c.first_kept.ensures in
     let within : c.in-Some.first < length c.args.levels.now = omega (arith, first-within len_of h chars runs c.sos-sos.result old ready c.in-Some.first found, c.requires.levels) in
     let embedding = c.bidi_class-embedding.ensures ∙ ap direction_of (level_is c.args.levels.now c.in-Some.first c.index-levels-first.result within c.index-levels-first.is) in
     let paired = c.in_ok-resolve_brackets.ensures brackets c.in_ok-gather.ensures.brackets_are in
@@ -196,7 +196,7 @@ write_back-requires-clause-resolved g c =
     let runs = c.runs-runs.result.now in
     let ready = IsReady-sequence len_of h chars c.args.sequence.now runs c.sos-sos.result old c.runs-runs.ensures c.sos-sos.ensures c.requires.per_char c.requires.fits c.requires.resolved in
     let source : Source = g.D.BidiDataSource.source c.args.data_source.now in
-    let read = read_in_runs len_of chars old (map bounds runs) in
+    let read = kept_in_place len_of chars old (map bounds runs) in
     let gathered = c.gather.new.self.classes.items in
     let brackets = map source.bracket_of (at_places 0 chars read) in
     let paired = c.in_ok-resolve_brackets.ensures brackets c.in_ok-gather.ensures.brackets_are in
@@ -214,10 +214,10 @@ returns-clause-kept g c =
     let runs = c.runs-runs.result.now in
     let ready = IsReady-sequence len_of h chars c.args.sequence.now runs c.sos-sos.result old c.runs-runs.ensures c.sos-sos.ensures c.requires.per_char c.requires.fits c.requires.resolved in
     let source : Source = g.D.BidiDataSource.source c.args.data_source.now in
-    let read = read_in_runs len_of chars old (map bounds runs) in
+    let read = kept_in_place len_of chars old (map bounds runs) in
     let gathered = c.gather.new.self.classes.items in
     let brackets = map source.bracket_of (at_places 0 chars read) in
-    let found = sym c.in-Some.is ∙ c.first_read.ensures in
+    let found = sym c.in-Some.is ∙ c.first_kept.ensures in
     let within : c.in-Some.first < length c.args.levels.now = omega (arith, first-within len_of h chars runs c.sos-sos.result old ready c.in-Some.first found, c.requires.levels) in
     let embedding = c.bidi_class-embedding.ensures ∙ ap direction_of (level_is c.args.levels.now c.in-Some.first c.index-levels-first.result within c.index-levels-first.is) in
     let paired = c.in_ok-resolve_brackets.ensures brackets c.in_ok-gather.ensures.brackets_are in
@@ -244,10 +244,10 @@ returns-clause-removed g c =
     let runs = c.runs-runs.result.now in
     let ready = IsReady-sequence len_of h chars c.args.sequence.now runs c.sos-sos.result old c.runs-runs.ensures c.sos-sos.ensures c.requires.per_char c.requires.fits c.requires.resolved in
     let source : Source = g.D.BidiDataSource.source c.args.data_source.now in
-    let read = read_in_runs len_of chars old (map bounds runs) in
+    let read = kept_in_place len_of chars old (map bounds runs) in
     let gathered = c.gather.new.self.classes.items in
     let brackets = map source.bracket_of (at_places 0 chars read) in
-    let found = sym c.in-Some.is ∙ c.first_read.ensures in
+    let found = sym c.in-Some.is ∙ c.first_kept.ensures in
     let within : c.in-Some.first < length c.args.levels.now = omega (arith, first-within len_of h chars runs c.sos-sos.result old ready c.in-Some.first found, c.requires.levels) in
     let embedding = c.bidi_class-embedding.ensures ∙ ap direction_of (level_is c.args.levels.now c.in-Some.first c.index-levels-first.result within c.index-levels-first.is) in
     let paired = c.in_ok-resolve_brackets.ensures brackets c.in_ok-gather.ensures.brackets_are in
@@ -274,10 +274,10 @@ returns-clause-outside g c =
     let runs = c.runs-runs.result.now in
     let ready = IsReady-sequence len_of h chars c.args.sequence.now runs c.sos-sos.result old c.runs-runs.ensures c.sos-sos.ensures c.requires.per_char c.requires.fits c.requires.resolved in
     let source : Source = g.D.BidiDataSource.source c.args.data_source.now in
-    let read = read_in_runs len_of chars old (map bounds runs) in
+    let read = kept_in_place len_of chars old (map bounds runs) in
     let gathered = c.gather.new.self.classes.items in
     let brackets = map source.bracket_of (at_places 0 chars read) in
-    let found = sym c.in-Some.is ∙ c.first_read.ensures in
+    let found = sym c.in-Some.is ∙ c.first_kept.ensures in
     let within : c.in-Some.first < length c.args.levels.now = omega (arith, first-within len_of h chars runs c.sos-sos.result old ready c.in-Some.first found, c.requires.levels) in
     let embedding = c.bidi_class-embedding.ensures ∙ ap direction_of (level_is c.args.levels.now c.in-Some.first c.index-levels-first.result within c.index-levels-first.is) in
     let paired = c.in_ok-resolve_brackets.ensures brackets c.in_ok-gather.ensures.brackets_are in
@@ -304,10 +304,10 @@ returns-clause-per_char g c =
     let runs = c.runs-runs.result.now in
     let ready = IsReady-sequence len_of h chars c.args.sequence.now runs c.sos-sos.result old c.runs-runs.ensures c.sos-sos.ensures c.requires.per_char c.requires.fits c.requires.resolved in
     let source : Source = g.D.BidiDataSource.source c.args.data_source.now in
-    let read = read_in_runs len_of chars old (map bounds runs) in
+    let read = kept_in_place len_of chars old (map bounds runs) in
     let gathered = c.gather.new.self.classes.items in
     let brackets = map source.bracket_of (at_places 0 chars read) in
-    let found = sym c.in-Some.is ∙ c.first_read.ensures in
+    let found = sym c.in-Some.is ∙ c.first_kept.ensures in
     let within : c.in-Some.first < length c.args.levels.now = omega (arith, first-within len_of h chars runs c.sos-sos.result old ready c.in-Some.first found, c.requires.levels) in
     let embedding = c.bidi_class-embedding.ensures ∙ ap direction_of (level_is c.args.levels.now c.in-Some.first c.index-levels-first.result within c.index-levels-first.is) in
     let paired = c.in_ok-resolve_brackets.ensures brackets c.in_ok-gather.ensures.brackets_are in

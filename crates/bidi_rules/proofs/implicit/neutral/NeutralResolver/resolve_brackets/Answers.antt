@@ -4,7 +4,7 @@ use Rattle.bidi_base.specs.declared.char_data.BidiClass.{BidiClass}
 use Rattle.bidi_base.specs.declared.char_data.BidiClass.TheVariants.{L}
 use Rattle.bidi_base.specs.Brackets.{bracket_pairs, AreNestedPairs}
 use Rattle.bidi_base.specs.Neutral.{n0}
-use Rattle.bidi_base.specs.Units.{bounds, read_in_runs}
+use Rattle.bidi_base.specs.Units.{bounds, kept_in_place}
 use Rattle.bidi_base.proofs.BracketRules.{n0-none}
 use Rattle.bidi_base.proofs.NestedPairs.{bracket_pairs-nested}
 use Rattle.bidi_rules.specs.NeutralPass.{values_of}
@@ -15,7 +15,7 @@ pub returns-then-is_empty : goal.returns-then-is_empty
 returns-then-is_empty g c =
     let classes = c.args.self.now.classes.items in
     λ brackets found.
-    let source = values_of L g.T.TextSource.units (g.T.TextSource.characters c.args.text) c.args.original_classes.now (read_in_runs g.T.TextSource.units (g.T.TextSource.characters c.args.text) c.args.processing_classes.now (map bounds c.args.runs.now)) in
+    let source = values_of L g.T.TextSource.units (g.T.TextSource.characters c.args.text) c.args.original_classes.now (kept_in_place g.T.TextSource.units (g.T.TextSource.characters c.args.text) c.args.processing_classes.now (map bounds c.args.runs.now)) in
     let few : vec_len c.find_pairs.new.pairs ≡ 0 = eqb-true (vec_len c.find_pairs.new.pairs) 0 (sym c.is_empty.ensures ∙ c.if-is_empty.true) in
     let none : c.find_pairs.new.pairs.items ≡ [] = nil_from_length c.find_pairs.new.pairs.items (omega (arith, few, c.find_pairs.new.pairs.ok)) in
     let pairs : bracket_pairs classes brackets ≡ [] = sym (c.in_ok-find_pairs.ensures classes brackets (c.as_slice.ensures.value ∙ found)) ∙ none in
@@ -25,7 +25,7 @@ pub resolve_pairs-requires-clause-lengths : goal.resolve_pairs-requires-clause-l
 resolve_pairs-requires-clause-lengths g c =
     let len_of = g.T.TextSource.units in
     let chars : List ℕ = g.T.TextSource.characters c.args.text in
-    let read = read_in_runs len_of chars c.args.processing_classes.now (map bounds c.args.runs.now) in
+    let read = kept_in_place len_of chars c.args.processing_classes.now (map bounds c.args.runs.now) in
     ap length (c.as_slice-2.ensures.value ∙ c.in_ok-gather_sources.ensures)
     ∙ length-values_of len_of chars L c.args.original_classes.now read
     ∙ sym c.requires.gathered
@@ -41,7 +41,7 @@ resolve_pairs-requires-clause-pairs g c =
 pub returns : goal.returns
 returns g c =
     let classes = c.args.self.now.classes.items in
-    let source = values_of L g.T.TextSource.units (g.T.TextSource.characters c.args.text) c.args.original_classes.now (read_in_runs g.T.TextSource.units (g.T.TextSource.characters c.args.text) c.args.processing_classes.now (map bounds c.args.runs.now)) in
+    let source = values_of L g.T.TextSource.units (g.T.TextSource.characters c.args.text) c.args.original_classes.now (kept_in_place g.T.TextSource.units (g.T.TextSource.characters c.args.text) c.args.processing_classes.now (map bounds c.args.runs.now)) in
     λ brackets found.
     with_items_is c.args.self.now.classes c.resolve_pairs.new.classes (c.resolve_pairs.auto.classes ∙ c.as_mut_slice.ensures.len)
     ∙ c.resolve_pairs.ensures

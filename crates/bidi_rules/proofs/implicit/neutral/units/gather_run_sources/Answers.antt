@@ -5,7 +5,7 @@ use Rattle.bidi_base.specs.declared.char_data.BidiClass.TheVariants.{L}
 use Rattle.bidi_base.proofs.TextLemmas.{is_boundary-le}
 use Rattle.bidi_base.proofs.PlaceLemmas.{index_turn, index_end}
 use Rattle.bidi_rules.specs.NeutralPass.{values_of}
-use Rattle.bidi_rules.proofs.ReadRuns.{line_turn, line_end, read_so_far, read_so_far-skip, read_so_far-end, values_so_far-more}
+use Rattle.bidi_rules.proofs.KeptRuns.{line_turn, line_end, kept_so_far, kept_so_far-skip, kept_so_far-end, values_so_far-more}
 use Rattle.bidi_rules.proofs.implicit.neutral.units.gather_run_sources.Goals as goal
 
 pub overflow_add-start : goal.overflow_add-start
@@ -56,14 +56,14 @@ loop-offset-preserved-in-Continue-1 g c =
     let t = line_turn len_of h chars run.start run.end c.requires.line part c.subrange.ensures n c.in-Some.offset c.in-Some.field-0-1 turn in
     let old = c.args.original_classes.now in
     let units = c.args.processing_classes.now in
-    let so_far = values_of L len_of chars old (read_so_far len_of chars units run.start n) in (
+    let so_far = values_of L len_of chars old (kept_so_far len_of chars units run.start n) in (
       c.in-Some.ensures.goes.keeps,
       (c.in-Some.ensures.goes.on c.loop-offset.invariant.1).1,
       rw length_push
           (c.in_ok-push.ensures.items
           ∙ ap (λ (xs : List BidiClass). xs ++ get_or old (run.start + c.in-Some.offset) L ∷ []) c.loop-offset.invariant.2
           ∙ append_assoc c.args.sources.now.items so_far (get_or old (run.start + c.in-Some.offset) L ∷ [])
-          ∙ ap (λ (xs : List BidiClass). c.args.sources.now.items ++ xs) (sym (values_so_far-more len_of chars units L old run.start n (run.start + c.in-Some.offset) t.here (sym c.is_read.ensures ∙ c.if-is_read.true)))),
+          ∙ ap (λ (xs : List BidiClass). c.args.sources.now.items ++ xs) (sym (values_so_far-more len_of chars units L old run.start n (run.start + c.in-Some.offset) t.here (sym c.is_kept_in_place.ensures ∙ c.if-is_kept_in_place.true)))),
     )
 
 pub loop-offset-preserved : goal.loop-offset-preserved
@@ -82,7 +82,7 @@ loop-offset-preserved g c =
       (c.in-Some.ensures.goes.on c.loop-offset.invariant.1).1,
       rw length_push
           (c.loop-offset.invariant.2
-          ∙ ap (λ (ks : List ℕ). c.args.sources.now.items ++ values_of L len_of chars old ks) (sym (read_so_far-skip len_of chars units run.start n (run.start + c.in-Some.offset) t.here (sym c.is_read.ensures ∙ c.if-is_read.false)))),
+          ∙ ap (λ (ks : List ℕ). c.args.sources.now.items ++ values_of L len_of chars old ks) (sym (kept_so_far-skip len_of chars units run.start n (run.start + c.in-Some.offset) t.here (sym c.is_kept_in_place.ensures ∙ c.if-is_kept_in_place.false)))),
     )
 
 pub returns : goal.returns
@@ -96,4 +96,4 @@ returns g c =
     let all : n ≡ length part = index_end len_of part c.char_indices-offset-items.ensures c.into_iter-offset-iterator.ensures.into_iter_gives c.loop-offset.yielded _ c.loop-offset.yielded_by _ _ c.in-None.is c.next.ensures.steps in
     c.loop-offset.invariant.2
     ∙ ap (λ (ks : List ℕ). c.args.sources.now.items ++ values_of L len_of chars c.args.original_classes.now ks)
-    (read_so_far-end len_of chars c.args.processing_classes.now run.start run.end n (line_end len_of h chars run.start run.end c.requires.line part c.subrange.ensures n all))
+    (kept_so_far-end len_of chars c.args.processing_classes.now run.start run.end n (line_end len_of h chars run.start run.end c.requires.line part c.subrange.ensures n all))

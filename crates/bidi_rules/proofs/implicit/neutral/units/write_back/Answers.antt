@@ -1,5 +1,5 @@
 use Rattle.std.proofs.Common.{ℕ, List}
-use Rattle.bidi_rules.proofs.ReadRuns.{line_at}
+use Rattle.bidi_rules.proofs.KeptRuns.{line_at}
 use Rattle.bidi_rules.proofs.WritingBack.{AreWrittenBack-start, AreWrittenBack-per_char, AreWrittenBack-room, AreWrittenBack-more, AreWrittenBack-end}
 use Rattle.bidi_rules.proofs.implicit.neutral.units.write_back.Goals as goal
 

@@ -1,11 +1,11 @@
 use Rattle.std.proofs.Common.{◌≡◌, ℕ, ◌+◌, ◌<◌, List, true, length, get_or, refl, sym, ap, ◌∙◌, arith, rules}
 use Rattle.std.proofs.lemmas.List.{length_push}
-use Rattle.bidi_base.specs.Classes.{is_read}
+use Rattle.bidi_base.specs.Classes.{is_kept_in_place}
 use Rattle.bidi_base.specs.Places.{class_at}
 use Rattle.bidi_base.proofs.TextLemmas.{is_boundary-le}
 use Rattle.bidi_base.proofs.UnitsLemmas.{length-from_IsPerChar}
 use Rattle.bidi_base.proofs.PlaceLemmas.{length_turn, length_end}
-use Rattle.bidi_rules.proofs.ReadRuns.{line_turn, line_end}
+use Rattle.bidi_rules.proofs.KeptRuns.{line_turn, line_end}
 use Rattle.bidi_rules.proofs.WritingBack.{IsWrittenBack-start, IsWrittenBack-alike, IsWrittenBack-reads, IsWrittenBack-room, IsWrittenBack-more, IsWrittenBack-skip, IsWrittenBack-next, IsWrittenBack-classes}
 use Rattle.bidi_rules.proofs.implicit.neutral.units.write_run.Goals as goal
 
@@ -33,8 +33,8 @@ overflow_add-start g c =
     let t = line_turn len_of h chars run.start run.end c.requires.line part c.subrange.ensures n c.in-Some.offset (get_or part n 0) turn.turn in
     omega (arith, t.some, t.below, c.fits-run)
 
-pub slice_copy_out-is_read : goal.slice_copy_out-is_read
-slice_copy_out-is_read g c =
+pub slice_copy_out-is_kept_in_place : goal.slice_copy_out-is_kept_in_place
+slice_copy_out-is_kept_in_place g c =
     let len_of = g.T.TextSource.units in
     let h = g.met.T.TextSource.has_units in
     let chars : List ℕ = g.T.TextSource.characters c.args.text in
@@ -59,8 +59,8 @@ bounds-resolved-next g c =
     let t = line_turn len_of h chars run.start run.end c.requires.line part c.subrange.ensures n c.in-Some.offset (get_or part n 0) turn.turn in
     let at = run.start + c.in-Some.offset in
     let same = IsWrittenBack-reads len_of h chars units c.requires.per_char c.args.resolved.now run.start run.end c.args.first n c.loop-offset.next c.in-Some.offset (get_or part n 0) c.loop-offset.classes c.loop-offset.invariant.2 t in
-    let is_read_is = sym c.is_read.ensures in
-    let reads : is_read (class_at units at) ≡ true = ap is_read (sym same) ∙ is_read_is ∙ c.if-is_read.true in
+    let is_kept_is = sym c.is_kept_in_place.ensures in
+    let reads : is_kept_in_place (class_at units at) ≡ true = ap is_kept_in_place (sym same) ∙ is_kept_is ∙ c.if-is_kept_in_place.true in
     IsWrittenBack-room len_of h chars units c.requires.per_char c.args.resolved.now run.start run.end c.args.first n c.loop-offset.next c.in-Some.offset (get_or part n 0) c.loop-offset.classes c.loop-offset.invariant.2 t reads c.requires.resolved
 
 pub write-requires-clause-inside : goal.write-requires-clause-inside
@@ -117,13 +117,13 @@ overflow_add-next g c =
     let t = line_turn len_of h chars run.start run.end c.requires.line part c.subrange.ensures n c.in-Some.offset (get_or part n 0) turn.turn in
     let at = run.start + c.in-Some.offset in
     let same = IsWrittenBack-reads len_of h chars units c.requires.per_char c.args.resolved.now run.start run.end c.args.first n c.loop-offset.next c.in-Some.offset (get_or part n 0) c.loop-offset.classes c.loop-offset.invariant.2 t in
-    let is_read_is = sym c.is_read.ensures in
-    let reads : is_read (class_at units at) ≡ true = ap is_read (sym same) ∙ is_read_is ∙ c.if-is_read.true in
+    let is_kept_is = sym c.is_kept_in_place.ensures in
+    let reads : is_kept_in_place (class_at units at) ≡ true = ap is_kept_in_place (sym same) ∙ is_kept_is ∙ c.if-is_kept_in_place.true in
     let room : c.loop-offset.next < length c.args.resolved.now = IsWrittenBack-room len_of h chars units c.requires.per_char c.args.resolved.now run.start run.end c.args.first n c.loop-offset.next c.in-Some.offset (get_or part n 0) c.loop-offset.classes c.loop-offset.invariant.2 t reads c.requires.resolved in
     search (rules, room)
 
-pub loop-offset-preserved-then-is_read : goal.loop-offset-preserved-then-is_read
-loop-offset-preserved-then-is_read g c =
+pub loop-offset-preserved-then-is_kept_in_place : goal.loop-offset-preserved-then-is_kept_in_place
+loop-offset-preserved-then-is_kept_in_place g c =
     let len_of = g.T.TextSource.units in
     let h = g.met.T.TextSource.has_units in
     let chars : List ℕ = g.T.TextSource.characters c.args.text in
@@ -135,8 +135,8 @@ loop-offset-preserved-then-is_read g c =
     let t = line_turn len_of h chars run.start run.end c.requires.line part c.subrange.ensures n c.in-Some.offset (get_or part n 0) turn.turn in
     let at = run.start + c.in-Some.offset in
     let same = IsWrittenBack-reads len_of h chars units c.requires.per_char c.args.resolved.now run.start run.end c.args.first n c.loop-offset.next c.in-Some.offset (get_or part n 0) c.loop-offset.classes c.loop-offset.invariant.2 t in
-    let is_read_is = sym c.is_read.ensures in
-    let reads : is_read (class_at units at) ≡ true = ap is_read (sym same) ∙ is_read_is ∙ c.if-is_read.true in
+    let is_kept_is = sym c.is_kept_in_place.ensures in
+    let reads : is_kept_in_place (class_at units at) ≡ true = ap is_kept_in_place (sym same) ∙ is_kept_is ∙ c.if-is_kept_in_place.true in
     let room : c.loop-offset.next < length c.args.resolved.now = IsWrittenBack-room len_of h chars units c.requires.per_char c.args.resolved.now run.start run.end c.args.first n c.loop-offset.next c.in-Some.offset (get_or part n 0) c.loop-offset.classes c.loop-offset.invariant.2 t reads c.requires.resolved in (
       c.in-Some.ensures.goes.keeps,
       (c.in-Some.ensures.goes.on c.loop-offset.invariant.1).1,
@@ -158,12 +158,12 @@ loop-offset-preserved g c =
     let t = line_turn len_of h chars run.start run.end c.requires.line part c.subrange.ensures n c.in-Some.offset (get_or part n 0) turn.turn in
     let at = run.start + c.in-Some.offset in
     let same = IsWrittenBack-reads len_of h chars units c.requires.per_char c.args.resolved.now run.start run.end c.args.first n c.loop-offset.next c.in-Some.offset (get_or part n 0) c.loop-offset.classes c.loop-offset.invariant.2 t in
-    let is_read_is = sym c.is_read.ensures in (
+    let is_kept_is = sym c.is_kept_in_place.ensures in (
       c.in-Some.ensures.goes.keeps,
       (c.in-Some.ensures.goes.on c.loop-offset.invariant.1).1,
       rw length_push
           (IsWrittenBack-skip len_of h chars units c.requires.per_char c.args.resolved.now run.start run.end c.args.first n c.loop-offset.next c.in-Some.offset (get_or part n 0) c.loop-offset.classes c.loop-offset.invariant.2 t
-          (ap is_read (sym same) ∙ is_read_is ∙ c.if-is_read.false)),
+          (ap is_kept_in_place (sym same) ∙ is_kept_is ∙ c.if-is_kept_in_place.false)),
     )
 
 pub returns-clause-next : goal.returns-clause-next

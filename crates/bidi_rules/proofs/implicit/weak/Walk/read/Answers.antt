@@ -2,7 +2,7 @@ use Rattle.std.proofs.Common.{◌≡◌, ◌<◌, ◌≤◌, ℕ, true, false, L
 use Rattle.std.specs.Prelude.{IsTrue}
 use Rattle.std.proofs.lemmas.Bool.{and_right, and_from}
 use Rattle.bidi_base.specs.declared.char_data.BidiClass.{BidiClass}
-use Rattle.bidi_base.specs.Classes.{is_read}
+use Rattle.bidi_base.specs.Classes.{is_kept_in_place}
 use Rattle.bidi_base.specs.Places.{class_at}
 use Rattle.bidi_base.specs.Units.{bounds, are_ordered, in_runs}
 use Rattle.bidi_base.specs.Weak.{carried}
@@ -29,13 +29,13 @@ settled_by p runs run from to next w now now1 h v held is ordered some none =
     (IsWrittenOver-settled p next.marks_are now w from h held now1 (subst (λ (rs : List (ℕ × ℕ)). are_ordered rs ≡ true) (sym next.runs_are) ordered)
     (λ t. subst (λ (rs : List (ℕ × ℕ)). IsWrittenOver (is_seen (drop w.first_run rs) now) held w.first from now now1) (sym next.runs_are) (some t)) none)
 
-pub returns-then-not-is_read-clause-reads : goal.returns-then-not-is_read-clause-reads
-returns-then-not-is_read-clause-reads c =
+pub returns-then-not-is_kept_in_place-clause-reads : goal.returns-then-not-is_kept_in_place-clause-reads
+returns-then-not-is_kept_in_place-clause-reads c =
     λ p next h.
     let i = c.args.start in
     let reads : class_at c.args.classes.now i ≡ class_at p.old i = h.unwritten i h.order in
     IsUnderWay-removed p next.marks_are c.args.classes.now c.args.self.now i h c.args.end next.character
-    (and_right (in_runs p.runs i) (is_read (class_at p.old i)) (ap is_read (sym reads) ∙ sym c.is_read.ensures ∙ c.if-not-is_read.true))
+    (and_right (in_runs p.runs i) (is_kept_in_place (class_at p.old i)) (ap is_kept_in_place (sym reads) ∙ sym c.is_kept_in_place.ensures ∙ c.if-not-is_kept_in_place.true))
 
 pub returns-clause-reads : goal.returns-clause-reads
 returns-clause-reads c =
@@ -48,7 +48,7 @@ returns-clause-reads c =
     let y = marked w.mark x in
     let z = w2_w3 w.after_al y in
     let reads : class_at now i ≡ x = h.unwritten i h.order in
-    let here : seen p i ≡ true = and_from (in_runs p.runs i) (is_read x) (in_run_here p runs c.args.run i c.args.end next) (ap is_read (sym reads) ∙ sym c.is_read.ensures ∙ c.if-not-is_read.false) in
+    let here : seen p i ≡ true = and_from (in_runs p.runs i) (is_kept_in_place x) (in_run_here p runs c.args.run i c.args.end next) (ap is_kept_in_place (sym reads) ∙ sym c.is_kept_in_place.ensures ∙ c.if-not-is_kept_in_place.false) in
     let y_is : c.marked-marked.result ≡ y = c.marked-marked.ensures ∙ ap (marked w.mark) reads in
     let z_is : c.strengthened-strong.result ≡ z = c.strengthened-strong.ensures ∙ ap (w2_w3 w.after_al) y_is in
     let n_is : c.after-next.result ≡ next_before z w.before = c.after-next.ensures ∙ ap (λ (d : BidiClass). next_before d w.before) z_is in
@@ -73,7 +73,7 @@ returns-clause-reads c =
           let own : b.numbered-own.result ≡ w7_by w.after_l (resolved z w.before) = b.numbered-own.ensures ∙ ap (w7_by w.after_l) (b.resolved.ensures ∙ ap (λ (d : BidiClass). resolved d w.before) z_is) in
           IsUnderWay-same p b.write_over.new.classes _ _ _ c.args.end b.classes-is carried_is (after_al_is _ b.self-is) (after_l_is _ b.self-is) n_is (ap (λ (s : Walk). s.first) b.self-is) (ap (λ (s : Walk). s.first_run) b.self-is)
           (IsUnderWay-decides p next.marks_are now w i h c.args.end next.character here b.settle.new.classes written (parted b.if-not-is_joined_by.true) (ap waits (sym n_is) ∙ sym b.waits.ensures ∙ b.if-waits.false) b.write_over.new.classes
-          (subst (λ (d : BidiClass). IsWrittenOver (λ k. is_read (class_at b.settle.new.classes k)) d i c.args.end b.settle.new.classes b.write_over.new.classes) own b.write_over.ensures))
+          (subst (λ (d : BidiClass). IsWrittenOver (λ k. is_kept_in_place (class_at b.settle.new.classes k)) d i c.args.end b.settle.new.classes b.write_over.new.classes) own b.write_over.ensures))
       | else-not-is_joined_by b ↦
           IsUnderWay-same p now _ _ _ c.args.end b.classes-is carried_is (after_al_is _ b.self-is) (after_l_is _ b.self-is) n_is (ap (λ (s : Walk). s.first) b.self-is) (ap (λ (s : Walk). s.first_run) b.self-is)
           (IsUnderWay-joins p next.marks_are now w i h c.args.end next.character here (sym j_is ∙ b.if-not-is_joined_by.false))

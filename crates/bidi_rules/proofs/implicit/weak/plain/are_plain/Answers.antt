@@ -3,7 +3,7 @@ use Rattle.std.proofs.lemmas.Bool.{or_cases}
 use Rattle.std.proofs.lemmas.List.{get_or-map, length-map, take_all}
 use Rattle.bidi_base.specs.Units.{bounds, in_runs}
 use Rattle.bidi_rules.proofs.InRuns.{in_run, in_run-true, in_runs-more}
-use Rattle.bidi_rules.proofs.ReadRuns.{no_range}
+use Rattle.bidi_rules.proofs.KeptRuns.{no_range}
 use Rattle.bidi_rules.proofs.implicit.weak.plain.are_plain.Goals as goal
 
 pub is_plain_run-requires : goal.is_plain_run-requires

@@ -7,7 +7,7 @@ use Rattle.bidi_base.specs.Places.{class_at}
 use Rattle.bidi_base.specs.Units.{bounds, in_runs}
 use Rattle.bidi_rules.specs.WeakPass.{plainly}
 use Rattle.bidi_rules.proofs.InRuns.{in_run, in_run-inside, in_run-true, in_runs-more}
-use Rattle.bidi_rules.proofs.ReadRuns.{no_range}
+use Rattle.bidi_rules.proofs.KeptRuns.{no_range}
 use Rattle.bidi_rules.proofs.implicit.weak.plain.change.Goals as goal
 
 -- a class that has changed stays

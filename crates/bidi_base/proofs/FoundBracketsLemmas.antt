@@ -1,0 +1,48 @@
+-- The brackets of a sequence, gathered one character after the other.
+use Rattle.std.proofs.Common.{◌≡◌, ℕ, suc, ◌+◌, ◌<◌, List, [], ◌∷◌, ◌++◌, length, get_or, take, Option, Some, None, sym, ap, ◌∙◌, arith}
+use Rattle.std.proofs.lemmas.List.{length-take-le, take_more}
+use Rattle.bidi_base.specs.declared.char_data.BidiClass.{BidiClass}
+use Rattle.bidi_base.specs.declared.data_source.BidiMatchedOpeningBracket.{BidiMatchedOpeningBracket}
+use Rattle.bidi_base.specs.Brackets.{counted_bracket, counted_brackets}
+use Rattle.bidi_base.proofs.PairsLemmas.{length-counted_brackets}
+use Rattle.bidi_base.specs.declared.brackets.Bracket.{Bracket}
+use Rattle.bidi_base.specs.FoundBrackets.{brackets_from, found_brackets}
+
+counted_brackets-push : (classes : List BidiClass) (brackets : List (Option BidiMatchedOpeningBracket)) (c : BidiClass) (b : Option BidiMatchedOpeningBracket) → length brackets ≡ length classes
+    → counted_brackets (classes ++ c ∷ []) (brackets ++ b ∷ []) ≡ counted_brackets classes brackets ++ counted_bracket c b ∷ []
+counted_brackets-push [] [] c b h = λ i. counted_bracket c b ∷ []
+counted_brackets-push [] (x ∷ brackets) c b h = absurd (omega arith)
+counted_brackets-push (x ∷ classes) [] c b h = absurd (omega arith)
+counted_brackets-push (x ∷ classes) (y ∷ brackets) c b h = ap (λ (rest : List (Option BidiMatchedOpeningBracket)). counted_bracket x y ∷ rest) (counted_brackets-push classes brackets c b (omega arith))
+
+brackets_from-push : (k : ℕ) (brackets : List (Option BidiMatchedOpeningBracket)) (b : Option BidiMatchedOpeningBracket) → brackets_from k (brackets ++ b ∷ []) ≡ brackets_from k brackets ++ brackets_from (k + length brackets) (b ∷ [])
+brackets_from-push k [] b = ap (λ (n : ℕ). brackets_from n (b ∷ [])) (let same : k ≡ k + 0 = omega arith in same)
+brackets_from-push k (None ∷ brackets) b =
+    let place : k + 1 + length brackets ≡ k + suc (length brackets) = omega arith in
+    brackets_from-push (k + 1) brackets b ∙ ap (λ (n : ℕ). brackets_from (k + 1) brackets ++ brackets_from n (b ∷ [])) place
+brackets_from-push k (Some x ∷ brackets) b =
+    let place : k + 1 + length brackets ≡ k + suc (length brackets) = omega arith in
+    let first : Bracket = record { index = k; opening = x.opening; is_open = x.is_open } in
+    ap (λ (rest : List Bracket). first ∷ rest) (brackets_from-push (k + 1) brackets b ∙ ap (λ (n : ℕ). brackets_from (k + 1) brackets ++ brackets_from n (b ∷ [])) place)
+
+-- one more character, with its bracket behind the others if it counts
+pub found_brackets-push : (classes : List BidiClass) (brackets : List (Option BidiMatchedOpeningBracket)) (c : BidiClass) (b : Option BidiMatchedOpeningBracket) → length brackets ≡ length classes
+    → found_brackets (classes ++ c ∷ []) (brackets ++ b ∷ []) ≡ found_brackets classes brackets ++ brackets_from (length classes) (counted_bracket c b ∷ [])
+unfolding found_brackets
+found_brackets-push classes brackets c b h =
+    ap (brackets_from 0) (counted_brackets-push classes brackets c b h)
+    ∙ brackets_from-push 0 (counted_brackets classes brackets) (counted_bracket c b)
+    ∙ ap (λ (n : ℕ). brackets_from 0 (counted_brackets classes brackets) ++ brackets_from n (counted_bracket c b ∷ []))
+    (let place : 0 + length (counted_brackets classes brackets) ≡ length classes = omega (arith, length-counted_brackets classes brackets h) in place)
+
+-- the same of the first characters
+pub found_brackets-more : (classes : List BidiClass) (brackets : List (Option BidiMatchedOpeningBracket)) (i : ℕ) (d : BidiClass) → length brackets ≡ length classes → i < length classes
+    → found_brackets (take (i + 1) classes) (take (i + 1) brackets) ≡ found_brackets (take i classes) (take i brackets) ++ brackets_from i (counted_bracket (get_or classes i d) (get_or brackets i None) ∷ [])
+found_brackets-more classes brackets i d h inside =
+    let size : length (take i classes) ≡ i = length-take-le i classes (omega arith) in
+    let same : length (take i brackets) ≡ length (take i classes) = length-take-le i brackets (omega arith) ∙ sym size in
+    let c = get_or classes i d in
+    let b = get_or brackets i None in
+    rw (take_more classes i d inside, take_more brackets i None (omega arith))
+    (found_brackets-push (take i classes) (take i brackets) c b same
+    ∙ ap (λ (n : ℕ). found_brackets (take i classes) (take i brackets) ++ brackets_from n (counted_bracket c b ∷ [])) size)

@@ -1,0 +1,182 @@
+-- Units of UTF-16 as a list of characters: `utf16_text us`, with `utf16_len` for the lengths.
+use Rattle.std.proofs.Common.{zero, suc, ◌≡◌, ◌==◌, ℕ, ◌+◌, ◌-◌, ◌≤◌, Bool, true, false, ◌&&◌, ◌||◌, nat_le, nat_lt, if◌then◌else◌, List, [], ◌∷◌, ◌++◌, length, take, drop, get_or, Option, Some, None, MatchOption, inl, inr, refl, sym, ◌∙◌, ap, subst, arith, length-take, length-drop, get_or-drop}
+use Rattle.std.specs.Prelude.{slice_range}
+use Rattle.std.proofs.lemmas.Bool.{cases_Bool, false_from_ne_true}
+use Rattle.std.proofs.lemmas.Bool.Decides.{nat_tests}
+use Rattle.std.proofs.lemmas.List.Sums.{sum_by-cons}
+use Rattle.bidi_base.specs.Text.{text_len, char_at, is_boundary, subrange, IsLine}
+use Rattle.bidi_base.specs.Utf16.{is_pair, pair_char, lone_char, utf16_text, utf16_len, splits_pair, IsFirst}
+use Rattle.bidi_base.proofs.TextLemmas.{HasUnits, is_boundary-le, char_at-append, char_at-None, char_at-end, subrange-middle}
+
+pub has_units : HasUnits utf16_len
+has_units c = grind (arith, nat_tests)
+
+pub utf16_len-lone : (u : ℕ) → utf16_len (lone_char u) ≡ 1
+utf16_len-lone u = grind (arith, nat_tests)
+
+pub utf16_len-pair : (u v : ℕ) → utf16_len (pair_char u v) ≡ 2
+utf16_len-pair u v = two (pair_char u v) (omega arith) where
+  two : (c : ℕ) → 0x10000 ≤ c → utf16_len c ≡ 2
+  two c h = grind (arith, nat_tests)
+
+-- ---- the characters, step by step
+
+module _ (u v : ℕ) (us : List ℕ) where
+  pub text_pair : is_pair u v ≡ true → utf16_text (u ∷ v ∷ us) ≡ pair_char u v ∷ utf16_text us
+  text_pair e = ap (λ b. if b then pair_char u v ∷ utf16_text us else (lone_char u ∷ utf16_text (v ∷ us))) e
+
+  pub text_lone : is_pair u v ≡ false → utf16_text (u ∷ v ∷ us) ≡ lone_char u ∷ utf16_text (v ∷ us)
+  text_lone e = ap (λ b. if b then pair_char u v ∷ utf16_text us else (lone_char u ∷ utf16_text (v ∷ us))) e
+
+-- the lengths of the characters add up to the units
+pub text_len-utf16 : (us : List ℕ) → text_len utf16_len (utf16_text us) ≡ length us
+text_len-utf16 [] = refl
+text_len-utf16 (u ∷ []) = omega (arith, sum_by-cons utf16_len (lone_char u) [], utf16_len-lone u)
+text_len-utf16 (u ∷ v ∷ us) = elim (cases_Bool (is_pair u v)) [
+  | inl p ↦ rw (text_pair u v us p) (omega (arith, sum_by-cons utf16_len (pair_char u v) (utf16_text us), utf16_len-pair u v, text_len-utf16 us))
+  | inr n ↦ rw (text_lone u v us n) (omega (arith, sum_by-cons utf16_len (lone_char u) (utf16_text (v ∷ us)), utf16_len-lone u, text_len-utf16 (v ∷ us)))
+]
+
+-- ---- units that are cut between two characters
+
+-- no pair stands across the index i
+abbrev pub NoPairAt : List ℕ → ℕ → Type 0
+NoPairAt us i = (n : ℕ) → i ≡ suc n → is_pair (get_or us n 0) (get_or us (suc n) 0) ≡ false
+
+pub utf16_text-cut : (us : List ℕ) (i : ℕ) → NoPairAt us i → utf16_text us ≡ utf16_text (take i us) ++ utf16_text (drop i us)
+utf16_text-cut us zero h = refl
+utf16_text-cut [] (suc n) h = refl
+utf16_text-cut (u ∷ []) (suc zero) h = refl
+utf16_text-cut (u ∷ []) (suc (suc n)) h = refl
+utf16_text-cut (u ∷ v ∷ us) (suc zero) h = text_lone u v us (h 0 refl)
+utf16_text-cut (u ∷ v ∷ us) (suc (suc n)) h = elim (cases_Bool (is_pair u v)) [
+  | inl p ↦ text_pair u v us p ∙ ap (λ z. pair_char u v ∷ z) (utf16_text-cut us n (λ m e. h (suc (suc m)) (ap (λ x. suc (suc x)) e)))
+      ∙ ap (λ z. z ++ utf16_text (drop n us)) (sym (text_pair u v (take n us) p))
+  | inr q ↦ text_lone u v us q ∙ ap (λ z. lone_char u ∷ z) (utf16_text-cut (v ∷ us) (suc n) (λ m e. h (suc m) (ap suc e)))
+      ∙ ap (λ z. z ++ utf16_text (drop n us)) (sym (text_lone u v (take n us) q))
+]
+
+text_len-front : (us : List ℕ) (i : ℕ) → i ≤ length us → text_len utf16_len (utf16_text (take i us)) ≡ i
+text_len-front us i le = omega (arith, text_len-utf16 (take i us), length-take i us)
+
+-- what stands there begins what follows
+pub char_at-cut : (us : List ℕ) (i : ℕ) → i ≤ length us → NoPairAt us i → char_at utf16_len (utf16_text us) i ≡ char_at utf16_len (utf16_text (drop i us)) 0
+char_at-cut us i le n =
+    ap (λ cs. char_at utf16_len cs i) (utf16_text-cut us i n)
+    ∙ ap (char_at utf16_len (utf16_text (take i us) ++ utf16_text (drop i us))) (sym (text_len-front us i le))
+    ∙ char_at-append utf16_len has_units (utf16_text (take i us)) (utf16_text (drop i us))
+
+-- ---- no boundary lies in a pair
+
+-- the second unit of a pair begins no pair
+after_pair : (u v w : ℕ) → is_pair u v ≡ true → is_pair v w ≡ false
+after_pair u v w e = grind (arith, nat_tests)
+
+-- nor is there a pair past the end
+no_pair : (u : ℕ) → is_pair u 0 ≡ false
+no_pair u = grind (arith, nat_tests)
+
+true_false : (b : Bool) → b ≡ true → b ≡ false → ⊥
+true_false b p q = cc (p, q)
+
+-- a boundary past the first character is one of the rest
+past_first : (len n : ℕ) (rest : ℕ → Bool) (l : ℕ) → len ≡ l → 1 ≤ n → rest (n - l) ≡ false → (n == 0 || (nat_le len n && rest (n - len))) ≡ false
+past_first len n rest l e h f = none n _ h (ap (λ m. rest (n - m)) e ∙ f)
+  where
+    none : (n : ℕ) (b : Bool) → 1 ≤ n → b ≡ false → (n == 0 || (nat_le len n && b)) ≡ false
+    none n b h f = grind (arith, nat_tests)
+
+pub is_boundary-inside : (us : List ℕ) (n : ℕ) → is_pair (get_or us n 0) (get_or us (suc n) 0) ≡ true → is_boundary utf16_len (utf16_text us) (suc n) ≡ false
+is_boundary-inside [] n p = absurd (true_false _ p (no_pair 0))
+is_boundary-inside (u ∷ []) n p = absurd (true_false _ p (no_pair (get_or (u ∷ []) n 0)))
+is_boundary-inside (u ∷ v ∷ us) zero p =
+    ap (λ cs. is_boundary utf16_len cs 1) (text_pair u v us p)
+    ∙ ap (λ l. 1 == 0 || (nat_le l 1 && is_boundary utf16_len (utf16_text us) (1 - l))) (utf16_len-pair u v)
+is_boundary-inside (u ∷ v ∷ us) (suc zero) p = elim (cases_Bool (is_pair u v)) [
+  | inl q ↦ absurd (true_false _ p (after_pair u v (get_or (u ∷ v ∷ us) 2 0) q))
+  | inr q ↦ ap (λ cs. is_boundary utf16_len cs 2) (text_lone u v us q)
+      ∙ past_first (utf16_len (lone_char u)) 2 (is_boundary utf16_len (utf16_text (v ∷ us))) 1 (utf16_len-lone u) (omega arith) (is_boundary-inside (v ∷ us) zero p)
+]
+is_boundary-inside (u ∷ v ∷ us) (suc (suc n)) p = elim (cases_Bool (is_pair u v)) [
+  | inl q ↦ ap (λ cs. is_boundary utf16_len cs (suc (suc (suc n)))) (text_pair u v us q)
+      ∙ past_first (utf16_len (pair_char u v)) (suc (suc (suc n))) (is_boundary utf16_len (utf16_text us)) 2 (utf16_len-pair u v) (omega arith)
+      (ap (is_boundary utf16_len (utf16_text us)) (less_two n) ∙ is_boundary-inside us n p)
+  | inr q ↦ ap (λ cs. is_boundary utf16_len cs (suc (suc (suc n)))) (text_lone u v us q)
+      ∙ past_first (utf16_len (lone_char u)) (suc (suc (suc n))) (is_boundary utf16_len (utf16_text (v ∷ us))) 1 (utf16_len-lone u) (omega arith)
+      (ap (is_boundary utf16_len (utf16_text (v ∷ us))) (less_one n) ∙ is_boundary-inside (v ∷ us) (suc n) p)
+]
+  where
+    less_two : (n : ℕ) → suc (suc (suc n)) - 2 ≡ suc n
+    less_two n = omega arith
+
+    less_one : (n : ℕ) → suc (suc (suc n)) - 1 ≡ suc (suc n)
+    less_one n = omega arith
+
+NoPairAt-from_is_boundary : (us : List ℕ) (i : ℕ) → is_boundary utf16_len (utf16_text us) i ≡ true → NoPairAt us i
+NoPairAt-from_is_boundary us i e n is =
+    false_from_ne_true _ (λ p. true_false _ e (ap (is_boundary utf16_len (utf16_text us)) is ∙ is_boundary-inside us n p))
+
+pub is_boundary-within : (us : List ℕ) (i : ℕ) → is_boundary utf16_len (utf16_text us) i ≡ true → i ≤ length us
+is_boundary-within us i e = omega (arith, is_boundary-le utf16_len (utf16_text us) i e, text_len-utf16 us)
+
+-- the characters of a line are those of its units
+pub subrange-utf16 : (us : List ℕ) (start end : ℕ) → IsLine utf16_len (utf16_text us) start end → subrange utf16_len (utf16_text us) start end ≡ utf16_text (slice_range us start end)
+subrange-utf16 us start end line =
+    let ys : List ℕ = drop start us in
+    let xs : List ℕ = utf16_text (take start us) in
+    let mid : List ℕ = utf16_text (slice_range us start end) in
+    let zs : List ℕ = utf16_text (drop (end - start) ys) in
+    let within : end ≤ length us = is_boundary-within us end line.ends in
+    let ends = NoPairAt-from_is_boundary us end line.ends in
+    let across : NoPairAt ys (end - start) = λ k e. rw (get_or-drop start us k 0, get_or-drop start us (suc k) 0)
+    (subst (λ x. is_pair (get_or us (start + k) 0) (get_or us x 0) ≡ false) (omega arith) (ends (start + k) (omega (arith, line.ordered)))) in
+    let front : text_len utf16_len xs ≡ start = text_len-front us start (omega (arith, line.ordered)) in
+    let both : text_len utf16_len xs + text_len utf16_len mid ≡ end = omega (arith, front, text_len-front ys (end - start) (omega (arith, length-drop start us)), line.ordered) in
+    let parts : utf16_text us ≡ xs ++ (mid ++ zs) = utf16_text-cut us start (NoPairAt-from_is_boundary us start line.begins) ∙ ap (λ z. xs ++ z) (utf16_text-cut ys (end - start) across) in
+    ap (λ cs. subrange utf16_len cs start end) parts
+    ∙ ap (λ s. subrange utf16_len (xs ++ (mid ++ zs)) s end) (sym front)
+    ∙ ap (subrange utf16_len (xs ++ (mid ++ zs)) (text_len utf16_len xs)) (sym both)
+    ∙ subrange-middle utf16_len has_units xs mid zs
+
+-- ---- the character at an index
+
+pub char_at-past : (us : List ℕ) (i : ℕ) → length us ≤ i → char_at utf16_len (utf16_text us) i ≡ None
+char_at-past us i le = char_at-end utf16_len has_units (utf16_text us) i (omega (arith, text_len-utf16 us))
+
+-- the units of a pair stand on both sides of i
+pub record PairAt (us : List ℕ) (i : ℕ) : Type 0 where
+  pub first : ℕ
+  pub second : i ≡ suc first
+  pub pair : is_pair (get_or us first 0) (get_or us i 0) ≡ true
+
+pub pair_at : (us : List ℕ) (i : ℕ) → splits_pair us i ≡ true → PairAt us i
+pair_at us i e = record { first = i - 1; second = past (both_true _ _ e).0; pair = (both_true _ _ e).1 }
+  where
+    both_true : (a b : Bool) → (a && b) ≡ true → (a ≡ true) × (b ≡ true)
+    both_true a b e = grind arith
+
+    past : nat_lt 0 i ≡ true → i ≡ suc (i - 1)
+    past e = let h : 1 ≤ i = grind (arith, nat_tests) in omega arith
+
+pub char_at-inside : (us : List ℕ) (i : ℕ) → splits_pair us i ≡ true → char_at utf16_len (utf16_text us) i ≡ None
+char_at-inside us i e =
+    let w = pair_at us i e in
+    let pair : is_pair (get_or us w.first 0) (get_or us (suc w.first) 0) ≡ true = subst (λ n. is_pair (get_or us w.first 0) (get_or us n 0) ≡ true) w.second w.pair in
+    char_at-None utf16_len has_units (utf16_text us) i (ap (is_boundary utf16_len (utf16_text us)) w.second ∙ is_boundary-inside us w.first pair)
+
+pub NoPairAt-from_splits_pair : (us : List ℕ) (i : ℕ) → splits_pair us i ≡ false → NoPairAt us i
+NoPairAt-from_splits_pair us i e n is = false_from_ne_true _ (λ p. true_false _ (ap (splits_pair us) is ∙ split n p) e)
+  where
+    both_hold : (a b : Bool) → a ≡ true → b ≡ true → (a && b) ≡ true
+    both_hold a b p q = grind arith
+
+    less : (n : ℕ) → suc n - 1 ≡ n
+    less n = omega arith
+
+    split : (n : ℕ) → is_pair (get_or us n 0) (get_or us (suc n) 0) ≡ true → splits_pair us (suc n) ≡ true
+    split n p = both_hold (nat_lt 0 (suc n)) _ (grind (arith, nat_tests)) (ap (λ m. is_pair (get_or us m 0) (get_or us (suc n) 0)) (less n) ∙ p)
+
+-- what the first character says
+pub char_at-first : (us : List ℕ) (o : Option (ℕ × ℕ)) → MatchOption o (us ≡ []) (λ p. IsFirst us p.0 p.1) → o ≡ char_at utf16_len (utf16_text us) 0
+char_at-first us None h = ap (λ x. char_at utf16_len (utf16_text x) 0) (sym h)
+char_at-first us (Some p) h = ap (λ n. Some (p.0, n)) h.long ∙ ap (λ cs. char_at utf16_len cs 0) (sym h.text)

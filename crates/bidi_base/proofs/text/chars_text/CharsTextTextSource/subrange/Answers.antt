@@ -1,0 +1,18 @@
+use Rattle.std.proofs.Common.{◌≤◌, length, sym, rules}
+use Rattle.bidi_base.proofs.CharsLemmas.{is_boundary-within, subrange-one_unit}
+use Rattle.bidi_base.proofs.text.chars_text.CharsTextTextSource.subrange.Goals as goal
+
+pub offset_bounds-list-range : goal.offset_bounds-list-range
+offset_bounds-list-range c =
+    let within : c.args.range.end ≤ length c.list-list.result.now = rw c.list-list.ensures (is_boundary-within c.args.self.list.now c.args.range.end c.requires.ends) in
+    search rules
+
+pub slice_bounds-new-end : goal.slice_bounds-new-end
+slice_bounds-new-end c =
+    let within : c.args.range.end ≤ length c.list-list.result.now = rw c.list-list.ensures (is_boundary-within c.args.self.list.now c.args.range.end c.requires.ends) in
+    search rules
+
+pub returns : goal.returns
+returns c =
+    let within : c.args.range.end ≤ length c.args.self.list.now = is_boundary-within c.args.self.list.now c.args.range.end c.requires.ends in
+    rw (c.new.ensures, c.list-list.ensures) (sym (subrange-one_unit c.args.self.list.now c.args.range.start c.args.range.end c.requires.ordered within))

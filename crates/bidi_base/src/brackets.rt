@@ -1,0 +1,104 @@
+//! The bracket pairs of an isolating run sequence (BD14 to BD16), over its kept characters alone: an
+//! index counts the characters that X9 leaves.
+
+ghost use Rattle.std.specs.Prelude.{◌≡◌, ◌==◌, ◌<◌, nat_lt, [], length, filter, slice_get, OnOk, IfSome, IfNone};
+ghost use Rattle.bidi_base.specs.Places.{find_last};
+ghost use Rattle.bidi_base.specs.FoundBrackets.{ArePairsOf};
+
+use arrayvec::ArrayVec;
+use std::alloc::AllocError;
+
+/// How many openings may wait for their closings at once (BD16).
+const MAX_OPEN_BRACKETS: usize = 63;
+
+/// A bracket that counts: its class after W7 is ON (BD14, BD15).
+#[derive(Clone, Copy, Debug)]
+pub struct Bracket {
+    /// Its index among the kept characters of its sequence.
+    pub index: usize,
+    /// The opening bracket of its pair. Brackets pair only where these are equal.
+    pub opening: char,
+    /// Whether it is an opening bracket.
+    pub is_open: bool,
+}
+
+/// An opening that waits for its closing.
+#[derive(Clone, Copy, Debug)]
+struct Waiting {
+    opening: char,
+    /// Where its pair stands in the list of pairs.
+    pair: usize,
+}
+
+impl Default for Waiting {
+    fn default() -> Waiting {
+        Waiting {
+            opening: '(',
+            pair: 0,
+        }
+    }
+}
+
+/// Puts the bracket pairs of a sequence (BD16) in place of what `pairs` holds: the indexes of opening
+/// and closing, in the order of their openings. `brackets` are those of the sequence that count, in
+/// their order.
+///
+/// The search ends at the first opening that finds 63 others waiting, and the pairs so far stay.
+/// Each bracket is read once, and a closing looks at those openings alone that wait. Refused only
+/// where there is no memory for a pair for each opening; `pairs` may then hold anything.
+pub fn find_pairs(brackets: &[Bracket], pairs: &mut Vec<(usize, usize)>) -> Result<(), AllocError>
+    ensures { OnOk result (ArePairsOf brackets.now pairs.new.items) }
+{
+    pairs.clear();
+    if brackets.is_empty() {
+        return Ok(());
+    }
+    search(brackets, pairs)
+}
+
+/// The same, with a stack of the openings that wait. A pair stands in the list from its opening on,
+/// with that as its closing as long as it has none.
+fn search(brackets: &[Bracket], pairs: &mut Vec<(usize, usize)>) -> Result<(), AllocError>
+    requires { pairs.old.items ≡ [] }
+    ensures { OnOk result (ArePairsOf brackets.now pairs.new.items) }
+{
+    let mut waiting: ArrayVec<Waiting, MAX_OPEN_BRACKETS> = ArrayVec::new();
+    for bracket in brackets {
+        if bracket.is_open {
+            if waiting.is_full() {
+                break;
+            }
+            waiting.push(Waiting {
+                opening: bracket.opening,
+                pair: pairs.len(),
+            });
+            pairs.push((bracket.index, bracket.index))?;
+        } else if let Some(entry) = topmost(waiting.as_slice(), bracket.opening) {
+            pairs[waiting.as_slice()[entry].pair].1 = bracket.index;
+            waiting.truncate(entry);
+        }
+    }
+    drop_unclosed(pairs);
+    Ok(())
+}
+
+/// The topmost entry of the stack with this opening character.
+fn topmost(waiting: &[Waiting], opening: char) -> Option<usize>
+    ensures found { IfSome result (λ k. (k < length waiting.now)
+        × (find_last (λ e. e.opening == opening) waiting.now ≡ slice_get waiting.now k)) }
+    ensures none { IfNone result (find_last (λ e. e.opening == opening) waiting.now ≡ None) }
+{
+    for entry in (0..waiting.len()).rev() {
+        if waiting[entry].opening == opening {
+            return Some(entry);
+        }
+    }
+    None
+}
+
+/// Leaves out the openings that have no closing.
+fn drop_unclosed(pairs: &mut Vec<(usize, usize)>)
+    ensures { pairs.new.items ≡ filter (λ p. nat_lt p.0 p.1) pairs.old.items }
+{
+    pairs.retain(|pair| pair.0 < pair.1);
+}

@@ -1,0 +1,72 @@
+//! The steps of N0 to N2 over the classes of a sequence's characters.
+
+ghost use Rattle.std.specs.Prelude.{◌≡◌, ◌==◌, ◌||◌, ◌<◌, ◌≤◌, length, reverse, map, if◌then◌else◌};
+ghost use Rattle.std.specs.List.{list_any, prefix_len};
+ghost use Rattle.bidi_base.specs.Classes.{has_direction, is_nsm, same_class, stands_for};
+ghost use Rattle.bidi_base.specs.Neutral.{is_mark_after, nearest_direction};
+ghost use Rattle.bidi_base.specs.Places.{class_at, indexes};
+
+use crate::char_data::BidiClass;
+use crate::classes::{as_direction, stands_for};
+
+/// Whether one of the classes stands for this direction, L or R.
+pub fn contains_direction(classes: &[BidiClass], direction: BidiClass) -> bool
+    ensures { result ≡ list_any (stands_for direction) classes.now }
+{
+    classes.iter().any(|class| stands_for(*class, direction))
+}
+
+/// Whether one of the classes stands for any direction.
+pub fn contains_any_direction(classes: &[BidiClass]) -> bool
+    ensures { result ≡ list_any has_direction classes.now }
+{
+    classes.iter().any(|class| as_direction(*class).is_some())
+}
+
+/// The nearest direction in these classes, looked for backwards, or else the one given: the context
+/// before a bracket pair (N0 c).
+pub fn nearest_direction(before: BidiClass, classes: &[BidiClass]) -> BidiClass
+    ensures { result ≡ nearest_direction before (reverse classes.now) }
+{
+    for class in classes.iter().rev() {
+        if let Some(direction) = as_direction(*class) {
+            return direction;
+        }
+    }
+    before
+}
+
+/// Gives a bracket a direction, and the characters directly after it that are nonspacing marks by
+/// their source classes (N0).
+pub fn set_direction(
+    source: &[BidiClass],
+    classes: &mut [BidiClass],
+    bracket: usize,
+    direction: BidiClass,
+)
+    requires lengths { length source.now ≡ length classes.old }
+    requires bracket { bracket < length classes.old }
+    ensures { classes.new ≡ map (λ k. if k == bracket || is_mark_after source.now bracket k
+        then direction else class_at classes.old k) (indexes classes.old) }
+{
+    let end = bracket + 1 + marks(&source[bracket + 1..]);
+    classes[bracket..end].fill(direction);
+}
+
+/// How many nonspacing marks the list begins with.
+fn marks(source: &[BidiClass]) -> usize
+    ensures count { result ≡ prefix_len is_nsm source.now }
+    ensures within { result ≤ length source.now }
+{
+    source
+        .iter()
+        .take_while(|class| **class == BidiClass::NSM)
+        .count()
+}
+
+/// What neutrals between two directions take (N1, N2).
+pub fn common_direction(embedding: BidiClass, left: BidiClass, right: BidiClass) -> BidiClass
+    ensures { result ≡ (if same_class left right then left else embedding) }
+{
+    if left == right { left } else { embedding }
+}

@@ -1,0 +1,180 @@
+//! Lists of characters as texts, whose units are characters.
+
+ghost use Rattle.std.specs.Prelude.{◌≡◌, ℕ, ◌+◌, ◌<◌, ◌≤◌, ◌^◌, length};
+ghost use Rattle.std.specs.Iterator.{YieldsFirst, item_count};
+ghost use Rattle.bidi_base.specs.Text.{char_indices_from, indices_lengths_from, one_unit};
+
+use super::TextSource;
+use std::ops::Range;
+
+/// A list of characters as a text. Its units are characters, so each is one unit long and its place
+/// is its index.
+#[derive(Clone, Copy, Debug, PartialEq)]
+pub struct CharsText<'t> {
+    list: &'t [char],
+}
+
+impl<'t> CharsText<'t> {
+    /// The text of a list of characters.
+    pub fn new(list: &'t [char]) -> CharsText<'t>
+        ensures { result.list.now ≡ list.now }
+    {
+        CharsText { list }
+    }
+
+    /// The list, as it was given.
+    pub fn list(self) -> &'t [char]
+        ensures { result.now ≡ self.entry.list.now }
+    {
+        self.list
+    }
+}
+
+/// Gives the characters of a list, in order.
+#[derive(Debug, Drop)]
+pub struct CharsCharIter<'t> {
+    rest: &'t [char],
+}
+
+impl<'t> CharsCharIter<'t> {
+    /// Begins at the list's first character.
+    pub fn new(list: &'t [char]) -> CharsCharIter<'t>
+        ensures { result.rest.now ≡ list.now }
+    {
+        CharsCharIter { rest: list }
+    }
+}
+
+impl<'t> Iterator for CharsCharIter<'t> {
+    type Item = char;
+
+    ghost next_gives = { YieldsFirst (λ s. s.rest.now) };
+
+    ghost remaining = { item_count (λ s. s.rest.now) };
+
+    fn next(&mut self) -> Option<char> {
+        let (first, rest) = self.rest.split_first()?;
+        self.rest = rest;
+        Some(*first)
+    }
+}
+
+/// Gives each character of a list with its index, in order.
+#[derive(Debug, Drop)]
+pub struct CharsCharIndexIter<'t> {
+    rest: &'t [char],
+    at: usize,
+}
+
+impl<'t> CharsCharIndexIter<'t> {
+    /// Begins at the list's first character.
+    pub fn new(list: &'t [char]) -> CharsCharIndexIter<'t>
+        ensures rest { result.rest.now ≡ list.now }
+        ensures at { result.at ≡ 0 }
+    {
+        CharsCharIndexIter { rest: list, at: 0 }
+    }
+}
+
+impl<'t> Iterator for CharsCharIndexIter<'t> {
+    type Item = (usize, char);
+
+    ghost can_next = { λ s. s.at + length s.rest.now < 2 ^ 64 };
+
+    ghost next_gives = { YieldsFirst (λ s. char_indices_from one_unit s.at s.rest.now) };
+
+    ghost remaining = { item_count (λ s. char_indices_from one_unit s.at s.rest.now) };
+
+    fn next(&mut self) -> Option<(usize, char)> {
+        let (first, rest) = self.rest.split_first()?;
+        let at = self.at;
+        self.rest = rest;
+        self.at = at + 1;
+        Some((at, *first))
+    }
+}
+
+/// Gives the index and the length, 1, of each character of a list, in order.
+#[derive(Debug, Drop)]
+pub struct CharsIndexLenIter<'t> {
+    rest: &'t [char],
+    at: usize,
+}
+
+impl<'t> CharsIndexLenIter<'t> {
+    /// Begins at the list's first character.
+    pub fn new(list: &'t [char]) -> CharsIndexLenIter<'t>
+        ensures rest { result.rest.now ≡ list.now }
+        ensures at { result.at ≡ 0 }
+    {
+        CharsIndexLenIter { rest: list, at: 0 }
+    }
+}
+
+impl<'t> Iterator for CharsIndexLenIter<'t> {
+    type Item = (usize, usize);
+
+    ghost can_next = { λ s. s.at + length s.rest.now < 2 ^ 64 };
+
+    ghost next_gives = { YieldsFirst (λ s. indices_lengths_from one_unit s.at s.rest.now) };
+
+    ghost remaining = { item_count (λ s. indices_lengths_from one_unit s.at s.rest.now) };
+
+    fn next(&mut self) -> Option<(usize, usize)> {
+        let (_, rest) = self.rest.split_first()?;
+        let at = self.at;
+        self.rest = rest;
+        self.at = at + 1;
+        Some((at, 1))
+    }
+}
+
+impl<'t> TextSource for CharsText<'t> {
+    type CharIter = CharsCharIter<'t>;
+
+    type CharIndexIter = CharsCharIndexIter<'t>;
+
+    type IndexLenIter = CharsIndexLenIter<'t>;
+
+    ghost characters = { λ t. t.list.now };
+
+    ghost units = { one_unit };
+
+    fn len(&self) -> usize {
+        self.list.len()
+    }
+
+    fn char_at(&self, index: usize) -> Option<(char, usize)> {
+        match self.list.get(index) {
+            Some(c) => Some((*c, 1)),
+            None => None,
+        }
+    }
+
+    fn subrange(self, range: Range<usize>) -> CharsText<'t> {
+        let list = self.list();
+        CharsText::new(&list[range])
+    }
+
+    fn chars(self) -> CharsCharIter<'t> {
+        CharsCharIter::new(self.list)
+    }
+
+    fn char_indices(self) -> CharsCharIndexIter<'t> {
+        CharsCharIndexIter::new(self.list)
+    }
+
+    fn indices_lengths(self) -> CharsIndexLenIter<'t> {
+        CharsIndexLenIter::new(self.list)
+    }
+
+    fn char_len(_c: char) -> usize
+        ensures { result ≡ 1 }
+    {
+        1
+    }
+
+    ghost use Rattle.std.proofs.Common.{arith};
+
+    ghost has_units = { λ c. Prim.omega arith };
+}

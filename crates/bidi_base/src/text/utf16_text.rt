@@ -1,0 +1,251 @@
+//! Texts of UTF-16, whose units are those of UTF-16.
+
+ghost use Rattle.std.specs.Prelude.{◌≡◌, ℕ, ◌+◌, ◌-◌, ◌<◌, ◌≤◌, ◌^◌, length, [], true, MatchOption};
+ghost use Rattle.std.specs.Iterator.{YieldsFirst, YieldsLast, item_count};
+ghost use Rattle.bidi_base.specs.Text.{char_indices_from, indices_lengths_from};
+ghost use Rattle.bidi_base.specs.Utf16.{is_pair as is_pair_of, splits_pair as splits_pair_of, pair_char, lone_char, utf16_text, utf16_len, IsFirst, IsLast};
+
+use super::TextSource;
+use std::ops::Range;
+
+/// A text of UTF-16. A high surrogate directly followed by a low one is one character, two units
+/// long. Any other unit is a character one unit long: a surrogate is U+FFFD.
+#[derive(Clone, Copy, Debug, PartialEq)]
+pub struct Utf16Text<'t> {
+    units: &'t [u16],
+}
+
+impl<'t> Utf16Text<'t> {
+    /// The text of some units, lone surrogates included.
+    pub fn new(units: &'t [u16]) -> Utf16Text<'t>
+        ensures { result.units.now ≡ units.now }
+    {
+        Utf16Text { units }
+    }
+
+    /// The units, as they were given.
+    pub fn units(self) -> &'t [u16]
+        ensures { result.now ≡ self.entry.units.now }
+    {
+        self.units
+    }
+}
+
+// Whether two units are a high surrogate and a low one.
+fn is_pair(high: u16, low: u16) -> bool
+    ensures { result ≡ is_pair_of high low }
+{
+    (0xD800 <= high && high < 0xDC00) && (0xDC00 <= low && low < 0xE000)
+}
+
+// Whether an index lies between the units of a pair.
+fn splits_pair(units: &[u16], index: usize) -> bool
+    requires { index < length units.now }
+    ensures { result ≡ splits_pair_of units.now index }
+{
+    index > 0 && is_pair(units[index - 1], units[index])
+}
+
+// The character of a pair.
+fn char_of_pair(high: u16, low: u16) -> char
+    requires { is_pair_of high low ≡ true }
+    ensures { result ≡ pair_char high low }
+{
+    let code = 0x10000 + (u32::from(high - 0xD800) * 0x400 + u32::from(low - 0xDC00));
+    match char::from_u32(code) {
+        Some(c) => c,
+        None => unreachable!(),
+    }
+}
+
+// The character of a unit in no pair.
+fn char_of_unit(unit: u16) -> char
+    ensures { result ≡ lone_char unit }
+{
+    char::from_u32(u32::from(unit)).unwrap_or(char::REPLACEMENT_CHARACTER)
+}
+
+// The first character, with its length in units. `None` where there is no unit.
+fn first_char(units: &[u16]) -> Option<(char, usize)>
+    ensures { MatchOption result (units.now ≡ []) (λ p. IsFirst units.now p.0 p.1) }
+{
+    match units {
+        [] => None,
+        [high, low, ..] if is_pair(*high, *low) => Some((char_of_pair(*high, *low), 2)),
+        [unit, ..] => Some((char_of_unit(*unit), 1)),
+    }
+}
+
+// The last character, with its length in units. `None` where there is no unit.
+fn last_char(units: &[u16]) -> Option<(char, usize)>
+    ensures { MatchOption result (units.now ≡ []) (λ p. IsLast units.now p.0 p.1) }
+{
+    let last = units.len().checked_sub(1)?;
+    if splits_pair(units, last) {
+        Some((char_of_pair(units[last - 1], units[last]), 2))
+    } else {
+        Some((char_of_unit(units[last]), 1))
+    }
+}
+
+/// Gives the characters of units of UTF-16, in order. It goes from both ends, and in any mixture
+/// each character comes once.
+#[derive(Debug, Drop)]
+pub struct Utf16CharIter<'t> {
+    rest: &'t [u16],
+}
+
+impl<'t> Utf16CharIter<'t> {
+    /// Goes over the characters of some units.
+    pub fn new(units: &'t [u16]) -> Utf16CharIter<'t>
+        ensures { result.rest.now ≡ units.now }
+    {
+        Utf16CharIter { rest: units }
+    }
+}
+
+impl<'t> Iterator for Utf16CharIter<'t> {
+    type Item = char;
+
+    ghost next_gives = { YieldsFirst (λ s. utf16_text s.rest.now) };
+
+    ghost remaining = { item_count (λ s. utf16_text s.rest.now) };
+
+    fn next(&mut self) -> Option<char> {
+        let (first, len) = first_char(self.rest)?;
+        self.rest = &self.rest[len..];
+        Some(first)
+    }
+}
+
+impl<'t> DoubleEndedIterator for Utf16CharIter<'t> {
+    ghost next_back_gives = { YieldsLast (λ s. utf16_text s.rest.now) };
+
+    fn next_back(&mut self) -> Option<char> {
+        let (last, len) = last_char(self.rest)?;
+        self.rest = &self.rest[..self.rest.len() - len];
+        Some(last)
+    }
+}
+
+/// Gives each character of units of UTF-16 with its place, in order.
+#[derive(Debug, Drop)]
+pub struct Utf16CharIndexIter<'t> {
+    rest: &'t [u16],
+    at: usize,
+}
+
+impl<'t> Utf16CharIndexIter<'t> {
+    /// Begins at the first unit.
+    pub fn new(units: &'t [u16]) -> Utf16CharIndexIter<'t>
+        ensures rest { result.rest.now ≡ units.now }
+        ensures at { result.at ≡ 0 }
+    {
+        Utf16CharIndexIter { rest: units, at: 0 }
+    }
+}
+
+impl<'t> Iterator for Utf16CharIndexIter<'t> {
+    type Item = (usize, char);
+
+    ghost can_next = { λ s. s.at + length s.rest.now < 2 ^ 64 };
+
+    ghost next_gives = { YieldsFirst (λ s. char_indices_from utf16_len s.at (utf16_text s.rest.now)) };
+
+    ghost remaining = { item_count (λ s. char_indices_from utf16_len s.at (utf16_text s.rest.now)) };
+
+    fn next(&mut self) -> Option<(usize, char)> {
+        let (c, len) = first_char(self.rest)?;
+        let at = self.at;
+        self.rest = &self.rest[len..];
+        self.at = at + len;
+        Some((at, c))
+    }
+}
+
+/// Gives the place and the length in units of each character of units of UTF-16, in order.
+#[derive(Debug, Drop)]
+pub struct Utf16IndexLenIter<'t> {
+    rest: &'t [u16],
+    at: usize,
+}
+
+impl<'t> Utf16IndexLenIter<'t> {
+    /// Begins at the first unit.
+    pub fn new(units: &'t [u16]) -> Utf16IndexLenIter<'t>
+        ensures rest { result.rest.now ≡ units.now }
+        ensures at { result.at ≡ 0 }
+    {
+        Utf16IndexLenIter { rest: units, at: 0 }
+    }
+}
+
+impl<'t> Iterator for Utf16IndexLenIter<'t> {
+    type Item = (usize, usize);
+
+    ghost can_next = { λ s. s.at + length s.rest.now < 2 ^ 64 };
+
+    ghost next_gives = { YieldsFirst (λ s. indices_lengths_from utf16_len s.at (utf16_text s.rest.now)) };
+
+    ghost remaining = { item_count (λ s. indices_lengths_from utf16_len s.at (utf16_text s.rest.now)) };
+
+    fn next(&mut self) -> Option<(usize, usize)> {
+        let (_, len) = first_char(self.rest)?;
+        let at = self.at;
+        self.rest = &self.rest[len..];
+        self.at = at + len;
+        Some((at, len))
+    }
+}
+
+impl<'t> TextSource for Utf16Text<'t> {
+    type CharIter = Utf16CharIter<'t>;
+
+    type CharIndexIter = Utf16CharIndexIter<'t>;
+
+    type IndexLenIter = Utf16IndexLenIter<'t>;
+
+    ghost characters = { λ t. utf16_text t.units.now };
+
+    ghost units = { utf16_len };
+
+    fn len(&self) -> usize {
+        self.units.len()
+    }
+
+    fn char_at(&self, index: usize) -> Option<(char, usize)> {
+        let units = self.units();
+        if index >= units.len() || splits_pair(units, index) {
+            return None;
+        }
+        first_char(&units[index..])
+    }
+
+    fn subrange(self, range: Range<usize>) -> Utf16Text<'t> {
+        let units = self.units();
+        Utf16Text::new(&units[range])
+    }
+
+    fn chars(self) -> Utf16CharIter<'t> {
+        Utf16CharIter::new(self.units)
+    }
+
+    fn char_indices(self) -> Utf16CharIndexIter<'t> {
+        Utf16CharIndexIter::new(self.units)
+    }
+
+    fn indices_lengths(self) -> Utf16IndexLenIter<'t> {
+        Utf16IndexLenIter::new(self.units)
+    }
+
+    fn char_len(c: char) -> usize
+        ensures { result ≡ utf16_len c }
+    {
+        c.len_utf16()
+    }
+
+    ghost use Rattle.std.proofs.Common.{arith};
+    ghost use Rattle.std.proofs.lemmas.Bool.Decides.{nat_tests};
+
+    ghost has_units = { λ c. Prim.grind (arith, nat_tests) };
+}

@@ -1,0 +1,86 @@
+-- What a program's list of runs is: runs are ranges there.
+use Rattle.std.proofs.Common.{◌≡◌, ℕ, ◌+◌, ◌<◌, ◌≤◌, ◌++◌, false, List, [], ◌∷◌, map, length, get_or, take, All, sym, ap, subst, ◌∙◌, arith}
+use Rattle.std.specs.declared.ops.Range.{Range}
+use Rattle.std.specs.List.{range_with_len}
+use Rattle.std.proofs.lemmas.List.{get_or-map, length-map, map-append, take_more}
+use Rattle.std.proofs.lemmas.List.FromFn.{length-range_with_len}
+use Rattle.std.proofs.lemmas.List.Sorted.{All-permutation, IsPermutation-refl}
+use Rattle.bidi_base.specs.Levels.{has_rtl}
+use Rattle.bidi_base.specs.Places.{indexes, at_places}
+use Rattle.bidi_base.specs.Order.{visual_order, IsVisualOrder}
+use Rattle.bidi_base.specs.Display.{Run, run_of, level_runs, run_level, visual_runs, IsLevelRun, AreVisualRuns}
+use Rattle.bidi_lines.proofs.Ordered.{visual_order-still, none_odd}
+use Rattle.bidi_base.proofs.VisualOrderLemmas.{visual_order-unique, all_below}
+use Rattle.bidi_lines.proofs.Pieces.{at_places-map}
+use Rattle.bidi_base.proofs.StoredLemmas.{at_places-append}
+use Rattle.bidi_lines.proofs.RunsLemmas.{level_runs-each}
+use Rattle.bidi_lines.proofs.VisualRuns.{run_at, all-runs, visual_runs-are}
+
+-- each begins within the line
+pub runs_within : (start : ℕ) (levels : List ℕ) (ranges : List (Range ℕ)) → map run_of ranges ≡ level_runs start levels
+    → All (λ r. (start ≤ r.start) × (r.start < start + length levels)) ranges
+runs_within start levels ranges e k d fits =
+    let long : length (level_runs start levels) ≡ length ranges = sym (ap length e) ∙ length-map ranges run_of in
+    let here : IsLevelRun start levels (run_at (level_runs start levels) k) = level_runs-each start levels k (0, 0) (omega arith) in
+    let same : run_at (level_runs start levels) k ≡ run_of (get_or ranges k d) = sym (ap (λ l. run_at l k) e) ∙ get_or-map run_of ranges k d (0, 0) fits in
+    let there : IsLevelRun start levels (run_of (get_or ranges k d)) = subst (IsLevelRun start levels) same here in
+    (there.starts_within, omega (arith, there.not_empty, there.ends_within))
+
+-- one more place
+pub at_places-more : (ranges : List (Range ℕ)) (order : List ℕ) (i : ℕ) (d : Range ℕ) → i < length order → get_or order i 0 < length ranges
+    → at_places (0, 0) (map run_of ranges) (take (i + 1) order) ≡ at_places (0, 0) (map run_of ranges) (take i order) ++ run_of (get_or ranges (get_or order i 0) d) ∷ []
+at_places-more ranges order i d fits inside =
+    ap (at_places (0, 0) (map run_of ranges)) (take_more order i 0 fits)
+    ∙ at_places-append (0, 0) (map run_of ranges) (take i order) (get_or order i 0 ∷ [])
+    ∙ ap (λ (r : Run). at_places (0, 0) (map run_of ranges) (take i order) ++ r ∷ []) (get_or-map run_of ranges (get_or order i 0) d (0, 0) inside)
+
+pub pushed-more : (ranges old new : List (Range ℕ)) (order : List ℕ) (i : ℕ) (d x : Range ℕ) → i < length order → get_or order i 0 < length ranges
+    → map run_of old ≡ at_places (0, 0) (map run_of ranges) (take i order) → new ≡ old ++ x ∷ [] → run_of x ≡ run_of (get_or ranges (get_or order i 0) d)
+    → map run_of new ≡ at_places (0, 0) (map run_of ranges) (take (i + 1) order)
+pushed-more ranges old new order i d x fits inside h e same =
+    ap (map run_of) e
+    ∙ map-append run_of old (x ∷ [])
+    ∙ ap (λ (l : List Run). l ++ run_of x ∷ []) h
+    ∙ ap (λ (r : Run). at_places (0, 0) (map run_of ranges) (take i order) ++ r ∷ []) same
+    ∙ sym (at_places-more ranges order i d fits inside)
+
+-- where no run has an odd level, the runs stand as they are
+pub visual_runs-still : (start : ℕ) (levels : List ℕ) → has_rtl (map (run_level start levels) (level_runs start levels)) ≡ false → level_runs start levels ≡ visual_runs start levels
+unfolding visual_runs
+visual_runs-still start levels even = sym (
+    ap (at_places (0, 0) (level_runs start levels)) (visual_order-still (map (run_level start levels) (level_runs start levels)) (none_odd (map (run_level start levels) (level_runs start levels)) even) ∙ ap (range_with_len 0) (length-map (level_runs start levels) (run_level start levels)))
+    ∙ at_places-map (0, 0) (level_runs start levels) (range_with_len 0 (length (level_runs start levels)))
+    ∙ all-runs (level_runs start levels))
+
+-- and so does one run
+pub visual_runs-one : (start : ℕ) (levels : List ℕ) → length (level_runs start levels) ≤ 1 → level_runs start levels ≡ visual_runs start levels
+unfolding visual_runs
+visual_runs-one start levels few = sym (
+    ap (at_places (0, 0) (level_runs start levels)) (sym (visual_order-unique of_runs (indexes of_runs) upwards) ∙ ap (range_with_len 0) long)
+    ∙ at_places-map (0, 0) (level_runs start levels) (range_with_len 0 (length (level_runs start levels)))
+    ∙ all-runs (level_runs start levels))
+  where
+    of_runs : List ℕ
+    of_runs = map (run_level start levels) (level_runs start levels)
+
+    long : length of_runs ≡ length (level_runs start levels)
+    long = length-map (level_runs start levels) (run_level start levels)
+
+    upwards : IsVisualOrder of_runs (indexes of_runs)
+    upwards = record {
+      all_indexes = IsPermutation-refl (indexes of_runs);
+      in_order = λ p q d before fits. absurd (omega (arith, before, fits, few, long, length-range_with_len 0 (length of_runs)));
+    }
+
+-- and otherwise in the order of their levels
+pub visual_runs-found : (start : ℕ) (levels of_runs order : List ℕ) (runs : List Run) → runs ≡ level_runs start levels → of_runs ≡ map (run_level start levels) runs → order ≡ visual_order of_runs
+    → at_places (0, 0) runs order ≡ visual_runs start levels
+unfolding visual_runs
+visual_runs-found start levels of_runs order runs e f g =
+    ap (at_places (0, 0) runs) (g ∙ ap visual_order f) ∙ ap (λ rs. at_places (0, 0) rs (visual_order (map (run_level start levels) rs))) e
+
+pub order_below : (of_runs order : List ℕ) (n : ℕ) → length of_runs ≡ n → IsVisualOrder of_runs order → All (λ k. k < n) order
+order_below of_runs order n e h k d fits = let r : get_or order k d < length of_runs = All-permutation (λ i. i < length of_runs) (indexes of_runs) order h.all_indexes (all_below of_runs) k d fits in omega arith
+
+pub AreVisualRuns-from_same : (start : ℕ) (levels : List ℕ) (runs : List Run) → runs ≡ visual_runs start levels → AreVisualRuns start levels runs
+AreVisualRuns-from_same start levels runs e = subst (AreVisualRuns start levels) (sym e) (visual_runs-are start levels)

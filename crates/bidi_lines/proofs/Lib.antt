@@ -1,0 +1,15 @@
+pub mod Distinct
+pub mod FoundRuns
+pub mod Gathered
+pub mod Lanes
+pub mod Least
+pub mod LineInText
+pub mod LineLevels
+pub mod Ordered
+pub mod Passes
+pub mod Pieces
+pub mod Reversed
+pub mod RunsLemmas
+pub mod Stretches
+pub mod Turning
+pub mod VisualRuns

@@ -1,0 +1,395 @@
+-- The level runs in the visual order of their levels, written out, are the visual order of the units, and no other list of level runs is.
+use Rattle.std.proofs.Common.{◌≡◌, ◌≢◌, ℕ, zero, suc, ◌+◌, ◌-◌, ◌%◌, ◌<◌, ◌≤◌, max, true, false, List, [], ◌∷◌, ◌++◌, map, flat_map, reverse, length, get_or, AllPairs, All, refl, sym, ap, subst, ◌∙◌, arith, inl, inr, eq-eqb, le_refl, length-append}
+use Rattle.std.specs.List.{range_with_len}
+use Rattle.std.specs.List.Sorted.{IsPermutation}
+use Rattle.std.proofs.lemmas.Bool.{cases_lt, cases_Bool, cases_order, cond-true, cond-false, both_ways, eqb-false}
+use Rattle.std.proofs.lemmas.List.{get_or-map, length-map, same_lists, get_or_append_left, append_cancel_left, get_or_default}
+use Rattle.std.proofs.lemmas.List.Folds.{flat_map-map}
+use Rattle.std.proofs.lemmas.List.FromFn.{length-range_with_len, get_or-range_with_len, length-map-range_with_len, get_or-map-range_with_len}
+use Rattle.std.proofs.lemmas.List.Elements.{All-tail, All-map}
+use Rattle.std.proofs.lemmas.List.Sorted.{All-permutation, length_permutation, IsPermutation-refl, IsPermutation-sym, IsPermutation-trans, IsPermutation-reverse, IsPermutation-map}
+use Rattle.bidi_base.specs.Levels.{is_odd, is_even}
+use Rattle.bidi_base.specs.Places.{between, indexes, at_places}
+use Rattle.bidi_base.specs.Order.{least_between, stands_left, visual_order, IsVisualOrder}
+use Rattle.bidi_base.specs.Display.{Run, level_runs, run_level, visual_runs, written_run, written_runs, IsLevelRun, AreVisualRuns}
+use Rattle.bidi_base.proofs.OrderLemmas.{le-least_between, least_between-le, stands_left-before, stands_left-after}
+use Rattle.bidi_base.proofs.VisualOrderLemmas.{stands_left-same, visual_order-unique, all_below}
+use Rattle.bidi_lines.proofs.Ordered.{visual_order-is}
+use Rattle.bidi_lines.proofs.Pieces.{AllPairs-map, AllPairs-reverse, AllPairs-between, All-between, AllPairs-flat_map, between-append, length-between, get_or-between, at_places-map, IsPermutation-flat_map, IsPermutation-flat_map_each}
+use Rattle.bidi_lines.proofs.RunsLemmas.{Follow, level_runs-follow, level_runs-each}
+
+abbrev pub run_at : List Run → ℕ → Run
+run_at runs k = get_or runs k (0, 0)
+
+-- u is a unit of the run
+abbrev pub IsUnitOf : Run → ℕ → Type 0
+IsUnitOf run u = (run.0 ≤ u) × (u < run.1)
+
+-- each unit is in some run
+follow-reach : (a b : ℕ) (runs : List Run) → Follow a b runs → (u : ℕ) → a ≤ u → u < b → (k : ℕ) × (k < length runs) × IsUnitOf (run_at runs k) u
+follow-reach a b [] h u low high = absurd (omega arith)
+follow-reach a b (run ∷ runs) h u low high = elim (cases_lt u run.1) [
+  | inl here ↦ (0, omega arith, (omega (arith, h.0), here))
+  | inr later ↦
+      let r = follow-reach run.1 b runs h.2 u later high in
+      (suc r.0, omega (arith, r.1), r.2)
+]
+
+follow-low : (a b : ℕ) (runs : List Run) → Follow a b runs → (k : ℕ) → k < length runs → a ≤ (run_at runs k).0
+follow-low a b [] h k fits = absurd (omega arith)
+follow-low a b (run ∷ runs) h zero fits = omega (arith, h.0)
+follow-low a b (run ∷ runs) h (suc k) fits = omega (arith, h.0, h.1, follow-low run.1 b runs h.2 k (omega arith))
+
+-- an earlier run ends before a later one begins
+follow-apart : (a b : ℕ) (runs : List Run) → Follow a b runs → (j k : ℕ) → j < k → k < length runs → (run_at runs j).1 ≤ (run_at runs k).0
+follow-apart a b [] h j k before fits = absurd (omega arith)
+follow-apart a b (run ∷ runs) h j zero before fits = absurd (omega arith)
+follow-apart a b (run ∷ runs) h zero (suc k) before fits = follow-low run.1 b runs h.2 k (omega arith)
+follow-apart a b (run ∷ runs) h (suc j) (suc k) before fits = follow-apart run.1 b runs h.2 j k (omega arith) (omega arith)
+
+-- a line cut into its level runs
+record Cut (from : ℕ) (levels : List ℕ) (runs : List Run) : Type 0 where
+  follow : Follow from (from + length levels) runs
+  each : All (IsLevelRun from levels) runs
+
+level_runs-cut : (from : ℕ) (levels : List ℕ) → Cut from levels (level_runs from levels)
+level_runs-cut from levels = record { follow = level_runs-follow from levels; each = level_runs-each from levels }
+
+run_levels : ℕ → List ℕ → List Run → List ℕ
+run_levels from levels runs = map (run_level from levels) runs
+
+length-run_levels : (from : ℕ) (levels : List ℕ) (runs : List Run) → length (run_levels from levels runs) ≡ length runs
+unfolding run_levels
+length-run_levels from levels runs = length-map runs (run_level from levels)
+
+-- the level of a unit is that of its run
+unit_level : (from : ℕ) (levels : List ℕ) (runs : List Run) → Cut from levels runs → (k u : ℕ) → k < length runs → IsUnitOf (run_at runs k) u → get_or levels (u - from) 0 ≡ get_or (run_levels from levels runs) k 0
+unfolding run_levels
+unit_level from levels runs cut k u fits unit = (cut.each k (0, 0) fits).equal u unit.0 unit.1 ∙ sym (get_or-map (run_level from levels) runs k (0, 0) 0 fits)
+
+-- the least level from unit to unit is that from run to run
+least-runs : (from : ℕ) (levels : List ℕ) (runs : List Run) → Cut from levels runs → (k l u w : ℕ) → k ≤ l → l < length runs → IsUnitOf (run_at runs k) u → IsUnitOf (run_at runs l) w → u ≤ w
+    → least_between levels (u - from) (w - from) ≡ least_between (run_levels from levels runs) k l
+least-runs from levels runs cut k l u w order fits unit unit' up = omega (arith, low, high)
+  where
+    long : length (run_levels from levels runs) ≡ length runs
+    long = length-run_levels from levels runs
+
+    first : IsLevelRun from levels (run_at runs k)
+    first = cut.each k (0, 0) (omega arith)
+
+    last : IsLevelRun from levels (run_at runs l)
+    last = cut.each l (0, 0) fits
+
+    -- a unit between them is in a run between theirs
+    at_unit : (x : ℕ) → u - from ≤ x → x ≤ w - from → least_between (run_levels from levels runs) k l ≤ get_or levels x 0
+    at_unit x a b =
+        let begins = first.starts_within in
+        let ends = last.ends_within in
+        let r = follow-reach from (from + length levels) runs cut.follow (from + x) (omega arith) (omega (arith, unit.0, unit'.1)) in
+        let same : get_or levels ((from + x) - from) 0 ≡ get_or (run_levels from levels runs) r.0 0 = unit_level from levels runs cut r.0 (from + x) r.1 r.2 in
+        let back : (from + x) - from ≡ x = omega arith in
+        let after_first : k ≤ r.0 = elim (cases_lt r.0 k) [
+          | inl c ↦ absurd (omega (arith, follow-apart from (from + length levels) runs cut.follow r.0 k c (omega arith), r.2.1, unit.0))
+          | inr c ↦ c
+        ] in
+        let before_last : r.0 ≤ l = elim (cases_lt l r.0) [
+          | inl c ↦ absurd (omega (arith, follow-apart from (from + length levels) runs cut.follow l r.0 c r.1, r.2.0, unit'.1))
+          | inr c ↦ c
+        ] in
+        let le : least_between (run_levels from levels runs) k l ≤ get_or (run_levels from levels runs) r.0 0 =
+        le-least_between (run_levels from levels runs) k l (least_between (run_levels from levels runs) k l) order (omega (arith, long)) (le_refl _) r.0 after_first before_last in
+        let same' : get_or levels x 0 ≡ get_or (run_levels from levels runs) r.0 0 = rw back at same in
+        omega arith
+
+    -- each run between theirs has a unit between them
+    at_run : (j : ℕ) → k ≤ j → j ≤ l → least_between levels (u - from) (w - from) ≤ get_or (run_levels from levels runs) j 0
+    at_run j a b =
+        let here : IsLevelRun from levels (run_at runs j) = cut.each j (0, 0) (omega arith) in
+        let begins = first.starts_within in
+        let ends = last.ends_within in
+        let some = here.not_empty in
+        let unit_y : IsUnitOf (run_at runs j) (max u (run_at runs j).0) = elim (cases_order k j) [
+          | inl e ↦ let e' : run_at runs k ≡ run_at runs j = ap (run_at runs) e in let p : IsUnitOf (run_at runs j) u = subst (λ (r : Run). IsUnitOf r u) e' unit in (omega (arith, p.0), omega (arith, p.1, p.0))
+          | inr apart ↦ elim apart [
+            | inl c ↦ let g = follow-apart from (from + length levels) runs cut.follow k j c (omega arith) in (omega arith, omega (arith, g, unit.1, some))
+            | inr c ↦ absurd (omega arith)
+          ]
+        ] in
+        let within : max u (run_at runs j).0 ≤ w = elim (cases_order j l) [
+          | inl e ↦ let e' : run_at runs l ≡ run_at runs j = ap (run_at runs) (sym e) in let p : IsUnitOf (run_at runs j) w = subst (λ (r : Run). IsUnitOf r w) e' unit' in omega (arith, p.0)
+          | inr apart ↦ elim apart [
+            | inl c ↦ let g = follow-apart from (from + length levels) runs cut.follow j l c fits in omega (arith, g, unit'.0, some)
+            | inr c ↦ absurd (omega arith)
+          ]
+        ] in
+        let same : get_or levels (max u (run_at runs j).0 - from) 0 ≡ get_or (run_levels from levels runs) j 0 = unit_level from levels runs cut j (max u (run_at runs j).0) (omega arith) unit_y in
+        let le : least_between levels (u - from) (w - from) ≤ get_or levels (max u (run_at runs j).0 - from) 0 =
+        le-least_between levels (u - from) (w - from) (least_between levels (u - from) (w - from)) (omega arith) (omega (arith, unit'.1, unit.0)) (le_refl _) (max u (run_at runs j).0 - from) (omega arith) (omega arith) in
+        omega arith
+
+    low : least_between (run_levels from levels runs) k l ≤ least_between levels (u - from) (w - from)
+    low = least_between-le levels (u - from) (w - from) (least_between (run_levels from levels runs) k l) (omega arith) (omega (arith, unit'.1, unit.0, first.starts_within, last.ends_within)) at_unit
+
+    high : least_between levels (u - from) (w - from) ≤ least_between (run_levels from levels runs) k l
+    high = least_between-le (run_levels from levels runs) k l (least_between levels (u - from) (w - from)) order (omega (arith, long)) at_run
+
+-- the least level from a run to itself is its own
+least-one : (ks : List ℕ) (k : ℕ) → k < length ks → least_between ks k k ≡ get_or ks k 0
+least-one ks k fits =
+    let low : least_between ks k k ≤ get_or ks k 0 = le-least_between ks k k (least_between ks k k) (omega arith) fits (le_refl _) k (omega arith) (omega arith) in
+    let high : get_or ks k 0 ≤ least_between ks k k = least_between-le ks k k (get_or ks k 0) (omega arith) fits (λ j a b. let e : j ≡ k = omega arith in rw e (omega arith)) in
+    omega arith
+
+-- units of two runs stand as their runs do
+units-apart : (from : ℕ) (levels : List ℕ) (runs : List Run) → Cut from levels runs → (k l u w : ℕ) → k < length runs → l < length runs → IsUnitOf (run_at runs k) u → IsUnitOf (run_at runs l) w
+    → stands_left (run_levels from levels runs) k l ≡ true → stands_left levels (u - from) (w - from) ≡ true
+units-apart from levels runs cut k l u w fits fits' unit unit' left = elim (cases_order k l) [
+  | inl same ↦ absurd (both_ways (stands_left (run_levels from levels runs) k k) (stands_left-same (run_levels from levels runs) k) (subst (λ (x : ℕ). stands_left (run_levels from levels runs) k x ≡ true) (sym same) left))
+  | inr apart ↦ elim apart [
+    | inl before ↦
+        let g = follow-apart from (from + length levels) runs cut.follow k l before fits' in
+        let begins = (cut.each k (0, 0) fits).starts_within in
+        stands_left-before levels (u - from) (w - from) (omega (arith, g, unit.0, unit.1, unit'.0, begins))
+        ∙ ap is_even (least-runs from levels runs cut k l u w (omega arith) fits' unit unit' (omega (arith, g, unit.1, unit'.0)))
+        ∙ sym (stands_left-before (run_levels from levels runs) k l before) ∙ left
+    | inr after ↦
+        let g = follow-apart from (from + length levels) runs cut.follow l k after fits in
+        let begins = (cut.each l (0, 0) fits').starts_within in
+        stands_left-after levels (u - from) (w - from) (omega (arith, g, unit'.0, unit'.1, unit.0, begins))
+        ∙ ap is_odd (least-runs from levels runs cut l k w u (omega arith) fits unit' unit (omega (arith, g, unit'.1, unit.0)))
+        ∙ sym (stands_left-after (run_levels from levels runs) k l after) ∙ left
+  ]
+]
+
+-- units of one run stand upwards where its level is even, and downwards where it is odd
+least-inside : (from : ℕ) (levels : List ℕ) (runs : List Run) → Cut from levels runs → (k u w : ℕ) → k < length runs → IsUnitOf (run_at runs k) u → IsUnitOf (run_at runs k) w → u ≤ w
+    → least_between levels (u - from) (w - from) ≡ run_level from levels (run_at runs k)
+least-inside from levels runs cut k u w fits unit unit' up =
+    least-runs from levels runs cut k k u w (omega arith) fits unit unit' up
+    ∙ least-one (run_levels from levels runs) k (omega (arith, length-run_levels from levels runs))
+    ∙ sym (unit_level from levels runs cut k u fits unit)
+    ∙ (cut.each k (0, 0) fits).equal u unit.0 unit.1
+
+-- what holds of each unit of a run holds of each one written
+pub All-written_run : (P : ℕ → Type 0) (from : ℕ) (levels : List ℕ) (run : Run) → ((u : ℕ) → run.0 ≤ u → u < run.1 → P u) → All P (written_run from levels run)
+All-written_run P from levels run h = elim (cases_Bool (is_odd (run_level from levels run))) [
+  | inl odd ↦
+      rw (cond-true (is_odd (run_level from levels run)) (reverse (between run.0 run.1)) (between run.0 run.1) odd)
+      (All-permutation P (between run.0 run.1) (reverse (between run.0 run.1)) (IsPermutation-reverse (between run.0 run.1)) (All-between P run.0 run.1 h))
+  | inr even ↦
+      rw (cond-false (is_odd (run_level from levels run)) (reverse (between run.0 run.1)) (between run.0 run.1) even)
+      (All-between P run.0 run.1 h)
+]
+
+IsPermutation-written_run : (from : ℕ) (levels : List ℕ) (run : Run) → IsPermutation (written_run from levels run) (between run.0 run.1)
+IsPermutation-written_run from levels run = elim (cases_Bool (is_odd (run_level from levels run))) [
+  | inl odd ↦
+      rw (cond-true (is_odd (run_level from levels run)) (reverse (between run.0 run.1)) (between run.0 run.1) odd)
+      (IsPermutation-sym (between run.0 run.1) (reverse (between run.0 run.1)) (IsPermutation-reverse (between run.0 run.1)))
+  | inr even ↦
+      rw (cond-false (is_odd (run_level from levels run)) (reverse (between run.0 run.1)) (between run.0 run.1) even)
+      (IsPermutation-refl (between run.0 run.1))
+]
+
+-- u stands left of w
+abbrev Left : ℕ → List ℕ → ℕ → ℕ → Type 0
+Left from levels u w = stands_left levels (u - from) (w - from) ≡ true
+
+pairs-written_run : (from : ℕ) (levels : List ℕ) (runs : List Run) → Cut from levels runs → (k : ℕ) → k < length runs → AllPairs (Left from levels) (written_run from levels (run_at runs k))
+pairs-written_run from levels runs cut k fits = elim (cases_Bool (is_odd (run_level from levels (run_at runs k)))) [
+  | inl odd ↦
+      rw (cond-true (is_odd (run_level from levels (run_at runs k))) (reverse (between (run_at runs k).0 (run_at runs k).1)) (between (run_at runs k).0 (run_at runs k).1) odd)
+      (AllPairs-reverse (Left from levels) (between (run_at runs k).0 (run_at runs k).1)
+      (AllPairs-between (λ a b. Left from levels b a) (run_at runs k).0 (run_at runs k).1
+      (λ u w a b c. stands_left-after levels (w - from) (u - from) (omega (arith, begins)) ∙ ap is_odd (least-inside from levels runs cut k u w fits (a, omega arith) (omega arith, c) (omega arith)) ∙ odd)))
+  | inr even ↦
+      rw (cond-false (is_odd (run_level from levels (run_at runs k))) (reverse (between (run_at runs k).0 (run_at runs k).1)) (between (run_at runs k).0 (run_at runs k).1) even)
+      (AllPairs-between (Left from levels) (run_at runs k).0 (run_at runs k).1
+      (λ u w a b c. stands_left-before levels (u - from) (w - from) (omega (arith, begins)) ∙ ap is_even (least-inside from levels runs cut k u w fits (a, omega arith) (omega arith, c) (omega arith)) ∙ is_even-from_not_odd _ even))
+]
+  where
+    begins : from ≤ (run_at runs k).0
+    begins = (cut.each k (0, 0) fits).starts_within
+
+    is_even-from_not_odd : (n : ℕ) → is_odd n ≡ false → is_even n ≡ true
+    is_even-from_not_odd n e = let odd : n % 2 ≢ 1 = eqb-false _ _ e in eq-eqb (n % 2) 0 (omega arith)
+
+-- the units in the order of their runs
+pairs-written_runs : (from : ℕ) (levels : List ℕ) (runs : List Run) (order : List ℕ) → Cut from levels runs → IsVisualOrder (run_levels from levels runs) order
+    → AllPairs (Left from levels) (flat_map (λ k. written_run from levels (run_at runs k)) order)
+pairs-written_runs from levels runs order cut h =
+    AllPairs-flat_map (Left from levels) (λ k. written_run from levels (run_at runs k)) order
+    (λ i d fits. pairs-written_run from levels runs cut (get_or order i d) (within i d fits))
+    (λ i j d before fits.
+    All-written_run _ from levels (run_at runs (get_or order i d)) (λ u a b.
+    All-written_run _ from levels (run_at runs (get_or order j d)) (λ w a' b'.
+    units-apart from levels runs cut (get_or order i d) (get_or order j d) u w (within i d (omega arith)) (within j d fits) (a, b) (a', b') (h.in_order i j d before fits))))
+  where
+    within : (i d : ℕ) → i < length order → get_or order i d < length runs
+    within i d fits =
+        let r : get_or order i d < length (run_levels from levels runs) = All-permutation (λ k. k < length (run_levels from levels runs)) (indexes (run_levels from levels runs)) order h.all_indexes (all_below (run_levels from levels runs)) i d fits in
+        omega (arith, length-run_levels from levels runs)
+
+follow-le : (a b : ℕ) (runs : List Run) → Follow a b runs → a ≤ b
+follow-le a b [] h = omega arith
+follow-le a b (run ∷ runs) h = omega (arith, h.0, h.1, follow-le run.1 b runs h.2)
+
+-- written upwards, the runs are the units
+flat_map-follow : (a b : ℕ) (runs : List Run) → Follow a b runs → flat_map (λ (run : Run). between run.0 run.1) runs ≡ between a b
+flat_map-follow a b [] h = let none : 0 ≡ b - a = omega arith in ap (range_with_len a) none
+flat_map-follow a b (run ∷ runs) h =
+    ap (λ (l : List ℕ). between run.0 run.1 ++ l) (flat_map-follow run.1 b runs h.2)
+    ∙ between-append run.0 run.1 b (omega (arith, h.1)) (follow-le run.1 b runs h.2)
+    ∙ ap (λ x. between x b) h.0
+
+pub all-runs : (runs : List Run) → map (run_at runs) (range_with_len 0 (length runs)) ≡ runs
+all-runs runs = same_lists _ _ (length-map-range_with_len (run_at runs) 0 (length runs)) (λ k d fits.
+    let inside : k < length runs = omega (arith, length-map-range_with_len (run_at runs) 0 (length runs)) in
+    get_or-map-range_with_len (run_at runs) 0 (length runs) k k d inside (let e : 0 + k ≡ k = omega arith in e) ∙ get_or_default runs k (0, 0) d inside)
+
+-- as numbers from 0 on
+shifted : (from n : ℕ) → map (λ u. u - from) (between from (from + n)) ≡ range_with_len 0 n
+shifted from n = same_lists _ _ (length-map (between from (from + n)) (λ u. u - from) ∙ long ∙ sym (length-range_with_len 0 n)) (λ k d fits.
+    let inside : k < n = omega (arith, length-map (between from (from + n)) (λ u. u - from), long) in
+    get_or-map (λ u. u - from) (between from (from + n)) k 0 d (omega (arith, long))
+    ∙ (let x : get_or (between from (from + n)) k 0 ≡ from + k = get_or-between from (from + n) k 0 (omega arith) in
+    let y : get_or (range_with_len 0 n) k d ≡ 0 + k = get_or-range_with_len 0 n k d inside in omega arith))
+  where
+    long : length (between from (from + n)) ≡ n
+    long = length-between from (from + n) ∙ (let e : (from + n) - from ≡ n = omega arith in e)
+
+and_back : (from : ℕ) (us : List ℕ) → All (λ u. from ≤ u) us → map (λ u. from + u) (map (λ u. u - from) us) ≡ us
+and_back from [] h = refl
+and_back from (u ∷ us) h =
+    let e : from + (u - from) ≡ u = let low = h zero 0 (omega arith) in omega arith in
+    let rest = and_back from us (All-tail (λ u. from ≤ u) u us h) in
+    λ i. e i ∷ rest i
+
+-- the units in the order of their runs, and the order of the runs
+abbrev written_in : ℕ → List ℕ → List ℕ → List ℕ
+written_in from levels order = flat_map (λ k. written_run from levels (run_at (level_runs from levels) k)) order
+
+abbrev runs_order : ℕ → List ℕ → List ℕ
+runs_order from levels = visual_order (map (run_level from levels) (level_runs from levels))
+
+-- The runs lemma: the runs in a visual order of their levels, written out, are the visual order of the units.
+pub written-visual : (from : ℕ) (levels : List ℕ) (order : List ℕ) → IsVisualOrder (map (run_level from levels) (level_runs from levels)) order
+    → written_runs from levels (at_places (0, 0) (level_runs from levels) order) ≡ map (λ u. from + u) (visual_order levels)
+unfolding run_levels written_runs
+written-visual from levels order h =
+    ap (flat_map (written_run from levels)) (at_places-map (0, 0) (level_runs from levels) order)
+    ∙ flat_map-map (written_run from levels) (run_at (level_runs from levels)) order
+    ∙ sym (and_back from (written_in from levels order) (λ k d fits. (inside k d fits).0))
+    ∙ ap (map (λ u. from + u)) (visual_order-unique levels (map (λ u. u - from) (written_in from levels order)) visual)
+  where
+    cut : Cut from levels (level_runs from levels)
+    cut = level_runs-cut from levels
+
+    permuted : IsPermutation (between from (from + length levels)) (written_in from levels order)
+    permuted = IsPermutation-sym _ _
+        (IsPermutation-trans _ _ _
+        (IsPermutation-sym _ _ (IsPermutation-flat_map (λ k. written_run from levels (run_at (level_runs from levels) k)) (indexes (run_levels from levels (level_runs from levels))) order h.all_indexes))
+        (rw (length-run_levels from levels (level_runs from levels), ← flat_map-map (written_run from levels) (run_at (level_runs from levels)) (range_with_len 0 (length (level_runs from levels))), all-runs (level_runs from levels), ← flat_map-follow from (from + length levels) (level_runs from levels) cut.follow)
+        (IsPermutation-flat_map_each (written_run from levels) (λ (run : Run). between run.0 run.1) (IsPermutation-written_run from levels) (level_runs from levels))))
+
+    inside : All (λ u. (from ≤ u) × (u < from + length levels)) (written_in from levels order)
+    inside = All-permutation (λ u. (from ≤ u) × (u < from + length levels)) (between from (from + length levels)) (written_in from levels order) permuted (All-between (λ u. (from ≤ u) × (u < from + length levels)) from (from + length levels) (λ u a b. (a, b)))
+
+    visual : IsVisualOrder levels (map (λ u. u - from) (written_in from levels order))
+    visual = record {
+      all_indexes = subst (λ l. IsPermutation l (map (λ u. u - from) (written_in from levels order))) (shifted from (length levels)) (IsPermutation-map (λ u. u - from) (between from (from + length levels)) (written_in from levels order) permuted);
+      in_order = AllPairs-map (λ i j. stands_left levels i j ≡ true) (λ u. u - from) (written_in from levels order) (pairs-written_runs from levels (level_runs from levels) order cut h);
+    }
+
+-- `visual_runs` is what the line shows
+pub visual_runs-are : (from : ℕ) (levels : List ℕ) → AreVisualRuns from levels (visual_runs from levels)
+unfolding visual_runs
+visual_runs-are from levels = record {
+  are_runs = rw (at_places-map (0, 0) (level_runs from levels) (runs_order from levels)) (All-map (IsLevelRun from levels) (run_at (level_runs from levels)) (runs_order from levels) each);
+  in_order = written-visual from levels (runs_order from levels) visual;
+}
+  where
+    visual : IsVisualOrder (map (run_level from levels) (level_runs from levels)) (runs_order from levels)
+    visual = visual_order-is (map (run_level from levels) (level_runs from levels))
+
+    each : All (λ k. IsLevelRun from levels (run_at (level_runs from levels) k)) (runs_order from levels)
+    each i d fits =
+        let r : get_or (runs_order from levels) i d < length (map (run_level from levels) (level_runs from levels)) =
+        All-permutation (λ k. k < length (map (run_level from levels) (level_runs from levels))) (indexes (map (run_level from levels) (level_runs from levels))) (runs_order from levels) visual.all_indexes (all_below (map (run_level from levels) (level_runs from levels))) i d fits in
+        level_runs-each from levels (get_or (runs_order from levels) i d) (0, 0) (omega (arith, length-map (level_runs from levels) (run_level from levels)))
+
+-- Two level runs that share a unit are one.
+same_run : (from : ℕ) (levels : List ℕ) (r s : Run) → IsLevelRun from levels r → IsLevelRun from levels s → (u : ℕ) → IsUnitOf r u → IsUnitOf s u → r ≡ s
+same_run from levels r s h k u in_r in_s = λ i. (starts i, stops i)
+  where
+    levels_same : run_level from levels r ≡ run_level from levels s
+    levels_same = sym (h.equal u in_r.0 in_r.1) ∙ k.equal u in_s.0 in_s.1
+
+    not_before : (a b : Run) → IsLevelRun from levels a → IsLevelRun from levels b → IsUnitOf a u → IsUnitOf b u → run_level from levels a ≡ run_level from levels b → a.0 < b.0 → ⊥
+    not_before a b ha hb in_a in_b same less =
+        hb.before (b.0 - 1) (omega arith) (omega (arith, ha.starts_within)) (omega (arith, hb.ends_within, hb.not_empty))
+        (ha.equal (b.0 - 1) (omega arith) (omega (arith, in_a.1, in_b.0)) ∙ same)
+
+    not_after : (a b : Run) → IsLevelRun from levels a → IsLevelRun from levels b → IsUnitOf a u → IsUnitOf b u → run_level from levels a ≡ run_level from levels b → a.1 < b.1 → ⊥
+    not_after a b ha hb in_a in_b same less =
+        ha.after (omega (arith, ha.starts_within, ha.not_empty)) (omega (arith, hb.ends_within))
+        (hb.equal a.1 (omega (arith, in_a.1, in_b.0)) less ∙ sym same)
+
+    starts : r.0 ≡ s.0
+    starts = elim (cases_order r.0 s.0) [
+      | inl e ↦ e
+      | inr apart ↦ elim apart [
+        | inl less ↦ absurd (not_before r s h k in_r in_s levels_same less)
+        | inr more ↦ absurd (not_before s r k h in_s in_r (sym levels_same) more)
+      ]
+    ]
+
+    stops : r.1 ≡ s.1
+    stops = elim (cases_order r.1 s.1) [
+      | inl e ↦ e
+      | inr apart ↦ elim apart [
+        | inl less ↦ absurd (not_after r s h k in_r in_s levels_same less)
+        | inr more ↦ absurd (not_after s r k h in_s in_r (sym levels_same) more)
+      ]
+    ]
+
+length-written_run : (from : ℕ) (levels : List ℕ) (run : Run) → length (written_run from levels run) ≡ run.1 - run.0
+length-written_run from levels run = length_permutation (between run.0 run.1) (written_run from levels run) (IsPermutation-sym _ _ (IsPermutation-written_run from levels run)) ∙ length-between run.0 run.1
+
+-- Level runs are known by what they write.
+written-once : (from : ℕ) (levels : List ℕ) (rs ss : List Run) → All (IsLevelRun from levels) rs → All (IsLevelRun from levels) ss → flat_map (written_run from levels) rs ≡ flat_map (written_run from levels) ss → rs ≡ ss
+written-once from levels [] [] h k e = refl
+written-once from levels [] (s ∷ ss) h k e = absurd (omega (arith, (k zero s (omega arith)).not_empty, ap length e, length-append (written_run from levels s) (flat_map (written_run from levels) ss), length-written_run from levels s))
+written-once from levels (r ∷ rs) [] h k e = absurd (omega (arith, (h zero r (omega arith)).not_empty, ap length e, length-append (written_run from levels r) (flat_map (written_run from levels) rs), length-written_run from levels r))
+written-once from levels (r ∷ rs) (s ∷ ss) h k e =
+    let rest : rs ≡ ss = written-once from levels rs ss (All-tail (IsLevelRun from levels) r rs h) (All-tail (IsLevelRun from levels) s ss k)
+    (append_cancel_left (written_run from levels s) _ _ (sym (ap (λ (x : Run). written_run from levels x ++ flat_map (written_run from levels) rs) first) ∙ e)) in
+    λ i. first i ∷ rest i
+  where
+    hr : IsLevelRun from levels r
+    hr = h zero r (omega arith)
+
+    hs : IsLevelRun from levels s
+    hs = k zero s (omega arith)
+
+    some_r : 0 < length (written_run from levels r)
+    some_r = omega (arith, hr.not_empty, length-written_run from levels r)
+
+    some_s : 0 < length (written_run from levels s)
+    some_s = omega (arith, hs.not_empty, length-written_run from levels s)
+
+    head : get_or (written_run from levels r) 0 0 ≡ get_or (written_run from levels s) 0 0
+    head = sym (get_or_append_left (written_run from levels r) (flat_map (written_run from levels) rs) 0 0 some_r) ∙ ap (λ l. get_or l 0 0) e ∙ get_or_append_left (written_run from levels s) (flat_map (written_run from levels) ss) 0 0 some_s
+
+    first : r ≡ s
+    first = same_run from levels r s hr hs (get_or (written_run from levels r) 0 0)
+        (All-written_run (IsUnitOf r) from levels r (λ u a b. (a, b)) 0 0 some_r)
+        (rw head (All-written_run (IsUnitOf s) from levels s (λ u a b. (a, b)) 0 0 some_s))
+
+-- there is one such list of runs
+pub visual_runs-unique : (from : ℕ) (levels : List ℕ) (runs : List Run) → AreVisualRuns from levels runs → runs ≡ visual_runs from levels
+unfolding written_runs
+visual_runs-unique from levels runs h =
+    let here : AreVisualRuns from levels (visual_runs from levels) = visual_runs-are from levels in
+    written-once from levels runs (visual_runs from levels) h.are_runs here.are_runs (h.in_order ∙ sym here.in_order)

@@ -1,0 +1,18 @@
+use Rattle.std.proofs.Common.{◌≡◌, ℕ, arith, inl, inr}
+use Rattle.std.proofs.lemmas.Bool.{cases_lt}
+use Rattle.bidi_lines.proofs.visual_order.least_of.Goals as goal
+
+pub loop-i-preserved : goal.loop-i-preserved
+loop-i-preserved c =
+    let i : ℕ = c.loop-i.i in
+    record {
+      least = λ p h. elim (cases_lt p i) [
+        | inl k ↦ let r = c.loop-i.invariant.least p k in omega arith
+        | inr k ↦ let e : p ≡ i = omega arith in rw e (omega arith)
+      ];
+      above = λ base small h.
+          let r = c.loop-i.invariant.above base small (λ p k. h p (omega arith)) in
+          let s = h i (omega arith) in
+          omega arith;
+      in_range = omega (arith, c.loop-i.invariant.in_range);
+    }

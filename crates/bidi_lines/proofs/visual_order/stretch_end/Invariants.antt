@@ -1,0 +1,22 @@
+use Rattle.std.proofs.Common.{◌-◌, ℕ, ◌<◌, ◌≤◌, length, slice_index}
+use Rattle.bidi_lines.proofs.visual_order.stretch_end.Given as goal
+
+abbrev pub invariant-loop-at : goal.invariant-loop-at
+invariant-loop-at l = record {
+  begins : l.from ≤ l.at;
+  ends : l.at ≤ length l.levels;
+  above : (p : ℕ) → l.from ≤ p → p < l.at → l.base < slice_index l.levels p;
+}
+
+abbrev pub decreases-loop-at : goal.decreases-loop-at
+decreases-loop-at l = length l.levels - l.at
+
+abbrev pub invariant-loop-at-2 : goal.invariant-loop-at-2
+invariant-loop-at-2 l = record {
+  begins : l.from ≤ l.at;
+  ends : l.at ≤ length l.levels;
+  above : (p : ℕ) → l.from ≤ p → p < l.at → l.base < slice_index l.levels p;
+}
+
+abbrev pub decreases-loop-at-2 : goal.decreases-loop-at-2
+decreases-loop-at-2 l = length l.levels - l.at

@@ -1,0 +1,190 @@
+//! The levels of a line (L1).
+
+ghost use Rattle.std.specs.Prelude.{◌≡◌, ℕ, ◌+◌, ◌<◌, ◌≤◌, ◌&&◌, ◌||◌, not, nat_lt, if◌then◌else◌, length, slice_index, take, IfOk, map};
+ghost use Rattle.bidi_base.specs.Classes.{is_removed, is_separator};
+ghost use Rattle.bidi_base.specs.Levels.{is_odd, has_rtl};
+ghost use Rattle.bidi_base.specs.Line.{is_blank, line_levels, levels_of_line, levels_with_line};
+ghost use Rattle.bidi_base.specs.Places.{class_at};
+ghost use Rattle.bidi_base.specs.Text.{text_len, per_char};
+
+use bidi_base::char_data::BidiClass;
+use bidi_base::classes::{is_blank, is_removed, is_separator};
+use bidi_base::level::{Level, has_rtl};
+use bidi_base::text::TextSource;
+use std::alloc::{AllocError, Global};
+use std::ops::Range;
+
+// Writes a level to the part from `from` to `to`.
+fn fill(levels: &mut [Level], from: usize, to: usize, level: Level)
+    requires begins { from ≤ to }
+    requires ends { to ≤ length levels.old }
+    ensures before { (k : ℕ) → k < from → slice_index levels.new k ≡ slice_index levels.old k }
+    ensures inside { (k : ℕ) → from ≤ k → k < to → slice_index levels.new k ≡ level }
+    ensures after { (k : ℕ) → to ≤ k → slice_index levels.new k ≡ slice_index levels.old k }
+{
+    levels[from..to].fill(level);
+}
+
+// L1 on the units of a line, from its stored classes and levels: separators, and blanks before them
+// or before the line's end, take the level handed in. Any other unit that X9 removes takes the level
+// before it.
+fn reset_levels(level: Level, classes: &[BidiClass], levels: &mut [Level])
+    requires { length levels.old ≡ length classes.now }
+    ensures { levels.new ≡ line_levels level classes.now levels.old }
+{
+    let mut before = level;
+    let mut blank_start = 0;
+    for i in 0..classes.len() {
+        let class = classes[i];
+        if is_separator(class) {
+            fill(levels, blank_start, i + 1, level);
+            before = level;
+            blank_start = i + 1;
+        } else if is_removed(class) {
+            levels[i] = before;
+        } else {
+            before = levels[i];
+            if !is_blank(class) {
+                blank_start = i + 1;
+            }
+        }
+    }
+    fill(levels, blank_start, classes.len(), level);
+}
+
+// Whether a unit is reset, where the unit after it is or is not; the line's end counts as reset.
+fn is_reset(class: BidiClass, is_next_reset: bool) -> bool
+    ensures { result ≡ (is_separator class || (is_blank class && is_next_reset)) }
+{
+    is_separator(class) || is_next_reset && is_blank(class)
+}
+
+// Whether a unit has an odd level after L1 that is not the one of the unit before it.
+fn shows_rtl(level: Level, class: BidiClass, own: Level, is_reset: bool) -> bool
+    ensures { result ≡ (if is_reset then is_odd level else (not (is_removed class) && is_odd own)) }
+{
+    if is_reset {
+        level.is_rtl()
+    } else {
+        !is_removed(class) && own.is_rtl()
+    }
+}
+
+// Whether X9 removes the first unit of a line.
+fn starts_removed(classes: &[BidiClass]) -> bool
+    ensures { result ≡ (nat_lt 0 (length classes.now) && is_removed (class_at classes.now 0)) }
+{
+    match classes {
+        [first, ..] => is_removed(*first),
+        [] => false,
+    }
+}
+
+// Whether some unit of a line has an odd level after L1, from the line's stored classes and levels.
+pub fn line_has_rtl(level: Level, classes: &[BidiClass], levels: &[Level]) -> bool
+    requires { length levels.now ≡ length classes.now }
+    ensures { result ≡ has_rtl (line_levels level classes.now levels.now) }
+{
+    if level.is_ltr() && !has_rtl(levels) {
+        return false;
+    }
+    let mut reset = true;
+    let mut at = classes.len();
+    while at > 0 {
+        at -= 1;
+        reset = is_reset(classes[at], reset);
+        if shows_rtl(level, classes[at], levels[at], reset) {
+            return true;
+        }
+    }
+    // What X9 removes at the line's start has the level handed in.
+    level.is_rtl() && starts_removed(classes)
+}
+
+// L1 on a line of a text, from the stored classes and levels of the whole text.
+fn reset_line(level: Level, classes: &[BidiClass], levels: &mut [Level], line: Range<usize>)
+    requires same_len { length levels.old ≡ length classes.now }
+    requires ordered { line.start ≤ line.end }
+    requires within { line.end ≤ length levels.old }
+    ensures { levels.new ≡ levels_with_line level classes.now levels.old line.start line.end }
+{
+    reset_levels(
+        level,
+        &classes[line.start..line.end],
+        &mut levels[line.start..line.end],
+    );
+}
+
+// The levels of a line's units after L1, from the stored classes and levels of the whole text.
+pub fn levels_of_line(
+    alloc: Global,
+    level: Level,
+    classes: &[BidiClass],
+    levels: &[Level],
+    line: Range<usize>,
+) -> Result<Vec<Level>, AllocError>
+    requires same_len { length levels.now ≡ length classes.now }
+    requires ordered { line.start ≤ line.end }
+    requires within { line.end ≤ length levels.now }
+    ensures { IfOk result (λ v. v.items ≡ levels_of_line level classes.now levels.now line.start line.end) }
+{
+    let mut shown = Vec::from_slice(alloc, &levels[line.start..line.end])?;
+    reset_levels(level, &classes[line.start..line.end], shown.as_mut_slice());
+    Ok(shown)
+}
+
+// The levels of a text's units, those of a line after L1, from the stored classes and levels of the
+// whole text. The level handed in is the line's paragraph's.
+pub fn levels_with_line(
+    alloc: Global,
+    level: Level,
+    classes: &[BidiClass],
+    levels: &[Level],
+    line: Range<usize>,
+) -> Result<Vec<Level>, AllocError>
+    requires same_len { length levels.now ≡ length classes.now }
+    requires ordered { line.start ≤ line.end }
+    requires within { line.end ≤ length levels.now }
+    ensures { IfOk result (λ v. v.items ≡ levels_with_line level classes.now levels.now line.start line.end) }
+{
+    let mut shown = Vec::from_slice(alloc, levels)?;
+    reset_line(level, classes, shown.as_mut_slice(), line);
+    Ok(shown)
+}
+
+// Brings the level of each character's first unit to the character's index, and counts the characters.
+fn gather<T: TextSource>(text: T, levels: &mut [Level]) -> usize
+    requires { length levels.old ≡ text_len T.units (T.characters text) }
+    ensures count { result ≡ length (T.characters text) }
+    ensures gathered { take result levels.new ≡ per_char 0 T.units (T.characters text) levels.old }
+{
+    let mut count = 0;
+    for (at, _) in text.indices_lengths() {
+        levels[count] = levels[at];
+        count += 1;
+    }
+    count
+}
+
+// The levels of a text's characters, those of a line after L1, from the stored classes and levels of
+// the text's units.
+pub fn levels_per_char<T: TextSource>(
+    alloc: Global,
+    text: T,
+    level: Level,
+    classes: &[BidiClass],
+    levels: &[Level],
+    line: Range<usize>,
+) -> Result<Vec<Level>, AllocError>
+    requires one_a_unit { length levels.now ≡ text_len T.units (T.characters text) }
+    requires same_len { length levels.now ≡ length classes.now }
+    requires ordered { line.start ≤ line.end }
+    requires within { line.end ≤ length levels.now }
+    ensures { IfOk result (λ v. v.items
+        ≡ per_char 0 T.units (T.characters text) (levels_with_line level classes.now levels.now line.start line.end)) }
+{
+    let mut shown = levels_with_line(alloc, level, classes, levels, line)?;
+    let count = gather(text, shown.as_mut_slice());
+    shown.truncate(count);
+    Ok(shown)
+}

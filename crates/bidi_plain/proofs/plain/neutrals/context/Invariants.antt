@@ -1,7 +1,0 @@
-use Rattle.std.proofs.Common.{◌≡◌, length, drop, reverse}
-use Rattle.bidi_base.specs.Neutral.{nearest_direction}
-use Rattle.bidi_plain.proofs.plain.neutrals.context.Given as goal
-
--- what is left before the pair has the same nearest direction
-abbrev pub invariant-loop-class : goal.invariant-loop-class
-invariant-loop-class l = nearest_direction l.fn.sos (reverse l.before) ≡ nearest_direction l.fn.sos (drop (length l.yielded) (reverse l.before))

@@ -1,7 +1,0 @@
-use Rattle.unicode_bidi.specs.Analysis.{unit_levels}
-use Rattle.unicode_bidi.proofs.ParagraphUnits.{AreParagraphsWritten}
-use Rattle.unicode_bidi.proofs.analysis.write_paragraphs.Given as goal
-
-abbrev pub invariant-loop-index : goal.invariant-loop-index
-invariant-loop-index g l =
-    AreParagraphsWritten (unit_levels (g.D.BidiDataSource.source l.data_source) g.T.TextSource.units (g.T.TextSource.characters l.fn.text)) l.initial.levels l.paragraphs l.index l.levels

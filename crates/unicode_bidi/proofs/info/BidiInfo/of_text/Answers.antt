@@ -1,0 +1,49 @@
+use Rattle.bidi_base.proofs.LevelLaws.{BoundaryNeutralsAreAlike-all, StaysLeftToRight-all}
+use Rattle.unicode_bidi.specs.Analysed.{analysed}
+use Rattle.unicode_bidi.specs.Engine.{found_text}
+use Rattle.unicode_bidi.proofs.FoundLaws.{is_per_char-found, parted-found, lines-found, bounded-found, own_units-found}
+use Rattle.unicode_bidi.proofs.info.BidiInfo.of_text.Goals as goal
+
+pub returns-in_err-found-clause-boundary_neutrals_alike : goal.returns-in_err-found-clause-boundary_neutrals_alike
+returns-in_err-found-clause-boundary_neutrals_alike g c = BoundaryNeutralsAreAlike-all (g.D.BidiDataSource.source c.args.data_source.now) c.args.default_para_level
+
+pub returns-clause-boundary_neutrals_alike : goal.returns-clause-boundary_neutrals_alike
+returns-clause-boundary_neutrals_alike g c = BoundaryNeutralsAreAlike-all (g.D.BidiDataSource.source c.args.data_source.now) c.args.default_para_level
+
+pub returns-in_err-found-clause-stays_left_to_right : goal.returns-in_err-found-clause-stays_left_to_right
+returns-in_err-found-clause-stays_left_to_right g c = StaysLeftToRight-all (g.D.BidiDataSource.source c.args.data_source.now) c.args.default_para_level
+
+pub returns-clause-stays_left_to_right : goal.returns-clause-stays_left_to_right
+returns-clause-stays_left_to_right g c = StaysLeftToRight-all (g.D.BidiDataSource.source c.args.data_source.now) c.args.default_para_level
+
+pub new-requires-clause-classes : goal.new-requires-clause-classes
+new-requires-clause-classes g c =
+    (is_per_char-found (g.D.BidiDataSource.source c.args.data_source.now) c.args.default_para_level (found_text g.T.TextSource.units (g.T.TextSource.characters c.args.text) c.in_ok-found.found)
+    g.met.T.TextSource.has_units c.in_ok-found.found.paragraphs.items c.in_ok-found.ensures.analysis).classes
+
+pub new-requires-clause-levels : goal.new-requires-clause-levels
+new-requires-clause-levels g c =
+    (is_per_char-found (g.D.BidiDataSource.source c.args.data_source.now) c.args.default_para_level (found_text g.T.TextSource.units (g.T.TextSource.characters c.args.text) c.in_ok-found.found)
+    g.met.T.TextSource.has_units c.in_ok-found.found.paragraphs.items c.in_ok-found.ensures.analysis).levels
+
+pub invariant_of-result : goal.invariant_of-result
+invariant_of-result g c = record {
+  paragraphs_are_lines =
+      lines-found (g.D.BidiDataSource.source c.args.data_source.now) c.args.default_para_level (analysed c.new.result) g.met.T.TextSource.has_units c.in_ok-found.found.paragraphs.items
+      (rw (c.new.ensures.text, c.new.ensures.classes, c.new.ensures.levels) c.in_ok-found.ensures.analysis);
+}
+
+pub returns-clause-parted : goal.returns-clause-parted
+returns-clause-parted g c =
+    parted-found (g.D.BidiDataSource.source c.args.data_source.now) c.args.default_para_level (analysed c.new.result) g.met.T.TextSource.has_units c.in_ok-found.found.paragraphs.items
+    (rw (c.new.ensures.text, c.new.ensures.classes, c.new.ensures.levels) c.in_ok-found.ensures.analysis)
+
+pub returns-clause-bounded : goal.returns-clause-bounded
+returns-clause-bounded g c =
+    bounded-found (g.D.BidiDataSource.source c.args.data_source.now) c.args.default_para_level (analysed c.new.result) g.met.T.TextSource.has_units c.in_ok-found.found.paragraphs.items
+    (rw (c.new.ensures.text, c.new.ensures.classes, c.new.ensures.levels) c.in_ok-found.ensures.analysis) c.requires
+
+pub returns-clause-each_by_itself : goal.returns-clause-each_by_itself
+returns-clause-each_by_itself g c =
+    own_units-found (g.D.BidiDataSource.source c.args.data_source.now) c.args.default_para_level (analysed c.new.result) g.met.T.TextSource.has_units c.in_ok-found.found.paragraphs.items
+    (rw (c.new.ensures.text, c.new.ensures.classes, c.new.ensures.levels) c.in_ok-found.ensures.analysis)

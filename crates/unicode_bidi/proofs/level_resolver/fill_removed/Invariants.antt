@@ -1,5 +1,0 @@
-use Rattle.unicode_bidi.proofs.FilledUnits.{AreFilled}
-use Rattle.unicode_bidi.proofs.level_resolver.fill_removed.Given as goal
-
-abbrev pub invariant-loop-i : goal.invariant-loop-i
-invariant-loop-i l = AreFilled l.fn.para_level l.classes l.initial.levels l.i l.levels

@@ -1,5 +1,0 @@
-use Rattle.unicode_bidi.proofs.LineLevels.{IsResetTo}
-use Rattle.unicode_bidi.proofs.lines.reset_levels.Given as goal
-
-abbrev pub invariant-loop-i : goal.invariant-loop-i
-invariant-loop-i l = IsResetTo l.level l.classes l.initial.levels l.levels l.blank_start l.before l.i

@@ -1,7 +1,0 @@
-use Rattle.std.proofs.Common.{◌≡◌, take}
-use Rattle.std.specs.List.{range_with_len}
-use Rattle.unicode_bidi.proofs.visual_runs.write_indexes.Given as goal
-
--- the indexes so far
-abbrev pub invariant-loop-k : goal.invariant-loop-k
-invariant-loop-k l = take l.k l.order ≡ range_with_len 0 l.k

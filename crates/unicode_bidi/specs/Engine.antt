@@ -1,0 +1,41 @@
+-- What an analysis holds, and what the walk over the paragraphs of a text asks and leaves.
+use Rattle.std.specs.Prelude.{◌≡◌, ℕ, ◌≤◌, List, [], ◌∷◌, map, slice_range}
+use Rattle.bidi_base.specs.Analysed.{AnalysedText}
+use Rattle.bidi_base.specs.declared.char_data.BidiClass.{BidiClass}
+use Rattle.bidi_base.specs.Isolates.{stored_classes}
+use Rattle.bidi_base.specs.Source.{Source}
+use Rattle.bidi_base.specs.Stored.{levels_in}
+use Rattle.bidi_base.specs.Text.{subrange, per_unit, IsLine}
+use Rattle.unicode_bidi.specs.ParagraphFlags.{flags_of}
+use Rattle.unicode_bidi.specs.declared.engine.Analysis.{Analysis}
+use Rattle.unicode_bidi.specs.declared.first_walk.ParagraphFlags.{ParagraphFlags}
+use Rattle.unicode_bidi.specs.declared.paragraph_info.ParagraphInfo.{ParagraphInfo}
+
+-- a text of these characters, with what was found
+abbrev pub found_text : (ℕ → ℕ) → List ℕ → Analysis → AnalysedText
+found_text len_of chars a = record { len_of = len_of; chars = chars; classes = a.original_classes.items; levels = a.levels.items }
+
+-- the characters of a paragraph
+abbrev pub chars_of : (ℕ → ℕ) → List ℕ → ParagraphInfo → List ℕ
+chars_of len_of chars p = subrange len_of chars p.range.start p.range.end
+
+-- the stored levels of its units, from its level
+unfoldable pub unit_levels : Source → (ℕ → ℕ) → List ℕ → ParagraphInfo → List ℕ
+unit_levels source len_of chars p =
+    let piece = chars_of len_of chars p in
+    per_unit len_of piece (levels_in p.level (map source.class_of piece) (map source.bracket_of piece))
+
+-- its flags
+abbrev pub own_flags : Source → (ℕ → ℕ) → List ℕ → ParagraphInfo → ParagraphFlags
+own_flags source len_of chars p = flags_of (map source.class_of (chars_of len_of chars p))
+
+-- a paragraph of whole characters, with a level that the rules take, and with its stored classes in its part of the text's
+pub record CanWrite (source : Source) (len_of : ℕ → ℕ) (chars : List ℕ) (units : List BidiClass) (p : ParagraphInfo) : Type 0 where
+  pub line : IsLine len_of chars p.range.start p.range.end
+  pub level : p.level ≤ 125
+  pub classes : slice_range units p.range.start p.range.end ≡ per_unit len_of (chars_of len_of chars p) (stored_classes (map source.class_of (chars_of len_of chars p)))
+
+-- paragraphs that follow one another from `start` to `end`
+abbrev pub Follow : ℕ → ℕ → List ParagraphInfo → Type 0
+Follow start end [] = start ≡ end
+Follow start end (p ∷ ps) = (p.range.start ≡ start) × Follow p.range.end end ps

@@ -1,0 +1,222 @@
+// The levels of one paragraph after another (X1 to I2), by passes in place over its units, and those
+// of the characters that X9 removes.
+ghost use Rattle.std.specs.Prelude.{◌≡◌, ℕ, ◌+◌, ◌<◌, ◌≤◌, true, false, length, map, slice_index, All, IsTrue, OnOk};
+ghost use Rattle.std.specs.List.{list_any};
+ghost use Rattle.bidi_base.specs.declared.char_data.BidiClass.TheVariants.{L};
+ghost use Rattle.bidi_base.specs.Classes.{is_initiator};
+ghost use Rattle.bidi_base.specs.Explicit.{explicit_levels, explicit_classes, processing_classes};
+ghost use Rattle.bidi_base.specs.Isolates.{stored_classes};
+ghost use Rattle.bidi_base.specs.Sequences.{is_kept_at, sequences};
+ghost use Rattle.bidi_base.specs.Stored.{AreResolved, levels_in};
+ghost use Rattle.bidi_base.specs.Text.{text_len, is_per_char, per_unit, per_char};
+ghost use Rattle.bidi_base.specs.Units.{AreLines};
+ghost use Rattle.bidi_rules.specs.RunSequence.{run_bounds, sequences_in};
+ghost use Rattle.unicode_bidi.specs.ParagraphFlags.{flags_of};
+
+use crate::first_walk::ParagraphFlags;
+use bidi_base::char_data::BidiClass;
+use bidi_base::classes::is_removed;
+use bidi_base::data_source::BidiDataSource;
+use bidi_base::level::{LTR_LEVEL, Level};
+use bidi_base::text::TextSource;
+use bidi_rules::explicit;
+use bidi_rules::implicit::{NeutralResolver, resolve_levels, resolve_weak};
+use bidi_rules::prepare::{IsolatingRunSequenceVec, isolating_run_sequences};
+use std::alloc::{AllocError, Global};
+
+/// Finds the levels of one paragraph after another, and keeps its memory from each to the next.
+#[derive(Drop)]
+pub(crate) struct LevelResolver {
+    /// The class of each unit, as far as the passes have resolved it.
+    classes: Vec<BidiClass>,
+    /// The isolating run sequences.
+    sequences: IsolatingRunSequenceVec,
+    neutrals: NeutralResolver,
+}
+
+impl LevelResolver {
+    /// A resolver that holds no memory yet.
+    pub(crate) fn new(alloc: Global) -> LevelResolver {
+        LevelResolver {
+            classes: Vec::new(alloc),
+            sequences: Vec::new(alloc),
+            neutrals: NeutralResolver::new(alloc),
+        }
+    }
+
+    /// Finds the explicit levels, and the sequences (X1 to X10).
+    fn prepare<T: TextSource>(
+        &mut self,
+        alloc: Global,
+        text: T,
+        para_level: Level,
+        has_isolates: bool,
+        original_classes: &[BidiClass],
+        levels: &mut [Level],
+    ) -> Result<(), AllocError>
+        requires level { para_level ≤ 125 }
+        requires original { IsTrue (is_per_char ⟦<BidiClass as PartialEq>⟧.eq T.units (T.characters text) original_classes.now) }
+        requires levels { length levels.old ≡ length original_classes.now }
+        requires isolates { IsTrue (list_any is_initiator original_classes.now) → IsTrue has_isolates }
+        ensures levels { let stored = per_char L T.units (T.characters text) original_classes.now in
+            OnOk result (levels.new ≡ per_unit T.units (T.characters text) (explicit_levels para_level stored)) }
+        ensures classes { let stored = per_char L T.units (T.characters text) original_classes.now in
+            OnOk result (self.new.classes.items ≡ per_unit T.units (T.characters text) (processing_classes para_level stored)) }
+        ensures sequences { let stored = per_char L T.units (T.characters text) original_classes.now in
+            OnOk result (sequences_in T.units (T.characters text) stored self.new.sequences.items ≡ sequences para_level stored (explicit_levels para_level stored)) }
+        ensures fits { OnOk result (All (λ s. AreLines T.units (T.characters text) (run_bounds s)) self.new.sequences.items) }
+    {
+        self.classes.clear();
+        self.classes.extend_from_slice(original_classes)?;
+        self.sequences.clear();
+        let mut runs = Vec::new(alloc);
+        explicit::compute(
+            alloc,
+            text,
+            para_level,
+            original_classes,
+            levels,
+            self.classes.as_mut_slice(),
+            &mut runs,
+        )?;
+        isolating_run_sequences(
+            alloc,
+            text,
+            para_level,
+            original_classes,
+            levels,
+            runs,
+            has_isolates,
+            &mut self.sequences,
+        )
+    }
+
+    /// Finds the levels of all characters that X9 keeps.
+    fn resolve<D: BidiDataSource, T: TextSource>(
+        &mut self,
+        alloc: Global,
+        data_source: &D,
+        text: T,
+        para_level: Level,
+        has_isolates: bool,
+        original_classes: &[BidiClass],
+        levels: &mut [Level],
+    ) -> Result<(), AllocError>
+        requires level { para_level ≤ 125 }
+        requires classes { let source = D.source data_source.now in
+            original_classes.now ≡ per_unit T.units (T.characters text) (stored_classes (map source.class_of (T.characters text))) }
+        requires levels { length levels.old ≡ text_len T.units (T.characters text) }
+        requires isolates { IsTrue (list_any is_initiator original_classes.now) → IsTrue has_isolates }
+        ensures per_char { OnOk result (IsTrue (is_per_char ⟦<Level as PartialEq>⟧.eq T.units (T.characters text) levels.new)) }
+        ensures resolved { let source = D.source data_source.now in
+            let classes = map source.class_of (T.characters text) in
+            let stored = stored_classes classes in
+            OnOk result (AreResolved classes (map source.bracket_of (T.characters text)) (explicit_levels para_level stored) (explicit_classes para_level stored)
+            (per_char 0 T.units (T.characters text) levels.new) (sequences para_level stored (explicit_levels para_level stored))) }
+    {
+        self.prepare(
+            alloc,
+            text,
+            para_level,
+            has_isolates,
+            original_classes,
+            levels,
+        )?;
+        let classes = self.classes.as_mut_slice();
+        for sequence in &self.sequences {
+            resolve_weak(text, sequence, classes);
+            self.neutrals.resolve(
+                text,
+                data_source,
+                sequence,
+                levels,
+                original_classes,
+                classes,
+            )?;
+        }
+        resolve_levels(classes, levels);
+        Ok(())
+    }
+
+    /// Writes the stored levels of a paragraph, one for each of its units. `text` is the
+    /// paragraph's own, `flags` are its flags, and `original_classes` are its stored classes, one a
+    /// unit. What `levels` holds before doesn't count; where memory is refused it may hold anything.
+    pub(crate) fn write_levels<D: BidiDataSource, T: TextSource>(
+        &mut self,
+        alloc: Global,
+        data_source: &D,
+        text: T,
+        para_level: Level,
+        flags: ParagraphFlags,
+        original_classes: &[BidiClass],
+        levels: &mut [Level],
+    ) -> Result<(), AllocError>
+        requires level { para_level ≤ 125 }
+        requires flags { let source = D.source data_source.now in
+            flags ≡ flags_of (map source.class_of (T.characters text)) }
+        requires classes { let source = D.source data_source.now in
+            original_classes.now ≡ per_unit T.units (T.characters text) (stored_classes (map source.class_of (T.characters text))) }
+        requires levels { length levels.old ≡ text_len T.units (T.characters text) }
+        ensures { let source = D.source data_source.now in
+            OnOk result (levels.new ≡ per_unit T.units (T.characters text)
+            (levels_in para_level (map source.class_of (T.characters text)) (map source.bracket_of (T.characters text)))) }
+    {
+        if para_level == LTR_LEVEL && flags.is_pure_ltr {
+            levels.fill(LTR_LEVEL);
+            return Ok(());
+        }
+        self.resolve(
+            alloc,
+            data_source,
+            text,
+            para_level,
+            flags.has_isolates,
+            original_classes,
+            levels,
+        )?;
+        fill_removed(para_level, original_classes, levels);
+        Ok(())
+    }
+}
+
+// Whether X9 removes some unit. The walk never stops early, so that many units are tested at once.
+fn has_removed(classes: &[BidiClass]) -> bool
+    ensures { result ≡ false → (u : ℕ) → u < length classes.now → is_kept_at classes.now u ≡ true }
+{
+    let mut found = false;
+    for i in 0..classes.len() {
+        found = found | is_removed(classes[i]);
+    }
+    found
+}
+
+// The level before a unit, at the front the paragraph level.
+fn level_before(para_level: Level, levels: &[Level], unit: usize) -> Level
+    requires { unit ≤ length levels.now }
+    ensures front { unit ≡ 0 → result ≡ para_level }
+    ensures inside { (p : ℕ) → p + 1 ≡ unit → result ≡ slice_index levels.now p }
+{
+    if unit == 0 {
+        para_level
+    } else {
+        levels[unit - 1]
+    }
+}
+
+// Gives each unit of a removed character the level of the unit before it, those at the front the
+// paragraph level.
+fn fill_removed(para_level: Level, classes: &[BidiClass], levels: &mut [Level])
+    requires lengths { length levels.old ≡ length classes.now }
+    ensures kept { (u : ℕ) → u < length classes.now → is_kept_at classes.now u ≡ true → slice_index levels.new u ≡ slice_index levels.old u }
+    ensures front { 0 < length classes.now → is_kept_at classes.now 0 ≡ false → slice_index levels.new 0 ≡ para_level }
+    ensures removed { (u : ℕ) → u + 1 < length classes.now → is_kept_at classes.now (u + 1) ≡ false → slice_index levels.new (u + 1) ≡ slice_index levels.new u }
+{
+    if !has_removed(classes) {
+        return;
+    }
+    for i in 0..classes.len() {
+        if is_removed(classes[i]) {
+            levels[i] = level_before(para_level, levels, i);
+        }
+    }
+}
