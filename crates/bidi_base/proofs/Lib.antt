@@ -20,13 +20,16 @@ pub mod LevelLaws
 pub mod LevelTableLemmas
 pub mod LevelsInLemmas
 pub mod LevelsLemmas
+pub mod Lists
 pub mod MatchLevelsLemmas
 pub mod MatchingLemmas
 pub mod NestedPairs
 pub mod NeutralBlocks
 pub mod NeutralLemmas
 pub mod NeutralSource
+pub mod OneDirection
 pub mod OpenMatches
+pub mod OpenPass
 pub mod OpenersStack
 pub mod OpeningSearch
 pub mod OrderLemmas

@@ -8,7 +8,6 @@ use Rattle.bidi_base.specs.declared.char_data.BidiClass.TheVariants.{L}
 use Rattle.bidi_base.specs.Direction.{is_pure_ltr}
 use Rattle.bidi_base.specs.Display.{Run, line_text, visual_runs, AreVisualRuns}
 use Rattle.bidi_base.specs.Isolates.{paragraph_level, stored_classes}
-use Rattle.bidi_base.specs.Laws.{AreLevelsFrom}
 use Rattle.bidi_base.specs.Levels.{has_rtl}
 use Rattle.bidi_base.specs.Line.{levels_of_line, levels_with_line, char_levels_of_line, char_levels_with_line}
 use Rattle.bidi_base.specs.Paragraphs.{pieces_of, ranges_from}
