@@ -13,24 +13,16 @@ use Rattle.bidi_base.specs.declared.char_data.BidiClass.TheVariants.{L}
 use Rattle.bidi_base.specs.Classes.{as_direction, is_nsm, same_class}
 use Rattle.bidi_base.specs.Places.{class_at, indexes}
 use Rattle.bidi_base.specs.Neutral.{nearest_direction, directions_between, pair_direction, is_mark_after, goes_with_pair, with_pair, n0_pair, n0}
-
-any_option : (test : BidiClass → Bool) (o : Option BidiClass) (ds : List BidiClass) → list_any test (cons_option o ds) ≡ (option_map_or test o false || list_any test ds)
-any_option test None ds = refl
-any_option test (Some d) ds = refl
+use Rattle.bidi_base.proofs.Lists.{cases_Option, put_mid-inside, put_mid-before, put_mid-after, length-put_mid}
 
 -- a test of the directions, as one of the classes
 pub any_direction : (test : BidiClass → Bool) (cs : List BidiClass) → list_any test (filter_map as_direction cs) ≡ list_any (λ c. option_map_or test (as_direction c) false) cs
 any_direction test [] = refl
-any_direction test (c ∷ cs) = any_option test (as_direction c) (filter_map as_direction cs) ∙ ap (λ b. option_map_or test (as_direction c) false || b) (any_direction test cs)
-
-some_option : (x : BidiClass) (o : Option BidiClass) (ds : List BidiClass) (b : Bool) → option_map (λ (_ : BidiClass). x) (find (λ _. true) ds) ≡ cond b (Some x) None
-    → option_map (λ (_ : BidiClass). x) (find (λ _. true) (cons_option o ds)) ≡ cond (is_some o || b) (Some x) None
-some_option x None ds b h = h
-some_option x (Some d) ds b h = refl
+any_direction test (c ∷ cs) = elim (cases_Option (as_direction c)) [ inl e ↦ rw e (any_direction test cs) | inr d ↦ rw (d.1, any_direction test cs) refl ]
 
 pub some_direction : (x : BidiClass) (cs : List BidiClass) → option_map (λ (_ : BidiClass). x) (find (λ _. true) (filter_map as_direction cs)) ≡ cond (list_any (λ c. is_some (as_direction c)) cs) (Some x) None
 some_direction x [] = refl
-some_direction x (c ∷ cs) = some_option x (as_direction c) (filter_map as_direction cs) (list_any (λ d. is_some (as_direction d)) cs) (some_direction x cs)
+some_direction x (c ∷ cs) = elim (cases_Option (as_direction c)) [ inl e ↦ rw e (some_direction x cs) | inr d ↦ rw d.1 refl ]
 
 -- what a pair takes, by the two tests
 pub pair_direction-tests : (e sos : BidiClass) (classes : List BidiClass) (pair : ℕ × ℕ) (same some : Bool)
@@ -45,17 +37,12 @@ pair_direction-tests e sos classes pair same some k l =
     ∙ ap (λ (o : Option BidiClass). cond same (Some e) o) (some_direction context inside ∙ ap (λ b. cond b (Some context) None) (sym l))
 
 -- of the first n elements all pass if at least n do from the front on
-list_all-take : (p : BidiClass → Bool) (xs : List BidiClass) (n : ℕ) → n ≤ length xs → list_all p (take n xs) ≡ leb n (prefix_len p xs)
-list_all-take p xs zero fits = sym (le-leb 0 (prefix_len p xs) (omega arith))
-list_all-take p [] (suc n) fits = absurd (omega arith)
-list_all-take p (x ∷ xs) (suc n) fits = elim (cases_Bool (p x)) [
-  | inl yes' ↦
-      let m = prefix_len p xs in
-      ap (λ b. b && list_all p (take n xs)) yes' ∙ list_all-take p xs n (omega arith)
-      ∙ same_test n m
-      ∙ ap (λ b. leb (suc n) (cond b (1 + m) 0)) (sym yes')
-  | inr no' ↦
-      ap (λ b. b && list_all p (take n xs)) no' ∙ sym (lt-leb (suc n) 0 (omega arith)) ∙ ap (λ b. leb (suc n) (cond b (1 + prefix_len p xs) 0)) (sym no')
+list_all-front : (p : BidiClass → Bool) (xs : List BidiClass) (n : ℕ) → n ≤ length xs → list_all p (take n xs) ≡ leb n (prefix_len p xs)
+list_all-front p xs zero fits = sym (le-leb 0 (prefix_len p xs) (omega arith))
+list_all-front p [] (suc n) fits = absurd (omega arith)
+list_all-front p (x ∷ xs) (suc n) fits = elim (cases_Bool (p x)) [
+  | inl here ↦ rw (here, list_all-front p xs n (omega arith)) (same_test n (prefix_len p xs))
+  | inr gone ↦ rw gone (sym (lt-leb (suc n) 0 (omega arith)))
 ]
   where
     same_test : (n m : ℕ) → leb n m ≡ leb (suc n) (1 + m)
@@ -69,11 +56,8 @@ is_mark_after-prefix_len : (source : List BidiClass) (b k : ℕ) → b < length 
     → is_mark_after source b k ≡ (ltb b k && ltb k (b + 1 + prefix_len is_nsm (drop (b + 1) source)))
 unfolding is_mark_after
 is_mark_after-prefix_len source b k inside fits = elim (cases_lt b k) [
-  | inl after ↦
-      let m = prefix_len is_nsm (drop (b + 1) source) in
-      let long : length (drop (b + 1) source) ≡ length source - (b + 1) = length-drop (b + 1) source in
-      ap (λ t. ltb b k && t) (list_all-take is_nsm (drop (b + 1) source) (k + 1 - (b + 1)) (omega arith) ∙ same_place m)
-  | inr before ↦ ap (λ t. t && list_all is_nsm (slice_range source (b + 1) (k + 1))) (le-ltb b k before) ∙ ap (λ t. t && ltb k (b + 1 + prefix_len is_nsm (drop (b + 1) source))) (sym (le-ltb b k before))
+  | inl after ↦ rw (lt-ltb b k after, list_all-front is_nsm (drop (b + 1) source) (k + 1 - (b + 1)) (omega (arith, length-drop (b + 1) source))) (same_place (prefix_len is_nsm (drop (b + 1) source)))
+  | inr before ↦ rw (le-ltb b k before) refl
 ]
   where
     same_place : (m : ℕ) → leb (k + 1 - (b + 1)) m ≡ ltb k (b + 1 + m)
@@ -81,52 +65,6 @@ is_mark_after-prefix_len source b k inside fits = elim (cases_lt b k) [
       | inl less ↦ le-leb (k + 1 - (b + 1)) m (omega arith) ∙ sym (lt-ltb k (b + 1 + m) less)
       | inr more ↦ lt-leb (k + 1 - (b + 1)) m (omega arith) ∙ sym (le-ltb k (b + 1 + m) more)
     ]
-
--- a class after a part was filled
-module _ (xs : List BidiClass) (b n m : ℕ) (d : BidiClass) (same : m ≡ n) (room : b + n ≤ length xs) where
-  abbrev now : List BidiClass
-  now = put_mid b m xs (replicate n d)
-
-  filled_before : (k : ℕ) → k < b → get_or now k L ≡ get_or xs k L
-  filled_before k less =
-      sym (get_or-take b now k L less) ∙ ap (λ (zs : List BidiClass). get_or zs k L) (take-put_mid_below b m xs (replicate n d) b (omega arith) (omega arith)) ∙ get_or-take b xs k L less
-
-  front : take (b + n) now ≡ take b xs ++ replicate n d
-  front =
-      let long : length (replicate n d) ≡ n = length-replicate n d in
-      take-put_mid b m xs (replicate n d) (b + n) (omega arith) (omega arith)
-
-  filled_inside : (k : ℕ) → b ≤ k → k < b + n → get_or now k L ≡ d
-  filled_inside k from below =
-      let size : length (take b xs) ≡ b = length-take-le b xs (omega arith) in
-      sym (get_or-take (b + n) now k L below) ∙ ap (λ (zs : List BidiClass). get_or zs k L) front
-      ∙ get_or-append_right (take b xs) (replicate n d) b k L size from
-      ∙ get_or-replicate n (k - b) d L (omega arith)
-
-  rest : drop (b + n) now ≡ drop (b + n) xs
-  rest =
-      let long : length (replicate n d) ≡ n = length-replicate n d in
-      drop-put_mid b m xs (replicate n d) (b + n) (omega arith) (omega arith) (omega arith)
-
-  filled_behind : (k : ℕ) → b + n ≤ k → get_or now k L ≡ get_or xs k L
-  filled_behind k past =
-      let place : b + n + (k - (b + n)) ≡ k = omega arith in
-      ap (λ (j : ℕ). get_or now j L) (sym place) ∙ sym (get_or-drop (b + n) now (k - (b + n)) L)
-      ∙ ap (λ (zs : List BidiClass). get_or zs (k - (b + n)) L) rest
-      ∙ get_or-drop (b + n) xs (k - (b + n)) L ∙ ap (λ (j : ℕ). get_or xs j L) place
-
-  length-filled : length now ≡ length xs
-  length-filled = omega (
-    arith,
-    ap length front,
-    ap length rest,
-    length-append (take b xs) (replicate n d),
-    length-replicate n d,
-    length-take-le b xs (omega arith),
-    length-take (b + n) now,
-    length-drop (b + n) now,
-    length-drop (b + n) xs,
-  )
 
 -- the classes once one bracket and the marks after it have taken a direction
 abbrev pub with_bracket : List BidiClass → ℕ → List BidiClass → BidiClass → List BidiClass
@@ -139,34 +77,22 @@ pub with_bracket-filled : (source classes ys : List BidiClass) (b m : ℕ) (d : 
 with_bracket-filled source classes ys b m d long inside counted filled =
     let marks : m ≡ prefix_len is_nsm (drop (b + 1) source) = counted ∙ ap (prefix_len is_nsm) (take_rest source (b + 1)) in
     let few : m ≤ length (drop (b + 1) source) = subst (λ (n : ℕ). n ≤ length (drop (b + 1) source)) (sym marks) (prefix_len-le-length is_nsm (drop (b + 1) source)) in
-    let size : length (drop (b + 1) source) ≡ length source - (b + 1) = length-drop (b + 1) source in
-    let room : b + (1 + m) ≤ length classes = omega arith in
+    let room : b + (1 + m) ≤ length classes = omega (arith, length-drop (b + 1) source) in
     let same : b + 1 + m - b ≡ 1 + m = omega arith in
     let part : length (take (b + 1 + m - b) (drop b classes)) ≡ 1 + m = omega (arith, length-take (b + 1 + m - b) (drop b classes), length-drop b classes) in
-    let all : ys ≡ replicate (1 + m) d = filled ∙ ap (λ (n : ℕ). replicate n d) part in
-    rw all
-    (fill_by_all (λ k. cond (eqb k b || is_mark_after source b k) d (class_at classes k)) (put_mid b (b + 1 + m - b) classes (replicate (1 + m) d)) (length classes) L
-    (length-filled classes b (1 + m) (b + 1 + m - b) d same room)
-    (λ k fits. at k marks room same fits ∙ ap (λ t. cond (eqb k b || t) d (class_at classes k)) (ap (λ (n : ℕ). ltb b k && ltb k (b + 1 + n)) marks ∙ sym (is_mark_after-prefix_len source b k (omega arith) (omega arith)))))
+    rw (filled, part, same)
+    (fill_by_all (λ k. cond (eqb k b || is_mark_after source b k) d (class_at classes k)) (put_mid b (1 + m) classes (replicate (1 + m) d)) (length classes) L
+    (length-put_mid b (1 + m) classes d room)
+    (λ k fits. at k room fits ∙ ap (λ t. cond (eqb k b || t) d (class_at classes k)) (ap (λ (n : ℕ). ltb b k && ltb k (b + 1 + n)) marks ∙ sym (is_mark_after-prefix_len source b k (omega arith) (omega arith)))))
   where
-    at : (k : ℕ) → m ≡ prefix_len is_nsm (drop (b + 1) source) → b + (1 + m) ≤ length classes → b + 1 + m - b ≡ 1 + m → k < length classes
-        → get_or (put_mid b (b + 1 + m - b) classes (replicate (1 + m) d)) k L ≡ cond (eqb k b || (ltb b k && ltb k (b + 1 + m))) d (class_at classes k)
-    at k marks room same fits = elim (cases_order k b) [
-      | inl here ↦
-          filled_inside classes b (1 + m) (b + 1 + m - b) d same room k (omega arith) (omega arith)
-          ∙ ap (λ t. cond (t || (ltb b k && ltb k (b + 1 + m))) d (class_at classes k)) (sym (eq-eqb k b here))
-      | inr other ↦ elim other [
-        | inl before ↦
-            filled_before classes b (1 + m) (b + 1 + m - b) d same room k before
-            ∙ sym (cond-false (eqb k b || (ltb b k && ltb k (b + 1 + m))) d (class_at classes k) (or_from (eqb k b) (ltb b k && ltb k (b + 1 + m)) (ne_eqb k b (λ e. omega arith)) (and_left (ltb b k) (ltb k (b + 1 + m)) (le-ltb b k (omega arith)))))
-        | inr after ↦ elim (cases_lt k (b + 1 + m)) [
-          | inl mark ↦
-              filled_inside classes b (1 + m) (b + 1 + m - b) d same room k (omega arith) (omega arith)
-              ∙ sym (cond-true (eqb k b || (ltb b k && ltb k (b + 1 + m))) d (class_at classes k) (or_right (eqb k b) (ltb b k && ltb k (b + 1 + m)) (and_from (ltb b k) (ltb k (b + 1 + m)) (lt-ltb b k after) (lt-ltb k (b + 1 + m) mark))))
-          | inr past ↦
-              filled_behind classes b (1 + m) (b + 1 + m - b) d same room k (omega arith)
-              ∙ sym (cond-false (eqb k b || (ltb b k && ltb k (b + 1 + m))) d (class_at classes k) (or_from (eqb k b) (ltb b k && ltb k (b + 1 + m)) (ne_eqb k b (λ e. omega arith)) (and_right (ltb b k) (ltb k (b + 1 + m)) (le-ltb k (b + 1 + m) past))))
-        ]
+    at : (k : ℕ) → b + (1 + m) ≤ length classes → k < length classes
+        → get_or (put_mid b (1 + m) classes (replicate (1 + m) d)) k L ≡ cond (eqb k b || (ltb b k && ltb k (b + 1 + m))) d (class_at classes k)
+    at k room fits = elim (cases_order k b) [
+      | inl here ↦ rw (eq-eqb k b here) (put_mid-inside b (1 + m) classes d L k room (omega arith) (omega arith))
+      | inr (inl before) ↦ rw (ne_eqb k b (λ e. omega arith), le-ltb b k (omega arith)) (put_mid-before b (1 + m) classes d L k (omega arith) before)
+      | inr (inr after) ↦ elim (cases_lt k (b + 1 + m)) [
+        | inl mark ↦ rw (ne_eqb k b (λ e. omega arith), lt-ltb b k after, lt-ltb k (b + 1 + m) mark) (put_mid-inside b (1 + m) classes d L k room (omega arith) (omega arith))
+        | inr past ↦ rw (ne_eqb k b (λ e. omega arith), lt-ltb b k after, le-ltb k (b + 1 + m) past) (put_mid-after b (1 + m) classes d L k room (omega arith))
       ]
     ]
 
@@ -174,14 +100,7 @@ length-with_bracket : (source classes : List BidiClass) (b : ℕ) (d : BidiClass
 length-with_bracket source classes b d = length-map-range_with_len (λ k. cond (eqb k b || is_mark_after source b k) d (class_at classes k)) 0 (length classes)
 
 twice : (a b s t : Bool) (d x : BidiClass) → cond (b || t) d (cond (a || s) d x) ≡ cond (((a || b) || s) || t) d x
-twice true true s t d x = refl
-twice true false s true d x = refl
-twice true false s false d x = refl
-twice false true s t d x = refl
-twice false false true true d x = refl
-twice false false true false d x = refl
-twice false false false true d x = refl
-twice false false false false d x = refl
+twice a b s t d x = grind arith
 
 -- both brackets, one after the other
 pub with_bracket-both : (source classes : List BidiClass) (pair : ℕ × ℕ) (d : BidiClass) → with_bracket source pair.1 (with_bracket source pair.0 classes d) d ≡ with_pair source pair classes d
@@ -201,7 +120,7 @@ with_bracket-both source classes pair d =
 pub n0_pair-Some : (e sos : BidiClass) (source classes : List BidiClass) (pair : ℕ × ℕ) (d : BidiClass) → pair_direction e sos classes pair ≡ Some d
     → n0_pair e sos source classes pair ≡ with_bracket source pair.1 (with_bracket source pair.0 classes d) d
 unfolding n0_pair
-n0_pair-Some e sos source classes pair d is = ap (λ (o : Option BidiClass). option_map_or (with_pair source pair classes) o classes) is ∙ sym (with_bracket-both source classes pair d)
+n0_pair-Some e sos source classes pair d is = rw (is, with_bracket-both source classes pair d) refl
 
 pub n0_pair-None : (e sos : BidiClass) (source classes : List BidiClass) (pair : ℕ × ℕ) → pair_direction e sos classes pair ≡ None → n0_pair e sos source classes pair ≡ classes
 unfolding n0_pair

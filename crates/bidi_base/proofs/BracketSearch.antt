@@ -12,13 +12,14 @@ use Rattle.bidi_base.specs.declared.data_source.BidiMatchedOpeningBracket.{BidiM
 use Rattle.bidi_base.specs.Places.{find_last}
 use Rattle.bidi_base.specs.Brackets.{max_open_brackets, bracket_at, is_opening, is_closing, is_same_bracket, pairs_of}
 use Rattle.bidi_base.proofs.ChainLemmas.{range_with_len-append}
-use Rattle.bidi_base.proofs.PlacesLemmas.{find-passes, find-index, find_last-index, range_with_len-more}
+use Rattle.bidi_base.proofs.PlacesLemmas.{find_last-index, range_with_len-more}
 use Rattle.bidi_base.proofs.NestedPairs.{closed_before-pairs}
 use Rattle.bidi_base.proofs.OpeningSearch.{opening_of, find_last-entries}
 use Rattle.bidi_base.proofs.PairsLemmas.{closed_before, IsUnderWay, IsUnderWay-start, IsUnderWay-other, IsUnderWay-opening, IsUnderWay-unmatched, IsUnderWay-pair, IsUnderWay-entry, HasEnded, pairs_of-found, closing_in}
 use Rattle.bidi_base.specs.declared.brackets.Bracket.{Bracket}
 use Rattle.bidi_base.specs.declared.brackets.Waiting.{Waiting}
 use Rattle.bidi_base.specs.FoundBrackets.{brackets_from}
+use Rattle.bidi_base.proofs.Lists.{find-passes, find-index, filter_map-same, option_or-None}
 
 -- the numbers from `low` on below i that pass a test
 module _ (p : ℕ → Bool) (i : ℕ) where
@@ -239,13 +240,8 @@ module _ (counted : List (Option BidiMatchedOpeningBracket)) where
       (
       find-append (λ (p : ℕ × ℕ). eqb p.0 k) pairs ((i, j) ∷ [])
       ∙ ap (λ b. option_or (find (λ (p : ℕ × ℕ). eqb p.0 k) pairs) (cond b (Some (i, j)) None)) (ne_eqb i k (λ e. other (sym e)))
-      ∙ or_none (find (λ (p : ℕ × ℕ). eqb p.0 k) pairs)
+      ∙ option_or-None (find (λ (p : ℕ × ℕ). eqb p.0 k) pairs)
       ))
-    where
-      or_none : (o : Option (ℕ × ℕ)) → option_or o None ≡ o
-      or_none None = refl
-      or_none (Some p) = refl
-
   -- the opening that a search over the entries finds
   found_opening : (slots : List (ℕ × ℕ)) (waiting : List Waiting) (j k : ℕ) (b : BidiMatchedOpeningBracket) (h : IsPairing slots waiting j) → bracket_at counted j ≡ Some b → k < length h.places
       → find_last (λ (e : Waiting). eqb e.opening b.opening) waiting ≡ Some (entry_of (get_or h.places k 0))
@@ -346,9 +342,6 @@ module _ (counted : List (Option BidiMatchedOpeningBracket)) where
   filter_map_none f low zero none = refl
   filter_map_none f low (suc n) none = ap (λ (o : Option (ℕ × ℕ)). cons_option o (filter_map f (range_with_len (low + 1) n))) (none low (omega arith)) ∙ filter_map_none f (low + 1) n (λ k from. none k (omega arith))
 
-  filter_map_same : (f g : ℕ → Option (ℕ × ℕ)) (xs : List ℕ) → ((x : ℕ) → f x ≡ g x) → filter_map f xs ≡ filter_map g xs
-  filter_map_same f g xs same = λ i. filter_map (λ x. same x i) xs
-
   -- where the search ends, the openings that have a closing are the pairs
   IsPairing-end : (slots : List (ℕ × ℕ)) (waiting : List Waiting) (j : ℕ) → IsPairing slots waiting j → (j ≡ length counted) ⊎ ((opens j ≡ true) × (max_open_brackets ≤ length waiting))
       → filter (λ (p : ℕ × ℕ). ltb p.0 p.1) slots ≡ pairs_of counted
@@ -362,7 +355,7 @@ module _ (counted : List (Option BidiMatchedOpeningBracket)) where
       let place : j + (n - j) ≡ n = omega arith in
       ap (filter (λ (p : ℕ × ℕ). ltb p.0 p.1)) h.found
       ∙ kept_slots closed 0 j
-      ∙ filter_map_same (kept_at closed) begins (range_with_len 0 j) (kept_is j)
+      ∙ filter_map-same (kept_at closed) begins (range_with_len 0 j) (kept_is j)
       ∙ sym (append-nil (filter_map begins (range_with_len 0 j)))
       ∙ ap (λ (ps : List (ℕ × ℕ)). filter_map begins (range_with_len 0 j) ++ ps) (sym (filter_map_none begins (0 + j) (n - j) (λ k from. none_from j k (omega arith))))
       ∙ sym (filter_map-append begins (range_with_len 0 j) (range_with_len (0 + j) (n - j)))

@@ -11,6 +11,8 @@ use Rattle.bidi_base.specs.Places.{class_at, count_between}
 use Rattle.bidi_base.specs.Matching.{is_closed_at, is_before, match_of}
 use Rattle.bidi_base.specs.Isolates.{is_initiator_at, is_pdi_at, matching_pdi, is_inside, is_isolated, deciding_class, isolated_classes, resolved_fsi, stored_class, stored_classes}
 use Rattle.bidi_base.proofs.MatchingLemmas.{count_between-more, count_between-none}
+use Rattle.std.proofs.Math.Bool.{or-false, not-not}
+use Rattle.bidi_base.proofs.Lists.{cases_Option}
 
 -- what a character does to the number of open isolates
 pub data Kind : Type 0 where
@@ -107,13 +109,10 @@ record IsAt (xs : List BidiClass) (p : ℕ) (x : BidiClass) (rest : List BidiCla
   next : drop (suc p) xs ≡ rest
 
 at_front : (xs : List BidiClass) (p : ℕ) (x : BidiClass) (rest : List BidiClass) → drop p xs ≡ x ∷ rest → IsAt xs p x rest
-at_front xs p x rest e =
-    let here : p + 0 ≡ p = omega arith in
-    let more : p + 1 ≡ suc p = omega arith in
-    record {
-      is = sym (ap (λ (n : ℕ). class_at xs n) here) ∙ sym (get_or-drop p xs 0 L) ∙ ap (λ (ys : List BidiClass). class_at ys 0) e;
-      next = sym (ap (λ (n : ℕ). drop n xs) more) ∙ sym (drop-drop 1 p xs) ∙ ap (drop 1) e;
-    }
+at_front [] zero x rest e = absurd (cc e)
+at_front [] (suc p) x rest e = absurd (cc e)
+at_front (y ∷ xs) zero x rest e = record { is = cc; next = cc }
+at_front (y ∷ xs) (suc p) x rest e = let h = at_front xs p x rest e in record { is = h.is; next = h.next }
 
 -- ---- the matching PDI
 
@@ -157,15 +156,13 @@ find_end : (classes : List BidiClass) (q p d : ℕ) (rest : List BidiClass) → 
 find_end classes q p d [] e h = refl
 find_end classes q p d (x ∷ rest) e h =
     let at : IsAt classes p x rest = at_front classes p x rest e in
-    let closed : is_closed_at (is_initiator_at classes) (is_pdi_at classes) q p ≡ ends_by (kind_of x) d = closed_here classes q p d x at.is h in
-    let found : Option ℕ = find (is_closed_at (is_initiator_at classes) (is_pdi_at classes) q) (range_with_len (p + 1) (length rest)) in
     let more : p + 1 ≡ suc p = omega arith in
-    ap (λ (b : Bool). cond b (Some p) found) closed
-    ∙ elim (cases_Bool (ends_by (kind_of x) d)) [
-      | inl ends ↦ cond-true (ends_by (kind_of x) d) (Some p) found ends ∙ sym (cond-true (ends_by (kind_of x) d) (Some p) (end_from (depth_by (kind_of x) d) (suc p) rest) ends)
+    elim (cases_Bool (ends_by (kind_of x) d)) [
+      | inl ends ↦ rw (closed_here classes q p d x at.is h, ends) refl
       | inr on ↦
-          ap (λ (o : Option ℕ). cond (ends_by (kind_of x) d) (Some p) o)
-          (find_end classes q (p + 1) (depth_by (kind_of x) d) rest (ap (λ (n : ℕ). drop n classes) more ∙ at.next) (under_more classes q p d x at.is h on) ∙ ap (λ (n : ℕ). end_from (depth_by (kind_of x) d) n rest) more)
+          rw (closed_here classes q p d x at.is h, on)
+          (find_end classes q (p + 1) (depth_by (kind_of x) d) rest (ap (λ (n : ℕ). drop n classes) more ∙ at.next) (under_more classes q p d x at.is h on)
+          ∙ ap (λ (n : ℕ). end_from (depth_by (kind_of x) d) n rest) more)
     ]
 
 -- the match of q is the first PDI after q that no open isolate awaits
@@ -181,22 +178,18 @@ matching_pdi-end_from classes q =
 -- one character on
 before_one : (k : Kind) (d u n : ℕ) (xs front : List BidiClass) → is_before (u + n) (end_from (depth_by k d) (suc u) xs) ≡ not (has_end (depth_by k d) front)
     → is_before (u + n) (cond (ends_by k d) (Some u) (end_from (depth_by k d) (suc u) xs)) ≡ not (ends_by k d || has_end (depth_by k d) front)
-before_one k d u n xs front rest = elim (cases_Bool (ends_by k d)) [
-  | inl ends ↦
-      ap (is_before (u + n)) (cond-true (ends_by k d) (Some u) (end_from (depth_by k d) (suc u) xs) ends) ∙ le-ltb (u + n) u (omega arith)
-      ∙ sym (ap (λ (b : Bool). not (b || has_end (depth_by k d) front)) ends)
-  | inr on ↦
-      ap (is_before (u + n)) (cond-false (ends_by k d) (Some u) (end_from (depth_by k d) (suc u) xs) on) ∙ rest
-      ∙ sym (ap (λ (b : Bool). not (b || has_end (depth_by k d) front)) on)
-]
+before_one k d u n xs front rest = elim (cases_Bool (ends_by k d)) [ inl ends ↦ rw ends (le-ltb (u + n) u (omega arith)) | inr on ↦ rw on rest ]
 
 -- a walk that starts later finds only later ends
-end_from-later : (d p u : ℕ) (xs : List BidiClass) → p < u → is_before p (end_from d u xs) ≡ true
-end_from-later d p u [] order = refl
-end_from-later d p u (x ∷ xs) order = elim (cases_Bool (ends_by (kind_of x) d)) [
-  | inl ends ↦ ap (is_before p) (cond-true (ends_by (kind_of x) d) (Some u) (end_from (depth_by (kind_of x) d) (suc u) xs) ends) ∙ lt-ltb p u order
-  | inr on ↦ ap (is_before p) (cond-false (ends_by (kind_of x) d) (Some u) (end_from (depth_by (kind_of x) d) (suc u) xs) on) ∙ end_from-later (depth_by (kind_of x) d) p (suc u) xs (omega arith)
+end_from-from : (d u k : ℕ) (xs : List BidiClass) → end_from d u xs ≡ Some k → u ≤ k
+end_from-from d u k [] e = absurd (cc e)
+end_from-from d u k (x ∷ xs) e = elim (cases_Bool (ends_by (kind_of x) d)) [
+  | inl ends ↦ let here : Some u ≡ Some k = rw ends at e in let same : u ≡ k = cc here in omega arith
+  | inr on ↦ omega (arith, end_from-from (depth_by (kind_of x) d) (suc u) k xs (rw on at e))
 ]
+
+end_from-later : (d p u : ℕ) (xs : List BidiClass) → p < u → is_before p (end_from d u xs) ≡ true
+end_from-later d p u xs order = elim (cases_Option (end_from d u xs)) [ inl e ↦ rw e refl | inr f ↦ rw f.1 (lt-ltb p f.0 (omega (arith, end_from-from d u f.0 xs f.1))) ]
 
 -- the index u + n is before the first end exactly if there is no end up to it
 before_end : (d u n : ℕ) (xs : List BidiClass) → is_before (u + n) (end_from d u xs) ≡ not (has_end d (take (suc n) xs))
@@ -218,13 +211,7 @@ depth_after-append d (x ∷ xs) ys = depth_after-append (depth_by (kind_of x) d)
 
 pub has_end-append : (d : ℕ) (xs ys : List BidiClass) → has_end d (xs ++ ys) ≡ (has_end d xs || has_end (depth_after d xs) ys)
 has_end-append d [] ys = refl
-has_end-append d (x ∷ xs) ys =
-    ap (λ (b : Bool). ends_by (kind_of x) d || b) (has_end-append (depth_by (kind_of x) d) xs ys)
-    ∙ sym (or_assoc (ends_by (kind_of x) d) (has_end (depth_by (kind_of x) d) xs) (has_end (depth_after (depth_by (kind_of x) d) xs) ys))
-  where
-    or_assoc : (a b c : Bool) → ((a || b) || c) ≡ (a || (b || c))
-    or_assoc true b c = refl
-    or_assoc false b c = refl
+has_end-append d (x ∷ xs) ys = elim (cases_Bool (ends_by (kind_of x) d)) [ inl ends ↦ rw ends refl | inr on ↦ rw on (has_end-append (depth_by (kind_of x) d) xs ys) ]
 
 -- one more open isolate stays open until the first end
 pub depth_after-deeper : (d : ℕ) (xs : List BidiClass) → depth_after (suc d) xs ≡ cond (has_end d xs) (depth_after d xs) (suc (depth_after d xs))
@@ -245,14 +232,7 @@ is_open_after-depth (x ∷ xs) = one (kind_of x) (is_open_after-depth xs) (depth
   where
     one : (k : Kind) → is_open_after xs ≡ not (is_zero (depth_after 0 xs)) → depth_after 1 xs ≡ cond (has_end 0 xs) (depth_after 0 xs) (suc (depth_after 0 xs))
         → ((opens_one k && not (has_end 0 xs)) || is_open_after xs) ≡ not (is_zero (depth_after (depth_by k 0) xs))
-    one opening rest deeper = elim (cases_Bool (has_end 0 xs)) [
-      | inl ends ↦
-          ap (λ (b : Bool). not b || is_open_after xs) ends ∙ rest
-          ∙ ap (λ (n : ℕ). not (is_zero n)) (sym (deeper ∙ cond-true (has_end 0 xs) (depth_after 0 xs) (suc (depth_after 0 xs)) ends))
-      | inr on ↦
-          ap (λ (b : Bool). not b || is_open_after xs) on
-          ∙ ap (λ (n : ℕ). not (is_zero n)) (sym (deeper ∙ cond-false (has_end 0 xs) (depth_after 0 xs) (suc (depth_after 0 xs)) on))
-    ]
+    one opening rest deeper = elim (cases_Bool (has_end 0 xs)) [ inl ends ↦ rw (deeper, ends) rest | inr on ↦ rw (deeper, on) refl ]
     one closing rest deeper = rest
     one neither rest deeper = rest
 
@@ -261,11 +241,7 @@ has_end-more : (d k : ℕ) (xs : List BidiClass) → k < length xs → kind_of (
 has_end-more d k xs within other =
     let more : suc k ≡ k + 1 = omega arith in
     ap (λ (n : ℕ). has_end d (take n xs)) more ∙ ap (has_end d) (take_more xs k L within) ∙ has_end-append d (take k xs) (class_at xs k ∷ [])
-    ∙ ap (λ (x : Kind). has_end d (take k xs) || (ends_by x (depth_after d (take k xs)) || false)) other ∙ or_false (has_end d (take k xs))
-  where
-    or_false : (b : Bool) → (b || false) ≡ b
-    or_false true = refl
-    or_false false = refl
+    ∙ ap (λ (x : Kind). has_end d (take k xs) || (ends_by x (depth_after d (take k xs)) || false)) other ∙ or-false (has_end d (take k xs))
 
 none_inside : (classes : List BidiClass) (p s n : ℕ) → p ≤ s → list_any (λ q. is_inside classes q p) (range_with_len s n) ≡ false
 unfolding is_inside
@@ -322,31 +298,17 @@ find_deciding classes p (x ∷ rest) e =
     let at : IsAt classes p x rest = at_front classes p x rest e in
     let more : p + 1 ≡ suc p = omega arith in
     let within : p < length classes = omega (arith, length-drop p classes, ap length e) in
-    let test : (is_strong (class_at classes p) && not (is_isolated classes p)) ≡ (is_strong x && is_zero (depth_after 0 (take p classes))) = tested (cases_Bool (is_strong x)) at.is within in
-    let others : Option ℕ = find (λ k. is_strong (class_at classes k) && not (is_isolated classes k)) (range_with_len (p + 1) (length rest)) in
-    ap (λ (b : Bool). option_map (class_at classes) (cond b (Some p) others)) test
-    ∙ mapped (is_strong x && is_zero (depth_after 0 (take p classes))) p others
-    ∙ ap (λ (c : BidiClass). cond (is_strong x && is_zero (depth_after 0 (take p classes))) (Some c) (option_map (class_at classes) others)) at.is
-    ∙ ap (λ (o : Option BidiClass). cond (is_strong x && is_zero (depth_after 0 (take p classes))) (Some x) o)
-    (find_deciding classes (p + 1) rest (ap (λ (n : ℕ). drop n classes) more ∙ at.next)
-    ∙ ap (λ (n : ℕ). deciding_from (depth_after 0 (take n classes)) rest) more ∙ ap (λ (d : ℕ). deciding_from d rest) (depth_after-more classes p x within at.is))
-  where
-    mapped : (b : Bool) (p : ℕ) (o : Option ℕ) → option_map (class_at classes) (cond b (Some p) o) ≡ cond b (Some (class_at classes p)) (option_map (class_at classes) o)
-    mapped true p o = refl
-    mapped false p o = refl
-
-    not_not : (n : ℕ) → not (not (is_zero n)) ≡ is_zero n
-    not_not zero = refl
-    not_not (suc n) = refl
-
-    tested : (is_strong x ≡ true) ⊎ (is_strong x ≡ false) → class_at classes p ≡ x → p < length classes
-        → (is_strong (class_at classes p) && not (is_isolated classes p)) ≡ (is_strong x && is_zero (depth_after 0 (take p classes)))
-    tested (inl strong) is within =
-        ap (λ (c : BidiClass). is_strong c && not (is_isolated classes p)) is
-        ∙ ap (λ (b : Bool). is_strong x && not b) (is_isolated-depth classes p within (ap kind_of is ∙ strong_kind x strong))
-        ∙ ap (λ (b : Bool). is_strong x && b) (not_not (depth_after 0 (take p classes)))
-    tested (inr weak) is within =
-        ap (λ (c : BidiClass). is_strong c && not (is_isolated classes p)) is ∙ and_left (is_strong x) (not (is_isolated classes p)) weak ∙ sym (and_left (is_strong x) (is_zero (depth_after 0 (take p classes))) weak)
+    let test : (is_strong (class_at classes p) && not (is_isolated classes p)) ≡ (is_strong x && is_zero (depth_after 0 (take p classes))) = rw at.is (elim (cases_Bool (is_strong x)) [
+      | inl strong ↦ rw (strong, is_isolated-depth classes p within (ap kind_of at.is ∙ strong_kind x strong)) (not-not (is_zero (depth_after 0 (take p classes))))
+      | inr weak ↦ rw weak refl
+    ]) in
+    elim (cases_Bool (is_strong x && is_zero (depth_after 0 (take p classes)))) [
+      | inl here ↦ rw (test, here, at.is) refl
+      | inr gone ↦
+          rw (test, gone)
+          (find_deciding classes (p + 1) rest (ap (λ (n : ℕ). drop n classes) more ∙ at.next)
+          ∙ ap (λ (n : ℕ). deciding_from (depth_after 0 (take n classes)) rest) more ∙ ap (λ (d : ℕ). deciding_from d rest) (depth_after-more classes p x within at.is))
+    ]
 
 -- the deciding character is found in one walk
 pub deciding_class-from : (classes : List BidiClass) → deciding_class classes ≡ deciding_from 0 classes
@@ -356,41 +318,21 @@ deciding_class-from classes = find_deciding classes 0 classes refl
 -- ---- what an FSI becomes (X5c)
 
 end_from-late : (d u n : ℕ) (xs : List BidiClass) → u ≤ n → u ≤ unwrap_or (end_from d u xs) n
-end_from-late d u n [] order = order
-end_from-late d u n (x ∷ xs) order = elim (cases_Bool (ends_by (kind_of x) d)) [
-  | inl ends ↦ let here : unwrap_or (cond (ends_by (kind_of x) d) (Some u) (end_from (depth_by (kind_of x) d) (suc u) xs)) n ≡ u = ap (λ (o : Option ℕ). unwrap_or o n) (cond-true (ends_by (kind_of x) d) (Some u) (end_from (depth_by (kind_of x) d) (suc u) xs) ends) in omega arith
-  | inr on ↦
-      let there : unwrap_or (cond (ends_by (kind_of x) d) (Some u) (end_from (depth_by (kind_of x) d) (suc u) xs)) n ≡ unwrap_or (end_from (depth_by (kind_of x) d) (suc u) xs) n = ap (λ (o : Option ℕ). unwrap_or o n) (cond-false (ends_by (kind_of x) d) (Some u) (end_from (depth_by (kind_of x) d) (suc u) xs) on) in
-      elim (cases_lt u n) [
-        | inl below ↦ omega (arith, end_from-late (depth_by (kind_of x) d) (suc u) n xs (omega arith))
-        | inr above ↦ at_end (end_from (depth_by (kind_of x) d) (suc u) xs) (end_from-later (depth_by (kind_of x) d) u (suc u) xs (omega arith)) there
-      ]
-]
-  where
-    at_end : (o : Option ℕ) → is_before u o ≡ true → unwrap_or (cond (ends_by (kind_of x) d) (Some u) (end_from (depth_by (kind_of x) d) (suc u) xs)) n ≡ unwrap_or o n → u ≤ unwrap_or (cond (ends_by (kind_of x) d) (Some u) (end_from (depth_by (kind_of x) d) (suc u) xs)) n
-    at_end None before e = omega arith
-    at_end (Some k) before e = omega (arith, ltb-true u k before)
+end_from-late d u n xs order = elim (cases_Option (end_from d u xs)) [ inl e ↦ rw e order | inr f ↦ rw f.1 (end_from-from d u f.0 xs f.1) ]
 
 -- the deciding character of what stands before the first end
 resolved : (d u n : ℕ) (xs : List BidiClass) → u + length xs ≤ n → deciding_from d (take (unwrap_or (end_from d u xs) n - u) xs) ≡ resolving_from d xs
-resolved d u n [] fits = ap (deciding_from d) (take-nil (n - u))
+resolved d u n [] fits = ap (deciding_from d) (take_nil (n - u))
   where
-    take-nil : (k : ℕ) → take {A = BidiClass} k [] ≡ []
-    take-nil zero = refl
-    take-nil (suc k) = refl
+    take_nil : (k : ℕ) → take {A = BidiClass} k [] ≡ []
+    take_nil zero = refl
+    take_nil (suc k) = refl
 resolved d u n (x ∷ xs) fits = elim (cases_Bool (ends_by (kind_of x) d)) [
-  | inl ends ↦
-      let none : u - u ≡ 0 = omega arith in
-      ap (λ (o : Option ℕ). deciding_from d (take (unwrap_or o n - u) (x ∷ xs))) (cond-true (ends_by (kind_of x) d) (Some u) (end_from (depth_by (kind_of x) d) (suc u) xs) ends)
-      ∙ ap (λ (k : ℕ). deciding_from d (take k (x ∷ xs))) none
-      ∙ sym (cond-true (ends_by (kind_of x) d) None (cond (is_strong x && is_zero d) (Some x) (resolving_from (depth_by (kind_of x) d) xs)) ends)
+  | inl ends ↦ let none : u - u ≡ 0 = omega arith in rw (ends, none) refl
   | inr on ↦
       let late : suc u ≤ unwrap_or (end_from (depth_by (kind_of x) d) (suc u) xs) n = end_from-late (depth_by (kind_of x) d) (suc u) n xs (omega arith) in
       let more : unwrap_or (end_from (depth_by (kind_of x) d) (suc u) xs) n - u ≡ suc (unwrap_or (end_from (depth_by (kind_of x) d) (suc u) xs) n - suc u) = omega arith in
-      ap (λ (o : Option ℕ). deciding_from d (take (unwrap_or o n - u) (x ∷ xs))) (cond-false (ends_by (kind_of x) d) (Some u) (end_from (depth_by (kind_of x) d) (suc u) xs) on)
-      ∙ ap (λ (k : ℕ). deciding_from d (take k (x ∷ xs))) more
-      ∙ ap (λ (o : Option BidiClass). cond (is_strong x && is_zero d) (Some x) o) (resolved (depth_by (kind_of x) d) (suc u) n xs (omega arith))
-      ∙ sym (cond-false (ends_by (kind_of x) d) None (cond (is_strong x && is_zero d) (Some x) (resolving_from (depth_by (kind_of x) d) xs)) on)
+      rw (on, more, resolved (depth_by (kind_of x) d) (suc u) n xs (omega arith)) refl
 ]
 
 pub deciding_class-isolated : (classes : List BidiClass) (q : ℕ) → q < length classes → deciding_class (isolated_classes classes q) ≡ resolving_from 0 (drop (q + 1) classes)

@@ -20,6 +20,7 @@ pub mod LevelLaws
 pub mod LevelTableLemmas
 pub mod LevelsInLemmas
 pub mod LevelsLemmas
+pub mod Lists
 pub mod MatchLevelsLemmas
 pub mod MatchingLemmas
 pub mod NestedPairs

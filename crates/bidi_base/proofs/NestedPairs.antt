@@ -2,7 +2,7 @@
 use Rattle.std.proofs.Common.{◌≡◌, ℕ, zero, suc, ◌+◌, ◌-◌, ◌<◌, Bool, true, false, not, ◌&&◌, eqb, ltb, leb, List, [], ◌∷◌, ◌++◌, length, get_or, find, filter_map, Option, Some, None, refl, sym, ap, subst, ◌∙◌, ◌⊎◌, arith, inl, inr, add-one, eqb-true, lt-ltb}
 use Rattle.std.specs.Prelude.{All}
 use Rattle.std.specs.List.{range_with_len, cons_option, AllByRecursion, AllPairs}
-use Rattle.std.proofs.lemmas.Bool.{cases_Bool, cases_lt, cases_order, both_ways, and_parts, and_from, le-leb, not-true}
+use Rattle.std.proofs.lemmas.Bool.{cases_Bool, cases_lt, cases_order, both_ways, and_parts, and_from, le-leb, not-true, false_from_ne_true}
 use Rattle.std.proofs.lemmas.List.{length-append, get_or_append_left}
 use Rattle.std.proofs.Math.Seq.{get_or-append_seam}
 use Rattle.std.proofs.lemmas.List.Elements.{All-append, All-cons, All-nil, All-from_recursion}
@@ -11,28 +11,26 @@ use Rattle.std.proofs.lemmas.List.Kept.{AllPairs-cons}
 use Rattle.bidi_base.specs.declared.char_data.BidiClass.{BidiClass}
 use Rattle.bidi_base.specs.declared.data_source.BidiMatchedOpeningBracket.{BidiMatchedOpeningBracket}
 use Rattle.bidi_base.specs.Brackets.{counted_brackets, bracket_at, is_opening, is_closing, is_same_bracket, is_taken, is_available, partner, closed_pairs, bracket_limit, pairs_of, bracket_pairs, IsBehindOrWithin, AreNestedPairs}
-use Rattle.bidi_base.proofs.PlacesLemmas.{find-passes, find-index, find_last-range_with_len}
+use Rattle.bidi_base.proofs.PlacesLemmas.{find_last-range_with_len}
 use Rattle.bidi_base.proofs.PairsLemmas.{closed_before, closed_before-more, with_closing-none, with_closing-other, with_closing-pair, bracket_pairs-in_order}
+use Rattle.bidi_base.proofs.Lists.{find-passes, find-index, cases_Option}
 
 -- pairs found one at an index, where each stands rightly to those before
 module _ (f : ℕ → Option (ℕ × ℕ)) (apart : (i m : ℕ) (p q : ℕ × ℕ) → f i ≡ Some p → f m ≡ Some q → i < m → IsBehindOrWithin p q) where
   later_found : (i low n : ℕ) (p : ℕ × ℕ) → f i ≡ Some p → i < low → AllByRecursion (IsBehindOrWithin p) (filter_map f (range_with_len low n))
   later_found i low zero p e order = tt
-  later_found i low (suc n) p e order = by_option (f low) refl (later_found i (low + 1) n p e (omega arith))
-    where
-      by_option : (o : Option (ℕ × ℕ)) → f low ≡ o → AllByRecursion (IsBehindOrWithin p) (filter_map f (range_with_len (low + 1) n)) → AllByRecursion (IsBehindOrWithin p) (cons_option o (filter_map f (range_with_len (low + 1) n)))
-      by_option None g rest = rest
-      by_option (Some q) g rest = (apart i low p q e g order, rest)
+  later_found i low (suc n) p e order =
+      let rest = later_found i (low + 1) n p e (omega arith) in
+      elim (cases_Option (f low)) [ inl none ↦ rw none rest | inr q ↦ rw q.1 (apart i low p q.0 e q.1 order, rest) ]
 
   found_nested : (low n : ℕ) → AllPairs IsBehindOrWithin (filter_map f (range_with_len low n))
   found_nested low zero = λ i j d order fits. absurd (omega arith)
-  found_nested low (suc n) = by_option (f low) refl (found_nested (low + 1) n)
-    where
-      by_option : (o : Option (ℕ × ℕ)) → f low ≡ o → AllPairs IsBehindOrWithin (filter_map f (range_with_len (low + 1) n)) → AllPairs IsBehindOrWithin (cons_option o (filter_map f (range_with_len (low + 1) n)))
-      by_option None g rest = rest
-      by_option (Some p) g rest =
-          let ps = filter_map f (range_with_len (low + 1) n) in
-          AllPairs-cons IsBehindOrWithin p ps (All-from_recursion (IsBehindOrWithin p) ps (later_found low (low + 1) n p g (omega arith))) rest
+  found_nested low (suc n) =
+      let ps = filter_map f (range_with_len (low + 1) n) in
+      elim (cases_Option (f low)) [
+        | inl none ↦ rw none (found_nested (low + 1) n)
+        | inr p ↦ rw p.1 (AllPairs-cons IsBehindOrWithin p.0 ps (All-from_recursion (IsBehindOrWithin p.0) ps (later_found low (low + 1) n p.0 p.1 (omega arith))) (found_nested (low + 1) n))
+      ]
 
 module _ (brackets : List (Option BidiMatchedOpeningBracket)) where
   -- what is known of a pair that is closed before j
@@ -51,25 +49,24 @@ module _ (brackets : List (Option BidiMatchedOpeningBracket)) where
 
   closes : (j : ℕ) → (closed_before brackets (j + 1) ≡ closed_before brackets j) ⊎ ((i : ℕ) × Closes j i)
   unfolding partner
-  closes j = by_partner (partner brackets (closed_before brackets j) j) refl
-    where
-      by_partner : (o : Option ℕ) → partner brackets (closed_before brackets j) j ≡ o → (closed_before brackets (j + 1) ≡ closed_before brackets j) ⊎ ((i : ℕ) × Closes j i)
-      by_partner None e = inl (closed_before-more brackets j ∙ with_closing-none brackets (closed_before brackets j) j e)
-      by_partner (Some i) e = elim (cases_Bool (is_closing (bracket_at brackets j))) [
-        | inl closing ↦
-            let test : ℕ → Bool = λ k. is_available brackets (closed_before brackets j) j k && is_same_bracket (bracket_at brackets k) (bracket_at brackets j) in
-            let g = find_last-range_with_len test 0 (j - 0) i e in
-            inr (
-              i,
-              record {
-                order = omega (arith, g.below);
-                waits = (and_parts (is_available brackets (closed_before brackets j) j i) (is_same_bracket (bracket_at brackets i) (bracket_at brackets j)) g.passes).0;
-                closing = closing;
-                pairs = closed_before-more brackets j ∙ with_closing-pair brackets (closed_before brackets j) j i closing e;
-              },
-            )
-        | inr other ↦ inl (closed_before-more brackets j ∙ with_closing-other brackets (closed_before brackets j) j other)
-      ]
+  closes j = elim (cases_Option (partner brackets (closed_before brackets j) j)) [
+    | inl e ↦ inl (closed_before-more brackets j ∙ with_closing-none brackets (closed_before brackets j) j e)
+    | inr f ↦ elim (cases_Bool (is_closing (bracket_at brackets j))) [
+      | inl closing ↦
+          let test : ℕ → Bool = λ k. is_available brackets (closed_before brackets j) j k && is_same_bracket (bracket_at brackets k) (bracket_at brackets j) in
+          let g = find_last-range_with_len test 0 (j - 0) f.0 f.1 in
+          inr (
+            f.0,
+            record {
+              order = omega (arith, g.below);
+              waits = (and_parts _ _ g.passes).0;
+              closing = closing;
+              pairs = closed_before-more brackets j ∙ with_closing-pair brackets (closed_before brackets j) j f.0 closing f.1;
+            },
+          )
+      | inr other ↦ inl (closed_before-more brackets j ∙ with_closing-other brackets (closed_before brackets j) j other)
+    ]
+  ]
 
   waiting-opening : (pairs : List (ℕ × ℕ)) (j i : ℕ) → is_available brackets pairs j i ≡ true → is_opening (bracket_at brackets i) ≡ true
   waiting-opening pairs j i h = (and_parts (is_opening (bracket_at brackets i)) (not (is_taken pairs j i)) h).0
@@ -107,21 +104,15 @@ module _ (brackets : List (Option BidiMatchedOpeningBracket)) where
   free_between : (j i : ℕ) (q : ℕ × ℕ) → IsClosedPair j q → is_opening (bracket_at brackets i) ≡ true → (ltb q.1 j && leb q.0 i && ltb i q.1) ≡ false → q.0 < i → q.1 < i
   free_between j i q h opening free order = elim (cases_order i q.1) [
     | inl same ↦ absurd (never_both (bracket_at brackets i) opening (subst (λ (n : ℕ). is_closing (bracket_at brackets n) ≡ true) (sym same) h.closing))
-    | inr other ↦ elim other [
-      | inl inside ↦ absurd
-          (both_ways (ltb q.1 j && leb q.0 i && ltb i q.1) free
-          (and_from (ltb q.1 j && leb q.0 i) (ltb i q.1) (and_from (ltb q.1 j) (leb q.0 i) (lt-ltb q.1 j h.below) (le-leb q.0 i (omega arith))) (lt-ltb i q.1 inside)))
-      | inr behind ↦ behind
-    ]
+    | inr (inl inside) ↦ (
+      let taken : (ltb q.1 j && leb q.0 i && ltb i q.1) ≡ true = rw (lt-ltb q.1 j h.below, le-leb q.0 i (omega arith), lt-ltb i q.1 inside) refl in
+      absurd (both_ways _ free taken)
+    )
+    | inr (inr behind) ↦ behind
   ]
 
   free_at : (pairs : List (ℕ × ℕ)) (j i k : ℕ) → is_taken pairs j i ≡ false → k < length pairs → (let q = get_or pairs k (0, 0) in ltb q.1 j && leb q.0 i && ltb i q.1) ≡ false
-  free_at pairs j i k free fits =
-      let test : ℕ × ℕ → Bool = λ p. ltb p.1 j && leb p.0 i && ltb i p.1 in
-      elim (cases_Bool (test (get_or pairs k (0, 0)))) [
-        | inl taken ↦ absurd (both_ways (is_taken pairs j i) free (list_any_at test pairs k (0, 0) fits taken))
-        | inr other ↦ other
-      ]
+  free_at pairs j i k free fits = false_from_ne_true _ (λ taken. both_ways (is_taken pairs j i) free (list_any_at (λ p. ltb p.1 j && leb p.0 i && ltb i p.1) pairs k (0, 0) fits taken))
 
   apart-more : (j i : ℕ) → Closes j i → AreApart (closed_before brackets j) → AreApart (closed_before brackets j ++ (i, j) ∷ [])
   apart-more j i h earlier k m fits fits1 order = apart_by (get_or (before ++ (i, j) ∷ []) k (0, 0)) (get_or (before ++ (i, j) ∷ []) m (0, 0)) k m (with_new k fits) (with_new m fits1) order

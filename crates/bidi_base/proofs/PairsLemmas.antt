@@ -4,8 +4,7 @@ use Rattle.std.specs.Prelude.{⊤}
 use Rattle.std.specs.List.{range_with_len, cons_option, AllByRecursion}
 use Rattle.std.specs.Option.{option_or}
 use Rattle.std.proofs.lemmas.Bool.{cases_Bool, cases_lt, cases_eq, and_right, lt-leb, cases_order, both_ways, and_parts, and_from, and_left, or_parts, cond-true, cond-false, not-true, le-leb}
-use Rattle.std.proofs.lemmas.List.{reverse-append}
-use Rattle.std.proofs.lemmas.List.Elements.{filter-append, All-from_recursion}
+use Rattle.std.proofs.lemmas.List.Elements.{All-from_recursion, filter_agree}
 use Rattle.std.proofs.lemmas.List.Folds.{find-append, list_any-append}
 use Rattle.std.proofs.lemmas.List.FromFn.{fill_by_all, length-map-range_with_len, get_or-map-range_with_len}
 use Rattle.std.proofs.lemmas.List.Sums.{fold_push}
@@ -15,6 +14,8 @@ use Rattle.bidi_base.specs.Places.{between, indexes, find_last}
 use Rattle.bidi_base.specs.Brackets.{max_open_brackets, counted_bracket, counted_brackets, bracket_at, is_opening, is_closing, is_same_bracket, is_taken, is_available, available, partner, with_closing, closed_pairs, bracket_limit, pairs_of, bracket_pairs, ArePairsWithin}
 use Rattle.bidi_base.proofs.PlacesLemmas.{range_with_len-more, IsLeast, find-between-is, find-between-is_None, find_last-range_with_len}
 use Rattle.bidi_base.proofs.BracketsLemmas.{AllClosedBefore, available-opening, available-pair, available-other}
+use Rattle.bidi_base.proofs.Lists.{find-filter, filter-reverse, filter_map-same, option_or-None, cases_Option}
+use Rattle.std.proofs.Math.Bool.{and-true, or-false, and-false}
 
 -- the pairs that are closed before j
 abbrev pub closed_before : List (Option BidiMatchedOpeningBracket) → ℕ → List (ℕ × ℕ)
@@ -46,40 +47,12 @@ AreClosedFrom-push : (k i j : ℕ) (pairs : List (ℕ × ℕ)) → AreClosedFrom
 AreClosedFrom-push k i j [] h l = (l, h)
 AreClosedFrom-push k i j (p ∷ pairs) h l = (h.0, AreClosedFrom-push k i j pairs h.1 l)
 
--- searches in a filtered list
-find-filter : (p q : ℕ → Bool) (xs : List ℕ) → find q (filter p xs) ≡ find (λ x. p x && q x) xs
-find-filter p q [] = refl
-find-filter p q (x ∷ xs) = by_test (p x) ∙ ap (λ (o : Option ℕ). cond (p x && q x) (Some x) o) (find-filter p q xs)
-  where
-    by_test : (b : Bool) → find q (cond b (x ∷ filter p xs) (filter p xs)) ≡ cond (b && q x) (Some x) (find q (filter p xs))
-    by_test true = refl
-    by_test false = refl
-
-filter-reverse : (p : ℕ → Bool) (xs : List ℕ) → reverse (filter p xs) ≡ filter p (reverse xs)
-filter-reverse p [] = refl
-filter-reverse p (x ∷ xs) =
-    by_test (p x) ∙ ap (λ (ys : List ℕ). ys ++ cond (p x) (x ∷ []) []) (filter-reverse p xs)
-    ∙ sym (filter-append p (reverse xs) (x ∷ [])) ∙ ap (filter p) (sym (reverse-append (x ∷ []) xs))
-  where
-    by_test : (b : Bool) → reverse (cond b (x ∷ filter p xs) (filter p xs)) ≡ reverse (filter p xs) ++ cond b (x ∷ []) []
-    by_test true = reverse-append (x ∷ []) (filter p xs)
-    by_test false = sym (append-nil (reverse (filter p xs)))
-
-filter-same : (p q : ℕ → Bool) (xs : List ℕ) → ((x : ℕ) → p x ≡ q x) → filter p xs ≡ filter q xs
-filter-same p q [] same = refl
-filter-same p q (x ∷ xs) same = ap (λ b. cond b (x ∷ filter p xs) (filter p xs)) (same x) ∙ ap (λ (ys : List ℕ). cond (q x) (x ∷ ys) ys) (filter-same p q xs same)
-
-filter_map-same : (f g : ℕ → Option (ℕ × ℕ)) (xs : List ℕ) → ((x : ℕ) → f x ≡ g x) → filter_map f xs ≡ filter_map g xs
-filter_map-same f g [] same = refl
-filter_map-same f g (x ∷ xs) same = ap (λ (o : Option (ℕ × ℕ)). cons_option o (filter_map f xs)) (same x) ∙ ap (cons_option (g x)) (filter_map-same f g xs same)
-
 filter_map-All : (Q : ℕ × ℕ → Type 0) (f : ℕ → Option (ℕ × ℕ)) → ((x : ℕ) (y : ℕ × ℕ) → f x ≡ Some y → Q y) → (xs : List ℕ) → AllByRecursion Q (filter_map f xs)
 filter_map-All Q f each [] = tt
-filter_map-All Q f each (x ∷ xs) = by_option (f x) refl (filter_map-All Q f each xs)
-  where
-    by_option : (o : Option (ℕ × ℕ)) → f x ≡ o → AllByRecursion Q (filter_map f xs) → AllByRecursion Q (cons_option o (filter_map f xs))
-    by_option None e rest = rest
-    by_option (Some y) e rest = (each x y e, rest)
+filter_map-All Q f each (x ∷ xs) = elim (cases_Option (f x)) [
+  | inl e ↦ rw e (filter_map-All Q f each xs)
+  | inr y ↦ rw y.1 (each x y.0 y.1, filter_map-All Q f each xs)
+]
 
 module _ (brackets : List (Option BidiMatchedOpeningBracket)) where
   -- a closing pairs with the last opening that waits and has its opening character
@@ -88,28 +61,20 @@ module _ (brackets : List (Option BidiMatchedOpeningBracket)) where
   partner-available pairs j =
       let p : ℕ → Bool = is_available brackets pairs j in
       let q : ℕ → Bool = λ i. is_same_bracket (bracket_at brackets i) (bracket_at brackets j) in
-      sym (find-filter p q (reverse (between 0 j))) ∙ ap (find q) (sym (filter-reverse p (between 0 j)))
+      sym (find-filter p q (reverse (between 0 j))) ∙ ap (find q) (filter-reverse p (between 0 j))
 
   -- one step of the pairs
   pub with_closing-none : (pairs : List (ℕ × ℕ)) (j : ℕ) → partner brackets pairs j ≡ None → with_closing brackets pairs j ≡ pairs
   unfolding with_closing
-  with_closing-none pairs j none =
-      ap (λ (o : Option ℕ). cond (is_closing (bracket_at brackets j)) (pairs ++ option_to_list (option_map (λ (i : ℕ). (i, j)) o)) pairs) none
-      ∙ by_test (is_closing (bracket_at brackets j))
-    where
-      by_test : (b : Bool) → cond b (pairs ++ []) pairs ≡ pairs
-      by_test true = append-nil pairs
-      by_test false = refl
+  with_closing-none pairs j none = elim (cases_Bool (is_closing (bracket_at brackets j))) [ inl closing ↦ rw (closing, none, append-nil pairs) refl | inr other ↦ rw other refl ]
 
   pub with_closing-other : (pairs : List (ℕ × ℕ)) (j : ℕ) → is_closing (bracket_at brackets j) ≡ false → with_closing brackets pairs j ≡ pairs
   unfolding with_closing
-  with_closing-other pairs j other = cond-false (is_closing (bracket_at brackets j)) (pairs ++ option_to_list (option_map (λ (i : ℕ). (i, j)) (partner brackets pairs j))) pairs other
+  with_closing-other pairs j other = rw other refl
 
   pub with_closing-pair : (pairs : List (ℕ × ℕ)) (j i : ℕ) → is_closing (bracket_at brackets j) ≡ true → partner brackets pairs j ≡ Some i → with_closing brackets pairs j ≡ pairs ++ (i, j) ∷ []
   unfolding with_closing
-  with_closing-pair pairs j i closing found =
-      cond-true (is_closing (bracket_at brackets j)) (pairs ++ option_to_list (option_map (λ (i : ℕ). (i, j)) (partner brackets pairs j))) pairs closing
-      ∙ ap (λ (o : Option ℕ). pairs ++ option_to_list (option_map (λ (i : ℕ). (i, j)) o)) found
+  with_closing-pair pairs j i closing found = rw (closing, found) refl
 
   pub closed_before-more : (j : ℕ) → closed_before brackets (j + 1) ≡ with_closing brackets (closed_before brackets j) j
   closed_before-more j =
@@ -126,15 +91,13 @@ module _ (brackets : List (Option BidiMatchedOpeningBracket)) where
 
   -- at j nothing is closed, or one pair that ends there
   closed_before-next : (j : ℕ) → (closed_before brackets (j + 1) ≡ closed_before brackets j) ⊎ ((i : ℕ) × (i < j) × (closed_before brackets (j + 1) ≡ closed_before brackets j ++ (i, j) ∷ []))
-  closed_before-next j = by_partner (partner brackets (closed_before brackets j) j) refl
-    where
-      by_partner : (o : Option ℕ) → partner brackets (closed_before brackets j) j ≡ o
-          → (closed_before brackets (j + 1) ≡ closed_before brackets j) ⊎ ((i : ℕ) × (i < j) × (closed_before brackets (j + 1) ≡ closed_before brackets j ++ (i, j) ∷ []))
-      by_partner None e = inl (closed_before-more j ∙ with_closing-none (closed_before brackets j) j e)
-      by_partner (Some i) e = elim (cases_Bool (is_closing (bracket_at brackets j))) [
-        | inl closing ↦ inr (i, partner-below (closed_before brackets j) j i e, closed_before-more j ∙ with_closing-pair (closed_before brackets j) j i closing e)
-        | inr other ↦ inl (closed_before-more j ∙ with_closing-other (closed_before brackets j) j other)
-      ]
+  closed_before-next j = elim (cases_Option (partner brackets (closed_before brackets j) j)) [
+    | inl e ↦ inl (closed_before-more j ∙ with_closing-none (closed_before brackets j) j e)
+    | inr f ↦ elim (cases_Bool (is_closing (bracket_at brackets j))) [
+      | inl closing ↦ inr (f.0, partner-below (closed_before brackets j) j f.0 f.1, closed_before-more j ∙ with_closing-pair (closed_before brackets j) j f.0 closing f.1)
+      | inr other ↦ inl (closed_before-more j ∙ with_closing-other (closed_before brackets j) j other)
+    ]
+  ]
 
   pub closed_before-in_order : (j : ℕ) → AreInOrder j (closed_before brackets j)
   closed_before-in_order zero = tt
@@ -143,8 +106,7 @@ module _ (brackets : List (Option BidiMatchedOpeningBracket)) where
       let next : AreInOrder (j + 1) (closed_before brackets (j + 1)) = elim (closed_before-next j) [
         | inl same ↦ subst (AreInOrder (j + 1)) (sym same) h
         | inr pair ↦ subst (AreInOrder (j + 1)) (sym pair.2) (AreInOrder-push (j + 1) pair.0 j (closed_before brackets j) h pair.1 (omega arith))
-      ]
-      in
+      ] in
       subst (λ (n : ℕ). AreInOrder n (closed_before brackets n)) (add-one j) next
 
   pub closed_before-closed : (j : ℕ) → AllClosedBefore j (closed_before brackets j)
@@ -168,21 +130,17 @@ module _ (brackets : List (Option BidiMatchedOpeningBracket)) where
   -- at k it does not matter what is closed from there on
   is_taken-later : (pairs later : List (ℕ × ℕ)) (k i : ℕ) → AreClosedFrom k later → is_taken (pairs ++ later) k i ≡ is_taken pairs k i
   is_taken-later pairs later k i h =
-      list_any-append (λ p. ltb p.1 k && leb p.0 i && ltb i p.1) pairs later ∙ ap (λ b. is_taken pairs k i || b) (none later h) ∙ or_false (is_taken pairs k i)
+      list_any-append (λ p. ltb p.1 k && leb p.0 i && ltb i p.1) pairs later ∙ ap (λ b. is_taken pairs k i || b) (none later h) ∙ or-false (is_taken pairs k i)
     where
       none : (ps : List (ℕ × ℕ)) → AreClosedFrom k ps → is_taken ps k i ≡ false
       none [] g = refl
       none (p ∷ ps) g = ap (λ b. (b && leb p.0 i && ltb i p.1) || is_taken ps k i) (le-ltb p.1 k g.0) ∙ none ps g.1
 
-      or_false : (b : Bool) → (b || false) ≡ b
-      or_false true = refl
-      or_false false = refl
-
   available-later : (pairs later : List (ℕ × ℕ)) (k : ℕ) → AreClosedFrom k later → available brackets (pairs ++ later) k ≡ available brackets pairs k
   unfolding available
   available-later pairs later k h =
-      filter-same (is_available brackets (pairs ++ later) k) (is_available brackets pairs k) (between 0 k)
-      (λ i. ap (λ b. is_opening (bracket_at brackets i) && not b) (is_taken-later pairs later k i h))
+      filter_agree (is_available brackets (pairs ++ later) k) (is_available brackets pairs k)
+      (λ i. ap (λ b. is_opening (bracket_at brackets i) && not b) (is_taken-later pairs later k i h)) (between 0 k)
 
   available-at : (k n : ℕ) → available brackets (closed_before brackets (k + n)) k ≡ available brackets (closed_before brackets k) k
   available-at k n =
@@ -194,11 +152,12 @@ module _ (brackets : List (Option BidiMatchedOpeningBracket)) where
   not_taken-find j i [] h free = refl
   not_taken-find j i (p ∷ pairs) h free =
       let parts = or_parts (ltb p.1 j && leb p.0 i && ltb i p.1) (is_taken pairs j i) free in
-      let other : eqb p.0 i ≡ false = ne_eqb p.0 i (λ same.
-      both_ways (ltb p.1 j && leb p.0 i && ltb i p.1) parts.0
-      (and_from (ltb p.1 j && leb p.0 i) (ltb i p.1) (and_from (ltb p.1 j) (leb p.0 i) (lt-ltb p.1 j h.0.1) (le-leb p.0 i (omega arith))) (lt-ltb i p.1 (omega (arith, h.0.0)))))
-      in
-      cond-false (eqb p.0 i) (Some p) (find (λ q. eqb q.0 i) pairs) other ∙ not_taken-find j i pairs h.1 parts.1
+      elim (cases_eq p.0 i) [
+        | inl same ↦
+            let taken : (ltb p.1 j && leb p.0 i && ltb i p.1) ≡ true = rw (lt-ltb p.1 j h.0.1, le-leb p.0 i (omega arith), lt-ltb i p.1 (omega (arith, h.0.0))) refl in
+            absurd (both_ways _ parts.0 taken)
+        | inr other ↦ rw (ne_eqb p.0 i other) (not_taken-find j i pairs h.1 parts.1)
+      ]
 
   -- what is known of each entry of the stack
   pub record IsWaiting (j i : ℕ) : Type 0 where
@@ -216,21 +175,15 @@ module _ (brackets : List (Option BidiMatchedOpeningBracket)) where
 
   waiting_in : (j low n : ℕ) → low + n ≤ j → AreWaiting j low (filter (is_available brackets (closed_before brackets j) j) (range_with_len low n))
   waiting_in j low zero order = tt
-  waiting_in j low (suc n) order = by_test (is_available brackets (closed_before brackets j) j low) refl (waiting_in j (low + 1) n (omega arith))
-    where
-      by_test : (b : Bool) → is_available brackets (closed_before brackets j) j low ≡ b → AreWaiting j (low + 1) (filter (is_available brackets (closed_before brackets j) j) (range_with_len (low + 1) n))
-          → AreWaiting j low (cond b (low ∷ filter (is_available brackets (closed_before brackets j) j) (range_with_len (low + 1) n)) (filter (is_available brackets (closed_before brackets j) j) (range_with_len (low + 1) n)))
-      by_test true e rest =
-          let parts = and_parts (is_opening (bracket_at brackets low)) (not (is_taken (closed_before brackets j) j low)) e in (
-            omega arith,
-            record {
-              below = omega arith;
-              opening = parts.0;
-              unpaired = not_taken-find j low (closed_before brackets j) (closed_before-in_order j) (not-true (is_taken (closed_before brackets j) j low) parts.1);
-            },
-            rest,
-          )
-      by_test false e rest = AreWaiting-from j (low + 1) low (filter (is_available brackets (closed_before brackets j) j) (range_with_len (low + 1) n)) (omega arith) rest
+  waiting_in j low (suc n) order =
+      let rest = waiting_in j (low + 1) n (omega arith) in
+      elim (cases_Bool (is_available brackets (closed_before brackets j) j low)) [
+        | inl e ↦
+            let parts = and_parts (is_opening (bracket_at brackets low)) (not (is_taken (closed_before brackets j) j low)) e in
+            let unpaired = not_taken-find j low (closed_before brackets j) (closed_before-in_order j) (not-true (is_taken (closed_before brackets j) j low) parts.1) in
+            rw e (omega arith, record { below = omega arith; opening = parts.0; unpaired = unpaired }, rest)
+        | inr e ↦ rw e (AreWaiting-from j (low + 1) low (filter (is_available brackets (closed_before brackets j) j) (range_with_len (low + 1) n)) (omega arith) rest)
+      ]
 
   pub available-waiting : (j : ℕ) → AreWaiting j 0 (available brackets (closed_before brackets j) j)
   unfolding available
@@ -245,18 +198,14 @@ module _ (brackets : List (Option BidiMatchedOpeningBracket)) where
 
   none_below : (j low i : ℕ) (is : List ℕ) → AreWaiting j low is → i ≤ low → filter (λ x. ltb x i) is ≡ []
   none_below j low i [] h order = refl
-  none_below j low i (x ∷ is) h order =
-      cond-false (ltb x i) (x ∷ filter (λ y. ltb y i) is) (filter (λ y. ltb y i) is) (le-ltb x i (omega (arith, h.0))) ∙ none_below j (x + 1) i is h.2 (omega (arith, h.0))
+  none_below j low i (x ∷ is) h order = rw (le-ltb x i (omega (arith, h.0))) (none_below j (x + 1) i is h.2 (omega (arith, h.0)))
 
   pub AreWaiting-below : (j low : ℕ) (is : List ℕ) (k : ℕ) → AreWaiting j low is → k < length is → filter (λ x. ltb x (get_or is k 0)) is ≡ take k is
   AreWaiting-below j low [] k h fits = absurd (omega arith)
-  AreWaiting-below j low (i ∷ is) zero h fits =
-      cond-false (ltb i i) (i ∷ filter (λ y. ltb y i) is) (filter (λ y. ltb y i) is) (le-ltb i i (omega arith)) ∙ none_below j (i + 1) i is h.2 (omega arith)
+  AreWaiting-below j low (i ∷ is) zero h fits = rw (le-ltb i i (omega arith)) (none_below j (i + 1) i is h.2 (omega arith))
   AreWaiting-below j low (i ∷ is) (suc k) h fits =
-      let x = get_or is k 0 in
-      let g = AreWaiting-get j (i + 1) is k h.2 (omega arith) in
-      cond-true (ltb i x) (i ∷ filter (λ y. ltb y x) is) (filter (λ y. ltb y x) is) (lt-ltb i x (omega (arith, g.1)))
-      ∙ ap (λ (ys : List ℕ). i ∷ ys) (AreWaiting-below j (i + 1) is k h.2 (omega arith))
+      let above : i < get_or is k 0 = (let g = AreWaiting-get j (i + 1) is k h.2 (omega arith) in omega (arith, g.1)) in
+      rw (lt-ltb i (get_or is k 0) above, AreWaiting-below j (i + 1) is k h.2 (omega arith)) refl
 
   -- the pass has read what stands before j: the stack holds what waits there, and had room for each opening
   pub record IsUnderWay (j : ℕ) (waiting : List ℕ) : Type 0 where
@@ -277,10 +226,11 @@ module _ (brackets : List (Option BidiMatchedOpeningBracket)) where
 
   room_more : (j : ℕ) (waiting : List ℕ) → IsUnderWay j waiting → (is_opening (bracket_at brackets j) ≡ true → length waiting < max_open_brackets)
       → (k : ℕ) → k < j + 1 → is_opening (bracket_at brackets k) ≡ true → length (available brackets (closed_before brackets k) k) < max_open_brackets
-  room_more j waiting h last k below opening = elim (cases_order k j) [
-    | inl here ↦ subst (λ (n : ℕ). length (available brackets (closed_before brackets n) n) < max_open_brackets) (sym here)
-        (subst (λ (ws : List ℕ). length ws < max_open_brackets) h.waits (last (subst (λ (n : ℕ). is_opening (bracket_at brackets n) ≡ true) here opening)))
-    | inr other ↦ elim other [ inl before ↦ h.room k before opening | inr after ↦ absurd (omega arith) ]
+  room_more j waiting h last k below opening = elim (cases_lt k j) [
+    | inl before ↦ h.room k before opening
+    | inr late ↦
+        let here : k ≡ j = omega arith in
+        rw (here, ← h.waits) (last (rw here at opening))
   ]
 
   same_after : (j : ℕ) (waiting : List ℕ) → IsUnderWay j waiting → is_opening (bracket_at brackets j) ≡ false → closed_before brackets (j + 1) ≡ closed_before brackets j → IsUnderWay (j + 1) waiting
@@ -357,53 +307,45 @@ module _ (brackets : List (Option BidiMatchedOpeningBracket)) where
 
   has_room : (j n k : ℕ) (waiting : List ℕ) → IsUnderWay j waiting → j ≤ n → k < j → overflows (closed_before brackets n) k ≡ false
   has_room j n k waiting h inside below = elim (cases_Bool (is_opening (bracket_at brackets k))) [
-    | inl opening ↦
-        let few = h.room k below opening in
-        and_right (is_opening (bracket_at brackets k)) (leb max_open_brackets (length (available brackets (closed_before brackets n) k)))
-        (lt-leb max_open_brackets (length (available brackets (closed_before brackets n) k)) (subst (λ (ws : List ℕ). length ws < max_open_brackets) (sym (stack_at k n (omega arith))) few))
-    | inr other ↦ and_left (is_opening (bracket_at brackets k)) (leb max_open_brackets (length (available brackets (closed_before brackets n) k))) other
+    | inl opening ↦ and_right _ _ (lt-leb max_open_brackets (length (available brackets (closed_before brackets n) k)) (rw (stack_at k n (omega arith)) (h.room k below opening)))
+    | inr other ↦ and_left _ _ other
   ]
 
   has_none : (j n : ℕ) (waiting : List ℕ) → IsUnderWay j waiting → j ≤ n → is_opening (bracket_at brackets j) ≡ true → max_open_brackets ≤ length waiting → overflows (closed_before brackets n) j ≡ true
-  has_none j n waiting h inside opening full =
-      and_from (is_opening (bracket_at brackets j)) (leb max_open_brackets (length (available brackets (closed_before brackets n) j))) opening
-      (le-leb max_open_brackets (length (available brackets (closed_before brackets n) j))
-      (subst (λ (ws : List ℕ). max_open_brackets ≤ length ws) (h.waits ∙ sym (stack_at j n inside)) full))
+  has_none j n waiting h inside opening full = and_from _ _ opening (le-leb max_open_brackets (length (available brackets (closed_before brackets n) j)) (rw (stack_at j n inside, ← h.waits) full))
+
+  opening-within : (j : ℕ) → is_opening (bracket_at brackets j) ≡ true → j < length brackets
+  opening-within j opening = within brackets j opening
+    where
+      within : (bs : List (Option BidiMatchedOpeningBracket)) (k : ℕ) → is_opening (bracket_at bs k) ≡ true → k < length bs
+      within [] k e = absurd (cc e)
+      within (b ∷ bs) zero e = omega arith
+      within (b ∷ bs) (suc k) e = omega (arith, within bs k e)
 
   -- the limit is where the pass ends
   limit_is : (j : ℕ) (waiting : List ℕ) → IsUnderWay j waiting → j ≤ length brackets → HasEnded j waiting → bracket_limit brackets (closed_pairs brackets) ≡ j
   unfolding bracket_limit closed_pairs
   limit_is j waiting h inside ended =
       let n = length brackets in
-      let all = closed_before brackets n in
+      let test : ℕ → Bool = overflows (closed_before brackets n) in
       let whole : n ≡ n - 0 = omega arith in
-      let same = ap (λ m. find (overflows all) (range_with_len 0 m)) whole in
-      elim (cases_lt j n) [
-        | inl before ↦
-            let passes : overflows all j ≡ true = elim ended [ inl past ↦ absurd (omega arith) | inr full ↦ has_none j n waiting h inside full.0 full.1 ] in
-            let least : IsLeast (overflows all) 0 n j = record { from = omega arith; below = before; passes = passes; first = λ k from below. has_room j n k waiting h inside below } in
-            ap (λ (o : Option ℕ). unwrap_or o n) (same ∙ find-between-is (overflows all) 0 n j least)
-        | inr past ↦
-            let end : n ≡ j = omega arith in
-            ap (λ (o : Option ℕ). unwrap_or o n) (same ∙ find-between-is_None (overflows all) 0 n (λ k from below. has_room j n k waiting h inside (omega arith))) ∙ end
+      ap (λ m. unwrap_or (find test (range_with_len 0 m)) n) whole
+      ∙ elim ended [
+        | inl end ↦ ap (λ (o : Option ℕ). unwrap_or o n) (find-between-is_None test 0 n (λ k from below. has_room j n k waiting h inside (omega arith))) ∙ sym end
+        | inr full ↦
+            let here : j < n = opening-within j full.0 in
+            ap (λ (o : Option ℕ). unwrap_or o n)
+            (find-between-is test 0 n j (record { from = omega arith; below = here; passes = has_none j n waiting h inside full.0 full.1; first = λ k from below. has_room j n k waiting h inside below }))
       ]
 
   -- which pair an opening at i has
   find_below : (j i : ℕ) (pairs : List (ℕ × ℕ)) → AllClosedBefore j pairs → find (λ p. eqb p.0 i && ltb p.1 j) pairs ≡ find (λ p. eqb p.0 i) pairs
   find_below j i [] h = refl
-  find_below j i (p ∷ pairs) h =
-      ap (λ b. cond (eqb p.0 i && b) (Some p) (find (λ q. eqb q.0 i && ltb q.1 j) pairs)) (lt-ltb p.1 j h.0)
-      ∙ ap (λ b. cond b (Some p) (find (λ q. eqb q.0 i && ltb q.1 j) pairs)) (and_true (eqb p.0 i))
-      ∙ ap (λ (o : Option (ℕ × ℕ)). cond (eqb p.0 i) (Some p) o) (find_below j i pairs h.1)
-    where
-      and_true : (b : Bool) → (b && true) ≡ b
-      and_true true = refl
-      and_true false = refl
+  find_below j i (p ∷ pairs) h = rw (lt-ltb p.1 j h.0, and-true (eqb p.0 i), find_below j i pairs h.1) refl
 
   find_later : (j i : ℕ) (pairs : List (ℕ × ℕ)) → AreClosedFrom j pairs → find (λ p. eqb p.0 i && ltb p.1 j) pairs ≡ None
   find_later j i [] h = refl
-  find_later j i (p ∷ pairs) h =
-      cond-false (eqb p.0 i && ltb p.1 j) (Some p) (find (λ q. eqb q.0 i && ltb q.1 j) pairs) (and_right (eqb p.0 i) (ltb p.1 j) (le-ltb p.1 j h.0)) ∙ find_later j i pairs h.1
+  find_later j i (p ∷ pairs) h = rw (le-ltb p.1 j h.0, and-false (eqb p.0 i)) (find_later j i pairs h.1)
 
   find_limited : (j i : ℕ) → j ≤ length brackets → find (λ p. eqb p.0 i && ltb p.1 j) (closed_before brackets (length brackets)) ≡ find (λ p. eqb p.0 i) (closed_before brackets j)
   find_limited j i inside =
@@ -415,12 +357,8 @@ module _ (brackets : List (Option BidiMatchedOpeningBracket)) where
       ∙ ap (find test) split.1
       ∙ find-append test (closed_before brackets j) split.0
       ∙ ap (option_or (find test (closed_before brackets j))) (find_later j i split.0 split.2)
-      ∙ or_none (find test (closed_before brackets j))
+      ∙ option_or-None (find test (closed_before brackets j))
       ∙ find_below j i (closed_before brackets j) (closed_before-closed j)
-    where
-      or_none : (o : Option (ℕ × ℕ)) → option_or o None ≡ o
-      or_none None = refl
-      or_none (Some p) = refl
 
   -- what the pass has found are the pairs
   pub pairs_of-found : (j : ℕ) (waiting : List ℕ) → IsUnderWay j waiting → j ≤ length brackets → HasEnded j waiting
@@ -433,11 +371,10 @@ module _ (brackets : List (Option BidiMatchedOpeningBracket)) where
   find_in_order : (j : ℕ) (test : ℕ × ℕ → Bool) (pairs : List (ℕ × ℕ)) (p : ℕ × ℕ) → AreInOrder j pairs → find test pairs ≡ Some p → (p.0 < p.1) × (p.1 < j)
   find_in_order j test [] p h e = absurd (cc e)
   find_in_order j test (q ∷ pairs) p h e = elim (cases_Bool (test q)) [
-    | inl yes' ↦
-        let here : Some q ≡ Some p = sym (cond-true (test q) (Some q) (find test pairs) yes') ∙ e in
-        let same : q ≡ p = cc here in
-        subst (λ (x : ℕ × ℕ). (x.0 < x.1) × (x.1 < j)) same h.0
-    | inr no' ↦ find_in_order j test pairs p h.1 (sym (cond-false (test q) (Some q) (find test pairs) no') ∙ e)
+    | inl here ↦
+        let found : Some q ≡ Some p = rw here at e in
+        subst (λ (x : ℕ × ℕ). (x.0 < x.1) × (x.1 < j)) (let same : q ≡ p = cc found in same) h.0
+    | inr gone ↦ find_in_order j test pairs p h.1 (rw gone at e)
   ]
 
   -- each pair begins before it ends, within the list
@@ -454,74 +391,11 @@ module _ (brackets : List (Option BidiMatchedOpeningBracket)) where
 abbrev pub closing_in : List (ℕ × ℕ) → ℕ → Option ℕ
 closing_in pairs i = option_map (λ (p : ℕ × ℕ). p.1) (find (λ (p : ℕ × ℕ). eqb p.0 i) pairs)
 
-pub closings-pair : (closings : List (Option ℕ)) (pairs : List (ℕ × ℕ)) (n i j : ℕ) → closings ≡ map (closing_in pairs) (range_with_len 0 n) → i < n → find (λ (p : ℕ × ℕ). eqb p.0 i) pairs ≡ None
-    → set closings i (Some j) ≡ map (closing_in (pairs ++ (i, j) ∷ [])) (range_with_len 0 n)
-closings-pair closings pairs n i j is fits free =
-    let long : length closings ≡ n = ap length is ∙ length-map-range_with_len (closing_in pairs) 0 n in
-    fill_by_all (closing_in (pairs ++ (i, j) ∷ [])) (set closings i (Some j)) n None (length-set closings i (Some j) ∙ long)
-    (λ k below. elim (cases_eq k i) [
-      | inl here ↦
-          let lt : i < length closings = omega arith in
-          ap (λ (m : ℕ). get_or (set closings i (Some j)) m None) here ∙ get_or-set_same closings i (Some j) None lt
-          ∙ sym (ap (closing_in (pairs ++ (i, j) ∷ [])) here ∙ ap (option_map (λ (p : ℕ × ℕ). p.1)) (at_i ∙ ap (λ b. option_or None (cond b (Some (i, j)) None)) (eq-eqb i i refl)))
-      | inr other ↦
-          get_or-set_other closings i k (Some j) None other
-          ∙ ap (λ (cs : List (Option ℕ)). get_or cs k None) is
-          ∙ get_or-map-range_with_len (closing_in pairs) 0 n k k None below (omega arith)
-          ∙ sym (ap (option_map (λ (p : ℕ × ℕ). p.1))
-          (find-append (λ (p : ℕ × ℕ). eqb p.0 k) pairs ((i, j) ∷ []) ∙ ap (λ b. option_or (find (λ (p : ℕ × ℕ). eqb p.0 k) pairs) (cond b (Some (i, j)) None)) (ne_eqb i k (λ e. other (sym e))) ∙ or_none (find (λ (p : ℕ × ℕ). eqb p.0 k) pairs)))
-    ])
-  where
-    or_none : (o : Option (ℕ × ℕ)) → option_or o None ≡ o
-    or_none None = refl
-    or_none (Some p) = refl
-
-    at_i : find (λ (p : ℕ × ℕ). eqb p.0 i) (pairs ++ (i, j) ∷ []) ≡ option_or None (cond (eqb i i) (Some (i, j)) None)
-    at_i = find-append (λ (p : ℕ × ℕ). eqb p.0 i) pairs ((i, j) ∷ []) ∙ ap (λ (o : Option (ℕ × ℕ)). option_or o (cond (eqb i i) (Some (i, j)) None)) free
-
--- a pair with its opening
-closing-back : (i : ℕ) (pairs : List (ℕ × ℕ)) → option_map (λ (c : ℕ). (i, c)) (closing_in pairs i) ≡ find (λ (p : ℕ × ℕ). eqb p.0 i) pairs
-closing-back i [] = refl
-closing-back i (p ∷ pairs) = elim (cases_Bool (eqb p.0 i)) [
-  | inl yes' ↦
-      let here : find (λ (q : ℕ × ℕ). eqb q.0 i) (p ∷ pairs) ≡ Some p = cond-true (eqb p.0 i) (Some p) (find (λ (q : ℕ × ℕ). eqb q.0 i) pairs) yes' in
-      let first : p.0 ≡ i = eqb-true p.0 i yes' in
-      ap (λ (o : Option (ℕ × ℕ)). option_map (λ (c : ℕ). (i, c)) (option_map (λ (q : ℕ × ℕ). q.1) o)) here ∙ ap (λ (k : ℕ). Some (k, p.1)) (sym first) ∙ sym here
-  | inr no' ↦
-      let there : find (λ (q : ℕ × ℕ). eqb q.0 i) (p ∷ pairs) ≡ find (λ (q : ℕ × ℕ). eqb q.0 i) pairs = cond-false (eqb p.0 i) (Some p) (find (λ (q : ℕ × ℕ). eqb q.0 i) pairs) no' in
-      ap (λ (o : Option (ℕ × ℕ)). option_map (λ (c : ℕ). (i, c)) (option_map (λ (q : ℕ × ℕ). q.1) o)) there ∙ closing-back i pairs ∙ sym there
-]
-
-filter_map-range : (f g : ℕ → Option (ℕ × ℕ)) (low n : ℕ) → ((k : ℕ) → low ≤ k → k < low + n → f k ≡ g k) → filter_map f (range_with_len low n) ≡ filter_map g (range_with_len low n)
-filter_map-range f g low zero same = refl
-filter_map-range f g low (suc n) same =
-    ap (λ (o : Option (ℕ × ℕ)). cons_option o (filter_map f (range_with_len (low + 1) n))) (same low (omega arith) (omega arith))
-    ∙ ap (cons_option (g low)) (filter_map-range f g (low + 1) n (λ k from below. same k (omega arith) (omega arith)))
-
--- the closings listed with their openings
-pub closings-listed : (closings : List (Option ℕ)) (pairs : List (ℕ × ℕ)) (n : ℕ) → closings ≡ map (closing_in pairs) (range_with_len 0 n)
-    → filter_map (λ (i : ℕ). option_map (λ (c : ℕ). (i, c)) (get_or closings i None)) (indexes closings) ≡ filter_map (λ i. find (λ (p : ℕ × ℕ). eqb p.0 i) pairs) (range_with_len 0 n)
-closings-listed closings pairs n is =
-    let long : length closings ≡ n = ap length is ∙ length-map-range_with_len (closing_in pairs) 0 n in
-    ap (λ (m : ℕ). filter_map (λ (i : ℕ). option_map (λ (c : ℕ). (i, c)) (get_or closings i None)) (range_with_len 0 m)) long
-    ∙ filter_map-range (λ (i : ℕ). option_map (λ (c : ℕ). (i, c)) (get_or closings i None)) (λ i. find (λ (p : ℕ × ℕ). eqb p.0 i) pairs) 0 n
-    (λ k from below.
-    ap (λ (cs : List (Option ℕ)). option_map (λ (c : ℕ). (k, c)) (get_or cs k None)) is
-    ∙ ap (option_map (λ (c : ℕ). (k, c))) (get_or-map-range_with_len (closing_in pairs) 0 n k k None (omega arith) (omega arith))
-    ∙ closing-back k pairs)
-
 -- the counted brackets, one a class
 pub length-counted_brackets : (classes : List BidiClass) (brackets : List (Option BidiMatchedOpeningBracket)) → length brackets ≡ length classes → length (counted_brackets classes brackets) ≡ length classes
 length-counted_brackets [] brackets h = refl
 length-counted_brackets (c ∷ classes) [] h = absurd (omega arith)
 length-counted_brackets (c ∷ classes) (b ∷ brackets) h = ap suc (length-counted_brackets classes brackets (omega arith))
-
-pub bracket_at-counted : (classes : List BidiClass) (brackets : List (Option BidiMatchedOpeningBracket)) (k : ℕ) (d : BidiClass) → length brackets ≡ length classes → k < length classes
-    → bracket_at (counted_brackets classes brackets) k ≡ counted_bracket (get_or classes k d) (get_or brackets k None)
-bracket_at-counted [] brackets k d h fits = absurd (omega arith)
-bracket_at-counted (c ∷ classes) [] k d h fits = absurd (omega arith)
-bracket_at-counted (c ∷ classes) (b ∷ brackets) zero d h fits = refl
-bracket_at-counted (c ∷ classes) (b ∷ brackets) (suc k) d h fits = bracket_at-counted classes brackets k d (omega arith) (omega arith)
 
 -- the pairs of a sequence lie in it
 pub bracket_pairs-in_order : (classes : List BidiClass) (brackets : List (Option BidiMatchedOpeningBracket)) → length brackets ≡ length classes

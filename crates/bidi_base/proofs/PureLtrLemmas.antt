@@ -32,6 +32,7 @@ use Rattle.bidi_base.proofs.ResolvedLemmas.{length-resolved_levels, AreResolved-
 use Rattle.bidi_base.proofs.SequencePlaces.{sequence-begun, sequence-kept}
 use Rattle.bidi_base.proofs.StoredLemmas.{class_at-stored_classes, list_all-at_places}
 use Rattle.bidi_base.proofs.StoredSteps.{length-stored_classes}
+use Rattle.bidi_base.proofs.Lists.{chosen, list_all-take, list_all-drop}
 
 -- ---- W1 to W7
 
@@ -112,10 +113,6 @@ w4_quiet (EN ∷ before) _ after k h = h
 w4_quiet (AN ∷ before) c after k h = absurd (cc k)
 w4_quiet (_ ∷ before) c after k h = h
 
-chosen : (p : BidiClass → Bool) (b : Bool) (x y : BidiClass) → p x ≡ true → p y ≡ true → p (cond b x y) ≡ true
-chosen p true x y h k = h
-chosen p false x y h k = k
-
 w5_quiet : (before : List BidiClass) (c : BidiClass) (after : List BidiClass) → is_quiet_after_w1 c ≡ true → is_quiet_after_w1 (w5_rule before c after) ≡ true
 w5_quiet before ET after h =
     chosen is_quiet_after_w1 (nearest_is (λ c. not (is_et c)) is_en before || nearest_is (λ c. not (is_et c)) is_en after) EN ET refl refl
@@ -185,18 +182,6 @@ nearest_direction-l [] h = refl
 nearest_direction-l (c ∷ cs) h =
     let parts = and_parts (is_l_or_neutral c) (list_all is_l_or_neutral cs) h in
     one_direction c (filter_map as_direction cs) parts.0 (nearest_direction-l cs parts.1)
-
-list_all-take : (p : BidiClass → Bool) (n : ℕ) (cs : List BidiClass) → list_all p cs ≡ true → list_all p (take n cs) ≡ true
-list_all-take p zero cs h = refl
-list_all-take p (suc n) [] h = refl
-list_all-take p (suc n) (c ∷ cs) h =
-    let parts = and_parts (p c) (list_all p cs) h in
-    and_from (p c) (list_all p (take n cs)) parts.0 (list_all-take p n cs parts.1)
-
-list_all-drop : (p : BidiClass → Bool) (n : ℕ) (cs : List BidiClass) → list_all p cs ≡ true → list_all p (drop n cs) ≡ true
-list_all-drop p zero cs h = h
-list_all-drop p (suc n) [] h = refl
-list_all-drop p (suc n) (c ∷ cs) h = list_all-drop p n cs (and_parts (p c) (list_all p cs) h).1
 
 one_l : (c : BidiClass) (ds : List BidiClass) → is_l_or_neutral c ≡ true → list_all is_l ds ≡ true → list_all is_l (cons_option (as_direction c) ds) ≡ true
 one_l L ds h k = k

@@ -1,26 +1,21 @@
--- The status stack holds at most 126 entries, and each count is at most the number of characters read; how a vector holds the stack.
+-- The status stack holds at most 126 entries, and each count is at most the number of characters read.
 use Rattle.std.proofs.Common.{◌≡◌, ℕ, suc, ◌+◌, ◌<◌, ◌≤◌, cond, List, [], ◌∷◌, ◌++◌, length, reverse, refl, sym, ap, subst, ◌∙◌, arith, inl, inr}
-use Rattle.std.proofs.lemmas.Bool.{cases_Bool, cases_eq, cond-true, cond-false}
 use Rattle.std.proofs.lemmas.List.{reverse-append, length-reverse}
 use Rattle.bidi_base.specs.declared.char_data.BidiClass.{BidiClass}
 use Rattle.bidi_base.specs.Classes.{is_initiator}
 use Rattle.bidi_base.specs.Places.{class_at}
 use Rattle.bidi_base.specs.Explicit.{asked_level}
 use Rattle.bidi_base.proofs.ExplicitLemmas.{asked_level-above}
-use Rattle.bidi_base.proofs.OpenersStack.{IsBelow, closed_by, openers_read, openers_read-HoldsOpeners, IsStep-closed_by}
+use Rattle.bidi_base.proofs.OpenersStack.{closed_by, openers_read, left_at, IsPushed, left_at-IsPushed}
 use Rattle.bidi_base.specs.StatusMachine.{Entry, State, entry_of, taken, refused, entered, drop_isolate, closed, step, state_at, AreBelow, IsWithinDepth, counted, IsPoppable}
-use Rattle.bidi_base.proofs.StatusMachine.{state_of, entered-cases, refused-initiator, refused-embedding, refused-inside, HasOverflowed, refused-HasOverflowed, IsInsideOf, overflowed, inside, SplitState, split_state, closed-state_of, state_at-state_of}
+use Rattle.bidi_base.proofs.StatusMachine.{state_of, EnteredAs, as_taken, as_isolate, as_embedding, as_unseen, state_of-EnteredAs}
+use Rattle.bidi_base.proofs.StatusMachine.{IsInsideOf, overflowed, inside, split_state, state_at-state_of, closed-state_at}
+use Rattle.bidi_base.proofs.MatchingLemmas.{at_most_one}
 
 length_below : (paragraph level : ℕ) (es : List Entry) → paragraph ≤ level → AreBelow paragraph level es → length es + paragraph ≤ level
 length_below paragraph level [] order h = omega arith
 length_below paragraph level (e ∷ es) order h =
     let rest : length es + paragraph ≤ e.status.level = length_below paragraph e.status.level es h.0 h.2 in omega (arith, h.1)
-
-pub IsWithinDepth-length : (paragraph : ℕ) (s : State) → IsWithinDepth paragraph s → length (s.top ∷ s.below) ≤ 126
-IsWithinDepth-length paragraph s h =
-    let few : length s.below + paragraph ≤ s.top.status.level = length_below paragraph s.top.status.level s.below h.from h.below in
-    let n : length (s.top ∷ s.below) ≡ suc (length s.below) = refl in
-    omega (arith, h.top)
 
 -- an opener that is taken finds room
 pub IsTaken-room : (paragraph : ℕ) (c : BidiClass) (s : State) → IsWithinDepth paragraph s → asked_level c s.top.status.level ≤ 125 → length (s.top ∷ s.below) < 126
@@ -30,110 +25,58 @@ IsTaken-room paragraph c s h fits =
     let n : length (s.top ∷ s.below) ≡ suc (length s.below) = refl in
     omega arith
 
-pub entered-IsWithinDepth : (paragraph : ℕ) (c : BidiClass) (s : State) → IsWithinDepth paragraph s → IsWithinDepth paragraph (entered c s)
-entered-IsWithinDepth paragraph c s h = elim (entered-cases c s) [
-  | inl t ↦
-      let more : s.top.status.level < asked_level c s.top.status.level = asked_level-above c s.top.status.level in
-      subst (IsWithinDepth paragraph) (sym t.is) (record { from = omega (arith, h.from); top = t.asked; below = (h.from, more, h.below) })
-  | inr r ↦ subst (IsWithinDepth paragraph) (sym r.is) (stays (refused-HasOverflowed c s))
-]
-  where
-    stays : HasOverflowed s (refused c s) → IsWithinDepth paragraph (refused c s)
-    stays o = record {
-      from = subst (λ (e : Entry). paragraph ≤ e.status.level) (sym o.0) h.from;
-      top = subst (λ (e : Entry). e.status.level ≤ 125) (sym o.0) h.top;
-      below = subst (λ (e : Entry). AreBelow paragraph e.status.level (refused c s).below) (sym o.0) (subst (AreBelow paragraph s.top.status.level) (sym o.1) h.below);
-    }
+entered-IsWithinDepth : (paragraph : ℕ) (c : BidiClass) (s t : State) → EnteredAs c s t → IsWithinDepth paragraph s → IsWithinDepth paragraph t
+entered-IsWithinDepth paragraph c s t (as_taken fits k) h =
+    let more : s.top.status.level < asked_level c s.top.status.level = asked_level-above c s.top.status.level in
+    record { from = omega (arith, h.from); top = k.asked; below = (h.from, more, h.below) }
+entered-IsWithinDepth paragraph c s t (as_isolate high isolate) h = record { from = h.from; top = h.top; below = h.below }
+entered-IsWithinDepth paragraph c s t (as_embedding high other none) h = record { from = h.from; top = h.top; below = h.below }
+entered-IsWithinDepth paragraph c s t (as_unseen high other some) h = h
 
-pub state_of-IsWithinDepth : (paragraph : ℕ) (classes : List BidiClass) (stack : List ℕ) → paragraph ≤ 125 → IsWithinDepth paragraph (state_of paragraph classes stack)
+state_of-IsWithinDepth : (paragraph : ℕ) (classes : List BidiClass) (stack : List ℕ) → paragraph ≤ 125 → IsWithinDepth paragraph (state_of paragraph classes stack)
 unfolding state_of
 state_of-IsWithinDepth paragraph classes [] fits = record { from = omega arith; top = fits; below = tt }
-state_of-IsWithinDepth paragraph classes (q ∷ stack) fits = entered-IsWithinDepth paragraph (class_at classes q) (state_of paragraph classes stack) (state_of-IsWithinDepth paragraph classes stack fits)
-
--- so the stack never holds more than 126 entries, before a character and after what it closes
-pub state_at-IsWithinDepth : (paragraph : ℕ) (classes : List BidiClass) (p : ℕ) → paragraph ≤ 125 → IsWithinDepth paragraph (state_at paragraph classes p)
-state_at-IsWithinDepth paragraph classes p fits = subst (IsWithinDepth paragraph) (sym (state_at-state_of paragraph classes p)) (state_of-IsWithinDepth paragraph classes (openers_read classes p) fits)
-
-closed_state : (paragraph : ℕ) (classes : List BidiClass) (p : ℕ) → closed (class_at classes p) (state_at paragraph classes p) ≡ state_of paragraph classes (closed_by classes p (openers_read classes p))
-closed_state paragraph classes p = ap (closed (class_at classes p)) (state_at-state_of paragraph classes p) ∙ closed-state_of paragraph classes p (openers_read classes p)
+state_of-IsWithinDepth paragraph classes (q ∷ stack) fits =
+    entered-IsWithinDepth paragraph (class_at classes q) _ _ (state_of-EnteredAs paragraph classes q stack) (state_of-IsWithinDepth paragraph classes stack fits)
 
 pub closed-IsWithinDepth : (paragraph : ℕ) (classes : List BidiClass) (p : ℕ) → paragraph ≤ 125 → IsWithinDepth paragraph (closed (class_at classes p) (state_at paragraph classes p))
-closed-IsWithinDepth paragraph classes p fits = subst (IsWithinDepth paragraph) (sym (closed_state paragraph classes p)) (state_of-IsWithinDepth paragraph classes (closed_by classes p (openers_read classes p)) fits)
+closed-IsWithinDepth paragraph classes p fits = subst (IsWithinDepth paragraph) (sym (closed-state_at paragraph classes p)) (state_of-IsWithinDepth paragraph classes (left_at classes p) fits)
 
-pub state_at-length : (paragraph : ℕ) (classes : List BidiClass) (p : ℕ) → paragraph ≤ 125 → length ((state_at paragraph classes p).top ∷ (state_at paragraph classes p).below) ≤ 126
-state_at-length paragraph classes p fits = IsWithinDepth-length paragraph (state_at paragraph classes p) (state_at-IsWithinDepth paragraph classes p fits)
-
-entered_counted : (c : BidiClass) (s : State) → counted (entered c s) ≤ counted s + 1
-entered_counted c s = elim (entered-cases c s) [
-  | inl t ↦ subst (λ (x : State). counted x ≤ counted s + 1) (sym t.is) (elim (cases_Bool (is_initiator c)) [
-    | inl e ↦ let one : cond {A = ℕ} (is_initiator c) 1 0 ≡ 1 = cond-true (is_initiator c) 1 0 e in omega arith
-    | inr e ↦ let one : cond {A = ℕ} (is_initiator c) 1 0 ≡ 0 = cond-false (is_initiator c) 1 0 e in omega arith
-  ])
-  | inr r ↦ subst (λ (x : State). counted x ≤ counted s + 1) (sym r.is) (elim (cases_Bool (is_initiator c)) [
-    | inl e ↦ subst (λ (x : State). counted x ≤ counted s + 1) (sym (refused-initiator c s e)) (omega arith)
-    | inr e ↦ elim (cases_eq s.overflow_isolates 0) [
-      | inl none ↦ subst (λ (x : State). counted x ≤ counted s + 1) (sym (refused-embedding c s e none)) (omega arith)
-      | inr some ↦ subst (λ (x : State). counted x ≤ counted s + 1) (sym (refused-inside c s e (omega arith))) (omega arith)
-    ]
-  ])
-]
+entered_counted : (c : BidiClass) (s t : State) → EnteredAs c s t → counted t ≤ counted s + 1
+entered_counted c s t (as_taken fits k) = omega (arith, at_most_one (is_initiator c))
+entered_counted c s t (as_isolate high isolate) = omega arith
+entered_counted c s t (as_embedding high other none) = omega arith
+entered_counted c s t (as_unseen high other some) = omega arith
 
 state_of_counted : (paragraph : ℕ) (classes : List BidiClass) (stack : List ℕ) → counted (state_of paragraph classes stack) ≤ length stack
 unfolding state_of
 state_of_counted paragraph classes [] = omega arith
 state_of_counted paragraph classes (q ∷ stack) =
-    let more : counted (entered (class_at classes q) (state_of paragraph classes stack)) ≤ counted (state_of paragraph classes stack) + 1 = entered_counted (class_at classes q) (state_of paragraph classes stack) in
-    let rest : counted (state_of paragraph classes stack) ≤ length stack = state_of_counted paragraph classes stack in
-    omega arith
+    omega (arith, entered_counted (class_at classes q) _ _ (state_of-EnteredAs paragraph classes q stack), state_of_counted paragraph classes stack)
 
-pub IsBelow-length : (b : ℕ) (stack : List ℕ) → IsBelow b stack → length stack ≤ b
-IsBelow-length b [] h = omega arith
-IsBelow-length b (q ∷ stack) h = let rest : length stack ≤ q = IsBelow-length q stack h.1 in omega (arith, h.0)
+IsPushed-length : (classes : List BidiClass) (p : ℕ) (stack : List ℕ) → IsPushed classes p stack → length stack ≤ p
+IsPushed-length classes p [] h = omega arith
+IsPushed-length classes p (q ∷ stack) h = omega (arith, h.0, IsPushed-length classes q stack h.3)
 
 -- so no count is greater than the number of characters read
-pub state_at-counted : (paragraph : ℕ) (classes : List BidiClass) (p : ℕ) → p ≤ length classes → counted (state_at paragraph classes p) ≤ p
-state_at-counted paragraph classes p fits =
-    subst (λ (x : State). counted x ≤ p) (sym (state_at-state_of paragraph classes p))
-    (let few : counted (state_of paragraph classes (openers_read classes p)) ≤ length (openers_read classes p) = state_of_counted paragraph classes (openers_read classes p) in
-    let low : length (openers_read classes p) ≤ p = IsBelow-length p (openers_read classes p) (openers_read-HoldsOpeners classes p fits).order in
-    omega arith)
-
--- and what a character closes leaves at most as many
 pub closed-counted : (paragraph : ℕ) (classes : List BidiClass) (p : ℕ) → p < length classes → counted (closed (class_at classes p) (state_at paragraph classes p)) ≤ p
 closed-counted paragraph classes p fits =
-    subst (λ (x : State). counted x ≤ p) (sym (closed_state paragraph classes p))
-    (let few : counted (state_of paragraph classes (closed_by classes p (openers_read classes p))) ≤ length (closed_by classes p (openers_read classes p)) = state_of_counted paragraph classes (closed_by classes p (openers_read classes p)) in
-    let low : length (closed_by classes p (openers_read classes p)) ≤ p = IsBelow-length p (closed_by classes p (openers_read classes p)) (IsStep-closed_by classes p (openers_read classes p) fits (openers_read-HoldsOpeners classes p (omega arith))).order in
-    omega arith)
+    subst (λ (x : State). counted x ≤ p) (sym (closed-state_at paragraph classes p))
+    (omega (arith, state_of_counted paragraph classes (left_at classes p), IsPushed-length classes p (left_at classes p) (left_at-IsPushed classes p)))
 
 -- one step, as a loop that counts has it
 pub state_at-more : (paragraph : ℕ) (classes : List BidiClass) (p : ℕ) → state_at paragraph classes (p + 1) ≡ step (class_at classes p) (state_at paragraph classes p)
 unfolding state_at
 state_at-more paragraph classes p = ap (state_at paragraph classes) (let same : p + 1 ≡ suc p = omega arith in same)
 
--- the stack as a vector holds it, outermost first
-abbrev pub entries : State → List Entry
-entries s = reverse (s.top ∷ s.below)
+pops_by : (s t : State) → IsInsideOf s t → t.overflow_isolates ≡ 0 → (u : State) × (drop_isolate (t.top ∷ t.below) ≡ u.top ∷ u.below)
+pops_by s t overflowed none = absurd (omega arith)
+pops_by s t (inside _ a b c d drops) none = (s, drops)
 
-pub entries-taken : (c : BidiClass) (s : State) → entries (taken c s) ≡ entries s ++ entry_of c s ∷ []
-entries-taken c s = reverse-append (entry_of c s ∷ []) (s.top ∷ s.below)
-
-pub entries-top : (s : State) → entries s ≡ reverse s.below ++ s.top ∷ []
-entries-top s = reverse-append (s.top ∷ []) s.below
-
-pub length-entries : (s : State) → length (entries s) ≡ length s.below + 1
-length-entries s = length-reverse (s.top ∷ s.below) ∙ (let same : suc (length s.below) ≡ length s.below + 1 = omega arith in same)
-
-pub state_of-IsPoppable : (paragraph : ℕ) (classes : List BidiClass) (stack : List ℕ) → IsPoppable (state_of paragraph classes stack)
-state_of-IsPoppable paragraph classes stack = record { pops = λ none some. by_split none some (split_state paragraph classes stack) }
-  where
-    by_inside : (s t : State) → t.overflow_isolates ≡ 0 → IsInsideOf s t → (u : State) × (drop_isolate (t.top ∷ t.below) ≡ u.top ∷ u.below)
-    by_inside s t none (overflowed same) = absurd (let more : t.overflow_isolates ≡ s.overflow_isolates + 1 = ap (λ (x : State). x.overflow_isolates) same in omega arith)
-    by_inside s t none (inside a b c d drops) = (s, drops)
-
-    by_split : (state_of paragraph classes stack).overflow_isolates ≡ 0 → 0 < (state_of paragraph classes stack).valid_isolates → SplitState paragraph classes stack → (t : State) × (drop_isolate ((state_of paragraph classes stack).top ∷ (state_of paragraph classes stack).below) ≡ t.top ∷ t.below)
-    by_split none some (inl h) = absurd (omega (arith, h.2))
-    by_split none some (inr h) = by_inside (state_of paragraph classes h.0) (state_of paragraph classes stack) none h.2
+state_of-IsPoppable : (paragraph : ℕ) (classes : List BidiClass) (stack : List ℕ) → IsPoppable (state_of paragraph classes stack)
+state_of-IsPoppable paragraph classes stack = record {
+  pops = λ none some. elim (split_state paragraph classes stack) [ inl h ↦ absurd (omega (arith, h.2)) | inr h ↦ pops_by (state_of paragraph classes h.0) (state_of paragraph classes stack) h.2 none ];
+}
 
 pub state_at-IsPoppable : (paragraph : ℕ) (classes : List BidiClass) (p : ℕ) → IsPoppable (state_at paragraph classes p)
 state_at-IsPoppable paragraph classes p = subst IsPoppable (sym (state_at-state_of paragraph classes p)) (state_of-IsPoppable paragraph classes (openers_read classes p))

@@ -4,7 +4,7 @@ use Rattle.std.specs.Prelude.{All}
 use Rattle.std.specs.Option.{option_or}
 use Rattle.std.proofs.lemmas.List.{length-map, map-append, length-set}
 use Rattle.std.proofs.lemmas.List.Elements.{All-nil, All-cons, All-map}
-use Rattle.std.proofs.lemmas.Bool.{cases_Bool, cond-true, cond-false, and_right}
+use Rattle.std.proofs.lemmas.Bool.{cases_Bool, cond-true, cond-false, and_right, and_parts}
 use Rattle.bidi_base.specs.declared.char_data.BidiClass.{BidiClass}
 use Rattle.bidi_base.specs.declared.char_data.BidiClass.TheVariants.{L, R, AL, LRI, RLI, FSI, PDI}
 use Rattle.bidi_base.specs.Classes.{is_strong}
@@ -12,6 +12,8 @@ use Rattle.bidi_base.specs.Places.{class_at}
 use Rattle.bidi_base.specs.Reading.{innermost, outer, opened_by, decided_by, is_fsi}
 use Rattle.bidi_base.specs.Isolates.{deciding_class, resolved_fsi, stored_classes}
 use Rattle.bidi_base.proofs.IsolateWalk.{Kind, opening, closing, neither, kind_of, opens_one, depth_by, depth_after, depth_after-deeper, is_zero, ends_by, has_end, has_end-append, deciding_from, deciding_class-from, resolving_from, stored_by, stored_from, stored_classes-from, strong_kind}
+use Rattle.bidi_base.proofs.Lists.{option_or-None}
+use Rattle.std.proofs.Math.Bool.{or-false, or-true, and-true, and-false}
 
 -- the indexes of the initiators of the isolates that some characters leave open, outermost first
 abbrev pub onto_later : Bool → List ℕ → List ℕ
@@ -51,21 +53,14 @@ open_depth : (xs : List BidiClass) → depth_after 0 xs ≡ length (open_initiat
 open_depth [] = refl
 open_depth (x ∷ xs) = one (kind_of x) (open_depth xs) (depth_after-deeper 0 xs)
   where
-    longer : (n : ℕ) → n ≡ length (open_initiators xs) → n ≡ length (map suc (open_initiators xs))
-    longer n e = e ∙ sym (length-map (open_initiators xs) suc)
-
     one : (k : Kind) → depth_after 0 xs ≡ length (open_initiators xs) → depth_after 1 xs ≡ cond (has_end 0 xs) (depth_after 0 xs) (suc (depth_after 0 xs))
         → depth_after (depth_by k 0) xs ≡ length (onto_later (opens_one k && not (has_end 0 xs)) (map suc (open_initiators xs)))
     one opening rest deeper = elim (cases_Bool (has_end 0 xs)) [
-      | inl ends ↦
-          deeper ∙ cond-true (has_end 0 xs) (depth_after 0 xs) (suc (depth_after 0 xs)) ends ∙ longer (depth_after 0 xs) rest
-          ∙ sym (ap (λ (b : Bool). length (onto_later (not b) (map suc (open_initiators xs)))) ends)
-      | inr on ↦
-          deeper ∙ cond-false (has_end 0 xs) (depth_after 0 xs) (suc (depth_after 0 xs)) on ∙ ap suc (longer (depth_after 0 xs) rest)
-          ∙ sym (ap (λ (b : Bool). length (onto_later (not b) (map suc (open_initiators xs)))) on)
+      | inl ends ↦ rw (deeper, ends, length-map (open_initiators xs) suc) rest
+      | inr on ↦ rw (deeper, on, length-map (open_initiators xs) suc, rest) refl
     ]
-    one closing rest deeper = longer (depth_after 0 xs) rest
-    one neither rest deeper = longer (depth_after 0 xs) rest
+    one closing rest deeper = rest ∙ sym (length-map (open_initiators xs) suc)
+    one neither rest deeper = rest ∙ sym (length-map (open_initiators xs) suc)
 
 is_zero-depth : (xs : List BidiClass) → is_zero (depth_after 0 xs) ≡ is_empty (open_initiators xs)
 is_zero-depth xs = ap is_zero (open_depth xs) ∙ by_length (open_initiators xs)
@@ -75,11 +70,7 @@ is_zero-depth xs = ap is_zero (open_depth xs) ∙ by_length (open_initiators xs)
     by_length (q ∷ qs) = refl
 
 has_end-push : (xs : List BidiClass) (c : BidiClass) → has_end 0 (xs ++ c ∷ []) ≡ (has_end 0 xs || ends_by (kind_of c) (depth_after 0 xs))
-has_end-push xs c = has_end-append 0 xs (c ∷ []) ∙ ap (λ (b : Bool). has_end 0 xs || b) (or_false (ends_by (kind_of c) (depth_after 0 xs)))
-  where
-    or_false : (b : Bool) → (b || false) ≡ b
-    or_false true = refl
-    or_false false = refl
+has_end-push xs c = has_end-append 0 xs (c ∷ []) ∙ ap (λ (b : Bool). has_end 0 xs || b) (or-false (ends_by (kind_of c) (depth_after 0 xs)))
 
 -- one more character
 open_initiators-push_kind : (xs : List BidiClass) (c : BidiClass) → open_initiators (xs ++ c ∷ []) ≡ opened_kind (kind_of c) (length xs) (open_initiators xs)
@@ -90,23 +81,8 @@ open_initiators-push_kind [] c = first (kind_of c)
     first closing = refl
     first neither = refl
 open_initiators-push_kind (x ∷ xs) c =
-    ap (λ (b : Bool). onto_later (opens_one (kind_of x) && not b) (map suc (open_initiators (xs ++ c ∷ [])))) (has_end-push xs c)
-    ∙ ap (λ (qs : List ℕ). onto_later (opens_one (kind_of x) && not (has_end 0 xs || ends_by (kind_of c) (depth_after 0 xs))) (map suc qs)) (open_initiators-push_kind xs c)
-    ∙ ap (λ (d : ℕ). onto_later (opens_one (kind_of x) && not (has_end 0 xs || ends_by (kind_of c) d)) (map suc (opened_kind (kind_of c) (length xs) (open_initiators xs)))) (open_depth xs)
-    ∙ one (kind_of c) (opens_one (kind_of x)) (has_end 0 xs) (length xs) (open_initiators xs)
+    rw (has_end-push xs c, open_initiators-push_kind xs c, open_depth xs) (one (kind_of c) (opens_one (kind_of x)) (has_end 0 xs) (length xs) (open_initiators xs))
   where
-    or_false : (b : Bool) → (b || false) ≡ b
-    or_false true = refl
-    or_false false = refl
-
-    or_true : (b : Bool) → (b || true) ≡ true
-    or_true true = refl
-    or_true false = refl
-
-    and_false : (b : Bool) → (b && false) ≡ false
-    and_false true = refl
-    and_false false = refl
-
     outer-map : (qs : List ℕ) → map suc (outer qs) ≡ outer (map suc qs)
     outer-map [] = refl
     outer-map (q ∷ []) = refl
@@ -117,48 +93,34 @@ open_initiators-push_kind (x ∷ xs) c =
     pushed false n qs = map-append suc qs (n ∷ [])
 
     popped : (b e : Bool) (qs : List ℕ) → onto_later (b && not (e || is_zero (length qs))) (map suc (outer qs)) ≡ outer (onto_later (b && not e) (map suc qs))
-    popped b e [] = ap (λ (a : Bool). onto_later (b && not a) []) (or_true e) ∙ ap (λ (a : Bool). onto_later a []) (and_false b) ∙ none (b && not e)
+    popped b e [] = rw (or-true e, and-false b) (none (b && not e))
       where
         none : (a : Bool) → [] ≡ outer (onto_later a [])
         none true = refl
         none false = refl
-    popped b e (q ∷ qs) = ap (λ (a : Bool). onto_later (b && not a) (map suc (outer (q ∷ qs)))) (or_false e) ∙ some (b && not e)
+    popped b e (q ∷ qs) = rw (or-false e) (some (b && not e))
       where
         some : (a : Bool) → onto_later a (map suc (outer (q ∷ qs))) ≡ outer (onto_later a (map suc (q ∷ qs)))
         some true = ap (λ (rs : List ℕ). 0 ∷ rs) (outer-map (q ∷ qs))
         some false = outer-map (q ∷ qs)
 
     one : (k : Kind) (b e : Bool) (n : ℕ) (qs : List ℕ) → onto_later (b && not (e || ends_by k (length qs))) (map suc (opened_kind k n qs)) ≡ opened_kind k (suc n) (onto_later (b && not e) (map suc qs))
-    one opening b e n qs = ap (λ (a : Bool). onto_later (b && not a) (map suc (qs ++ n ∷ []))) (or_false e) ∙ pushed (b && not e) n qs
+    one opening b e n qs = rw (or-false e) (pushed (b && not e) n qs)
     one closing b e n qs = popped b e qs
-    one neither b e n qs = ap (λ (a : Bool). onto_later (b && not a) (map suc qs)) (or_false e)
+    one neither b e n qs = rw (or-false e) refl
 
 pub open_initiators-push : (xs : List BidiClass) (c : BidiClass) → open_initiators (xs ++ c ∷ []) ≡ opened_by c (length xs) (open_initiators xs)
 open_initiators-push xs c = open_initiators-push_kind xs c ∙ sym (opened_by-kind c (length xs) (open_initiators xs))
 
 -- ---- the deciding character
 
-option_or-cond : (b : Bool) (x : BidiClass) (o p : Option BidiClass) → cond b (Some x) (option_or o p) ≡ option_or (cond b (Some x) o) p
-option_or-cond true x o p = refl
-option_or-cond false x o p = refl
-
 deciding_from-append : (d : ℕ) (xs ys : List BidiClass) → deciding_from d (xs ++ ys) ≡ option_or (deciding_from d xs) (deciding_from (depth_after d xs) ys)
 deciding_from-append d [] ys = refl
-deciding_from-append d (x ∷ xs) ys =
-    ap (λ (o : Option BidiClass). cond (is_strong x && is_zero d) (Some x) o) (deciding_from-append (depth_by (kind_of x) d) xs ys)
-    ∙ option_or-cond (is_strong x && is_zero d) x (deciding_from (depth_by (kind_of x) d) xs) (deciding_from (depth_after (depth_by (kind_of x) d) xs) ys)
+deciding_from-append d (x ∷ xs) ys = elim (cases_Bool (is_strong x && is_zero d)) [ inl here ↦ rw here refl | inr gone ↦ rw gone (deciding_from-append (depth_by (kind_of x) d) xs ys) ]
 
 decided_by-empty : (c : BidiClass) (under : List ℕ) → cond (is_strong c && is_empty under) (Some c) None ≡ decided_by c under
-decided_by-empty c [] = by_strength (is_strong c)
-  where
-    by_strength : (b : Bool) → cond (b && true) (Some c) None ≡ cond b (Some c) None
-    by_strength true = refl
-    by_strength false = refl
-decided_by-empty c (q ∷ under) = by_strength (is_strong c)
-  where
-    by_strength : (b : Bool) → cond (b && false) (Some c) None ≡ None
-    by_strength true = refl
-    by_strength false = refl
+decided_by-empty c [] = rw (and-true (is_strong c)) refl
+decided_by-empty c (q ∷ under) = rw (and-false (is_strong c)) refl
 
 pub deciding_class-push : (xs : List BidiClass) (c : BidiClass) → deciding_class (xs ++ c ∷ []) ≡ option_or (deciding_class xs) (decided_by c (open_initiators xs))
 deciding_class-push xs c =
@@ -178,22 +140,13 @@ found_by c xs = cond (has_end 0 xs) None (cond (is_strong c && is_zero (depth_af
 
 resolving-push_from : (d : ℕ) (xs : List BidiClass) (c : BidiClass) → resolving_from d (xs ++ c ∷ []) ≡ option_or (resolving_from d xs) (cond (has_end d xs) None (cond (is_strong c && is_zero (depth_after d xs)) (Some c) None))
 resolving-push_from d [] c = elim (cases_Bool (is_strong c)) [
-  | inl strong ↦ ap (λ (k : Kind). cond (ends_by k d) None (cond (is_strong c && is_zero d) (Some c) None)) (strong_kind c strong)
-  | inr weak ↦ weak_last (ends_by (kind_of c) d) (is_zero d) (is_strong c) weak
+  | inl strong ↦ rw (strong_kind c strong) refl
+  | inr weak ↦ rw weak (elim (cases_Bool (ends_by (kind_of c) d)) [ inl ends ↦ rw ends refl | inr on ↦ rw on refl ])
 ]
-  where
-    weak_last : (e z s : Bool) → s ≡ false → cond e None (cond (s && z) (Some c) None) ≡ cond (s && z) (Some c) None
-    weak_last true z true weak = absurd (cc weak)
-    weak_last true z false weak = refl
-    weak_last false z s weak = refl
-resolving-push_from d (x ∷ xs) c =
-    ap (λ (o : Option BidiClass). cond (ends_by (kind_of x) d) None (cond (is_strong x && is_zero d) (Some x) o)) (resolving-push_from (depth_by (kind_of x) d) xs c)
-    ∙ joined (ends_by (kind_of x) d) (is_strong x && is_zero d) (has_end (depth_by (kind_of x) d) xs) (resolving_from (depth_by (kind_of x) d) xs) (cond (is_strong c && is_zero (depth_after (depth_by (kind_of x) d) xs)) (Some c) None)
-  where
-    joined : (e s h : Bool) (o p : Option BidiClass) → cond e None (cond s (Some x) (option_or o (cond h None p))) ≡ option_or (cond e None (cond s (Some x) o)) (cond (e || h) None p)
-    joined true s h o p = refl
-    joined false true h o p = refl
-    joined false false h o p = refl
+resolving-push_from d (x ∷ xs) c = elim (cases_Bool (ends_by (kind_of x) d)) [
+  | inl ends ↦ rw ends refl
+  | inr on ↦ elim (cases_Bool (is_strong x && is_zero d)) [ inl here ↦ rw (on, here) refl | inr gone ↦ rw (on, gone) (resolving-push_from (depth_by (kind_of x) d) xs c) ]
+]
 
 resolving-push : (xs : List BidiClass) (c : BidiClass) → resolving_from 0 (xs ++ c ∷ []) ≡ option_or (resolving_from 0 xs) (found_by c xs)
 unfolding found_by
@@ -201,13 +154,16 @@ resolving-push xs c = resolving-push_from 0 xs c
 
 resolving-strong : (d : ℕ) (xs : List BidiClass) (s : BidiClass) → resolving_from d xs ≡ Some s → is_strong s ≡ true
 resolving-strong d [] s e = absurd (cc e)
-resolving-strong d (x ∷ xs) s e = one (ends_by (kind_of x) d) (is_strong x) (is_zero d) refl (resolving-strong (depth_by (kind_of x) d) xs s) e
-  where
-    one : (a b z : Bool) → is_strong x ≡ b → (resolving_from (depth_by (kind_of x) d) xs ≡ Some s → is_strong s ≡ true) → cond a None (cond (b && z) (Some x) (resolving_from (depth_by (kind_of x) d) xs)) ≡ Some s → is_strong s ≡ true
-    one true b z is rest e = absurd (cc e)
-    one false true true is rest e = let same : x ≡ s = cc e in sym (ap is_strong same) ∙ is
-    one false true false is rest e = rest e
-    one false false z is rest e = rest e
+resolving-strong d (x ∷ xs) s e = elim (cases_Bool (ends_by (kind_of x) d)) [
+  | inl ends ↦ let none : None ≡ Some s = rw ends at e in absurd (cc none)
+  | inr on ↦ elim (cases_Bool (is_strong x && is_zero d)) [
+    | inl here ↦
+        let found : Some x ≡ Some s = rw (on, here) at e in
+        let same : x ≡ s = cc found in
+        ap is_strong (sym same) ∙ (and_parts _ _ here).0
+    | inr gone ↦ resolving-strong (depth_by (kind_of x) d) xs s (rw (on, gone) at e)
+  ]
+]
 
 -- a direction that was found stays
 resolved-strong : (s : BidiClass) → is_strong s ≡ true → is_fsi (resolved_fsi (Some s)) ≡ false
@@ -216,13 +172,9 @@ resolved-strong R e = refl
 resolved-strong AL e = refl
 resolved-strong _ e = absurd (cc e)
 
-or_none : (o : Option BidiClass) → option_or o None ≡ o
-or_none None = refl
-or_none (Some s) = refl
-
 -- what stands first is stored as before, where the new character says nothing of it
 first_stays : (x c : BidiClass) (xs : List BidiClass) → found_by c xs ≡ None → stored_by x (resolving_from 0 (xs ++ c ∷ [])) ≡ stored_by x (resolving_from 0 xs)
-first_stays x c xs none = ap (stored_by x) (resolving-push xs c ∙ ap (option_or (resolving_from 0 xs)) none ∙ or_none (resolving_from 0 xs))
+first_stays x c xs none = ap (stored_by x) (resolving-push xs c ∙ ap (option_or (resolving_from 0 xs)) none ∙ option_or-None (resolving_from 0 xs))
 
 stored_alone : (c : BidiClass) → stored_by c None ≡ c
 stored_alone FSI = refl
@@ -231,22 +183,12 @@ stored_alone _ = refl
 -- an FSI that is the innermost open initiator is given the direction of the first strong character
 fsi_met : (c : BidiClass) (xs stored : List BidiClass) (o : Option BidiClass) → resolving_from 0 xs ≡ o → found_by c xs ≡ cond (is_strong c) (Some c) None
     → stored_by FSI (resolving_from 0 (xs ++ c ∷ [])) ∷ stored ≡ met_by c (Some 0) (stored_by FSI (resolving_from 0 xs) ∷ stored)
-fsi_met c xs stored (Some s) is found =
-    let strong : is_fsi (resolved_fsi (resolving_from 0 xs)) ≡ false = ap (λ (o : Option BidiClass). is_fsi (resolved_fsi o)) is ∙ resolved-strong s (resolving-strong 0 xs s is) in
-    ap (λ (o : Option BidiClass). resolved_fsi o ∷ stored) (resolving-push xs c ∙ ap (λ (o : Option BidiClass). option_or o (found_by c xs)) is ∙ sym is)
-    ∙ sym (cond-false (is_strong c && is_fsi (resolved_fsi (resolving_from 0 xs))) (resolved_fsi (Some c) ∷ stored) (resolved_fsi (resolving_from 0 xs) ∷ stored) (and_right (is_strong c) (is_fsi (resolved_fsi (resolving_from 0 xs))) strong))
-fsi_met c xs stored None is found =
-    ap (λ (o : Option BidiClass). resolved_fsi o ∷ stored) (resolving-push xs c ∙ ap (λ (o : Option BidiClass). option_or o (found_by c xs)) is ∙ found)
-    ∙ by_strength (is_strong c)
-    ∙ sym (ap (λ (o : Option BidiClass). cond (is_strong c && is_fsi (resolved_fsi o)) (resolved_fsi (Some c) ∷ stored) (resolved_fsi o ∷ stored)) is)
-  where
-    by_strength : (b : Bool) → resolved_fsi (cond b (Some c) None) ∷ stored ≡ cond (b && true) (resolved_fsi (Some c) ∷ stored) (FSI ∷ stored)
-    by_strength true = refl
-    by_strength false = refl
+fsi_met c xs stored (Some s) is found = rw (resolving-push xs c, is, resolved-strong s (resolving-strong 0 xs s is), and-false (is_strong c)) refl
+fsi_met c xs stored None is found = rw (resolving-push xs c, is, found) (elim (cases_Bool (is_strong c)) [ inl strong ↦ rw strong refl | inr weak ↦ rw weak refl ])
 
 -- any other initiator stays
 kept : (c : BidiClass) (stored : List BidiClass) (b : Bool) (y : BidiClass) → is_fsi y ≡ false → y ∷ stored ≡ met_by c (innermost (onto_later b [])) (y ∷ stored)
-kept c stored true y other = sym (cond-false (is_strong c && is_fsi y) (resolved_fsi (Some c) ∷ stored) (y ∷ stored) (and_right (is_strong c) (is_fsi y) other))
+kept c stored true y other = rw (other, and-false (is_strong c)) refl
 kept c stored false y other = refl
 
 -- where no isolate is open after it, what stands first is the innermost open initiator, or none is
@@ -254,17 +196,11 @@ first_met : (x c : BidiClass) (xs stored : List BidiClass) → is_zero (depth_af
     → stored_by x (resolving_from 0 (xs ++ c ∷ [])) ∷ stored ≡ met_by c (innermost (onto_later (opens_one (kind_of x) && not (has_end 0 xs)) [])) (stored_by x (resolving_from 0 xs) ∷ stored)
 unfolding found_by
 first_met FSI c xs stored zero_depth = elim (cases_Bool (has_end 0 xs)) [
-  | inl ends ↦
-      ap (λ (y : BidiClass). y ∷ stored) (first_stays FSI c xs (cond-true (has_end 0 xs) None (cond (is_strong c && is_zero (depth_after 0 xs)) (Some c) None) ends))
-      ∙ sym (ap (λ (b : Bool). met_by c (innermost (onto_later (not b) [])) (stored_by FSI (resolving_from 0 xs) ∷ stored)) ends)
+  | inl ends ↦ let none : found_by c xs ≡ None = rw ends refl in rw (first_stays FSI c xs none, ends) refl
   | inr on ↦
-      fsi_met c xs stored (resolving_from 0 xs) refl (cond-false (has_end 0 xs) None (cond (is_strong c && is_zero (depth_after 0 xs)) (Some c) None) on ∙ ap (λ (b : Bool). cond (is_strong c && b) (Some c) None) zero_depth ∙ and_true (is_strong c))
-      ∙ sym (ap (λ (b : Bool). met_by c (innermost (onto_later (not b) [])) (stored_by FSI (resolving_from 0 xs) ∷ stored)) on)
+      let found : found_by c xs ≡ cond (is_strong c) (Some c) None = rw (on, zero_depth, and-true (is_strong c)) refl in
+      rw on (fsi_met c xs stored (resolving_from 0 xs) refl found)
 ]
-  where
-    and_true : (b : Bool) → cond (b && true) (Some c) None ≡ cond b (Some c) None
-    and_true true = refl
-    and_true false = refl
 first_met x c xs stored zero_depth = kept c stored (opens_one (kind_of x) && not (has_end 0 xs)) x refl
 
 pub innermost-map : {X Y : Type 0} (f : X → Y) (xs : List X) → innermost (map f xs) ≡ option_map f (innermost xs)
@@ -278,35 +214,20 @@ innermost-later false q qs = innermost-map suc (q ∷ qs)
 
 later_met : (c y : BidiClass) (o : Option ℕ) (stored : List BidiClass) → met_by c (option_map suc o) (y ∷ stored) ≡ y ∷ met_by c o stored
 later_met c y None stored = refl
-later_met c y (Some q) stored = by_test (is_strong c && is_fsi (class_at stored q))
-  where
-    by_test : (b : Bool) → cond b (y ∷ set stored q (resolved_fsi (Some c))) (y ∷ stored) ≡ y ∷ cond b (set stored q (resolved_fsi (Some c))) stored
-    by_test true = refl
-    by_test false = refl
+later_met c y (Some q) stored = elim (cases_Bool (is_strong c && is_fsi (class_at stored q))) [ inl meets ↦ rw meets refl | inr stays ↦ rw stays refl ]
 
 stored_from-push : (xs : List BidiClass) (c : BidiClass) → stored_from (xs ++ c ∷ []) ≡ met_by c (innermost (open_initiators xs)) (stored_from xs) ++ c ∷ []
 unfolding found_by
 stored_from-push [] c = ap (λ (y : BidiClass). y ∷ []) (stored_alone c)
 stored_from-push (x ∷ xs) c = ap (λ (ys : List BidiClass). stored_by x (resolving_from 0 (xs ++ c ∷ [])) ∷ ys) (stored_from-push xs c) ∙ by_open (open_initiators xs) refl
   where
-    by_open : (qs : List ℕ) → open_initiators xs ≡ qs → stored_by x (resolving_from 0 (xs ++ c ∷ [])) ∷ (met_by c (innermost (open_initiators xs)) (stored_from xs) ++ c ∷ [])
-        ≡ met_by c (innermost (onto_later (opens_one (kind_of x) && not (has_end 0 xs)) (map suc (open_initiators xs)))) (stored_by x (resolving_from 0 xs) ∷ stored_from xs) ++ c ∷ []
-    by_open [] e =
-        ap (λ (qs : List ℕ). stored_by x (resolving_from 0 (xs ++ c ∷ [])) ∷ (met_by c (innermost qs) (stored_from xs) ++ c ∷ [])) e
-        ∙ ap (λ (ys : List BidiClass). ys ++ c ∷ []) (first_met x c xs (stored_from xs) (is_zero-depth xs ∙ ap is_empty e))
-        ∙ sym (ap (λ (qs : List ℕ). met_by c (innermost (onto_later (opens_one (kind_of x) && not (has_end 0 xs)) (map suc qs))) (stored_by x (resolving_from 0 xs) ∷ stored_from xs) ++ c ∷ []) e)
+    by_open : (qs : List ℕ) → open_initiators xs ≡ qs → stored_by x (resolving_from 0 (xs ++ c ∷ [])) ∷ (met_by c (innermost qs) (stored_from xs) ++ c ∷ [])
+        ≡ met_by c (innermost (onto_later (opens_one (kind_of x) && not (has_end 0 xs)) (map suc qs))) (stored_by x (resolving_from 0 xs) ∷ stored_from xs) ++ c ∷ []
+    by_open [] e = ap (λ (ys : List BidiClass). ys ++ c ∷ []) (first_met x c xs (stored_from xs) (is_zero-depth xs ∙ ap is_empty e))
     by_open (q ∷ qs) e =
         let deep : is_zero (depth_after 0 xs) ≡ false = is_zero-depth xs ∙ ap is_empty e in
-        ap (λ (qs : List ℕ). stored_by x (resolving_from 0 (xs ++ c ∷ [])) ∷ (met_by c (innermost qs) (stored_from xs) ++ c ∷ [])) e
-        ∙ ap (λ (y : BidiClass). y ∷ (met_by c (innermost (q ∷ qs)) (stored_from xs) ++ c ∷ [])) (first_stays x c xs (nothing (has_end 0 xs) (is_strong c) (is_zero (depth_after 0 xs)) deep))
-        ∙ ap (λ (ys : List BidiClass). ys ++ c ∷ []) (sym (later_met c (stored_by x (resolving_from 0 xs)) (innermost (q ∷ qs)) (stored_from xs)) ∙ ap (λ (o : Option ℕ). met_by c o (stored_by x (resolving_from 0 xs) ∷ stored_from xs)) (sym (innermost-later (opens_one (kind_of x) && not (has_end 0 xs)) q qs)))
-        ∙ sym (ap (λ (qs : List ℕ). met_by c (innermost (onto_later (opens_one (kind_of x) && not (has_end 0 xs)) (map suc qs))) (stored_by x (resolving_from 0 xs) ∷ stored_from xs) ++ c ∷ []) e)
-      where
-        nothing : (h s z : Bool) → z ≡ false → cond h None (cond (s && z) (Some c) None) ≡ None
-        nothing true s z deep = refl
-        nothing false s true deep = absurd (cc deep)
-        nothing false true false deep = refl
-        nothing false false false deep = refl
+        let none : found_by c xs ≡ None = rw (deep, and-false (is_strong c)) (elim (cases_Bool (has_end 0 xs)) [ inl ends ↦ rw ends refl | inr on ↦ rw on refl ]) in
+        rw (first_stays x c xs none, innermost-later (opens_one (kind_of x) && not (has_end 0 xs)) q qs, later_met c (stored_by x (resolving_from 0 xs)) (innermost (q ∷ qs)) (stored_from xs)) refl
 
 -- one more character: a strong one is the direction of the innermost open isolate, if that has an FSI with none so far
 pub stored_classes-push : (xs : List BidiClass) (c : BidiClass) → stored_classes (xs ++ c ∷ []) ≡ met_by c (innermost (open_initiators xs)) (stored_classes xs) ++ c ∷ []
@@ -325,11 +246,7 @@ length-stored_classes xs = ap length (stored_classes-from xs) ∙ same xs
 
 pub length-met_by : (c : BidiClass) (o : Option ℕ) (stored : List BidiClass) → length (met_by c o stored) ≡ length stored
 length-met_by c None stored = refl
-length-met_by c (Some q) stored = by_test (is_strong c && is_fsi (class_at stored q))
-  where
-    by_test : (b : Bool) → length (cond b (set stored q (resolved_fsi (Some c))) stored) ≡ length stored
-    by_test true = length-set stored q (resolved_fsi (Some c))
-    by_test false = refl
+length-met_by c (Some q) stored = elim (cases_Bool (is_strong c && is_fsi (class_at stored q))) [ inl meets ↦ rw meets (length-set stored q (resolved_fsi (Some c))) | inr stays ↦ rw stays refl ]
 
 -- open initiators are indexes of the characters
 pub open_initiators-below : (xs : List BidiClass) → All (λ (q : ℕ). q < length xs) (open_initiators xs)

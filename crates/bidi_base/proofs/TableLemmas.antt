@@ -1,5 +1,5 @@
 -- What a table of ranges and one of brackets answer, by indexes, and when a table has a fault.
-use Rattle.std.proofs.Common.{◌≡◌, ℕ, zero, suc, ◌+◌, ◌-◌, ◌<◌, ◌≤◌, Bool, true, false, ◌&&◌, min, nat_le, nat_lt, if◌then◌else◌, List, [], ◌∷◌, ◌++◌, length, get_or, take, drop, replicate, find, Option, Some, None, is_some, option_map, option_and_then, unwrap_or, refl, sym, ap, subst, ◌∙◌, arith, cond, inl, inr}
+use Rattle.std.proofs.Common.{◌≡◌, ℕ, zero, suc, ◌+◌, ◌-◌, ◌<◌, ◌≤◌, Bool, true, false, ◌&&◌, min, nat_le, nat_lt, if◌then◌else◌, List, [], ◌++◌, length, get_or, take, drop, replicate, find, Option, Some, None, is_some, option_map, option_and_then, unwrap_or, refl, sym, ap, subst, ◌∙◌, arith, cond, inl, inr}
 use Rattle.std.specs.List.{range_with_len}
 use Rattle.std.proofs.lemmas.Bool.{cases_lt, both_ways, cond-true, cond-false}
 use Rattle.std.proofs.lemmas.List.{at_drop_more, get_or-append_right, get_or_append_left, get_or-replicate, get_or-take, get_or-drop, length-replicate, length-drop, length-take-le}
@@ -12,20 +12,7 @@ use Rattle.bidi_base.specs.declared.data_source.TableError.TheVariants.{Reversed
 use Rattle.bidi_base.specs.Places.{between, indexes}
 use Rattle.bidi_base.specs.Source.{in_range, table_class, is_member, bracket_in, table_bracket, range_at, fault_at, table_fault}
 use Rattle.bidi_base.proofs.PlacesLemmas.{IsLeast, find-between, find-between-is, find-between-is_None, find-between-None}
-
--- a search over a list finds the first element that passes, and nothing where none does
-pub find-first : {X : Type 0} (test : X → Bool) (xs : List X) (i : ℕ) (d : X) → i < length xs → test (get_or xs i d) ≡ true → ((k : ℕ) → k < i → test (get_or xs k d) ≡ false) → find test xs ≡ Some (get_or xs i d)
-find-first test [] i d below passes before = absurd (omega arith)
-find-first test (x ∷ xs) zero d below passes before = cond-true (test x) (Some x) (find test xs) passes
-find-first test (x ∷ xs) (suc i) d below passes before =
-    cond-false (test x) (Some x) (find test xs) (before 0 (omega arith))
-    ∙ find-first test xs i d (omega arith) passes (λ k h. before (suc k) (omega arith))
-
-pub find-none : {X : Type 0} (test : X → Bool) (xs : List X) (d : X) → ((k : ℕ) → k < length xs → test (get_or xs k d) ≡ false) → find test xs ≡ None
-find-none test [] d none = refl
-find-none test (x ∷ xs) d none =
-    cond-false (test x) (Some x) (find test xs) (none 0 (omega arith))
-    ∙ find-none test xs d (λ k h. none (suc k) (omega arith))
+use Rattle.bidi_base.proofs.Lists.{find-first, find-none, put_mid-inside, put_mid-before, put_mid-after}
 
 -- the class where a range holds the character and none before it does, and where none does
 pub table_class-at : (ranges : List (ℕ × ℕ × BidiClass)) (c i : ℕ) → i < length ranges → in_range c (range_at ranges i) ≡ true → ((k : ℕ) → k < i → in_range c (range_at ranges k) ≡ false) → table_class ranges c ≡ (range_at ranges i).2
@@ -158,26 +145,6 @@ table_class-drop ranges i c below = at_drop_more (λ (rs : List (ℕ × ℕ × B
     by_test true = refl
     by_test false = refl
 
--- an element of a list of which a part was replaced
-put_mid-inside : {X : Type 0} (start count : ℕ) (xs : List X) (x d : X) (n : ℕ) → start + count ≤ length xs → start ≤ n → n < start + count → get_or (put_mid start count xs (replicate count x)) n d ≡ x
-put_mid-inside start count xs x d n fits from to =
-    get_or-append_right (take start xs) (replicate count x ++ post_of start count xs) start n d (length-take-le start xs (omega arith)) from
-    ∙ get_or_append_left (replicate count x) (post_of start count xs) d (n - start) (omega (arith, length-replicate count x))
-    ∙ get_or-replicate count (n - start) x d (omega arith)
-
-put_mid-before : {X : Type 0} (start count : ℕ) (xs ys : List X) (d : X) (n : ℕ) → start ≤ length xs → n < start → get_or (put_mid start count xs ys) n d ≡ get_or xs n d
-put_mid-before start count xs ys d n fits before =
-    get_or_append_left (take start xs) (ys ++ post_of start count xs) d n (omega (arith, length-take-le start xs fits))
-    ∙ get_or-take start xs n d before
-
-put_mid-after : {X : Type 0} (start count : ℕ) (xs : List X) (x d : X) (n : ℕ) → start + count ≤ length xs → start + count ≤ n → get_or (put_mid start count xs (replicate count x)) n d ≡ get_or xs n d
-put_mid-after start count xs x d n fits after =
-    get_or-append_right (take start xs) (replicate count x ++ post_of start count xs) start n d (length-take-le start xs (omega arith)) (omega arith)
-    ∙ get_or-append_right (replicate count x) (post_of start count xs) count (n - start) d (length-replicate count x) (omega arith)
-    ∙ get_or-drop count (drop start xs) (n - start - count) d
-    ∙ get_or-drop start xs (count + (n - start - count)) d
-    ∙ ap (λ (k : ℕ). get_or xs k d) (let same : start + (count + (n - start - count)) ≡ n = omega arith in same)
-
 -- the classes of the first characters by the ranges from `i` on, once the part that range `i` holds was filled
 pub kept-filled : (kept : ℕ) (ranges : List (ℕ × ℕ × BidiClass)) (i later end : ℕ) (classes part : List BidiClass) → later ≡ i + 1 → i < length ranges → end ≡ min ((range_at ranges i).1 + 1) kept → (range_at ranges i).0 < end → length classes ≡ kept
     → part ≡ replicate (length (take (end - (range_at ranges i).0) (drop (range_at ranges i).0 classes))) (range_at ranges i).2
@@ -193,7 +160,7 @@ kept-filled kept ranges i later end classes part next below at_end some long fil
     let as_found : get_or (put_mid r.0 count classes part) n L ≡ get_or (put_mid r.0 count classes (replicate count r.2)) n L = ap (λ (xs : List BidiClass). get_or (put_mid r.0 count classes xs) n L) whole in
     as_found ∙ (elim (cases_lt n r.0) [
       | inl before ↦
-          put_mid-before r.0 count classes (replicate count r.2) L n (omega arith) before ∙ earlier
+          put_mid-before r.0 count classes r.2 L n (omega arith) before ∙ earlier
           ∙ sym (by_range ∙ cond-false (in_range n r) r.2 (table_class (drop (i + 1) ranges) n) (in_range-after n r before))
       | inr from ↦ elim (cases_lt n end) [
         | inl to ↦

@@ -10,11 +10,11 @@ use Rattle.bidi_base.specs.declared.char_data.BidiClass.{BidiClass}
 use Rattle.bidi_base.specs.Places.{class_at, last_or}
 use Rattle.bidi_base.specs.Isolates.{is_initiator_at, is_pdi_at, matching_pdi}
 use Rattle.bidi_base.specs.Sequences.{is_kept_at, kept_places, next_kept, have_one_level, successor, is_first, sequences}
-use Rattle.bidi_base.proofs.ReadStack.{Member, IsReadStack, IsReadStack-start, IsReadStack-push, IsReadStack-pop, IsReadStack-stay}
-use Rattle.bidi_base.proofs.OpenMatches.{IsReadStack-opens, IsReadStack-match, IsReadStack-no_match}
+use Rattle.bidi_base.proofs.ReadStack.{Member, IsReadStack, IsReadStack-start, IsReadStack-more, IsReadStack-stay}
+use Rattle.bidi_base.proofs.OpenMatches.{IsReadStack-match, IsReadStack-matched, IsReadStack-no_match}
 use Rattle.bidi_base.proofs.IsolatesLemmas.{initiators_apart, pdis_apart, matching_pdi-is_pdi}
 use Rattle.bidi_base.proofs.PermutationLemmas.{count_of, count_of-cons, count_of-IsPermutation, Ascends, Ascends-push, Ascends-higher, Ascends-filter, Ascends-range}
-use Rattle.bidi_base.proofs.SuccessorLemmas.{have_one_level-from, is_kept-initiator, is_kept-pdi, matching_pdi-injective}
+use Rattle.bidi_base.proofs.SuccessorLemmas.{have_one_level-from, is_kept-initiator, is_kept-pdi}
 use Rattle.bidi_base.proofs.PassLemmas.{AreSuccessors, IsBegunList, AllBegun, all_of, firsts, firsts-push, firsts-join, AllBegun-push, AllBegun-join, kept_below, kept_more, shares-push, shares-join, sequence_of, sequences-from_pass_in_order}
 use Rattle.bidi_base.proofs.RunsLemmas.{BeginsRun, EndsRun, AreRunSteps, IsFront, front_of, successor-at_match, is_first-run}
 
@@ -156,11 +156,11 @@ module _ (classes : List BidiClass) (levels : List ℕ) where
 
   pub IsPass-initiator : (a m : ℕ) (out : List (List ℕ)) (stack : List ℕ) (waits : List (Option ℕ)) (w : Option ℕ) → IsPass a m out stack waits → is_initiator_at classes m ≡ true → IsWaiting out m w → IsPass a (m + 1) out (m ∷ stack) (w ∷ waits)
   IsPass-initiator a m out stack waits w h here wait =
-      record { begun = h.begun; shares = h.shares; in_order = h.in_order; isolates = IsReadStack-push (is_initiator_at classes) (is_pdi_at classes) m stack h.isolates here (initiators_apart classes m here); waiting = (wait, h.waiting) }
+      record { begun = h.begun; shares = h.shares; in_order = h.in_order; isolates = IsReadStack-more (is_initiator_at classes) (is_pdi_at classes) m true false stack here (initiators_apart classes m here) (λ e. refl) h.isolates; waiting = (wait, h.waiting) }
 
   pub IsPass-pdi : (a m i : ℕ) (out : List (List ℕ)) (stack : List ℕ) (w : Option ℕ) (waits : List (Option ℕ)) → IsPass a m out (i ∷ stack) (w ∷ waits) → is_pdi_at classes m ≡ true → IsPass a (m + 1) out stack waits
   IsPass-pdi a m i out stack w waits h here =
-      record { begun = h.begun; shares = h.shares; in_order = h.in_order; isolates = IsReadStack-pop (is_initiator_at classes) (is_pdi_at classes) m i stack h.isolates (pdis_apart classes m here) here; waiting = h.waiting.1 }
+      record { begun = h.begun; shares = h.shares; in_order = h.in_order; isolates = IsReadStack-more (is_initiator_at classes) (is_pdi_at classes) m false true (i ∷ stack) (pdis_apart classes m here) here (λ e. absurd (cc e)) h.isolates; waiting = h.waiting.1 }
 
   -- the kept characters from a on, which follow one another, begin a sequence
   pub IsPass-begin : (a n m p : ℕ) (ps : List ℕ) (out : List (List ℕ)) (stack : List ℕ) (waits : List (Option ℕ)) → IsPass a m out stack waits → filter (is_kept_at classes) (range_with_len a n) ≡ p ∷ ps → a + n ≤ length classes → AreSuccessors classes levels (p ∷ ps) → is_first classes levels p ≡ true
@@ -192,7 +192,7 @@ module _ (classes : List BidiClass) (levels : List ℕ) where
       → successor classes levels (last_or 0 (get_or out s [])) ≡ Some m
   unfolding matching_pdi
   successor-waiting a m i s out stack waits h after fits here begins =
-      let opens : is_initiator_at classes i ≡ true = IsReadStack-opens (is_initiator_at classes) (is_pdi_at classes) (initiators_apart classes) m i stack h.isolates in
+      let opens : is_initiator_at classes i ≡ true = h.isolates.are_open.0 in
       let matches : matching_pdi classes i ≡ Some m = IsReadStack-match (is_initiator_at classes) (is_pdi_at classes) (initiators_apart classes) (length classes) m i stack h.isolates here fits in
       let next : successor classes levels i ≡ Some m = successor-at_match classes levels i m opens matches h.waiting.0.2 begins in
       let last : last_or 0 (get_or out s []) ≡ i = last_of_sequence i m (get_or out s []) (begun_at out s h.begun h.waiting.0.0) h.waiting.0.1 next (λ member. earlier a m s out h.shares h.waiting.0.0 member after) in
@@ -212,9 +212,9 @@ module _ (classes : List BidiClass) (levels : List ℕ) where
     where
       none : (j : ℕ) → is_initiator_at classes j ≡ true → matching_pdi classes j ≡ Some m → EndsRun classes levels j → ⊥
       none j opens matches ends =
-          let opens_i : is_initiator_at classes i ≡ true = IsReadStack-opens (is_initiator_at classes) (is_pdi_at classes) (initiators_apart classes) m i stack h.isolates in
-          let matches_i : matching_pdi classes i ≡ Some m = IsReadStack-match (is_initiator_at classes) (is_pdi_at classes) (initiators_apart classes) (length classes) m i stack h.isolates here fits in
-          let same : j ≡ i = matching_pdi-injective classes j i m opens opens_i matches matches_i in
+          let top = IsReadStack-matched (is_initiator_at classes) (is_pdi_at classes) (initiators_apart classes) (length classes) m j (i ∷ stack) h.isolates opens matches in
+          let both : i ∷ stack ≡ j ∷ top.0 = top.1 in
+          let same : j ≡ i = cc both in
           both_ways (have_one_level levels (next_kept classes i) i) (subst (EndsRun classes levels) same ends) h.waiting.0
 
   -- an initiator that is not the last of its run waits for nothing

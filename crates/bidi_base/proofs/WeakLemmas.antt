@@ -1,5 +1,5 @@
 -- The classes that W1 to W7 leave: of kept classes, those with a direction and the neutrals.
-use Rattle.std.proofs.Common.{◌≡◌, Bool, true, false, not, ◌&&◌, ◌||◌, cond, List, [], ◌∷◌, refl, ap, ◌∙◌, inl, inr}
+use Rattle.std.proofs.Common.{◌≡◌, Bool, true, not, ◌&&◌, ◌||◌, List, [], ◌∷◌, refl, ap, ◌∙◌, inl, inr}
 use Rattle.std.specs.List.{list_all}
 use Rattle.std.proofs.lemmas.Bool.{cases_Bool, and_parts, and_from, cond-true, cond-false}
 use Rattle.bidi_base.specs.declared.char_data.BidiClass.{BidiClass}
@@ -9,6 +9,7 @@ use Rattle.bidi_base.specs.Places.{nearest, nearest_is}
 use Rattle.bidi_base.specs.Weak.{carried, w1_rule, w2_rule, w3_rule, w4_rule, w5_rule, w6_rule, w7_rule, w1, w2, w3, w4, w5, w6, weak_classes}
 use Rattle.bidi_base.proofs.ContextLemmas.{list_all-in_context, list_all-mapped}
 use Rattle.bidi_base.proofs.PlacesLemmas.{nearest-more}
+use Rattle.bidi_base.proofs.Lists.{chosen}
 
 -- after W1 no nonspacing mark is left, after W3 no Arabic letter, after W6 no separator and no terminator
 abbrev is_after_w1 : BidiClass → Bool
@@ -40,10 +41,6 @@ w1_answers : (sos : BidiClass) → is_after_w1 sos ≡ true → (before : List B
     → is_after_w1 (w1_rule sos before c after) ≡ true
 w1_answers sos h before NSM after k l = carried_after_w1 (nearest (λ c. not (is_nsm c)) before sos) (nearest_after_w1 sos before h k)
 w1_answers sos h before _ after k l = and_from _ _ l refl
-
-chosen : (p : BidiClass → Bool) (b : Bool) (x y : BidiClass) → p x ≡ true → p y ≡ true → p (cond b x y) ≡ true
-chosen p true x y h k = h
-chosen p false x y h k = k
 
 w2_answers : (sos : BidiClass) (before : List BidiClass) (c : BidiClass) (after : List BidiClass) → is_after_w1 c ≡ true → is_after_w1 (w2_rule sos before c after) ≡ true
 w2_answers sos before EN after h = chosen is_after_w1 (is_al (nearest is_strong before sos)) AN EN refl refl

@@ -1,9 +1,9 @@
 -- The pass over a list of characters, one by one.
-use Rattle.std.proofs.Common.{◌≡◌, ℕ, zero, suc, ◌+◌, ◌-◌, ◌<◌, ◌≤◌, Bool, true, false, cond, eqb, List, [], ◌∷◌, ◌++◌, length, map, get_or, set, take, reverse, length-append, le_refl, Option, Some, None, refl, sym, ap, subst, ◌∙◌, arith, inl, inr, eqb-true, ne_eqb}
+use Rattle.std.proofs.Common.{◌≡◌, ℕ, zero, suc, ◌+◌, ◌-◌, ◌<◌, Bool, true, false, cond, eqb, List, [], ◌∷◌, ◌++◌, length, map, get_or, set, take, reverse, length-append, le_refl, Option, Some, None, refl, sym, ap, subst, ◌∙◌, arith, inl, inr, eqb-true, ne_eqb}
 use Rattle.std.specs.Prelude.{filter, IfSome}
 use Rattle.std.specs.List.{range_with_len}
 use Rattle.std.proofs.lemmas.Bool.{cases_Bool, cases_eq, cond-true, cond-false, eqb-false}
-use Rattle.std.proofs.lemmas.List.{reverse-append, reverse-reverse, take-append-le, take_all, get_or-set_same, length-set}
+use Rattle.std.proofs.lemmas.List.{reverse-append, get_or-set_same, length-set, get_or_push}
 use Rattle.bidi_base.specs.declared.char_data.BidiClass.{BidiClass}
 use Rattle.bidi_base.specs.Classes.{is_initiator, is_pdi}
 use Rattle.bidi_base.specs.Places.{class_at, last_or}
@@ -15,38 +15,8 @@ use Rattle.bidi_base.proofs.SuccessorLemmas.{successor-IsLaterKept, have_one_lev
 use Rattle.bidi_base.proofs.PassLemmas.{AreSuccessors, IsBegunList, AllBegun}
 use Rattle.bidi_base.proofs.RunsLemmas.{BeginsRun, EndsRun}
 use Rattle.bidi_base.proofs.WaitingLemmas.{Member-append_right, IsWaiting, IsPass, IsPass-start, IsPass-end, IsPass-begin, IsPass-join, IsPass-removed, IsPass-stay, IsPass-skip, IsPass-initiator, IsPass-pdi, successor-waiting, is_first-no_pdi, is_first-none_open, is_first-not_waiting}
-
--- taking away the last is taking away the first of the reverse
-split_last : {X : Type 0} (xs : List X) (v : X) (vs : List X) → reverse xs ≡ v ∷ vs → xs ≡ reverse vs ++ v ∷ []
-split_last xs v vs e = sym (reverse-reverse xs) ∙ ap reverse e ∙ reverse-append (v ∷ []) vs
-
-pub reverse_front : {X : Type 0} (xs : List X) (v : X) (vs : List X) → reverse xs ≡ v ∷ vs → reverse (take (length xs - 1) xs) ≡ vs
-reverse_front {X} xs v vs e =
-    let whole : xs ≡ reverse vs ++ v ∷ [] = split_last xs v vs e in
-    let count : length xs - 1 ≡ length (reverse vs) = omega (arith, ap length whole, length-append (reverse vs) (v ∷ [])) in
-    ap reverse
-    (ap (λ k. take k xs) count ∙ ap (take (length (reverse vs))) whole ∙ take-append-le (length (reverse vs)) (reverse vs) (v ∷ []) (le_refl _) ∙ take_all (length (reverse vs)) (reverse vs) (le_refl _))
-    ∙ reverse-reverse vs
-
-last_or-append : {X : Type 0} (d : X) (xs : List X) (v : X) → last_or d (xs ++ v ∷ []) ≡ v
-last_or-append d [] v = refl
-last_or-append d (x ∷ xs) v = last_or-append x xs v
-
-pub last_or-reverse : {X : Type 0} (d : X) (xs : List X) (v : X) (vs : List X) → reverse xs ≡ v ∷ vs → last_or d xs ≡ v
-last_or-reverse {X} d xs v vs e = ap (last_or d) (split_last xs v vs e) ∙ last_or-append d (reverse vs) v
-
-pub get_or_push : {X : Type 0} (xs : List X) (x d : X) → get_or (xs ++ x ∷ []) (length xs) d ≡ x
-get_or_push [] x d = refl
-get_or_push (y ∷ xs) x d = get_or_push xs x d
-
-nothing_kept : (f : ℕ → Bool) (low n : ℕ) → ((k : ℕ) → low ≤ k → k < low + n → f k ≡ false) → filter f (range_with_len low n) ≡ []
-nothing_kept f low zero none = refl
-nothing_kept f low (suc n) none =
-    cond-false (f low) (low ∷ filter f (range_with_len (low + 1) n)) (filter f (range_with_len (low + 1) n)) (none low (omega arith) (omega arith))
-    ∙ nothing_kept f (low + 1) n (λ k from below. none k (omega arith) (omega arith))
-
-pub reverse_none : {X : Type 0} (xs : List X) → reverse xs ≡ [] → xs ≡ []
-reverse_none xs e = sym (reverse-reverse xs) ∙ ap reverse e
+use Rattle.bidi_base.proofs.Lists.{reverse_front, last_or-append, last_or-reverse, reverse_none}
+use Rattle.bidi_base.proofs.ChainLemmas.{filter_range-none}
 
 module _ (classes : List BidiClass) (levels : List ℕ) where
   -- all before p came, l was the last of them that X9 keeps, and came to the sequence at s; what is open was read up to l
@@ -137,7 +107,7 @@ module _ (classes : List BidiClass) (levels : List ℕ) where
 
   came_begin : (p : ℕ) (out : List (List ℕ)) (waits : List (Option ℕ)) → is_kept_at classes p ≡ true → p < length classes → IsRead p out waits → is_first classes levels p ≡ true → IsGoing (p + 1) (with_entry None p out) waits p (length out)
   came_begin p out waits kept fits read first =
-      let here : get_or (out ++ (p ∷ []) ∷ []) (length out) [] ≡ p ∷ [] = get_or_push out (p ∷ []) [] in
+      let here : get_or (out ++ (p ∷ []) ∷ []) (length out) [] ≡ p ∷ [] = get_or_push out (p ∷ []) [] (length out) refl in
       record {
         kept = kept;
         before = omega arith;
@@ -152,7 +122,7 @@ module _ (classes : List BidiClass) (levels : List ℕ) where
   pass_none : (p : ℕ) → ((k : ℕ) → k < p → is_kept_at classes k ≡ false) → IsPass classes levels p p [] [] []
   pass_none p none =
       let place : 0 + p ≡ p = omega arith in
-      let moved : IsPass classes levels (0 + p) 0 [] [] [] = IsPass-removed classes levels 0 p 0 [] [] [] (IsPass-start classes levels) (nothing_kept (is_kept_at classes) 0 p (λ k from below. none k (omega arith))) in
+      let moved : IsPass classes levels (0 + p) 0 [] [] [] = IsPass-removed classes levels 0 p 0 [] [] [] (IsPass-start classes levels) (filter_range-none (is_kept_at classes) 0 p (λ k from below. none k (omega arith))) in
       let both : IsPass classes levels (0 + p) (0 + p) [] [] [] = IsPass-skip classes levels p (0 + p) 0 [] [] [] moved (λ k from below. none k (omega arith)) in
       subst (λ (x : ℕ). IsPass classes levels x x [] [] []) place both
 

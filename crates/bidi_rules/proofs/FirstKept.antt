@@ -19,6 +19,7 @@ use Rattle.bidi_base.proofs.TextLemmas.{HasUnits}
 use Rattle.bidi_rules.specs.NeutralPass.{kept_among}
 use Rattle.bidi_rules.proofs.PassOverText.{alike_class}
 use Rattle.bidi_rules.proofs.KeptRuns.{no_range}
+use Rattle.bidi_base.proofs.ChainLemmas.{range_with_len-append}
 
 -- ---- a search through the runs one after another
 
@@ -53,18 +54,11 @@ module _ (test : ℕ → Bool) (runs : List (Range ℕ)) (i : ℕ) (fits : i < l
 
 -- ---- what it finds is the place of the first character that is read
 
-range-append : (low m n : ℕ) → range_with_len low (m + n) ≡ range_with_len low m ++ range_with_len (low + m) n
-range-append low zero n = let none : 0 + n ≡ n = omega arith in let same : low ≡ low + 0 = omega arith in ap (range_with_len low) none ∙ ap (λ k. range_with_len k n) same
-range-append low (suc m) n =
-    let count : suc m + n ≡ suc (m + n) = omega arith in
-    let at : low + 1 + m ≡ low + suc m = omega arith in
-    ap (range_with_len low) count ∙ ap {B = List ℕ} (λ xs. low ∷ xs) (range-append (low + 1) m n ∙ ap (λ k. range_with_len (low + 1) m ++ range_with_len k n) at)
-
 between-append : (low mid high : ℕ) → low ≤ mid → mid ≤ high → between low high ≡ between low mid ++ between mid high
 between-append low mid high first second =
     let count : high - low ≡ (mid - low) + (high - mid) = omega arith in
     let at : low + (mid - low) ≡ mid = omega arith in
-    ap (range_with_len low) count ∙ range-append low (mid - low) (high - mid) ∙ ap (λ k. between low mid ++ range_with_len k (high - mid)) at
+    ap (range_with_len low) count ∙ range_with_len-append low (mid - low) (high - mid) ∙ ap (λ k. between low mid ++ range_with_len k (high - mid)) at
 
 first-append : {X : Type 0} (xs ys : List X) → slice_get (xs ++ ys) 0 ≡ option_or (slice_get xs 0) (slice_get ys 0)
 first-append [] ys = refl

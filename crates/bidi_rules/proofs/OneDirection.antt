@@ -1,5 +1,5 @@
 -- A sequence in which each class is a neutral or one direction, which stands at its ends too: N0 to N2 give that direction to all.
-use Rattle.std.proofs.Common.{◌≡◌, ℕ, zero, suc, ◌+◌, ◌-◌, ◌<◌, ◌≤◌, Bool, true, false, ◌&&◌, cond, List, [], ◌∷◌, length, map, take, drop, reverse, filter_map, find, Option, Some, option_map, refl, sym, ap, subst, ◌∙◌, arith, inl, inr}
+use Rattle.std.proofs.Common.{◌≡◌, ℕ, ◌+◌, ◌-◌, ◌<◌, ◌≤◌, Bool, true, false, ◌&&◌, cond, List, [], ◌∷◌, length, map, take, drop, reverse, filter_map, find, Option, Some, option_map, refl, sym, ap, subst, ◌∙◌, arith, inl, inr}
 use Rattle.std.specs.Prelude.{filter, slice_range, All}
 use Rattle.std.specs.List.{list_all, list_any, cons_option}
 use Rattle.std.specs.declared.ops.Range.{Range}
@@ -28,6 +28,7 @@ use Rattle.bidi_rules.proofs.Gathered.{length-values_of}
 use Rattle.bidi_rules.proofs.NeutralSteps.{IsReady, IsResolved, first-is, length-resolved, neutral_classes-is}
 use Rattle.bidi_rules.proofs.NeutralUnits.{places_in_runs}
 use Rattle.bidi_rules.proofs.PassOverText.{IsPerChar-alike, alike_class, in_runs-alike, in_runs-within}
+use Rattle.bidi_base.proofs.Lists.{list_all-take, list_all-drop}
 
 -- ---- over a list of classes
 
@@ -99,18 +100,6 @@ left_over L _ s h k = absurd (both_ways _ k h)
 left_over R R s h k = refl
 left_over R _ s h k = absurd (both_ways _ k h)
 left_over _ c s h k = absurd (cc s)
-
-list_all-take : (p : BidiClass → Bool) (n : ℕ) (cs : List BidiClass) → list_all p cs ≡ true → list_all p (take n cs) ≡ true
-list_all-take p zero cs h = refl
-list_all-take p (suc n) [] h = refl
-list_all-take p (suc n) (c ∷ cs) h =
-    let parts = and_parts (p c) (list_all p cs) h in
-    and_from (p c) (list_all p (take n cs)) parts.0 (list_all-take p n cs parts.1)
-
-list_all-drop : (p : BidiClass → Bool) (n : ℕ) (cs : List BidiClass) → list_all p cs ≡ true → list_all p (drop n cs) ≡ true
-list_all-drop p zero cs h = h
-list_all-drop p (suc n) [] h = refl
-list_all-drop p (suc n) (c ∷ cs) h = list_all-drop p n cs (and_parts (p c) (list_all p cs) h).1
 
 module _ (e : BidiClass) (side : is_l_or_r e ≡ true) where
   nearest-is : (cs : List BidiClass) → list_all (goes_with e) cs ≡ true → nearest_direction e cs ≡ e

@@ -1,9 +1,9 @@
 -- The pass over level runs, one by one, and over the characters of each.
-use Rattle.std.proofs.Common.{◌≡◌, ℕ, zero, suc, ◌+◌, ◌-◌, ◌<◌, ◌≤◌, Bool, true, false, cond, eqb, List, [], ◌∷◌, ◌++◌, length, map, get_or, set, take, reverse, length-append, Option, Some, None, refl, sym, ap, subst, ◌∙◌, arith, inl, inr, eqb-true, le_refl}
+use Rattle.std.proofs.Common.{◌≡◌, ℕ, zero, suc, ◌+◌, ◌-◌, ◌<◌, ◌≤◌, Bool, true, false, cond, eqb, List, [], ◌∷◌, ◌++◌, length, map, get_or, set, take, reverse, length-append, Option, Some, None, refl, sym, ap, subst, ◌∙◌, arith, inl, inr, eqb-true}
 use Rattle.std.specs.Prelude.{filter, IfSome}
 use Rattle.std.specs.List.{range_with_len}
 use Rattle.std.proofs.lemmas.Bool.{cases_Bool, cases_eq, cond-true, cond-false, eqb-false}
-use Rattle.std.proofs.lemmas.List.{reverse-append, reverse-reverse, take-append-le, take_all, get_or_push, get_or-set_same, length-set}
+use Rattle.std.proofs.lemmas.List.{reverse-append, get_or_push, get_or-set_same, length-set}
 use Rattle.bidi_base.specs.declared.char_data.BidiClass.{BidiClass}
 use Rattle.bidi_base.specs.Classes.{is_initiator, is_pdi}
 use Rattle.bidi_base.specs.Places.{class_at, last_or}
@@ -14,28 +14,7 @@ use Rattle.bidi_base.proofs.ReadStack.{Member}
 use Rattle.bidi_base.proofs.PassLemmas.{sequence_of}
 use Rattle.bidi_base.proofs.RunsLemmas.{EndsRun, IsRun, IsLevelRun, IsRun-IsLevelRun, AreRunSteps-successors, IsFront, front_of}
 use Rattle.bidi_base.proofs.WaitingLemmas.{Member-append_right, IsWaiting, IsPass, IsPass-start, IsPass-end, IsPass-begin, IsPass-join, IsPass-stay, IsPass-skip, IsPass-initiator, IsPass-pdi, successor-waiting, is_first-no_pdi, is_first-none_open, is_first-not_waiting, inside_run}
-
--- taking away the last is taking away the first of the reverse
-split_last : {X : Type 0} (xs : List X) (v : X) (vs : List X) → reverse xs ≡ v ∷ vs → xs ≡ reverse vs ++ v ∷ []
-split_last xs v vs e = sym (reverse-reverse xs) ∙ ap reverse e ∙ reverse-append (v ∷ []) vs
-
-reverse_front : {X : Type 0} (xs : List X) (v : X) (vs : List X) → reverse xs ≡ v ∷ vs → reverse (take (length xs - 1) xs) ≡ vs
-reverse_front {X} xs v vs e =
-    let whole : xs ≡ reverse vs ++ v ∷ [] = split_last xs v vs e in
-    let count : length xs - 1 ≡ length (reverse vs) = omega (arith, ap length whole, length-append (reverse vs) (v ∷ [])) in
-    ap reverse
-    (ap (λ k. take k xs) count ∙ ap (take (length (reverse vs))) whole ∙ take-append-le (length (reverse vs)) (reverse vs) (v ∷ []) (le_refl _) ∙ take_all (length (reverse vs)) (reverse vs) (le_refl _))
-    ∙ reverse-reverse vs
-
-last_or-append : {X : Type 0} (d : X) (xs : List X) (v : X) → last_or d (xs ++ v ∷ []) ≡ v
-last_or-append d [] v = refl
-last_or-append d (x ∷ xs) v = last_or-append x xs v
-
-last_or-reverse : {X : Type 0} (d : X) (xs : List X) (v : X) (vs : List X) → reverse xs ≡ v ∷ vs → last_or d xs ≡ v
-last_or-reverse {X} d xs v vs e = ap (last_or d) (split_last xs v vs e) ∙ last_or-append d (reverse vs) v
-
-reverse_none : {X : Type 0} (xs : List X) → reverse xs ≡ [] → xs ≡ []
-reverse_none xs e = sym (reverse-reverse xs) ∙ ap reverse e
+use Rattle.bidi_base.proofs.Lists.{reverse_front, last_or-reverse, reverse_none}
 
 -- the characters of a run come to the sequence at s, or to a new one
 abbrev pub with_places : Option ℕ → List ℕ → List (List ℕ) → List (List ℕ)

@@ -1,4 +1,5 @@
 pub mod Commands
+pub mod Ends
 pub mod Faults
 pub mod Numbers
 pub mod Shown

@@ -78,10 +78,6 @@ abbrev pub IsAnswer : Command → Option (List ℕ) → Option (List ℕ) → Li
 IsAnswer (Map levels) old new text = text ≡ line_of (visual_order levels)
 IsAnswer (Show base) old new text = (bytes : List ℕ) × ReadsAll old new bytes × IsUtf8 bytes × (text ≡ shown_text sample_source (level_of_base base) bytes)
 
--- the bytes that were read are not UTF-8
-abbrev pub IsNotUtf8 : Option (List ℕ) → Option (List ℕ) → Type 0
-IsNotUtf8 old new = (bytes : List ℕ) × ReadsAll old new bytes × ¬ (IsUtf8 bytes)
-
 -- the output has grown from `before` to `after` by a text that answers the command
 abbrev pub WritesAnswer : Command → Option (List ℕ) → Option (List ℕ) → Option (List ℕ) → Option (List ℕ) → Type 0
 WritesAnswer command old new before after = (text : List ℕ) × IsAnswer command old new text × Appends before after text

@@ -1,6 +1,7 @@
 //! Where a run reads from and writes to.
-ghost use Rattle.std.specs.Prelude.{◌≡◌, ℕ, ◌+◌, ◌≤◌, List, length, Option, IfOk, OnOk, is_ok, if◌then◌else◌};
+ghost use Rattle.std.specs.Prelude.{◌≡◌, ℕ, ◌+◌, ◌≤◌, List, length, Option, IfOk, OnOk};
 ghost use Rattle.std.specs.Io.KnownBytes.{ReadConsumes, Appends};
+ghost use Rattle.bidi_show.specs.Ends.{failures, ends_met};
 
 /// A read or a write that failed.
 #[derive(Clone, Copy, Debug, PartialEq)]
@@ -14,13 +15,16 @@ pub trait ShowIn {
     /// How many reads have failed.
     ghost failed_reads: { Self → ℕ };
 
+    /// How many reads have come to the end: they gave no byte for a buffer with room.
+    ghost ended_reads: { Self → ℕ };
+
     /// Puts the next bytes at the front of the buffer, and says how many. It says 0 only at the
     /// end, or where the buffer is empty.
     fn read(&mut self, buffer: &mut [u8]) -> Result<usize, Failed>
         ensures within { IfOk result (λ count. count ≤ length buffer.new) }
         ensures taken { ReadConsumes (left self.old) (left self.new) result buffer.new }
-        ensures counted { failed_reads self.new
-            ≡ (if is_ok result then failed_reads self.old else failed_reads self.old + 1) };
+        ensures failed { failed_reads self.new ≡ failed_reads self.old + failures result }
+        ensures ended { ended_reads self.new ≡ ended_reads self.old + ends_met result buffer.new };
 }
 
 /// An end that bytes go to.
@@ -35,6 +39,5 @@ pub trait ShowOut {
     /// open how many went out.
     fn put(&mut self, bytes: &[u8]) -> Result<(), Failed>
         ensures appended { OnOk result (Appends (written self.old) (written self.new) bytes.now) }
-        ensures counted { failed_writes self.new
-            ≡ (if is_ok result then failed_writes self.old else failed_writes self.old + 1) };
+        ensures failed { failed_writes self.new ≡ failed_writes self.old + failures result };
 }

@@ -1,4 +1,5 @@
-//! Shows what the bidirectional algorithm makes of levels: `bidi_show map <level>..`.
+//! Shows what the bidirectional algorithm makes of levels, `bidi_show map <level>..`, and of a text,
+//! `bidi_show show auto`, `ltr` or `rtl`.
 #![tactic(auto)]
 
 ghost use Rattle.std.specs.Prelude.{◌≡◌, IfErr};
@@ -6,13 +7,13 @@ ghost use Rattle.bidi_show.specs.declared.fault.ShowFault.TheVariants.{Device};
 
 mod command;
 mod ends;
-mod failure_count;
 mod fault;
 mod input;
 mod number;
 mod run;
 mod shown;
 mod streams;
+mod tally;
 #[cfg(test)]
 mod tests;
 
@@ -37,7 +38,8 @@ fn arguments(rt: &(impl Env + AllocGlobal)) -> Result<Vec<String>, ShowFault>
 
 fn serve(rt: &(impl Env + Input + Print + AllocGlobal)) -> Result<(), ShowFault> {
     let words = arguments(rt)?;
-    run_over_streams(rt.alloc(), words.as_slice(), rt.reader(), io::writer(rt))
+    let run = run_over_streams(rt.alloc(), words.as_slice(), rt.reader(), io::writer(rt));
+    run.outcome
 }
 
 fn main(rt: HostRuntime) -> ExitCode {

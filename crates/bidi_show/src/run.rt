@@ -1,22 +1,24 @@
 //! A run of the program.
 ghost use Rattle.std.specs.Prelude.{◌≡◌, ◌≢◌, ◌+◌, ◌<◌, ◌↔◌, true, false, map, string_bytes, IfOk, OnOk, IfErr, IfSome, IsNone, IsErrOf};
+ghost use Rattle.std.specs.Io.KnownBytes.{IsAtEnd};
 ghost use Rattle.std.specs.Str.{IsUtf8};
 ghost use Rattle.bidi_base.specs.Order.{visual_order};
 ghost use Rattle.bidi_base.specs.Table.{source_of};
 ghost use Rattle.bidi_show.specs.Commands.{command_of, reads_input};
+ghost use Rattle.bidi_show.specs.Ends.{Opens, ReadsToEnd};
 ghost use Rattle.bidi_show.specs.Faults.{device_faults};
-ghost use Rattle.bidi_show.specs.Texts.{line_of, sample_source, IsAnswer, IsNotUtf8, WritesAnswer};
+ghost use Rattle.bidi_show.specs.Texts.{line_of, sample_source, IsAnswer, WritesAnswer};
 ghost use Rattle.bidi_show.specs.declared.command.Command.TheVariants.{Show};
 ghost use Rattle.bidi_show.specs.declared.fault.ShowFault.TheVariants.{Usage, NotUtf8, Device};
 
 use crate::command::{Base, Command};
 use crate::ends::{ShowIn, ShowOut};
-use crate::failure_count::FailureCount;
 use crate::fault::ShowFault;
 use crate::input::read_all;
 use crate::number::LevelWords;
 use crate::shown::show;
 use crate::streams::{StreamIn, StreamOut};
+use crate::tally::Tally;
 use bidi_base::data_source::TableBidiData;
 use bidi_base::sample;
 use itoa::Buffer;
@@ -62,8 +64,10 @@ fn sample_table() -> TableBidiData<'static>
 fn answer_show<R: ShowIn>(alloc: Global, base: Base, input: &mut R) -> Result<String, ShowFault>
     ensures text { IfOk result (λ text. IsAnswer (Show base) (R.left input.old) (R.left input.new) (string_bytes text)) }
     ensures usage { ¬ IsErrOf result Usage }
-    ensures utf8 { IsErrOf result NotUtf8 → IsNotUtf8 (R.left input.old) (R.left input.new) }
-    ensures counted { R.failed_reads input.new ≡ R.failed_reads input.old + device_faults result }
+    ensures utf8 { IfSome (R.left input.old) (λ bytes.
+        IsErrOf result NotUtf8 ↔ (R.ended_reads input.old < R.ended_reads input.new) × ¬ (IsUtf8 bytes)) }
+    ensures ended { ReadsToEnd true result (R.ended_reads input.old) (R.ended_reads input.new) (R.left input.new) }
+    ensures failed { R.failed_reads input.new ≡ R.failed_reads input.old + device_faults result }
 {
     let bytes = read_all(alloc, input)?;
     let Ok(text) = str::from_utf8(bytes.as_slice()) else {
@@ -80,8 +84,11 @@ fn answer<R: ShowIn>(
 ) -> Result<String, ShowFault>
     ensures text { IfOk result (λ text. IsAnswer command.now (R.left input.old) (R.left input.new) (string_bytes text)) }
     ensures usage { ¬ IsErrOf result Usage }
-    ensures utf8 { IsErrOf result NotUtf8 → (reads_input (Some command.now) ≡ true) × IsNotUtf8 (R.left input.old) (R.left input.new) }
-    ensures counted { R.failed_reads input.new ≡ R.failed_reads input.old + device_faults result }
+    ensures utf8 { IfSome (R.left input.old) (λ bytes.
+        IsErrOf result NotUtf8 ↔ (R.ended_reads input.old < R.ended_reads input.new) × ¬ (IsUtf8 bytes)) }
+    ensures ended { ReadsToEnd (reads_input (Some command.now)) result
+        (R.ended_reads input.old) (R.ended_reads input.new) (R.left input.new) }
+    ensures failed { R.failed_reads input.new ≡ R.failed_reads input.old + device_faults result }
     ensures unread { reads_input (Some command.now) ≡ false → input.new ≡ input.old }
 {
     match command {
@@ -96,12 +103,14 @@ fn answer<R: ShowIn>(
 ///   order, as indexes separated by one space and ended by a line feed. Nothing is read.
 /// - `show` and `auto`, `ltr` or `rtl` (no base level, 0 or 1): three lines for each paragraph of
 ///   the input, by the sample table: where it stands, in bytes, and its level; the level of each of
-///   its characters; its text from left to right, without the separator that closes it.
+///   its characters; its text from left to right, without the separator that closes it. The sample
+///   table knows the Hebrew letters and the Arabic ones from U+0627 to U+064A: Hebrew points, the
+///   letters that Persian adds, and Syriac count as left to right.
 ///
 /// The words are looked at before any memory is taken, and the whole answer is made before any of
-/// it is written. `Usage` comes exactly where the words are none of the forms, and `Device` exactly
-/// where a read or a write failed. `Memory` comes where memory was refused. An input that was read
-/// to its end is answered by `NotUtf8` if it is not UTF-8, and else never.
+/// it is written. `Usage` comes exactly where the words are none of the forms, `NotUtf8` exactly
+/// where reading came to the end and the bytes are not UTF-8, and `Device` exactly where a read or
+/// a write failed. `Memory` comes where memory was refused.
 pub fn run<R: ShowIn, W: ShowOut>(
     alloc: Global,
     words: &[String],
@@ -109,8 +118,10 @@ pub fn run<R: ShowIn, W: ShowOut>(
     output: &mut W,
 ) -> Result<(), ShowFault>
     ensures usage { IsErrOf result Usage ↔ IsNone (command_of (map string_bytes words.now)) }
-    ensures utf8 { IsErrOf result NotUtf8 →
-        (reads_input (command_of (map string_bytes words.now)) ≡ true) × IsNotUtf8 (R.left input.old) (R.left input.new) }
+    ensures utf8 { IfSome (R.left input.old) (λ bytes.
+        IsErrOf result NotUtf8 ↔ (R.ended_reads input.old < R.ended_reads input.new) × ¬ (IsUtf8 bytes)) }
+    ensures ended { ReadsToEnd (reads_input (command_of (map string_bytes words.now))) result
+        (R.ended_reads input.old) (R.ended_reads input.new) (R.left input.new) }
     ensures device { IsErrOf result Device ↔
         (R.failed_reads input.old + W.failed_writes output.old
         < R.failed_reads input.new + W.failed_writes output.new) }
@@ -120,8 +131,7 @@ pub fn run<R: ShowIn, W: ShowOut>(
     ensures written { OnOk result (
         IfSome (command_of (map string_bytes words.now)) (λ command.
         WritesAnswer command (R.left input.old) (R.left input.new) (W.written output.old) (W.written output.new))) }
-    ensures unwritten { IfErr result (λ fault.
-        fault ≢ Device → W.written output.new ≡ W.written output.old) }
+    ensures unwritten { IfErr result (λ fault. fault ≢ Device → output.new ≡ output.old) }
     ensures unread { reads_input (command_of (map string_bytes words.now)) ≡ false → input.new ≡ input.old }
 {
     let Some(command) = Command::parse(words) else {
@@ -132,39 +142,73 @@ pub fn run<R: ShowIn, W: ShowOut>(
     Ok(())
 }
 
-fn run_counted<I: Ledger, O: Ledger, R: Read + Drop, W: Write + Drop>(
+/// A run that has ended.
+#[derive(Drop)]
+pub struct Finished<R, W> {
+    /// How it ended.
+    pub outcome: Result<(), ShowFault>,
+    /// The reader, as the run left it.
+    pub reader: R,
+    /// The writer, as the run left it.
+    pub writer: W,
+}
+
+fn run_counted<F: Ledger, E: Ledger, O: Ledger, R: Read + Drop, W: Write + Drop>(
     alloc: Global,
     words: &[String],
     reader: R,
     writer: W,
-    reads: Blank,
-    writes: Blank,
-) -> Result<(), ShowFault>
-    requires reads_name { reads.name ≡ I.name }
-    requires reads_parts { reads.parts ≡ I.parts }
-    requires reads_one { reads.parts ≡ 1 }
-    requires writes_name { writes.name ≡ O.name }
-    requires writes_parts { writes.parts ≡ O.parts }
-    requires writes_one { writes.parts ≡ 1 }
-    ensures usage { IsErrOf result Usage ↔ IsNone (command_of (map string_bytes words.now)) }
-    ensures utf8 { IsErrOf result NotUtf8 →
-        (reads_input (command_of (map string_bytes words.now)) ≡ true) × IfSome (R.remaining reader) (λ bytes. ¬ (IsUtf8 bytes)) }
+    failed_reads: Blank,
+    ended_reads: Blank,
+    failed_writes: Blank,
+) -> Finished<R, W>
+    requires failed_reads { Opens failed_reads F.name F.parts }
+    requires ended_reads { Opens ended_reads E.name E.parts }
+    requires failed_writes { Opens failed_writes O.name O.parts }
+    ensures usage { IsErrOf result.outcome Usage ↔ IsNone (command_of (map string_bytes words.now)) }
+    ensures utf8 { IsErrOf result.outcome NotUtf8 → (reads_input (command_of (map string_bytes words.now)) ≡ true)
+        × IfSome (R.remaining reader) (λ bytes. ¬ (IsUtf8 bytes)) × IsAtEnd (R.remaining result.reader) }
+    ensures written { OnOk result.outcome (
+        IfSome (command_of (map string_bytes words.now)) (λ command.
+        WritesAnswer command (R.remaining reader) (R.remaining result.reader) (W.contents writer) (W.contents result.writer))) }
+    ensures unwritten { IfErr result.outcome (λ fault. fault ≢ Device → result.writer ≡ writer) }
+    ensures unread { reads_input (command_of (map string_bytes words.now)) ≡ false → result.reader ≡ reader }
 {
-    let mut input = StreamIn::new(reader, FailureCount::<I>::new(reads));
-    let mut output = StreamOut::new(writer, FailureCount::<O>::new(writes));
-    run(alloc, words, &mut input, &mut output)
+    let failed_reads = Tally::<F>::new(failed_reads);
+    let ended_reads = Tally::<E>::new(ended_reads);
+    let mut input = StreamIn::new(reader, failed_reads, ended_reads);
+    let mut output = StreamOut::new(writer, Tally::<O>::new(failed_writes));
+    let outcome = run(alloc, words, &mut input, &mut output);
+    Finished {
+        outcome,
+        reader: input.reader,
+        writer: output.writer,
+    }
 }
 
-/// A run that reads from a reader and writes to a writer.
+/// A run that reads from a reader and writes to a writer, and hands both back.
 pub fn run_over_streams<R: Read + Drop, W: Write + Drop>(
     alloc: Global,
     words: &[String],
     reader: R,
     writer: W,
-) -> Result<(), ShowFault>
-    ensures usage { IsErrOf result Usage ↔ IsNone (command_of (map string_bytes words.now)) }
-    ensures utf8 { IsErrOf result NotUtf8 →
-        (reads_input (command_of (map string_bytes words.now)) ≡ true) × IfSome (R.remaining reader) (λ bytes. ¬ (IsUtf8 bytes)) }
+) -> Finished<R, W>
+    ensures usage { IsErrOf result.outcome Usage ↔ IsNone (command_of (map string_bytes words.now)) }
+    ensures utf8 { IsErrOf result.outcome NotUtf8 → (reads_input (command_of (map string_bytes words.now)) ≡ true)
+        × IfSome (R.remaining reader) (λ bytes. ¬ (IsUtf8 bytes)) × IsAtEnd (R.remaining result.reader) }
+    ensures written { OnOk result.outcome (
+        IfSome (command_of (map string_bytes words.now)) (λ command.
+        WritesAnswer command (R.remaining reader) (R.remaining result.reader) (W.contents writer) (W.contents result.writer))) }
+    ensures unwritten { IfErr result.outcome (λ fault. fault ≢ Device → result.writer ≡ writer) }
+    ensures unread { reads_input (command_of (map string_bytes words.now)) ≡ false → result.reader ≡ reader }
 {
-    run_counted::<Brand, Brand, R, W>(alloc, words, reader, writer, Blank::new(1), Blank::new(1))
+    run_counted::<Brand, Brand, Brand, R, W>(
+        alloc,
+        words,
+        reader,
+        writer,
+        Blank::new(1),
+        Blank::new(1),
+        Blank::new(1),
+    )
 }

@@ -3,68 +3,80 @@
 ghost use Rattle.std.specs.Prelude.{◌≡◌};
 
 use crate::ends::{Failed, ShowIn, ShowOut};
-use crate::failure_count::FailureCount;
+use crate::tally::Tally;
 use std::io::{Read, Write};
 use std::sync::ledger::Ledger;
 
-/// An end over a reader.
+/// An end over a reader. Its parameters name the ledgers of its two counts.
 #[derive(Drop)]
-pub struct StreamIn<R, L: Ledger> {
-    reader: R,
-    failures: FailureCount<L>,
+pub struct StreamIn<R, F: Ledger, E: Ledger> {
+    /// The reader, as reads have left it.
+    pub reader: R,
+    failed: Tally<F>,
+    ended: Tally<E>,
 }
 
-impl<R: Read, L: Ledger> StreamIn<R, L> {
-    /// The end of this reader, whose failed reads the count goes on to count.
-    pub fn new(reader: R, failures: FailureCount<L>) -> StreamIn<R, L>
-        ensures left { ⟦<StreamIn<R, L> as ShowIn>⟧.left result ≡ R.remaining reader }
-        ensures failed { ⟦<StreamIn<R, L> as ShowIn>⟧.failed_reads result ≡ failures }
+impl<R: Read, F: Ledger, E: Ledger> StreamIn<R, F, E> {
+    /// The end of this reader. The tallies go on to count its failed reads, and those that come to
+    /// the end.
+    pub fn new(reader: R, failed: Tally<F>, ended: Tally<E>) -> StreamIn<R, F, E>
+        ensures reader { result.reader ≡ reader }
+        ensures failed { result.failed ≡ failed }
+        ensures ended { result.ended ≡ ended }
     {
-        StreamIn { reader, failures }
+        StreamIn {
+            reader,
+            failed,
+            ended,
+        }
     }
 }
 
-impl<R: Read, L: Ledger> ShowIn for StreamIn<R, L> {
+impl<R: Read, F: Ledger, E: Ledger> ShowIn for StreamIn<R, F, E> {
     ghost left = { λ s. R.remaining s.reader };
 
-    ghost failed_reads = { λ s. s.failures };
+    ghost failed_reads = { λ s. s.failed };
+
+    ghost ended_reads = { λ s. s.ended };
 
     fn read(&mut self, buffer: &mut [u8]) -> Result<usize, Failed> {
-        match self.reader.read(buffer) {
-            Ok(count) => Ok(count),
-            Err(_) => {
-                self.failures.add_one();
-                Err(Failed)
-            }
+        let Ok(count) = self.reader.read(buffer) else {
+            self.failed.add_one();
+            return Err(Failed);
+        };
+        if count == 0 && !buffer.is_empty() {
+            self.ended.add_one();
         }
+        Ok(count)
     }
 }
 
 /// An end over a writer, which is flushed at each `put`.
 #[derive(Drop)]
 pub struct StreamOut<W, L: Ledger> {
-    writer: W,
-    failures: FailureCount<L>,
+    /// The writer, as writes have left it.
+    pub writer: W,
+    failed: Tally<L>,
 }
 
 impl<W: Write, L: Ledger> StreamOut<W, L> {
-    /// The end of this writer, whose failed writes the count goes on to count.
-    pub fn new(writer: W, failures: FailureCount<L>) -> StreamOut<W, L>
-        ensures written { ⟦<StreamOut<W, L> as ShowOut>⟧.written result ≡ W.contents writer }
-        ensures failed { ⟦<StreamOut<W, L> as ShowOut>⟧.failed_writes result ≡ failures }
+    /// The end of this writer. The tally goes on to count its failed writes.
+    pub fn new(writer: W, failed: Tally<L>) -> StreamOut<W, L>
+        ensures writer { result.writer ≡ writer }
+        ensures failed { result.failed ≡ failed }
     {
-        StreamOut { writer, failures }
+        StreamOut { writer, failed }
     }
 }
 
 impl<W: Write, L: Ledger> ShowOut for StreamOut<W, L> {
     ghost written = { λ s. W.contents s.writer };
 
-    ghost failed_writes = { λ s. s.failures };
+    ghost failed_writes = { λ s. s.failed };
 
     fn put(&mut self, bytes: &[u8]) -> Result<(), Failed> {
         if self.writer.write_all(bytes).is_err() || self.writer.flush().is_err() {
-            self.failures.add_one();
+            self.failed.add_one();
             return Err(Failed);
         }
         Ok(())

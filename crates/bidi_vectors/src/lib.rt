@@ -1,37 +1,25 @@
-//! Worked rows of the Unicode Bidirectional Algorithm, as tests of the crates below.
+//! Worked rows of the Unicode Bidirectional Algorithm, as tests of the public calls.
 #![tactic(auto)]
 
 #[cfg(test)]
-mod explicit_units_rows;
+mod base_directions;
 #[cfg(test)]
-mod info_rows;
+mod by_rules;
 #[cfg(test)]
-mod initial_rows;
+mod class_groups;
 #[cfg(test)]
-mod level_rows;
+mod constructors;
 #[cfg(test)]
-mod line_rows;
+mod encoding_rows;
 #[cfg(test)]
-mod neutral_units_rows;
+mod levels;
 #[cfg(test)]
-mod order_rows;
+mod lines;
 #[cfg(test)]
-mod plain_explicit;
+mod orders;
 #[cfg(test)]
-mod plain_neutral;
+mod rows;
 #[cfg(test)]
-mod plain_sequences;
+mod sources;
 #[cfg(test)]
-mod plain_weak;
-#[cfg(test)]
-mod run_rows;
-#[cfg(test)]
-mod run_walks_rows;
-#[cfg(test)]
-mod sequence_units_rows;
-#[cfg(test)]
-mod source_rows;
-#[cfg(test)]
-mod text_rows;
-#[cfg(test)]
-mod weak_units_rows;
+mod texts;

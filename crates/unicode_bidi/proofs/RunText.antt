@@ -1,7 +1,6 @@
 -- The reordered text of a line is that of its runs, from left to right.
 use Rattle.std.proofs.Common.{◌≡◌, ℕ, zero, suc, ◌+◌, ◌-◌, ◌<◌, ◌≤◌, List, [], ◌∷◌, ◌++◌, map, flat_map, reverse, sum_by, slice_range, length, get_or, take, drop, All, refl, sym, ap, ◌∙◌, arith, inl, inr, ne_eqb, ◌%◌}
 use Rattle.std.specs.List.{range_with_len}
-use mathlib.Core.List.{reverse_aux}
 use Rattle.std.proofs.lemmas.Bool.{cases_Bool, cond-true, cond-false}
 use Rattle.std.proofs.lemmas.List.{get_or-map, length-map, drop-drop}
 use Rattle.std.proofs.lemmas.List.Folds.{flat_map-map}
@@ -16,12 +15,13 @@ use Rattle.bidi_base.specs.Display.{Run, run_level, visual_runs, written_run, wr
 use Rattle.bidi_base.proofs.OrderLemmas.{get_or-slice_range, length-slice_range}
 use Rattle.bidi_lines.proofs.Pieces.{All-between, length-between, get_or-between}
 use Rattle.std.proofs.lemmas.List.FromFn.{length-range_with_len, get_or-range_with_len}
-use Rattle.bidi_base.specs.Arranged.{NoneIsOdd}
+use Rattle.bidi_lines.specs.Arranged.{NoneIsOdd}
 use Rattle.bidi_base.proofs.TextLemmas.{HasUnits}
 use Rattle.bidi_base.proofs.PlaceLemmas.{place-more, place-mono, char_index-place}
 use Rattle.bidi_lines.proofs.Ordered.{visual_order-still}
 use Rattle.bidi_lines.proofs.VisualRuns.{visual_runs-are}
 use Rattle.unicode_bidi.proofs.CharRuns.{units_of, place_from, visual_runs-units, run_level-units}
+use Rattle.bidi_base.proofs.Lists.{map-reverse}
 
 pub flat_map-same_on : {A B : Type 0} (f g : A → List B) (xs : List A) → All (λ x. f x ≡ g x) xs → flat_map f xs ≡ flat_map g xs
 flat_map-same_on f g [] h = refl
@@ -33,13 +33,6 @@ flat_map-same_on f g (x ∷ xs) h =
 flat_map-flat_map : {A B C : Type 0} (g : B → List C) (f : A → List B) (xs : List A) → flat_map g (flat_map f xs) ≡ flat_map (λ x. flat_map g (f x)) xs
 flat_map-flat_map g f [] = refl
 flat_map-flat_map g f (x ∷ xs) = flat_map-append g (f x) (flat_map f xs) ∙ ap (λ l. flat_map g (f x) ++ l) (flat_map-flat_map g f xs)
-
-map-onto : {A B : Type 0} (f : A → B) (xs ys : List A) → map f (reverse_aux xs ys) ≡ reverse_aux (map f xs) (map f ys)
-map-onto f [] ys = refl
-map-onto f (x ∷ xs) ys = map-onto f xs (x ∷ ys)
-
-map-reverse : {A B : Type 0} (f : A → B) (xs : List A) → map f (reverse xs) ≡ reverse (map f xs)
-map-reverse f xs = map-onto f xs []
 
 -- slices that meet
 pub take_sum : {X : Type 0} (n m : ℕ) (xs : List X) → take (n + m) xs ≡ take n xs ++ take m (drop n xs)
