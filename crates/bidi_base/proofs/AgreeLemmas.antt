@@ -1,5 +1,5 @@
 -- Sequences and level runs read levels at kept characters alone.
-use Rattle.std.proofs.Common.{◌≡◌, ℕ, zero, suc, ◌+◌, ◌<◌, Bool, true, false, cond, eqb, max, List, [], ◌∷◌, length, map, Option, Some, None, refl, sym, ap, subst, ◌∙◌, arith}
+use Rattle.std.proofs.Common.{◌≡◌, ℕ, zero, suc, ◌+◌, ◌<◌, Bool, true, false, cond, eqb, max, List, [], ◌∷◌, length, map, Option, Some, None, refl, sym, ap, subst, ◌∙◌, arith, inl, inr}
 use Rattle.std.specs.Prelude.{filter, option_and_then}
 use Rattle.std.proofs.lemmas.List.Elements.{filter_agree}
 use Rattle.bidi_base.specs.declared.char_data.BidiClass.{BidiClass}
@@ -17,6 +17,8 @@ use Rattle.bidi_base.proofs.IsolatesLemmas.{matching_pdi-IsLeast, matching_pdi-i
 use Rattle.bidi_base.proofs.EmbeddingsLemmas.{same_if}
 use Rattle.bidi_base.proofs.SequencesLemmas.{IsLinked-successor, places_from, is_first-none, is_first-from_none, AllFirst}
 use Rattle.bidi_base.proofs.PassLemmas.{AreSuccessors, AllFirst-filter}
+use Rattle.bidi_base.proofs.Lists.{cases_Option}
+use Rattle.std.proofs.lemmas.Bool.{cases_Bool}
 
 module _ (classes : List BidiClass) (levels other : List ℕ) (agree : (p : ℕ) → is_kept_at classes p ≡ true → p < length classes → level_at levels p ≡ level_at other p) where
   one_level : (o : Option ℕ) (p : ℕ) → ((q : ℕ) → o ≡ Some q → level_at levels q ≡ level_at other q) → level_at levels p ≡ level_at other p → have_one_level levels o p ≡ have_one_level other o p
@@ -35,20 +37,16 @@ module _ (classes : List BidiClass) (levels other : List ℕ) (agree : (p : ℕ)
 
   resumed_at-agree : (p : ℕ) → resumed_at classes levels p ≡ resumed_at classes other p
   unfolding resumed_at
-  resumed_at-agree p = ap (λ (o : Option ℕ). cond (is_initiator (class_at classes p)) o None) (by_match (matching_pdi classes p) refl)
-    where
-      by_match : (o : Option ℕ) → matching_pdi classes p ≡ o
-          → option_and_then (λ q. cond (have_one_level levels (kept_before classes q) q) None (Some q)) o ≡ option_and_then (λ q. cond (have_one_level other (kept_before classes q) q) None (Some q)) o
-      by_match None e = refl
-      by_match (Some q) e =
-          let least = matching_pdi-IsLeast classes p q e in
-          ap (λ b. cond {A = Option ℕ} b None (Some q)) (one_level (kept_before classes q) q (λ r f. before_level q r least.below f) (agree q (is_kept-pdi (class_at classes q) (matching_pdi-is_pdi classes p q e)) least.below))
+  resumed_at-agree p = elim (cases_Option (matching_pdi classes p)) [
+    | inl e ↦ rw e refl
+    | inr q ↦
+        let least = matching_pdi-IsLeast classes p q.0 q.1 in
+        rw (q.1, one_level (kept_before classes q.0) q.0 (λ r f. before_level q.0 r least.below f) (agree q.0 (is_kept-pdi (class_at classes q.0) (matching_pdi-is_pdi classes p q.0 q.1)) least.below)) refl
+  ]
 
   pub successor-agree : (p : ℕ) → is_kept_at classes p ≡ true → p < length classes → successor classes levels p ≡ successor classes other p
   unfolding successor
-  successor-agree p kept within =
-      ap (λ b. cond b (next_kept classes p) (resumed_at classes levels p)) (one_level (next_kept classes p) p (λ q e. next_level p q e) (agree p kept within))
-      ∙ ap (λ (o : Option ℕ). cond (have_one_level other (next_kept classes p) p) (next_kept classes p) o) (resumed_at-agree p)
+  successor-agree p kept within = rw (one_level (next_kept classes p) p (λ q e. next_level p q e) (agree p kept within), resumed_at-agree p) refl
 
   pub is_first-agree : (p : ℕ) → is_first classes levels p ≡ is_first classes other p
   is_first-agree p = same_if (is_first classes levels p) (is_first classes other p)
@@ -57,16 +55,14 @@ module _ (classes : List BidiClass) (levels other : List ℕ) (agree : (p : ℕ)
 
   chain-agree : (k p : ℕ) → is_kept_at classes p ≡ true → p < length classes → chain (successor classes levels) k (Some p) ≡ chain (successor classes other) k (Some p)
   chain-agree zero p kept within = refl
-  chain-agree (suc k) p kept within = by_next (λ q there below. chain-agree k q there below) (successor classes levels p) refl
-    where
-      by_next : ((q : ℕ) → is_kept_at classes q ≡ true → q < length classes → chain (successor classes levels) k (Some q) ≡ chain (successor classes other) k (Some q)) → (o : Option ℕ) → successor classes levels p ≡ o
-          → p ∷ chain (successor classes levels) k o ≡ p ∷ chain (successor classes other) k (successor classes other p)
-      by_next rest None e =
-          ap {B = List ℕ} (λ xs. p ∷ xs) (chain-None (successor classes levels) k ∙ sym (chain-None (successor classes other) k))
-          ∙ ap {B = List ℕ} (λ o. p ∷ chain (successor classes other) k o) (sym e ∙ successor-agree p kept within)
-      by_next rest (Some q) e =
-          let h : IsLaterKept classes p q = successor-IsLaterKept classes levels p q e in
-          ap {B = List ℕ} (λ xs. p ∷ xs) (rest q h.kept h.within) ∙ ap {B = List ℕ} (λ o. p ∷ chain (successor classes other) k o) (sym e ∙ successor-agree p kept within)
+  chain-agree (suc k) p kept within =
+      rw (← successor-agree p kept within) (elim (cases_Option (successor classes levels p)) [
+        | inl e ↦ rw (e, chain-None (successor classes levels) k, chain-None (successor classes other) k) refl
+        | inr q ↦ (
+          let h : IsLaterKept classes p q.0 = successor-IsLaterKept classes levels p q.0 q.1 in
+          rw (q.1, chain-agree k q.0 h.kept h.within) refl
+        )
+      ])
 
   level_or-agree : (paragraph : ℕ) (o : Option ℕ) → ((q : ℕ) → o ≡ Some q → level_at levels q ≡ level_at other q) → level_or paragraph levels o ≡ level_or paragraph other o
   level_or-agree paragraph None there = refl
@@ -74,19 +70,14 @@ module _ (classes : List BidiClass) (levels other : List ℕ) (agree : (p : ℕ)
 
   start_class-agree : (paragraph p : ℕ) → is_kept_at classes p ≡ true → p < length classes → start_class paragraph classes levels p ≡ start_class paragraph classes other p
   unfolding start_class
-  start_class-agree paragraph p kept within =
-      ap (λ x. direction_of (max x (level_or paragraph levels (kept_before classes p)))) (agree p kept within)
-      ∙ ap (λ x. direction_of (max (level_at other p) x)) (level_or-agree paragraph (kept_before classes p) (λ q e. before_level p q within e))
+  start_class-agree paragraph p kept within = rw (agree p kept within, level_or-agree paragraph (kept_before classes p) (λ q e. before_level p q within e)) refl
 
   end_class-agree : (paragraph p : ℕ) → is_kept_at classes p ≡ true → p < length classes → end_class paragraph classes levels p ≡ end_class paragraph classes other p
   unfolding end_class
-  end_class-agree paragraph p kept within =
-      ap (λ x. direction_of (max x (level_or paragraph levels (cond (is_initiator (class_at classes p)) None (next_kept classes p))))) (agree p kept within)
-      ∙ ap (λ x. direction_of (max (level_at other p) x)) (level_or-agree paragraph (cond (is_initiator (class_at classes p)) None (next_kept classes p)) (after_level (is_initiator (class_at classes p)) (next_kept classes p) (λ q e. next_level p q e)))
-    where
-      after_level : (b : Bool) (o : Option ℕ) → ((q : ℕ) → o ≡ Some q → level_at levels q ≡ level_at other q) → (q : ℕ) → cond b None o ≡ Some q → level_at levels q ≡ level_at other q
-      after_level true o there q e = absurd (cc e)
-      after_level false o there q e = there q e
+  end_class-agree paragraph p kept within = elim (cases_Bool (is_initiator (class_at classes p))) [
+    | inl opens ↦ rw (opens, agree p kept within) refl
+    | inr other ↦ rw (other, agree p kept within, level_or-agree paragraph (next_kept classes p) (λ q e. next_level p q e)) refl
+  ]
 
   last_along : (p : ℕ) (ps : List ℕ) → is_kept_at classes p ≡ true → p < length classes → AreSuccessors classes levels (p ∷ ps) → (is_kept_at classes (last_or p ps) ≡ true) × (last_or p ps < length classes)
   last_along p [] kept within follows = (kept, within)
@@ -95,10 +86,9 @@ module _ (classes : List BidiClass) (levels other : List ℕ) (agree : (p : ℕ)
       last_along q ps h.kept h.within follows.1
 
   last_kept : (p : ℕ) → is_kept_at classes p ≡ true → p < length classes → (is_kept_at classes (last_or p (places_from classes levels p)) ≡ true) × (last_or p (places_from classes levels p) < length classes)
-  last_kept p kept within = by_maximal (IsMaximal-chain (length classes) (is_kept_at classes) (successor classes levels) (IsLinked-successor classes levels) p kept within)
-    where
-      by_maximal : (ps : List ℕ) × IsMaximal (length classes) (is_kept_at classes) (successor classes levels) (IsLinked-successor classes levels) p ps → (is_kept_at classes (last_or p (places_from classes levels p)) ≡ true) × (last_or p (places_from classes levels p) < length classes)
-      by_maximal m = subst (λ (xs : List ℕ). (is_kept_at classes (last_or p xs) ≡ true) × (last_or p xs < length classes)) (sym m.1.is) (last_along p m.0 kept within m.1.follows)
+  last_kept p kept within =
+      let m = IsMaximal-chain (length classes) (is_kept_at classes) (successor classes levels) (IsLinked-successor classes levels) p kept within in
+      subst (λ (xs : List ℕ). (is_kept_at classes (last_or p xs) ≡ true) × (last_or p xs < length classes)) (sym m.1.is) (last_along p m.0 kept within m.1.follows)
 
   abbrev with_classes : List ℕ → BidiClass → BidiClass → RunSequence
   with_classes xs sos eos = record { places = xs; sos = sos; eos = eos }

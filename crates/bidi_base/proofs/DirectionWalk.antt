@@ -3,7 +3,7 @@ use Rattle.std.proofs.Common.{◌≡◌, ◌↔◌, ℕ, zero, suc, ◌+◌, ◌
 use Rattle.std.specs.Prelude.{option_and_then}
 use Rattle.std.specs.List.{onto_first}
 use Rattle.std.specs.Option.{option_or}
-use Rattle.std.proofs.lemmas.Bool.{cond-true, cond-false, and_from, and_left, and_right}
+use Rattle.std.proofs.lemmas.Bool.{cond-true, cond-false, and_from, and_left, and_right, cases_Bool}
 use Rattle.bidi_base.specs.declared.char_data.BidiClass.{BidiClass}
 use Rattle.bidi_base.specs.declared.char_data.BidiClass.TheVariants.{B, LRI, RLI, FSI, PDI}
 use Rattle.bidi_base.specs.declared.char_data.Direction.{Direction}
@@ -16,6 +16,7 @@ use Rattle.bidi_base.specs.Places.{first_or}
 use Rattle.bidi_base.specs.Source.{Source}
 use Rattle.bidi_base.proofs.IsolatesLemmas.{direction_by-Rtl}
 use Rattle.bidi_base.proofs.IsolateWalk.{kind_of, depth_by, is_zero, deciding_from, deciding_class-from}
+use Rattle.bidi_base.proofs.Lists.{cases_Option}
 
 -- the direction that is found where d isolates are open, and no character has decided
 abbrev pub direction_from : Bool → ℕ → List BidiClass → Direction
@@ -50,44 +51,30 @@ other_pieces (c ∷ cs) = cond (is_paragraph_separator c) (class_pieces cs) (oth
 
 class_pieces-first : (c : BidiClass) (cs : List BidiClass) → class_pieces (c ∷ cs) ≡ first_piece (c ∷ cs) ∷ other_pieces (c ∷ cs)
 unfolding first_piece class_pieces other_pieces
-class_pieces-first c [] = by_test (is_paragraph_separator c)
-  where
-    by_test : (b : Bool) → cond b ((c ∷ []) ∷ []) ((c ∷ []) ∷ []) ≡ (c ∷ cond b [] []) ∷ cond b [] []
-    by_test true = refl
-    by_test false = refl
-class_pieces-first c (d ∷ cs) = by_test (is_paragraph_separator c) (class_pieces-first d cs)
-  where
-    by_test : (b : Bool) → class_pieces (d ∷ cs) ≡ first_piece (d ∷ cs) ∷ other_pieces (d ∷ cs)
-        → cond b ((c ∷ []) ∷ class_pieces (d ∷ cs)) (onto_first c (class_pieces (d ∷ cs))) ≡ (c ∷ cond b [] (first_piece (d ∷ cs))) ∷ cond b (class_pieces (d ∷ cs)) (other_pieces (d ∷ cs))
-    by_test true e = refl
-    by_test false e = ap (onto_first c) e
+class_pieces-first c [] = elim (cases_Bool (is_paragraph_separator c)) [ inl ends ↦ rw ends refl | inr on ↦ rw on refl ]
+class_pieces-first c (d ∷ cs) = elim (cases_Bool (is_paragraph_separator c)) [ inl ends ↦ rw ends refl | inr on ↦ rw on (ap (onto_first c) (class_pieces-first d cs)) ]
 
 pieces-map : (source : Source) (chars : List ℕ) → map (map source.class_of) (paragraphs_of (each_separator source) chars) ≡ class_pieces (map source.class_of chars)
 unfolding class_pieces
 pieces-map source [] = refl
-pieces-map source (c ∷ cs) = by_test (is_paragraph_separator (source.class_of c)) ∙ ap (λ ps. cond (is_paragraph_separator (source.class_of c)) ((source.class_of c ∷ []) ∷ ps) (onto_first (source.class_of c) ps)) (pieces-map source cs)
+pieces-map source (c ∷ cs) = elim (cases_Bool (is_paragraph_separator (source.class_of c))) [
+  | inl ends ↦ rw (ends, pieces-map source cs) refl
+  | inr on ↦ rw on (onto-map (paragraphs_of (each_separator source) cs) ∙ ap (onto_first (source.class_of c)) (pieces-map source cs))
+]
   where
     onto-map : (ps : List (List ℕ)) → map (map source.class_of) (onto_first c ps) ≡ onto_first (source.class_of c) (map (map source.class_of) ps)
     onto-map [] = refl
     onto-map (p ∷ ps) = refl
-
-    by_test : (b : Bool) → map (map source.class_of) (cond b ((c ∷ []) ∷ paragraphs_of (each_separator source) cs) (onto_first c (paragraphs_of (each_separator source) cs)))
-        ≡ cond b ((source.class_of c ∷ []) ∷ map (map source.class_of) (paragraphs_of (each_separator source) cs)) (onto_first (source.class_of c) (map (map source.class_of) (paragraphs_of (each_separator source) cs)))
-    by_test true = refl
-    by_test false = onto-map (paragraphs_of (each_separator source) cs)
 
 -- ---- the first paragraph
 
 first_direction : (d : ℕ) (cs : List BidiClass) → direction_by (deciding_from d (first_piece cs)) ≡ direction_from false d cs
 unfolding first_piece
 first_direction d [] = refl
-first_direction d (c ∷ cs) = by_tests (is_strong c && is_zero d) (is_paragraph_separator c) (first_direction (depth_by (kind_of c) d) cs)
-  where
-    by_tests : (s b : Bool) → direction_by (deciding_from (depth_by (kind_of c) d) (first_piece cs)) ≡ direction_from false (depth_by (kind_of c) d) cs
-        → direction_by (cond s (Some c) (deciding_from (depth_by (kind_of c) d) (cond b [] (first_piece cs)))) ≡ cond s (direction_by (Some c)) (cond b Mixed (direction_from false (depth_by (kind_of c) d) cs))
-    by_tests true b e = refl
-    by_tests false true e = refl
-    by_tests false false e = e
+first_direction d (c ∷ cs) = elim (cases_Bool (is_strong c && is_zero d)) [
+  | inl decides ↦ rw decides refl
+  | inr not_yet ↦ elim (cases_Bool (is_paragraph_separator c)) [ inl ends ↦ rw (not_yet, ends) refl | inr on ↦ rw (not_yet, on) (first_direction (depth_by (kind_of c) d) cs) ]
+]
 
 first_or-pieces : (cs : List BidiClass) → first_or [] (class_pieces cs) ≡ first_piece cs
 unfolding first_piece class_pieces
@@ -102,15 +89,7 @@ found_in ps = option_and_then deciding_class (find (λ p. is_some (deciding_clas
 
 found_in-cons : (p : List BidiClass) (ps : List (List BidiClass)) → found_in (p ∷ ps) ≡ option_or (deciding_class p) (found_in ps)
 unfolding found_in
-found_in-cons p ps = by_deciding (deciding_class p) refl
-  where
-    by_deciding : (o : Option BidiClass) → deciding_class p ≡ o → option_and_then deciding_class (cond (is_some (deciding_class p)) (Some p) (find (λ p. is_some (deciding_class p)) ps)) ≡ option_or (deciding_class p) (option_and_then deciding_class (find (λ p. is_some (deciding_class p)) ps))
-    by_deciding None e =
-        ap (λ (o : Option BidiClass). option_and_then deciding_class (cond (is_some o) (Some p) (find (λ p. is_some (deciding_class p)) ps))) e
-        ∙ sym (ap (λ (o : Option BidiClass). option_or o (option_and_then deciding_class (find (λ p. is_some (deciding_class p)) ps))) e)
-    by_deciding (Some c) e =
-        ap (λ (o : Option BidiClass). option_and_then deciding_class (cond (is_some o) (Some p) (find (λ p. is_some (deciding_class p)) ps))) e ∙ e
-        ∙ sym (ap (λ (o : Option BidiClass). option_or o (option_and_then deciding_class (find (λ p. is_some (deciding_class p)) ps))) e)
+found_in-cons p ps = elim (cases_Option (deciding_class p)) [ inl e ↦ rw e refl | inr c ↦ rw c.1 c.1 ]
 
 found_from : (cs : List BidiClass) → found_in (class_pieces cs) ≡ option_or (deciding_from 0 (first_piece cs)) (found_in (other_pieces cs))
 unfolding first_piece class_pieces other_pieces found_in
@@ -121,14 +100,13 @@ found_from (c ∷ cs) =
 full_direction : (d : ℕ) (cs : List BidiClass) → direction_by (option_or (deciding_from d (first_piece cs)) (found_in (other_pieces cs))) ≡ direction_from true d cs
 unfolding first_piece other_pieces found_in
 full_direction d [] = refl
-full_direction d (c ∷ cs) = by_tests (is_strong c && is_zero d) (is_paragraph_separator c) (full_direction (depth_by (kind_of c) d) cs) (ap direction_by (found_from cs) ∙ full_direction 0 cs)
-  where
-    by_tests : (s b : Bool) → direction_by (option_or (deciding_from (depth_by (kind_of c) d) (first_piece cs)) (found_in (other_pieces cs))) ≡ direction_from true (depth_by (kind_of c) d) cs → direction_by (found_in (class_pieces cs)) ≡ direction_from true 0 cs
-        → direction_by (option_or (cond s (Some c) (deciding_from (depth_by (kind_of c) d) (cond b [] (first_piece cs)))) (found_in (cond b (class_pieces cs) (other_pieces cs))))
-        ≡ cond s (direction_by (Some c)) (cond b (direction_from true 0 cs) (direction_from true (depth_by (kind_of c) d) cs))
-    by_tests true b e f = refl
-    by_tests false true e f = f
-    by_tests false false e f = e
+full_direction d (c ∷ cs) = elim (cases_Bool (is_strong c && is_zero d)) [
+  | inl decides ↦ rw decides refl
+  | inr not_yet ↦ elim (cases_Bool (is_paragraph_separator c)) [
+    | inl ends ↦ rw (not_yet, ends) (ap direction_by (found_from cs) ∙ full_direction 0 cs)
+    | inr on ↦ rw (not_yet, on) (full_direction (depth_by (kind_of c) d) cs)
+  ]
+]
 
 -- ---- what the walk answers
 

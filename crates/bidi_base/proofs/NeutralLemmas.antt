@@ -12,6 +12,7 @@ use Rattle.bidi_base.specs.Places.{class_at, first_or}
 use Rattle.bidi_base.specs.Brackets.{bracket_pairs}
 use Rattle.bidi_base.specs.Neutral.{nearest_direction, directions_between, pair_direction, goes_with_pair, with_pair, n0_pair, n0, n1_rule, n1_n2, neutral_classes}
 use Rattle.bidi_base.proofs.ContextLemmas.{list_all-in_context, list_all-get_or}
+use Rattle.bidi_base.proofs.Lists.{chosen, cases_Option}
 
 directed : (c : BidiClass) → is_l_or_r c ≡ true → has_direction c ≡ true
 directed L h = refl
@@ -42,11 +43,7 @@ nearest_direction-l_or_r d [] h = h
 nearest_direction-l_or_r d (c ∷ cs) h = one_option d c (filter_map as_direction cs) h (nearest_direction-l_or_r d cs h)
 
 pub direction_of-l_or_r : (level : ℕ) → is_l_or_r (direction_of level) ≡ true
-direction_of-l_or_r level = by_test (is_odd level)
-  where
-    by_test : (b : Bool) → is_l_or_r (cond b R L) ≡ true
-    by_test true = refl
-    by_test false = refl
+direction_of-l_or_r level = chosen is_l_or_r (is_odd level) R L refl refl
 
 -- what a pair takes is L or R
 pair_direction-l_or_r : (e sos : BidiClass) (classes : List BidiClass) (pair : ℕ × ℕ) (d : BidiClass) → is_l_or_r e ≡ true → is_l_or_r sos ≡ true → pair_direction e sos classes pair ≡ Some d → is_l_or_r d ≡ true
@@ -65,9 +62,7 @@ pair_direction-l_or_r e sos classes pair d h k is =
 
 list_all-map-range : (p : BidiClass → Bool) (f : ℕ → BidiClass) (low n : ℕ) → ((k : ℕ) → low ≤ k → k < low + n → p (f k) ≡ true) → list_all p (map f (range_with_len low n)) ≡ true
 list_all-map-range p f low zero each = refl
-list_all-map-range p f low (suc n) each =
-    and_from (p (f low)) (list_all p (map f (range_with_len (low + 1) n))) (each low (omega arith) (omega arith))
-    (list_all-map-range p f (low + 1) n (λ k from below. each k (omega arith) (omega arith)))
+list_all-map-range p f low (suc n) each = and_from _ _ (each low (omega arith) (omega arith)) (list_all-map-range p f (low + 1) n (λ k from below. each k (omega arith) (omega arith)))
 
 resolved : (c : BidiClass) → is_l_or_r c ≡ true → is_weak_resolved c ≡ true
 resolved c h = or_left (has_direction c) (is_neutral c) (directed c h)
@@ -79,19 +74,14 @@ module _ (p : BidiClass → Bool) (e sos : BidiClass) (source : List BidiClass)
   unfolding with_pair
   with_pair-keeps pair classes d h k =
       list_all-map-range p (λ j. cond (goes_with_pair source pair j) d (class_at classes j)) 0 (length classes)
-      (λ j from below. either (goes_with_pair source pair j) (class_at classes j) (list_all-get_or p classes j L (omega arith) k))
-    where
-      either : (b : Bool) (c : BidiClass) → p c ≡ true → p (cond b d c) ≡ true
-      either true c g = h
-      either false c g = g
+      (λ j from below. chosen p (goes_with_pair source pair j) d (class_at classes j) h (list_all-get_or p classes j L (omega arith) k))
 
   n0_pair-keeps : (classes : List BidiClass) (pair : ℕ × ℕ) → list_all p classes ≡ true → list_all p (n0_pair e sos source classes pair) ≡ true
   unfolding n0_pair
-  n0_pair-keeps classes pair l = by_option (pair_direction e sos classes pair) refl
-    where
-      by_option : (o : Option BidiClass) → pair_direction e sos classes pair ≡ o → list_all p (option_map_or (with_pair source pair classes) o classes) ≡ true
-      by_option None f = l
-      by_option (Some d) f = with_pair-keeps pair classes d (takes classes pair d l f) l
+  n0_pair-keeps classes pair l = elim (cases_Option (pair_direction e sos classes pair)) [
+    | inl f ↦ rw f l
+    | inr d ↦ rw d.1 (with_pair-keeps pair classes d.0 (takes classes pair d.0 l d.1) l)
+  ]
 
   keeps_from : (pairs : List (ℕ × ℕ)) (classes : List BidiClass) → list_all p classes ≡ true → list_all p (fold (n0_pair e sos source) classes pairs) ≡ true
   keeps_from [] classes l = l
@@ -108,24 +98,14 @@ n0-resolved e sos source pairs classes h k l =
 
 -- what a neutral takes
 common_directed : (e left right : BidiClass) → is_l_or_r e ≡ true → is_l_or_r left ≡ true → has_direction (cond (same_class left right) left e) ≡ true
-common_directed e left right h k = either (same_class left right)
-  where
-    either : (b : Bool) → has_direction (cond b left e) ≡ true
-    either true = directed left k
-    either false = directed e h
+common_directed e left right h k = chosen has_direction (same_class left right) left e (directed left k) (directed e h)
 
 n1_rule-directed : (e sos eos : BidiClass) → is_l_or_r e ≡ true → is_l_or_r sos ≡ true → (before : List BidiClass) (c : BidiClass) (after : List BidiClass) → is_weak_resolved c ≡ true
     → has_direction (n1_rule e sos eos before c after) ≡ true
-n1_rule-directed e sos eos h k before c after good =
-    let left = nearest_direction sos before in
-    let common : BidiClass = cond (same_class left (nearest_direction eos after)) left e in
-    elim (cases_Bool (is_neutral c)) [
-      | inl neutral ↦
-          ap has_direction (cond-true (is_neutral c) common c neutral) ∙ common_directed e left (nearest_direction eos after) h (nearest_direction-l_or_r sos before k)
-      | inr other ↦
-          ap has_direction (cond-false (is_neutral c) common c other)
-          ∙ elim (or_cases (has_direction c) (is_neutral c) good) [ inl yes' ↦ yes' | inr bad ↦ absurd (both_ways (is_neutral c) other bad) ]
-    ]
+n1_rule-directed e sos eos h k before c after good = elim (cases_Bool (is_neutral c)) [
+  | inl neutral ↦ rw neutral (common_directed e (nearest_direction sos before) (nearest_direction eos after) h (nearest_direction-l_or_r sos before k))
+  | inr other ↦ rw other (elim (or_cases (has_direction c) (is_neutral c) good) [ inl directed' ↦ directed' | inr bad ↦ absurd (both_ways (is_neutral c) other bad) ])
+]
 
 pub n1_n2-directed : (e sos eos : BidiClass) (classes : List BidiClass) → is_l_or_r e ≡ true → is_l_or_r sos ≡ true → list_all is_weak_resolved classes ≡ true → list_all has_direction (n1_n2 e sos eos classes) ≡ true
 n1_n2-directed e sos eos classes h k l =

@@ -3,8 +3,8 @@ use Rattle.std.proofs.Common.{◌≡◌, ℕ, zero, suc, ◌+◌, ◌<◌, Bool,
 use Rattle.std.proofs.lemmas.Bool.{both_ways, false_from_ne_true}
 use Rattle.bidi_base.specs.Matching.{is_closed_at, match_of}
 use Rattle.bidi_base.proofs.PlacesLemmas.{IsLeast, find-between-is}
-use Rattle.bidi_base.proofs.MatchingLemmas.{closings, openings, not_closed, at_most_one, count_between-more, match_of-IsLeast}
-use Rattle.bidi_base.proofs.ReadStack.{Member, read_closed, read_opened, IsOpenUnder-closed, AreOpen, IsReadStack, IsReadStack-start, IsReadStack-more}
+use Rattle.bidi_base.proofs.MatchingLemmas.{closings, openings, at_most_one, match_of-IsLeast}
+use Rattle.bidi_base.proofs.ReadStack.{Member, read_closed, read_opened, IsOpenUnder-count, IsOpenUnder-closed, AreOpen, IsReadStack, IsReadStack-start, IsReadStack-more}
 
 module _ (opens closes : ℕ → Bool) (apart : (k : ℕ) → opens k ≡ true → closes k ≡ false) where
   -- a closing matches the innermost opening that is open before it
@@ -14,7 +14,7 @@ module _ (opens closes : ℕ → Bool) (apart : (k : ℕ) → opens k ≡ true �
     from = omega (arith, h.are_open.1.read);
     below = within;
     passes = IsOpenUnder-closed opens closes m q h.are_open.1 (false_from_ne_true (opens m) (λ opening. both_ways (closes m) (apart m opening) here)) here;
-    first = λ k from below. not_closed opens closes q k (h.are_open.1.few k (omega arith) below);
+    first = λ k from below. h.are_open.1.still k (omega arith) below;
   })
 
   -- what is closed at m has none above it
@@ -22,14 +22,7 @@ module _ (opens closes : ℕ → Bool) (apart : (k : ℕ) → opens k ≡ true �
   none_above m depth q [] h member closed = absurd member
   none_above m depth q (x ∷ stack) h (inl same) closed =
       let here : is_closed_at opens closes x m ≡ true = subst (λ (y : ℕ). is_closed_at opens closes y m ≡ true) same closed in
-      omega (
-        arith,
-        h.1.count,
-        eqb-true (closings opens closes x m) (openings opens closes x m + 1) here,
-        count_between-more closes (x + 1) m (omega (arith, h.1.read)),
-        count_between-more opens (x + 1) m (omega (arith, h.1.read)),
-        at_most_one (closes m),
-      )
+      omega (arith, IsOpenUnder-count opens closes m depth x h.1, eqb-true (closings opens closes x m) (openings opens closes x m + 1) here, at_most_one (closes m))
   none_above m depth q (x ∷ stack) h (inr below) closed = absurd (omega (arith, none_above m (depth + 1) q stack h.2 below closed))
 
   -- and no other opening matches it

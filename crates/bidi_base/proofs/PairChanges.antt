@@ -11,6 +11,7 @@ use Rattle.bidi_base.specs.Classes.{is_nsm}
 use Rattle.bidi_base.specs.Places.{class_at}
 use Rattle.bidi_base.specs.Brackets.{IsBehindOrWithin}
 use Rattle.bidi_base.specs.Neutral.{pair_direction, is_mark_after, goes_with_pair, with_pair, n0_pair}
+use Rattle.bidi_base.proofs.Lists.{cases_Option}
 
 is_mark_after-before : (source : List BidiClass) (b k : ℕ) → k ≤ b → is_mark_after source b k ≡ false
 unfolding is_mark_after
@@ -30,9 +31,7 @@ is_mark_after-stopped source b m k after to fits none =
 
 goes_with_none : (source : List BidiClass) (pair : ℕ × ℕ) (k : ℕ) → (k ≡ pair.0 → ⊥) → (k ≡ pair.1 → ⊥) → is_mark_after source pair.0 k ≡ false → is_mark_after source pair.1 k ≡ false → goes_with_pair source pair k ≡ false
 unfolding goes_with_pair
-goes_with_none source pair k no_opening no_closing first last =
-    or_from (eqb k pair.0 || eqb k pair.1 || is_mark_after source pair.0 k) (is_mark_after source pair.1 k)
-    (or_from (eqb k pair.0 || eqb k pair.1) (is_mark_after source pair.0 k) (or_from (eqb k pair.0) (eqb k pair.1) (ne_eqb k pair.0 no_opening) (ne_eqb k pair.1 no_closing)) first) last
+goes_with_none source pair k no_opening no_closing first last = rw (ne_eqb k pair.0 no_opening, ne_eqb k pair.1 no_closing, first, last) refl
 
 -- nothing before the opening goes with the pair
 pub goes_with_pair-before : (source : List BidiClass) (pair : ℕ × ℕ) (k : ℕ) → pair.0 < pair.1 → k < pair.0 → goes_with_pair source pair k ≡ false
@@ -51,19 +50,18 @@ goes_with_pair-within source q p k order (inr within) fits none from to =
 
 pub length-n0_pair : (e sos : BidiClass) (source classes : List BidiClass) (pair : ℕ × ℕ) → length (n0_pair e sos source classes pair) ≡ length classes
 unfolding n0_pair with_pair
-length-n0_pair e sos source classes pair = by_option (pair_direction e sos classes pair)
-  where
-    by_option : (o : Option BidiClass) → length (option_map_or (with_pair source pair classes) o classes) ≡ length classes
-    by_option None = refl
-    by_option (Some d) = length-map-range_with_len (λ k. cond (goes_with_pair source pair k) d (class_at classes k)) 0 (length classes)
+length-n0_pair e sos source classes pair = elim (cases_Option (pair_direction e sos classes pair)) [
+  | inl none ↦ rw none refl
+  | inr d ↦ rw d.1 (length-map-range_with_len (λ k. cond (goes_with_pair source pair k) d.0 (class_at classes k)) 0 (length classes))
+]
 
 -- what does not go with the pair stays
 pub n0_pair-elsewhere : (e sos : BidiClass) (source classes : List BidiClass) (pair : ℕ × ℕ) (k : ℕ) → k < length classes → goes_with_pair source pair k ≡ false → class_at (n0_pair e sos source classes pair) k ≡ class_at classes k
 unfolding n0_pair with_pair
-n0_pair-elsewhere e sos source classes pair k fits none = by_option (pair_direction e sos classes pair)
-  where
-    by_option : (o : Option BidiClass) → class_at (option_map_or (with_pair source pair classes) o classes) k ≡ class_at classes k
-    by_option None = refl
-    by_option (Some d) =
-        get_or-map-range_with_len (λ j. cond (goes_with_pair source pair j) d (class_at classes j)) 0 (length classes) k k L fits (omega arith)
-        ∙ cond-false (goes_with_pair source pair k) d (class_at classes k) none
+n0_pair-elsewhere e sos source classes pair k fits other = elim (cases_Option (pair_direction e sos classes pair)) [
+  | inl none ↦ rw none refl
+  | inr d ↦
+      rw d.1
+      (get_or-map-range_with_len (λ j. cond (goes_with_pair source pair j) d.0 (class_at classes j)) 0 (length classes) k k L fits (omega arith)
+      ∙ cond-false (goes_with_pair source pair k) d.0 (class_at classes k) other)
+]

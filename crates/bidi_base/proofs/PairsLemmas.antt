@@ -391,56 +391,11 @@ module _ (brackets : List (Option BidiMatchedOpeningBracket)) where
 abbrev pub closing_in : List (ℕ × ℕ) → ℕ → Option ℕ
 closing_in pairs i = option_map (λ (p : ℕ × ℕ). p.1) (find (λ (p : ℕ × ℕ). eqb p.0 i) pairs)
 
-pub closings-pair : (closings : List (Option ℕ)) (pairs : List (ℕ × ℕ)) (n i j : ℕ) → closings ≡ map (closing_in pairs) (range_with_len 0 n) → i < n → find (λ (p : ℕ × ℕ). eqb p.0 i) pairs ≡ None
-    → set closings i (Some j) ≡ map (closing_in (pairs ++ (i, j) ∷ [])) (range_with_len 0 n)
-closings-pair closings pairs n i j is fits free =
-    let long : length closings ≡ n = ap length is ∙ length-map-range_with_len (closing_in pairs) 0 n in
-    let with_pair : (k : ℕ) → find (λ (p : ℕ × ℕ). eqb p.0 k) (pairs ++ (i, j) ∷ []) ≡ option_or (find (λ (p : ℕ × ℕ). eqb p.0 k) pairs) (cond (eqb i k) (Some (i, j)) None) =
-    λ k. find-append (λ (p : ℕ × ℕ). eqb p.0 k) pairs ((i, j) ∷ []) in
-    fill_by_all (closing_in (pairs ++ (i, j) ∷ [])) (set closings i (Some j)) n None (length-set closings i (Some j) ∙ long)
-    (λ k below. elim (cases_eq k i) [
-      | inl here ↦ rw (here, get_or-set_same closings i (Some j) None (omega arith), with_pair i, free, eq-eqb i i refl) refl
-      | inr other ↦
-          rw (get_or-set_other closings i k (Some j) None other, with_pair k, ne_eqb i k (λ e. other (sym e)), option_or-None (find (λ (p : ℕ × ℕ). eqb p.0 k) pairs), is)
-          (get_or-map-range_with_len (closing_in pairs) 0 n k k None below (omega arith))
-    ])
-
--- a pair with its opening
-closing-back : (i : ℕ) (pairs : List (ℕ × ℕ)) → option_map (λ (c : ℕ). (i, c)) (closing_in pairs i) ≡ find (λ (p : ℕ × ℕ). eqb p.0 i) pairs
-closing-back i [] = refl
-closing-back i (p ∷ pairs) = elim (cases_Bool (eqb p.0 i)) [
-  | inl here ↦ rw here (ap (λ (k : ℕ). Some (k, p.1)) (sym (eqb-true p.0 i here)))
-  | inr gone ↦ rw gone (closing-back i pairs)
-]
-
-filter_map-range : (f g : ℕ → Option (ℕ × ℕ)) (low n : ℕ) → ((k : ℕ) → low ≤ k → k < low + n → f k ≡ g k) → filter_map f (range_with_len low n) ≡ filter_map g (range_with_len low n)
-filter_map-range f g low zero same = refl
-filter_map-range f g low (suc n) same = rw (same low (omega arith) (omega arith), filter_map-range f g (low + 1) n (λ k from below. same k (omega arith) (omega arith))) refl
-
--- the closings listed with their openings
-pub closings-listed : (closings : List (Option ℕ)) (pairs : List (ℕ × ℕ)) (n : ℕ) → closings ≡ map (closing_in pairs) (range_with_len 0 n)
-    → filter_map (λ (i : ℕ). option_map (λ (c : ℕ). (i, c)) (get_or closings i None)) (indexes closings) ≡ filter_map (λ i. find (λ (p : ℕ × ℕ). eqb p.0 i) pairs) (range_with_len 0 n)
-closings-listed closings pairs n is =
-    let long : length closings ≡ n = ap length is ∙ length-map-range_with_len (closing_in pairs) 0 n in
-    ap (λ (m : ℕ). filter_map (λ (i : ℕ). option_map (λ (c : ℕ). (i, c)) (get_or closings i None)) (range_with_len 0 m)) long
-    ∙ filter_map-range (λ (i : ℕ). option_map (λ (c : ℕ). (i, c)) (get_or closings i None)) (λ i. find (λ (p : ℕ × ℕ). eqb p.0 i) pairs) 0 n
-    (λ k from below.
-    ap (λ (cs : List (Option ℕ)). option_map (λ (c : ℕ). (k, c)) (get_or cs k None)) is
-    ∙ ap (option_map (λ (c : ℕ). (k, c))) (get_or-map-range_with_len (closing_in pairs) 0 n k k None (omega arith) (omega arith))
-    ∙ closing-back k pairs)
-
 -- the counted brackets, one a class
 pub length-counted_brackets : (classes : List BidiClass) (brackets : List (Option BidiMatchedOpeningBracket)) → length brackets ≡ length classes → length (counted_brackets classes brackets) ≡ length classes
 length-counted_brackets [] brackets h = refl
 length-counted_brackets (c ∷ classes) [] h = absurd (omega arith)
 length-counted_brackets (c ∷ classes) (b ∷ brackets) h = ap suc (length-counted_brackets classes brackets (omega arith))
-
-pub bracket_at-counted : (classes : List BidiClass) (brackets : List (Option BidiMatchedOpeningBracket)) (k : ℕ) (d : BidiClass) → length brackets ≡ length classes → k < length classes
-    → bracket_at (counted_brackets classes brackets) k ≡ counted_bracket (get_or classes k d) (get_or brackets k None)
-bracket_at-counted [] brackets k d h fits = absurd (omega arith)
-bracket_at-counted (c ∷ classes) [] k d h fits = absurd (omega arith)
-bracket_at-counted (c ∷ classes) (b ∷ brackets) zero d h fits = refl
-bracket_at-counted (c ∷ classes) (b ∷ brackets) (suc k) d h fits = bracket_at-counted classes brackets k d (omega arith) (omega arith)
 
 -- the pairs of a sequence lie in it
 pub bracket_pairs-in_order : (classes : List BidiClass) (brackets : List (Option BidiMatchedOpeningBracket)) → length brackets ≡ length classes

@@ -43,16 +43,13 @@ module _ (stops : ℕ → Bool) where
 
   -- a piece ends at the first character that stops
   pieces_by-stop : (cs : List ℕ) (c : ℕ) (rest : List ℕ) → GoesOn cs → stops c ≡ true → pieces_by (cs ++ c ∷ rest) ≡ (cs ++ c ∷ []) ∷ pieces_by rest
-  pieces_by-stop [] c rest h stop = cond-true (stops c) ((c ∷ []) ∷ pieces_by rest) (onto_first c (pieces_by rest)) stop
-  pieces_by-stop (x ∷ cs) c rest h stop =
-      cond-false (stops x) ((x ∷ []) ∷ pieces_by (cs ++ c ∷ rest)) (onto_first x (pieces_by (cs ++ c ∷ rest))) h.0
-      ∙ ap (onto_first x) (pieces_by-stop cs c rest h.1 stop)
+  pieces_by-stop [] c rest h stop = rw stop refl
+  pieces_by-stop (x ∷ cs) c rest h stop = rw (h.0, pieces_by-stop cs c rest h.1 stop) refl
 
   -- what is left is a piece, if it is not empty
   pieces_by-end : (x : ℕ) (cs : List ℕ) → GoesOn (x ∷ cs) → pieces_by (x ∷ cs) ≡ (x ∷ cs) ∷ []
-  pieces_by-end x [] h = cond-false (stops x) ((x ∷ []) ∷ []) (onto_first x []) h.0
-  pieces_by-end x (y ∷ cs) h =
-      cond-false (stops x) ((x ∷ []) ∷ pieces_by (y ∷ cs)) (onto_first x (pieces_by (y ∷ cs))) h.0 ∙ ap (onto_first x) (pieces_by-end y cs h.1)
+  pieces_by-end x [] h = rw h.0 refl
+  pieces_by-end x (y ∷ cs) h = rw (h.0, pieces_by-end y cs h.1) refl
 
   -- of the characters read, `done` are the pieces that have ended, and `current` is the one that has not
   pub record IsCut (read : List ℕ) (done : List (List ℕ)) (current : List ℕ) : Type 0 where
@@ -96,8 +93,8 @@ module _ (stops : ℕ → Bool) where
   pub pieces_by-joined : (chars : List ℕ) → joined (pieces_by chars) ≡ chars
   pieces_by-joined [] = refl
   pieces_by-joined (c ∷ cs) = elim (cases_Bool (stops c)) [
-    | inl stop ↦ ap joined (cond-true (stops c) ((c ∷ []) ∷ pieces_by cs) (onto_first c (pieces_by cs)) stop) ∙ ap (λ (ds : List ℕ). c ∷ ds) (pieces_by-joined cs)
-    | inr on ↦ ap joined (cond-false (stops c) ((c ∷ []) ∷ pieces_by cs) (onto_first c (pieces_by cs)) on) ∙ onto (pieces_by cs) ∙ ap (λ (ds : List ℕ). c ∷ ds) (pieces_by-joined cs)
+    | inl stop ↦ rw (stop, pieces_by-joined cs) refl
+    | inr on ↦ rw on (onto (pieces_by cs) ∙ ap (λ (ds : List ℕ). c ∷ ds) (pieces_by-joined cs))
   ]
     where
       onto : (ps : List (List ℕ)) → joined (onto_first c ps) ≡ c ∷ joined ps
@@ -107,8 +104,8 @@ module _ (stops : ℕ → Bool) where
   pub pieces_by-some : (chars : List ℕ) → All (λ (p : List ℕ). 0 < length p) (pieces_by chars)
   pieces_by-some [] = All-nil (λ (p : List ℕ). 0 < length p)
   pieces_by-some (c ∷ cs) = elim (cases_Bool (stops c)) [
-    | inl stop ↦ subst (All (λ (p : List ℕ). 0 < length p)) (sym (cond-true (stops c) ((c ∷ []) ∷ pieces_by cs) (onto_first c (pieces_by cs)) stop)) (All-cons (λ (p : List ℕ). 0 < length p) (c ∷ []) (pieces_by cs) (omega arith) (pieces_by-some cs))
-    | inr on ↦ subst (All (λ (p : List ℕ). 0 < length p)) (sym (cond-false (stops c) ((c ∷ []) ∷ pieces_by cs) (onto_first c (pieces_by cs)) on)) (onto (pieces_by cs) (pieces_by-some cs))
+    | inl stop ↦ rw stop (All-cons (λ (p : List ℕ). 0 < length p) (c ∷ []) (pieces_by cs) (omega arith) (pieces_by-some cs))
+    | inr on ↦ rw on (onto (pieces_by cs) (pieces_by-some cs))
   ]
     where
       onto : (ps : List (List ℕ)) → All (λ (p : List ℕ). 0 < length p) ps → All (λ (p : List ℕ). 0 < length p) (onto_first c ps)
@@ -128,8 +125,8 @@ module _ (source : Source) where
   paragraphs-ended : (chars : List ℕ) → AllButLast Ends (pieces_by is_stop chars)
   paragraphs-ended [] = tt
   paragraphs-ended (c ∷ cs) = elim (cases_Bool (is_stop c)) [
-    | inl stop ↦ subst (AllButLast Ends) (sym (cond-true (is_stop c) ((c ∷ []) ∷ pieces_by is_stop cs) (onto_first c (pieces_by is_stop cs)) stop)) (before stop (pieces_by is_stop cs) (paragraphs-ended cs))
-    | inr on ↦ subst (AllButLast Ends) (sym (cond-false (is_stop c) ((c ∷ []) ∷ pieces_by is_stop cs) (onto_first c (pieces_by is_stop cs)) on)) (onto (pieces_by is_stop cs) (paragraphs-ended cs))
+    | inl stop ↦ rw stop (before stop (pieces_by is_stop cs) (paragraphs-ended cs))
+    | inr on ↦ rw on (onto (pieces_by is_stop cs) (paragraphs-ended cs))
   ]
     where
       before : is_stop c ≡ true → (ps : List (List ℕ)) → AllButLast Ends ps → AllButLast Ends ((c ∷ []) ∷ ps)
@@ -148,8 +145,8 @@ module _ (source : Source) where
   paragraphs-undivided : (chars : List ℕ) → All Holds (pieces_by is_stop chars)
   paragraphs-undivided [] = All-nil Holds
   paragraphs-undivided (c ∷ cs) = elim (cases_Bool (is_stop c)) [
-    | inl stop ↦ subst (All Holds) (sym (cond-true (is_stop c) ((c ∷ []) ∷ pieces_by is_stop cs) (onto_first c (pieces_by is_stop cs)) stop)) (All-cons Holds (c ∷ []) (pieces_by is_stop cs) refl (paragraphs-undivided cs))
-    | inr on ↦ subst (All Holds) (sym (cond-false (is_stop c) ((c ∷ []) ∷ pieces_by is_stop cs) (onto_first c (pieces_by is_stop cs)) on)) (onto on (pieces_by is_stop cs) (paragraphs-undivided cs))
+    | inl stop ↦ rw stop (All-cons Holds (c ∷ []) (pieces_by is_stop cs) refl (paragraphs-undivided cs))
+    | inr on ↦ rw on (onto on (pieces_by is_stop cs) (paragraphs-undivided cs))
   ]
     where
       longer : is_stop c ≡ false → (p : List ℕ) → Holds p → Holds (c ∷ p)

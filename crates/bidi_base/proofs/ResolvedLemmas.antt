@@ -1,7 +1,7 @@
 -- What the levels of sequences are, once some of them are resolved and once all are: bounds, and what they do not depend on.
 use Rattle.std.proofs.Common.{◌≡◌, ℕ, zero, suc, ◌+◌, ◌<◌, ◌≤◌, true, false, not, cond, eqb, List, [], ◌∷◌, ◌++◌, length, get_or, map, count_by, find, Option, Some, None, unwrap_or, option_map, refl, sym, ap, subst, ◌∙◌, arith, inl, inr, le_refl}
 use Rattle.std.specs.Prelude.{flat_map, zip}
-use Rattle.std.specs.List.{All}
+use Rattle.std.specs.List.{All, AllByRecursion}
 use Rattle.std.specs.Option.{option_map_or}
 use Rattle.std.proofs.lemmas.Bool.{cases_Bool, cond-true, cond-false, cond_both, both_ways}
 use Rattle.std.proofs.lemmas.List.{length-map, map-append}
@@ -26,6 +26,8 @@ use Rattle.bidi_base.proofs.PlacesLemmas.{length-in_context}
 use Rattle.bidi_base.proofs.StoredSteps.{length-stored_classes}
 use Rattle.bidi_base.proofs.SequencePlaces.{times_in, places_of, sequences-kept, sequences-all, sequence-kept, sequence-not_empty}
 use Rattle.bidi_base.proofs.StoredLemmas.{IsExplicitIn, explicit_levels-IsExplicitIn, length-at_places, at_places-agree, times_in-at, is_kept_at-stored_classes}
+use Rattle.bidi_base.proofs.PairChanges.{length-n0_pair}
+use Rattle.std.proofs.lemmas.List.Elements.{All-from_recursion}
 
 -- ---- the sequences are resolved
 
@@ -48,14 +50,6 @@ length-weak_classes sos classes =
     ∙ length-map (w2 sos (w1 sos classes)) _
     ∙ length-in_context _ [] (w1 sos classes)
     ∙ length-in_context _ [] classes
-
-length-n0_pair : (e sos : BidiClass) (source classes : List BidiClass) (pair : ℕ × ℕ) → length (n0_pair e sos source classes pair) ≡ length classes
-unfolding n0_pair with_pair
-length-n0_pair e sos source classes pair = by_direction (pair_direction e sos classes pair)
-  where
-    by_direction : (o : Option BidiClass) → length (option_map_or (with_pair source pair classes) o classes) ≡ length classes
-    by_direction None = refl
-    by_direction (Some d) = length-map-range_with_len (λ k. cond (goes_with_pair source pair k) d (class_at classes k)) 0 (length classes)
 
 pub length-n0 : (e sos : BidiClass) (source : List BidiClass) (pairs : List (ℕ × ℕ)) (classes : List BidiClass) → length (n0 e sos source pairs classes) ≡ length classes
 unfolding n0
@@ -108,36 +102,22 @@ odd_at_most level even fits = grind arith
 
 implicit_level-IsStoredIn : (paragraph level : ℕ) (c : BidiClass) → IsExplicitIn paragraph level → IsStoredIn paragraph (implicit_level level c)
 implicit_level-IsStoredIn paragraph level c h = elim (cases_Bool (is_odd level)) [
-  | inl odd ↦
-      let added : cond (is_odd level) (added_at_odd c) (added_at_even c) ≡ added_at_odd c = cond-true (is_odd level) (added_at_odd c) (added_at_even c) odd in
-      record { above = omega (arith, h.above); below = omega (arith, h.below, added_at_odd-few c) }
-  | inr even ↦
-      let added : cond (is_odd level) (added_at_odd c) (added_at_even c) ≡ added_at_even c = cond-false (is_odd level) (added_at_odd c) (added_at_even c) even in
-      record { above = omega (arith, h.above); below = omega (arith, odd_at_most level even h.below, added_at_even-few c) }
+  | inl odd ↦ rw odd (record { above = omega (arith, h.above); below = omega (arith, h.below, added_at_odd-few c) })
+  | inr even ↦ rw even (record { above = omega (arith, h.above); below = omega (arith, odd_at_most level even h.below, added_at_even-few c) })
 ]
 
--- each element is so
-abbrev AllOf : {X : Type 0} → (X → Type 0) → List X → Type 0
-AllOf P [] = Unit {0}
-AllOf P (x ∷ xs) = P x × AllOf P xs
+AllByRecursion-append : {X : Type 0} (P : X → Type 0) (xs ys : List X) → AllByRecursion P xs → AllByRecursion P ys → AllByRecursion P (xs ++ ys)
+AllByRecursion-append P [] ys h k = k
+AllByRecursion-append P (x ∷ xs) ys h k = (h.0, AllByRecursion-append P xs ys h.1 k)
 
-AllOf-append : {X : Type 0} (P : X → Type 0) (xs ys : List X) → AllOf P xs → AllOf P ys → AllOf P (xs ++ ys)
-AllOf-append P [] ys h k = k
-AllOf-append P (x ∷ xs) ys h k = (h.0, AllOf-append P xs ys h.1 k)
+AllByRecursion-flat_map : {X Y : Type 0} (P : Y → Type 0) (f : X → List Y) (xs : List X) → ((k : ℕ) (d : X) → k < length xs → AllByRecursion P (f (get_or xs k d))) → AllByRecursion P (flat_map f xs)
+AllByRecursion-flat_map P f [] each = tt
+AllByRecursion-flat_map {X} P f (x ∷ xs) each = AllByRecursion-append P (f x) (flat_map f xs) (each 0 x (omega arith)) (AllByRecursion-flat_map P f xs (λ k d h. each (suc k) d (omega arith)))
 
-AllOf-flat_map : {X Y : Type 0} (P : Y → Type 0) (f : X → List Y) (xs : List X) → ((k : ℕ) (d : X) → k < length xs → AllOf P (f (get_or xs k d))) → AllOf P (flat_map f xs)
-AllOf-flat_map P f [] each = tt
-AllOf-flat_map {X} P f (x ∷ xs) each = AllOf-append P (f x) (flat_map f xs) (each 0 x (omega arith)) (AllOf-flat_map P f xs (λ k d h. each (suc k) d (omega arith)))
-
-AllOf-All : {X : Type 0} (P : X → Type 0) (xs : List X) → AllOf P xs → All P xs
-AllOf-All P [] h k d within = absurd (omega arith)
-AllOf-All P (x ∷ xs) h zero d within = h.0
-AllOf-All P (x ∷ xs) h (suc k) d within = AllOf-All P xs h.1 k d (omega arith)
-
-AllOf-zip : (P : ℕ → Type 0) (ps vs : List ℕ) → AllOf P vs → AllOf (λ (e : ℕ × ℕ). P e.1) (zip ps vs)
-AllOf-zip P [] vs h = tt
-AllOf-zip P (p ∷ ps) [] h = tt
-AllOf-zip P (p ∷ ps) (v ∷ vs) h = (h.0, AllOf-zip P ps vs h.1)
+AllByRecursion-zip : (P : ℕ → Type 0) (ps vs : List ℕ) → AllByRecursion P vs → AllByRecursion (λ (e : ℕ × ℕ). P e.1) (zip ps vs)
+AllByRecursion-zip P [] vs h = tt
+AllByRecursion-zip P (p ∷ ps) [] h = tt
+AllByRecursion-zip P (p ∷ ps) (v ∷ vs) h = (h.0, AllByRecursion-zip P ps vs h.1)
 
 times_in-zip : (p : ℕ) (ps vs : List ℕ) → length vs ≡ length ps → count_by (λ (e : ℕ × ℕ). eqb e.0 p) (zip ps vs) ≡ times_in ps p
 times_in-zip p [] vs long = refl
@@ -146,26 +126,24 @@ times_in-zip p (q ∷ ps) (v ∷ vs) long =
     omega (arith, sum_by-cons (λ (e : ℕ × ℕ). cond (eqb e.0 p) 1 0) (q, v) (zip ps vs), sum_by-cons (λ r. cond (eqb r p) 1 0) q ps, times_in-zip p ps vs (omega arith))
 
 -- what a table says of a place that has an entry is so, if all its levels are
-level_in-AllOf : (P : ℕ → Type 0) (table : List (ℕ × ℕ)) (p : ℕ) → AllOf (λ (e : ℕ × ℕ). P e.1) table → 0 < count_by (λ (e : ℕ × ℕ). eqb e.0 p) table → P (level_in table p)
-level_in-AllOf P [] p h there = absurd (omega arith)
-level_in-AllOf P (e ∷ table) p h there = elim (cases_Bool (eqb e.0 p)) [
-  | inl here ↦
-      subst (λ (o : Option (ℕ × ℕ)). P (unwrap_or (option_map (λ d. d.1) o) 0)) (sym (cond-true (eqb e.0 p) (Some e) (find (λ (d : ℕ × ℕ). eqb d.0 p) table) here)) h.0
+level_in-AllByRecursion : (P : ℕ → Type 0) (table : List (ℕ × ℕ)) (p : ℕ) → AllByRecursion (λ (e : ℕ × ℕ). P e.1) table → 0 < count_by (λ (e : ℕ × ℕ). eqb e.0 p) table → P (level_in table p)
+level_in-AllByRecursion P [] p h there = absurd (omega arith)
+level_in-AllByRecursion P (e ∷ table) p h there = elim (cases_Bool (eqb e.0 p)) [
+  | inl here ↦ rw here h.0
   | inr other ↦
       let none : cond {A = ℕ} (eqb e.0 p) 1 0 ≡ 0 = cond-false (eqb e.0 p) 1 0 other in
-      subst (λ (o : Option (ℕ × ℕ)). P (unwrap_or (option_map (λ d. d.1) o) 0)) (sym (cond-false (eqb e.0 p) (Some e) (find (λ (d : ℕ × ℕ). eqb d.0 p) table) other))
-      (level_in-AllOf P table p h.1 (omega (arith, sum_by-cons (λ (d : ℕ × ℕ). cond (eqb d.0 p) 1 0) e table)))
+      rw other (level_in-AllByRecursion P table p h.1 (omega (arith, sum_by-cons (λ (d : ℕ × ℕ). cond (eqb d.0 p) 1 0) e table)))
 ]
 
-AllOf-filled_levels : (P : ℕ → Type 0) (table : List (ℕ × ℕ)) (p before : ℕ) (classes : List BidiClass) → P before → ((k : ℕ) → k < length classes → is_kept_at classes k ≡ true → P (level_in table (p + k)))
-    → AllOf P (filled_levels table p before classes)
+AllByRecursion-filled_levels : (P : ℕ → Type 0) (table : List (ℕ × ℕ)) (p before : ℕ) (classes : List BidiClass) → P before → ((k : ℕ) → k < length classes → is_kept_at classes k ≡ true → P (level_in table (p + k)))
+    → AllByRecursion P (filled_levels table p before classes)
 unfolding filled_levels
-AllOf-filled_levels P table p before [] h kept = tt
-AllOf-filled_levels P table p before (c ∷ classes) h kept =
+AllByRecursion-filled_levels P table p before [] h kept = tt
+AllByRecursion-filled_levels P table p before (c ∷ classes) h kept =
     let here : P (cond (is_removed c) before (level_in table p)) =
     cond_both (is_removed c) before (level_in table p) P (λ e. h) (λ e. subst (λ (q : ℕ). P (level_in table q)) (let none : p + 0 ≡ p = omega arith in none) (kept 0 (omega arith) (ap not e))) in (
       here,
-      AllOf-filled_levels P table (p + 1) (cond (is_removed c) before (level_in table p)) classes here
+      AllByRecursion-filled_levels P table (p + 1) (cond (is_removed c) before (level_in table p)) classes here
           (λ k within stays. subst (λ (q : ℕ). P (level_in table q)) (let next : p + suc k ≡ p + 1 + k = omega arith in next) (kept (suc k) (omega arith) stays)),
     )
 
@@ -173,9 +151,9 @@ first_in : (ps : List ℕ) → 0 < length ps → 0 < times_in ps (first_or 0 ps)
 first_in [] some = absurd (omega arith)
 first_in (p ∷ ps) some = times_in-at (p ∷ ps) 0 0 (omega arith)
 
-AllOf-implicit_levels : (paragraph level : ℕ) (classes : List BidiClass) → IsExplicitIn paragraph level → AllOf (IsStoredIn paragraph) (implicit_levels level classes)
-AllOf-implicit_levels paragraph level [] h = tt
-AllOf-implicit_levels paragraph level (c ∷ classes) h = (implicit_level-IsStoredIn paragraph level c h, AllOf-implicit_levels paragraph level classes h)
+AllByRecursion-implicit_levels : (paragraph level : ℕ) (classes : List BidiClass) → IsExplicitIn paragraph level → AllByRecursion (IsStoredIn paragraph) (implicit_levels level classes)
+AllByRecursion-implicit_levels paragraph level [] h = tt
+AllByRecursion-implicit_levels paragraph level (c ∷ classes) h = (implicit_level-IsStoredIn paragraph level c h, AllByRecursion-implicit_levels paragraph level classes h)
 
 -- the level of the k-th sequence
 pub sequence-level : (paragraph : ℕ) (classes : List BidiClass) (k : ℕ) (d : RunSequence) → paragraph ≤ 125 → k < length (sequences paragraph classes (explicit_levels paragraph classes))
@@ -194,13 +172,13 @@ levels_in-IsStoredIn paragraph source brackets fits =
     let classes = explicit_classes paragraph stored in
     let seqs = sequences paragraph stored levels in
     let table : List (ℕ × ℕ) = flat_map (sequence_levels source brackets levels classes) seqs in
-    let all : AllOf (λ (e : ℕ × ℕ). IsStoredIn paragraph e.1) table =
-    AllOf-flat_map (λ (e : ℕ × ℕ). IsStoredIn paragraph e.1) (sequence_levels source brackets levels classes) seqs
-    (λ k d within. AllOf-zip (IsStoredIn paragraph) (get_or seqs k d).places (resolved_levels source brackets levels classes (get_or seqs k d)) (AllOf-implicit_levels paragraph _ _ (sequence-level paragraph stored k d fits within))) in
-    AllOf-All (IsStoredIn paragraph) (filled_levels table 0 paragraph stored)
-    (AllOf-filled_levels (IsStoredIn paragraph) table 0 paragraph stored (record { above = le_refl _; below = omega arith })
+    let all : AllByRecursion (λ (e : ℕ × ℕ). IsStoredIn paragraph e.1) table =
+    AllByRecursion-flat_map (λ (e : ℕ × ℕ). IsStoredIn paragraph e.1) (sequence_levels source brackets levels classes) seqs
+    (λ k d within. AllByRecursion-zip (IsStoredIn paragraph) (get_or seqs k d).places (resolved_levels source brackets levels classes (get_or seqs k d)) (AllByRecursion-implicit_levels paragraph _ _ (sequence-level paragraph stored k d fits within))) in
+    All-from_recursion (IsStoredIn paragraph) (filled_levels table 0 paragraph stored)
+    (AllByRecursion-filled_levels (IsStoredIn paragraph) table 0 paragraph stored (record { above = le_refl _; below = omega arith })
     (λ k within kept. subst (λ (p : ℕ). IsStoredIn paragraph (level_in table p)) (let none : k ≡ 0 + k = omega arith in none)
-    (level_in-AllOf (IsStoredIn paragraph) table k all (omega (arith, counted seqs k, sequences-all paragraph stored levels k kept within)))))
+    (level_in-AllByRecursion (IsStoredIn paragraph) table k all (omega (arith, counted seqs k, sequences-all paragraph stored levels k kept within)))))
   where
     counted : (seqs : List RunSequence) (p : ℕ)
         → count_by (λ (e : ℕ × ℕ). eqb e.0 p) (flat_map (sequence_levels source brackets (explicit_levels paragraph (stored_classes source)) (explicit_classes paragraph (stored_classes source))) seqs) ≡ times_in (places_of seqs) p

@@ -1,6 +1,5 @@
--- The status stack holds at most 126 entries, and each count is at most the number of characters read; how a vector holds the stack.
+-- The status stack holds at most 126 entries, and each count is at most the number of characters read.
 use Rattle.std.proofs.Common.{◌≡◌, ℕ, suc, ◌+◌, ◌<◌, ◌≤◌, cond, List, [], ◌∷◌, ◌++◌, length, reverse, refl, sym, ap, subst, ◌∙◌, arith, inl, inr}
-use Rattle.std.proofs.lemmas.Bool.{cond_both}
 use Rattle.std.proofs.lemmas.List.{reverse-append, length-reverse}
 use Rattle.bidi_base.specs.declared.char_data.BidiClass.{BidiClass}
 use Rattle.bidi_base.specs.Classes.{is_initiator}
@@ -9,7 +8,9 @@ use Rattle.bidi_base.specs.Explicit.{asked_level}
 use Rattle.bidi_base.proofs.ExplicitLemmas.{asked_level-above}
 use Rattle.bidi_base.proofs.OpenersStack.{closed_by, openers_read, left_at, IsPushed, left_at-IsPushed}
 use Rattle.bidi_base.specs.StatusMachine.{Entry, State, entry_of, taken, refused, entered, drop_isolate, closed, step, state_at, AreBelow, IsWithinDepth, counted, IsPoppable}
-use Rattle.bidi_base.proofs.StatusMachine.{state_of, EnteredAs, as_taken, as_isolate, as_embedding, as_unseen, entered_as, IsInsideOf, overflowed, inside, SplitState, split_state, closed-state_of, state_at-state_of}
+use Rattle.bidi_base.proofs.StatusMachine.{state_of, EnteredAs, as_taken, as_isolate, as_embedding, as_unseen, state_of-EnteredAs}
+use Rattle.bidi_base.proofs.StatusMachine.{IsInsideOf, overflowed, inside, split_state, state_at-state_of, closed-state_at}
+use Rattle.bidi_base.proofs.MatchingLemmas.{at_most_one}
 
 length_below : (paragraph level : ℕ) (es : List Entry) → paragraph ≤ level → AreBelow paragraph level es → length es + paragraph ≤ level
 length_below paragraph level [] order h = omega arith
@@ -32,19 +33,17 @@ entered-IsWithinDepth paragraph c s t (as_isolate high isolate) h = record { fro
 entered-IsWithinDepth paragraph c s t (as_embedding high other none) h = record { from = h.from; top = h.top; below = h.below }
 entered-IsWithinDepth paragraph c s t (as_unseen high other some) h = h
 
-pub state_of-IsWithinDepth : (paragraph : ℕ) (classes : List BidiClass) (stack : List ℕ) → paragraph ≤ 125 → IsWithinDepth paragraph (state_of paragraph classes stack)
+state_of-IsWithinDepth : (paragraph : ℕ) (classes : List BidiClass) (stack : List ℕ) → paragraph ≤ 125 → IsWithinDepth paragraph (state_of paragraph classes stack)
 unfolding state_of
 state_of-IsWithinDepth paragraph classes [] fits = record { from = omega arith; top = fits; below = tt }
-state_of-IsWithinDepth paragraph classes (q ∷ stack) fits = entered-IsWithinDepth paragraph (class_at classes q) (state_of paragraph classes stack) _ (entered_as (class_at classes q) (state_of paragraph classes stack)) (state_of-IsWithinDepth paragraph classes stack fits)
-
-closed_state : (paragraph : ℕ) (classes : List BidiClass) (p : ℕ) → closed (class_at classes p) (state_at paragraph classes p) ≡ state_of paragraph classes (closed_by classes p (openers_read classes p))
-closed_state paragraph classes p = ap (closed (class_at classes p)) (state_at-state_of paragraph classes p) ∙ closed-state_of paragraph classes p (openers_read classes p)
+state_of-IsWithinDepth paragraph classes (q ∷ stack) fits =
+    entered-IsWithinDepth paragraph (class_at classes q) _ _ (state_of-EnteredAs paragraph classes q stack) (state_of-IsWithinDepth paragraph classes stack fits)
 
 pub closed-IsWithinDepth : (paragraph : ℕ) (classes : List BidiClass) (p : ℕ) → paragraph ≤ 125 → IsWithinDepth paragraph (closed (class_at classes p) (state_at paragraph classes p))
-closed-IsWithinDepth paragraph classes p fits = subst (IsWithinDepth paragraph) (sym (closed_state paragraph classes p)) (state_of-IsWithinDepth paragraph classes (closed_by classes p (openers_read classes p)) fits)
+closed-IsWithinDepth paragraph classes p fits = subst (IsWithinDepth paragraph) (sym (closed-state_at paragraph classes p)) (state_of-IsWithinDepth paragraph classes (left_at classes p) fits)
 
 entered_counted : (c : BidiClass) (s t : State) → EnteredAs c s t → counted t ≤ counted s + 1
-entered_counted c s t (as_taken fits k) = cond_both (is_initiator c) 1 0 (λ n. s.overflow_isolates + s.overflow_embeddings + (s.valid_isolates + n) ≤ counted s + 1) (λ e. omega arith) (λ e. omega arith)
+entered_counted c s t (as_taken fits k) = omega (arith, at_most_one (is_initiator c))
 entered_counted c s t (as_isolate high isolate) = omega arith
 entered_counted c s t (as_embedding high other none) = omega arith
 entered_counted c s t (as_unseen high other some) = omega arith
@@ -53,9 +52,7 @@ state_of_counted : (paragraph : ℕ) (classes : List BidiClass) (stack : List �
 unfolding state_of
 state_of_counted paragraph classes [] = omega arith
 state_of_counted paragraph classes (q ∷ stack) =
-    let more : counted (entered (class_at classes q) (state_of paragraph classes stack)) ≤ counted (state_of paragraph classes stack) + 1 = entered_counted (class_at classes q) (state_of paragraph classes stack) _ (entered_as (class_at classes q) (state_of paragraph classes stack)) in
-    let rest : counted (state_of paragraph classes stack) ≤ length stack = state_of_counted paragraph classes stack in
-    omega arith
+    omega (arith, entered_counted (class_at classes q) _ _ (state_of-EnteredAs paragraph classes q stack), state_of_counted paragraph classes stack)
 
 IsPushed-length : (classes : List BidiClass) (p : ℕ) (stack : List ℕ) → IsPushed classes p stack → length stack ≤ p
 IsPushed-length classes p [] h = omega arith
@@ -64,7 +61,7 @@ IsPushed-length classes p (q ∷ stack) h = omega (arith, h.0, IsPushed-length c
 -- so no count is greater than the number of characters read
 pub closed-counted : (paragraph : ℕ) (classes : List BidiClass) (p : ℕ) → p < length classes → counted (closed (class_at classes p) (state_at paragraph classes p)) ≤ p
 closed-counted paragraph classes p fits =
-    subst (λ (x : State). counted x ≤ p) (sym (closed_state paragraph classes p))
+    subst (λ (x : State). counted x ≤ p) (sym (closed-state_at paragraph classes p))
     (omega (arith, state_of_counted paragraph classes (left_at classes p), IsPushed-length classes p (left_at classes p) (left_at-IsPushed classes p)))
 
 -- one step, as a loop that counts has it
@@ -72,16 +69,14 @@ pub state_at-more : (paragraph : ℕ) (classes : List BidiClass) (p : ℕ) → s
 unfolding state_at
 state_at-more paragraph classes p = ap (state_at paragraph classes) (let same : p + 1 ≡ suc p = omega arith in same)
 
-pub state_of-IsPoppable : (paragraph : ℕ) (classes : List BidiClass) (stack : List ℕ) → IsPoppable (state_of paragraph classes stack)
-state_of-IsPoppable paragraph classes stack = record { pops = λ none some. by_split none some (split_state paragraph classes stack) }
-  where
-    by_inside : (s t : State) → t.overflow_isolates ≡ 0 → IsInsideOf s t → (u : State) × (drop_isolate (t.top ∷ t.below) ≡ u.top ∷ u.below)
-    by_inside s t none (overflowed same) = absurd (let more : t.overflow_isolates ≡ s.overflow_isolates + 1 = ap (λ (x : State). x.overflow_isolates) same in omega arith)
-    by_inside s t none (inside a b c d drops) = (s, drops)
+pops_by : (s t : State) → IsInsideOf s t → t.overflow_isolates ≡ 0 → (u : State) × (drop_isolate (t.top ∷ t.below) ≡ u.top ∷ u.below)
+pops_by s t overflowed none = absurd (omega arith)
+pops_by s t (inside _ a b c d drops) none = (s, drops)
 
-    by_split : (state_of paragraph classes stack).overflow_isolates ≡ 0 → 0 < (state_of paragraph classes stack).valid_isolates → SplitState paragraph classes stack → (t : State) × (drop_isolate ((state_of paragraph classes stack).top ∷ (state_of paragraph classes stack).below) ≡ t.top ∷ t.below)
-    by_split none some (inl h) = absurd (omega (arith, h.2))
-    by_split none some (inr h) = by_inside (state_of paragraph classes h.0) (state_of paragraph classes stack) none h.2
+state_of-IsPoppable : (paragraph : ℕ) (classes : List BidiClass) (stack : List ℕ) → IsPoppable (state_of paragraph classes stack)
+state_of-IsPoppable paragraph classes stack = record {
+  pops = λ none some. elim (split_state paragraph classes stack) [ inl h ↦ absurd (omega (arith, h.2)) | inr h ↦ pops_by (state_of paragraph classes h.0) (state_of paragraph classes stack) h.2 none ];
+}
 
 pub state_at-IsPoppable : (paragraph : ℕ) (classes : List BidiClass) (p : ℕ) → IsPoppable (state_at paragraph classes p)
 state_at-IsPoppable paragraph classes p = subst IsPoppable (sym (state_at-state_of paragraph classes p)) (state_of-IsPoppable paragraph classes (openers_read classes p))

@@ -1,5 +1,6 @@
 -- The directional status stack answers at each character the level and the class that the definitions give.
-use Rattle.std.proofs.Common.{◌≡◌, ℕ, zero, suc, ◌+◌, ◌-◌, ◌<◌, ◌≤◌, Bool, true, false, not, ◌&&◌, ◌||◌, cond, ltb, leb, eqb, List, [], ◌∷◌, ◌++◌, length, map, reverse, unwrap_or, refl, sym, ap, subst, ◌∙◌, arith, ◌⊎◌, inl, inr, lt-ltb, leb-true, eqb-true, eq-eqb, ne_eqb}
+use Rattle.std.proofs.Common.{◌≡◌, ℕ, zero, suc, ◌+◌, ◌-◌, ◌<◌, ◌≤◌, Bool, true, false, not, ◌&&◌, ◌||◌, cond, ltb, leb, eqb, List, [], ◌∷◌, ◌++◌}
+use Rattle.std.proofs.Common.{length, map, reverse, unwrap_or, refl, sym, ap, subst, ◌∙◌, arith, ◌⊎◌, inl, inr, lt-ltb, leb-true, eqb-true, eq-eqb, ne_eqb}
 use Rattle.std.specs.Prelude.{nat_le, if◌then◌else◌}
 use Rattle.std.proofs.lemmas.Bool.{cases_Bool, cases_eq, both_ways, cond-true, cond-false, and_parts, and_from, and_left, and_right, le-leb, le-ltb, leb-false, eqb-false}
 use Rattle.std.proofs.lemmas.List.{reverse-append, map-append}
@@ -10,7 +11,7 @@ use Rattle.bidi_base.specs.Places.{class_at}
 use Rattle.bidi_base.specs.Isolates.{is_initiator_at, is_pdi_at}
 use Rattle.bidi_base.specs.Embeddings.{open_at}
 use Rattle.bidi_base.specs.Explicit.{Status, override_of, asked_level, status_inside, status_at, explicit_level, explicit_class}
-use Rattle.bidi_base.proofs.OpenersStack.{below_isolate, below_embedding, closed_by, opened_by, openers_read, open_at-closed_by}
+use Rattle.bidi_base.proofs.OpenersStack.{below_isolate, below_embedding, closed_by, opened_by, openers_read, left_at, open_at-closed_by}
 use Rattle.bidi_base.specs.StatusMachine.{Entry, State, start_status, start, fits_in, entry_of, taken, refused, entered, drop_isolate, with_stack, close_isolate, close_embedding, closed, opened, step, answer_level, answer_class, state_at}
 
 -- the state that a stack of openers leaves, each entered in text order
@@ -32,18 +33,13 @@ IsTaken-fits_in c s e =
 
 -- what a refusal does, by kind
 pub refused-initiator : (c : BidiClass) (s : State) → is_initiator c ≡ true → refused c s ≡ record s { overflow_isolates = s.overflow_isolates + 1 }
-refused-initiator c s e =
-    cond-true (is_initiator c) (record s { overflow_isolates = s.overflow_isolates + 1 }) (cond (eqb s.overflow_isolates 0) (record s { overflow_embeddings = s.overflow_embeddings + 1 }) s) e
+refused-initiator c s e = cond-true _ _ _ e
 
 pub refused-embedding : (c : BidiClass) (s : State) → is_initiator c ≡ false → s.overflow_isolates ≡ 0 → refused c s ≡ record s { overflow_embeddings = s.overflow_embeddings + 1 }
-refused-embedding c s e none =
-    cond-false (is_initiator c) (record s { overflow_isolates = s.overflow_isolates + 1 }) (cond (eqb s.overflow_isolates 0) (record s { overflow_embeddings = s.overflow_embeddings + 1 }) s) e
-    ∙ cond-true (eqb s.overflow_isolates 0) (record s { overflow_embeddings = s.overflow_embeddings + 1 }) s (eq-eqb s.overflow_isolates 0 none)
+refused-embedding c s e none = cond-false _ _ _ e ∙ cond-true _ _ _ (eq-eqb s.overflow_isolates 0 none)
 
 pub refused-inside : (c : BidiClass) (s : State) → is_initiator c ≡ false → 0 < s.overflow_isolates → refused c s ≡ s
-refused-inside c s e some =
-    cond-false (is_initiator c) (record s { overflow_isolates = s.overflow_isolates + 1 }) (cond (eqb s.overflow_isolates 0) (record s { overflow_embeddings = s.overflow_embeddings + 1 }) s) e
-    ∙ cond-false (eqb s.overflow_isolates 0) (record s { overflow_embeddings = s.overflow_embeddings + 1 }) s (ne_eqb s.overflow_isolates 0 (λ e. omega arith))
+refused-inside c s e some = cond-false _ _ _ e ∙ cond-false _ _ _ (ne_eqb s.overflow_isolates 0 (λ e. omega arith))
 
 -- an opener is taken, or it overflows: as an isolate, as an embedding, or, inside an isolate that overflowed, unseen
 pub data EnteredAs (c : BidiClass) (s : State) : State → Type 0 where
@@ -75,54 +71,43 @@ entered-embedding c s t (as_isolate high isolate) other = absurd (both_ways (is_
 entered-embedding c s t (as_embedding high same none) other = (refl, refl)
 entered-embedding c s t (as_unseen high same some) other = (refl, refl)
 
--- t is s with further openers inside one isolate: the isolate overflowed, or it was taken
-pub data IsInsideOf (s t : State) : Type 0 where
-  overflowed : t ≡ record s { overflow_isolates = s.overflow_isolates + 1 } → IsInsideOf s t
-  inside : s.overflow_isolates ≡ 0 → s.overflow_embeddings ≡ 0 → t.overflow_isolates ≡ 0 → t.valid_isolates ≡ s.valid_isolates + 1 → drop_isolate (t.top ∷ t.below) ≡ s.top ∷ s.below → IsInsideOf s t
+-- s with further openers inside one isolate: the isolate overflowed, or it was taken
+pub data IsInsideOf (s : State) : State → Type 0 where
+  overflowed : IsInsideOf s (record s { overflow_isolates = s.overflow_isolates + 1 })
+  inside : (t : State) → s.overflow_isolates ≡ 0 → s.overflow_embeddings ≡ 0 → t.overflow_isolates ≡ 0 → t.valid_isolates ≡ s.valid_isolates + 1
+      → drop_isolate (t.top ∷ t.below) ≡ s.top ∷ s.below → IsInsideOf s t
 
 entered-IsInsideOf : (c : BidiClass) (s t : State) → EnteredAs c s t → is_initiator c ≡ true → IsInsideOf s t
 entered-IsInsideOf c s t (as_taken fits k) isolate =
-    inside k.no_isolates k.no_embeddings k.no_isolates (taken_valid c s true isolate) (cond-true (is_initiator c) (s.top ∷ s.below) (drop_isolate (s.top ∷ s.below)) isolate)
-entered-IsInsideOf c s t (as_isolate high same) isolate = overflowed refl
+    inside t k.no_isolates k.no_embeddings k.no_isolates (taken_valid c s true isolate) (cond-true _ _ _ isolate)
+entered-IsInsideOf c s t (as_isolate high same) isolate = overflowed
 entered-IsInsideOf c s t (as_embedding high other none) isolate = absurd (both_ways (is_initiator c) other isolate)
 entered-IsInsideOf c s t (as_unseen high other some) isolate = absurd (both_ways (is_initiator c) other isolate)
 
 IsInsideOf-entered : (c : BidiClass) (s t u : State) → EnteredAs c t u → is_initiator c ≡ false → IsInsideOf s t → IsInsideOf s u
-IsInsideOf-entered c s t u (as_taken fits k) other (overflowed same) = absurd (omega (arith, k.no_isolates, ap (λ (x : State). x.overflow_isolates) same))
-IsInsideOf-entered c s t u (as_taken fits k) other (inside no_isolates no_embeddings none more drops) =
-    inside no_isolates no_embeddings none (omega (arith, taken_valid c t false other)) (cond-false (is_initiator c) (t.top ∷ t.below) (drop_isolate (t.top ∷ t.below)) other ∙ drops)
+IsInsideOf-entered c s t u (as_taken fits k) other overflowed = absurd (omega (arith, k.no_isolates))
+IsInsideOf-entered c s t u (as_taken fits k) other (inside _ no_isolates no_embeddings none more drops) =
+    inside u no_isolates no_embeddings none (omega (arith, taken_valid c t false other)) (cond-false _ _ _ other ∙ drops)
 IsInsideOf-entered c s t u (as_isolate high isolate) other h = absurd (both_ways (is_initiator c) other isolate)
-IsInsideOf-entered c s t u (as_embedding high same nothing) other (overflowed is) = absurd (omega (arith, ap (λ (x : State). x.overflow_isolates) is))
-IsInsideOf-entered c s t u (as_embedding high same nothing) other (inside no_isolates no_embeddings none more drops) = inside no_isolates no_embeddings none more drops
+IsInsideOf-entered c s t u (as_embedding high same nothing) other overflowed = absurd (omega arith)
+IsInsideOf-entered c s t u (as_embedding high same nothing) other (inside _ no_isolates no_embeddings none more drops) = inside u no_isolates no_embeddings none more drops
 IsInsideOf-entered c s t u (as_unseen high same some) other h = h
 
 -- so a PDI leaves what was there before the isolate
 pub close_isolate-IsInsideOf : (s t : State) → IsInsideOf s t → close_isolate t ≡ s
 unfolding close_isolate
-close_isolate-IsInsideOf s t (overflowed same) = ap close_isolate same ∙ counted
-  where
-    more : State
-    more = record s { overflow_isolates = s.overflow_isolates + 1 }
-
-    counted : close_isolate (record s { overflow_isolates = s.overflow_isolates + 1 }) ≡ s
-    counted =
-        let back : s.overflow_isolates + 1 - 1 ≡ s.overflow_isolates = omega arith in
-        cond-true (ltb 0 (s.overflow_isolates + 1)) _ _ (lt-ltb 0 (s.overflow_isolates + 1) (omega arith))
-        ∙ ap (λ (n : ℕ). record s { overflow_isolates = n }) back
-close_isolate-IsInsideOf s t (inside no_isolates no_embeddings none more drops) =
+close_isolate-IsInsideOf s t overflowed =
+    let back : s.overflow_isolates + 1 - 1 ≡ s.overflow_isolates = omega arith in
+    cond-true (ltb 0 (s.overflow_isolates + 1)) _ _ (lt-ltb 0 (s.overflow_isolates + 1) (omega arith)) ∙ ap (λ (n : ℕ). record s { overflow_isolates = n }) back
+close_isolate-IsInsideOf s t (inside _ no_isolates no_embeddings none more drops) =
     cond-false (ltb 0 t.overflow_isolates) _ _ (le-ltb 0 t.overflow_isolates (omega arith))
     ∙ cond-false (eqb t.valid_isolates 0) _ _ (ne_eqb t.valid_isolates 0 (λ e. omega arith))
     ∙ ap (with_stack (record t { overflow_embeddings = 0; valid_isolates = t.valid_isolates - 1 })) drops
-    ∙ same_counts
+    ∙ same_counts (none ∙ sym no_isolates) (sym no_embeddings) (omega (arith, more))
   where
-    valid : t.valid_isolates - 1 ≡ s.valid_isolates
-    valid = omega (arith, more)
-
-    isolates : t.overflow_isolates ≡ s.overflow_isolates
-    isolates = none ∙ sym no_isolates
-
-    same_counts : with_stack (record t { overflow_embeddings = 0; valid_isolates = t.valid_isolates - 1 }) (s.top ∷ s.below) ≡ s
-    same_counts = λ i. record { top = s.top; below = s.below; overflow_isolates = isolates i; overflow_embeddings = sym no_embeddings i; valid_isolates = valid i }
+    same_counts : t.overflow_isolates ≡ s.overflow_isolates → 0 ≡ s.overflow_embeddings → t.valid_isolates - 1 ≡ s.valid_isolates
+        → with_stack (record t { overflow_embeddings = 0; valid_isolates = t.valid_isolates - 1 }) (s.top ∷ s.below) ≡ s
+    same_counts e f g = λ i. record { top = s.top; below = s.below; overflow_isolates = e i; overflow_embeddings = f i; valid_isolates = g i }
 
 pub close_isolate-none : (s : State) → s.overflow_isolates ≡ 0 → s.valid_isolates ≡ 0 → close_isolate s ≡ s
 unfolding close_isolate
@@ -171,40 +156,28 @@ abbrev inside_one : BidiClass → Bool → Status → Status
 inside_one c cut status =
     if not cut && nat_le (asked_level c status.level) max_depth then record { level = asked_level c status.level; override = override_of c } else status
 
-status_inside-more : (status : Status) (openers : List BidiClass) (c : BidiClass) → status_inside status (openers ++ c ∷ []) ≡ inside_one c (is_cut status openers) (status_inside status openers)
-unfolding status_inside
-status_inside-more status [] c = refl
-status_inside-more status (o ∷ openers) c =
-    by_test (leb (asked_level o status.level) 125) (status_inside-more (record { level = asked_level o status.level; override = override_of o }) openers c)
-  where
-    inner : Status
-    inner = record { level = asked_level o status.level; override = override_of o }
-
-    by_test : (b : Bool) → status_inside inner (openers ++ c ∷ []) ≡ inside_one c (is_cut inner openers) (status_inside inner openers)
-        → cond b (status_inside inner (openers ++ c ∷ [])) status ≡ inside_one c (cond b (is_cut inner openers) true) (cond b (status_inside inner openers) status)
-    by_test true rest = rest
-    by_test false rest = refl
-
 abbrev fits_after : BidiClass → Bool → Status → Bool
 fits_after c cut status = not cut && leb (asked_level c status.level) 125
 
-is_cut-more : (status : Status) (openers : List BidiClass) (c : BidiClass) → not (is_cut status (openers ++ c ∷ [])) ≡ fits_after c (is_cut status openers) (status_inside status openers)
+status_inside-more : (status : Status) (openers : List BidiClass) (c : BidiClass) → (status_inside status (openers ++ c ∷ []) ≡ inside_one c (is_cut status openers) (status_inside status openers))
+    × (not (is_cut status (openers ++ c ∷ [])) ≡ fits_after c (is_cut status openers) (status_inside status openers))
 unfolding status_inside
-is_cut-more status [] c = by_test (leb (asked_level c status.level) 125)
+status_inside-more status [] c = (refl, by_test (leb (asked_level c status.level) 125))
   where
     by_test : (b : Bool) → not (cond b false true) ≡ b
     by_test true = refl
     by_test false = refl
-is_cut-more status (o ∷ openers) c =
-    by_test (leb (asked_level o status.level) 125) (is_cut-more (record { level = asked_level o status.level; override = override_of o }) openers c)
+status_inside-more status (o ∷ openers) c = by_test (leb (asked_level o status.level) 125) (status_inside-more (record { level = asked_level o status.level; override = override_of o }) openers c)
   where
     inner : Status
     inner = record { level = asked_level o status.level; override = override_of o }
 
-    by_test : (b : Bool) → not (is_cut inner (openers ++ c ∷ [])) ≡ fits_after c (is_cut inner openers) (status_inside inner openers)
-        → not (cond b (is_cut inner (openers ++ c ∷ [])) true) ≡ fits_after c (cond b (is_cut inner openers) true) (cond b (status_inside inner openers) status)
+    by_test : (b : Bool) → (status_inside inner (openers ++ c ∷ []) ≡ inside_one c (is_cut inner openers) (status_inside inner openers))
+        × (not (is_cut inner (openers ++ c ∷ [])) ≡ fits_after c (is_cut inner openers) (status_inside inner openers))
+        → (cond b (status_inside inner (openers ++ c ∷ [])) status ≡ inside_one c (cond b (is_cut inner openers) true) (cond b (status_inside inner openers) status))
+        × (not (cond b (is_cut inner (openers ++ c ∷ [])) true) ≡ fits_after c (cond b (is_cut inner openers) true) (cond b (status_inside inner openers) status))
     by_test true rest = rest
-    by_test false rest = refl
+    by_test false rest = (refl, refl)
 
 -- nothing has overflowed
 abbrev is_clear : State → Bool
@@ -224,68 +197,78 @@ fits_in-clear c s = turn (leb (asked_level c s.top.status.level) 125) (eqb s.ove
     turn a b d = grind arith
 
 module _ (paragraph : ℕ) (classes : List BidiClass) where
+  -- the state inside the openers of a stack
+  abbrev inside_all : List ℕ → State
+  inside_all stack = state_of paragraph classes stack
+
+  pub state_of-EnteredAs : (q : ℕ) (stack : List ℕ) → EnteredAs (class_at classes q) (inside_all stack) (inside_all (q ∷ stack))
+  unfolding state_of
+  state_of-EnteredAs q stack = entered_as (class_at classes q) (inside_all stack)
+
   -- a stack has no isolate, or its state is inside that of what stands below its innermost isolate
   abbrev pub SplitState : List ℕ → Type 0
   SplitState stack =
-      (((whole : List ℕ) → below_isolate classes whole stack ≡ whole) × ((state_of paragraph classes stack).overflow_isolates ≡ 0) × ((state_of paragraph classes stack).valid_isolates ≡ 0))
-      ⊎ ((below : List ℕ) × ((whole : List ℕ) → below_isolate classes whole stack ≡ below) × IsInsideOf (state_of paragraph classes below) (state_of paragraph classes stack))
+      (((whole : List ℕ) → below_isolate classes whole stack ≡ whole) × ((inside_all stack).overflow_isolates ≡ 0) × ((inside_all stack).valid_isolates ≡ 0))
+      ⊎ ((below : List ℕ) × ((whole : List ℕ) → below_isolate classes whole stack ≡ below) × IsInsideOf (inside_all below) (inside_all stack))
 
   split_more : (q : ℕ) (stack : List ℕ) → is_initiator_at classes q ≡ false → SplitState stack → SplitState (q ∷ stack)
-  unfolding state_of
   split_more q stack other (inl h) =
-      let s = entered-embedding (class_at classes q) (state_of paragraph classes stack) _ (entered_as (class_at classes q) (state_of paragraph classes stack)) other in
-      inl (λ whole. cond-false _ _ _ other ∙ h.0 whole, s.0 ∙ h.1, s.1 ∙ h.2)
-  split_more q stack other (inr h) =
-      inr (h.0, λ whole. cond-false _ _ _ other ∙ h.1 whole, IsInsideOf-entered (class_at classes q) (state_of paragraph classes h.0) (state_of paragraph classes stack) _ (entered_as (class_at classes q) (state_of paragraph classes stack)) other h.2)
+      let s = entered-embedding (class_at classes q) _ _ (state_of-EnteredAs q stack) other in inl (λ whole. cond-false _ _ _ other ∙ h.0 whole, s.0 ∙ h.1, s.1 ∙ h.2)
+  split_more q stack other (inr h) = inr (h.0, λ whole. cond-false _ _ _ other ∙ h.1 whole, IsInsideOf-entered (class_at classes q) _ _ _ (state_of-EnteredAs q stack) other h.2)
 
   pub split_state : (stack : List ℕ) → SplitState stack
   unfolding state_of
   split_state [] = inl (λ whole. refl, refl, refl)
   split_state (q ∷ stack) = elim (cases_Bool (is_initiator_at classes q)) [
-    | inl initiator ↦ inr (stack, λ whole. cond-true _ _ _ initiator, entered-IsInsideOf (class_at classes q) (state_of paragraph classes stack) _ (entered_as (class_at classes q) (state_of paragraph classes stack)) initiator)
+    | inl initiator ↦ inr (stack, λ whole. cond-true _ _ _ initiator, entered-IsInsideOf (class_at classes q) _ _ (state_of-EnteredAs q stack) initiator)
     | inr other ↦ split_more q stack other (split_state stack)
   ]
 
-  pub close_isolate-state_of : (stack : List ℕ) → close_isolate (state_of paragraph classes stack) ≡ state_of paragraph classes (below_isolate classes stack stack)
+  close_isolate-state_of : (stack : List ℕ) → close_isolate (inside_all stack) ≡ inside_all (below_isolate classes stack stack)
   close_isolate-state_of stack = by_split (split_state stack)
     where
-      by_split : SplitState stack → close_isolate (state_of paragraph classes stack) ≡ state_of paragraph classes (below_isolate classes stack stack)
-      by_split (inl h) = close_isolate-none (state_of paragraph classes stack) h.1 h.2 ∙ ap (state_of paragraph classes) (sym (h.0 stack))
-      by_split (inr h) = close_isolate-IsInsideOf (state_of paragraph classes h.0) (state_of paragraph classes stack) h.2 ∙ ap (state_of paragraph classes) (sym (h.1 stack))
+      by_split : SplitState stack → close_isolate (inside_all stack) ≡ inside_all (below_isolate classes stack stack)
+      by_split (inl h) = close_isolate-none (inside_all stack) h.1 h.2 ∙ ap inside_all (sym (h.0 stack))
+      by_split (inr h) = close_isolate-IsInsideOf (inside_all h.0) (inside_all stack) h.2 ∙ ap inside_all (sym (h.1 stack))
 
-  pub close_embedding-state_of : (stack : List ℕ) → close_embedding (state_of paragraph classes stack) ≡ state_of paragraph classes (below_embedding classes stack)
+  close_embedding-state_of : (stack : List ℕ) → close_embedding (inside_all stack) ≡ inside_all (below_embedding classes stack)
   unfolding state_of
   close_embedding-state_of [] = close_embedding-start paragraph
   close_embedding-state_of (q ∷ stack) = elim (cases_Bool (is_initiator_at classes q)) [
-    | inl initiator ↦ close_embedding-isolate (class_at classes q) (state_of paragraph classes stack) _ (entered_as (class_at classes q) (state_of paragraph classes stack)) initiator ∙ ap (state_of paragraph classes) (sym (cond-true (is_initiator_at classes q) (q ∷ stack) stack initiator))
-    | inr other ↦ close_embedding-embedding (class_at classes q) (state_of paragraph classes stack) _ (entered_as (class_at classes q) (state_of paragraph classes stack)) other ∙ ap (state_of paragraph classes) (sym (cond-false (is_initiator_at classes q) (q ∷ stack) stack other))
+    | inl initiator ↦ close_embedding-isolate (class_at classes q) _ _ (state_of-EnteredAs q stack) initiator ∙ ap inside_all (sym (cond-true _ _ _ initiator))
+    | inr other ↦ close_embedding-embedding (class_at classes q) _ _ (state_of-EnteredAs q stack) other ∙ ap inside_all (sym (cond-false _ _ _ other))
   ]
 
   -- what p closes and opens on the stack of indexes is what the machine does
-  pub closed-state_of : (p : ℕ) (stack : List ℕ) → closed (class_at classes p) (state_of paragraph classes stack) ≡ state_of paragraph classes (closed_by classes p stack)
+  pub closed-state_of : (p : ℕ) (stack : List ℕ) → closed (class_at classes p) (inside_all stack) ≡ inside_all (closed_by classes p stack)
   unfolding closed closed_by
-  closed-state_of p stack = elim (cases_Bool (is_pdi_at classes p)) [
-    | inl pdi ↦ cond-true _ _ _ pdi ∙ close_isolate-state_of stack ∙ ap (state_of paragraph classes) (sym (cond-true (is_pdi_at classes p) _ _ pdi))
-    | inr no_pdi ↦ cond-false _ _ _ no_pdi ∙ elim (cases_Bool (is_pdf (class_at classes p))) [
-      | inl pdf ↦ cond-true _ _ _ pdf ∙ close_embedding-state_of stack ∙ ap (state_of paragraph classes) (sym (cond-true (is_pdf (class_at classes p)) _ _ pdf))
-      | inr no_pdf ↦ cond-false _ _ _ no_pdf ∙ ap (state_of paragraph classes) (sym (cond-false (is_pdf (class_at classes p)) _ _ no_pdf))
-    ] ∙ ap (state_of paragraph classes) (sym (cond-false (is_pdi_at classes p) _ _ no_pdi))
-  ]
+  closed-state_of p stack = by_tests (is_pdi_at classes p) (is_pdf (class_at classes p))
+    where
+      by_tests : (a b : Bool) → cond a (close_isolate (inside_all stack)) (cond b (close_embedding (inside_all stack)) (inside_all stack))
+          ≡ inside_all (cond a (below_isolate classes stack stack) (cond b (below_embedding classes stack) stack))
+      by_tests true b = close_isolate-state_of stack
+      by_tests false true = close_embedding-state_of stack
+      by_tests false false = refl
 
-  pub opened-state_of : (p : ℕ) (stack : List ℕ) → opened (class_at classes p) (state_of paragraph classes stack) ≡ state_of paragraph classes (opened_by classes p stack)
+  opened-state_of : (p : ℕ) (stack : List ℕ) → opened (class_at classes p) (inside_all stack) ≡ inside_all (opened_by classes p stack)
   unfolding opened opened_by state_of
-  opened-state_of p stack = elim (cases_Bool (is_opener (class_at classes p))) [
-    | inl opener ↦ cond-true _ _ _ opener ∙ ap (state_of paragraph classes) (sym (cond-true (is_opener (class_at classes p)) (p ∷ stack) stack opener))
-    | inr other ↦ cond-false _ _ _ other ∙ ap (state_of paragraph classes) (sym (cond-false (is_opener (class_at classes p)) (p ∷ stack) stack other))
-  ]
+  opened-state_of p stack = by_test (is_opener (class_at classes p))
+    where
+      by_test : (a : Bool) → cond a (entered (class_at classes p) (inside_all stack)) (inside_all stack) ≡ inside_all (cond a (p ∷ stack) stack)
+      by_test true = refl
+      by_test false = refl
 
-  pub state_at-state_of : (p : ℕ) → state_at paragraph classes p ≡ state_of paragraph classes (openers_read classes p)
+  pub state_at-state_of : (p : ℕ) → state_at paragraph classes p ≡ inside_all (openers_read classes p)
   unfolding state_at state_of openers_read
   state_at-state_of zero = refl
   state_at-state_of (suc p) =
       ap (λ (s : State). step (class_at classes p) s) (state_at-state_of p)
       ∙ ap (opened (class_at classes p)) (closed-state_of p (openers_read classes p))
-      ∙ opened-state_of p (closed_by classes p (openers_read classes p))
+      ∙ opened-state_of p (left_at classes p)
+
+  -- so what a character leaves is the state inside what it leaves open
+  pub closed-state_at : (p : ℕ) → closed (class_at classes p) (state_at paragraph classes p) ≡ inside_all (left_at classes p)
+  closed-state_at p = ap (closed (class_at classes p)) (state_at-state_of p) ∙ closed-state_of p (openers_read classes p)
 
   abbrev classes_of : List ℕ → List BidiClass
   classes_of stack = map (class_at classes) (reverse stack)
@@ -295,15 +278,15 @@ module _ (paragraph : ℕ) (classes : List BidiClass) where
 
   -- the status on top is that inside the openers, and nothing overflowed exactly if none of them asks for too high a level
   record IsStatusOf (stack : List ℕ) : Type 0 where
-    top : (state_of paragraph classes stack).top.status ≡ status_inside (start_status paragraph) (classes_of stack)
-    clear : is_clear (state_of paragraph classes stack) ≡ not (is_cut (start_status paragraph) (classes_of stack))
+    top : (inside_all stack).top.status ≡ status_inside (start_status paragraph) (classes_of stack)
+    clear : is_clear (inside_all stack) ≡ not (is_cut (start_status paragraph) (classes_of stack))
 
   status_of : (stack : List ℕ) → IsStatusOf stack
   unfolding state_of status_inside
   status_of [] = record { top = refl; clear = refl }
   status_of (q ∷ stack) =
       let c = class_at classes q in
-      let s : State = state_of paragraph classes stack in
+      let s : State = inside_all stack in
       let h : IsStatusOf stack = status_of stack in
       let cut : Bool = is_cut (start_status paragraph) (classes_of stack) in
       let now = entered-status c s (entered c s) (entered_as c s) in
@@ -311,24 +294,19 @@ module _ (paragraph : ℕ) (classes : List BidiClass) where
       record {
         top =
             now.0 ∙ ap (λ b. cond b (entry_of c s).status s.top.status) fits ∙ ap (inside_one c cut) h.top
-            ∙ sym (ap (status_inside (start_status paragraph)) (classes_of-more q stack) ∙ status_inside-more (start_status paragraph) (classes_of stack) c);
+            ∙ sym (ap (status_inside (start_status paragraph)) (classes_of-more q stack) ∙ (status_inside-more (start_status paragraph) (classes_of stack) c).0);
         clear =
             now.1 ∙ fits ∙ ap (fits_after c cut) h.top
-            ∙ sym (ap (λ (cs : List BidiClass). not (is_cut (start_status paragraph) cs)) (classes_of-more q stack) ∙ is_cut-more (start_status paragraph) (classes_of stack) c);
+            ∙ sym (ap (λ (cs : List BidiClass). not (is_cut (start_status paragraph) cs)) (classes_of-more q stack) ∙ (status_inside-more (start_status paragraph) (classes_of stack) c).1);
       }
 
   -- the machine's status at p is the one that the definitions give
-  pub status_at-state_of : (p : ℕ) (stack : List ℕ) → open_at classes p ≡ reverse (closed_by classes p stack) → (closed (class_at classes p) (state_of paragraph classes stack)).top.status ≡ status_at paragraph classes p
+  status_at-state_at : (p : ℕ) → p < length classes → (closed (class_at classes p) (state_at paragraph classes p)).top.status ≡ status_at paragraph classes p
   unfolding status_at
-  status_at-state_of p stack e =
-      ap (λ (x : State). x.top.status) (closed-state_of p stack)
-      ∙ (status_of (closed_by classes p stack)).top
-      ∙ ap (λ (qs : List ℕ). status_inside (start_status paragraph) (map (class_at classes) qs)) (sym e)
-
-  pub status_at-state_at : (p : ℕ) → p < length classes → (closed (class_at classes p) (state_at paragraph classes p)).top.status ≡ status_at paragraph classes p
   status_at-state_at p fits =
-      ap (λ (x : State). (closed (class_at classes p) x).top.status) (state_at-state_of p)
-      ∙ status_at-state_of p (openers_read classes p) (open_at-closed_by classes p fits)
+      ap (λ (x : State). x.top.status) (closed-state_at p)
+      ∙ (status_of (left_at classes p)).top
+      ∙ ap (λ (qs : List ℕ). status_inside (start_status paragraph) (map (class_at classes) qs)) (sym (open_at-closed_by classes p fits))
 
   -- the machine answers the explicit level and the class after X of each character
   pub answer_level-explicit_level : (p : ℕ) → p < length classes → answer_level paragraph (class_at classes p) (state_at paragraph classes p) ≡ explicit_level paragraph classes p
@@ -338,4 +316,5 @@ module _ (paragraph : ℕ) (classes : List BidiClass) where
   pub answer_class-explicit_class : (p : ℕ) → p < length classes → answer_class (class_at classes p) (state_at paragraph classes p) ≡ explicit_class paragraph classes p
   unfolding explicit_class
   answer_class-explicit_class p fits =
-      ap (λ (x : Status). if is_paragraph_separator (class_at classes p) || is_removed (class_at classes p) then class_at classes p else unwrap_or x.override (class_at classes p)) (status_at-state_at p fits)
+      let own = class_at classes p in
+      ap (λ (x : Status). if is_paragraph_separator own || is_removed own then own else unwrap_or x.override own) (status_at-state_at p fits)

@@ -113,7 +113,7 @@ cut_later len_of c cs u le w = record { front = c ∷ w.front; back = w.back; jo
 zero_or_step : (u l : ℕ) (b : Bool) → (u == 0 || (nat_le l u && b)) ≡ true → (u ≡ 0) ⊎ ((l ≤ u) × (b ≡ true))
 zero_or_step u l b e = grind (arith, nat_tests)
 
-zero_test : (u : ℕ) → (u == 0) ≡ true → u ≡ 0
+pub zero_test : (u : ℕ) → (u == 0) ≡ true → u ≡ 0
 zero_test u e = grind (arith, nat_tests)
 
 pub cut_at : (len_of : ℕ → ℕ) (chars : List ℕ) (u : ℕ) → is_boundary len_of chars u ≡ true → CutAt len_of chars u

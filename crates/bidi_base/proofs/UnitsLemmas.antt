@@ -6,8 +6,9 @@ use Rattle.std.proofs.lemmas.Bool.Decides.{nat_tests}
 use Rattle.std.specs.List.{list_all}
 use Rattle.std.specs.Prelude.{replicate}
 use Rattle.bidi_base.specs.Text.{text_len, per_unit, per_char, all_same, is_per_char, IsPerChar}
-use Rattle.bidi_base.proofs.TextLemmas.{HasUnits}
+use Rattle.bidi_base.proofs.TextLemmas.{HasUnits, zero_test}
 use Rattle.bidi_base.proofs.PerUnit.{length-per_unit, per_char-per_unit}
+use Rattle.std.proofs.lemmas.Bool.{and_parts}
 
 pub all_same-first : {X : Type 0} (eq : X → X → Bool) (xs : List X) (first : X) → 1 ≤ length xs → first ≡ get_or xs 0 first → list_all (λ x. eq x first) xs ≡ all_same eq xs
 all_same-first eq [] first h e = absurd (omega arith)
@@ -50,20 +51,14 @@ pub record IsSameTest {X : Type 0} (eq : X → X → Bool) : Type 0 where
   pub same : (x y : X) → eq x y ≡ true → x ≡ y
   pub self : (x : X) → eq x x ≡ true
 
-both : (a b : Bool) → (a && b) ≡ true → (a ≡ true) × (b ≡ true)
-both a b e = grind arith
-
 le_true : (m n : ℕ) → nat_le m n ≡ true → m ≤ n
 le_true m n e = grind (arith, nat_tests)
-
-zero_true : (n : ℕ) → (n == 0) ≡ true → n ≡ 0
-zero_true n e = grind (arith, nat_tests)
 
 module _ {X : Type 0} (eq : X → X → Bool) (test : IsSameTest eq) where
   replicate_from_all : (y : X) (xs : List X) → list_all (λ x. eq x y) xs ≡ true → xs ≡ replicate (length xs) y
   replicate_from_all y [] e = refl
   replicate_from_all y (x ∷ xs) e =
-      let w = both _ _ e in
+      let w = and_parts _ _ e in
       ap (λ z. z ∷ xs) (test.same x y w.0) ∙ ap (λ zs. y ∷ zs) (replicate_from_all y xs w.1)
 
   one_value : (n : ℕ) (units : List X) → 1 ≤ n → n ≤ length units → all_same eq (take n units) ≡ true → (v : X) × (take n units ≡ replicate n v)
@@ -75,10 +70,10 @@ module _ {X : Type 0} (eq : X → X → Bool) (test : IsSameTest eq) where
 
   -- the units are those of some values
   pub IsPerChar-from_is_per_char : (len_of : ℕ → ℕ) → HasUnits len_of → (chars : List ℕ) (units : List X) → is_per_char eq len_of chars units ≡ true → IsPerChar len_of chars units
-  IsPerChar-from_is_per_char len_of h [] units e = ([], refl, nil_from_length units (zero_true (length units) e))
+  IsPerChar-from_is_per_char len_of h [] units e = ([], refl, nil_from_length units (zero_test (length units) e))
   IsPerChar-from_is_per_char len_of h (c ∷ chars) units e =
-      let w = both _ _ e in
-      let v = both _ _ w.1 in
+      let w = and_parts _ _ e in
+      let v = and_parts _ _ w.1 in
       let first = one_value (len_of c) units (h c) (le_true (len_of c) (length units) w.0) v.0 in
       let rest = IsPerChar-from_is_per_char len_of h chars (drop (len_of c) units) v.1 in
       (first.0 ∷ rest.0, ap suc rest.1, sym (take-append-drop (len_of c) units) ∙ ap (λ xs. xs ++ drop (len_of c) units) first.1 ∙ ap (λ xs. replicate (len_of c) first.0 ++ xs) rest.2)

@@ -1,4 +1,4 @@
--- The brackets of a sequence as the code gathers them: those that count, each with its index.
+-- Working words: the brackets of a sequence as the code gathers them, those that count, each with its index.
 use Rattle.std.specs.Prelude.{◌≡◌, ℕ, ◌+◌, List, [], ◌∷◌, Option, Some, None}
 use Rattle.bidi_base.specs.declared.char_data.BidiClass.{BidiClass}
 use Rattle.bidi_base.specs.declared.data_source.BidiMatchedOpeningBracket.{BidiMatchedOpeningBracket}

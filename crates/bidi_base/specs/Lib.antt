@@ -1,5 +1,4 @@
 pub mod Analysed
-pub mod Arranged
 pub mod Brackets
 pub mod Classes
 pub mod Direction

@@ -1,4 +1,4 @@
--- What the pass that reads a paragraph from the front keeps true: the isolates that are open so far, and what one more character does.
+-- Working words: what a pass that reads a paragraph from the front keeps true, the isolates that are open so far, and what one more character does.
 use Rattle.std.specs.Prelude.{ℕ, ◌-◌, Bool, true, false, if◌then◌else◌, List, [], ◌∷◌, ◌++◌, take, drop, replicate, Option, Some, None}
 use Rattle.std.specs.declared.ops.Range.{Range}
 use Rattle.bidi_base.specs.declared.char_data.BidiClass.{BidiClass}

@@ -1,4 +1,4 @@
--- A pass that lets isolating run sequences begin and go on (X10): which sequences wait for the PDI of an open isolate, and what has come to each.
+-- Working words: a pass that lets isolating run sequences begin and go on (X10), which sequences wait for the PDI of an open isolate, and what has come to each.
 use Rattle.std.specs.Prelude.{ℕ, ◌-◌, ◌<◌, ◌==◌, if◌then◌else◌, Bool, List, [], ◌∷◌, ◌++◌, length, take, get_or, slice_set, Option, Some, None}
 use Rattle.bidi_base.specs.declared.char_data.BidiClass.{BidiClass}
 use Rattle.bidi_base.specs.Classes.{is_initiator, is_pdi}

@@ -13,9 +13,6 @@ module _ (len_of : ℕ → ℕ) (chars old : List ℕ) where
     pub front : take n new ≡ take n (per_char 0 len_of chars old)
     pub rest : (u : ℕ) → place len_of chars n ≤ u → get_or new u 0 ≡ get_or old u 0
 
-  pub IsGathered-start : IsGathered old 0
-  IsGathered-start = record { long = refl; front = refl; rest = λ u from. refl }
-
   -- a place is not before its character's index
   index-le-place : HasUnits len_of → (n : ℕ) → n ≤ length chars → n ≤ place len_of chars n
   index-le-place h n fits = omega (arith, length-le-text_len len_of h (take n chars), length-take-le n chars fits)

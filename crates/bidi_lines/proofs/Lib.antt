@@ -6,10 +6,8 @@ pub mod Least
 pub mod LineInText
 pub mod LineLevels
 pub mod Ordered
-pub mod Passes
 pub mod Pieces
 pub mod Reversed
 pub mod RunsLemmas
 pub mod Stretches
-pub mod Turning
 pub mod VisualRuns

@@ -1,167 +1,27 @@
--- The annex's reversals give the display order.
-use Rattle.std.proofs.Common.{◌≡◌, ℕ, zero, suc, ◌+◌, ◌-◌, ◌%◌, ◌<◌, ◌≤◌, Bool, true, false, cond, fold, filter, get_or, nat_lt, max, min, List, [], ◌∷◌, ◌++◌, length, slice_index, arith, refl, sym, ap, inl, inr, eqb-true}
+-- What the annex's reversals leave: each pair stands as the levels between its items ask.
+use Rattle.std.proofs.Common.{◌≡◌, ℕ, zero, suc, ◌+◌, ◌-◌, ◌%◌, ◌<◌, ◌≤◌, Bool, true, false, cond, fold, filter, get_or, nat_lt, max, List, [], ◌∷◌, ◌++◌, length, All, AllPairs, Contains, arith, refl, ◌⊎◌, inl, inr, eqb-true, eq-eqb, le_refl, ltb-true, ltb-false, subst, sym, ap, min}
+use Rattle.std.proofs.lemmas.Bool.{cases_lt, cases_eq, cases_Bool, cond-true, cond-false, eqb-false}
 use Rattle.std.specs.List.{range_with_len}
-use Rattle.std.proofs.lemmas.Bool.{cases_lt, cases_Bool, cond-true, cond-false, eqb-false}
-use Rattle.std.proofs.lemmas.List.FromFn.{length-range_with_len, get_or-range_with_len}
 use Rattle.std.specs.List.Sorted.{IsPermutation}
-use Rattle.std.proofs.lemmas.List.{append-nil}
-use Rattle.std.proofs.lemmas.List.Sorted.{IsPermutation-refl, IsPermutation-trans, IsPermutation-cons, IsPermutation-append_right, IsPermutation-middle}
+use Rattle.std.proofs.lemmas.List.{append-nil, get_or_default}
+use Rattle.std.proofs.lemmas.List.Elements.{All-cons, All-nil, All-tail, filter_passes}
+use Rattle.std.proofs.lemmas.List.Kept.{AllPairs-cons}
+use Rattle.std.proofs.lemmas.List.FromFn.{length-range_with_len, get_or-range_with_len}
+use Rattle.std.proofs.lemmas.List.Sorted.{All-permutation, Contains-permutation, IsPermutation-refl, IsPermutation-trans, IsPermutation-cons, IsPermutation-append_right, IsPermutation-middle}
 use Rattle.bidi_base.specs.Levels.{is_odd}
-use Rattle.bidi_base.specs.Arranged.{least_to, IsEven, IsOdd, IsOrdered, NoneIsOdd}
-use Rattle.bidi_base.specs.Order.{least, reversed_after, reversals, highest, lowest_odd, order_by_reversals}
-use Rattle.bidi_lines.proofs.Least.{least-le, least-even_below}
-use Rattle.bidi_lines.proofs.Stretches.{visual-still}
-use Rattle.bidi_lines.proofs.Turning.{Turned, turned}
-use Rattle.bidi_lines.proofs.Passes.{Passed, pass, near-same}
-
-own : (n p : ℕ) → p < n → slice_index (range_with_len 0 n) p ≡ p
-own n p h = let e : slice_index (range_with_len 0 n) p ≡ 0 + p = get_or-range_with_len 0 n p 0 h in omega arith
-
-below_greatest : (a : ℕ) (xs : List ℕ) → (a ≤ fold max a xs) × ((k : ℕ) → k < length xs → get_or xs k 0 ≤ fold max a xs)
-below_greatest a [] = (omega arith, λ k h. absurd (omega arith))
-below_greatest a (x ∷ xs) = with_first (below_greatest (max a x) xs)
-  where
-    with_first : (max a x ≤ fold max (max a x) xs) × ((k : ℕ) → k < length xs → get_or xs k 0 ≤ fold max (max a x) xs)
-        → (a ≤ fold max (max a x) xs) × ((k : ℕ) → k < length (x ∷ xs) → get_or (x ∷ xs) k 0 ≤ fold max (max a x) xs)
-    with_first rest = (omega (arith, rest.0), each)
-      where
-        each : (k : ℕ) → k < length (x ∷ xs) → get_or (x ∷ xs) k 0 ≤ fold max (max a x) xs
-        each zero h = omega (arith, rest.0)
-        each (suc k) h = rest.1 k (omega arith)
-
-le_highest : (levels : List ℕ) (k : ℕ) → k < length levels → slice_index levels k ≤ highest levels
-le_highest levels k h = (below_greatest 0 levels).1 k h
-
--- before the first pass
-start : (levels : List ℕ) (t : ℕ) → highest levels ≤ t → Passed levels t (range_with_len 0 (length levels))
-start levels t h =
-    let n = length levels in
-    record {
-      len = length-range_with_len 0 n;
-      arranged = record {
-        low = λ p a b. omega arith;
-        high = λ p a b. rw (own n p b) b;
-        up = λ p q a b c d.
-            let x = own n p (omega arith) in
-            let y = own n q c in
-            rw (x, y) (let l = least-le levels p q p (omega arith) (omega arith) in let g = le_highest levels p (omega arith) in omega arith);
-        down = λ p q a b c d.
-            let x = own n p (omega arith) in
-            let y = own n q c in
-            absurd (omega arith);
-      };
-      near = λ p h. near-same levels t p _ (sym (own n p h));
-    }
-
-whole : (levels : List ℕ) (t : ℕ) (line : List ℕ) → Turned levels t 0 line (reversed_after levels t [] line)
-whole levels t line = turned levels t line line [] 0 0 (λ r. ap (λ k. slice_index line k) (zeroed r)) (omega arith) (omega arith) (λ r u h. absurd (omega arith)) (λ r a b. absurd (omega arith))
-  where
-    zeroed : (r : ℕ) → r ≡ 0 + r
-    zeroed r = omega arith
-
--- the passes of the numbers l + 1 to k
-passes : (levels : List ℕ) (l count k : ℕ) (line : List ℕ) → k ≡ l + count → Passed levels k line → Passed levels l (reversals levels (suc l) count line)
-passes levels l zero k line e past = let f : k ≡ l = omega arith in rw f at past
-passes levels l (suc count) k line e past =
-    let f : k ≡ suc l + count = omega arith in
-    let g : Passed levels (suc l + count) line = rw f at past in
-    passes levels l count (l + count) (reversed_after levels (suc l + count) [] line) refl
-    (pass levels (suc l + count) (l + count) line (reversed_after levels (suc l + count) [] line) (omega arith) g (whole levels (suc l + count) line))
-
--- after the pass of the odd number l + 1, below which no level is odd
-ends : (levels : List ℕ) (l : ℕ) (line : List ℕ) → IsEven l → ((p : ℕ) → p < length levels → IsOdd (slice_index levels p) → l < slice_index levels p) → Passed levels l line → IsOrdered levels line
-ends levels l line even lowest past p q a b c =
-    let P : p < length levels = omega (arith, past.len) in
-    let Q : q < length levels = omega (arith, past.len) in
-    let m = least_to levels (slice_index line p) (slice_index line q) in
-    let high : slice_index line q < length levels = past.arranged.high q (omega arith) Q in
-    let below : m < suc l → IsEven m = least-even_below levels (slice_index line p) (slice_index line q) (suc l) (omega arith)
-    (λ r u v w. elim (cases_lt (slice_index levels r % 2) 1) [
-      | inl x ↦ omega arith
-      | inr x ↦ let g = lowest r (omega arith) (omega arith) in absurd (omega arith)
-    ]) in (
-      (λ k. let r : IsEven (m - l) = past.arranged.up p q (omega arith) k Q c in
-          elim (cases_lt m (suc l)) [ inl d ↦ below d | inr d ↦ omega arith ]),
-      (λ k. elim (cases_lt p q) [
-        | inl d ↦ d
-        | inr d ↦ elim (cases_lt q p) [
-          | inl f ↦ let r : IsOdd (m - l) = past.arranged.down q p (omega arith) f P c in absurd (omega arith)
-          | inr f ↦ let g : p ≡ q = omega arith in let h : slice_index line p ≡ slice_index line q = ap (λ x. slice_index line x) g in absurd (omega arith)
-        ]
-      ]),
-    )
-
--- `low` is the lowest odd number of a list, or `top` where none is below that
-pub record IsLowestOdd (top : ℕ) (xs : List ℕ) (low : ℕ) : Type 0 where
-  pub at_most : low ≤ top
-  pub parity : low < top → IsOdd low
-  pub lowest : (k : ℕ) → k < length xs → IsOdd (get_or xs k 0) → low ≤ get_or xs k 0
-
-lowest_is : (top : ℕ) (xs : List ℕ) → IsLowestOdd top xs (least top (filter is_odd xs))
-lowest_is top [] = record { at_most = omega arith; parity = λ h. absurd (omega arith); lowest = λ k h. absurd (omega arith) }
-lowest_is top (x ∷ xs) = elim (cases_Bool (is_odd x)) [
-  | inl e ↦ rw (cond-true (is_odd x) (x ∷ filter is_odd xs) (filter is_odd xs) e) (with_odd (lowest_is (min top x) xs) (eqb-true _ _ e))
-  | inr e ↦ rw (cond-false (is_odd x) (x ∷ filter is_odd xs) (filter is_odd xs) e) (with_even (lowest_is top xs) e)
-]
-  where
-    with_odd : {low : ℕ} → IsLowestOdd (min top x) xs low → IsOdd x → IsLowestOdd top (x ∷ xs) low
-    with_odd {low} h o = record { at_most = omega (arith, h.at_most); parity = parity; lowest = lowest }
-      where
-        parity : low < top → IsOdd low
-        parity k = elim (cases_lt low (min top x)) [
-          | inl m ↦ h.parity m
-          | inr m ↦ let same : low ≡ x = omega (arith, h.at_most) in rw same o
-        ]
-
-        lowest : (k : ℕ) → k < length (x ∷ xs) → IsOdd (get_or (x ∷ xs) k 0) → low ≤ get_or (x ∷ xs) k 0
-        lowest zero a b = omega (arith, h.at_most)
-        lowest (suc k) a b = h.lowest k (omega arith) b
-
-    with_even : {low : ℕ} → IsLowestOdd top xs low → is_odd x ≡ false → IsLowestOdd top (x ∷ xs) low
-    with_even {low} h e = record { at_most = h.at_most; parity = h.parity; lowest = lowest }
-      where
-        lowest : (k : ℕ) → k < length (x ∷ xs) → IsOdd (get_or (x ∷ xs) k 0) → low ≤ get_or (x ∷ xs) k 0
-        lowest zero a b = absurd (eqb-false _ _ e b)
-        lowest (suc k) a b = h.lowest k (omega arith) b
-
--- from the highest level down to this one
-reversed_to : List ℕ → ℕ → List ℕ
-reversed_to levels low = reversals levels low (highest levels + 1 - low) (range_with_len 0 (length levels))
-
-no_passes : (levels : List ℕ) (low count : ℕ) (line : List ℕ) → count ≡ 0 → reversals levels low count line ≡ line
-no_passes levels low zero line e = refl
-no_passes levels low (suc count) line e = absurd (omega arith)
-
-reversed-ordered : (levels : List ℕ) (low : ℕ) → IsLowestOdd (highest levels + 1) levels low → IsOrdered levels (reversed_to levels low)
-unfolding reversed_to
-reversed-ordered levels low h = elim (cases_lt low (highest levels + 1)) [
-  | inl some ↦ by_low low refl (h.parity some)
-  | inr none ↦
-      rw (no_passes levels low (highest levels + 1 - low) (range_with_len 0 (length levels)) (omega arith))
-      (visual-still levels (range_with_len 0 (length levels)) (length-range_with_len 0 (length levels)) (λ p k. own (length levels) p k) (even none))
-]
-  where
-    even : highest levels + 1 ≤ low → NoneIsOdd levels
-    even none k a = elim (cases_lt (get_or levels k 0 % 2) 1) [
-      | inl b ↦ omega arith
-      | inr b ↦ let g = h.lowest k a (omega arith) in let g' = le_highest levels k a in absurd (omega arith)
-    ]
-
-    by_low : (l : ℕ) → low ≡ l → IsOdd low → IsOrdered levels (reversals levels low (highest levels + 1 - low) (range_with_len 0 (length levels)))
-    by_low zero e odd = absurd (omega arith)
-    by_low (suc l) e odd =
-        rw e (ends levels l _ (omega arith) (λ p a b. let g = h.lowest p a b in omega arith)
-        (passes levels l (highest levels + 1 - suc l) (highest levels) (range_with_len 0 (length levels)) (omega (arith, h.at_most)) (start levels (highest levels) (omega arith))))
-
-pub order_by_reversals-ordered : (levels : List ℕ) → IsOrdered levels (order_by_reversals levels)
-unfolding order_by_reversals reversed_to
-order_by_reversals-ordered levels = reversed-ordered levels (lowest_odd levels) (lowest_is (highest levels + 1) levels)
+use Rattle.bidi_base.specs.Places.{indexes}
+use Rattle.bidi_base.specs.Order.{least, least_between, reversed_after, reversals, highest, lowest_odd, order_by_reversals}
+use Rattle.bidi_base.proofs.OrderLemmas.{least_between-le, le-least}
+use Rattle.bidi_base.proofs.VisualOrderLemmas.{all_below, contains_index}
+use Rattle.bidi_lines.specs.Arranged.{IsEven, IsOdd, StandsLeft}
+use Rattle.bidi_lines.proofs.Least.{least_between-at, least_between-has, least-has}
+use Rattle.bidi_lines.proofs.Pieces.{AllPairs-head, AllPairs-tail, AllPairs-append}
 
 -- a pass moves items, and neither drops nor repeats one
 pass-permutation : (levels : List ℕ) (t : ℕ) (line held : List ℕ) → IsPermutation (held ++ line) (reversed_after levels t held line)
 pass-permutation levels t [] held = rw (append-nil held) (IsPermutation-refl held)
 pass-permutation levels t (x ∷ line) held =
-    go (nat_lt (slice_index levels x) t) (pass-permutation levels t line (x ∷ held)) (pass-permutation levels t line [])
+    go (nat_lt (get_or levels x 0) t) (pass-permutation levels t line (x ∷ held)) (pass-permutation levels t line [])
   where
     go : (b : Bool) → IsPermutation ((x ∷ held) ++ line) (reversed_after levels t (x ∷ held) line)
         → IsPermutation ([] ++ line) (reversed_after levels t [] line)
@@ -174,6 +34,233 @@ passes-permutation levels low zero line = IsPermutation-refl line
 passes-permutation levels low (suc count) line =
     IsPermutation-trans _ _ _ (pass-permutation levels (low + count) line []) (passes-permutation levels low count (reversed_after levels (low + count) [] line))
 
-pub order_by_reversals-permutation : (levels : List ℕ) → IsPermutation (range_with_len 0 (length levels)) (order_by_reversals levels)
+pub order_by_reversals-permutation : (levels : List ℕ) → IsPermutation (indexes levels) (order_by_reversals levels)
 unfolding order_by_reversals
 order_by_reversals-permutation levels = passes-permutation levels (lowest_odd levels) (highest levels + 1 - lowest_odd levels) _
+
+-- ---- one pass, of the number t + 1
+
+module _ (levels : List ℕ) (t : ℕ) where
+  -- an item at t or below stands by its index
+  upwards : (x z : ℕ) → x < length levels → z < length levels → (get_or levels x 0 ≤ t) ⊎ (get_or levels z 0 ≤ t) → StandsLeft levels (suc t) x z → x ≤ z
+  upwards x z a b low s = elim (cases_lt z x) [
+    | inl k ↦ elim low [
+      | inl h ↦ absurd (omega (arith, s.down k, least_between-at levels z x x (omega arith) (omega arith) a))
+      | inr h ↦ absurd (omega (arith, s.down k, least_between-at levels z x z (omega arith) (omega arith) a))
+    ]
+    | inr k ↦ k
+  ]
+
+  -- so two items with such a one between them stay
+  stay : (x z y : ℕ) → y < length levels → x ≤ z → z ≤ y → get_or levels z 0 ≤ t → StandsLeft levels t x y
+  stay x z y fits a b low = record {
+    up = λ d. omega (arith, least_between-at levels x y z a b fits);
+    down = λ d. absurd (omega arith);
+  }
+
+  -- and two items with none change sides
+  change : (x y : ℕ) → x < length levels → y < length levels → ((k : ℕ) → (x ≤ k × k ≤ y) ⊎ (y ≤ k × k ≤ x) → t < get_or levels k 0) → StandsLeft levels (suc t) y x → StandsLeft levels t x y
+  change x y a b high s = record {
+    up = λ d. omega (arith, s.down d, least_between-le levels x y (suc t) (omega arith) b (λ k f g. omega (arith, high k (inl (f, g)))));
+    down = λ d. omega (arith, s.up d, least_between-le levels y x (suc t) (omega arith) a (λ k f g. omega (arith, high k (inr (f, g)))));
+  }
+
+  -- a stretch above t is held, last item first, and `line` is to come; an item at t or below is before them all, or to come
+  record IsUnderWay (held line : List ℕ) : Type 0 where
+    held_pairs : AllPairs (StandsLeft levels t) held
+    line_pairs : AllPairs (StandsLeft levels (suc t)) line
+    across : All (λ h. All (StandsLeft levels (suc t) h) line) held
+    high : All (λ h. (h < length levels) × (t < get_or levels h 0)) held
+    below : All (λ x. x < length levels) line
+    low : (z : ℕ) → z < length levels → get_or levels z 0 ≤ t → (All (λ x. z ≤ x) held × All (λ x. z ≤ x) line) ⊎ Contains line z
+
+  -- what is between two items of the stretch, and before both or after both, is one of them
+  none_between : (z i k : ℕ) → t < get_or levels i 0 → t < get_or levels k 0 → get_or levels z 0 ≤ t → (i ≤ z × z ≤ k) ⊎ (k ≤ z × z ≤ i) → (z ≤ k × z ≤ i) ⊎ (k ≤ z × i ≤ z) → ⊥
+  none_between z i k a b low between side = elim (cases_eq z i) [
+    | inl e ↦ omega (arith, ap (λ n. get_or levels n 0) e)
+    | inr n ↦ elim (cases_eq z k) [
+      | inl e ↦ omega (arith, ap (λ n. get_or levels n 0) e)
+      | inr m ↦ elim between [ inl p ↦ elim side [ inl s ↦ omega arith | inr s ↦ omega arith ] | inr p ↦ elim side [ inl s ↦ omega arith | inr s ↦ omega arith ] ]
+    ]
+  ]
+
+  module _ (i : ℕ) (held line : List ℕ) (h : IsUnderWay held (i ∷ line)) where
+    inside : i < length levels
+    inside = h.below 0 0 (omega arith)
+
+    -- an item above t joins the stretch
+    hold : t < get_or levels i 0 → IsUnderWay (i ∷ held) line
+    hold above = record {
+      held_pairs = AllPairs-cons (StandsLeft levels t) i held (λ k d fits. change i (get_or held k d) inside (h.high k d fits).0 (deep k d fits) (h.across k d fits 0 0 (omega arith))) h.held_pairs;
+      line_pairs = AllPairs-tail (StandsLeft levels (suc t)) i line h.line_pairs;
+      across = All-cons (λ x. All (StandsLeft levels (suc t) x) line) i held (AllPairs-head (StandsLeft levels (suc t)) i line h.line_pairs) (λ k d fits. All-tail (StandsLeft levels (suc t) (get_or held k d)) i line (h.across k d fits));
+      high = All-cons (λ x. (x < length levels) × (t < get_or levels x 0)) i held (inside, above) h.high;
+      below = All-tail (λ x. x < length levels) i line h.below;
+      low = λ z a b. elim (h.low z a b) [
+        | inl s ↦ inl (All-cons (λ x. z ≤ x) i held (s.1 0 0 (omega arith)) s.0, All-tail (λ x. z ≤ x) i line s.1)
+        | inr c ↦ to_come z b c.0 c.1 c.2
+      ];
+    }
+      where
+        to_come : (z : ℕ) → get_or levels z 0 ≤ t → (m : ℕ) → m < suc (length line) → get_or (i ∷ line) m z ≡ z → (All (λ x. z ≤ x) (i ∷ held) × All (λ x. z ≤ x) line) ⊎ Contains line z
+        to_come z low zero f e = absurd (omega (arith, ap (λ n. get_or levels n 0) e))
+        to_come z low (suc m) f e = inr (m, omega arith, e)
+
+        deep : (k d : ℕ) → k < length held → (z : ℕ) → (i ≤ z × z ≤ get_or held k d) ⊎ (get_or held k d ≤ z × z ≤ i) → t < get_or levels z 0
+        deep k d fits z between = elim (cases_lt t (get_or levels z 0)) [
+          | inl high ↦ high
+          | inr low ↦ absurd (none_between z i (get_or held k d) above (h.high k d fits).1 low between (elim (h.low z short low) [
+            | inl s ↦ inl (s.0 k d fits, s.1 0 0 (omega arith))
+            | inr c ↦ inr (later low c.0 c.1 c.2)
+          ]))
+        ]
+          where
+            short : z < length levels
+            short = elim between [ inl p ↦ omega (arith, p.1, (h.high k d fits).0) | inr p ↦ omega (arith, p.1, inside) ]
+
+            later : get_or levels z 0 ≤ t → (m : ℕ) → m < suc (length line) → get_or (i ∷ line) m z ≡ z → (get_or held k d ≤ z) × (i ≤ z)
+            later low zero f e = absurd (omega (arith, ap (λ n. get_or levels n 0) e))
+            later low (suc m) f e = (
+              upwards (get_or held k d) z (h.high k d fits).0 short (inr low) (subst (StandsLeft levels (suc t) (get_or held k d)) e (h.across k d fits (suc m) z f)),
+              upwards i z inside short (inr low) (subst (StandsLeft levels (suc t) i) e (h.line_pairs 0 (suc m) z (omega arith) f)),
+            )
+
+    -- and one at t or below ends it
+    module _ (at_most : get_or levels i 0 ≤ t) where
+      following : All (λ x. i ≤ x) line
+      following k d fits = upwards i (get_or line k d) inside (h.below (suc k) d (omega arith)) (inl at_most) (h.line_pairs 0 (suc k) d (omega arith) (omega arith))
+
+      begin : IsUnderWay [] line
+      begin = record {
+        held_pairs = λ k m d a b. absurd (omega arith);
+        line_pairs = AllPairs-tail (StandsLeft levels (suc t)) i line h.line_pairs;
+        across = All-nil (λ x. All (StandsLeft levels (suc t) x) line);
+        high = All-nil (λ x. (x < length levels) × (t < get_or levels x 0));
+        below = All-tail (λ x. x < length levels) i line h.below;
+        low = λ z a b. elim (h.low z a b) [
+          | inl s ↦ inl (All-nil (λ x. z ≤ x), All-tail (λ x. z ≤ x) i line s.1)
+          | inr c ↦ to_come z c.0 c.1 c.2
+        ];
+      }
+        where
+          to_come : (z : ℕ) → (m : ℕ) → m < suc (length line) → get_or (i ∷ line) m z ≡ z → (All (λ x. z ≤ x) [] × All (λ x. z ≤ x) line) ⊎ Contains line z
+          to_come z zero f e = inl (All-nil (λ x. z ≤ x), subst (λ (n : ℕ). All (λ x. n ≤ x) line) e following)
+          to_come z (suc m) f e = inr (m, omega arith, e)
+
+      finish : (rest : List ℕ) → IsPermutation line rest → AllPairs (StandsLeft levels t) rest → AllPairs (StandsLeft levels t) (held ++ (i ∷ rest))
+      finish rest perm pairs =
+          AllPairs-append (StandsLeft levels t) held (i ∷ rest) h.held_pairs
+          (AllPairs-cons (StandsLeft levels t) i rest (passed i inside (le_refl i)) pairs)
+          (λ k d fits.
+          let first : get_or held k d ≤ i = upwards (get_or held k d) i (h.high k d fits).0 inside (inr at_most) (h.across k d fits 0 0 (omega arith)) in
+          All-cons (StandsLeft levels t (get_or held k d)) i rest (stay (get_or held k d) i i inside first (le_refl i) at_most) (passed (get_or held k d) (h.high k d fits).0 first))
+        where
+          passed : (x : ℕ) → x < length levels → x ≤ i → All (StandsLeft levels t x) rest
+          passed x a b = All-permutation (StandsLeft levels t x) line rest perm (λ k d fits. stay x i (get_or line k d) (h.below (suc k) d (omega arith)) b (following k d fits) at_most)
+
+  turned : (held line : List ℕ) → IsUnderWay held line → AllPairs (StandsLeft levels t) (reversed_after levels (suc t) held line)
+  turned held [] h = h.held_pairs
+  turned held (i ∷ line) h =
+      go (nat_lt (get_or levels i 0) (suc t)) refl (λ low. finish i held line h low _ (pass-permutation levels (suc t) line []) (turned [] line (begin i held line h low)))
+      (λ above. turned (i ∷ held) line (hold i held line h above))
+    where
+      go : (b : Bool) → nat_lt (get_or levels i 0) (suc t) ≡ b
+          → (get_or levels i 0 ≤ t → AllPairs (StandsLeft levels t) (held ++ (i ∷ reversed_after levels (suc t) [] line)))
+          → (t < get_or levels i 0 → AllPairs (StandsLeft levels t) (reversed_after levels (suc t) (i ∷ held) line))
+          → AllPairs (StandsLeft levels t) (cond b (held ++ (i ∷ reversed_after levels (suc t) [] line)) (reversed_after levels (suc t) (i ∷ held) line))
+      go true e ends on = ends (omega (arith, ltb-true _ _ e))
+      go false e ends on = on (omega (arith, ltb-false _ _ e))
+
+  pass : (line : List ℕ) → IsPermutation (indexes levels) line → AllPairs (StandsLeft levels (suc t)) line → AllPairs (StandsLeft levels t) (reversed_after levels (suc t) [] line)
+  pass line perm pairs = turned [] line (record {
+    held_pairs = λ k m d a b. absurd (omega arith);
+    line_pairs = pairs;
+    across = All-nil (λ x. All (StandsLeft levels (suc t) x) line);
+    high = All-nil (λ x. (x < length levels) × (t < get_or levels x 0));
+    below = All-permutation (λ x. x < length levels) (indexes levels) line perm (all_below levels);
+    low = λ z a b. inr (Contains-permutation (indexes levels) line z perm (contains_index (length levels) z a));
+  })
+
+-- ---- all passes
+
+passes : (levels : List ℕ) (l count k : ℕ) (line : List ℕ) → k ≡ l + count → IsPermutation (indexes levels) line → AllPairs (StandsLeft levels k) line → AllPairs (StandsLeft levels l) (reversals levels (suc l) count line)
+passes levels l zero k line e perm pairs = let f : k ≡ l = omega arith in rw f at pairs
+passes levels l (suc count) k line e perm pairs =
+    let f : k ≡ suc (l + count) = omega arith in
+    let g : suc l + count ≡ suc (l + count) = omega arith in
+    rw g (passes levels l count (l + count) (reversed_after levels (suc (l + count)) [] line) refl
+    (IsPermutation-trans _ _ _ perm (pass-permutation levels (suc (l + count)) line []))
+    (pass levels (l + count) line perm (rw f at pairs)))
+
+le_max : (a : ℕ) (xs : List ℕ) → (a ≤ fold max a xs) × All (λ x. x ≤ fold max a xs) xs
+le_max a [] = (omega arith, All-nil (λ x. x ≤ a))
+le_max a (x ∷ xs) = let rest = le_max (max a x) xs in (omega (arith, rest.0), All-cons (λ y. y ≤ fold max (max a x) xs) x xs (omega (arith, rest.0)) rest.1)
+
+-- before the first pass
+start : (levels : List ℕ) → AllPairs (StandsLeft levels (highest levels)) (indexes levels)
+start levels p q d before fits =
+    let n : q < length levels = omega (arith, fits, length-range_with_len 0 (length levels)) in
+    let x : get_or (indexes levels) p d ≡ 0 + p = get_or-range_with_len 0 (length levels) p d (omega arith) in
+    let y : get_or (indexes levels) q d ≡ 0 + q = get_or-range_with_len 0 (length levels) q d n in
+    rw (x, y) (record {
+      up = λ _. omega (arith, least_between-at levels (0 + p) (0 + q) p (omega arith) (omega arith) (omega arith), (le_max 0 levels).1 p 0 (omega arith));
+      down = λ a. absurd (omega arith);
+    })
+
+-- `low` is the lowest odd number of a list, or `top` where none is below that
+record IsLowestOdd (top : ℕ) (xs : List ℕ) (low : ℕ) : Type 0 where
+  at_most : low ≤ top
+  parity : low < top → IsOdd low
+  lowest : (k : ℕ) → k < length xs → IsOdd (get_or xs k 0) → low ≤ get_or xs k 0
+
+lowest_is : (top : ℕ) (xs : List ℕ) → IsLowestOdd top xs (least top (filter is_odd xs))
+lowest_is top xs = record {
+  at_most = (le-least _ top (filter is_odd xs) (le_refl _)).0;
+  parity = least-has (λ n. n < top → IsOdd n) top (filter is_odd xs) (λ h. absurd (omega arith)) (λ k fits _. eqb-true _ _ (filter_passes is_odd xs k 0 fits));
+  lowest = found top xs;
+}
+  where
+    found : (top : ℕ) (xs : List ℕ) (k : ℕ) → k < length xs → IsOdd (get_or xs k 0) → least top (filter is_odd xs) ≤ get_or xs k 0
+    found top [] k fits odd = absurd (omega arith)
+    found top (x ∷ xs) zero fits odd =
+        rw (cond-true (is_odd x) (x ∷ filter is_odd xs) (filter is_odd xs) (eq-eqb (x % 2) 1 odd)) (omega (arith, (le-least _ (min top x) (filter is_odd xs) (le_refl _)).0))
+    found top (x ∷ xs) (suc k) fits odd = elim (cases_Bool (is_odd x)) [
+      | inl e ↦ rw (cond-true (is_odd x) (x ∷ filter is_odd xs) (filter is_odd xs) e) (found (min top x) xs k (omega arith) odd)
+      | inr e ↦ rw (cond-false (is_odd x) (x ∷ filter is_odd xs) (filter is_odd xs) e) (found top xs k (omega arith) odd)
+    ]
+
+-- after the pass of the lowest odd number l + 1, or before the first pass where none is odd
+ends : (levels : List ℕ) (l : ℕ) (line : List ℕ) → (l < highest levels → IsEven l) → ((p : ℕ) → p < length levels → IsOdd (get_or levels p 0) → l < get_or levels p 0) → All (λ x. x < length levels) line
+    → AllPairs (StandsLeft levels l) line → AllPairs (StandsLeft levels 0) line
+ends levels l line even lowest within pairs p q d before fits =
+    let s = pairs p q d before fits in
+    record {
+      up = λ a. up _ (top _ _ a (within q d fits)) (s.up a) (least_between-has (λ n. n ≤ l → IsEven n) levels (get_or line p d) (get_or line q d) (omega arith) (within q d fits) (λ k b c. low_even k (omega (arith, within q d fits))));
+      down = λ a. down _ (top _ _ a (within p d (omega arith))) (s.down a);
+    }
+  where
+    low_even : (k : ℕ) → k < length levels → get_or levels k 0 ≤ l → IsEven (get_or levels k 0)
+    low_even k fits low = elim (cases_lt (get_or levels k 0 % 2) 1) [
+      | inl x ↦ omega arith
+      | inr x ↦ absurd (omega (arith, lowest k fits (omega arith)))
+    ]
+
+    top : (i j : ℕ) → i < j → j < length levels → least_between levels i j ≤ highest levels
+    top i j a b = omega (arith, least_between-at levels i j i (omega arith) (omega arith) b, (le_max 0 levels).1 i 0 (omega arith))
+
+    up : (m : ℕ) → m ≤ highest levels → IsEven (m - l) → (m ≤ l → IsEven m) → IsEven (m - 0)
+    up m h e f = elim (cases_lt l m) [ inl k ↦ let g = even (omega arith) in omega arith | inr k ↦ let g = f k in omega arith ]
+
+    down : (m : ℕ) → m ≤ highest levels → IsOdd (m - l) → IsOdd (m - 0)
+    down m h e = let g = even (omega arith) in omega arith
+
+pub order_by_reversals-pairs : (levels : List ℕ) → AllPairs (StandsLeft levels 0) (order_by_reversals levels)
+unfolding order_by_reversals
+order_by_reversals-pairs levels = from_low (lowest_odd levels) (lowest_is (highest levels + 1) levels)
+  where
+    from_low : (low : ℕ) → IsLowestOdd (highest levels + 1) levels low → AllPairs (StandsLeft levels 0) (reversals levels low (highest levels + 1 - low) (indexes levels))
+    from_low zero h = absurd (omega (arith, h.parity (omega arith)))
+    from_low (suc l) h =
+        ends levels l _ (λ a. let g = h.parity (omega arith) in omega arith) (λ p a b. omega (arith, h.lowest p a b))
+        (All-permutation (λ x. x < length levels) (indexes levels) _ (passes-permutation levels (suc l) (highest levels + 1 - suc l) (indexes levels)) (all_below levels))
+        (passes levels l (highest levels + 1 - suc l) (highest levels) (indexes levels) (omega (arith, h.at_most)) (IsPermutation-refl (indexes levels)) (start levels))

@@ -1,256 +1,177 @@
--- One more item, or one more stretch turned round, keeps a part arranged.
-use Rattle.std.proofs.Common.{◌≡◌, ℕ, ◌+◌, ◌-◌, ◌<◌, ◌≤◌, List, length, slice_index, arith, inl, inr, ap}
+-- Parts of a line that stand arranged: seen from a lower level, turned round, and joined.
+use Rattle.std.proofs.Common.{◌≡◌, ℕ, ◌+◌, ◌-◌, ◌<◌, ◌≤◌, List, length, slice_index, arith, inl, inr, refl, ◌∙◌}
+use Rattle.std.specs.List.Sorted.{IsPermutation}
 use Rattle.std.proofs.lemmas.Bool.{cases_lt}
-use Rattle.bidi_base.specs.Arranged.{least_to, IsEven, IsOdd, IsArranged, AtLeast, IsOrdered, NoneIsOdd}
-use Rattle.bidi_lines.proofs.Least.{least-is, least-ge, least-even}
+use Rattle.std.proofs.lemmas.List.Sorted.{IsPermutation-refl, IsPermutation-trans}
+use Rattle.bidi_base.specs.Order.{least_between}
+use Rattle.bidi_base.proofs.OrderLemmas.{least_between-le}
+use Rattle.bidi_lines.specs.Arranged.{IsEven, IsOdd, StandsLeft, IsArranged, AtLeast}
+use Rattle.bidi_lines.proofs.Least.{least_between-is}
 
-pub arranged-none : (levels : List ℕ) (base from : ℕ) (order : List ℕ) → IsArranged levels base from from order
-arranged-none levels base from order = record {
-  low = λ p a b. absurd (omega arith);
-  high = λ p a b. absurd (omega arith);
-  up = λ p q a b c d. absurd (omega arith);
-  down = λ p q a b c d. absurd (omega arith);
+-- a run of one level, each item at its own place
+pub arranged-level : (levels : List ℕ) (base from to : ℕ) (order : List ℕ) → to ≤ length levels
+    → ((p : ℕ) → from ≤ p → p < to → slice_index levels p ≡ base) → ((p : ℕ) → from ≤ p → p < to → slice_index order p ≡ p)
+    → IsArranged levels base from to order
+arranged-level levels base from to order fits same own = record {
+  low = λ p a b. rw (own p a b) a;
+  high = λ p a b. rw (own p a b) b;
+  pairs = λ p q a b c.
+      let x = own p a (omega arith) in
+      let y = own q (omega arith) c in
+      let l : least_between levels p q ≡ base = least_between-is levels p q base p (omega arith) (omega arith) (omega arith) (same p a (omega arith)) (λ k f g. omega (arith, same k (omega arith) (omega arith))) in
+      rw (x, y) (record { up = λ _. omega arith; down = λ d. absurd (omega arith) });
 }
 
--- the items from `at` to `end` have the level `base`, and stand at their own places
-pub arranged-run : (levels : List ℕ) (base from at end : ℕ) (order : List ℕ)
-    → IsArranged levels base from at order
-    → AtLeast levels base from end
-    → from ≤ at
-    → at ≤ end
-    → ((p : ℕ) → at ≤ p → p < end → slice_index levels p ≡ base)
-    → ((p : ℕ) → at ≤ p → p < end → slice_index order p ≡ p)
-    → IsArranged levels base from end order
-arranged-run levels base from at end order old all o oo e here = record {
-  low = low;
-  high = λ p a b. elim (cases_lt p at) [
-    | inl k ↦ let r = old.high p a k in omega arith
-    | inr k ↦ rw (here p k b) b
-  ];
-  up = λ p q a b c d. elim (cases_lt q at) [
-    | inl k ↦ old.up p q a b k d
-    | inr k ↦
-        let x : slice_index order q ≡ q = here q k c in
-        let f : from ≤ slice_index order p = low p a (omega arith) in
-        rw x
-        (let l : least_to levels (slice_index order p) q ≡ base = least-is levels (slice_index order p) q base q (omega arith) (omega arith) (e q k c) (λ r u v. all r (omega arith) (omega arith)) in
-        omega arith)
-  ];
-  down = λ p q a b c d. elim (cases_lt q at) [
-    | inl k ↦ old.down p q a b k d
-    | inr k ↦
-        let x : slice_index order q ≡ q = here q k c in
-        elim (cases_lt p at) [
-          | inl m ↦ let g : slice_index order p < at = old.high p a m in absurd (omega arith)
-          | inr m ↦ let y : slice_index order p ≡ p = here p m (omega arith) in absurd (omega arith)
-        ]
-  ];
-}
-  where
-    low : (p : ℕ) → from ≤ p → p < end → from ≤ slice_index order p
-    low p a b = elim (cases_lt p at) [
-      | inl k ↦ old.low p a k
-      | inr k ↦ rw (here p k b) a
-    ]
+-- what is arranged above a higher level that no item is below
+module _ (levels : List ℕ) (base least at end : ℕ) (fits : end ≤ length levels) (above : AtLeast levels least at end) (under : base ≤ least) where
+  deep : (i j : ℕ) → at ≤ i → i < j → j < end → least ≤ least_between levels i j
+  deep i j a b c = least_between-le levels i j least (omega arith) (omega arith) (λ k f g. above k (omega arith) (omega arith))
 
--- a part that is arranged above a higher level, where an even number of levels lies between: as it is
-pub arranged-nested : (levels : List ℕ) (base least at end : ℕ) (order : List ℕ)
-    → IsArranged levels least at end order
-    → AtLeast levels least at end
-    → base ≤ least
-    → IsEven (least - base)
-    → IsArranged levels base at end order
-arranged-nested levels base least at end order inner above o even = record {
-  low = inner.low;
-  high = inner.high;
-  up = λ p q a b c d.
-      let r : IsEven (least_to levels (slice_index order p) (slice_index order q) - least) = inner.up p q a b c d in
-      let i : at ≤ slice_index order p = inner.low p (omega arith) (omega arith) in
-      let j : slice_index order q < end = inner.high q (omega arith) (omega arith) in
-      let l : least ≤ least_to levels (slice_index order p) (slice_index order q) =
-      least-ge levels (slice_index order p) (slice_index order q) least (omega arith) (λ r u v. above r (omega arith) (omega arith)) in
-      omega arith;
-  down = λ p q a b c d.
-      let r : IsOdd (least_to levels (slice_index order q) (slice_index order p) - least) = inner.down p q a b c d in
-      let i : at ≤ slice_index order q = inner.low q (omega arith) (omega arith) in
-      let j : slice_index order p < end = inner.high p (omega arith) (omega arith) in
-      let l : least ≤ least_to levels (slice_index order q) (slice_index order p) =
-      least-ge levels (slice_index order q) (slice_index order p) least (omega arith) (λ r u v. above r (omega arith) (omega arith)) in
-      omega arith;
-}
+  -- an even number of levels further up: as it is
+  pub arranged-nested : (order : List ℕ) → IsEven (least - base) → IsArranged levels least at end order → IsArranged levels base at end order
+  arranged-nested order even inner = record {
+    low = inner.low;
+    high = inner.high;
+    pairs = λ p q a b c. record {
+      up = λ d. omega (arith, (inner.pairs p q a b c).up d, deep _ _ (inner.low p a (omega arith)) d (inner.high q (omega arith) c));
+      down = λ d. omega (arith, (inner.pairs p q a b c).down d, deep _ _ (inner.low q (omega arith) c) d (inner.high p a (omega arith)));
+    };
+  }
 
--- and where an odd number of levels lies between: turned round
-pub arranged-turned : (levels : List ℕ) (base least at end : ℕ) (mid new : List ℕ)
-    → IsArranged levels least at end mid
-    → AtLeast levels least at end
-    → base ≤ least
-    → IsOdd (least - base)
-    → ((p q : ℕ) → at ≤ p → at ≤ q → p + q + 1 ≡ at + end → slice_index new p ≡ slice_index mid q)
-    → IsArranged levels base at end new
-arranged-turned levels base least at end mid new inner above o odd inside = record {
-  low = λ p a b.
-      let q : ℕ = at + end - 1 - p in
-      let r : at ≤ slice_index mid q = inner.low q (omega arith) (omega arith) in
-      rw (inside p q a (omega arith) (omega arith)) r;
-  high = λ p a b.
-      let q : ℕ = at + end - 1 - p in
-      let r : slice_index mid q < end = inner.high q (omega arith) (omega arith) in
-      rw (inside p q a (omega arith) (omega arith)) r;
-  up = λ p q a b c d.
-      let p' : ℕ = at + end - 1 - p in
-      let q' : ℕ = at + end - 1 - q in
-      let x : slice_index new p ≡ slice_index mid p' = inside p p' a (omega arith) (omega arith) in
-      let y : slice_index new q ≡ slice_index mid q' = inside q q' (omega arith) (omega arith) (omega arith) in
-      let i : at ≤ slice_index mid p' = inner.low p' (omega arith) (omega arith) in
-      let j : slice_index mid q' < end = inner.high q' (omega arith) (omega arith) in
-      let r : IsOdd (least_to levels (slice_index mid p') (slice_index mid q') - least) =
-      inner.down q' p' (omega arith) (omega arith) (omega arith) (omega arith) in
-      let l : least ≤ least_to levels (slice_index mid p') (slice_index mid q') =
-      least-ge levels (slice_index mid p') (slice_index mid q') least (omega arith) (λ r u v. above r (omega arith) (omega arith)) in
-      rw (x, y) (omega arith);
-  down = λ p q a b c d.
-      let p' : ℕ = at + end - 1 - p in
-      let q' : ℕ = at + end - 1 - q in
-      let x : slice_index new p ≡ slice_index mid p' = inside p p' a (omega arith) (omega arith) in
-      let y : slice_index new q ≡ slice_index mid q' = inside q q' (omega arith) (omega arith) (omega arith) in
-      let i : at ≤ slice_index mid q' = inner.low q' (omega arith) (omega arith) in
-      let j : slice_index mid p' < end = inner.high p' (omega arith) (omega arith) in
-      let r : IsEven (least_to levels (slice_index mid q') (slice_index mid p') - least) =
-      inner.up q' p' (omega arith) (omega arith) (omega arith) (omega arith) in
-      let l : least ≤ least_to levels (slice_index mid q') (slice_index mid p') =
-      least-ge levels (slice_index mid q') (slice_index mid p') least (omega arith) (λ r u v. above r (omega arith) (omega arith)) in
-      rw (x, y) (omega arith);
-}
+  -- an odd number: turned round
+  pub arranged-turned : (mid new : List ℕ) → IsOdd (least - base) → ((p q : ℕ) → at ≤ p → at ≤ q → p + q + 1 ≡ at + end → slice_index new p ≡ slice_index mid q)
+      → IsArranged levels least at end mid → IsArranged levels base at end new
+  arranged-turned mid new odd inside inner = record {
+    low = λ p a b. rw (mirrored p a b) (inner.low (at + end - 1 - p) (omega arith) (omega arith));
+    high = λ p a b. rw (mirrored p a b) (inner.high (at + end - 1 - p) (omega arith) (omega arith));
+    pairs = λ p q a b c.
+        let v : ℕ = at + end - 1 - p in
+        let w : ℕ = at + end - 1 - q in
+        let s : StandsLeft levels least (slice_index mid w) (slice_index mid v) = inner.pairs w v (omega arith) (omega arith) (omega arith) in
+        rw (mirrored p a (omega arith), mirrored q (omega arith) c) (record {
+          up = λ d. omega (arith, s.down d, deep (slice_index mid v) (slice_index mid w) (inner.low v (omega arith) (omega arith)) d (inner.high w (omega arith) (omega arith)));
+          down = λ d. omega (arith, s.up d, deep (slice_index mid w) (slice_index mid v) (inner.low w (omega arith) (omega arith)) d (inner.high v (omega arith) (omega arith)));
+        });
+  }
+    where
+      mirrored : (p : ℕ) → at ≤ p → p < end → slice_index new p ≡ slice_index mid (at + end - 1 - p)
+      mirrored p a b = inside p (at + end - 1 - p) a (omega arith) (omega arith)
 
--- a whole line, arranged from the level 0 on
-pub visual-from_arranged : (levels order : List ℕ) → IsArranged levels 0 0 (length order) order → IsOrdered levels order
-visual-from_arranged levels order made p q a b c = (
-  (λ k. let r : IsEven (least_to levels (slice_index order p) (slice_index order q) - 0) = made.up p q (omega arith) k b c in
-      let s : least_to levels (slice_index order p) (slice_index order q) - 0 ≡ least_to levels (slice_index order p) (slice_index order q) = omega arith in
-      rw s at r),
-  (λ k. elim (cases_lt p q) [
-    | inl m ↦ m
-    | inr m ↦ elim (cases_lt q p) [
-      | inl n ↦ let r : IsOdd (least_to levels (slice_index order p) (slice_index order q) - 0) = made.down q p (omega arith) n a c in absurd (omega arith)
-      | inr n ↦ let e : p ≡ q = omega arith in let f : slice_index order p ≡ slice_index order q = ap (λ x. slice_index order x) e in absurd (omega arith)
-    ]
-  ]),
-)
+-- from each item of one part to each of the next an item has the level `base`
+Parted : List ℕ → ℕ → ℕ → ℕ → ℕ → Type 0
+Parted levels base from at end = (x y : ℕ) → from ≤ x → x < at → at ≤ y → y < end → (s : ℕ) × (x ≤ s) × (s ≤ y) × (slice_index levels s ≡ base)
 
--- each item at its own place, where no level is odd
-pub visual-still : (levels order : List ℕ) → length order ≡ length levels
-    → ((p : ℕ) → p < length levels → slice_index order p ≡ p)
-    → NoneIsOdd levels → IsOrdered levels order
-visual-still levels order e own even p q a b c =
-    let x : slice_index order p ≡ p = own p (omega arith) in
-    let y : slice_index order q ≡ q = own q (omega arith) in
-    rw (x, y) (
-      (λ k. least-even levels p q (omega arith) (λ r u v. even r (omega arith))),
-      (λ k. omega arith),
-    )
-
--- two parts, where each item between them and the first of the second stands at the level `base`
-pub arranged-joined : (levels : List ℕ) (base from at end : ℕ) (order new : List ℕ)
-    → IsArranged levels base from at order
-    → IsArranged levels base at end new
-    → AtLeast levels base from end
-    → from ≤ at
-    → at ≤ end
-    → (from < at → slice_index levels (at - 1) ≡ base)
+arranged-joined : (levels : List ℕ) (base from at end : ℕ) (order new : List ℕ) → end ≤ length levels → AtLeast levels base from end → Parted levels base from at end
     → ((p : ℕ) → p < at → slice_index new p ≡ slice_index order p)
-    → IsArranged levels base from end new
-arranged-joined levels base from at end order new old inner all o oo edge before = record {
-  low = λ p a b. elim (cases_lt p at) [
-    | inl k ↦ rw (before p k) (old.low p a k)
-    | inr k ↦ let r = inner.low p k b in omega arith
-  ];
-  high = λ p a b. elim (cases_lt p at) [
-    | inl k ↦ let r : slice_index order p < at = old.high p a k in rw (before p k) (omega arith)
-    | inr k ↦ inner.high p k b
-  ];
-  up = λ p q a b c d. elim (cases_lt q at) [
-    | inl k ↦
-        let x : slice_index new p ≡ slice_index order p = before p (omega arith) in
-        let y : slice_index new q ≡ slice_index order q = before q k in
-        rw (x, y) (old.up p q a b k (omega arith))
+    → IsArranged levels base from at order → IsArranged levels base at end new → from ≤ at → at ≤ end → IsArranged levels base from end new
+unfolding Parted
+arranged-joined levels base from at end order new fits all parted before old inner o oo = record {
+  low = λ p a b. elim (cases_lt p at) [ inl k ↦ rw (before p k) (old.low p a k) | inr k ↦ omega (arith, inner.low p k b) ];
+  high = λ p a b. elim (cases_lt p at) [ inl k ↦ rw (before p k) (omega (arith, old.high p a k)) | inr k ↦ inner.high p k b ];
+  pairs = λ p q a b c. elim (cases_lt q at) [
+    | inl k ↦ rw (before p (omega arith), before q k) (old.pairs p q a b k)
     | inr k ↦ elim (cases_lt p at) [
       | inl m ↦
-          let x : slice_index new p ≡ slice_index order p = before p m in
           let f : from ≤ slice_index order p = old.low p a m in
           let g : slice_index order p < at = old.high p a m in
           let h : at ≤ slice_index new q = inner.low q k c in
           let i : slice_index new q < end = inner.high q k c in
-          let l : least_to levels (slice_index order p) (slice_index new q) ≡ base =
-          least-is levels (slice_index order p) (slice_index new q) base (at - 1) (omega arith) (omega arith)
-          (edge (omega arith)) (λ r u v. all r (omega arith) (omega arith)) in
-          rw x (omega arith)
-      | inr m ↦ inner.up p q m b c d
-    ]
-  ];
-  down = λ p q a b c d. elim (cases_lt q at) [
-    | inl k ↦
-        let x : slice_index new p ≡ slice_index order p = before p (omega arith) in
-        let y : slice_index new q ≡ slice_index order q = before q k in
-        rw (x, y) (old.down p q a b k (omega arith))
-    | inr k ↦ elim (cases_lt p at) [
-      | inl m ↦
-          let x : slice_index new p ≡ slice_index order p = before p m in
-          let g : slice_index order p < at = old.high p a m in
-          let h : at ≤ slice_index new q = inner.low q k c in
-          absurd (omega arith)
-      | inr m ↦ inner.down p q m b c d
+          let s = parted _ _ f g h i in
+          let l : least_between levels (slice_index order p) (slice_index new q) ≡ base = least_between-is levels _ _ base s.0 s.1 s.2 (omega arith) s.3 (λ r u v. all r (omega arith) (omega arith)) in
+          rw (before p m) (record { up = λ _. omega arith; down = λ d. absurd (omega arith) })
+      | inr m ↦ inner.pairs p q m b c
     ]
   ];
 }
 
--- a run of one level, as it was
-pub arranged-kept : (levels : List ℕ) (base at end level : ℕ) (order : List ℕ)
-    → ((p : ℕ) → at ≤ p → p < end → slice_index levels p ≡ level)
-    → IsEven (level - base)
-    → ((p : ℕ) → at ≤ p → p < end → slice_index order p ≡ p)
-    → IsArranged levels base at end order
-arranged-kept levels base at end level order same even own = record {
-  low = λ p a b. rw (own p a b) a;
-  high = λ p a b. rw (own p a b) b;
-  up = λ p q a b c d.
-      let x = own p a (omega arith) in
-      let y = own q (omega arith) c in
-      let l : least_to levels p q ≡ level = least-is levels p q level p (omega arith) (omega arith) (same p a (omega arith))
-      (λ r u v. let e = same r (omega arith) (omega arith) in omega arith) in
-      rw (x, y) (omega arith);
-  down = λ p q a b c d.
-      let x = own p a (omega arith) in
-      let y = own q (omega arith) c in
-      absurd (omega arith);
+-- the places from `from` to `at` are arranged, and what stands elsewhere is as it was; what follows is above `base` only after an item at `base`
+pub record IsArrangedTo (levels : List ℕ) (base from : ℕ) (old new : List ℕ) (at : ℕ) : Type 0 where
+  pub begins : from ≤ at
+  pub ends : at ≤ length levels
+  pub at_least : AtLeast levels base from at
+  pub before : (p : ℕ) → p < from → slice_index new p ≡ slice_index old p
+  pub after : (p : ℕ) → at ≤ p → slice_index new p ≡ slice_index old p
+  pub edge : from < at → at < length levels → base < slice_index levels at → slice_index levels (at - 1) ≡ base
+  pub arranged : IsArranged levels base from at new
+  pub permutation : IsPermutation old new
+
+-- a further part, from `at` to `end`, whose items are so arranged
+pub record IsNextPart (levels : List ℕ) (base : ℕ) (old new : List ℕ) (at end : ℕ) : Type 0 where
+  pub within : (at ≤ end) × (end ≤ length levels)
+  pub at_least : AtLeast levels base at end
+  pub before : (p : ℕ) → p < at → slice_index new p ≡ slice_index old p
+  pub after : (p : ℕ) → end ≤ p → slice_index new p ≡ slice_index old p
+  pub arranged : IsArranged levels base at end new
+  pub permutation : IsPermutation old new
+
+-- a run of one level
+pub IsNextPart-level : (levels : List ℕ) (level : ℕ) (order : List ℕ) (at end : ℕ) → (at ≤ end) × (end ≤ length levels)
+    → ((p : ℕ) → at ≤ p → p < end → slice_index levels p ≡ level) → ((p : ℕ) → at ≤ p → p < end → slice_index order p ≡ p) → IsNextPart levels level order order at end
+IsNextPart-level levels level order at end within same own = record {
+  within = within;
+  at_least = λ p a b. omega (arith, same p a b);
+  before = λ p a. refl;
+  after = λ p a. refl;
+  arranged = arranged-level levels level at end order within.1 same own;
+  permutation = IsPermutation-refl order;
 }
 
--- a run of one level, turned round
-pub arranged-flipped : (levels : List ℕ) (base at end level : ℕ) (order new : List ℕ)
-    → ((p : ℕ) → at ≤ p → p < end → slice_index levels p ≡ level)
-    → IsOdd (level - base)
-    → ((p : ℕ) → at ≤ p → p < end → slice_index order p ≡ p)
-    → ((p q : ℕ) → at ≤ p → at ≤ q → p + q + 1 ≡ at + end → slice_index new p ≡ slice_index order q)
-    → IsArranged levels base at end new
-arranged-flipped levels base at end level order new same odd own inside = record {
-  low = λ p a b. let x = turned p a b in omega arith;
-  high = λ p a b. let x = turned p a b in omega arith;
-  up = λ p q a b c d.
-      let x = turned p a (omega arith) in
-      let y = turned q (omega arith) c in
-      absurd (omega arith);
-  down = λ p q a b c d.
-      let x = turned p a (omega arith) in
-      let y = turned q (omega arith) c in
-      let l : least_to levels (slice_index new q) (slice_index new p) ≡ level =
-      least-is levels (slice_index new q) (slice_index new p) level (slice_index new q) (omega arith) (omega arith)
-      (same (slice_index new q) (omega arith) (omega arith))
-      (λ r u v. let e = same r (omega arith) (omega arith) in omega arith) in
-      omega arith;
-}
-  where
-    turned : (p : ℕ) → at ≤ p → p < end → slice_index new p + p + 1 ≡ at + end
-    turned p a b =
-        let q : ℕ = at + end - 1 - p in
-        let x : slice_index new p ≡ slice_index order q = inside p q a (omega arith) (omega arith) in
-        let y : slice_index order q ≡ q = own q (omega arith) (omega arith) in
-        omega arith
+-- a part seen from a lower level, and turned round
+module _ (levels : List ℕ) (base least : ℕ) (old mid : List ℕ) (at end : ℕ) (under : base ≤ least) (part : IsNextPart levels least old mid at end) where
+  pub IsNextPart-nested : IsEven (least - base) → IsNextPart levels base old mid at end
+  IsNextPart-nested even = record {
+    within = part.within;
+    before = part.before;
+    after = part.after;
+    permutation = part.permutation;
+    at_least = λ p a b. omega (arith, part.at_least p a b);
+    arranged = arranged-nested levels base least at end part.within.1 part.at_least under mid even part.arranged;
+  }
+
+  pub IsNextPart-turned : (new : List ℕ) → IsOdd (least - base) → ((p : ℕ) → p < at → slice_index new p ≡ slice_index mid p) → ((p : ℕ) → end ≤ p → slice_index new p ≡ slice_index mid p)
+      → ((p q : ℕ) → at ≤ p → at ≤ q → p + q + 1 ≡ at + end → slice_index new p ≡ slice_index mid q) → IsPermutation mid new → IsNextPart levels base old new at end
+  IsNextPart-turned new odd before after inside perm = record {
+    within = part.within;
+    at_least = λ p a b. omega (arith, part.at_least p a b);
+    before = λ p a. before p a ∙ part.before p a;
+    after = λ p a. after p a ∙ part.after p a;
+    arranged = arranged-turned levels base least at end part.within.1 part.at_least under mid new odd inside part.arranged;
+    permutation = IsPermutation-trans _ _ _ part.permutation perm;
+  }
+
+module _ (levels : List ℕ) (base from : ℕ) (old mid new : List ℕ) (at end : ℕ) where
+  more : IsArrangedTo levels base from old mid at → IsNextPart levels base mid new at end → Parted levels base from at end
+      → (end < length levels → base < slice_index levels end → slice_index levels (end - 1) ≡ base) → IsArrangedTo levels base from old new end
+  more h part parted edge = record {
+    begins = omega (arith, h.begins, part.within.0);
+    ends = part.within.1;
+    at_least = all;
+    before = λ p a. part.before p (omega (arith, h.begins)) ∙ h.before p a;
+    after = λ p a. part.after p a ∙ h.after p (omega (arith, part.within.0));
+    edge = λ _ b c. edge b c;
+    arranged = arranged-joined levels base from at end mid new part.within.1 all parted part.before h.arranged part.arranged h.begins part.within.0;
+    permutation = IsPermutation-trans _ _ _ h.permutation part.permutation;
+  }
+    where
+      all : AtLeast levels base from end
+      all p a b = elim (cases_lt p at) [ inl k ↦ h.at_least p a k | inr k ↦ part.at_least p k b ]
+
+  -- a stretch above the base, after which comes no item above it
+  pub IsArrangedTo-stretch : at < length levels → base < slice_index levels at → (end < length levels → slice_index levels end ≤ base)
+      → IsNextPart levels base mid new at end → IsArrangedTo levels base from old mid at → IsArrangedTo levels base from old new end
+  unfolding Parted
+  IsArrangedTo-stretch some above stops part h =
+      more h part
+      (λ x y a b c d. (at - 1, omega arith, omega arith, h.edge (omega arith) some above))
+      (λ a b. absurd (omega (arith, stops a)))
+
+-- a run at the base
+pub IsArrangedTo-run : (levels : List ℕ) (base from : ℕ) (old new : List ℕ) (at end : ℕ) → at < end → end ≤ length levels
+    → ((p : ℕ) → at ≤ p → p < end → slice_index levels p ≡ base) → ((p : ℕ) → from ≤ p → p < length levels → slice_index old p ≡ p)
+    → IsArrangedTo levels base from old new at → IsArrangedTo levels base from old new end
+unfolding Parted
+IsArrangedTo-run levels base from old new at end some fits same untouched h =
+    more levels base from old new new at end h
+    (IsNextPart-level levels base new at end (omega arith, fits) same (λ p a b. h.after p a ∙ untouched p (omega (arith, h.begins)) (omega arith)))
+    (λ x y a b c d. (y, omega arith, omega arith, same y c d))
+    (λ a b. same (end - 1) (omega arith) (omega arith))

@@ -1,4 +1,4 @@
--- The level runs in the visual order of their levels, written out, are the visual order of the units, and no other list of level runs is.
+-- The level runs in the visual order of their levels, written out, are the visual order of the units.
 use Rattle.std.proofs.Common.{◌≡◌, ◌≢◌, ℕ, zero, suc, ◌+◌, ◌-◌, ◌%◌, ◌<◌, ◌≤◌, max, true, false, List, [], ◌∷◌, ◌++◌, map, flat_map, reverse, length, get_or, AllPairs, All, refl, sym, ap, subst, ◌∙◌, arith, inl, inr, eq-eqb, le_refl, length-append}
 use Rattle.std.specs.List.{range_with_len}
 use Rattle.std.specs.List.Sorted.{IsPermutation}
@@ -318,78 +318,3 @@ visual_runs-are from levels = record {
         let r : get_or (runs_order from levels) i d < length (map (run_level from levels) (level_runs from levels)) =
         All-permutation (λ k. k < length (map (run_level from levels) (level_runs from levels))) (indexes (map (run_level from levels) (level_runs from levels))) (runs_order from levels) visual.all_indexes (all_below (map (run_level from levels) (level_runs from levels))) i d fits in
         level_runs-each from levels (get_or (runs_order from levels) i d) (0, 0) (omega (arith, length-map (level_runs from levels) (run_level from levels)))
-
--- Two level runs that share a unit are one.
-same_run : (from : ℕ) (levels : List ℕ) (r s : Run) → IsLevelRun from levels r → IsLevelRun from levels s → (u : ℕ) → IsUnitOf r u → IsUnitOf s u → r ≡ s
-same_run from levels r s h k u in_r in_s = λ i. (starts i, stops i)
-  where
-    levels_same : run_level from levels r ≡ run_level from levels s
-    levels_same = sym (h.equal u in_r.0 in_r.1) ∙ k.equal u in_s.0 in_s.1
-
-    not_before : (a b : Run) → IsLevelRun from levels a → IsLevelRun from levels b → IsUnitOf a u → IsUnitOf b u → run_level from levels a ≡ run_level from levels b → a.0 < b.0 → ⊥
-    not_before a b ha hb in_a in_b same less =
-        hb.before (b.0 - 1) (omega arith) (omega (arith, ha.starts_within)) (omega (arith, hb.ends_within, hb.not_empty))
-        (ha.equal (b.0 - 1) (omega arith) (omega (arith, in_a.1, in_b.0)) ∙ same)
-
-    not_after : (a b : Run) → IsLevelRun from levels a → IsLevelRun from levels b → IsUnitOf a u → IsUnitOf b u → run_level from levels a ≡ run_level from levels b → a.1 < b.1 → ⊥
-    not_after a b ha hb in_a in_b same less =
-        ha.after (omega (arith, ha.starts_within, ha.not_empty)) (omega (arith, hb.ends_within))
-        (hb.equal a.1 (omega (arith, in_a.1, in_b.0)) less ∙ sym same)
-
-    starts : r.0 ≡ s.0
-    starts = elim (cases_order r.0 s.0) [
-      | inl e ↦ e
-      | inr apart ↦ elim apart [
-        | inl less ↦ absurd (not_before r s h k in_r in_s levels_same less)
-        | inr more ↦ absurd (not_before s r k h in_s in_r (sym levels_same) more)
-      ]
-    ]
-
-    stops : r.1 ≡ s.1
-    stops = elim (cases_order r.1 s.1) [
-      | inl e ↦ e
-      | inr apart ↦ elim apart [
-        | inl less ↦ absurd (not_after r s h k in_r in_s levels_same less)
-        | inr more ↦ absurd (not_after s r k h in_s in_r (sym levels_same) more)
-      ]
-    ]
-
-length-written_run : (from : ℕ) (levels : List ℕ) (run : Run) → length (written_run from levels run) ≡ run.1 - run.0
-length-written_run from levels run = length_permutation (between run.0 run.1) (written_run from levels run) (IsPermutation-sym _ _ (IsPermutation-written_run from levels run)) ∙ length-between run.0 run.1
-
--- Level runs are known by what they write.
-written-once : (from : ℕ) (levels : List ℕ) (rs ss : List Run) → All (IsLevelRun from levels) rs → All (IsLevelRun from levels) ss → flat_map (written_run from levels) rs ≡ flat_map (written_run from levels) ss → rs ≡ ss
-written-once from levels [] [] h k e = refl
-written-once from levels [] (s ∷ ss) h k e = absurd (omega (arith, (k zero s (omega arith)).not_empty, ap length e, length-append (written_run from levels s) (flat_map (written_run from levels) ss), length-written_run from levels s))
-written-once from levels (r ∷ rs) [] h k e = absurd (omega (arith, (h zero r (omega arith)).not_empty, ap length e, length-append (written_run from levels r) (flat_map (written_run from levels) rs), length-written_run from levels r))
-written-once from levels (r ∷ rs) (s ∷ ss) h k e =
-    let rest : rs ≡ ss = written-once from levels rs ss (All-tail (IsLevelRun from levels) r rs h) (All-tail (IsLevelRun from levels) s ss k)
-    (append_cancel_left (written_run from levels s) _ _ (sym (ap (λ (x : Run). written_run from levels x ++ flat_map (written_run from levels) rs) first) ∙ e)) in
-    λ i. first i ∷ rest i
-  where
-    hr : IsLevelRun from levels r
-    hr = h zero r (omega arith)
-
-    hs : IsLevelRun from levels s
-    hs = k zero s (omega arith)
-
-    some_r : 0 < length (written_run from levels r)
-    some_r = omega (arith, hr.not_empty, length-written_run from levels r)
-
-    some_s : 0 < length (written_run from levels s)
-    some_s = omega (arith, hs.not_empty, length-written_run from levels s)
-
-    head : get_or (written_run from levels r) 0 0 ≡ get_or (written_run from levels s) 0 0
-    head = sym (get_or_append_left (written_run from levels r) (flat_map (written_run from levels) rs) 0 0 some_r) ∙ ap (λ l. get_or l 0 0) e ∙ get_or_append_left (written_run from levels s) (flat_map (written_run from levels) ss) 0 0 some_s
-
-    first : r ≡ s
-    first = same_run from levels r s hr hs (get_or (written_run from levels r) 0 0)
-        (All-written_run (IsUnitOf r) from levels r (λ u a b. (a, b)) 0 0 some_r)
-        (rw head (All-written_run (IsUnitOf s) from levels s (λ u a b. (a, b)) 0 0 some_s))
-
--- there is one such list of runs
-pub visual_runs-unique : (from : ℕ) (levels : List ℕ) (runs : List Run) → AreVisualRuns from levels runs → runs ≡ visual_runs from levels
-unfolding written_runs
-visual_runs-unique from levels runs h =
-    let here : AreVisualRuns from levels (visual_runs from levels) = visual_runs-are from levels in
-    written-once from levels runs (visual_runs from levels) h.are_runs here.are_runs (h.in_order ∙ sym here.in_order)

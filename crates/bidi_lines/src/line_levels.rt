@@ -15,7 +15,7 @@ use std::alloc::{AllocError, Global};
 use std::ops::Range;
 
 // Writes a level to the part from `from` to `to`.
-fn fill(levels: &mut [Level], from: usize, to: usize, level: Level)
+fn write_level(levels: &mut [Level], from: usize, to: usize, level: Level)
     requires begins { from ≤ to }
     requires ends { to ≤ length levels.old }
     ensures before { (k : ℕ) → k < from → slice_index levels.new k ≡ slice_index levels.old k }
@@ -37,7 +37,7 @@ fn reset_levels(level: Level, classes: &[BidiClass], levels: &mut [Level])
     for i in 0..classes.len() {
         let class = classes[i];
         if is_separator(class) {
-            fill(levels, blank_start, i + 1, level);
+            write_level(levels, blank_start, i + 1, level);
             before = level;
             blank_start = i + 1;
         } else if is_removed(class) {
@@ -49,7 +49,7 @@ fn reset_levels(level: Level, classes: &[BidiClass], levels: &mut [Level])
             }
         }
     }
-    fill(levels, blank_start, classes.len(), level);
+    write_level(levels, blank_start, classes.len(), level);
 }
 
 // Whether a unit is reset, where the unit after it is or is not; the line's end counts as reset.
@@ -80,7 +80,8 @@ fn starts_removed(classes: &[BidiClass]) -> bool
     }
 }
 
-// Whether some unit of a line has an odd level after L1, from the line's stored classes and levels.
+/// Whether some unit of a line has an odd level after L1. `classes` and `levels` are those stored for
+/// the line's units, and `level` is that of the line's paragraph. It takes no memory.
 pub fn line_has_rtl(level: Level, classes: &[BidiClass], levels: &[Level]) -> bool
     requires { length levels.now ≡ length classes.now }
     ensures { result ≡ has_rtl (line_levels level classes.now levels.now) }
@@ -115,7 +116,8 @@ fn reset_line(level: Level, classes: &[BidiClass], levels: &mut [Level], line: R
     );
 }
 
-// The levels of a line's units after L1, from the stored classes and levels of the whole text.
+/// The levels of a line's units after L1. `classes` and `levels` are those stored for the units of the
+/// whole text, of which the line is the range `line`, and `level` is that of the line's paragraph.
 pub fn levels_of_line(
     alloc: Global,
     level: Level,
@@ -133,8 +135,9 @@ pub fn levels_of_line(
     Ok(shown)
 }
 
-// The levels of a text's units, those of a line after L1, from the stored classes and levels of the
-// whole text. The level handed in is the line's paragraph's.
+/// The level of each unit of a text, where those of the line are as L1 leaves them and all others are
+/// the stored ones. `classes` and `levels` are those stored for the units of the whole text, of which
+/// the line is the range `line`, and `level` is that of the line's paragraph.
 pub fn levels_with_line(
     alloc: Global,
     level: Level,
@@ -166,8 +169,8 @@ fn gather<T: TextSource>(text: T, levels: &mut [Level]) -> usize
     count
 }
 
-// The levels of a text's characters, those of a line after L1, from the stored classes and levels of
-// the text's units.
+/// The same with one level for each character of the text: that of the character's first unit. `line`
+/// is a range of units too.
 pub fn levels_per_char<T: TextSource>(
     alloc: Global,
     text: T,

@@ -1,14 +1,15 @@
 //! The visual order of a line (L2).
 
-ghost use Rattle.std.specs.Prelude.{◌≡◌, ◌≢◌, ℕ, ◌+◌, ◌<◌, ◌≤◌, length, slice_index, IfOk, IfNone, IfSome, IsPermutation, false};
+ghost use Rattle.std.specs.Prelude.{◌≡◌, ◌≢◌, ℕ, ◌+◌, ◌<◌, ◌≤◌, length, slice_index, ◌==◌, if◌then◌else◌, IfOk, IsPermutation, false};
 ghost use Rattle.std.specs.List.{range_with_len};
 ghost use lib.Lanes.{chunk};
-ghost use Rattle.bidi_base.specs.Arranged.{IsArranged, AtLeast};
+ghost use lib.Count.{count_trailing_zeros};
+ghost use Rattle.bidi_lines.specs.Arranged.{IsArranged, AtLeast};
 ghost use Rattle.bidi_base.specs.Levels.{has_rtl};
 ghost use Rattle.bidi_base.specs.Order.{visual_order, IsVisualOrder, order_by_reversals};
 ghost use Rattle.bidi_base.specs.Places.{indexes};
 
-use bidi_base::level::{Level, MAX_IMPLICIT_DEPTH, has_rtl};
+use bidi_base::level::{Level, has_rtl};
 use std::alloc::{AllocError, Global};
 use std::simd::prelude::*;
 
@@ -33,17 +34,8 @@ fn number_at(levels: &[Level], at: usize) -> u8
     levels[at].number()
 }
 
-// The numbers of the 16 levels from `at` on.
-fn load(levels: &[Level], at: usize) -> u8x16
-    requires { at + 16 ≤ length levels.now }
-    ensures { result ≡ chunk at 16 levels.now }
-{
-    let mut block = [0u8; 16];
-    fill(&levels[at..at + 16], &mut block);
-    u8x16::from_array(block)
-}
-
-fn fill(levels: &[Level], block: &mut [u8])
+// Writes the numbers of levels.
+fn copy_numbers(levels: &[Level], block: &mut [u8])
     requires { length block.old ≡ length levels.now }
     ensures { block.new ≡ levels.now }
 {
@@ -52,20 +44,38 @@ fn fill(levels: &[Level], block: &mut [u8])
     }
 }
 
-// How many of the 16 items from `at` on come before the first that has not the level `level`.
-fn first_other(levels: &[Level], at: usize, level: u8) -> Option<usize>
+// The numbers of the 16 levels from `at` on.
+fn sixteen_numbers(levels: &[Level], at: usize) -> u8x16
     requires { at + 16 ≤ length levels.now }
-    ensures none { IfNone result ((p : ℕ) → at ≤ p → p < at + 16 → slice_index levels.now p ≡ level) }
-    ensures within { IfSome result (λ n. n < 16) }
-    ensures same { IfSome result (λ n. (p : ℕ) → at ≤ p → p < at + n → slice_index levels.now p ≡ level) }
-    ensures stops { IfSome result (λ n. slice_index levels.now (at + n) ≢ level) }
+    ensures { result ≡ chunk at 16 levels.now }
 {
-    let others = load(levels, at).simd_ne(u8x16::splat(level)).to_bitmask();
-    if others == 0 {
-        None
+    let mut block = [0u8; 16];
+    copy_numbers(&levels[at..at + 16], &mut block);
+    u8x16::from_array(block)
+}
+
+// How many of 16 lanes come before the first one whose bit is set.
+fn lanes_before(bits: u64) -> usize
+    ensures { result ≡ (if bits == 0 then 16 else count_trailing_zeros 64 bits) }
+{
+    if bits == 0 {
+        16
     } else {
-        Some(others.trailing_zeros() as usize)
+        bits.trailing_zeros() as usize
     }
+}
+
+// How many of the 16 items from `at` on come before the first that has not the level `level`.
+fn first_other(levels: &[Level], at: usize, level: u8) -> usize
+    requires { at + 16 ≤ length levels.now }
+    ensures within { result ≤ 16 }
+    ensures same { (p : ℕ) → at ≤ p → p < at + result → slice_index levels.now p ≡ level }
+    ensures stops { result < 16 → slice_index levels.now (at + result) ≢ level }
+{
+    let others = sixteen_numbers(levels, at)
+        .simd_ne(u8x16::splat(level))
+        .to_bitmask();
+    lanes_before(others)
 }
 
 // The end of the stretch of items from `from` on that have its level.
@@ -82,10 +92,11 @@ pub(crate) fn run_end(levels: &[Level], from: usize) -> usize
         return at;
     }
     while levels.len() - at >= 16 {
-        if let Some(count) = first_other(levels, at, level) {
-            return at + count;
+        let count = first_other(levels, at, level);
+        at += count;
+        if count < 16 {
+            return at;
         }
-        at += 16;
     }
     while at < levels.len() && number_at(levels, at) == level {
         at += 1;
@@ -94,19 +105,16 @@ pub(crate) fn run_end(levels: &[Level], from: usize) -> usize
 }
 
 // How many of the 16 items from `at` on come before the first at the level `base` or below.
-fn first_at_most(levels: &[Level], at: usize, base: u8) -> Option<usize>
+fn first_at_most(levels: &[Level], at: usize, base: u8) -> usize
     requires { at + 16 ≤ length levels.now }
-    ensures none { IfNone result ((p : ℕ) → at ≤ p → p < at + 16 → base < slice_index levels.now p) }
-    ensures within { IfSome result (λ n. n < 16) }
-    ensures above { IfSome result (λ n. (p : ℕ) → at ≤ p → p < at + n → base < slice_index levels.now p) }
-    ensures stops { IfSome result (λ n. slice_index levels.now (at + n) ≤ base) }
+    ensures within { result ≤ 16 }
+    ensures above { (p : ℕ) → at ≤ p → p < at + result → base < slice_index levels.now p }
+    ensures stops { result < 16 → slice_index levels.now (at + result) ≤ base }
 {
-    let low = load(levels, at).simd_le(u8x16::splat(base)).to_bitmask();
-    if low == 0 {
-        None
-    } else {
-        Some(low.trailing_zeros() as usize)
-    }
+    let low = sixteen_numbers(levels, at)
+        .simd_le(u8x16::splat(base))
+        .to_bitmask();
+    lanes_before(low)
 }
 
 // The end of the stretch of items from `from` on whose levels are above `base`.
@@ -119,10 +127,11 @@ fn stretch_end(levels: &[Level], from: usize, base: u8) -> usize
 {
     let mut at = from;
     while levels.len() - at >= 16 {
-        if let Some(count) = first_at_most(levels, at, base) {
-            return at + count;
+        let count = first_at_most(levels, at, base);
+        at += count;
+        if count < 16 {
+            return at;
         }
-        at += 16;
     }
     while at < levels.len() && number_at(levels, at) > base {
         at += 1;
@@ -130,14 +139,15 @@ fn stretch_end(levels: &[Level], from: usize, base: u8) -> usize
     at
 }
 
-// A number that no level is below: the least of them, where there is one.
+// The least of some levels.
 fn least_of(levels: &[Level]) -> u8
+    requires { 0 < length levels.now }
     ensures least { (p : ℕ) → p < length levels.now → result ≤ slice_index levels.now p }
-    ensures above { (base : ℕ) → base < 126 → ((p : ℕ) → p < length levels.now → base < slice_index levels.now p) → base < result }
+    ensures above { (base : ℕ) → ((p : ℕ) → p < length levels.now → base < slice_index levels.now p) → base < result }
     ensures in_range { result ≤ 126 }
 {
-    let mut least = MAX_IMPLICIT_DEPTH;
-    for i in 0..levels.len() {
+    let mut least = number_at(levels, 0);
+    for i in 1..levels.len() {
         least = least.min(number_at(levels, i));
     }
     least
@@ -206,21 +216,9 @@ fn indexes_below(alloc: Global, n: usize) -> Result<Vec<usize>, AllocError>
     (0..n).collect(alloc)
 }
 
-// Brings the indexes of a line's items, upwards at first, into the visual order. At the levels up to
-// the least one the whole line is turned.
-fn arrange_line(levels: &[Level], order: &mut [usize])
-    requires { order.old ≡ range_with_len 0 (length levels.now) }
-    ensures { IsVisualOrder levels.now order.new }
-{
-    let least = least_of(levels);
-    arrange(levels, order, 0, least);
-    if least % 2 == 1 {
-        flip(order, 0, levels.len());
-    }
-}
-
-// The same, where a line without an odd level stays as it is.
-pub(crate) fn settle(levels: &[Level], order: &mut [usize])
+// Brings the indexes of a line's items, upwards at first, into the visual order. A line without an
+// odd level stays as it is.
+pub(crate) fn put_in_visual_order(levels: &[Level], order: &mut [usize])
     requires { order.old ≡ range_with_len 0 (length levels.now) }
     ensures order { order.new ≡ visual_order levels.now }
     ensures visual { IsVisualOrder levels.now order.new }
@@ -228,11 +226,13 @@ pub(crate) fn settle(levels: &[Level], order: &mut [usize])
     ensures reversals { order.new ≡ order_by_reversals levels.now }
 {
     if has_rtl(levels) {
-        arrange_line(levels, order);
+        arrange(levels, order, 0, 0);
     }
 }
 
-// The index of the item that stands at each place of the line, from the left.
+/// The index of the item that stands at each place of a line, from left to right (L2), where `levels`
+/// has the level of each item after L1. Each index stands there once. An item may be a unit, a
+/// character or a level run. Only the list that is answered takes memory.
 pub fn reorder_visual(alloc: Global, levels: &[Level]) -> Result<Vec<usize>, AllocError>
     ensures order { IfOk result (λ v. v.items ≡ visual_order levels.now) }
     ensures visual { IfOk result (λ v. IsVisualOrder levels.now v.items) }
@@ -240,6 +240,6 @@ pub fn reorder_visual(alloc: Global, levels: &[Level]) -> Result<Vec<usize>, All
     ensures reversals { IfOk result (λ v. v.items ≡ order_by_reversals levels.now) }
 {
     let mut order = indexes_below(alloc, levels.len())?;
-    settle(levels, order.as_mut_slice());
+    put_in_visual_order(levels, order.as_mut_slice());
     Ok(order)
 }

@@ -8,7 +8,7 @@ ghost use Rattle.bidi_base.specs.Order.{visual_order};
 ghost use Rattle.bidi_base.specs.Places.{at_places};
 
 use crate::line_levels::levels_with_line;
-use crate::visual_order::{reorder_visual, run_end, settle};
+use crate::visual_order::{put_in_visual_order, reorder_visual, run_end};
 use bidi_base::char_data::BidiClass;
 use bidi_base::level::{LTR_LEVEL, Level, has_rtl};
 use std::alloc::{AllocError, Global};
@@ -107,12 +107,13 @@ fn in_visual_order(
 {
     write_levels(of_runs, levels, start, runs);
     write_indexes(order);
-    settle(of_runs, order);
+    put_in_visual_order(of_runs, order);
     runs_at(alloc, runs, order)
 }
 
-// The level runs of a line that starts at the unit `start`, from left to right. The levels are those
-// of the line's units after L1.
+/// The level runs (BD7) of a line, from left to right by L2: each a range of units of the text, in
+/// which the line starts at the unit `start`. `levels` are those of the line's units after L1. Of a
+/// line of up to 16 runs no memory is taken but for the runs.
 pub fn visual_runs_of(
     alloc: Global,
     levels: &[Level],
@@ -147,7 +148,8 @@ pub fn visual_runs_of(
     runs_at(alloc, runs.as_slice(), order.as_slice())
 }
 
-/// The levels of a text's units, those of a line after L1, and the line's visual runs (L2).
+/// The level of each unit of a text, those of a line after L1 (see `levels_with_line`), and the level
+/// runs (BD7) of the line by them, in units of the text, from left to right by L2.
 pub fn levels_and_runs(
     alloc: Global,
     level: Level,

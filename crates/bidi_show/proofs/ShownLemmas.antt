@@ -15,6 +15,7 @@ use Rattle.bidi_base.proofs.TextLemmas.{is_boundary-le}
 use Rattle.bidi_base.proofs.PerUnit.{length-per_char, get_or-per_char}
 use Rattle.bidi_base.proofs.StrLemmas.{has_units, text_len-chars, subrange-from_str}
 use Rattle.bidi_base.proofs.OrderLemmas.{length-slice_range}
+use Rattle.bidi_show.specs.Shown.{own_end}
 use Rattle.bidi_show.specs.Texts.{spaced, levels_line, without_separator}
 
 -- what holds once a text was appended
@@ -96,7 +97,7 @@ without_separator-IsLine source cs start end line =
 
 -- the part of a text that is a paragraph without its separator
 pub record IsOwnPart (source : Source) (bs own : List ℕ) (start end : ℕ) : Type 0 where
-  pub long : length own ≡ text_len len_utf8 (without_separator source (subrange len_utf8 (chars bs) start end))
+  pub ends : start + length own ≡ own_end source (chars bs) start end
   pub line : IsLine len_utf8 (chars bs) start (start + length own)
   pub within : start + length own ≤ length bs
 
@@ -106,4 +107,4 @@ own_part source bs part own start end u v w line is e =
     let n : length own ≡ text_len len_utf8 (without_separator source (subrange len_utf8 (chars bs) start end)) =
     sym (text_len-chars own w) ∙ ap (text_len len_utf8) (e ∙ ap (λ l. without_separator source (chars l)) is ∙ ap (without_separator source) (sym (subrange-from_str bs start end u line (subst IsUtf8 is v)))) in
     let short : IsLine len_utf8 (chars bs) start (start + length own) = subst (λ m. IsLine len_utf8 (chars bs) start (start + m)) (sym n) (without_separator-IsLine source (chars bs) start end line) in
-    record { long = n; line = short; within = omega (arith, is_boundary-le len_utf8 (chars bs) (start + length own) short.ends, text_len-chars bs u) }
+    record { ends = ap (λ m. start + m) n; line = short; within = omega (arith, is_boundary-le len_utf8 (chars bs) (start + length own) short.ends, text_len-chars bs u) }

@@ -15,12 +15,16 @@ use Rattle.bidi_show.specs.Texts.{heading, levels_line, text_line, without_separ
 abbrev pub levels_in : List ℕ → List ℕ → ℕ → ℕ → List ℕ
 levels_in text levels start end = per_char 0 len_utf8 (chars (slice_range text start end)) (slice_range levels start end)
 
+-- where it ends in bytes, without the separator that closes it
+abbrev pub own_end : Source → List ℕ → ℕ → ℕ → ℕ
+own_end source cs start end = start + text_len len_utf8 (without_separator source (subrange len_utf8 cs start end))
+
 -- its text from left to right, from one class and one level a byte
 abbrev pub text_in : Source → List ℕ → ℕ → List BidiClass → List ℕ → ℕ → ℕ → List ℕ
 text_in source text level classes levels start end =
     let cs = chars text in
     line_text len_utf8 encode_utf8 cs text level (per_char L len_utf8 cs classes) (per_char 0 len_utf8 cs levels)
-    start (start + text_len len_utf8 (without_separator source (subrange len_utf8 cs start end)))
+    start (own_end source cs start end)
 
 -- all of its lines
 abbrev pub lines_in : Source → List ℕ → List BidiClass → List ℕ → ParagraphInfo → List ℕ

@@ -1,4 +1,5 @@
-//! Shows what the bidirectional algorithm makes of levels: `bidi_show map <level>..`.
+//! Shows what the bidirectional algorithm makes of levels, `bidi_show map <level>..`, and of a text,
+//! `bidi_show show auto`, `ltr` or `rtl`.
 #![tactic(auto)]
 
 ghost use Rattle.std.specs.Prelude.{◌≡◌, IfErr};

@@ -103,12 +103,14 @@ fn answer<R: ShowIn>(
 ///   order, as indexes separated by one space and ended by a line feed. Nothing is read.
 /// - `show` and `auto`, `ltr` or `rtl` (no base level, 0 or 1): three lines for each paragraph of
 ///   the input, by the sample table: where it stands, in bytes, and its level; the level of each of
-///   its characters; its text from left to right, without the separator that closes it.
+///   its characters; its text from left to right, without the separator that closes it. The sample
+///   table knows the Hebrew letters and the Arabic ones from U+0627 to U+064A: Hebrew points, the
+///   letters that Persian adds, and Syriac count as left to right.
 ///
 /// The words are looked at before any memory is taken, and the whole answer is made before any of
-/// it is written. `Usage` comes exactly where the words are none of the forms, and `Device` exactly
-/// where a read or a write failed. `Memory` comes where memory was refused. An input that was read
-/// to its end is answered by `NotUtf8` if it is not UTF-8, and else never.
+/// it is written. `Usage` comes exactly where the words are none of the forms, `NotUtf8` exactly
+/// where reading came to the end and the bytes are not UTF-8, and `Device` exactly where a read or
+/// a write failed. `Memory` comes where memory was refused.
 pub fn run<R: ShowIn, W: ShowOut>(
     alloc: Global,
     words: &[String],
@@ -184,7 +186,7 @@ fn run_counted<F: Ledger, E: Ledger, O: Ledger, R: Read + Drop, W: Write + Drop>
     }
 }
 
-/// A run that reads from a reader and writes to a writer.
+/// A run that reads from a reader and writes to a writer, and hands both back.
 pub fn run_over_streams<R: Read + Drop, W: Write + Drop>(
     alloc: Global,
     words: &[String],

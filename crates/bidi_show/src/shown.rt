@@ -1,10 +1,10 @@
 //! What `show` prints of a text.
-ghost use Rattle.std.specs.Prelude.{◌≡◌, ◌+◌, ◌≤◌, ◌++◌, length, flat_map, decimal, All, IfOk, OnOk, IfSome, string_bytes};
+ghost use Rattle.std.specs.Prelude.{◌≡◌, ◌+◌, ◌≤◌, ◌++◌, length, slice_range, flat_map, decimal, All, IfOk, OnOk, IfSome, string_bytes};
 ghost use Rattle.std.specs.Char.{len_utf8};
 ghost use Rattle.std.specs.Str.{chars};
 ghost use Rattle.bidi_base.specs.Classes.{is_paragraph_separator};
-ghost use Rattle.bidi_base.specs.Text.{per_char, subrange, IsLine};
-ghost use Rattle.bidi_show.specs.Shown.{levels_in, text_in, lines_in};
+ghost use Rattle.bidi_base.specs.Text.{per_char, IsLine};
+ghost use Rattle.bidi_show.specs.Shown.{lines_in, own_end as own_end_of};
 ghost use Rattle.bidi_show.specs.Texts.{heading, levels_line, text_line, without_separator as without_separator_of, shown_text};
 ghost use Rattle.unicode_bidi.specs.BidiInfo.{text as text_of, original_classes, levels as levels_of_info};
 ghost use Rattle.unicode_bidi.specs.ParagraphInfo.{level_of, range_of};
@@ -71,25 +71,36 @@ fn without_separator<'t, D: BidiDataSource>(data_source: &D, text: &'t str) -> &
     }
 }
 
-// Appends a paragraph from left to right, without the separator that closes it.
-fn push_text<D: BidiDataSource>(
-    alloc: Global,
-    out: &mut String,
+// The text of a line.
+fn text_of_line(text: &str, start: usize, end: usize) -> &str
+    requires { IsLine len_utf8 (chars text.now) start end }
+    ensures part { result.now ≡ slice_range text.now start end }
+    ensures length { length result.now + start ≡ end }
+{
+    &text[start..end]
+}
+
+// Where a paragraph ends, without the separator that closes it.
+fn own_end<D: BidiDataSource>(
     data_source: &D,
     info: &BidiInfo<'_>,
     paragraph: &ParagraphInfo,
-) -> Result<(), AllocError>
+) -> usize
     requires { IsLine len_utf8 (chars (text_of info.now)) (range_of paragraph.now).start (range_of paragraph.now).end }
-    ensures { OnOk result (string_bytes out.new ≡ string_bytes out.old
-        ++ text_line (text_in (D.source data_source.now) (text_of info.now) (level_of paragraph.now) (original_classes info.now) (levels_of_info info.now)
-        (range_of paragraph.now).start (range_of paragraph.now).end)) }
+    ensures line { IsLine len_utf8 (chars (text_of info.now)) (range_of paragraph.now).start result }
+    ensures end { result ≡ own_end_of (D.source data_source.now) (chars (text_of info.now)) (range_of paragraph.now).start (range_of paragraph.now).end }
 {
-    let units = paragraph.range();
-    let start = units.start;
-    let own = without_separator(data_source, &info.text()[units]);
-    let line = info.reorder_line(alloc, paragraph, start..start + own.len())?;
+    let range = paragraph.range();
+    let text = text_of_line(info.text(), range.start, range.end);
+    range.start + without_separator(data_source, text).len()
+}
+
+// Appends a line of text from left to right.
+fn push_text(out: &mut String, line: &str) -> Result<(), AllocError>
+    ensures { OnOk result (string_bytes out.new ≡ string_bytes out.old ++ text_line line.now) }
+{
     out.push_str("text ")?;
-    out.push_str(line.as_str())?;
+    out.push_str(line)?;
     out.push_str("\n")
 }
 
@@ -105,11 +116,17 @@ fn push_paragraph<D: BidiDataSource>(
     ensures { OnOk result (string_bytes out.new ≡ string_bytes out.old
         ++ lines_in (D.source data_source.now) (text_of info.now) (original_classes info.now) (levels_of_info info.now) paragraph.now) }
 {
-    let units = paragraph.range();
-    let (start, end) = (units.start, units.end);
+    let range = paragraph.range();
+    let (start, end) = (range.start, range.end);
     push_heading(out, paragraph)?;
-    push_levels(out, &info.text()[units], &info.levels()[start..end])?;
-    push_text(alloc, out, data_source, info, paragraph)
+    push_levels(
+        out,
+        text_of_line(info.text(), start, end),
+        &info.levels()[start..end],
+    )?;
+    let own_end = own_end(data_source, info, paragraph);
+    let line = info.reorder_line(alloc, paragraph, start..own_end)?;
+    push_text(out, line.as_str())
 }
 
 // Appends the lines of some paragraphs.

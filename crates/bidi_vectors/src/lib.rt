@@ -1,39 +1,25 @@
-//! Worked rows of the Unicode Bidirectional Algorithm, as tests of the crates below.
+//! Worked rows of the Unicode Bidirectional Algorithm, as tests of the public calls.
 #![tactic(auto)]
 
 #[cfg(test)]
+mod base_directions;
+#[cfg(test)]
+mod by_rules;
+#[cfg(test)]
+mod class_groups;
+#[cfg(test)]
+mod constructors;
+#[cfg(test)]
 mod encoding_rows;
 #[cfg(test)]
-mod explicit_units_rows;
+mod levels;
 #[cfg(test)]
-mod info_rows;
+mod lines;
 #[cfg(test)]
-mod initial_rows;
+mod orders;
 #[cfg(test)]
-mod level_rows;
+mod rows;
 #[cfg(test)]
-mod line_rows;
+mod sources;
 #[cfg(test)]
-mod neutral_units_rows;
-#[cfg(test)]
-mod order_rows;
-#[cfg(test)]
-mod plain_explicit;
-#[cfg(test)]
-mod plain_neutral;
-#[cfg(test)]
-mod plain_sequences;
-#[cfg(test)]
-mod plain_weak;
-#[cfg(test)]
-mod run_rows;
-#[cfg(test)]
-mod run_walks_rows;
-#[cfg(test)]
-mod sequence_units_rows;
-#[cfg(test)]
-mod source_rows;
-#[cfg(test)]
-mod text_rows;
-#[cfg(test)]
-mod weak_units_rows;
+mod texts;

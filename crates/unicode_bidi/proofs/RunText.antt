@@ -15,7 +15,7 @@ use Rattle.bidi_base.specs.Display.{Run, run_level, visual_runs, written_run, wr
 use Rattle.bidi_base.proofs.OrderLemmas.{get_or-slice_range, length-slice_range}
 use Rattle.bidi_lines.proofs.Pieces.{All-between, length-between, get_or-between}
 use Rattle.std.proofs.lemmas.List.FromFn.{length-range_with_len, get_or-range_with_len}
-use Rattle.bidi_base.specs.Arranged.{NoneIsOdd}
+use Rattle.bidi_lines.specs.Arranged.{NoneIsOdd}
 use Rattle.bidi_base.proofs.TextLemmas.{HasUnits}
 use Rattle.bidi_base.proofs.PlaceLemmas.{place-more, place-mono, char_index-place}
 use Rattle.bidi_lines.proofs.Ordered.{visual_order-still}

@@ -1,7 +1,5 @@
 // The text of a line from left to right (L2).
-ghost use Rattle.std.specs.Prelude.{◌≡◌, ℕ, ◌+◌, ◌<◌, ◌≤◌, ◌++◌, List, length, slice_range, reverse, flat_map, map, IfOk, OnOk, All, ◌↔◌, string_bytes, encode_utf8};
-ghost use Rattle.std.specs.Cow.{cow_str_bytes, IsBorrowedStr};
-ghost use Rattle.std.specs.Str.{chars};
+ghost use Rattle.std.specs.Prelude.{◌≡◌, ℕ, ◌+◌, ◌<◌, ◌≤◌, ◌++◌, List, [], length, slice_range, reverse, flat_map, map, IfOk, OnOk, IsNone, MatchOption, All, ◌↔◌};
 ghost use Rattle.bidi_base.specs.Analysed.{IsLineOf, IsTextOfLine, StaysInOrder};
 ghost use Rattle.bidi_base.specs.Display.{run_of, run_text_in, line_text};
 ghost use Rattle.bidi_base.specs.Text.{text_len, subrange, per_char, IsLine};
@@ -9,15 +7,17 @@ ghost use Rattle.bidi_base.specs.declared.char_data.BidiClass.TheVariants.{L};
 
 use crate::analysed::Analysed;
 use bidi_base::level::Level;
-use bidi_base::text::{StrText, TextSource};
+use bidi_base::text::TextSource;
 use bidi_lines::line_levels::{levels_of_line, line_has_rtl};
 use bidi_lines::visual_runs::visual_runs_of;
 use std::alloc::{AllocError, Global};
-use std::borrow::CowStr;
 use std::ops::Range;
 
+mod utf16;
+mod utf8;
+
 // What the runs of a line are written to, from left to right.
-pub(crate) trait RunWriter<T: TextSource> {
+pub(crate) trait RunWriter<T: TextSource>: Drop {
     // The units that are written.
     ghost written: { Self → List ℕ };
 
@@ -26,6 +26,10 @@ pub(crate) trait RunWriter<T: TextSource> {
 
     // How a character is written at an odd level.
     ghost encode: { ℕ → List ℕ };
+
+    // No units yet, with room for this many.
+    fn with_room(alloc: Global, units: usize) -> Result<Self, AllocError>
+        ensures { IfOk result (λ w. written w ≡ []) };
 
     // Appends the units of a run.
     fn write_forwards(&mut self, text: T, run: Range<usize>) -> Result<(), AllocError>
@@ -86,59 +90,30 @@ impl<T: TextSource> Analysed<T> {
         let runs = visual_runs_of(alloc, shown.as_slice(), start)?;
         write_runs(out, self.text(), start, shown.as_slice(), runs.as_slice())
     }
-}
 
-// Appends the characters of a text, last first.
-fn push_reversed(out: &mut String, text: &str) -> Result<(), AllocError>
-    ensures { OnOk result (string_bytes out.new ≡ string_bytes out.old ++ flat_map encode_utf8 (reverse (chars text.now))) }
-{
-    for c in text.chars().rev() {
-        out.push(c)?;
-    }
-    Ok(())
-}
-
-impl<'t> RunWriter<StrText<'t>> for String {
-    ghost written = { λ s. string_bytes s };
-
-    ghost units_of = { λ t. t.text.now };
-
-    ghost encode = { encode_utf8 };
-
-    fn write_forwards(&mut self, text: StrText<'t>, run: Range<usize>) -> Result<(), AllocError> {
-        let text = text.as_str();
-        self.push_str(&text[run])
-    }
-
-    fn write_backwards(&mut self, text: StrText<'t>, run: Range<usize>) -> Result<(), AllocError> {
-        push_reversed(self, text.subrange(run).as_str())
-    }
-}
-
-impl<'t> Analysed<StrText<'t>> {
-    ghost use Rattle.unicode_bidi.specs.Analysed.{analysed, text_of};
-
-    /// The text of a line of UTF-8 from left to right. It is borrowed exactly where no level of the
-    /// line is odd after L1.
-    pub(crate) fn reorder_line(
+    // The text of a line from left to right. `None`, with no memory taken for it, where no level of
+    // the line is odd after L1: then the line shows its units as they stand.
+    fn turned_line<W: RunWriter<T>>(
         &self,
         alloc: Global,
         level: Level,
         line: Range<usize>,
-    ) -> Result<CowStr<'t>, AllocError>
-        requires { IsLineOf (analysed self.now) line }
-        ensures text { IfOk result (λ c. IsTextOfLine encode_utf8 (text_of self.now).text.now (analysed self.now) level line (cow_str_bytes c)) }
-        ensures borrowed { IfOk result (λ c. IsBorrowedStr c ↔ StaysInOrder (analysed self.now) level line) }
+    ) -> Result<Option<W>, AllocError>
+        requires units { length (W.units_of (text_of self.now)) ≡ text_len T.units (T.characters (text_of self.now)) }
+        requires is_line { IsLineOf (analysed self.now) line }
+        ensures text { let units = W.units_of (text_of self.now) in IfOk result (λ o. MatchOption o
+            (IsTextOfLine W.encode units (analysed self.now) level line (slice_range units line.start line.end))
+            (λ w. IsTextOfLine W.encode units (analysed self.now) level line (W.written w))) }
+        ensures still { IfOk result (λ o. IsNone o ↔ StaysInOrder (analysed self.now) level line) }
     {
         let (start, end) = (line.start, line.end);
-        let text = self.text().as_str();
         let classes = self.original_classes();
         let levels = self.levels();
         if !line_has_rtl(level, &classes[start..end], &levels[start..end]) {
-            return Ok(CowStr::Borrowed(&text[line]));
+            return Ok(None);
         }
-        let mut out = String::with_capacity(alloc, end - start)?;
+        let mut out = W::with_room(alloc, end - start)?;
         self.write_line(alloc, &mut out, level, line)?;
-        Ok(CowStr::Owned(out))
+        Ok(Some(out))
     }
 }

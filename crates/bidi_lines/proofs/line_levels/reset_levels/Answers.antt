@@ -10,9 +10,9 @@ loop-i-init c = IsResetTo-start c.args.level c.args.classes.now c.args.levels.no
 pub loop-i-preserved : goal.loop-i-preserved
 loop-i-preserved c = elim c.if-is_separator.branch [
   | then-is_separator w ↦ rw (w.levels-is, w.before-is, w.blank_start-is)
-      (IsResetTo-separator c.args.level c.args.classes.now c.args.levels.now c.loop-i.levels w.fill.new.levels c.loop-i.blank_start c.loop-i.before c.loop-i.i
+      (IsResetTo-separator c.args.level c.args.classes.now c.args.levels.now c.loop-i.levels w.write_level.new.levels c.loop-i.blank_start c.loop-i.before c.loop-i.i
       (omega arith) (sym c.is_separator.ensures ∙ w.if-is_separator.true)
-      (record { long = w.fill.auto.levels; before = w.fill.ensures.before; inside = w.fill.ensures.inside; after = w.fill.ensures.after })
+      (record { long = w.write_level.auto.levels; before = w.write_level.ensures.before; inside = w.write_level.ensures.inside; after = w.write_level.ensures.after })
       c.loop-i.invariant)
   | else-is_separator+then-is_removed w ↦ rw (w.levels-is, w.before-is, w.blank_start-is)
       (IsResetTo-removed c.args.level c.args.classes.now c.args.levels.now c.loop-i.levels c.loop-i.blank_start c.loop-i.before c.loop-i.i 0
@@ -27,7 +27,7 @@ loop-i-preserved c = elim c.if-is_separator.branch [
 
 pub returns : goal.returns
 returns c =
-    IsResetTo-end c.args.level c.args.classes.now c.args.levels.now c.loop-i.levels c.fill-2.new.levels c.loop-i.blank_start c.loop-i.before c.loop-i.i
+    IsResetTo-end c.args.level c.args.classes.now c.args.levels.now c.loop-i.levels c.write_level-2.new.levels c.loop-i.blank_start c.loop-i.before c.loop-i.i
     (omega arith) c.requires
-    (record { long = c.fill-2.auto.levels; before = c.fill-2.ensures.before; inside = c.fill-2.ensures.inside; after = c.fill-2.ensures.after })
+    (record { long = c.write_level-2.auto.levels; before = c.write_level-2.ensures.before; inside = c.write_level-2.ensures.inside; after = c.write_level-2.ensures.after })
     c.loop-i.invariant

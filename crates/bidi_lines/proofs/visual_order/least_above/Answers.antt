@@ -24,7 +24,7 @@ part_least levels from end m within least p a b =
 
 pub returns-clause-above : goal.returns-clause-above
 returns-clause-above c =
-    c.least_of.ensures.above c.args.base (omega (arith, c.requires.above, c.number_at.ensures.number, c.number_at.ensures.in_range))
+    c.least_of.ensures.above c.args.base
     (part_above c.args.levels.now c.args.from c.stretch_end-end.result c.args.base c.stretch_end-end.ensures.ends c.stretch_end-end.ensures.above)
 
 pub returns-clause-least : goal.returns-clause-least

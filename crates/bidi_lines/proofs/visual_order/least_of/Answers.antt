@@ -10,8 +10,8 @@ loop-i-preserved c =
         | inl k ↦ let r = c.loop-i.invariant.least p k in omega arith
         | inr k ↦ let e : p ≡ i = omega arith in rw e (omega arith)
       ];
-      above = λ base small h.
-          let r = c.loop-i.invariant.above base small (λ p k. h p (omega arith)) in
+      above = λ base h.
+          let r = c.loop-i.invariant.above base (λ p k. h p (omega arith)) in
           let s = h i (omega arith) in
           omega arith;
       in_range = omega (arith, c.loop-i.invariant.in_range);

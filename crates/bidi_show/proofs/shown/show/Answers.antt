@@ -13,4 +13,5 @@ returns g c =
     ∙ ap (λ (l : List ℕ). l ++ lines (text_of c.in_ok-info.info) c.paragraphs.result.now) c.new-out.ensures.bytes
     ∙ ap₂ lines c.in_ok-info.ensures.text c.paragraphs.ensures.paragraphs
     ∙ lines_in-shown source c.args.base c.args.text.now c.utf8.text (original_classes c.in_ok-info.info) (levels_of_info c.in_ok-info.info) (paragraphs c.in_ok-info.info)
-    c.in_ok-info.ensures.classes c.in_ok-info.ensures.levels c.in_ok-info.ensures.ranges c.in_ok-info.ensures.paragraph_levels
+    (rw (← c.in_ok-info.ensures.text) c.in_ok-info.ensures.analysis.classes) (rw (← c.in_ok-info.ensures.text) c.in_ok-info.ensures.analysis.levels)
+    (rw (← c.in_ok-info.ensures.text) c.in_ok-info.ensures.analysis.ranges) (rw (← c.in_ok-info.ensures.text) c.in_ok-info.ensures.analysis.paragraph_levels)

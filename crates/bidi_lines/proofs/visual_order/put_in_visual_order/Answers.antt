@@ -1,0 +1,42 @@
+use Rattle.std.proofs.Common.{◌≡◌, ℕ, ◌+◌, ◌<◌, length, slice_index, arith, ◌∙◌, ap, sym, subst, inl, inr}
+use Rattle.std.specs.List.{range_with_len}
+use Rattle.std.proofs.lemmas.Bool.{cases_lt}
+use Rattle.std.proofs.lemmas.List.FromFn.{length-range_with_len, get_or-range_with_len}
+use Rattle.bidi_base.specs.Order.{IsVisualOrder}
+use Rattle.bidi_lines.specs.Arranged.{IsArranged}
+use Rattle.bidi_lines.proofs.Ordered.{visual-from_arranged, visual_law, visual-still, visual_order-still, none_odd}
+use Rattle.bidi_lines.proofs.visual_order.put_in_visual_order.Goals as goal
+
+pub arrange-requires-clause-same_len : goal.arrange-requires-clause-same_len
+arrange-requires-clause-same_len c = ap length c.requires ∙ length-range_with_len 0 (length c.args.levels.now)
+
+pub arrange-requires-clause-untouched : goal.arrange-requires-clause-untouched
+arrange-requires-clause-untouched c p a b =
+    let e : slice_index (range_with_len 0 (length c.args.levels.now)) p ≡ 0 + p = get_or-range_with_len 0 (length c.args.levels.now) p 0 b in
+    rw c.requires (omega arith)
+
+pub returns-then-has_rtl-clause-visual : goal.returns-then-has_rtl-clause-visual
+returns-then-has_rtl-clause-visual c =
+    let all : c.arrange.result ≡ length c.args.levels.now = elim (cases_lt c.arrange.result (length c.args.levels.now)) [
+      | inl k ↦ absurd (omega (arith, c.arrange.ensures.stops k))
+      | inr k ↦ omega arith
+    ] in
+    visual-from_arranged _ _ (rw c.requires at c.arrange.ensures.permutation) (rw all at c.arrange.ensures.arranged)
+
+pub returns-else-has_rtl-clause-visual : goal.returns-else-has_rtl-clause-visual
+returns-else-has_rtl-clause-visual c = subst (IsVisualOrder c.args.levels.now) (sym c.requires) (visual-still c.args.levels.now (none_odd c.args.levels.now (sym c.has_rtl.ensures ∙ c.if-has_rtl.false)))
+
+pub returns-else-has_rtl-clause-order : goal.returns-else-has_rtl-clause-order
+returns-else-has_rtl-clause-order c = (visual_law (returns-else-has_rtl-clause-visual c)).0
+
+pub returns-else-has_rtl-clause-reversals : goal.returns-else-has_rtl-clause-reversals
+returns-else-has_rtl-clause-reversals c = (visual_law (returns-else-has_rtl-clause-visual c)).1
+
+pub returns-then-has_rtl-clause-order : goal.returns-then-has_rtl-clause-order
+returns-then-has_rtl-clause-order c = (visual_law (returns-then-has_rtl-clause-visual c)).0
+
+pub returns-then-has_rtl-clause-reversals : goal.returns-then-has_rtl-clause-reversals
+returns-then-has_rtl-clause-reversals c = (visual_law (returns-then-has_rtl-clause-visual c)).1
+
+pub returns-then-has_rtl-clause-still : goal.returns-then-has_rtl-clause-still
+returns-then-has_rtl-clause-still c e = returns-then-has_rtl-clause-order c ∙ visual_order-still c.args.levels.now (none_odd c.args.levels.now e)

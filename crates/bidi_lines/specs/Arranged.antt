@@ -1,0 +1,29 @@
+-- What a pass that arranges a line's items keeps true of their places.
+use Rattle.std.specs.Prelude.{◌≡◌, ℕ, ◌-◌, ◌%◌, ◌<◌, ◌≤◌, List, length, slice_index}
+use Rattle.bidi_base.specs.Order.{least_between}
+
+abbrev pub IsEven : ℕ → Type 0
+IsEven n = n % 2 ≡ 0
+
+abbrev pub IsOdd : ℕ → Type 0
+IsOdd n = n % 2 ≡ 1
+
+-- item i may stand left of item j, where each stretch above the level `base` is turned round as often as its levels
+-- ask: the least level between them, less `base`, is even if i comes before j, and odd if it comes after j
+pub record StandsLeft (levels : List ℕ) (base i j : ℕ) : Type 0 where
+  pub up : i < j → IsEven (least_between levels i j - base)
+  pub down : j < i → IsOdd (least_between levels j i - base)
+
+-- the places from `from` to `to` of `order` have the items from `from` to `to`, so arranged
+pub record IsArranged (levels : List ℕ) (base from to : ℕ) (order : List ℕ) : Type 0 where
+  pub low : (p : ℕ) → from ≤ p → p < to → from ≤ slice_index order p
+  pub high : (p : ℕ) → from ≤ p → p < to → slice_index order p < to
+  pub pairs : (p q : ℕ) → from ≤ p → p < q → q < to → StandsLeft levels base (slice_index order p) (slice_index order q)
+
+-- each item from `from` to `to` has at least the level `base`
+abbrev pub AtLeast : List ℕ → ℕ → ℕ → ℕ → Type 0
+AtLeast levels base from to = (p : ℕ) → from ≤ p → p < to → base ≤ slice_index levels p
+
+-- no item has an odd level
+abbrev pub NoneIsOdd : List ℕ → Type 0
+NoneIsOdd levels = (k : ℕ) → k < length levels → IsEven (slice_index levels k)

@@ -1,0 +1,75 @@
+//! Tests of what the calls ask of lists of classes.
+
+ghost use Rattle.std.specs.Prelude.{◌≡◌, not, ◌||◌};
+ghost use Rattle.std.specs.List.{list_all, list_any};
+ghost use Rattle.bidi_base.specs.Classes.{is_initiator as is_initiator_of, is_kept, is_l_or_r, is_kept_in_place, is_weak_resolved, has_direction};
+
+use bidi_base::char_data::BidiClass::{self, AN, B, BN, EN, FSI, L, LRI, ON, PDI, R, RLI, S, WS};
+use bidi_base::classes::is_initiator;
+use bidi_rules::prepare::not_removed_by_x9;
+
+/// Whether a class may be sos or eos.
+pub fn is_side(class: BidiClass) -> bool
+    ensures { result ≡ is_l_or_r class }
+{
+    matches!(class, L | R)
+}
+
+/// Whether X9 removes none of the classes.
+pub fn are_kept(classes: &[BidiClass]) -> bool
+    ensures { result ≡ list_all is_kept classes.now }
+{
+    classes.iter().all(|class| not_removed_by_x9(class))
+}
+
+// Whether the weak types leave a class.
+fn is_left(class: BidiClass) -> bool
+    ensures { result ≡ is_weak_resolved class }
+{
+    matches!(
+        class,
+        L | R | EN | AN | B | S | WS | ON | LRI | RLI | FSI | PDI
+    )
+}
+
+/// Whether the weak types leave all the classes.
+pub fn are_left(classes: &[BidiClass]) -> bool
+    ensures { result ≡ list_all is_weak_resolved classes.now }
+{
+    classes.iter().all(|class| is_left(*class))
+}
+
+// Whether a unit may have a class: BN, or one that the weak types leave.
+fn is_left_or_removed(class: BidiClass) -> bool
+    ensures { result ≡ (is_weak_resolved class || not (is_kept_in_place class)) }
+{
+    is_left(class) || matches!(class, BN)
+}
+
+/// Whether the weak types leave all the classes but BN.
+pub fn are_left_or_removed(classes: &[BidiClass]) -> bool
+    ensures { result ≡ list_all (λ c. is_weak_resolved c || not (is_kept_in_place c)) classes.now }
+{
+    classes.iter().all(|class| is_left_or_removed(*class))
+}
+
+// Whether the neutrals leave a class.
+fn is_directed(class: BidiClass) -> bool
+    ensures { result ≡ has_direction class }
+{
+    matches!(class, L | R | EN | AN)
+}
+
+/// Whether the neutrals leave all the classes.
+pub fn are_directed(classes: &[BidiClass]) -> bool
+    ensures { result ≡ list_all has_direction classes.now }
+{
+    classes.iter().all(|class| is_directed(*class))
+}
+
+/// Whether some class is an isolate initiator.
+pub fn has_initiator(classes: &[BidiClass]) -> bool
+    ensures { result ≡ list_any is_initiator_of classes.now }
+{
+    classes.iter().any(|class| is_initiator(*class))
+}

@@ -1,0 +1,175 @@
+//! Lines: levels after L1, visual runs, and the text from left to right (L2).
+
+use crate::rows::{LINES, LineRow, base_of, per_char, sample};
+use bidi_base::char_data::Direction;
+use bidi_base::level::Level;
+use bidi_base::text::{StrText, is_line};
+use std::alloc::Global;
+use std::borrow::CowStr;
+use std::ops::Range;
+use std::process::Abort;
+use std::test::Fail;
+use unicode_bidi::{BidiInfo, Paragraph, ParagraphBidiInfo, ParagraphInfo};
+
+// What a line shows: the levels of all bytes and of all characters of its text, the line's runs, and
+// the line from left to right.
+#[derive(Drop)]
+struct Shown {
+    units: Vec<Level>,
+    characters: Vec<Level>,
+    runs: Vec<Range<usize>>,
+    text: String,
+    is_borrowed: bool,
+}
+
+impl Shown {
+    // A line of a text, with the level of this paragraph.
+    fn of_info(
+        alloc: Global,
+        info: &BidiInfo<'_>,
+        para: &ParagraphInfo,
+        line: (usize, usize),
+    ) -> Result<Shown, Fail> {
+        let (start, end) = line;
+        if !is_line(StrText::new(info.text()), &(start..end)) {
+            return Err(Fail::from("no line"));
+        }
+        let units = info.reordered_levels(alloc, para, start..end)?;
+        let characters = info.reordered_levels_per_char(alloc, para, start..end)?;
+        let text = info.reorder_line(alloc, para, start..end)?;
+        let mut runs = Vec::new(alloc);
+        if start < end {
+            let (levels, of_line) = info.visual_runs(alloc, para, start..end)?;
+            if levels.as_slice() != units.as_slice() {
+                return Err(Fail::from("other levels"));
+            }
+            runs = of_line;
+        }
+        Shown::new(alloc, units, characters, runs, text)
+    }
+
+    // The same of a text that is one paragraph.
+    fn of_paragraph(
+        alloc: Global,
+        info: &ParagraphBidiInfo<'_>,
+        line: (usize, usize),
+    ) -> Result<Shown, Fail> {
+        let (start, end) = line;
+        if !is_line(StrText::new(info.text()), &(start..end)) {
+            return Err(Fail::from("no line"));
+        }
+        let units = info.reordered_levels(alloc, start..end)?;
+        let characters = info.reordered_levels_per_char(alloc, start..end)?;
+        let text = info.reorder_line(alloc, start..end)?;
+        let mut runs = Vec::new(alloc);
+        if start < end {
+            let (levels, of_line) = info.visual_runs(alloc, start..end)?;
+            if levels.as_slice() != units.as_slice() {
+                return Err(Fail::from("other levels"));
+            }
+            runs = of_line;
+        }
+        Shown::new(alloc, units, characters, runs, text)
+    }
+
+    fn new(
+        alloc: Global,
+        units: Vec<Level>,
+        characters: Vec<Level>,
+        runs: Vec<Range<usize>>,
+        text: CowStr<'_>,
+    ) -> Result<Shown, Fail> {
+        Ok(Shown {
+            units,
+            characters,
+            runs,
+            is_borrowed: matches!(&text, CowStr::Borrowed(_)),
+            text: text.into_owned(alloc)?,
+        })
+    }
+
+    // Compares it with what a row says.
+    fn check(&self, rt: &(impl AllocGlobal + Abort), row: LineRow) -> Result<(), Fail> {
+        let (name, text, _, _, _, levels, runs, shown, is_borrowed) = row;
+        let levels = Level::vec(rt.alloc(), levels)?;
+        let of_units = per_char(rt.alloc(), StrText::new(text), self.units.as_slice())?;
+        assert_eq!(rt; of_units.as_slice(), levels.as_slice(), "{name}");
+        assert_eq!(rt; self.characters.as_slice(), levels.as_slice(), "{name}");
+        assert_eq!(rt; self.runs.len(), runs.len(), "{name}");
+        for (run, ends) in self.runs.iter().zip(runs) {
+            assert_eq!(rt; (run.start, run.end), *ends, "{name}");
+        }
+        assert_eq!(rt; self.text.as_str(), shown, "{name}");
+        assert_eq!(rt; self.is_borrowed, is_borrowed, "{name}");
+        Ok(())
+    }
+}
+
+#[test]
+fn lines_of_texts(rt: HostRuntime) -> Result<(), Fail> {
+    let alloc = rt.alloc();
+    let source = sample()?;
+    for row in LINES {
+        let (name, text, base, line, stored, _, _, _, _) = row;
+        let info = BidiInfo::new_with_data_source(alloc, &source, text, base_of(base)?)?;
+        let levels = per_char(alloc, StrText::new(text), info.levels())?;
+        assert_eq!(rt;
+            levels.as_slice(),
+            Level::vec(alloc, stored)?.as_slice(),
+            "{name}"
+        );
+        let para = info.paragraphs().first().ok_or("a paragraph")?;
+        Shown::of_info(alloc, &info, para, line)?.check(&rt, row)?;
+    }
+    Ok(())
+}
+
+#[test]
+fn lines_of_paragraphs(rt: HostRuntime) -> Result<(), Fail> {
+    let alloc = rt.alloc();
+    let source = sample()?;
+    for row in LINES {
+        let (_, text, base, line, _, _, _, _, _) = row;
+        let info = ParagraphBidiInfo::new_with_data_source(alloc, &source, text, base_of(base)?)?;
+        Shown::of_paragraph(alloc, &info, line)?.check(&rt, row)?;
+    }
+    Ok(())
+}
+
+// L1 uses the level of the paragraph that is handed in, whichever that is.
+#[test]
+fn any_paragraph(rt: HostRuntime) -> Result<(), Fail> {
+    let alloc = rt.alloc();
+    let info = BidiInfo::new_with_data_source(alloc, &sample()?, "a ", Some(Level::ltr()))?;
+    assert_eq!(rt; info.levels(), Level::vec(alloc, &[0, 0])?.as_slice());
+    let para = ParagraphInfo::new(0..2, Level::rtl()).ok_or("in order")?;
+    let row = (
+        "L1: a paragraph level of one's own",
+        "a ",
+        Some(0),
+        (0, 2),
+        [0, 0].as_slice(),
+        [0, 1].as_slice(),
+        [(0, 1), (1, 2)].as_slice(),
+        "a ",
+        false,
+    );
+    Shown::of_info(alloc, &info, &para, (0, 2))?.check(&rt, row)
+}
+
+#[test]
+fn one_paragraph(rt: HostRuntime) -> Result<(), Fail> {
+    let text = "\u{5D0}\u{5D1}\u{5D2}abc";
+    let info = BidiInfo::new_with_data_source(rt.alloc(), &sample()?, text, None)?;
+    let first = info.paragraphs().first().ok_or("a paragraph")?;
+    let paragraph = Paragraph::new(&info, first);
+    assert_eq!(rt; paragraph.para(), first);
+    assert_eq!(rt; paragraph.info(), &info);
+    if first.range() != (0..9) || info.levels().len() != 9 {
+        return Err(Fail::from("nine bytes"));
+    }
+    assert_eq!(rt; paragraph.direction(), Direction::Mixed);
+    assert_eq!(rt; paragraph.level_at(0).number(), 1);
+    assert_eq!(rt; paragraph.level_at(6).number(), 2);
+    Ok(())
+}

@@ -1,0 +1,11 @@
+use Rattle.std.proofs.Common.{◌≡◌, ◌++◌, flat_map, reverse}
+use Rattle.std.specs.Prelude.{string_bytes, encode_utf8, encode_utf8_all}
+use Rattle.std.specs.Iterator.Adapters.{rev_source}
+use Rattle.std.specs.Str.Iter.{chars_rest}
+use Rattle.unicode_bidi.proofs.line_text.utf8.push_reversed.Given as goal
+
+abbrev pub invariant-loop-c : goal.invariant-loop-c
+invariant-loop-c l = record {
+  rest : chars_rest (rev_source l.c-iterator) ++ encode_utf8_all (reverse l.yielded) ≡ l.fn.text;
+  written : string_bytes l.out ≡ string_bytes l.initial.out ++ flat_map encode_utf8 l.yielded;
+}
