@@ -1,7 +1,7 @@
 -- What follows of the analysis of a text that is cut into its paragraphs.
 use Rattle.std.proofs.Common.{◌≡◌, ◌∙◌, ◌≤◌, ℕ, List, [], ◌∷◌, map, ap, subst, sym, true, false}
 use Rattle.std.proofs.lemmas.List.{length-map}
-use Rattle.std.specs.Prelude.{All, IfSome, Option, slice_range}
+use Rattle.std.specs.Prelude.{All, IfSome, IsTrue, Option, slice_range}
 use Rattle.bidi_base.specs.declared.char_data.BidiClass.{BidiClass}
 use Rattle.bidi_base.specs.Analysed.{AnalysedText, IsPerCharText, IsAnalysis}
 use Rattle.bidi_base.specs.Isolates.{paragraph_level, stored_classes}
@@ -19,6 +19,13 @@ use Rattle.bidi_base.proofs.UnitsLemmas.{is_per_char-per_unit}
 use Rattle.unicode_bidi.specs.declared.paragraph_info.ParagraphInfo.{ParagraphInfo}
 use Rattle.unicode_bidi.specs.ParagraphInfo.{range_of, ranges_of, levels_of}
 use Rattle.unicode_bidi.proofs.ParagraphUnits.{paragraphs-HasOwnUnits, paragraphs-are_lines, paragraphs-AreLevelsFrom}
+
+-- the stored classes of one paragraph are equal within each character
+pub stored-is_per_char : (len_of : ℕ → ℕ) (chars : List ℕ) (class_of : ℕ → BidiClass) (classes : List BidiClass) → classes ≡ per_unit len_of chars (stored_classes (map class_of chars))
+    → IsTrue (is_per_char class_eq len_of chars classes)
+stored-is_per_char len_of chars class_of classes e =
+    ap (is_per_char class_eq len_of chars) e
+    ∙ is_per_char-per_unit class_eq class_test len_of chars (stored_classes (map class_of chars)) (length-stored_classes (map class_of chars) ∙ length-map chars class_of)
 
 module _ (source : Source) (base : Option ℕ) (a : AnalysedText) (some : HasUnits a.len_of) (ps : List ParagraphInfo) (found : IsAnalysis source base true a (ranges_of ps) (levels_of ps)) where
   abbrev pieces : List (List ℕ)
@@ -61,9 +68,7 @@ module _ (source : Source) (base : Option ℕ) (a : AnalysedText) (ranges : List
 
   pub is_per_char-one : IsPerCharText a
   is_per_char-one = record {
-    classes =
-        ap (is_per_char class_eq a.len_of a.chars) classes-one
-        ∙ is_per_char-per_unit class_eq class_test a.len_of a.chars (stored_classes (map source.class_of a.chars)) (length-stored_classes (map source.class_of a.chars) ∙ length-map a.chars source.class_of);
+    classes = stored-is_per_char a.len_of a.chars source.class_of a.classes classes-one;
     levels = ap (is_per_char level_eq a.len_of a.chars) levels-one ∙ is_per_char-per_unit level_eq level_test a.len_of a.chars (stored_levels source base a.chars) (length-stored_levels source base a.chars);
   }
 

@@ -9,7 +9,7 @@ ghost use Rattle.unicode_bidi.specs.ParagraphInfo.{ranges_of, levels_of};
 
 use crate::first_walk::{self, ParagraphFlags};
 use crate::paragraph_info::ParagraphInfo;
-use crate::paragraph_levels::LevelResolver;
+use crate::paragraph_levels::{ClassifiedParagraph, LevelResolver};
 use bidi_base::char_data::BidiClass;
 use bidi_base::data_source::BidiDataSource;
 use bidi_base::level::{LTR_LEVEL, Level};
@@ -29,67 +29,60 @@ pub(crate) struct Analysis {
     pub(crate) flags: Vec<ParagraphFlags>,
 }
 
-// Writes the stored levels of one paragraph. `classes` and `levels` are of the whole text.
+// A text whose stored classes are known.
+#[derive(Drop)]
+struct ClassifiedText<'a, D: BidiDataSource, T: TextSource> {
+    data_source: &'a D,
+    text: T,
+    // One a unit.
+    original_classes: &'a [BidiClass],
+    ghost long: { length original_classes.now ≡ text_len T.units (T.characters text) },
+}
+
+// Writes the stored levels of one paragraph. `levels` are of the whole text.
 fn write_paragraph<D: BidiDataSource, T: TextSource>(
     resolver: &mut LevelResolver,
     alloc: Global,
-    data_source: &D,
-    text: T,
+    text: &ClassifiedText<D, T>,
     paragraph: &ParagraphInfo,
     flags: ParagraphFlags,
-    classes: &[BidiClass],
     levels: &mut [Level],
 ) -> Result<(), AllocError>
-    requires paragraph { CanWrite (D.source data_source.now) T.units (T.characters text) classes.now paragraph.now }
-    requires flags { flags ≡ own_flags (D.source data_source.now) T.units (T.characters text) paragraph.now }
-    requires classes { length classes.now ≡ text_len T.units (T.characters text) }
-    requires levels { length levels.old ≡ text_len T.units (T.characters text) }
+    requires paragraph { CanWrite (D.source text.now.data_source.now) T.units (T.characters text.now.text) text.now.original_classes.now paragraph.now }
+    requires flags { flags ≡ own_flags (D.source text.now.data_source.now) T.units (T.characters text.now.text) paragraph.now }
+    requires levels { length levels.old ≡ text_len T.units (T.characters text.now.text) }
     ensures { OnOk result (levels.new ≡ take paragraph.now.range.start levels.old
-        ++ (unit_levels (D.source data_source.now) T.units (T.characters text) paragraph.now ++ drop paragraph.now.range.end levels.old)) }
+        ++ (unit_levels (D.source text.now.data_source.now) T.units (T.characters text.now.text) paragraph.now ++ drop paragraph.now.range.end levels.old)) }
 {
-    let level = paragraph.level();
     let units = paragraph.range();
     let (start, end) = (units.start, units.end);
-    resolver.write_levels(
-        alloc,
-        data_source,
-        text.subrange(units),
-        level,
+    let own = ClassifiedParagraph {
+        data_source: text.data_source,
+        text: text.text.subrange(units),
+        level: paragraph.level(),
         flags,
-        &classes[start..end],
-        &mut levels[start..end],
-    )
+        original_classes: &text.original_classes[start..end],
+    };
+    resolver.write_levels(alloc, &own, &mut levels[start..end])
 }
 
 // Writes the stored levels of a text, paragraph by paragraph.
 fn write_paragraphs<D: BidiDataSource, T: TextSource>(
     alloc: Global,
-    data_source: &D,
-    text: T,
+    text: &ClassifiedText<D, T>,
     paragraphs: &[ParagraphInfo],
     flags: &[ParagraphFlags],
-    classes: &[BidiClass],
     levels: &mut [Level],
 ) -> Result<(), AllocError>
-    requires paragraphs { All (CanWrite (D.source data_source.now) T.units (T.characters text) classes.now) paragraphs.now }
-    requires flags { flags.now ≡ map (own_flags (D.source data_source.now) T.units (T.characters text)) paragraphs.now }
-    requires follow { Follow 0 (text_len T.units (T.characters text)) paragraphs.now }
-    requires classes { length classes.now ≡ text_len T.units (T.characters text) }
-    requires levels { length levels.old ≡ text_len T.units (T.characters text) }
-    ensures { OnOk result (levels.new ≡ flat_map (unit_levels (D.source data_source.now) T.units (T.characters text)) paragraphs.now) }
+    requires paragraphs { All (CanWrite (D.source text.now.data_source.now) T.units (T.characters text.now.text) text.now.original_classes.now) paragraphs.now }
+    requires flags { flags.now ≡ map (own_flags (D.source text.now.data_source.now) T.units (T.characters text.now.text)) paragraphs.now }
+    requires follow { Follow 0 (text_len T.units (T.characters text.now.text)) paragraphs.now }
+    requires levels { length levels.old ≡ text_len T.units (T.characters text.now.text) }
+    ensures { OnOk result (levels.new ≡ flat_map (unit_levels (D.source text.now.data_source.now) T.units (T.characters text.now.text)) paragraphs.now) }
 {
     let mut resolver = LevelResolver::new(alloc);
     for (index, paragraph) in paragraphs.iter().enumerate() {
-        write_paragraph(
-            &mut resolver,
-            alloc,
-            data_source,
-            text,
-            paragraph,
-            flags[index],
-            classes,
-            levels,
-        )?;
+        write_paragraph(&mut resolver, alloc, text, paragraph, flags[index], levels)?;
     }
     Ok(())
 }
@@ -110,13 +103,16 @@ pub(crate) fn analyse<D: BidiDataSource, T: TextSource>(
 {
     let found = first_walk::walk(alloc, data_source, text, base, split)?;
     let mut levels = vec![in alloc; LTR_LEVEL; text.len()]?;
-    write_paragraphs(
-        alloc,
+    let classified = ClassifiedText {
         data_source,
         text,
+        original_classes: found.original_classes.as_slice(),
+    };
+    write_paragraphs(
+        alloc,
+        &classified,
         found.paragraphs.as_slice(),
         found.flags.as_slice(),
-        found.original_classes.as_slice(),
         levels.as_mut_slice(),
     )?;
     Ok(Analysis {

@@ -4,6 +4,7 @@ ghost use Rattle.std.specs.Prelude.{◌≡◌, ℕ, ◌+◌, ◌<◌, ◌≤◌,
 ghost use Rattle.std.specs.List.{list_any};
 ghost use Rattle.bidi_base.specs.declared.char_data.BidiClass.TheVariants.{L};
 ghost use Rattle.bidi_base.specs.Classes.{is_initiator};
+ghost use Rattle.bidi_base.specs.Direction.{is_pure_ltr};
 ghost use Rattle.bidi_base.specs.Explicit.{explicit_levels, explicit_classes, processing_classes};
 ghost use Rattle.bidi_base.specs.Isolates.{stored_classes};
 ghost use Rattle.bidi_base.specs.Sequences.{is_kept_at, sequences};
@@ -11,7 +12,6 @@ ghost use Rattle.bidi_base.specs.Stored.{AreResolved, levels_in};
 ghost use Rattle.bidi_base.specs.Text.{text_len, is_per_char, per_unit, per_char};
 ghost use Rattle.bidi_base.specs.Units.{AreLines};
 ghost use Rattle.bidi_rules.specs.RunSequence.{run_bounds, sequences_in};
-ghost use Rattle.unicode_bidi.specs.ParagraphFlags.{flags_of};
 
 use crate::first_walk::ParagraphFlags;
 use bidi_base::char_data::BidiClass;
@@ -23,6 +23,22 @@ use bidi_rules::explicit;
 use bidi_rules::implicit::{NeutralResolver, resolve_levels, resolve_weak};
 use bidi_rules::prepare::{IsolatingRunSequenceVec, isolating_run_sequences};
 use std::alloc::{AllocError, Global};
+
+/// A paragraph whose stored classes are known, and whose levels are sought.
+#[derive(Drop)]
+pub(crate) struct ClassifiedParagraph<'a, D: BidiDataSource, T: TextSource> {
+    pub(crate) data_source: &'a D,
+    /// Its own text.
+    pub(crate) text: T,
+    pub(crate) level: Level,
+    pub(crate) flags: ParagraphFlags,
+    /// Its stored classes, one a unit.
+    pub(crate) original_classes: &'a [BidiClass],
+    ghost low: { level ≤ 125 },
+    ghost pure: { flags.is_pure_ltr ≡ is_pure_ltr (map (D.source data_source.now).class_of (T.characters text)) },
+    ghost isolates: { flags.has_isolates ≡ list_any is_initiator (map (D.source data_source.now).class_of (T.characters text)) },
+    ghost stored: { original_classes.now ≡ per_unit T.units (T.characters text) (stored_classes (map (D.source data_source.now).class_of (T.characters text))) },
+}
 
 /// Finds the levels of one paragraph after another, and keeps its memory from each to the next.
 #[derive(Drop)]
@@ -45,35 +61,30 @@ impl LevelResolver {
     }
 
     /// Finds the explicit levels, and the sequences (X1 to X10).
-    fn prepare<T: TextSource>(
+    fn prepare<D: BidiDataSource, T: TextSource>(
         &mut self,
         alloc: Global,
-        text: T,
-        para_level: Level,
-        has_isolates: bool,
-        original_classes: &[BidiClass],
+        paragraph: &ClassifiedParagraph<D, T>,
         levels: &mut [Level],
     ) -> Result<(), AllocError>
-        requires level { para_level ≤ 125 }
-        requires original { IsTrue (is_per_char ⟦<BidiClass as PartialEq>⟧.eq T.units (T.characters text) original_classes.now) }
-        requires levels { length levels.old ≡ length original_classes.now }
-        requires isolates { IsTrue (list_any is_initiator original_classes.now) → IsTrue has_isolates }
-        ensures levels { let stored = per_char L T.units (T.characters text) original_classes.now in
-            OnOk result (levels.new ≡ per_unit T.units (T.characters text) (explicit_levels para_level stored)) }
-        ensures classes { let stored = per_char L T.units (T.characters text) original_classes.now in
-            OnOk result (self.new.classes.items ≡ per_unit T.units (T.characters text) (processing_classes para_level stored)) }
-        ensures sequences { let stored = per_char L T.units (T.characters text) original_classes.now in
-            OnOk result (sequences_in T.units (T.characters text) stored self.new.sequences.items ≡ sequences para_level stored (explicit_levels para_level stored)) }
-        ensures fits { OnOk result (All (λ s. AreLines T.units (T.characters text) (run_bounds s)) self.new.sequences.items) }
+        requires { length levels.old ≡ length paragraph.now.original_classes.now }
+        ensures levels { let stored = per_char L T.units (T.characters paragraph.now.text) paragraph.now.original_classes.now in
+            OnOk result (levels.new ≡ per_unit T.units (T.characters paragraph.now.text) (explicit_levels paragraph.now.level stored)) }
+        ensures classes { let stored = per_char L T.units (T.characters paragraph.now.text) paragraph.now.original_classes.now in
+            OnOk result (self.new.classes.items ≡ per_unit T.units (T.characters paragraph.now.text) (processing_classes paragraph.now.level stored)) }
+        ensures sequences { let stored = per_char L T.units (T.characters paragraph.now.text) paragraph.now.original_classes.now in
+            OnOk result (sequences_in T.units (T.characters paragraph.now.text) stored self.new.sequences.items ≡ sequences paragraph.now.level stored (explicit_levels paragraph.now.level stored)) }
+        ensures fits { OnOk result (All (λ s. AreLines T.units (T.characters paragraph.now.text) (run_bounds s)) self.new.sequences.items) }
     {
+        let original_classes = paragraph.original_classes;
         self.classes.clear();
         self.classes.extend_from_slice(original_classes)?;
         self.sequences.clear();
         let mut runs = Vec::new(alloc);
         explicit::compute(
             alloc,
-            text,
-            para_level,
+            paragraph.text,
+            paragraph.level,
             original_classes,
             levels,
             self.classes.as_mut_slice(),
@@ -81,12 +92,12 @@ impl LevelResolver {
         )?;
         isolating_run_sequences(
             alloc,
-            text,
-            para_level,
+            paragraph.text,
+            paragraph.level,
             original_classes,
             levels,
             runs,
-            has_isolates,
+            paragraph.flags.has_isolates,
             &mut self.sequences,
         )
     }
@@ -95,42 +106,28 @@ impl LevelResolver {
     fn resolve<D: BidiDataSource, T: TextSource>(
         &mut self,
         alloc: Global,
-        data_source: &D,
-        text: T,
-        para_level: Level,
-        has_isolates: bool,
-        original_classes: &[BidiClass],
+        paragraph: &ClassifiedParagraph<D, T>,
         levels: &mut [Level],
     ) -> Result<(), AllocError>
-        requires level { para_level ≤ 125 }
-        requires classes { let source = D.source data_source.now in
-            original_classes.now ≡ per_unit T.units (T.characters text) (stored_classes (map source.class_of (T.characters text))) }
-        requires levels { length levels.old ≡ text_len T.units (T.characters text) }
-        requires isolates { IsTrue (list_any is_initiator original_classes.now) → IsTrue has_isolates }
-        ensures per_char { OnOk result (IsTrue (is_per_char ⟦<Level as PartialEq>⟧.eq T.units (T.characters text) levels.new)) }
-        ensures resolved { let source = D.source data_source.now in
-            let classes = map source.class_of (T.characters text) in
+        requires { length levels.old ≡ text_len T.units (T.characters paragraph.now.text) }
+        ensures per_char { OnOk result (IsTrue (is_per_char ⟦<Level as PartialEq>⟧.eq T.units (T.characters paragraph.now.text) levels.new)) }
+        ensures resolved { let source = D.source paragraph.now.data_source.now in
+            let classes = map source.class_of (T.characters paragraph.now.text) in
             let stored = stored_classes classes in
-            OnOk result (AreResolved classes (map source.bracket_of (T.characters text)) (explicit_levels para_level stored) (explicit_classes para_level stored)
-            (per_char 0 T.units (T.characters text) levels.new) (sequences para_level stored (explicit_levels para_level stored))) }
+            let level = paragraph.now.level in
+            OnOk result (AreResolved classes (map source.bracket_of (T.characters paragraph.now.text)) (explicit_levels level stored) (explicit_classes level stored)
+            (per_char 0 T.units (T.characters paragraph.now.text) levels.new) (sequences level stored (explicit_levels level stored))) }
     {
-        self.prepare(
-            alloc,
-            text,
-            para_level,
-            has_isolates,
-            original_classes,
-            levels,
-        )?;
+        self.prepare(alloc, paragraph, levels)?;
         let classes = self.classes.as_mut_slice();
         for sequence in &self.sequences {
-            resolve_weak(text, sequence, classes);
+            resolve_weak(paragraph.text, sequence, classes);
             self.neutrals.resolve(
-                text,
-                data_source,
+                paragraph.text,
+                paragraph.data_source,
                 sequence,
                 levels,
-                original_classes,
+                paragraph.original_classes,
                 classes,
             )?;
         }
@@ -138,43 +135,25 @@ impl LevelResolver {
         Ok(())
     }
 
-    /// Writes the stored levels of a paragraph, one for each of its units. `text` is the
-    /// paragraph's own, `flags` are its flags, and `original_classes` are its stored classes, one a
-    /// unit. What `levels` holds before doesn't count; where memory is refused it may hold anything.
+    /// Writes the stored levels of a paragraph, one for each of its units. What `levels` holds
+    /// before doesn't count; where memory is refused it may hold anything.
     pub(crate) fn write_levels<D: BidiDataSource, T: TextSource>(
         &mut self,
         alloc: Global,
-        data_source: &D,
-        text: T,
-        para_level: Level,
-        flags: ParagraphFlags,
-        original_classes: &[BidiClass],
+        paragraph: &ClassifiedParagraph<D, T>,
         levels: &mut [Level],
     ) -> Result<(), AllocError>
-        requires level { para_level ≤ 125 }
-        requires flags { let source = D.source data_source.now in
-            flags ≡ flags_of (map source.class_of (T.characters text)) }
-        requires classes { let source = D.source data_source.now in
-            original_classes.now ≡ per_unit T.units (T.characters text) (stored_classes (map source.class_of (T.characters text))) }
-        requires levels { length levels.old ≡ text_len T.units (T.characters text) }
-        ensures { let source = D.source data_source.now in
+        requires { length levels.old ≡ text_len T.units (T.characters paragraph.now.text) }
+        ensures { let source = D.source paragraph.now.data_source.now in let text = paragraph.now.text in
             OnOk result (levels.new ≡ per_unit T.units (T.characters text)
-            (levels_in para_level (map source.class_of (T.characters text)) (map source.bracket_of (T.characters text)))) }
+            (levels_in paragraph.now.level (map source.class_of (T.characters text)) (map source.bracket_of (T.characters text)))) }
     {
-        if para_level == LTR_LEVEL && flags.is_pure_ltr {
+        if paragraph.level == LTR_LEVEL && paragraph.flags.is_pure_ltr {
             levels.fill(LTR_LEVEL);
             return Ok(());
         }
-        self.resolve(
-            alloc,
-            data_source,
-            text,
-            para_level,
-            flags.has_isolates,
-            original_classes,
-            levels,
-        )?;
-        fill_removed(para_level, original_classes, levels);
+        self.resolve(alloc, paragraph, levels)?;
+        fill_removed(paragraph.level, paragraph.original_classes, levels);
         Ok(())
     }
 }

@@ -16,37 +16,40 @@ write_paragraphs-requires-clause-paragraphs g c =
     let source = g.D.BidiDataSource.source c.args.data_source.now in
     let len = g.T.TextSource.units in
     let cs : List ℕ = g.T.TextSource.characters c.args.text in
-    subst (λ (ps : List ParagraphInfo). All (CanWrite source len cs c.as_slice-3.result.now) ps) (sym c.as_slice.ensures.value)
+    subst (λ (ps : List ParagraphInfo). All (CanWrite source len cs c.as_slice.result.now) ps) (sym c.as_slice-2.ensures.value)
     (paragraphs-CanWrite source c.args.base len g.met.T.TextSource.has_units cs (pieces_of c.args.split source cs) (pieces-joined c.args.split source cs) c.in_ok-found.found.paragraphs.items
-    c.in_ok-found.ensures.ranges c.in_ok-found.ensures.levels c.as_slice-3.result.now (c.as_slice-3.ensures.value ∙ c.in_ok-found.ensures.classes) c.requires)
+    c.in_ok-found.ensures.ranges c.in_ok-found.ensures.levels c.as_slice.result.now (c.as_slice.ensures.value ∙ c.in_ok-found.ensures.classes) c.requires)
 
 pub write_paragraphs-requires-clause-flags : goal.write_paragraphs-requires-clause-flags
 write_paragraphs-requires-clause-flags g c =
     let source = g.D.BidiDataSource.source c.args.data_source.now in
     let len = g.T.TextSource.units in
     let cs : List ℕ = g.T.TextSource.characters c.args.text in
-    c.as_slice-2.ensures.value ∙ c.in_ok-found.ensures.flags
+    c.as_slice-3.ensures.value ∙ c.in_ok-found.ensures.flags
     ∙ paragraphs-flags source c.args.base len g.met.T.TextSource.has_units cs (pieces_of c.args.split source cs) (pieces-joined c.args.split source cs) c.in_ok-found.found.paragraphs.items
     c.in_ok-found.ensures.ranges c.in_ok-found.ensures.levels
-    ∙ ap (map (own_flags source len cs)) (sym c.as_slice.ensures.value)
+    ∙ ap (map (own_flags source len cs)) (sym c.as_slice-2.ensures.value)
 
 pub write_paragraphs-requires-clause-follow : goal.write_paragraphs-requires-clause-follow
 write_paragraphs-requires-clause-follow g c =
     let source = g.D.BidiDataSource.source c.args.data_source.now in
     let len = g.T.TextSource.units in
     let cs : List ℕ = g.T.TextSource.characters c.args.text in
-    subst (Follow 0 (text_len len cs)) (sym c.as_slice.ensures.value)
+    subst (Follow 0 (text_len len cs)) (sym c.as_slice-2.ensures.value)
     (paragraphs-Follow source c.args.base len g.met.T.TextSource.has_units cs (pieces_of c.args.split source cs) (pieces-joined c.args.split source cs) c.in_ok-found.found.paragraphs.items
     c.in_ok-found.ensures.ranges c.in_ok-found.ensures.levels)
 
-pub write_paragraphs-requires-clause-classes : goal.write_paragraphs-requires-clause-classes
-write_paragraphs-requires-clause-classes g c =
+pub invariant_of-classified : goal.invariant_of-classified
+invariant_of-classified g c =
     let source = g.D.BidiDataSource.source c.args.data_source.now in
     let len = g.T.TextSource.units in
     let cs : List ℕ = g.T.TextSource.characters c.args.text in
     let pieces : List (List ℕ) = pieces_of c.args.split source cs in
-    ap length (c.as_slice-3.ensures.value ∙ c.in_ok-found.ensures.classes)
-    ∙ length-per_unit len cs (text_classes source pieces) (length-text_classes source pieces ∙ ap length (pieces-joined c.args.split source cs))
+    record {
+      long =
+          ap length (c.as_slice.ensures.value ∙ c.in_ok-found.ensures.classes)
+          ∙ length-per_unit len cs (text_classes source pieces) (length-text_classes source pieces ∙ ap length (pieces-joined c.args.split source cs));
+    }
 
 pub returns-clause-analysis : goal.returns-clause-analysis
 returns-clause-analysis g c =
@@ -61,7 +64,7 @@ returns-clause-analysis g c =
           ap (λ (n : ℕ). take n (now ++ drop (length now) c.in_ok-levels.levels.items)) long
           ∙ take-append_seam now (drop (length now) c.in_ok-levels.levels.items)
           ∙ c.in_ok-write_paragraphs.ensures
-          ∙ ap (flat_map (unit_levels source len cs)) c.as_slice.ensures.value
+          ∙ ap (flat_map (unit_levels source len cs)) c.as_slice-2.ensures.value
           ∙ paragraphs-levels source c.args.base len g.met.T.TextSource.has_units cs (pieces_of c.args.split source cs) (pieces-joined c.args.split source cs) c.in_ok-found.found.paragraphs.items
           c.in_ok-found.ensures.ranges c.in_ok-found.ensures.levels;
       ranges = c.in_ok-found.ensures.ranges;

@@ -1,51 +1,54 @@
-use Rattle.std.proofs.Common.{◌∙◌, List, ℕ, map, slice_range, ap, sym, arith}
+use Rattle.std.proofs.Common.{◌≡◌, ◌∙◌, List, ℕ, map, slice_range, ap, sym, arith}
 use Rattle.std.specs.declared.ops.Range.{Range}
 use Rattle.std.proofs.lemmas.Result.{on_ok_weaker}
 use Rattle.bidi_base.specs.Isolates.{stored_classes}
 use Rattle.bidi_base.specs.Text.{per_unit, subrange, text_len}
-use Rattle.unicode_bidi.specs.ParagraphFlags.{flags_of}
 use Rattle.bidi_lines.proofs.LineInText.{length-part}
 use Rattle.unicode_bidi.proofs.ParagraphUnits.{paragraph-IsPart, paragraph-written}
-use Rattle.unicode_bidi.specs.ParagraphFlags.{flags_of}
+use Rattle.std.specs.List.{list_any}
+use Rattle.bidi_base.specs.Classes.{is_initiator}
+use Rattle.bidi_base.specs.Direction.{is_pure_ltr}
+use Rattle.unicode_bidi.specs.Engine.{chars_of}
+use Rattle.unicode_bidi.specs.declared.first_walk.ParagraphFlags.{ParagraphFlags}
 use Rattle.unicode_bidi.proofs.engine.write_paragraph.Goals as goal
+
+pub slice_bounds-own-end : goal.slice_bounds-own-end
+slice_bounds-own-end g c =
+    let part = paragraph-IsPart g.T.TextSource.units g.met.T.TextSource.has_units (g.T.TextSource.characters c.args.text.now.text) c.args.paragraph.now c.range-units.result c.range-units.ensures c.requires.paragraph.line in
+    omega (arith, part.within, c.args.text.now.long)
 
 pub slice_bounds-write_levels-end : goal.slice_bounds-write_levels-end
 slice_bounds-write_levels-end g c =
-    let part = paragraph-IsPart g.T.TextSource.units g.met.T.TextSource.has_units (g.T.TextSource.characters c.args.text) c.args.paragraph.now c.range-units.result c.range-units.ensures c.requires.paragraph.line in
-    omega (arith, part.within, c.requires.classes)
-
-pub slice_bounds-write_levels-end-2 : goal.slice_bounds-write_levels-end-2
-slice_bounds-write_levels-end-2 g c =
-    let part = paragraph-IsPart g.T.TextSource.units g.met.T.TextSource.has_units (g.T.TextSource.characters c.args.text) c.args.paragraph.now c.range-units.result c.range-units.ensures c.requires.paragraph.line in
+    let part = paragraph-IsPart g.T.TextSource.units g.met.T.TextSource.has_units (g.T.TextSource.characters c.args.text.now.text) c.args.paragraph.now c.range-units.result c.range-units.ensures c.requires.paragraph.line in
     omega (arith, part.within, c.requires.levels)
 
-pub write_levels-requires-clause-flags : goal.write_levels-requires-clause-flags
-write_levels-requires-clause-flags g c =
+pub invariant_of-own : goal.invariant_of-own
+invariant_of-own g c =
     let len = g.T.TextSource.units in
-    let cs : List ℕ = g.T.TextSource.characters c.args.text in
-    let class_of = (g.D.BidiDataSource.source c.args.data_source.now).class_of in
-    c.requires.flags ∙ ap (λ (piece : List ℕ). flags_of (map class_of piece)) (sym (c.subrange.ensures ∙ ap (λ (r : Range ℕ). subrange len cs r.start r.end) c.range-units.ensures))
+    let cs : List ℕ = g.T.TextSource.characters c.args.text.now.text in
+    let class_of = (g.D.BidiDataSource.source c.args.text.now.data_source.now).class_of in
+    let piece : g.T.TextSource.characters c.subrange.result ≡ chars_of len cs c.args.paragraph.now = c.subrange.ensures ∙ ap (λ (r : Range ℕ). subrange len cs r.start r.end) c.range-units.ensures in
+    record {
+      low = rw c.level.ensures c.requires.paragraph.level;
+      pure = ap (λ (f : ParagraphFlags). f.is_pure_ltr) c.requires.flags ∙ ap (λ (p : List ℕ). is_pure_ltr (map class_of p)) (sym piece);
+      isolates = ap (λ (f : ParagraphFlags). f.has_isolates) c.requires.flags ∙ ap (λ (p : List ℕ). list_any is_initiator (map class_of p)) (sym piece);
+      stored =
+          ap (λ (r : Range ℕ). slice_range c.args.text.now.original_classes.now r.start r.end) c.range-units.ensures ∙ c.requires.paragraph.classes
+          ∙ ap (λ (p : List ℕ). per_unit len p (stored_classes (map class_of p))) (sym piece);
+    }
 
-pub write_levels-requires-clause-classes : goal.write_levels-requires-clause-classes
-write_levels-requires-clause-classes g c =
+pub write_levels-requires : goal.write_levels-requires
+write_levels-requires g c =
     let len = g.T.TextSource.units in
-    let cs : List ℕ = g.T.TextSource.characters c.args.text in
-    let class_of = (g.D.BidiDataSource.source c.args.data_source.now).class_of in
-    ap (λ (r : Range ℕ). slice_range c.args.classes.now r.start r.end) c.range-units.ensures ∙ c.requires.paragraph.classes
-    ∙ ap (λ (piece : List ℕ). per_unit len piece (stored_classes (map class_of piece))) (sym (c.subrange.ensures ∙ ap (λ (r : Range ℕ). subrange len cs r.start r.end) c.range-units.ensures))
-
-pub write_levels-requires-clause-levels : goal.write_levels-requires-clause-levels
-write_levels-requires-clause-levels g c =
-    let len = g.T.TextSource.units in
-    let part = paragraph-IsPart len g.met.T.TextSource.has_units (g.T.TextSource.characters c.args.text) c.args.paragraph.now c.range-units.result c.range-units.ensures c.requires.paragraph.line in
+    let part = paragraph-IsPart len g.met.T.TextSource.has_units (g.T.TextSource.characters c.args.text.now.text) c.args.paragraph.now c.range-units.result c.range-units.ensures c.requires.paragraph.line in
     length-part c.args.levels.now c.range-units.result.start c.range-units.result.end (omega (arith, part.within, c.requires.levels)) ∙ sym (ap (text_len len) c.subrange.ensures ∙ part.long)
 
 pub returns : goal.returns
 returns g c =
     let len = g.T.TextSource.units in
-    let cs : List ℕ = g.T.TextSource.characters c.args.text in
-    let source = g.D.BidiDataSource.source c.args.data_source.now in
+    let cs : List ℕ = g.T.TextSource.characters c.args.text.now.text in
+    let source = g.D.BidiDataSource.source c.args.text.now.data_source.now in
     on_ok_weaker _
-    (paragraph-written source len cs c.args.paragraph.now c.range-units.result (g.T.TextSource.characters c.subrange.result) c.level-level.result c.args.levels.now c.write_levels.new.levels
-    c.range-units.ensures c.subrange.ensures c.level-level.ensures (paragraph-IsPart len g.met.T.TextSource.has_units cs c.args.paragraph.now c.range-units.result c.range-units.ensures c.requires.paragraph.line).ordered)
+    (paragraph-written source len cs c.args.paragraph.now c.range-units.result (g.T.TextSource.characters c.subrange.result) c.level.result c.args.levels.now c.write_levels.new.levels
+    c.range-units.ensures c.subrange.ensures c.level.ensures (paragraph-IsPart len g.met.T.TextSource.has_units cs c.args.paragraph.now c.range-units.result c.range-units.ensures c.requires.paragraph.line).ordered)
     c.write_levels.ensures

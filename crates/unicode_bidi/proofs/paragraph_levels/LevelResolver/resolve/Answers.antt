@@ -14,55 +14,48 @@ use Rattle.bidi_rules.specs.RunSequence.{run_bounds, sequences_in}
 use Rattle.unicode_bidi.proofs.LevelPasses.{AreResolvedTo, AreResolvedTo-start, AreResolvedTo-per_char, AreResolvedTo-long, AreWeakTo-from, AreWeakTo-resolved, AreResolvedTo-more, prepared, prepared-next, prepared-lines, prepared-more, prepared-long, prepared-low, sequences_before, AreLevels-from}
 use Rattle.unicode_bidi.proofs.paragraph_levels.LevelResolver.resolve.Goals as goal
 
-pub prepare-requires-clause-original : goal.prepare-requires-clause-original
-prepare-requires-clause-original g c =
+pub prepare-requires : goal.prepare-requires
+prepare-requires g c =
     let len = g.T.TextSource.units in
-    let cs : List ℕ = g.T.TextSource.characters c.args.text in
-    let class_of = (g.D.BidiDataSource.source c.args.data_source.now).class_of in
-    ap (is_per_char class_eq len cs) c.requires.classes ∙ is_per_char-per_unit class_eq class_test len cs (stored_classes (map class_of cs)) (length-stored_classes (map class_of cs) ∙ length-map cs class_of)
-
-pub prepare-requires-clause-levels : goal.prepare-requires-clause-levels
-prepare-requires-clause-levels g c =
-    let len = g.T.TextSource.units in
-    let cs : List ℕ = g.T.TextSource.characters c.args.text in
-    let class_of = (g.D.BidiDataSource.source c.args.data_source.now).class_of in
-    omega (arith, c.requires.levels, ap length c.requires.classes, length-per_unit len cs (stored_classes (map class_of cs)) (length-stored_classes (map class_of cs) ∙ length-map cs class_of))
+    let cs : List ℕ = g.T.TextSource.characters c.args.paragraph.now.text in
+    let class_of = (g.D.BidiDataSource.source c.args.paragraph.now.data_source.now).class_of in
+    omega (arith, c.requires, ap length c.args.paragraph.now.stored, length-per_unit len cs (stored_classes (map class_of cs)) (length-stored_classes (map class_of cs) ∙ length-map cs class_of))
 
 pub loop-sequence-init : goal.loop-sequence-init
 loop-sequence-init g c =
     let len = g.T.TextSource.units in
     let h = g.met.T.TextSource.has_units in
-    let cs : List ℕ = g.T.TextSource.characters c.args.text in
-    let given = g.D.BidiDataSource.source c.args.data_source.now in
+    let cs : List ℕ = g.T.TextSource.characters c.args.paragraph.now.text in
+    let given = g.D.BidiDataSource.source c.args.paragraph.now.data_source.now in
     let source = map given.class_of cs in
     let fits = length-map cs given.class_of in
-    AreResolvedTo-start len h cs source given.bracket_of c.args.para_level c.args.original_classes.now c.as_mut_slice-classes.result.now fits c.requires.classes (c.as_mut_slice-classes.ensures.value ∙ c.in_ok-prepare.ensures.classes)
+    AreResolvedTo-start len h cs source given.bracket_of c.args.paragraph.now.level c.args.paragraph.now.original_classes.now c.as_mut_slice-classes.result.now fits c.args.paragraph.now.stored (c.as_mut_slice-classes.ensures.value ∙ c.in_ok-prepare.ensures.classes)
 
 pub resolve_weak-requires-clause-per_char : goal.resolve_weak-requires-clause-per_char
 resolve_weak-requires-clause-per_char g c =
     let len = g.T.TextSource.units in
     let h = g.met.T.TextSource.has_units in
-    let cs : List ℕ = g.T.TextSource.characters c.args.text in
-    let given = g.D.BidiDataSource.source c.args.data_source.now in
+    let cs : List ℕ = g.T.TextSource.characters c.args.paragraph.now.text in
+    let given = g.D.BidiDataSource.source c.args.paragraph.now.data_source.now in
     let source = map given.class_of cs in
     let fits = length-map cs given.class_of in
-    AreResolvedTo-per_char len h cs source given.bracket_of c.args.para_level _ c.loop-sequence.classes fits c.loop-sequence.invariant
+    AreResolvedTo-per_char len h cs source given.bracket_of c.args.paragraph.now.level _ c.loop-sequence.classes fits c.loop-sequence.invariant
 
 pub resolve_weak-requires-clause-fits : goal.resolve_weak-requires-clause-fits
 resolve_weak-requires-clause-fits g c =
     let len = g.T.TextSource.units in
     let h = g.met.T.TextSource.has_units in
-    let cs : List ℕ = g.T.TextSource.characters c.args.text in
-    let given = g.D.BidiDataSource.source c.args.data_source.now in
+    let cs : List ℕ = g.T.TextSource.characters c.args.paragraph.now.text in
+    let given = g.D.BidiDataSource.source c.args.paragraph.now.data_source.now in
     let source = map given.class_of cs in
     let fits = length-map cs given.class_of in
-    let original = c.args.original_classes.now in
+    let original = c.args.paragraph.now.original_classes.now in
     let levels = c.prepare.new.levels in
     let out = c.deref-sequence-items.result.now in
-    let para = c.args.para_level in
+    let para = c.args.paragraph.now.level in
     let sequences_are = ap (sequences_in len cs (per_char L len cs original)) c.deref-sequence-items.ensures.value ∙ c.in_ok-prepare.ensures.sequences in
     let lines = subst (λ ss. All (λ s. AreLines len cs (run_bounds s)) ss) (sym c.deref-sequence-items.ensures.value) c.in_ok-prepare.ensures.fits in
-    let ready = prepared len h cs source given.bracket_of para original levels out fits c.requires.classes c.in_ok-prepare.ensures.levels sequences_are lines in
+    let ready = prepared len h cs source given.bracket_of para original levels out fits c.args.paragraph.now.stored c.in_ok-prepare.ensures.levels sequences_are lines in
     let k = c.loop-sequence.sequence-index in
     let s = c.sequence-item.result in
     let within = c.loop-sequence-test.true in
@@ -73,17 +66,17 @@ pub resolve-requires-clause-levels : goal.resolve-requires-clause-levels
 resolve-requires-clause-levels g c =
     let len = g.T.TextSource.units in
     let h = g.met.T.TextSource.has_units in
-    let cs : List ℕ = g.T.TextSource.characters c.args.text in
-    let given = g.D.BidiDataSource.source c.args.data_source.now in
+    let cs : List ℕ = g.T.TextSource.characters c.args.paragraph.now.text in
+    let given = g.D.BidiDataSource.source c.args.paragraph.now.data_source.now in
     let source = map given.class_of cs in
     let fits = length-map cs given.class_of in
-    let original = c.args.original_classes.now in
+    let original = c.args.paragraph.now.original_classes.now in
     let levels = c.prepare.new.levels in
     let out = c.deref-sequence-items.result.now in
-    let para = c.args.para_level in
+    let para = c.args.paragraph.now.level in
     let sequences_are = ap (sequences_in len cs (per_char L len cs original)) c.deref-sequence-items.ensures.value ∙ c.in_ok-prepare.ensures.sequences in
     let lines = subst (λ ss. All (λ s. AreLines len cs (run_bounds s)) ss) (sym c.deref-sequence-items.ensures.value) c.in_ok-prepare.ensures.fits in
-    let ready = prepared len h cs source given.bracket_of para original levels out fits c.requires.classes c.in_ok-prepare.ensures.levels sequences_are lines in
+    let ready = prepared len h cs source given.bracket_of para original levels out fits c.args.paragraph.now.stored c.in_ok-prepare.ensures.levels sequences_are lines in
     omega (
       arith,
       prepared-long len h cs source given.bracket_of para original levels out ready,
@@ -95,15 +88,15 @@ pub resolve-requires-clause-original : goal.resolve-requires-clause-original
 resolve-requires-clause-original g c =
     let len = g.T.TextSource.units in
     let h = g.met.T.TextSource.has_units in
-    let cs : List ℕ = g.T.TextSource.characters c.args.text in
-    let given = g.D.BidiDataSource.source c.args.data_source.now in
+    let cs : List ℕ = g.T.TextSource.characters c.args.paragraph.now.text in
+    let given = g.D.BidiDataSource.source c.args.paragraph.now.data_source.now in
     let source = map given.class_of cs in
     let fits = length-map cs given.class_of in
     omega (
       arith,
-      ap length c.requires.classes,
+      ap length c.args.paragraph.now.stored,
       length-per_unit len cs (stored_classes source) (length-stored_classes source ∙ fits),
-      AreResolvedTo-long len h cs source given.bracket_of c.args.para_level _ c.loop-sequence.classes fits c.loop-sequence.invariant,
+      AreResolvedTo-long len h cs source given.bracket_of c.args.paragraph.now.level _ c.loop-sequence.classes fits c.loop-sequence.invariant,
       c.resolve_weak.auto.processing_classes,
     )
 
@@ -111,17 +104,17 @@ pub resolve-requires-clause-resolved : goal.resolve-requires-clause-resolved
 resolve-requires-clause-resolved g c =
     let len = g.T.TextSource.units in
     let h = g.met.T.TextSource.has_units in
-    let cs : List ℕ = g.T.TextSource.characters c.args.text in
-    let given = g.D.BidiDataSource.source c.args.data_source.now in
+    let cs : List ℕ = g.T.TextSource.characters c.args.paragraph.now.text in
+    let given = g.D.BidiDataSource.source c.args.paragraph.now.data_source.now in
     let source = map given.class_of cs in
     let fits = length-map cs given.class_of in
-    let original = c.args.original_classes.now in
+    let original = c.args.paragraph.now.original_classes.now in
     let levels = c.prepare.new.levels in
     let out = c.deref-sequence-items.result.now in
-    let para = c.args.para_level in
+    let para = c.args.paragraph.now.level in
     let sequences_are = ap (sequences_in len cs (per_char L len cs original)) c.deref-sequence-items.ensures.value ∙ c.in_ok-prepare.ensures.sequences in
     let lines = subst (λ ss. All (λ s. AreLines len cs (run_bounds s)) ss) (sym c.deref-sequence-items.ensures.value) c.in_ok-prepare.ensures.fits in
-    let ready = prepared len h cs source given.bracket_of para original levels out fits c.requires.classes c.in_ok-prepare.ensures.levels sequences_are lines in
+    let ready = prepared len h cs source given.bracket_of para original levels out fits c.args.paragraph.now.stored c.in_ok-prepare.ensures.levels sequences_are lines in
     let k = c.loop-sequence.sequence-index in
     let s = c.sequence-item.result in
     let within = c.loop-sequence-test.true in
@@ -137,17 +130,17 @@ pub loop-sequence-preserved : goal.loop-sequence-preserved
 loop-sequence-preserved g c =
     let len = g.T.TextSource.units in
     let h = g.met.T.TextSource.has_units in
-    let cs : List ℕ = g.T.TextSource.characters c.args.text in
-    let given = g.D.BidiDataSource.source c.args.data_source.now in
+    let cs : List ℕ = g.T.TextSource.characters c.args.paragraph.now.text in
+    let given = g.D.BidiDataSource.source c.args.paragraph.now.data_source.now in
     let source = map given.class_of cs in
     let fits = length-map cs given.class_of in
-    let original = c.args.original_classes.now in
+    let original = c.args.paragraph.now.original_classes.now in
     let levels = c.prepare.new.levels in
     let out = c.deref-sequence-items.result.now in
-    let para = c.args.para_level in
+    let para = c.args.paragraph.now.level in
     let sequences_are = ap (sequences_in len cs (per_char L len cs original)) c.deref-sequence-items.ensures.value ∙ c.in_ok-prepare.ensures.sequences in
     let lines = subst (λ ss. All (λ s. AreLines len cs (run_bounds s)) ss) (sym c.deref-sequence-items.ensures.value) c.in_ok-prepare.ensures.fits in
-    let ready = prepared len h cs source given.bracket_of para original levels out fits c.requires.classes c.in_ok-prepare.ensures.levels sequences_are lines in
+    let ready = prepared len h cs source given.bracket_of para original levels out fits c.args.paragraph.now.stored c.in_ok-prepare.ensures.levels sequences_are lines in
     let k = c.loop-sequence.sequence-index in
     let s = c.sequence-item.result in
     let within = c.loop-sequence-test.true in
@@ -159,58 +152,58 @@ loop-sequence-preserved g c =
     c.resolve_weak.ensures.per_char in
     let more = prepared-more len h cs source given.bracket_of para original levels out ready k s within c.sequence-item.is in
     subst (λ ss. AreResolvedTo len h cs source given.bracket_of para ss c.resolve.new.processing_classes) (sym more)
-    (AreResolvedTo-more len h cs source given.bracket_of para fits before s line next c.resolve_weak.new.processing_classes c.resolve.new.processing_classes original levels c.requires.classes ready.levels_is weak
+    (AreResolvedTo-more len h cs source given.bracket_of para fits before s line next c.resolve_weak.new.processing_classes c.resolve.new.processing_classes original levels c.args.paragraph.now.stored ready.levels_is weak
     c.in_ok-resolve.ensures.kept c.in_ok-resolve.ensures.removed c.in_ok-resolve.ensures.outside c.in_ok-resolve.ensures.per_char)
 
 pub resolve_levels-requires-clause-lengths : goal.resolve_levels-requires-clause-lengths
 resolve_levels-requires-clause-lengths g c =
     let len = g.T.TextSource.units in
     let h = g.met.T.TextSource.has_units in
-    let cs : List ℕ = g.T.TextSource.characters c.args.text in
-    let given = g.D.BidiDataSource.source c.args.data_source.now in
+    let cs : List ℕ = g.T.TextSource.characters c.args.paragraph.now.text in
+    let given = g.D.BidiDataSource.source c.args.paragraph.now.data_source.now in
     let source = map given.class_of cs in
     let fits = length-map cs given.class_of in
-    let original = c.args.original_classes.now in
+    let original = c.args.paragraph.now.original_classes.now in
     let levels = c.prepare.new.levels in
     let out = c.deref-sequence-items.result.now in
-    let para = c.args.para_level in
+    let para = c.args.paragraph.now.level in
     let sequences_are = ap (sequences_in len cs (per_char L len cs original)) c.deref-sequence-items.ensures.value ∙ c.in_ok-prepare.ensures.sequences in
     let lines = subst (λ ss. All (λ s. AreLines len cs (run_bounds s)) ss) (sym c.deref-sequence-items.ensures.value) c.in_ok-prepare.ensures.fits in
-    let ready = prepared len h cs source given.bracket_of para original levels out fits c.requires.classes c.in_ok-prepare.ensures.levels sequences_are lines in
+    let ready = prepared len h cs source given.bracket_of para original levels out fits c.args.paragraph.now.stored c.in_ok-prepare.ensures.levels sequences_are lines in
     omega (arith, prepared-long len h cs source given.bracket_of para original levels out ready, AreResolvedTo-long len h cs source given.bracket_of para _ c.loop-sequence.classes fits c.loop-sequence.invariant)
 
 pub resolve_levels-requires-clause-explicit : goal.resolve_levels-requires-clause-explicit
 resolve_levels-requires-clause-explicit g c =
     let len = g.T.TextSource.units in
     let h = g.met.T.TextSource.has_units in
-    let cs : List ℕ = g.T.TextSource.characters c.args.text in
-    let given = g.D.BidiDataSource.source c.args.data_source.now in
+    let cs : List ℕ = g.T.TextSource.characters c.args.paragraph.now.text in
+    let given = g.D.BidiDataSource.source c.args.paragraph.now.data_source.now in
     let source = map given.class_of cs in
     let fits = length-map cs given.class_of in
-    let original = c.args.original_classes.now in
+    let original = c.args.paragraph.now.original_classes.now in
     let levels = c.prepare.new.levels in
     let out = c.deref-sequence-items.result.now in
-    let para = c.args.para_level in
+    let para = c.args.paragraph.now.level in
     let sequences_are = ap (sequences_in len cs (per_char L len cs original)) c.deref-sequence-items.ensures.value ∙ c.in_ok-prepare.ensures.sequences in
     let lines = subst (λ ss. All (λ s. AreLines len cs (run_bounds s)) ss) (sym c.deref-sequence-items.ensures.value) c.in_ok-prepare.ensures.fits in
-    let ready = prepared len h cs source given.bracket_of para original levels out fits c.requires.classes c.in_ok-prepare.ensures.levels sequences_are lines in
-    prepared-low len h cs source given.bracket_of para original levels out ready c.requires.level
+    let ready = prepared len h cs source given.bracket_of para original levels out fits c.args.paragraph.now.stored c.in_ok-prepare.ensures.levels sequences_are lines in
+    prepared-low len h cs source given.bracket_of para original levels out ready c.args.paragraph.now.low
 
 pub returns-clause-per_char : goal.returns-clause-per_char
 returns-clause-per_char g c =
     let len = g.T.TextSource.units in
     let h = g.met.T.TextSource.has_units in
-    let cs : List ℕ = g.T.TextSource.characters c.args.text in
-    let given = g.D.BidiDataSource.source c.args.data_source.now in
+    let cs : List ℕ = g.T.TextSource.characters c.args.paragraph.now.text in
+    let given = g.D.BidiDataSource.source c.args.paragraph.now.data_source.now in
     let source = map given.class_of cs in
     let fits = length-map cs given.class_of in
-    let original = c.args.original_classes.now in
+    let original = c.args.paragraph.now.original_classes.now in
     let levels = c.prepare.new.levels in
     let out = c.deref-sequence-items.result.now in
-    let para = c.args.para_level in
+    let para = c.args.paragraph.now.level in
     let sequences_are = ap (sequences_in len cs (per_char L len cs original)) c.deref-sequence-items.ensures.value ∙ c.in_ok-prepare.ensures.sequences in
     let lines = subst (λ ss. All (λ s. AreLines len cs (run_bounds s)) ss) (sym c.deref-sequence-items.ensures.value) c.in_ok-prepare.ensures.fits in
-    let ready = prepared len h cs source given.bracket_of para original levels out fits c.requires.classes c.in_ok-prepare.ensures.levels sequences_are lines in
+    let ready = prepared len h cs source given.bracket_of para original levels out fits c.args.paragraph.now.stored c.in_ok-prepare.ensures.levels sequences_are lines in
     let done =
     AreLevels-from len h cs source given.bracket_of para original levels out ready c.loop-sequence.sequence-index c.loop-sequence.classes c.resolve_levels.new.levels c.loop-sequence-test.false c.loop-sequence.invariant c.resolve_levels.ensures.levels in
     done.even
@@ -219,17 +212,17 @@ pub returns-clause-resolved : goal.returns-clause-resolved
 returns-clause-resolved g c =
     let len = g.T.TextSource.units in
     let h = g.met.T.TextSource.has_units in
-    let cs : List ℕ = g.T.TextSource.characters c.args.text in
-    let given = g.D.BidiDataSource.source c.args.data_source.now in
+    let cs : List ℕ = g.T.TextSource.characters c.args.paragraph.now.text in
+    let given = g.D.BidiDataSource.source c.args.paragraph.now.data_source.now in
     let source = map given.class_of cs in
     let fits = length-map cs given.class_of in
-    let original = c.args.original_classes.now in
+    let original = c.args.paragraph.now.original_classes.now in
     let levels = c.prepare.new.levels in
     let out = c.deref-sequence-items.result.now in
-    let para = c.args.para_level in
+    let para = c.args.paragraph.now.level in
     let sequences_are = ap (sequences_in len cs (per_char L len cs original)) c.deref-sequence-items.ensures.value ∙ c.in_ok-prepare.ensures.sequences in
     let lines = subst (λ ss. All (λ s. AreLines len cs (run_bounds s)) ss) (sym c.deref-sequence-items.ensures.value) c.in_ok-prepare.ensures.fits in
-    let ready = prepared len h cs source given.bracket_of para original levels out fits c.requires.classes c.in_ok-prepare.ensures.levels sequences_are lines in
+    let ready = prepared len h cs source given.bracket_of para original levels out fits c.args.paragraph.now.stored c.in_ok-prepare.ensures.levels sequences_are lines in
     let done =
     AreLevels-from len h cs source given.bracket_of para original levels out ready c.loop-sequence.sequence-index c.loop-sequence.classes c.resolve_levels.new.levels c.loop-sequence-test.false c.loop-sequence.invariant c.resolve_levels.ensures.levels in
     done.resolved

@@ -7,7 +7,7 @@ abbrev pub invariant-loop-sequence : goal.invariant-loop-sequence
 invariant-loop-sequence g l =
     let len = g.T.TextSource.units in
     let h = g.met.T.TextSource.has_units in
-    let cs : List ℕ = g.T.TextSource.characters l.text in
-    let given = g.D.BidiDataSource.source l.data_source in
+    let cs : List ℕ = g.T.TextSource.characters l.paragraph.text in
+    let given = g.D.BidiDataSource.source l.paragraph.data_source.now in
     let source = map given.class_of cs in
-    AreResolvedTo len h cs source given.bracket_of l.fn.para_level (sequences_before len h cs source given.bracket_of l.fn.para_level l.sequence-items l.sequence-index) l.classes
+    AreResolvedTo len h cs source given.bracket_of l.paragraph.level (sequences_before len h cs source given.bracket_of l.paragraph.level l.sequence-items l.sequence-index) l.classes

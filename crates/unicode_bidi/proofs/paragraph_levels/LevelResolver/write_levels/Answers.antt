@@ -7,40 +7,32 @@ use Rattle.bidi_base.proofs.StoredSteps.{length-stored_classes}
 use Rattle.unicode_bidi.proofs.FilledUnits.{filled-levels_in, pure_levels, initiators-stored}
 use Rattle.unicode_bidi.proofs.paragraph_levels.LevelResolver.write_levels.Goals as goal
 
-pub returns-then-flags : goal.returns-then-flags
-returns-then-flags g c =
+pub returns-then-paragraph : goal.returns-then-paragraph
+returns-then-paragraph g c =
     let len = g.T.TextSource.units in
-    let cs : List ℕ = g.T.TextSource.characters c.args.text in
-    let given = g.D.BidiDataSource.source c.args.data_source.now in
+    let cs : List ℕ = g.T.TextSource.characters c.args.paragraph.now.text in
+    let given = g.D.BidiDataSource.source c.args.paragraph.now.data_source.now in
     let source = map given.class_of cs in
-    let zero_level = eqb-true c.args.para_level 0 (sym c.eq.ensures ∙ c.if-eq.true) in
-    let pure = sym (ap (λ flags. flags.is_pure_ltr) c.requires.flags) ∙ c.if-flags.true in
-    pure_levels len cs source (map given.bracket_of cs) c.args.para_level c.args.levels.now c.fill.new.self (length-map cs given.class_of) c.requires.levels zero_level pure (c.fill.ensures.after (λ y e. e))
-
-pub resolve-requires-clause-isolates : goal.resolve-requires-clause-isolates
-resolve-requires-clause-isolates g c = λ some.
-    let len = g.T.TextSource.units in
-    let cs : List ℕ = g.T.TextSource.characters c.args.text in
-    let given = g.D.BidiDataSource.source c.args.data_source.now in
-    let source = map given.class_of cs in
-    ap (λ flags. flags.has_isolates) c.requires.flags ∙ initiators-stored len cs source c.args.original_classes.now c.requires.classes some
+    let zero_level = eqb-true c.args.paragraph.now.level 0 (sym c.eq.ensures ∙ c.if-eq.true) in
+    let pure = sym c.args.paragraph.now.pure ∙ c.if-paragraph.true in
+    pure_levels len cs source (map given.bracket_of cs) c.args.paragraph.now.level c.args.levels.now c.fill.new.self (length-map cs given.class_of) c.requires zero_level pure (c.fill.ensures.after (λ y e. e))
 
 pub fill_removed-requires : goal.fill_removed-requires
 fill_removed-requires g c =
     let len = g.T.TextSource.units in
-    let cs : List ℕ = g.T.TextSource.characters c.args.text in
-    let given = g.D.BidiDataSource.source c.args.data_source.now in
+    let cs : List ℕ = g.T.TextSource.characters c.args.paragraph.now.text in
+    let given = g.D.BidiDataSource.source c.args.paragraph.now.data_source.now in
     let source = map given.class_of cs in
-    record { lengths = omega (arith, c.resolve.auto.levels, c.requires.levels, ap length c.requires.classes, length-per_unit len cs (stored_classes source) (length-stored_classes source ∙ length-map cs given.class_of)) }
+    record { lengths = omega (arith, c.resolve.auto.levels, c.requires, ap length c.args.paragraph.now.stored, length-per_unit len cs (stored_classes source) (length-stored_classes source ∙ length-map cs given.class_of)) }
 
 pub returns : goal.returns
 returns g c =
     let len = g.T.TextSource.units in
     let h = g.met.T.TextSource.has_units in
-    let cs : List ℕ = g.T.TextSource.characters c.args.text in
-    let given = g.D.BidiDataSource.source c.args.data_source.now in
+    let cs : List ℕ = g.T.TextSource.characters c.args.paragraph.now.text in
+    let given = g.D.BidiDataSource.source c.args.paragraph.now.data_source.now in
     let source = map given.class_of cs in
     let stored_long = length-stored_classes source ∙ length-map cs given.class_of in
-    filled-levels_in len h cs (stored_classes source) c.args.para_level c.args.original_classes.now c.resolve.new.levels c.fill_removed.new.levels stored_long c.requires.classes c.in_ok-resolve.ensures.per_char
-    (omega (arith, c.fill_removed.auto.levels, c.resolve.auto.levels, c.requires.levels, ap length c.requires.classes, length-per_unit len cs (stored_classes source) stored_long))
+    filled-levels_in len h cs (stored_classes source) c.args.paragraph.now.level c.args.paragraph.now.original_classes.now c.resolve.new.levels c.fill_removed.new.levels stored_long c.args.paragraph.now.stored c.in_ok-resolve.ensures.per_char
+    (omega (arith, c.fill_removed.auto.levels, c.resolve.auto.levels, c.requires, ap length c.args.paragraph.now.stored, length-per_unit len cs (stored_classes source) stored_long))
     c.fill_removed.ensures.kept c.fill_removed.ensures.front c.fill_removed.ensures.removed source (map given.bracket_of cs) refl c.in_ok-resolve.ensures.resolved
