@@ -1,0 +1,97 @@
+//! Unicode's data as the algorithm asks for it.
+ghost use Rattle.std.specs.Prelude.{◌≡◌};
+ghost use Rattle.bidi_unicode.specs.Unicode.{class_named, bracket_in, normal_form, mirrored_of};
+
+use crate::rows;
+use crate::tables::{BRACKETS, MIRRORED, Side};
+use bidi_base::char_data::BidiClass;
+use bidi_base::data_source::{BidiDataSource, BidiMatchedOpeningBracket};
+use ucd_bidi::BidiClass as Property;
+
+/// The data source over Unicode's own data: the Bidi_Class of every character, also of those that are
+/// not assigned, and Unicode's pairs of brackets. U+2329 and U+232A are taken as U+3008 and U+3009,
+/// whose canonical equivalents they are (BD16).
+#[derive(Clone, Copy, Debug, Default)]
+pub struct UnicodeData;
+
+#[tactic(auto, unfolding(crate::specs::Unicode::unicode_source))]
+impl BidiDataSource for UnicodeData {
+    ghost use Rattle.bidi_unicode.specs.Unicode.{unicode_source};
+
+    ghost source = { λ _. unicode_source };
+
+    fn bidi_class(&self, c: char) -> BidiClass {
+        class_named(Property::for_char(c))
+    }
+
+    fn bidi_matched_opening_bracket(&self, c: char) -> Option<BidiMatchedOpeningBracket> {
+        let (_, (partner, side)) = BRACKETS[rows::index_of(&BRACKETS, c)?];
+        Some(bracket_in(c, partner, side))
+    }
+}
+
+/// The partner of a character that is mirrored (L4): the one that is shown in its place at an odd
+/// level. `None` where Unicode names no such partner, also for some characters that it calls mirrored.
+pub fn mirrored(c: char) -> Option<char>
+    ensures partner { result ≡ mirrored_of c }
+{
+    let (_, partner) = MIRRORED[rows::index_of(&MIRRORED, c)?];
+    Some(partner)
+}
+
+/// The class that the property's value stands for.
+fn class_named(value: Property) -> BidiClass
+    ensures { result ≡ class_named value }
+{
+    match value {
+        Property::ArabicLetter => BidiClass::AL,
+        Property::ArabicNumber => BidiClass::AN,
+        Property::ParagraphSeparator => BidiClass::B,
+        Property::BoundaryNeutral => BidiClass::BN,
+        Property::CommonSeparator => BidiClass::CS,
+        Property::EuropeanNumber => BidiClass::EN,
+        Property::EuropeanSeparator => BidiClass::ES,
+        Property::EuropeanTerminator => BidiClass::ET,
+        Property::FirstStrongIsolate => BidiClass::FSI,
+        Property::LeftToRight => BidiClass::L,
+        Property::LeftToRightEmbedding => BidiClass::LRE,
+        Property::LeftToRightIsolate => BidiClass::LRI,
+        Property::LeftToRightOverride => BidiClass::LRO,
+        Property::NonspacingMark => BidiClass::NSM,
+        Property::OtherNeutral => BidiClass::ON,
+        Property::PopDirectionalFormat => BidiClass::PDF,
+        Property::PopDirectionalIsolate => BidiClass::PDI,
+        Property::RightToLeft => BidiClass::R,
+        Property::RightToLeftEmbedding => BidiClass::RLE,
+        Property::RightToLeftIsolate => BidiClass::RLI,
+        Property::RightToLeftOverride => BidiClass::RLO,
+        Property::SegmentSeparator => BidiClass::S,
+        Property::WhiteSpace => BidiClass::WS,
+    }
+}
+
+/// The bracket that a character of the table is.
+fn bracket_in(c: char, partner: char, side: Side) -> BidiMatchedOpeningBracket
+    ensures { result ≡ bracket_in c partner side }
+{
+    match side {
+        Side::Open => BidiMatchedOpeningBracket {
+            opening: normal_form(c),
+            is_open: true,
+        },
+        Side::Close => BidiMatchedOpeningBracket {
+            opening: normal_form(partner),
+            is_open: false,
+        },
+    }
+}
+
+/// The opening bracket that an opening bracket is canonically equivalent to, or itself.
+fn normal_form(opening: char) -> char
+    ensures { result ≡ normal_form opening }
+{
+    match opening {
+        '\u{2329}' => '\u{3008}',
+        _ => opening,
+    }
+}
