@@ -1,7 +1,10 @@
 -- Unicode's data as the algorithm asks for it.
-use Rattle.std.specs.Prelude.{ℕ, true, false, ◌==◌, Option, option_map, if◌then◌else◌}
+use Rattle.std.specs.Prelude.{ℕ, Bool, true, false, not, ◌&&◌, ◌==◌, Option, Some, None, option_map, if◌then◌else◌}
 use Rattle.ucd_bidi.specs.BidiClass.{bidi_class}
 use Rattle.ucd_bidi.specs.declared.BidiClass as Property
+use Rattle.ucd_bidi.specs.Binary.{is_bidi_mirrored}
+use Rattle.ucd_category.specs.declared.GeneralCategory.{GeneralCategory}
+use Rattle.ucd_category.specs.GeneralCategory.{general_category, general_category_eq}
 use Rattle.bidi_base.specs.declared.char_data.BidiClass.{BidiClass}
 use Rattle.bidi_base.specs.declared.char_data.BidiClass.TheVariants.{AL, AN, B, BN, CS, EN, ES, ET, FSI, L, LRE, LRI, LRO, NSM, ON, PDF, PDI, R, RLE, RLI, RLO, S, WS}
 use Rattle.bidi_base.specs.declared.data_source.BidiMatchedOpeningBracket.{BidiMatchedOpeningBracket}
@@ -53,6 +56,20 @@ bracket_of c = option_map (λ r. bracket_in c r.0 r.1) (row_value BRACKETS c)
 -- Unicode's data as a source
 unfoldable pub unicode_source : Source
 unicode_source = record { class_of = λ c. class_named (bidi_class c); bracket_of = bracket_of }
+
+-- it is an opening bracket
+abbrev pub is_opening : Option BidiMatchedOpeningBracket → Bool
+is_opening None = false
+is_opening (Some bracket) = bracket.is_open
+
+-- it is a closing bracket
+abbrev pub is_closing : Option BidiMatchedOpeningBracket → Bool
+is_closing None = false
+is_closing (Some bracket) = not bracket.is_open
+
+-- the character has that general category, and the property Bidi_Mirrored
+abbrev pub is_mirrored_in : GeneralCategory → ℕ → Bool
+is_mirrored_in category c = general_category_eq (general_category c) category && is_bidi_mirrored c
 
 -- the mirrored partner of a character by the table of partners, if it has one
 abbrev pub mirrored_of : ℕ → Option ℕ

@@ -4,6 +4,8 @@
 
 mod rows;
 mod source;
-pub mod tables;
+mod tables;
+#[cfg(test)]
+mod tests;
 
 pub use source::{UnicodeData, mirrored};

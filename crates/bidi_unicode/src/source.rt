@@ -1,6 +1,8 @@
 //! Unicode's data as the algorithm asks for it.
-ghost use Rattle.std.specs.Prelude.{◌≡◌};
-ghost use Rattle.bidi_unicode.specs.Unicode.{class_named, bracket_in, normal_form, mirrored_of};
+ghost use Rattle.std.specs.Prelude.{◌≡◌, Some, IsSome, IfSome, IsTrue};
+ghost use Rattle.bidi_unicode.specs.Unicode.{class_named, bracket_of, bracket_in, normal_form, mirrored_of, unicode_source, is_opening, is_closing, is_mirrored_in};
+ghost use Rattle.ucd_bidi.specs.Binary.{is_bidi_mirrored};
+ghost use Rattle.ucd_category.specs.declared.GeneralCategory.TheVariants.{OpenPunctuation, ClosePunctuation};
 
 use crate::rows;
 use crate::tables::{BRACKETS, MIRRORED, Side};
@@ -24,9 +26,14 @@ impl BidiDataSource for UnicodeData {
         class_named(Property::for_char(c))
     }
 
-    fn bidi_matched_opening_bracket(&self, c: char) -> Option<BidiMatchedOpeningBracket> {
-        let (_, (partner, side)) = BRACKETS[rows::index_of(&BRACKETS, c)?];
-        Some(bracket_in(c, partner, side))
+    fn bidi_matched_opening_bracket(&self, c: char) -> Option<BidiMatchedOpeningBracket>
+        ensures bracket { result ≡ unicode_source.bracket_of c }
+        // The opening brackets are the mirrored characters of general category Ps, and the closing
+        // ones those of Pe.
+        ensures opening { is_opening result ≡ is_mirrored_in OpenPunctuation c }
+        ensures closing { is_closing result ≡ is_mirrored_in ClosePunctuation c }
+    {
+        bracket_of(c)
     }
 }
 
@@ -34,9 +41,19 @@ impl BidiDataSource for UnicodeData {
 /// level. `None` where Unicode names no such partner, also for some characters that it calls mirrored.
 pub fn mirrored(c: char) -> Option<char>
     ensures partner { result ≡ mirrored_of c }
+    ensures mirrored { IsSome result → IsTrue (is_bidi_mirrored c) }
+    ensures back { IfSome result (λ partner. mirrored_of partner ≡ Some c) }
 {
     let (_, partner) = MIRRORED[rows::index_of(&MIRRORED, c)?];
     Some(partner)
+}
+
+/// The bracket that a character is by the table of brackets.
+fn bracket_of(c: char) -> Option<BidiMatchedOpeningBracket>
+    ensures { result ≡ bracket_of c }
+{
+    let (_, (partner, side)) = BRACKETS[rows::index_of(&BRACKETS, c)?];
+    Some(bracket_in(c, partner, side))
 }
 
 /// The class that the property's value stands for.

@@ -1,8 +1,8 @@
-//! Unicode's pairs of brackets and of mirrored characters. The contracts name both tables.
+//! Unicode's brackets and mirrored characters. The definitions in `specs` name both tables.
 
 /// Which bracket of its pair a character is.
 #[derive(Clone, Copy, Debug)]
-pub enum Side {
+pub(crate) enum Side {
     /// The opening one.
     Open,
     /// The closing one.
@@ -11,7 +11,7 @@ pub enum Side {
 
 /// The brackets (BD14, BD15), in order: a character, the other bracket of its pair, and which of the
 /// two the character is.
-pub static BRACKETS: [(char, (char, Side)); 130] = [
+pub(crate) static BRACKETS: [(char, (char, Side)); 130] = [
     ('\u{0028}', ('\u{0029}', Side::Open)),
     ('\u{0029}', ('\u{0028}', Side::Close)),
     ('\u{005B}', ('\u{005D}', Side::Open)),
@@ -145,7 +145,7 @@ pub static BRACKETS: [(char, (char, Side)); 130] = [
 ];
 
 /// The characters that have a mirrored partner (L4), in order, each with its partner.
-pub static MIRRORED: [(char, char); 430] = [
+pub(crate) static MIRRORED: [(char, char); 430] = [
     ('\u{0028}', '\u{0029}'),
     ('\u{0029}', '\u{0028}'),
     ('\u{003C}', '\u{003E}'),

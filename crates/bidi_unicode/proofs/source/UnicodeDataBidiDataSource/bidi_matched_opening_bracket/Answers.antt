@@ -1,12 +1,10 @@
-use Rattle.std.proofs.Common.{ℕ, Some, option_map, sym, ap, ◌∙◌}
-use Rattle.bidi_unicode.specs.declared.tables.Side.{Side}
-use Rattle.bidi_unicode.specs.declared.tables.Side.TheVariants.{Open}
-use Rattle.bidi_unicode.specs.Unicode.{unicode_source, bracket_in}
+use Rattle.std.proofs.Common.{ap, ◌∙◌}
+use Rattle.bidi_unicode.specs.Unicode.{is_opening, is_closing}
+use Rattle.bidi_unicode.proofs.TableLaws.{is_opening-bracket_of, is_closing-bracket_of}
 use Rattle.bidi_unicode.proofs.source.UnicodeDataBidiDataSource.bidi_matched_opening_bracket.Goals as goal
 
--- the bracket of the row that was found
-pub returns : goal.returns
-unfolding unicode_source
-returns c =
-    ap Some c.bracket_in.ensures
-    ∙ sym (ap (option_map (λ (r : ℕ × Side). bracket_in c.args.c r.0 r.1)) (c.in_ok-partner.ensures.found.1 (0, (0, Open))))
+pub returns-clause-opening : goal.returns-clause-opening
+returns-clause-opening c = ap is_opening c.bracket_of.ensures ∙ is_opening-bracket_of c.args.c
+
+pub returns-clause-closing : goal.returns-clause-closing
+returns-clause-closing c = ap is_closing c.bracket_of.ensures ∙ is_closing-bracket_of c.args.c
