@@ -1,6 +1,7 @@
 -- What the tables have in common with Unicode's general categories and its mirrored characters, each by a computation over steps.
-use Rattle.std.proofs.Common.{◌≡◌, ℕ, Bool, true, false, ◌&&◌, ◌||◌, not, ◌==◌, List, [], ◌∷◌, map, Option, Some, None, is_some, option_map, refl, sym, ap, eqb-true, ◌∙◌, arith}
+use Rattle.std.proofs.Common.{◌≡◌, ℕ, Bool, true, false, ◌&&◌, ◌||◌, not, ◌==◌, List, [], ◌∷◌, map, Option, Some, None, is_some, option_map, option_and_then, refl, sym, ap, ap₂, eqb-true, ◌∙◌, arith}
 use Rattle.std.specs.Bool.{beq}
+use Rattle.std.proofs.lemmas.Bool.{and_parts}
 use Rattle.std.proofs.lemmas.Bool.Decides.{nat_tests}
 use Rattle.ucd_table.specs.Rows.{Row, value_in}
 use Rattle.ucd_table.proofs.Stepped.{Stepped, of_rows, zip_stepped}
@@ -14,11 +15,12 @@ use Rattle.ucd_category.specs.declared.GeneralCategory.{GeneralCategory}
 use Rattle.ucd_category.specs.declared.GeneralCategory.TheVariants.{OpenPunctuation, ClosePunctuation}
 use Rattle.ucd_category.specs.GeneralCategory.{general_category, general_category_eq}
 use Rattle.ucd_category.proofs.GeneralCategoryLemmas.{general_category_stepped}
+use Rattle.bidi_base.specs.declared.data_source.BidiMatchedOpeningBracket.{BidiMatchedOpeningBracket}
 use Rattle.bidi_unicode.specs.declared.tables.Side.{Side}
 use Rattle.bidi_unicode.specs.declared.tables.Side.TheVariants.{Open, Close}
 use Rattle.bidi_unicode.specs.declared.tables.TheConstants.{BRACKETS, MIRRORED}
 use Rattle.bidi_unicode.specs.Rows.{row_value}
-use Rattle.bidi_unicode.specs.Unicode.{bracket_in, bracket_of, mirrored_of, is_opening, is_closing, is_mirrored_in}
+use Rattle.bidi_unicode.specs.Unicode.{bracket_in, bracket_of, mirrored_of, is_opening, is_closing, other_bracket, is_mirrored_in}
 
 -- the rows as the kit's tables have them, each of one code point
 abbrev point_rows : {V : Type 0} → List (ℕ × V) → List (Row (Option V))
@@ -125,3 +127,50 @@ pub mirrored_of-mirrored_of : (c p : ℕ) → mirrored_of c ≡ Some p → mirro
 mirrored_of-mirrored_of c p e =
     let back : comes_back c (mirrored_of c) ≡ true = Stepped-at_points (row_value MIRRORED) mirrored_stepped (λ row. not (is_some row)) comes_back all_come_back c (ap (λ (row : Option ℕ). not (is_some row)) e) in
     holds-true (row_value MIRRORED p) c (ap (comes_back c) (sym e) ∙ back)
+
+-- the two tables together
+abbrev both_rows : ℕ → Option ℕ × Option (ℕ × Side)
+both_rows c = (row_value MIRRORED c, row_value BRACKETS c)
+
+abbrev both_stepped : Stepped both_rows
+both_stepped = zip_stepped (λ (m : Option ℕ) (b : Option (ℕ × Side)). (m, b)) (row_value MIRRORED) (row_value BRACKETS) mirrored_stepped brackets_stepped
+
+-- neither table has a row
+abbrev both_absent : Option ℕ × Option (ℕ × Side) → Bool
+both_absent rows = not (is_some rows.0 || is_some rows.1)
+
+abbrev same_bracket : Option BidiMatchedOpeningBracket → Option BidiMatchedOpeningBracket → Bool
+same_bracket None None = true
+same_bracket None (Some b) = false
+same_bracket (Some a) None = false
+same_bracket (Some a) (Some b) = a.opening == b.opening && beq a.is_open b.is_open
+
+same_bracket-true : (a b : Option BidiMatchedOpeningBracket) → same_bracket a b ≡ true → a ≡ b
+same_bracket-true None None h = refl
+same_bracket-true None (Some b) h = cc
+same_bracket-true (Some a) None h = cc
+same_bracket-true (Some a) (Some b) h =
+    let parts = and_parts (a.opening == b.opening) (beq a.is_open b.is_open) h in
+    ap₂ (λ (opening : ℕ) (is_open : Bool). Some (record { opening = opening; is_open = is_open })) (eqb-true a.opening b.opening parts.0) (same_from_beq a.is_open b.is_open parts.1)
+
+-- the partner is the other bracket of the pair
+abbrev pairs_up : ℕ → Option ℕ × Option (ℕ × Side) → Bool
+pairs_up c rows =
+    same_bracket (option_and_then bracket_of rows.0) (option_map other_bracket (option_map (λ (r : ℕ × Side). bracket_in c r.0 r.1) rows.1))
+
+all_pair_up : at_points both_rows both_stepped both_absent pairs_up ≡ true
+unfolding tables mirrored_stepped brackets_stepped points_ok
+all_pair_up = refl
+
+pairs_up-absent : (c : ℕ) (m : Option ℕ) (b : Option (ℕ × Side)) → both_absent (m, b) ≡ true → pairs_up c (m, b) ≡ true
+pairs_up-absent c None None h = refl
+pairs_up-absent c None (Some b) h = cc
+pairs_up-absent c (Some m) b h = cc
+
+-- the mirrored partner of a bracket is the other bracket of its pair
+pub bracket_of-mirrored_of : (c : ℕ) → option_and_then bracket_of (mirrored_of c) ≡ option_map other_bracket (bracket_of c)
+bracket_of-mirrored_of c = same_bracket-true _ _ (by_rows (both_absent (both_rows c)) refl)
+  where
+    by_rows : (absent : Bool) → both_absent (both_rows c) ≡ absent → pairs_up c (both_rows c) ≡ true
+    by_rows true e = pairs_up-absent c (row_value MIRRORED c) (row_value BRACKETS c) e
+    by_rows false e = Stepped-at_points both_rows both_stepped both_absent pairs_up all_pair_up c e

@@ -67,6 +67,10 @@ abbrev pub is_closing : Option BidiMatchedOpeningBracket → Bool
 is_closing None = false
 is_closing (Some bracket) = not bracket.is_open
 
+-- the other bracket of the pair
+abbrev pub other_bracket : BidiMatchedOpeningBracket → BidiMatchedOpeningBracket
+other_bracket bracket = record { opening = bracket.opening; is_open = not bracket.is_open }
+
 -- the character has that general category, and the property Bidi_Mirrored
 abbrev pub is_mirrored_in : GeneralCategory → ℕ → Bool
 is_mirrored_in category c = general_category_eq (general_category c) category && is_bidi_mirrored c

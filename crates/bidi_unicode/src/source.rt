@@ -1,6 +1,6 @@
 //! Unicode's data as the algorithm asks for it.
-ghost use Rattle.std.specs.Prelude.{◌≡◌, Some, IsSome, IfSome, IsTrue};
-ghost use Rattle.bidi_unicode.specs.Unicode.{class_named, bracket_of, bracket_in, normal_form, mirrored_of, unicode_source, is_opening, is_closing, is_mirrored_in};
+ghost use Rattle.std.specs.Prelude.{◌≡◌, Some, option_map, option_and_then, IsSome, IfSome, IsTrue};
+ghost use Rattle.bidi_unicode.specs.Unicode.{class_named, bracket_of, bracket_in, normal_form, mirrored_of, unicode_source, is_opening, is_closing, other_bracket, is_mirrored_in};
 ghost use Rattle.ucd_bidi.specs.Binary.{is_bidi_mirrored};
 ghost use Rattle.ucd_category.specs.declared.GeneralCategory.TheVariants.{OpenPunctuation, ClosePunctuation};
 
@@ -32,6 +32,8 @@ impl BidiDataSource for UnicodeData {
         // ones those of Pe.
         ensures opening { is_opening result ≡ is_mirrored_in OpenPunctuation c }
         ensures closing { is_closing result ≡ is_mirrored_in ClosePunctuation c }
+        // The mirrored partner of a bracket is the other bracket of its pair.
+        ensures pair { option_and_then bracket_of (mirrored_of c) ≡ option_map other_bracket result }
     {
         bracket_of(c)
     }

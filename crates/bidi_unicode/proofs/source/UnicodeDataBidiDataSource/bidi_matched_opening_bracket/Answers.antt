@@ -1,6 +1,6 @@
-use Rattle.std.proofs.Common.{ap, ◌∙◌}
-use Rattle.bidi_unicode.specs.Unicode.{is_opening, is_closing}
-use Rattle.bidi_unicode.proofs.TableLaws.{is_opening-bracket_of, is_closing-bracket_of}
+use Rattle.std.proofs.Common.{option_map, sym, ap, ◌∙◌}
+use Rattle.bidi_unicode.specs.Unicode.{is_opening, is_closing, other_bracket}
+use Rattle.bidi_unicode.proofs.TableLaws.{is_opening-bracket_of, is_closing-bracket_of, bracket_of-mirrored_of}
 use Rattle.bidi_unicode.proofs.source.UnicodeDataBidiDataSource.bidi_matched_opening_bracket.Goals as goal
 
 pub returns-clause-opening : goal.returns-clause-opening
@@ -8,3 +8,6 @@ returns-clause-opening c = ap is_opening c.bracket_of.ensures ∙ is_opening-bra
 
 pub returns-clause-closing : goal.returns-clause-closing
 returns-clause-closing c = ap is_closing c.bracket_of.ensures ∙ is_closing-bracket_of c.args.c
+
+pub returns-clause-pair : goal.returns-clause-pair
+returns-clause-pair c = bracket_of-mirrored_of c.args.c ∙ ap (option_map other_bracket) (sym c.bracket_of.ensures)
