@@ -17,7 +17,7 @@
 mod analysed;
 mod base_direction;
 pub mod deprecated;
-mod engine;
+pub mod engine;
 mod first_walk;
 mod info;
 mod initial_info;
@@ -27,6 +27,8 @@ mod paragraph;
 mod paragraph_bidi_info;
 mod paragraph_info;
 mod paragraph_levels;
+pub mod utf16;
+mod utf8;
 
 pub use base_direction::{
     get_base_direction_full_with_data_source, get_base_direction_with_data_source,
@@ -34,21 +36,9 @@ pub use base_direction::{
 pub use bidi_base::char_data::{BidiClass, Direction};
 pub use bidi_base::data_source::BidiDataSource;
 pub use bidi_base::level::{LTR_LEVEL, Level, RTL_LEVEL};
-use bidi_base::text::StrText;
 pub use bidi_base::text::{TextSource, Utf8IndexLenIter};
 pub use bidi_base::{char_data, data_source, format_chars, level, sample, text};
 pub use bidi_rules::prepare::{LevelRun, LevelRunVec};
 pub use bidi_rules::{explicit, implicit, prepare};
 pub use paragraph_info::ParagraphInfo;
-
-/// What the algorithm finds out about a text of UTF-8, whose units are bytes.
-pub type BidiInfo<'t> = info::BidiInfo<StrText<'t>>;
-
-/// The same where the text is one paragraph.
-pub type ParagraphBidiInfo<'t> = paragraph_bidi_info::ParagraphBidiInfo<StrText<'t>>;
-
-/// What there is before any level is resolved.
-pub type InitialInfo<'t> = initial_info::InitialInfo<StrText<'t>>;
-
-/// A paragraph of a text of UTF-8.
-pub type Paragraph<'a, 't> = paragraph::Paragraph<'a, StrText<'t>>;
+pub use utf8::{BidiInfo, InitialInfo, Paragraph, ParagraphBidiInfo};
