@@ -164,7 +164,7 @@ fn one_paragraph(rt: HostRuntime) -> Result<(), Fail> {
     let first = info.paragraphs().first().ok_or("a paragraph")?;
     let paragraph = Paragraph::new(&info, first);
     assert_eq!(rt; paragraph.para(), first);
-    assert_eq!(rt; paragraph.info(), &info);
+    assert!(rt; *paragraph.info() == info);
     if first.range() != (0..9) || info.levels().len() != 9 {
         return Err(Fail::from("nine bytes"));
     }
