@@ -1,17 +1,16 @@
 -- Sequences and level runs read levels at kept characters alone.
-use Rattle.std.proofs.Common.{◌≡◌, ℕ, zero, suc, ◌+◌, ◌<◌, Bool, true, false, cond, eqb, max, List, [], ◌∷◌, length, map, Option, Some, None, refl, sym, ap, subst, ◌∙◌, arith, inl, inr}
-use Rattle.std.specs.Prelude.{filter, option_and_then}
+use Rattle.std.proofs.Common.{◌≡◌, ℕ, zero, suc, ◌+◌, ◌<◌, true, eqb, List, [], ◌∷◌, length, map, Option, Some, None, refl, sym, ap, subst, ◌∙◌, arith, inl, inr}
+use Rattle.std.specs.Prelude.{filter}
 use Rattle.std.proofs.lemmas.List.Elements.{filter_agree}
 use Rattle.bidi_base.specs.declared.char_data.BidiClass.{BidiClass}
 use Rattle.bidi_base.specs.Classes.{is_initiator}
-use Rattle.bidi_base.specs.Levels.{direction_of}
 use Rattle.bidi_base.specs.Places.{class_at, chain, last_or}
 use Rattle.bidi_base.specs.Isolates.{matching_pdi}
 use Rattle.bidi_base.specs.Sequences.{RunSequence, is_kept_at, kept_places, next_kept, kept_before, level_at, level_or, have_one_level, resumed_at, successor, is_first, start_class, end_class, sequence_from, sequences, HasExplicitLevels}
 use Rattle.bidi_base.specs.Explicit.{explicit_level, explicit_levels}
 use Rattle.std.proofs.lemmas.List.FromFn.{get_or-map-range_with_len}
 use Rattle.bidi_base.proofs.PlacesLemmas.{IsLeast, IsGreatest}
-use Rattle.bidi_base.proofs.ChainLemmas.{chain-None, IsMaximal, IsMaximal-chain}
+use Rattle.bidi_base.proofs.ChainLemmas.{chain-None, IsMaximal-chain}
 use Rattle.bidi_base.proofs.SuccessorLemmas.{next_kept-IsLeast, kept_before-IsGreatest, IsLaterKept, successor-IsLaterKept, is_kept-pdi}
 use Rattle.bidi_base.proofs.IsolatesLemmas.{matching_pdi-IsLeast, matching_pdi-is_pdi}
 use Rattle.bidi_base.proofs.EmbeddingsLemmas.{same_if}
@@ -59,9 +58,9 @@ module _ (classes : List BidiClass) (levels other : List ℕ) (agree : (p : ℕ)
       rw (← successor-agree p kept within) (elim (cases_Option (successor classes levels p)) [
         | inl e ↦ rw (e, chain-None (successor classes levels) k, chain-None (successor classes other) k) refl
         | inr q ↦ (
-          let h : IsLaterKept classes p q.0 = successor-IsLaterKept classes levels p q.0 q.1 in
-          rw (q.1, chain-agree k q.0 h.kept h.within) refl
-        )
+            let h : IsLaterKept classes p q.0 = successor-IsLaterKept classes levels p q.0 q.1 in
+            rw (q.1, chain-agree k q.0 h.kept h.within) refl
+            )
       ])
 
   level_or-agree : (paragraph : ℕ) (o : Option ℕ) → ((q : ℕ) → o ≡ Some q → level_at levels q ≡ level_at other q) → level_or paragraph levels o ≡ level_or paragraph other o

@@ -1,12 +1,11 @@
 -- N0 pair by pair: what a pair takes, and which characters take it.
-use Rattle.std.proofs.Common.{◌≡◌, ℕ, zero, suc, ◌+◌, ◌-◌, ◌<◌, ◌≤◌, Bool, true, false, ◌&&◌, ◌||◌, cond, eqb, ltb, leb, List, [], ◌∷◌, ◌++◌, map, length, get_or, take, drop, reverse, slice_range, replicate, find, filter_map, Option, Some, None, option_map, is_some, refl, sym, ap, subst, ◌∙◌, arith, inl, inr, length-take, length-drop, length-append, get_or-take, get_or-drop}
-use Rattle.std.specs.List.{list_all, list_any, prefix_len, cons_option}
+use Rattle.std.proofs.Common.{◌≡◌, ℕ, zero, suc, ◌+◌, ◌-◌, ◌<◌, ◌≤◌, Bool, true, false, ◌&&◌, ◌||◌, cond, eqb, ltb, leb, List, [], ◌∷◌, map, length, get_or, take, drop, reverse, slice_range, replicate, find, filter_map, Option, Some, None, option_map, is_some, refl, sym, ap, subst, ◌∙◌, arith, inl, inr, length-take, length-drop}
+use Rattle.std.specs.List.{list_all, list_any, prefix_len}
 use Rattle.std.specs.Option.{option_map_or}
-use Rattle.std.proofs.lemmas.Bool.{cases_lt, cases_order, cases_Bool, or_right, or_from, and_from, and_left, and_right, lt-ltb, le-ltb, eq-eqb, ne_eqb, lt-leb, le-leb, cond-true, cond-false}
-use Rattle.std.proofs.lemmas.List.{length-replicate, get_or-replicate, length-take-le, take_rest, get_or-append_right}
+use Rattle.std.proofs.lemmas.Bool.{cases_lt, cases_order, cases_Bool, lt-ltb, le-ltb, eq-eqb, ne_eqb, lt-leb, le-leb}
+use Rattle.std.proofs.lemmas.List.{take_rest}
 use Rattle.std.proofs.lemmas.List.FromFn.{fill_by_all, length-map-range_with_len, get_or-map-range_with_len}
 use Rattle.std.proofs.lemmas.List.Sums.{prefix_len-le-length, fold_more}
-use Rattle.std.proofs.lemmas.Slice.{take-put_mid, take-put_mid_below, drop-put_mid}
 use borrow.Rule.Slice.PartMut.{put_mid}
 use Rattle.bidi_base.specs.declared.char_data.BidiClass.{BidiClass}
 use Rattle.bidi_base.specs.declared.char_data.BidiClass.TheVariants.{L}
@@ -83,7 +82,8 @@ with_bracket-filled source classes ys b m d long inside counted filled =
     rw (filled, part, same)
     (fill_by_all (λ k. cond (eqb k b || is_mark_after source b k) d (class_at classes k)) (put_mid b (1 + m) classes (replicate (1 + m) d)) (length classes) L
     (length-put_mid b (1 + m) classes d room)
-    (λ k fits. at k room fits ∙ ap (λ t. cond (eqb k b || t) d (class_at classes k)) (ap (λ (n : ℕ). ltb b k && ltb k (b + 1 + n)) marks ∙ sym (is_mark_after-prefix_len source b k (omega arith) (omega arith)))))
+    (λ k fits.
+    at k room fits ∙ ap (λ t. cond (eqb k b || t) d (class_at classes k)) (ap (λ (n : ℕ). ltb b k && ltb k (b + 1 + n)) marks ∙ sym (is_mark_after-prefix_len source b k (omega arith) (omega arith)))))
   where
     at : (k : ℕ) → b + (1 + m) ≤ length classes → k < length classes
         → get_or (put_mid b (1 + m) classes (replicate (1 + m) d)) k L ≡ cond (eqb k b || (ltb b k && ltb k (b + 1 + m))) d (class_at classes k)

@@ -1,9 +1,8 @@
 -- The search for bracket pairs over the brackets of a sequence alone: a stack of openings, each with the place of its pair in the list of pairs.
 use Rattle.std.proofs.Common.{◌≡◌, ℕ, zero, suc, ◌+◌, ◌-◌, ◌<◌, ◌≤◌, Bool, true, false, not, cond, eqb, ltb, List, [], ◌∷◌, ◌++◌, map, length, get_or, take, drop, set, filter, filter_map, find, Option, Some, None, option_map, unwrap_or, refl, sym, ap, subst, ◌∙◌, ◌⊎◌, arith, inl, inr, add-one, append-nil, length-set, eqb-true, eq-eqb, ne_eqb, lt-ltb, le-ltb}
 use Rattle.std.specs.Prelude.{All}
-use Rattle.std.specs.List.{range_with_len, cons_option, slice_get}
-use Rattle.std.specs.Option.{option_or}
-use Rattle.std.proofs.lemmas.Bool.{cases_lt, both_ways}
+use Rattle.std.specs.List.{range_with_len, slice_get}
+use Rattle.std.proofs.lemmas.Bool.{cases_lt, both_ways, cases_Bool}
 use Rattle.std.proofs.lemmas.List.{length-map, length-append, map_push, take-map, get_or-map, drop_more, drop_all}
 use Rattle.std.proofs.lemmas.List.Elements.{All-append, All-cons, All-nil, All-take, filter-append, filter_map-append}
 use Rattle.std.proofs.lemmas.List.Folds.{find-append}
@@ -19,7 +18,7 @@ use Rattle.bidi_base.proofs.PairsLemmas.{closed_before, IsUnderWay, IsUnderWay-s
 use Rattle.bidi_base.specs.declared.brackets.Bracket.{Bracket}
 use Rattle.bidi_base.specs.declared.brackets.Waiting.{Waiting}
 use Rattle.bidi_base.specs.FoundBrackets.{brackets_from}
-use Rattle.bidi_base.proofs.Lists.{find-passes, find-index, filter_map-same, option_or-None}
+use Rattle.bidi_base.proofs.Lists.{find-passes, find-index, filter_map-same, option_or-None, cases_Option}
 
 -- the numbers from `low` on below i that pass a test
 module _ (p : ℕ → Bool) (i : ℕ) where
@@ -37,55 +36,32 @@ module _ (p : ℕ → Bool) (i : ℕ) where
 module _ {X : Type 0} (p : ℕ → Bool) (i : ℕ) (passes : p i ≡ true) (f g : ℕ → X) (same : (k : ℕ) → (k ≡ i → ⊥) → f k ≡ g k) where
   same_above : (from n : ℕ) → i < from → map f (filter p (range_with_len from n)) ≡ map g (filter p (range_with_len from n))
   same_above from zero order = refl
-  same_above from (suc n) order = one (p from) (same from (λ here. omega (arith, order))) (same_above (from + 1) n (omega arith))
-    where
-      one : (b : Bool) → f from ≡ g from → map f (filter p (range_with_len (from + 1) n)) ≡ map g (filter p (range_with_len (from + 1) n))
-          → map f (cond b (from ∷ filter p (range_with_len (from + 1) n)) (filter p (range_with_len (from + 1) n))) ≡ map g (cond b (from ∷ filter p (range_with_len (from + 1) n)) (filter p (range_with_len (from + 1) n)))
-      one true first later = ap (λ (x : X). x ∷ map f (filter p (range_with_len (from + 1) n))) first ∙ ap (λ (xs : List X). g from ∷ xs) later
-      one false first later = later
+  same_above from (suc n) order =
+      let rest = same_above (from + 1) n (omega arith) in
+      elim (cases_Bool (p from)) [ inl here ↦ rw (here, same from (λ e. omega (arith, order)), rest) refl | inr gone ↦ rw gone rest ]
 
   pub set_at : (low n : ℕ) → low ≤ i → i < low + n → set (map f (filter p (range_with_len low n))) (length (below p i low)) (g i) ≡ map g (filter p (range_with_len low n))
   set_at low zero from to = absurd (omega arith)
   set_at low (suc n) from to = elim (cases_lt low i) [
     | inl less ↦
-        ap (λ (xs : List ℕ). set (map f (filter p (range_with_len low (suc n)))) (length xs) (g i)) (below_next p i low less)
-        ∙ by_test (p low) (same low (λ here. omega (arith, less))) (set_at (low + 1) n (omega arith) (omega arith))
+        let rest = set_at (low + 1) n (omega arith) (omega arith) in
+        rw (below_next p i low less) (elim (cases_Bool (p low)) [ inl here ↦ rw (here, same low (λ e. omega (arith, less)), rest) refl | inr gone ↦ rw gone rest ])
     | inr past ↦
         let here : low ≡ i = omega arith in
-        let p_here : p low ≡ true = ap p here ∙ passes in
-        ap (λ (xs : List ℕ). set (map f (filter p (range_with_len low (suc n)))) (length xs) (g i)) (below_none p i low here)
-        ∙ ap (λ b. set (map f (cond b (low ∷ filter p (range_with_len (low + 1) n)) (filter p (range_with_len (low + 1) n)))) 0 (g i)) p_here
-        ∙ ap (λ (k : ℕ). g k ∷ map f (filter p (range_with_len (low + 1) n))) (sym here)
-        ∙ ap (λ (xs : List X). g low ∷ xs) (same_above (low + 1) n (omega arith))
-        ∙ ap (λ b. map g (cond b (low ∷ filter p (range_with_len (low + 1) n)) (filter p (range_with_len (low + 1) n)))) (sym p_here)
+        rw (below_none p i low here, ap p here ∙ passes, same_above (low + 1) n (omega arith)) (ap (λ (k : ℕ). g k ∷ map g (filter p (range_with_len (low + 1) n))) (sym here))
   ]
-    where
-      by_test : (b : Bool) → f low ≡ g low → set (map f (filter p (range_with_len (low + 1) n))) (length (below p i (low + 1))) (g i) ≡ map g (filter p (range_with_len (low + 1) n))
-          → set (map f (cond b (low ∷ filter p (range_with_len (low + 1) n)) (filter p (range_with_len (low + 1) n)))) (length (cond b (low ∷ below p i (low + 1)) (below p i (low + 1)))) (g i)
-          ≡ map g (cond b (low ∷ filter p (range_with_len (low + 1) n)) (filter p (range_with_len (low + 1) n)))
-      by_test true first later = ap (λ (x : X). x ∷ set (map f (filter p (range_with_len (low + 1) n))) (length (below p i (low + 1))) (g i)) first ∙ ap (λ (xs : List X). g low ∷ xs) later
-      by_test false first later = later
 
 -- what i stands at among those that pass
 pub get_at : (p : ℕ → Bool) (i low n d : ℕ) → p i ≡ true → low ≤ i → i < low + n → (length (below p i low) < length (filter p (range_with_len low n))) × (get_or (filter p (range_with_len low n)) (length (below p i low)) d ≡ i)
 get_at p i low zero d passes from to = absurd (omega arith)
 get_at p i low (suc n) d passes from to = elim (cases_lt low i) [
-  | inl less ↦ rw (below_next p i low less) (by_test (p low) (get_at p i (low + 1) n d passes (omega arith) (omega arith)))
+  | inl less ↦
+      let rest = get_at p i (low + 1) n d passes (omega arith) (omega arith) in
+      rw (below_next p i low less) (elim (cases_Bool (p low)) [ inl here ↦ rw here (omega (arith, rest.0), rest.1) | inr gone ↦ rw gone rest ])
   | inr past ↦
       let here : low ≡ i = omega arith in
-      let p_here : p low ≡ true = ap p here ∙ passes in
-      rw (below_none p i low here, p_here) (omega arith, here)
+      rw (below_none p i low here, ap p here ∙ passes) (omega arith, here)
 ]
-  where
-    by_test : (b : Bool) → (length (below p i (low + 1)) < length (filter p (range_with_len (low + 1) n))) × (get_or (filter p (range_with_len (low + 1) n)) (length (below p i (low + 1))) d ≡ i)
-        → (length (cond b (low ∷ below p i (low + 1)) (below p i (low + 1))) < length (cond b (low ∷ filter p (range_with_len (low + 1) n)) (filter p (range_with_len (low + 1) n))))
-        × (get_or (cond b (low ∷ filter p (range_with_len (low + 1) n)) (filter p (range_with_len (low + 1) n))) (length (cond b (low ∷ below p i (low + 1)) (below p i (low + 1)))) d ≡ i)
-    by_test true h = (omega (arith, h.0), h.1)
-    by_test false h = h
-
--- a stack that is not full has room
-pub has_room : (n cap : ℕ) → n ≤ cap → eqb n cap ≡ false → n < cap
-has_room n cap fits other = elim (cases_lt n cap) [ inl less ↦ less | inr more ↦ absurd (both_ways (eqb n cap) other (eq-eqb n cap (omega arith))) ]
 
 -- the entries' places in a list of n pairs
 abbrev pub AreWithin : ℕ → List Waiting → Type 0
@@ -149,15 +125,14 @@ module _ (counted : List (Option BidiMatchedOpeningBracket)) where
 
   -- no pair that is closed before j begins at j or later
   none_from : (j i : ℕ) → j ≤ i → find (λ (p : ℕ × ℕ). eqb p.0 i) (closed_before counted j) ≡ None
-  none_from j i order = by_result (find (λ (p : ℕ × ℕ). eqb p.0 i) (closed_before counted j)) refl
-    where
-      by_result : (o : Option (ℕ × ℕ)) → find (λ (p : ℕ × ℕ). eqb p.0 i) (closed_before counted j) ≡ o → o ≡ None
-      by_result None e = refl
-      by_result (Some p) e =
-          let at = find-index (λ (q : ℕ × ℕ). eqb q.0 i) (closed_before counted j) p (0, 0) e in
-          let pair = closed_before-pairs counted j at.0 (0, 0) at.1 in
-          let here : p.0 ≡ i = eqb-true p.0 i (find-passes (λ (q : ℕ × ℕ). eqb q.0 i) (closed_before counted j) p e) in
-          absurd (omega (arith, pair.order, pair.below, ap (λ (x : ℕ × ℕ). x.0) at.2))
+  none_from j i order = elim (cases_Option (find (λ (p : ℕ × ℕ). eqb p.0 i) (closed_before counted j))) [
+    | inl e ↦ e
+    | inr p ↦
+        let at = find-index (λ (q : ℕ × ℕ). eqb q.0 i) (closed_before counted j) p.0 (0, 0) p.1 in
+        let pair = closed_before-pairs counted j at.0 (0, 0) at.1 in
+        let here : p.0.0 ≡ i = eqb-true p.0.0 i (find-passes (λ (q : ℕ × ℕ). eqb q.0 i) (closed_before counted j) p.0 p.1) in
+        absurd (omega (arith, pair.order, pair.below, ap (λ (x : ℕ × ℕ). x.0) at.2))
+  ]
 
   pub IsPairing-start : (slots : List (ℕ × ℕ)) (waiting : List Waiting) → slots ≡ [] → waiting ≡ [] → IsPairing slots waiting 0
   IsPairing-start slots waiting empty none = record { places = []; under_way = IsUnderWay-start counted; entries = none; found = empty; inside = omega arith }
@@ -225,23 +200,12 @@ module _ (counted : List (Option BidiMatchedOpeningBracket)) where
 
   -- the closing that a new pair gives
   closing_new : (pairs : List (ℕ × ℕ)) (i j : ℕ) → find (λ (p : ℕ × ℕ). eqb p.0 i) pairs ≡ None → pair_at (pairs ++ (i, j) ∷ []) i ≡ (i, j)
-  closing_new pairs i j free =
-      ap (λ (o : Option (ℕ × ℕ)). (i, unwrap_or (option_map (λ (p : ℕ × ℕ). p.1) o) i))
-      (
-      find-append (λ (p : ℕ × ℕ). eqb p.0 i) pairs ((i, j) ∷ [])
-      ∙ ap (λ (o : Option (ℕ × ℕ)). option_or o (cond (eqb i i) (Some (i, j)) None)) free
-      ∙ ap (λ b. option_or None (cond b (Some (i, j)) None)) (eq-eqb i i refl)
-      )
+  closing_new pairs i j free = rw (find-append (λ (p : ℕ × ℕ). eqb p.0 i) pairs ((i, j) ∷ []), free, eq-eqb i i refl) refl
 
   closing_other : (pairs : List (ℕ × ℕ)) (i j k : ℕ) → (k ≡ i → ⊥) → pair_at pairs k ≡ pair_at (pairs ++ (i, j) ∷ []) k
   closing_other pairs i j k other =
-      ap (λ (o : Option (ℕ × ℕ)). (k, unwrap_or (option_map (λ (p : ℕ × ℕ). p.1) o) k))
-      (sym
-      (
-      find-append (λ (p : ℕ × ℕ). eqb p.0 k) pairs ((i, j) ∷ [])
-      ∙ ap (λ b. option_or (find (λ (p : ℕ × ℕ). eqb p.0 k) pairs) (cond b (Some (i, j)) None)) (ne_eqb i k (λ e. other (sym e)))
-      ∙ option_or-None (find (λ (p : ℕ × ℕ). eqb p.0 k) pairs)
-      ))
+      rw (find-append (λ (p : ℕ × ℕ). eqb p.0 k) pairs ((i, j) ∷ []), ne_eqb i k (λ e. other (sym e)), option_or-None (find (λ (p : ℕ × ℕ). eqb p.0 k) pairs)) refl
+
   -- the opening that a search over the entries finds
   found_opening : (slots : List (ℕ × ℕ)) (waiting : List Waiting) (j k : ℕ) (b : BidiMatchedOpeningBracket) (h : IsPairing slots waiting j) → bracket_at counted j ≡ Some b → k < length h.places
       → find_last (λ (e : Waiting). eqb e.opening b.opening) waiting ≡ Some (entry_of (get_or h.places k 0))
@@ -300,47 +264,28 @@ module _ (counted : List (Option BidiMatchedOpeningBracket)) where
 
   kept_slots : (pairs : List (ℕ × ℕ)) (low n : ℕ) → filter (λ (p : ℕ × ℕ). ltb p.0 p.1) (map (pair_at pairs) (filter opens (range_with_len low n))) ≡ filter_map (kept_at pairs) (range_with_len low n)
   kept_slots pairs low zero = refl
-  kept_slots pairs low (suc n) = one (opens low) (kept_slots pairs (low + 1) n)
-    where
-      two : (b : Bool) (xs : List (ℕ × ℕ)) → cond b (pair_at pairs low ∷ xs) xs ≡ cons_option (cond b (Some (pair_at pairs low)) None) xs
-      two true xs = refl
-      two false xs = refl
-
-      one : (b : Bool) → filter (λ (p : ℕ × ℕ). ltb p.0 p.1) (map (pair_at pairs) (filter opens (range_with_len (low + 1) n))) ≡ filter_map (kept_at pairs) (range_with_len (low + 1) n)
-          → filter (λ (p : ℕ × ℕ). ltb p.0 p.1) (map (pair_at pairs) (cond b (low ∷ filter opens (range_with_len (low + 1) n)) (filter opens (range_with_len (low + 1) n))))
-          ≡ cons_option (cond b (cond (ltb (pair_at pairs low).0 (pair_at pairs low).1) (Some (pair_at pairs low)) None) None) (filter_map (kept_at pairs) (range_with_len (low + 1) n))
-      one true rest =
-          ap (λ (xs : List (ℕ × ℕ)). cond (ltb (pair_at pairs low).0 (pair_at pairs low).1) (pair_at pairs low ∷ xs) xs) rest
-          ∙ two (ltb (pair_at pairs low).0 (pair_at pairs low).1) (filter_map (kept_at pairs) (range_with_len (low + 1) n))
-      one false rest = rest
+  kept_slots pairs low (suc n) =
+      let rest = kept_slots pairs (low + 1) n in
+      elim (cases_Bool (opens low)) [
+        | inl opening ↦ elim (cases_Bool (ltb (pair_at pairs low).0 (pair_at pairs low).1)) [ inl kept ↦ rw (opening, kept, rest) refl | inr left ↦ rw (opening, left) rest ]
+        | inr other ↦ rw other rest
+      ]
 
   kept_is : (j i : ℕ) → kept_at (closed_before counted j) i ≡ find (λ (p : ℕ × ℕ). eqb p.0 i) (closed_before counted j)
-  kept_is j i = by_result (find (λ (p : ℕ × ℕ). eqb p.0 i) (closed_before counted j)) refl
-    where
-      closed : List (ℕ × ℕ)
-      closed = closed_before counted j
-
-      either : (b : Bool) → cond {A = Option (ℕ × ℕ)} b (cond (ltb i i) (Some (i, i)) None) None ≡ None
-      either true = ap (λ b. cond {A = Option (ℕ × ℕ)} b (Some (i, i)) None) (le-ltb i i (omega arith))
-      either false = refl
-
-      by_result : (o : Option (ℕ × ℕ)) → find (λ (p : ℕ × ℕ). eqb p.0 i) closed ≡ o → kept_at closed i ≡ o
-      by_result None e =
-          ap (λ (o : Option (ℕ × ℕ)). let p : ℕ × ℕ = (i, unwrap_or (option_map (λ (p : ℕ × ℕ). p.1) o) i) in cond (opens i) (cond (ltb p.0 p.1) (Some p) None) None) e ∙ either (opens i)
-      by_result (Some p) e =
-          let at = find-index (λ (q : ℕ × ℕ). eqb q.0 i) closed p (0, 0) e in
-          let pair = closed_before-pairs counted j at.0 (0, 0) at.1 in
-          let here : p.0 ≡ i = eqb-true p.0 i (find-passes (λ (q : ℕ × ℕ). eqb q.0 i) closed p e) in
-          let order : i < p.1 = omega (arith, pair.order, ap (λ (x : ℕ × ℕ). x.0) at.2, ap (λ (x : ℕ × ℕ). x.1) at.2) in
-          let opening : opens i ≡ true = ap opens (sym here) ∙ ap (λ (x : ℕ × ℕ). opens x.0) (sym at.2) ∙ pair.opening in
-          ap (λ (o : Option (ℕ × ℕ)). let q : ℕ × ℕ = (i, unwrap_or (option_map (λ (q : ℕ × ℕ). q.1) o) i) in cond (opens i) (cond (ltb q.0 q.1) (Some q) None) None) e
-          ∙ ap (λ b. cond {A = Option (ℕ × ℕ)} b (cond (ltb i p.1) (Some (i, p.1)) None) None) opening
-          ∙ ap (λ b. cond {A = Option (ℕ × ℕ)} b (Some (i, p.1)) None) (lt-ltb i p.1 order)
-          ∙ ap (λ (n : ℕ). let q : ℕ × ℕ = (n, p.1) in Some q) (sym here)
+  kept_is j i = elim (cases_Option (find (λ (p : ℕ × ℕ). eqb p.0 i) (closed_before counted j))) [
+    | inl e ↦ rw (e, le-ltb i i (omega arith)) (elim (cases_Bool (opens i)) [ inl opening ↦ rw opening refl | inr other ↦ rw other refl ])
+    | inr p ↦
+        let at = find-index (λ (q : ℕ × ℕ). eqb q.0 i) (closed_before counted j) p.0 (0, 0) p.1 in
+        let pair = closed_before-pairs counted j at.0 (0, 0) at.1 in
+        let here : p.0.0 ≡ i = eqb-true p.0.0 i (find-passes (λ (q : ℕ × ℕ). eqb q.0 i) (closed_before counted j) p.0 p.1) in
+        let order : i < p.0.1 = omega (arith, pair.order, ap (λ (x : ℕ × ℕ). x.0) at.2, ap (λ (x : ℕ × ℕ). x.1) at.2) in
+        let opening : opens i ≡ true = ap opens (sym here) ∙ ap (λ (x : ℕ × ℕ). opens x.0) (sym at.2) ∙ pair.opening in
+        rw (p.1, opening, lt-ltb i p.0.1 order) (ap (λ (n : ℕ). let q : ℕ × ℕ = (n, p.0.1) in Some q) (sym here))
+  ]
 
   filter_map_none : (f : ℕ → Option (ℕ × ℕ)) (low n : ℕ) → ((k : ℕ) → low ≤ k → f k ≡ None) → filter_map f (range_with_len low n) ≡ []
   filter_map_none f low zero none = refl
-  filter_map_none f low (suc n) none = ap (λ (o : Option (ℕ × ℕ)). cons_option o (filter_map f (range_with_len (low + 1) n))) (none low (omega arith)) ∙ filter_map_none f (low + 1) n (λ k from. none k (omega arith))
+  filter_map_none f low (suc n) none = rw (none low (omega arith)) (filter_map_none f (low + 1) n (λ k from. none k (omega arith)))
 
   -- where the search ends, the openings that have a closing are the pairs
   IsPairing-end : (slots : List (ℕ × ℕ)) (waiting : List Waiting) (j : ℕ) → IsPairing slots waiting j → (j ≡ length counted) ⊎ ((opens j ≡ true) × (max_open_brackets ≤ length waiting))

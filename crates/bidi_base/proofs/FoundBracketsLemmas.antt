@@ -13,9 +13,11 @@ counted_brackets-push : (classes : List BidiClass) (brackets : List (Option Bidi
 counted_brackets-push [] [] c b h = λ i. counted_bracket c b ∷ []
 counted_brackets-push [] (x ∷ brackets) c b h = absurd (omega arith)
 counted_brackets-push (x ∷ classes) [] c b h = absurd (omega arith)
-counted_brackets-push (x ∷ classes) (y ∷ brackets) c b h = ap (λ (rest : List (Option BidiMatchedOpeningBracket)). counted_bracket x y ∷ rest) (counted_brackets-push classes brackets c b (omega arith))
+counted_brackets-push (x ∷ classes) (y ∷ brackets) c b h = ap (λ (rest : List (Option BidiMatchedOpeningBracket)). counted_bracket x y ∷ rest) (counted_brackets-push classes brackets c b
+    (omega arith))
 
-brackets_from-push : (k : ℕ) (brackets : List (Option BidiMatchedOpeningBracket)) (b : Option BidiMatchedOpeningBracket) → brackets_from k (brackets ++ b ∷ []) ≡ brackets_from k brackets ++ brackets_from (k + length brackets) (b ∷ [])
+brackets_from-push : (k : ℕ) (brackets : List (Option BidiMatchedOpeningBracket)) (b : Option BidiMatchedOpeningBracket) → brackets_from k (brackets ++ b ∷ []) ≡ brackets_from k brackets ++
+    brackets_from (k + length brackets) (b ∷ [])
 brackets_from-push k [] b = ap (λ (n : ℕ). brackets_from n (b ∷ [])) (let same : k ≡ k + 0 = omega arith in same)
 brackets_from-push k (None ∷ brackets) b =
     let place : k + 1 + length brackets ≡ k + suc (length brackets) = omega arith in
@@ -37,7 +39,8 @@ found_brackets-push classes brackets c b h =
 
 -- the same of the first characters
 pub found_brackets-more : (classes : List BidiClass) (brackets : List (Option BidiMatchedOpeningBracket)) (i : ℕ) (d : BidiClass) → length brackets ≡ length classes → i < length classes
-    → found_brackets (take (i + 1) classes) (take (i + 1) brackets) ≡ found_brackets (take i classes) (take i brackets) ++ brackets_from i (counted_bracket (get_or classes i d) (get_or brackets i None) ∷ [])
+    → found_brackets (take (i + 1) classes) (take (i + 1) brackets) ≡ found_brackets (take i classes) (take i brackets) ++ brackets_from i (counted_bracket (get_or classes i d)
+    (get_or brackets i None) ∷ [])
 found_brackets-more classes brackets i d h inside =
     let size : length (take i classes) ≡ i = length-take-le i classes (omega arith) in
     let same : length (take i brackets) ≡ length (take i classes) = length-take-le i brackets (omega arith) ∙ sym size in

@@ -1,9 +1,9 @@
 -- Isolates in one walk from the front, which counts those that are open: the matching PDI (BD9), the deciding character (P2), and what an FSI becomes (X5c).
-use Rattle.std.proofs.Common.{◌≡◌, ℕ, zero, suc, ◌+◌, ◌-◌, ◌<◌, ◌≤◌, Bool, true, false, not, ◌&&◌, ◌||◌, cond, ltb, List, [], ◌∷◌, ◌++◌, length, take, drop, map, find, Option, Some, None, unwrap_or, option_map, refl, sym, ap, ◌∙◌, arith, ◌⊎◌, inl, inr, eq-eqb, ne_eqb, lt-ltb, le-ltb, length-drop}
+use Rattle.std.proofs.Common.{◌≡◌, ℕ, zero, suc, ◌+◌, ◌-◌, ◌<◌, ◌≤◌, Bool, true, false, not, ◌&&◌, ◌||◌, cond, ltb, List, [], ◌∷◌, ◌++◌, length, take, drop, map, find, Option, Some, None, unwrap_or, option_map, refl, sym, ap, ◌∙◌, arith, inl, inr, eq-eqb, ne_eqb, lt-ltb, le-ltb, length-drop}
 use Rattle.std.specs.Prelude.{slice_range}
 use Rattle.std.specs.List.{range_with_len, list_any}
-use Rattle.std.proofs.lemmas.List.{drop-drop, get_or-drop, take_more}
-use Rattle.std.proofs.lemmas.Bool.{cases_Bool, cases_lt, ltb-true, cond-true, cond-false, and_left, and_right, or_from}
+use Rattle.std.proofs.lemmas.List.{get_or-drop, take_more}
+use Rattle.std.proofs.lemmas.Bool.{cases_Bool, and_left, and_right, or_from}
 use Rattle.bidi_base.specs.declared.char_data.BidiClass.{BidiClass}
 use Rattle.bidi_base.specs.declared.char_data.BidiClass.TheVariants.{L, LRI, RLI, FSI, PDI}
 use Rattle.bidi_base.specs.Classes.{is_strong, is_initiator, is_pdi}

@@ -1,11 +1,11 @@
 -- The levels of a paragraph do not depend on the order in which its sequences are resolved.
-use Rattle.std.proofs.Common.{◌≡◌, ℕ, suc, ◌+◌, ◌<◌, ◌≤◌, Bool, true, false, not, cond, eqb, List, [], ◌∷◌, ◌++◌, map, length, count_by, find, unwrap_or, Option, Some, eqb-true, refl, sym, ap, ◌∙◌, arith, inl, inr}
-use Rattle.std.specs.Prelude.{flat_map, zip, option_map}
+use Rattle.std.proofs.Common.{◌≡◌, ℕ, suc, ◌+◌, ◌<◌, ◌≤◌, Bool, true, false, not, cond, eqb, List, [], ◌∷◌, ◌++◌, map, length, count_by, Option, eqb-true, refl, sym, ap, ◌∙◌, arith, inl, inr}
+use Rattle.std.specs.Prelude.{flat_map, zip}
 use Rattle.std.proofs.lemmas.List.{map-append}
 use Rattle.std.specs.List.{sum_by}
 use Rattle.std.specs.List.Sorted.{IsPermutation}
 use Rattle.std.proofs.lemmas.List.Sums.{sum_by-cons, sum_by-le-sum_by}
-use Rattle.std.proofs.lemmas.Bool.{cases_Bool, cond-true, cond-false}
+use Rattle.std.proofs.lemmas.Bool.{cases_Bool, cond-false}
 use Rattle.std.proofs.lemmas.List.Sorted.{sum_by-IsPermutation}
 use Rattle.bidi_base.specs.declared.char_data.BidiClass.{BidiClass}
 use Rattle.bidi_base.specs.declared.data_source.BidiMatchedOpeningBracket.{BidiMatchedOpeningBracket}
@@ -70,13 +70,10 @@ table_of_resolved source brackets levels classes new (s ∷ seqs) h =
 level_in-map : (new ps : List ℕ) (p : ℕ) → 0 < count_by (λ q. eqb q p) ps → level_in (map (λ q. (q, level_at new q)) ps) p ≡ level_at new p
 level_in-map new [] p h = absurd (omega arith)
 level_in-map new (q ∷ ps) p h = elim (cases_Bool (eqb q p)) [
-  | inl here ↦
-      ap (λ (o : Option (ℕ × ℕ)). unwrap_or (option_map (λ d. d.1) o) 0) (cond-true (eqb q p) (Some (q, level_at new q)) (find (λ (d : ℕ × ℕ). eqb d.0 p) (map (λ r. (r, level_at new r)) ps)) here)
-      ∙ ap (level_at new) (eqb-true q p here)
+  | inl here ↦ rw here (ap (level_at new) (eqb-true q p here))
   | inr other ↦
       let none : cond {A = ℕ} (eqb q p) 1 0 ≡ 0 = cond-false (eqb q p) 1 0 other in
-      ap (λ (o : Option (ℕ × ℕ)). unwrap_or (option_map (λ d. d.1) o) 0) (cond-false (eqb q p) (Some (q, level_at new q)) (find (λ (d : ℕ × ℕ). eqb d.0 p) (map (λ r. (r, level_at new r)) ps)) other)
-      ∙ level_in-map new ps p (omega (arith, sum_by-cons (λ r. cond (eqb r p) 1 0) q ps))
+      rw other (level_in-map new ps p (omega (arith, sum_by-cons (λ r. cond (eqb r p) 1 0) q ps)))
 ]
 
 -- so the table says what the list has at each kept character
@@ -114,8 +111,8 @@ filled_is table (v ∷ new) (c ∷ classes) p before long kept front removed =
   where
     here : v ≡ cond (is_removed c) before (level_in table p)
     here = elim (cases_Bool (is_removed c)) [
-      | inl gone ↦ front (omega arith) gone ∙ sym (cond-true (is_removed c) before (level_in table p) gone)
-      | inr stays ↦ kept 0 (omega arith) stays ∙ ap (level_in table) (omega arith) ∙ sym (cond-false (is_removed c) before (level_in table p) stays)
+      | inl gone ↦ rw gone (front (omega arith) gone)
+      | inr stays ↦ rw stays (kept 0 (omega arith) stays ∙ ap (level_in table) (omega arith))
     ]
 
 -- a list is what fills the table, if it has the table's levels at kept characters, and at a removed one the level before it

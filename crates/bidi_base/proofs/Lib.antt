@@ -27,7 +27,9 @@ pub mod NestedPairs
 pub mod NeutralBlocks
 pub mod NeutralLemmas
 pub mod NeutralSource
+pub mod OneDirection
 pub mod OpenMatches
+pub mod OpenPass
 pub mod OpenersStack
 pub mod OpeningSearch
 pub mod OrderLemmas

@@ -1,6 +1,6 @@
 -- Facts on lists and searches that several files use.
 use Rattle.std.proofs.Common.{◌≡◌, ℕ, zero, suc, ◌+◌, ◌-◌, ◌<◌, ◌≤◌, Bool, true, false, cond, ◌&&◌, List, [], ◌∷◌, ◌++◌, length, map, get_or, take, drop, reverse, filter, filter_map, find, Option, Some, None, option_map, refl, sym, ap, ◌∙◌, arith, ◌⊎◌, inl, inr, append-nil, le_refl, length-append, length-drop}
-use Rattle.std.specs.Prelude.{replicate, slice_range}
+use Rattle.std.specs.Prelude.{replicate}
 use Rattle.std.specs.List.{list_all}
 use Rattle.std.specs.Option.{option_or}
 use Rattle.std.proofs.lemmas.Bool.{cases_Bool, and_parts, and_from}
@@ -48,7 +48,8 @@ reverse_front {X} xs v vs e =
     let whole : xs ≡ reverse vs ++ v ∷ [] = split_last xs v vs e in
     let count : length xs - 1 ≡ length (reverse vs) = omega (arith, ap length whole, length-append (reverse vs) (v ∷ [])) in
     ap reverse
-    (ap (λ k. take k xs) count ∙ ap (take (length (reverse vs))) whole ∙ take-append-le (length (reverse vs)) (reverse vs) (v ∷ []) (le_refl _) ∙ take_all (length (reverse vs)) (reverse vs) (le_refl _))
+    (ap (λ k. take k xs) count ∙ ap (take (length (reverse vs))) whole
+    ∙ take-append-le (length (reverse vs)) (reverse vs) (v ∷ []) (le_refl _) ∙ take_all (length (reverse vs)) (reverse vs) (le_refl _))
     ∙ reverse-reverse vs
 
 pub reverse_none : {X : Type 0} (xs : List X) → reverse xs ≡ [] → xs ≡ []
@@ -105,7 +106,8 @@ find-index test (y ∷ xs) x d e = elim (cases_Bool (test y)) [
 ]
 
 -- a search finds the first element that passes, and nothing where none does
-pub find-first : {X : Type 0} (test : X → Bool) (xs : List X) (i : ℕ) (d : X) → i < length xs → test (get_or xs i d) ≡ true → ((k : ℕ) → k < i → test (get_or xs k d) ≡ false) → find test xs ≡ Some (get_or xs i d)
+pub find-first : {X : Type 0} (test : X → Bool) (xs : List X) (i : ℕ) (d : X) → i < length xs → test (get_or xs i d) ≡ true
+    → ((k : ℕ) → k < i → test (get_or xs k d) ≡ false) → find test xs ≡ Some (get_or xs i d)
 find-first test [] i d below passes before = absurd (omega arith)
 find-first test (x ∷ xs) zero d below passes before = rw passes refl
 find-first test (x ∷ xs) (suc i) d below passes before = rw (before 0 (omega arith)) (find-first test xs i d (omega arith) passes (λ k h. before (suc k) (omega arith)))
@@ -147,4 +149,11 @@ module _ {X : Type 0} (start count : ℕ) (xs : List X) (x d : X) (n : ℕ) wher
 pub length-put_mid : {X : Type 0} (start count : ℕ) (xs : List X) (x : X) → start + count ≤ length xs → length (put_mid start count xs (replicate count x)) ≡ length xs
 length-put_mid start count xs x fits =
     length-append (take start xs) (replicate count x ++ post_of start count xs)
-    ∙ omega (arith, length-append (replicate count x) (post_of start count xs), length-replicate count x, length-take-le start xs (omega arith), length-drop start xs, length-drop count (drop start xs))
+    ∙ omega (
+      arith,
+      length-append (replicate count x) (post_of start count xs),
+      length-replicate count x,
+      length-take-le start xs (omega arith),
+      length-drop start xs,
+      length-drop count (drop start xs),
+    )

@@ -1,21 +1,20 @@
 -- A matching PDI stands inside the same isolates and embeddings as its initiator, and so has its explicit level.
-use Rattle.std.proofs.Common.{◌≡◌, ℕ, zero, suc, ◌+◌, ◌-◌, ◌<◌, ◌≤◌, Bool, true, false, not, ◌&&◌, ◌||◌, cond, ltb, eqb, List, [], ◌∷◌, reverse, length, get_or, map, append-nil, Option, Some, None, refl, sym, ap, subst, ◌∙◌, arith, ◌⊎◌, inl, inr, eqb-true, ltb-true, lt-ltb}
-use Rattle.std.proofs.lemmas.Bool.{cases_Bool, cases_eq, cases_lt, both_ways, cond-true, cond-false, false_from_ne_true, and_parts, and_left, and_right, or_from, or_cases, not-true}
+use Rattle.std.proofs.Common.{◌≡◌, ℕ, zero, suc, ◌<◌, true, false, cond, eqb, List, ◌∷◌, reverse, length, get_or, map, Option, Some, None, refl, sym, ap, subst, ◌∙◌, arith, inl, inr, eqb-true}
+use Rattle.std.proofs.lemmas.Bool.{cases_Bool, cond-false}
 use Rattle.std.proofs.lemmas.List.Sums.{sum_by-cons}
 use Rattle.bidi_base.specs.declared.char_data.BidiClass.{BidiClass}
-use Rattle.bidi_base.specs.declared.char_data.BidiClass.TheVariants.{LRI, RLI, FSI, PDI, PDF}
-use Rattle.bidi_base.specs.Classes.{is_initiator, is_pdi, is_pdf, is_embedding, is_paragraph_separator}
-use Rattle.bidi_base.specs.Places.{class_at, count_between, chain, first_or}
+use Rattle.bidi_base.specs.declared.char_data.BidiClass.TheVariants.{LRI, RLI, FSI, PDI}
+use Rattle.bidi_base.specs.Classes.{is_initiator, is_pdi, is_paragraph_separator}
+use Rattle.bidi_base.specs.Places.{class_at, chain, first_or}
 use Rattle.bidi_base.specs.Isolates.{is_initiator_at, is_pdi_at, matching_pdi}
 use Rattle.bidi_base.specs.Embeddings.{open_at}
-use Rattle.bidi_base.specs.Explicit.{status_inside, status_at, explicit_level, explicit_levels}
+use Rattle.bidi_base.specs.Explicit.{Status, status_inside, status_at, explicit_level, explicit_levels}
 use Rattle.bidi_base.specs.Sequences.{RunSequence, level_at, successor, sequence_from, sequences}
 use Rattle.bidi_base.proofs.IsolatesLemmas.{initiators_apart, matching_pdi-IsLeast, matching_pdi-is_pdi}
 use Rattle.bidi_base.proofs.ExplicitLemmas.{level_at-explicit_levels}
-use Rattle.bidi_base.proofs.ChainLemmas.{chain-None}
 use Rattle.bidi_base.proofs.OpenMatches.{IsReadStack-matched}
 use Rattle.bidi_base.proofs.SuccessorLemmas.{SameLevelAtMatch, successor-level}
-use Rattle.bidi_base.proofs.OpenersStack.{openers_read, left_at, initiators, HasInnermost, Leaves, closes_isolate, closes_embedding, closes_nothing, leaves_at, pdf_apart, initiators-IsReadStack, open_at-closed_by}
+use Rattle.bidi_base.proofs.OpenersStack.{openers_read, left_at, initiators, Leaves, closes_isolate, closes_embedding, closes_nothing, leaves_at, pdf_apart, initiators-IsReadStack, open_at-closed_by}
 use Rattle.bidi_base.proofs.SequencePlaces.{times_in, sequence-begun, sequence-kept}
 
 -- a matching PDI leaves open what its initiator left open
@@ -30,8 +29,8 @@ left_at-match classes p q opening matches = by_leaves (openers_read classes q) (
     top = IsReadStack-matched (is_initiator_at classes) (is_pdi_at classes) (initiators_apart classes) (length classes) q p _ (initiators-IsReadStack classes q) opening matches
 
     by_leaves : (stack left : List ℕ) → Leaves classes q stack left → initiators classes stack ≡ p ∷ top.0 → left ≡ left_at classes p
-    by_leaves stack left (closes_isolate _ x closing i) e =
-        let both : x ∷ initiators classes (left_at classes x) ≡ p ∷ top.0 = sym i.isolates ∙ e in
+    by_leaves stack left (closes_isolate _ x closing first) e =
+        let both : x ∷ initiators classes (left_at classes x) ≡ p ∷ top.0 = sym first ∙ e in
         let same : x ≡ p = cc both in
         ap (left_at classes) same
     by_leaves stack left (closes_embedding r below pdf other) e = absurd (pdf_apart _ pdf pdi)
@@ -43,12 +42,13 @@ open_at-match classes p q opening matches =
     let least = matching_pdi-IsLeast classes p q matches in
     open_at-closed_by classes q least.below ∙ ap reverse (left_at-match classes p q opening matches) ∙ sym (open_at-closed_by classes p (omega (arith, least.from, least.below)))
 
-explicit_level-match : (paragraph : ℕ) (classes : List BidiClass) (p q : ℕ) → is_initiator_at classes p ≡ true → matching_pdi classes p ≡ Some q → explicit_level paragraph classes q ≡ explicit_level paragraph classes p
+explicit_level-match : (paragraph : ℕ) (classes : List BidiClass) (p q : ℕ) → is_initiator_at classes p ≡ true → matching_pdi classes p ≡ Some q
+    → explicit_level paragraph classes q ≡ explicit_level paragraph classes p
 unfolding explicit_level status_at
 explicit_level-match paragraph classes p q opening matches =
-    let status_p = (status_inside (record { level = paragraph; override = None }) (map (class_at classes) (open_at classes p))).level in
+    let start : Status = record { level = paragraph; override = None } in
     cond-false (is_paragraph_separator (class_at classes q)) paragraph _ (not_pdi (class_at classes q) (matching_pdi-is_pdi classes p q matches))
-    ∙ ap (λ (openers : List ℕ). (status_inside (record { level = paragraph; override = None }) (map (class_at classes) openers)).level) (open_at-match classes p q opening matches)
+    ∙ ap (λ (openers : List ℕ). (status_inside start (map (class_at classes) openers)).level) (open_at-match classes p q opening matches)
     ∙ sym (cond-false (is_paragraph_separator (class_at classes p)) paragraph _ (not_initiator (class_at classes p) opening))
   where
     not_pdi : (c : BidiClass) → is_pdi c ≡ true → is_paragraph_separator c ≡ false
@@ -70,18 +70,17 @@ explicit_levels-SameLevelAtMatch paragraph classes p q opening matches =
 
 -- ---- the characters of a sequence have one level
 
-chain-level : (classes : List BidiClass) (levels : List ℕ) (n p q : ℕ) → SameLevelAtMatch classes levels → 0 < times_in (chain (successor classes levels) n (Some p)) q → level_at levels q ≡ level_at levels p
-chain-level classes levels zero p q same there = absurd (omega arith)
-chain-level classes levels (suc n) p q same there = elim (cases_Bool (eqb p q)) [
-  | inl here ↦ ap (level_at levels) (sym (eqb-true p q here))
+chain-level : (next : ℕ → Option ℕ) (levels : List ℕ) → ((p r : ℕ) → next p ≡ Some r → level_at levels r ≡ level_at levels p) → (n : ℕ) (o : Option ℕ) (q : ℕ)
+    → 0 < times_in (chain next n o) q → (p : ℕ) × (o ≡ Some p) × (level_at levels q ≡ level_at levels p)
+chain-level next levels step zero o q there = absurd (omega arith)
+chain-level next levels step (suc n) None q there = absurd (omega arith)
+chain-level next levels step (suc n) (Some p) q there = elim (cases_Bool (eqb p q)) [
+  | inl here ↦ (p, refl, ap (level_at levels) (sym (eqb-true p q here)))
   | inr other ↦
       let none : cond {A = ℕ} (eqb p q) 1 0 ≡ 0 = cond-false (eqb p q) 1 0 other in
-      later (λ r h. chain-level classes levels n r q same h) (successor classes levels p) refl (omega (arith, sum_by-cons (λ x. cond (eqb x q) 1 0) p (chain (successor classes levels) n (successor classes levels p))))
+      let rest = chain-level next levels step n (next p) q (omega (arith, sum_by-cons (λ x. cond (eqb x q) 1 0) p (chain next n (next p)))) in
+      (p, refl, rest.2 ∙ step p rest.0 rest.1)
 ]
-  where
-    later : ((r : ℕ) → 0 < times_in (chain (successor classes levels) n (Some r)) q → level_at levels q ≡ level_at levels r) → (o : Option ℕ) → successor classes levels p ≡ o → 0 < times_in (chain (successor classes levels) n (successor classes levels p)) q → level_at levels q ≡ level_at levels p
-    later inner None e rest = absurd (omega (arith, ap (λ x. times_in (chain (successor classes levels) n x) q) e, ap (λ (ps : List ℕ). times_in ps q) (chain-None (successor classes levels) n)))
-    later inner (Some r) e rest = inner r (subst (λ x. 0 < times_in (chain (successor classes levels) n x) q) e rest) ∙ successor-level classes levels p r same e
 
 first_of_chain : (next : ℕ → Option ℕ) (n p : ℕ) → 0 < n → first_or 0 (chain next n (Some p)) ≡ p
 first_of_chain next zero p some = absurd (omega arith)
@@ -97,5 +96,9 @@ sequence-one_level paragraph classes k d within p there =
     let b = sequence-begun paragraph classes levels k d within in
     let places_are : s.places ≡ chain (successor classes levels) (length classes) (Some b.0) = ap (λ (r : RunSequence). r.places) b.1 in
     let inside = (sequence-kept paragraph classes levels k d within p there).1 in
-    chain-level classes levels (length classes) b.0 p (explicit_levels-SameLevelAtMatch paragraph classes) (subst (λ (ps : List ℕ). 0 < times_in ps p) places_are there)
-    ∙ sym (ap (λ (ps : List ℕ). level_at levels (first_or 0 ps)) places_are ∙ ap (level_at levels) (first_of_chain (successor classes levels) (length classes) b.0 (omega (arith, inside))))
+    let same = explicit_levels-SameLevelAtMatch paragraph classes in
+    let on_chain : 0 < times_in (chain (successor classes levels) (length classes) (Some b.0)) p = subst (λ (ps : List ℕ). 0 < times_in ps p) places_are there in
+    let found = chain-level (successor classes levels) levels (λ p r. successor-level classes levels p r same) (length classes) (Some b.0) p on_chain in
+    let first : first_or 0 s.places ≡ b.0 = ap (first_or 0) places_are ∙ first_of_chain (successor classes levels) (length classes) b.0 (omega (arith, inside)) in
+    let begun : b.0 ≡ found.0 = cc found.1 in
+    found.2 ∙ ap (level_at levels) (sym (first ∙ begun))

@@ -1,8 +1,8 @@
 -- Bracket pairs never cross: each stands behind those that open before it, or within them.
 use Rattle.std.proofs.Common.{◌≡◌, ℕ, zero, suc, ◌+◌, ◌-◌, ◌<◌, Bool, true, false, not, ◌&&◌, eqb, ltb, leb, List, [], ◌∷◌, ◌++◌, length, get_or, find, filter_map, Option, Some, None, refl, sym, ap, subst, ◌∙◌, ◌⊎◌, arith, inl, inr, add-one, eqb-true, lt-ltb}
 use Rattle.std.specs.Prelude.{All}
-use Rattle.std.specs.List.{range_with_len, cons_option, AllByRecursion, AllPairs}
-use Rattle.std.proofs.lemmas.Bool.{cases_Bool, cases_lt, cases_order, both_ways, and_parts, and_from, le-leb, not-true, false_from_ne_true}
+use Rattle.std.specs.List.{range_with_len, AllByRecursion, AllPairs}
+use Rattle.std.proofs.lemmas.Bool.{cases_Bool, cases_lt, cases_order, both_ways, and_parts, le-leb, not-true, false_from_ne_true}
 use Rattle.std.proofs.lemmas.List.{length-append, get_or_append_left}
 use Rattle.std.proofs.Math.Seq.{get_or-append_seam}
 use Rattle.std.proofs.lemmas.List.Elements.{All-append, All-cons, All-nil, All-from_recursion}
@@ -105,9 +105,9 @@ module _ (brackets : List (Option BidiMatchedOpeningBracket)) where
   free_between j i q h opening free order = elim (cases_order i q.1) [
     | inl same ↦ absurd (never_both (bracket_at brackets i) opening (subst (λ (n : ℕ). is_closing (bracket_at brackets n) ≡ true) (sym same) h.closing))
     | inr (inl inside) ↦ (
-      let taken : (ltb q.1 j && leb q.0 i && ltb i q.1) ≡ true = rw (lt-ltb q.1 j h.below, le-leb q.0 i (omega arith), lt-ltb i q.1 inside) refl in
-      absurd (both_ways _ free taken)
-    )
+        let taken : (ltb q.1 j && leb q.0 i && ltb i q.1) ≡ true = rw (lt-ltb q.1 j h.below, le-leb q.0 i (omega arith), lt-ltb i q.1 inside) refl in
+        absurd (both_ways _ free taken)
+        )
     | inr (inr behind) ↦ behind
   ]
 

@@ -1,5 +1,5 @@
 -- Openings and their matches: a closing matches the innermost opening that is open before it, so no two openings have one match.
-use Rattle.std.proofs.Common.{◌≡◌, ℕ, zero, suc, ◌+◌, ◌<◌, Bool, true, false, cond, List, [], ◌∷◌, Some, refl, sym, ap, subst, ◌∙◌, arith, inl, inr, eqb-true}
+use Rattle.std.proofs.Common.{◌≡◌, ℕ, zero, suc, ◌+◌, ◌<◌, Bool, true, false, List, [], ◌∷◌, Some, refl, sym, ap, subst, ◌∙◌, arith, inl, inr, eqb-true}
 use Rattle.std.proofs.lemmas.Bool.{both_ways, false_from_ne_true}
 use Rattle.bidi_base.specs.Matching.{is_closed_at, match_of}
 use Rattle.bidi_base.proofs.PlacesLemmas.{IsLeast, find-between-is}

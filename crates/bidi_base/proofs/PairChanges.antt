@@ -1,8 +1,7 @@
 -- What N0 for one pair leaves: all before its opening, and all within a later pair whose opening is no mark.
-use Rattle.std.proofs.Common.{◌≡◌, ℕ, ◌+◌, ◌-◌, ◌<◌, ◌≤◌, false, ◌||◌, cond, eqb, ltb, List, length, get_or, drop, slice_range, Option, Some, None, refl, ap, ◌∙◌, arith, inl, inr, length-take, length-drop, get_or-take, get_or-drop}
+use Rattle.std.proofs.Common.{◌≡◌, ℕ, ◌+◌, ◌-◌, ◌<◌, ◌≤◌, false, cond, ltb, List, length, get_or, drop, slice_range, refl, ap, ◌∙◌, arith, inl, inr, length-take, length-drop, get_or-take, get_or-drop}
 use Rattle.std.specs.List.{list_all}
-use Rattle.std.specs.Option.{option_map_or}
-use Rattle.std.proofs.lemmas.Bool.{or_from, and_left, and_right, le-ltb, ne_eqb, cond-false}
+use Rattle.std.proofs.lemmas.Bool.{and_left, and_right, le-ltb, ne_eqb, cond-false}
 use Rattle.std.proofs.lemmas.List.Folds.{list_all_at}
 use Rattle.std.proofs.lemmas.List.FromFn.{length-map-range_with_len, get_or-map-range_with_len}
 use Rattle.bidi_base.specs.declared.char_data.BidiClass.{BidiClass}

@@ -1,18 +1,17 @@
 -- Bracket pairs in one pass from the front: what is closed and what waits at each place, and what the pass has found at its end.
-use Rattle.std.proofs.Common.{◌≡◌, ℕ, zero, suc, ◌+◌, ◌-◌, ◌<◌, ◌≤◌, Bool, true, false, not, cond, ◌&&◌, ◌||◌, eqb, ltb, leb, List, [], ◌∷◌, ◌++◌, map, length, get_or, take, set, reverse, filter, filter_map, find, fold, option_to_list, Option, Some, None, option_map, unwrap_or, refl, sym, ap, subst, ◌∙◌, ◌⊎◌, arith, inl, inr, append-nil, append_assoc, add-one, length-set, get_or-set_same, get_or-set_other, eqb-true, eq-eqb, ne_eqb, lt-ltb, le-ltb}
+use Rattle.std.proofs.Common.{◌≡◌, ℕ, zero, suc, ◌+◌, ◌-◌, ◌<◌, ◌≤◌, Bool, true, false, not, ◌&&◌, ◌||◌, eqb, ltb, leb, List, [], ◌∷◌, ◌++◌, length, get_or, take, reverse, filter, filter_map, find, fold, Option, Some, None, option_map, unwrap_or, refl, sym, ap, subst, ◌∙◌, ◌⊎◌, arith, inl, inr, append-nil, append_assoc, add-one, ne_eqb, lt-ltb, le-ltb}
 use Rattle.std.specs.Prelude.{⊤}
-use Rattle.std.specs.List.{range_with_len, cons_option, AllByRecursion}
+use Rattle.std.specs.List.{range_with_len, AllByRecursion}
 use Rattle.std.specs.Option.{option_or}
-use Rattle.std.proofs.lemmas.Bool.{cases_Bool, cases_lt, cases_eq, and_right, lt-leb, cases_order, both_ways, and_parts, and_from, and_left, or_parts, cond-true, cond-false, not-true, le-leb}
+use Rattle.std.proofs.lemmas.Bool.{cases_Bool, cases_lt, cases_eq, and_right, lt-leb, both_ways, and_parts, and_from, and_left, or_parts, not-true, le-leb}
 use Rattle.std.proofs.lemmas.List.Elements.{All-from_recursion, filter_agree}
 use Rattle.std.proofs.lemmas.List.Folds.{find-append, list_any-append}
-use Rattle.std.proofs.lemmas.List.FromFn.{fill_by_all, length-map-range_with_len, get_or-map-range_with_len}
 use Rattle.std.proofs.lemmas.List.Sums.{fold_push}
 use Rattle.bidi_base.specs.declared.char_data.BidiClass.{BidiClass}
 use Rattle.bidi_base.specs.declared.data_source.BidiMatchedOpeningBracket.{BidiMatchedOpeningBracket}
 use Rattle.bidi_base.specs.Places.{between, indexes, find_last}
-use Rattle.bidi_base.specs.Brackets.{max_open_brackets, counted_bracket, counted_brackets, bracket_at, is_opening, is_closing, is_same_bracket, is_taken, is_available, available, partner, with_closing, closed_pairs, bracket_limit, pairs_of, bracket_pairs, ArePairsWithin}
-use Rattle.bidi_base.proofs.PlacesLemmas.{range_with_len-more, IsLeast, find-between-is, find-between-is_None, find_last-range_with_len}
+use Rattle.bidi_base.specs.Brackets.{max_open_brackets, counted_brackets, bracket_at, is_opening, is_closing, is_same_bracket, is_taken, is_available, available, partner, with_closing, closed_pairs, bracket_limit, pairs_of, bracket_pairs, ArePairsWithin}
+use Rattle.bidi_base.proofs.PlacesLemmas.{range_with_len-more, find-between-is, find-between-is_None, find_last-range_with_len}
 use Rattle.bidi_base.proofs.BracketsLemmas.{AllClosedBefore, available-opening, available-pair, available-other}
 use Rattle.bidi_base.proofs.Lists.{find-filter, filter-reverse, filter_map-same, option_or-None, cases_Option}
 use Rattle.std.proofs.Math.Bool.{and-true, or-false, and-false}

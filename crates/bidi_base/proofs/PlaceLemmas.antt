@@ -1,12 +1,12 @@
 -- Places by index: the place of the k-th character, ranges between two places, and turns of loops over a text.
-use Rattle.std.proofs.Common.{zero, suc, drop-cons, ◌≡◌, ◌==◌, ℕ, ◌+◌, ◌-◌, ◌<◌, ◌≤◌, Bool, true, nat_lt, List, [], ◌∷◌, ◌++◌, ◌||◌, length, take, drop, get_or, Option, Some, None, is_some, ◌⊎◌, inl, inr, refl, sym, ◌∙◌, ap, subst, arith, length-take, length-drop, length-append}
+use Rattle.std.proofs.Common.{zero, suc, drop-cons, ◌≡◌, ℕ, ◌+◌, ◌-◌, ◌<◌, ◌≤◌, true, nat_lt, List, [], ◌∷◌, ◌++◌, length, take, drop, get_or, Option, Some, None, ◌⊎◌, inl, inr, refl, sym, ◌∙◌, ap, subst, arith, length-take, length-drop, length-append}
 use Rattle.std.specs.Prelude.{slice_range}
 use Rattle.std.specs.Iterator.{Count, Yields}
 use Rattle.std.proofs.Math.Seq.{drop-nil, take-append-add, take-append_seam}
 use Rattle.std.proofs.lemmas.List.{take-append-drop, drop-drop, take_all, take-take, get_or-drop}
 use Rattle.std.proofs.lemmas.List.Sums.{sum_by-append, sum_by-cons, sum_by_more, sum_by_more_le, sum_by-take-le, count_by-le-length}
 use Rattle.bidi_base.specs.Text.{text_len, place, char_indices_from, char_indices, indices_lengths_from, indices_lengths, char_at, is_boundary, IsLine, char_index, subrange, one_unit, Gives}
-use Rattle.bidi_base.proofs.TextLemmas.{HasUnits, is_boundary-char_at, char_at-append, char_at-end, is_boundary-append, char_index-append, cut_at}
+use Rattle.bidi_base.proofs.TextLemmas.{HasUnits, char_at-append, is_boundary-append, char_index-append, cut_at}
 use Rattle.bidi_base.proofs.GivesLemmas.{turn_drop, end}
 
 -- ---- places
@@ -150,53 +150,6 @@ pub char_at-place : (len_of : ℕ → ℕ) → HasUnits len_of → (chars : List
 char_at-place len_of h chars k c within =
     subst (λ cs. char_at len_of cs (place len_of chars k) ≡ Some (get_or chars k c, len_of (get_or chars k c))) (take-append-drop k chars)
     (char_at-append len_of h (take k chars) (drop k chars) ∙ rw (drop-cons chars k c within))
-
--- the character c, l units long, begins at unit u
-pub record IsCharAt (len_of : ℕ → ℕ) (chars : List ℕ) (u c l : ℕ) : Type 0 where
-  pub index : ℕ
-  pub at_place : u ≡ place len_of chars index
-  pub within : index < length chars
-  pub is_char : c ≡ get_or chars index 0
-  pub long : l ≡ len_of c
-  pub after : place len_of chars (index + 1) ≡ u + l
-
-pub char_at-Some : (len_of : ℕ → ℕ) → HasUnits len_of → (chars : List ℕ) (u c l : ℕ) → char_at len_of chars u ≡ Some (c, l) → IsCharAt len_of chars u c l
-char_at-Some len_of h chars u c l e =
-    let k = char_index len_of chars u in
-    let begins : is_boundary len_of chars u ≡ true = is_boundary-char_at len_of h chars u ∙ is_some_right (u == text_len len_of chars) (char_at len_of chars u) (c, l) e in
-    let there : place len_of chars k ≡ u = place-char_index len_of h chars u begins in
-    let below : k < length chars = inside (char_index len_of chars u) there in
-    let read : Some (get_or chars k 0, len_of (get_or chars k 0)) ≡ Some (c, l) = sym (char_at-place len_of h chars k 0 below) ∙ ap (char_at len_of chars) there ∙ e in
-    let both = some_same (get_or chars k 0, len_of (get_or chars k 0)) (c, l) read in
-    let is_char : get_or chars k 0 ≡ c = ap (λ q. q.0) both in
-    let long : len_of (get_or chars k 0) ≡ l = ap (λ q. q.1) both in
-    record {
-      index = k;
-      at_place = sym there;
-      within = below;
-      is_char = sym is_char;
-      long = sym long ∙ ap len_of is_char;
-      after = omega (arith, place-more len_of chars k 0 below, there, long);
-    }
-  where
-    some_same : (p q : ℕ × ℕ) → Some p ≡ Some q → p ≡ q
-    some_same p q e = cc e
-
-    is_some_right : (b : Bool) (o : Option (ℕ × ℕ)) (p : ℕ × ℕ) → o ≡ Some p → (b || is_some o) ≡ true
-    is_some_right b o p e = grind arith
-
-    none_some : (o : Option (ℕ × ℕ)) (p : ℕ × ℕ) → o ≡ None → o ≡ Some p → ⊥
-    none_some o p a b = cc
-
-    inside : (k : ℕ) → place len_of chars k ≡ u → k < length chars
-    inside k there = below (bounded k (length chars))
-      where
-        bounded : (m n : ℕ) → (m < n) ⊎ (n ≤ m)
-        bounded m n = grind arith
-
-        below : (k < length chars) ⊎ (length chars ≤ k) → k < length chars
-        below (inl order) = order
-        below (inr past) = absurd (none_some (char_at len_of chars u) (c, l) (char_at-end len_of h chars u (omega (arith, place-end len_of chars k past))) e)
 
 -- each unit is one of a character: of the one at `index`, `offset` units after its place
 pub record UnitOf (len_of : ℕ → ℕ) (chars : List ℕ) (u : ℕ) : Type 0 where

@@ -1,15 +1,15 @@
 -- A paragraph of level 0 without a character that may turn it: all its levels are 0.
-use Rattle.std.proofs.Common.{◌≡◌, ℕ, zero, suc, ◌+◌, ◌-◌, ◌<◌, Bool, true, false, not, ◌&&◌, ◌||◌, cond, List, [], ◌∷◌, length, get_or, map, take, drop, reverse, max, filter_map, find, Option, Some, None, unwrap_or, option_map, refl, sym, ap, ◌∙◌, arith, inl, inr}
-use Rattle.std.specs.Prelude.{replicate, slice_range}
-use Rattle.std.specs.List.{list_all, list_any, cons_option}
-use Rattle.std.proofs.lemmas.Bool.{cases_Bool, cases_lt, both_ways, and_parts, and_from, and_left, or_from, or_cases, not-true, cond-true, cond-false, false_from_ne_true}
+use Rattle.std.proofs.Common.{◌≡◌, ℕ, zero, suc, ◌+◌, ◌-◌, ◌<◌, Bool, true, false, not, ◌&&◌, ◌||◌, cond, List, [], ◌∷◌, length, get_or, map, max, Option, Some, None, unwrap_or, refl, sym, ap, ◌∙◌, arith, inl, inr}
+use Rattle.std.specs.Prelude.{replicate}
+use Rattle.std.specs.List.{list_all, list_any}
+use Rattle.std.proofs.lemmas.Bool.{cases_Bool, cases_lt, both_ways, and_parts, and_from, and_left, or_from, not-true, cond-true, cond-false, false_from_ne_true}
 use Rattle.std.proofs.lemmas.List.{get_or_past, length-replicate}
 use Rattle.std.proofs.lemmas.List.Folds.{list_any_at}
 use Rattle.std.proofs.lemmas.List.Sorted.{IsPermutation-refl}
 use Rattle.bidi_base.specs.declared.char_data.BidiClass.{BidiClass}
 use Rattle.bidi_base.specs.declared.char_data.BidiClass.TheVariants.{L, R, AL, EN, ES, ET, AN, CS, NSM, B, S, WS, ON, LRE, LRO, RLE, RLO, LRI, RLI, FSI, PDI}
 use Rattle.bidi_base.specs.declared.data_source.BidiMatchedOpeningBracket.{BidiMatchedOpeningBracket}
-use Rattle.bidi_base.specs.Classes.{as_direction, is_initiator, is_embedding, is_kept, is_nsm, is_al, is_en, is_et, is_l, is_l_or_r, is_neutral, is_paragraph_separator, is_removed, is_strong, is_weak_resolved, same_class}
+use Rattle.bidi_base.specs.Classes.{is_initiator, is_embedding, is_kept, is_nsm, is_al, is_en, is_et, is_l, is_l_or_r, is_paragraph_separator, is_removed, is_strong, is_weak_resolved, same_class}
 use Rattle.bidi_base.specs.Levels.{direction_of}
 use Rattle.bidi_base.specs.Direction.{may_turn, is_pure_ltr}
 use Rattle.bidi_base.specs.Places.{class_at, at_places, first_or, nearest, nearest_is}
@@ -18,21 +18,20 @@ use Rattle.bidi_base.specs.Embeddings.{is_embedded, is_open_at, open_at}
 use Rattle.bidi_base.specs.Explicit.{Status, status_inside, status_at, explicit_level, explicit_class, explicit_levels, explicit_classes}
 use Rattle.bidi_base.specs.Sequences.{RunSequence, is_kept_at, level_at, level_or, kept_before, next_kept, start_class, end_class, sequence_from, sequences}
 use Rattle.bidi_base.specs.Weak.{carried, w1_rule, w2_rule, w3_rule, w4_rule, w5_rule, w6_rule, w7_rule, w1, w2, w3, w4, w5, w6, weak_classes}
-use Rattle.bidi_base.specs.Brackets.{bracket_pairs}
-use Rattle.bidi_base.specs.Neutral.{nearest_direction, directions_between, pair_direction, n0, n1_rule, neutral_classes}
+use Rattle.bidi_base.specs.Neutral.{neutral_classes}
 use Rattle.bidi_base.specs.Implicit.{implicit_levels}
 use Rattle.bidi_base.specs.Stored.{resolved_levels, levels_in}
 use Rattle.bidi_base.proofs.ChainLemmas.{filter_range-none}
 use Rattle.bidi_base.proofs.ContextLemmas.{list_all-in_context, list_all-mapped}
 use Rattle.bidi_base.proofs.ExplicitLemmas.{length-explicit_levels, level_at-explicit_levels, class_at-explicit_classes}
 use Rattle.bidi_base.proofs.LevelsInLemmas.{levels_in-written}
-use Rattle.bidi_base.proofs.NeutralLemmas.{n0-keeps}
+use Rattle.bidi_base.proofs.OneDirection.{goes_with, neutral_classes-one}
 use Rattle.bidi_base.proofs.PlacesLemmas.{nearest-more}
 use Rattle.bidi_base.proofs.ResolvedLemmas.{length-resolved_levels, AreResolved-each}
 use Rattle.bidi_base.proofs.SequencePlaces.{sequence-begun, sequence-kept}
 use Rattle.bidi_base.proofs.StoredLemmas.{class_at-stored_classes, list_all-at_places}
 use Rattle.bidi_base.proofs.StoredSteps.{length-stored_classes}
-use Rattle.bidi_base.proofs.Lists.{chosen, list_all-take, list_all-drop}
+use Rattle.bidi_base.proofs.Lists.{chosen}
 
 -- ---- W1 to W7
 
@@ -45,10 +44,6 @@ is_quiet_after_w1 c = is_quiet c && not (is_nsm c)
 
 abbrev is_quiet_after_w6 : BidiClass → Bool
 is_quiet_after_w6 c = is_weak_resolved c && not (may_turn c)
-
--- what W7 leaves
-abbrev is_l_or_neutral : BidiClass → Bool
-is_l_or_neutral c = is_l c || is_neutral c
 
 nearest_quiet : (before : List BidiClass) → list_all is_quiet before ≡ true → is_quiet_after_w1 (nearest (λ c. not (is_nsm c)) before L) ≡ true
 nearest_quiet [] h = refl
@@ -147,8 +142,8 @@ nearest_l (b ∷ before) h =
       | inr no' ↦ ap is_l (cond-false (is_l_or_r b) b rest no') ∙ nearest_l before parts.1
     ]
 
-w7_quiet : (before : List BidiClass) (c : BidiClass) (after : List BidiClass) → list_all is_quiet_after_w6 before ≡ true → is_quiet_after_w6 c ≡ true → is_l_or_neutral (w7_rule L before c after) ≡ true
-w7_quiet before EN after k h = ap is_l_or_neutral (cond-true (is_l (nearest is_l_or_r before L)) L EN (nearest_l before k))
+w7_quiet : (before : List BidiClass) (c : BidiClass) (after : List BidiClass) → list_all is_quiet_after_w6 before ≡ true → is_quiet_after_w6 c ≡ true → goes_with L (w7_rule L before c after) ≡ true
+w7_quiet before EN after k h = ap (goes_with L) (cond-true (is_l (nearest is_l_or_r before L)) L EN (nearest_l before k))
 w7_quiet before L after k h = refl
 w7_quiet before B after k h = refl
 w7_quiet before S after k h = refl
@@ -157,7 +152,7 @@ w7_quiet before ON after k h = refl
 w7_quiet before PDI after k h = refl
 w7_quiet before _ after k h = absurd (cc h)
 
-weak_classes-quiet : (classes : List BidiClass) → list_all is_quiet classes ≡ true → list_all is_l_or_neutral (weak_classes L classes) ≡ true
+weak_classes-quiet : (classes : List BidiClass) → list_all is_quiet classes ≡ true → list_all (goes_with L) (weak_classes L classes) ≡ true
 unfolding weak_classes
 weak_classes-quiet classes k =
     let after_w1 = list_all-in_context (w1_rule L) is_quiet is_quiet_after_w1 w1_quiet [] classes refl k in
@@ -166,74 +161,11 @@ weak_classes-quiet classes k =
     let after_w4 = list_all-in_context w4_rule is_quiet_after_w1 is_quiet_after_w1 w4_quiet [] (w3 (w2 L (w1 L classes))) refl after_w3 in
     let after_w5 = list_all-in_context w5_rule is_quiet_after_w1 is_quiet_after_w1 (λ before c after l. w5_quiet before c after) [] (w4 (w3 (w2 L (w1 L classes)))) refl after_w4 in
     let after_w6 = list_all-mapped w6_rule is_quiet_after_w1 is_quiet_after_w6 w6_quiet (w5 (w4 (w3 (w2 L (w1 L classes))))) after_w5 in
-    list_all-in_context (w7_rule L) is_quiet_after_w6 is_l_or_neutral w7_quiet [] (w6 (w5 (w4 (w3 (w2 L (w1 L classes)))))) refl after_w6
-
--- ---- N0 to N2
-
-one_direction : (c : BidiClass) (ds : List BidiClass) → is_l_or_neutral c ≡ true → first_or L ds ≡ L → first_or L (cons_option (as_direction c) ds) ≡ L
-one_direction L ds h k = refl
-one_direction R ds h k = absurd (cc h)
-one_direction EN ds h k = absurd (cc h)
-one_direction AN ds h k = absurd (cc h)
-one_direction _ ds h k = k
-
-nearest_direction-l : (cs : List BidiClass) → list_all is_l_or_neutral cs ≡ true → nearest_direction L cs ≡ L
-nearest_direction-l [] h = refl
-nearest_direction-l (c ∷ cs) h =
-    let parts = and_parts (is_l_or_neutral c) (list_all is_l_or_neutral cs) h in
-    one_direction c (filter_map as_direction cs) parts.0 (nearest_direction-l cs parts.1)
-
-one_l : (c : BidiClass) (ds : List BidiClass) → is_l_or_neutral c ≡ true → list_all is_l ds ≡ true → list_all is_l (cons_option (as_direction c) ds) ≡ true
-one_l L ds h k = k
-one_l R ds h k = absurd (cc h)
-one_l EN ds h k = absurd (cc h)
-one_l AN ds h k = absurd (cc h)
-one_l _ ds h k = k
-
-directions-l : (cs : List BidiClass) → list_all is_l_or_neutral cs ≡ true → list_all is_l (filter_map as_direction cs) ≡ true
-directions-l [] h = refl
-directions-l (c ∷ cs) h =
-    let parts = and_parts (is_l_or_neutral c) (list_all is_l_or_neutral cs) h in
-    one_l c (filter_map as_direction cs) parts.0 (directions-l cs parts.1)
-
--- a pair takes L or nothing
-pair_direction-l : (classes : List BidiClass) (pair : ℕ × ℕ) (d : BidiClass) → list_all is_l_or_neutral classes ≡ true → pair_direction L L classes pair ≡ Some d → d ≡ L
-unfolding pair_direction
-pair_direction-l classes pair d h is =
-    by_inside (directions_between classes pair)
-    (directions-l (slice_range classes (pair.0 + 1) pair.1) (list_all-take is_l_or_neutral (pair.1 - (pair.0 + 1)) (drop (pair.0 + 1) classes) (list_all-drop is_l_or_neutral (pair.0 + 1) classes h))) is
-  where
-    by_inside : (ds : List BidiClass) → list_all is_l ds ≡ true → cond (list_any (same_class L) ds) (Some L) (option_map (λ (_ : BidiClass). nearest_direction L (reverse (take pair.0 classes))) (find (λ _. true) ds)) ≡ Some d → d ≡ L
-    by_inside [] k e = absurd (cc e)
-    by_inside (L ∷ ds) k e = cc e
-    by_inside (_ ∷ ds) k e = absurd (cc k)
-
--- what a neutral takes
-n1_rule-l : (before : List BidiClass) (c : BidiClass) (after : List BidiClass) → list_all is_l_or_neutral before ≡ true → is_l_or_neutral c ≡ true → is_l (n1_rule L L L before c after) ≡ true
-n1_rule-l before c after h k =
-    let left = nearest_direction L before in
-    let right = nearest_direction L after in
-    let common : BidiClass = cond (same_class left right) left L in
-    let common_is : common ≡ L = ap (λ d. cond (same_class d right) d L) (nearest_direction-l before h) ∙ either (same_class L right) in
-    elim (cases_Bool (is_neutral c)) [
-      | inl neutral ↦ ap is_l (cond-true (is_neutral c) common c neutral ∙ common_is)
-      | inr other ↦ ap is_l (cond-false (is_neutral c) common c other) ∙ elim (or_cases (is_l c) (is_neutral c) k) [ inl yes' ↦ yes' | inr bad ↦ absurd (both_ways (is_neutral c) other bad) ]
-    ]
-  where
-    either : (b : Bool) → cond b L L ≡ L
-    either true = refl
-    either false = refl
-
-neutral_classes-l : (source : List BidiClass) (brackets : List (Option BidiMatchedOpeningBracket)) (classes : List BidiClass) → list_all is_l_or_neutral classes ≡ true
-    → list_all is_l (neutral_classes 0 L L source brackets classes) ≡ true
-unfolding neutral_classes
-neutral_classes-l source brackets classes h =
-    list_all-in_context (n1_rule L L L) is_l_or_neutral is_l n1_rule-l [] (n0 L L source (bracket_pairs classes brackets) classes) refl
-    (n0-keeps is_l_or_neutral L L source (λ cs pair d all is. ap is_l_or_neutral (pair_direction-l cs pair d all is)) (bracket_pairs classes brackets) classes h)
+    list_all-in_context (w7_rule L) is_quiet_after_w6 (goes_with L) w7_quiet [] (w6 (w5 (w4 (w3 (w2 L (w1 L classes)))))) refl after_w6
 
 -- ---- I1
 
-implicit_levels-l : (classes : List BidiClass) → list_all is_l classes ≡ true → implicit_levels 0 classes ≡ replicate (length classes) 0
+implicit_levels-l : (classes : List BidiClass) → list_all (same_class L) classes ≡ true → implicit_levels 0 classes ≡ replicate (length classes) 0
 implicit_levels-l [] h = refl
 implicit_levels-l (L ∷ classes) h = ap {B = List ℕ} (λ ls. 0 ∷ ls) (implicit_levels-l classes h)
 implicit_levels-l (_ ∷ classes) h = absurd (cc h)
@@ -331,7 +263,7 @@ module _ (classes : List BidiClass) (quiet : (p : ℕ) → may_turn (class_at cl
         let own_quiet : list_all is_quiet own ≡ true =
         list_all-at_places is_quiet L (explicit_classes 0 classes) s.places (λ p there. let here = sequence-kept 0 classes levels k d within p there in quiet_at p here.1 here.0) in
         let resolved = neutral_classes 0 L L from pairs (weak_classes L own) in
-        let resolved_l : list_all is_l resolved ≡ true = neutral_classes-l from pairs (weak_classes L own) (weak_classes-quiet own own_quiet) in
+        let resolved_l : list_all (same_class L) resolved ≡ true = neutral_classes-one L refl 0 from pairs (weak_classes L own) refl (weak_classes-quiet own own_quiet) in
         let all : resolved_levels source brackets levels (explicit_classes 0 classes) s ≡ replicate (length resolved) 0 =
         ap (λ n. implicit_levels n (neutral_classes n s.sos s.eos from pairs (weak_classes s.sos own))) (level_at-quiet (first_or 0 s.places))
         ∙ ap (λ (c : BidiClass). implicit_levels 0 (neutral_classes 0 c s.eos from pairs (weak_classes c own))) s_sos

@@ -1,25 +1,23 @@
 -- What the levels of sequences are, once some of them are resolved and once all are: bounds, and what they do not depend on.
-use Rattle.std.proofs.Common.{◌≡◌, ℕ, zero, suc, ◌+◌, ◌<◌, ◌≤◌, true, false, not, cond, eqb, List, [], ◌∷◌, ◌++◌, length, get_or, map, count_by, find, Option, Some, None, unwrap_or, option_map, refl, sym, ap, subst, ◌∙◌, arith, inl, inr, le_refl}
+use Rattle.std.proofs.Common.{◌≡◌, ℕ, zero, suc, ◌+◌, ◌<◌, ◌≤◌, true, false, not, cond, eqb, List, [], ◌∷◌, ◌++◌, length, get_or, map, count_by, Option, None, refl, sym, ap, subst, ◌∙◌, arith, inl, inr, le_refl}
 use Rattle.std.specs.Prelude.{flat_map, zip}
 use Rattle.std.specs.List.{All, AllByRecursion}
-use Rattle.std.specs.Option.{option_map_or}
-use Rattle.std.proofs.lemmas.Bool.{cases_Bool, cond-true, cond-false, cond_both, both_ways}
+use Rattle.std.proofs.lemmas.Bool.{cases_Bool, cond-false, cond_both, both_ways}
 use Rattle.std.proofs.lemmas.List.{length-map, map-append}
 use Rattle.std.proofs.lemmas.List.Sums.{sum_by-cons, sum_by-append}
-use Rattle.std.proofs.lemmas.List.FromFn.{length-map-range_with_len}
 use Rattle.bidi_base.specs.declared.char_data.BidiClass.{BidiClass}
 use Rattle.bidi_base.specs.declared.char_data.BidiClass.TheVariants.{L, R, EN, AN, BN}
 use Rattle.bidi_base.specs.declared.data_source.BidiMatchedOpeningBracket.{BidiMatchedOpeningBracket}
 use Rattle.bidi_base.specs.Classes.{is_removed}
 use Rattle.bidi_base.specs.Levels.{is_odd, direction_of}
-use Rattle.bidi_base.specs.Places.{class_at, at_places, first_or}
+use Rattle.bidi_base.specs.Places.{at_places, first_or}
 use Rattle.bidi_base.specs.Source.{Source}
 use Rattle.bidi_base.specs.Isolates.{paragraph_level, stored_classes}
 use Rattle.bidi_base.specs.Explicit.{explicit_levels, explicit_classes}
 use Rattle.bidi_base.specs.Sequences.{RunSequence, is_kept_at, level_at, sequences}
 use Rattle.bidi_base.specs.Weak.{w1, w2, w3, w4, w5, w6, weak_classes}
 use Rattle.bidi_base.specs.Brackets.{bracket_pairs}
-use Rattle.bidi_base.specs.Neutral.{goes_with_pair, with_pair, pair_direction, n0_pair, n0, n1_n2, neutral_classes}
+use Rattle.bidi_base.specs.Neutral.{n0_pair, n0, n1_n2, neutral_classes}
 use Rattle.bidi_base.specs.Implicit.{added_at_even, added_at_odd, implicit_level, implicit_levels}
 use Rattle.bidi_base.specs.Stored.{resolved_levels, sequence_levels, AreResolved, level_in, filled_levels, levels_in, stored_levels}
 use Rattle.bidi_base.proofs.PlacesLemmas.{length-in_context}

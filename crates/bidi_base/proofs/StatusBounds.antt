@@ -1,13 +1,12 @@
 -- The status stack holds at most 126 entries, and each count is at most the number of characters read.
-use Rattle.std.proofs.Common.{◌≡◌, ℕ, suc, ◌+◌, ◌<◌, ◌≤◌, cond, List, [], ◌∷◌, ◌++◌, length, reverse, refl, sym, ap, subst, ◌∙◌, arith, inl, inr}
-use Rattle.std.proofs.lemmas.List.{reverse-append, length-reverse}
+use Rattle.std.proofs.Common.{◌≡◌, ℕ, suc, ◌+◌, ◌<◌, ◌≤◌, List, [], ◌∷◌, length, refl, sym, ap, subst, arith, inl, inr}
 use Rattle.bidi_base.specs.declared.char_data.BidiClass.{BidiClass}
 use Rattle.bidi_base.specs.Classes.{is_initiator}
 use Rattle.bidi_base.specs.Places.{class_at}
 use Rattle.bidi_base.specs.Explicit.{asked_level}
 use Rattle.bidi_base.proofs.ExplicitLemmas.{asked_level-above}
-use Rattle.bidi_base.proofs.OpenersStack.{closed_by, openers_read, left_at, IsPushed, left_at-IsPushed}
-use Rattle.bidi_base.specs.StatusMachine.{Entry, State, entry_of, taken, refused, entered, drop_isolate, closed, step, state_at, AreBelow, IsWithinDepth, counted, IsPoppable}
+use Rattle.bidi_base.proofs.OpenersStack.{openers_read, left_at, IsPushed, left_at-IsPushed}
+use Rattle.bidi_base.specs.StatusMachine.{Entry, State, drop_isolate, closed, step, state_at, AreBelow, IsWithinDepth, counted, IsPoppable}
 use Rattle.bidi_base.proofs.StatusMachine.{state_of, EnteredAs, as_taken, as_isolate, as_embedding, as_unseen, state_of-EnteredAs}
 use Rattle.bidi_base.proofs.StatusMachine.{IsInsideOf, overflowed, inside, split_state, state_at-state_of, closed-state_at}
 use Rattle.bidi_base.proofs.MatchingLemmas.{at_most_one}

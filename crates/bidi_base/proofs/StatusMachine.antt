@@ -2,17 +2,16 @@
 use Rattle.std.proofs.Common.{◌≡◌, ℕ, zero, suc, ◌+◌, ◌-◌, ◌<◌, ◌≤◌, Bool, true, false, not, ◌&&◌, ◌||◌, cond, ltb, leb, eqb, List, [], ◌∷◌, ◌++◌}
 use Rattle.std.proofs.Common.{length, map, reverse, unwrap_or, refl, sym, ap, subst, ◌∙◌, arith, ◌⊎◌, inl, inr, lt-ltb, leb-true, eqb-true, eq-eqb, ne_eqb}
 use Rattle.std.specs.Prelude.{nat_le, if◌then◌else◌}
-use Rattle.std.proofs.lemmas.Bool.{cases_Bool, cases_eq, both_ways, cond-true, cond-false, and_parts, and_from, and_left, and_right, le-leb, le-ltb, leb-false, eqb-false}
+use Rattle.std.proofs.lemmas.Bool.{cases_Bool, cases_eq, both_ways, cond-true, cond-false, and_parts, and_from, and_left, and_right, le-ltb}
 use Rattle.std.proofs.lemmas.List.{reverse-append, map-append}
 use Rattle.bidi_base.specs.declared.char_data.BidiClass.{BidiClass}
 use Rattle.bidi_base.specs.Classes.{is_initiator, is_opener, is_pdf, is_paragraph_separator, is_removed}
 use Rattle.bidi_base.specs.Levels.{max_depth}
 use Rattle.bidi_base.specs.Places.{class_at}
 use Rattle.bidi_base.specs.Isolates.{is_initiator_at, is_pdi_at}
-use Rattle.bidi_base.specs.Embeddings.{open_at}
 use Rattle.bidi_base.specs.Explicit.{Status, override_of, asked_level, status_inside, status_at, explicit_level, explicit_class}
 use Rattle.bidi_base.proofs.OpenersStack.{below_isolate, below_embedding, closed_by, opened_by, openers_read, left_at, open_at-closed_by}
-use Rattle.bidi_base.specs.StatusMachine.{Entry, State, start_status, start, fits_in, entry_of, taken, refused, entered, drop_isolate, with_stack, close_isolate, close_embedding, closed, opened, step, answer_level, answer_class, state_at}
+use Rattle.bidi_base.specs.StatusMachine.{State, start_status, start, fits_in, entry_of, taken, refused, entered, drop_isolate, with_stack, close_isolate, close_embedding, closed, opened, step, answer_level, answer_class, state_at}
 
 -- the state that a stack of openers leaves, each entered in text order
 unfoldable pub state_of : ℕ → List BidiClass → List ℕ → State

@@ -1,5 +1,6 @@
 -- A pass over level runs: what is open waits for its match, and a run goes on with the sequence whose initiator its first character matches.
-use Rattle.std.proofs.Common.{◌≡◌, ◌≢◌, ℕ, zero, suc, ◌+◌, ◌<◌, ◌≤◌, true, false, cond, eqb, List, [], ◌∷◌, ◌++◌, length, map, get_or, set, length-append, append-nil, Option, Some, None, refl, sym, ap, subst, ◌∙◌, arith, ◌⊎◌, inl, inr, eq-eqb, ne_eqb}
+use Rattle.std.proofs.Common.{◌≡◌, ◌≢◌, ℕ, zero, suc, ◌+◌, ◌<◌, ◌≤◌, true, false, cond, eqb}
+use Rattle.std.proofs.Common.{List, [], ◌∷◌, ◌++◌, length, map, get_or, set, length-append, append-nil, Option, Some, None, refl, sym, ap, subst, ◌∙◌, arith, ◌⊎◌, inl, inr, eq-eqb, ne_eqb}
 use Rattle.std.specs.Prelude.{filter}
 use Rattle.std.specs.List.{range_with_len}
 use Rattle.std.specs.List.Sorted.{IsPermutation}
@@ -15,7 +16,8 @@ use Rattle.bidi_base.proofs.OpenMatches.{IsReadStack-match, IsReadStack-matched,
 use Rattle.bidi_base.proofs.IsolatesLemmas.{initiators_apart, pdis_apart, matching_pdi-is_pdi}
 use Rattle.bidi_base.proofs.PermutationLemmas.{count_of, count_of-cons, count_of-IsPermutation, Ascends, Ascends-push, Ascends-higher, Ascends-filter, Ascends-range}
 use Rattle.bidi_base.proofs.SuccessorLemmas.{have_one_level-from, is_kept-initiator, is_kept-pdi}
-use Rattle.bidi_base.proofs.PassLemmas.{AreSuccessors, IsBegunList, AllBegun, all_of, firsts, firsts-push, firsts-join, AllBegun-push, AllBegun-join, kept_below, kept_more, shares-push, shares-join, sequence_of, sequences-from_pass_in_order}
+use Rattle.bidi_base.proofs.PassLemmas.{AreSuccessors, IsBegunList, AllBegun, all_of, firsts, firsts-push, firsts-join, AllBegun-push, AllBegun-join}
+use Rattle.bidi_base.proofs.PassLemmas.{kept_below, kept_more, shares-push, shares-join, sequence_of, sequences-from_pass_in_order}
 use Rattle.bidi_base.proofs.RunsLemmas.{BeginsRun, EndsRun, AreRunSteps, IsFront, front_of, successor-at_match, is_first-run}
 
 -- what a list holds its longer lists hold
@@ -55,7 +57,8 @@ module _ (classes : List BidiClass) (levels : List ℕ) where
   earlier : (a x s : ℕ) (out : List (List ℕ)) → IsPermutation (kept_below classes levels a) (all_of classes levels out) → s < length out → Member x (get_or out s []) → a ≤ x → ⊥
   earlier a x s out shared within member after =
       let some : 0 < count_of x (all_of classes levels out) = count_of-Member x (all_of classes levels out) (Member-all x s out within member) in
-      let none : count_of x (kept_below classes levels a) ≡ 0 = count_of-higher x 0 a (kept_below classes levels a) after (Ascends-filter (is_kept_at classes) 0 a (range_with_len 0 a) (Ascends-range 0 a a (omega arith))) in
+      let ascends : Ascends 0 (kept_below classes levels a) a = Ascends-filter (is_kept_at classes) 0 a (range_with_len 0 a) (Ascends-range 0 a a (omega arith)) in
+      let none : count_of x (kept_below classes levels a) ≡ 0 = count_of-higher x 0 a (kept_below classes levels a) after ascends in
       omega (arith, count_of-IsPermutation x (kept_below classes levels a) (all_of classes levels out) shared)
 
   -- a character whose successor did not come yet is the last of its sequence
@@ -123,25 +126,48 @@ module _ (classes : List BidiClass) (levels : List ℕ) where
     pub waiting : AreWaiting out stack waits
 
   pub IsPass-start : IsPass 0 0 [] [] []
-  IsPass-start = record { begun = tt; shares = IsPermutation-refl []; in_order = omega arith; isolates = IsReadStack-start (is_initiator_at classes) (is_pdi_at classes); waiting = tt }
+  IsPass-start = record {
+    begun = tt;
+    shares = IsPermutation-refl [];
+    in_order = omega arith;
+    isolates = IsReadStack-start (is_initiator_at classes) (is_pdi_at classes);
+    waiting = tt;
+  }
 
   -- once all was read, these are the sequences
-  pub IsPass-end : (paragraph m : ℕ) (out : List (List ℕ)) (stack : List ℕ) (waits : List (Option ℕ)) → IsPass (length classes) m out stack waits → map (sequence_of classes levels paragraph) out ≡ sequences paragraph classes levels
+  pub IsPass-end : (paragraph m : ℕ) (out : List (List ℕ)) (stack : List ℕ) (waits : List (Option ℕ)) → IsPass (length classes) m out stack waits
+      → map (sequence_of classes levels paragraph) out ≡ sequences paragraph classes levels
   unfolding kept_places
   IsPass-end paragraph m out stack waits h = sequences-from_pass_in_order classes levels paragraph out h.begun h.shares h.in_order
 
   -- characters that X9 removes come to no sequence
-  pub IsPass-removed : (a n m : ℕ) (out : List (List ℕ)) (stack : List ℕ) (waits : List (Option ℕ)) → IsPass a m out stack waits → filter (is_kept_at classes) (range_with_len a n) ≡ [] → IsPass (a + n) m out stack waits
+  pub IsPass-removed : (a n m : ℕ) (out : List (List ℕ)) (stack : List ℕ) (waits : List (Option ℕ)) → IsPass a m out stack waits
+      → filter (is_kept_at classes) (range_with_len a n) ≡ [] → IsPass (a + n) m out stack waits
   IsPass-removed a n m out stack waits h none =
-      record { begun = h.begun; shares = subst (λ (xs : List ℕ). IsPermutation xs (all_of classes levels out)) (sym (kept_more classes levels a n [] none ∙ append-nil (kept_below classes levels a))) h.shares; in_order = Ascends-higher 0 a (a + n) (firsts classes levels out) (omega arith) h.in_order; isolates = h.isolates; waiting = h.waiting }
+      let same : kept_below classes levels (a + n) ≡ kept_below classes levels a = kept_more classes levels a n [] none ∙ append-nil (kept_below classes levels a) in
+      record {
+        begun = h.begun;
+        shares = subst (λ (xs : List ℕ). IsPermutation xs (all_of classes levels out)) (sym same) h.shares;
+        in_order = Ascends-higher 0 a (a + n) (firsts classes levels out) (omega arith) h.in_order;
+        isolates = h.isolates;
+        waiting = h.waiting;
+      }
 
-  -- reading one character for what is open: nothing happens, an initiator, a PDI
-  pub IsPass-stay : (a m : ℕ) (out : List (List ℕ)) (stack : List ℕ) (waits : List (Option ℕ)) → IsPass a m out stack waits → is_initiator_at classes m ≡ false → (is_pdi_at classes m ≡ false) ⊎ (stack ≡ []) → IsPass a (m + 1) out stack waits
+  -- reading up to k for what is open
+  IsPass-read : (a m k : ℕ) (out : List (List ℕ)) (stack next : List ℕ) (waits waits_next : List (Option ℕ)) → IsPass a m out stack waits
+      → IsReadStack (is_initiator_at classes) (is_pdi_at classes) k next → AreWaiting out next waits_next → IsPass a k out next waits_next
+  IsPass-read a m k out stack next waits waits_next h isolates waiting =
+      record { begun = h.begun; shares = h.shares; in_order = h.in_order; isolates = isolates; waiting = waiting }
+
+  -- one character: nothing happens, an initiator, a PDI
+  pub IsPass-stay : (a m : ℕ) (out : List (List ℕ)) (stack : List ℕ) (waits : List (Option ℕ)) → IsPass a m out stack waits
+      → is_initiator_at classes m ≡ false → (is_pdi_at classes m ≡ false) ⊎ (stack ≡ []) → IsPass a (m + 1) out stack waits
   IsPass-stay a m out stack waits h other still =
-      record { begun = h.begun; shares = h.shares; in_order = h.in_order; isolates = IsReadStack-stay (is_initiator_at classes) (is_pdi_at classes) m stack h.isolates other still; waiting = h.waiting }
+      IsPass-read a m (m + 1) out stack stack waits waits h (IsReadStack-stay (is_initiator_at classes) (is_pdi_at classes) m stack h.isolates other still) h.waiting
 
   -- characters that X9 removes change nothing of what is open
-  pub IsPass-skip : (n a m : ℕ) (out : List (List ℕ)) (stack : List ℕ) (waits : List (Option ℕ)) → IsPass a m out stack waits → ((k : ℕ) → m ≤ k → k < m + n → is_kept_at classes k ≡ false) → IsPass a (m + n) out stack waits
+  pub IsPass-skip : (n a m : ℕ) (out : List (List ℕ)) (stack : List ℕ) (waits : List (Option ℕ)) → IsPass a m out stack waits
+      → ((k : ℕ) → m ≤ k → k < m + n → is_kept_at classes k ≡ false) → IsPass a (m + n) out stack waits
   IsPass-skip zero a m out stack waits h none = subst (λ (x : ℕ). IsPass a x out stack waits) (omega arith) h
   IsPass-skip (suc n) a m out stack waits h none =
       let gone : is_kept_at classes m ≡ false = none m (omega arith) (omega arith) in
@@ -154,29 +180,35 @@ module _ (classes : List BidiClass) (levels : List ℕ) where
       removed_pdi : (k : ℕ) → is_kept_at classes k ≡ false → is_pdi_at classes k ≡ false
       removed_pdi k gone = false_from_ne_true (is_pdi_at classes k) (λ closes. both_ways (is_kept_at classes k) gone (is_kept-pdi (class_at classes k) closes))
 
-  pub IsPass-initiator : (a m : ℕ) (out : List (List ℕ)) (stack : List ℕ) (waits : List (Option ℕ)) (w : Option ℕ) → IsPass a m out stack waits → is_initiator_at classes m ≡ true → IsWaiting out m w → IsPass a (m + 1) out (m ∷ stack) (w ∷ waits)
-  IsPass-initiator a m out stack waits w h here wait =
-      record { begun = h.begun; shares = h.shares; in_order = h.in_order; isolates = IsReadStack-more (is_initiator_at classes) (is_pdi_at classes) m true false stack here (initiators_apart classes m here) (λ e. refl) h.isolates; waiting = (wait, h.waiting) }
+  pub IsPass-initiator : (a m : ℕ) (out : List (List ℕ)) (stack : List ℕ) (waits : List (Option ℕ)) (w : Option ℕ) → IsPass a m out stack waits
+      → is_initiator_at classes m ≡ true → IsWaiting out m w → IsPass a (m + 1) out (m ∷ stack) (w ∷ waits)
+  IsPass-initiator a m out stack waits w h here wait = IsPass-read a m (m + 1) out stack (m ∷ stack) waits (w ∷ waits) h
+      (IsReadStack-more (is_initiator_at classes) (is_pdi_at classes) m true false stack here (initiators_apart classes m here) (λ e. refl) h.isolates) (wait, h.waiting)
 
-  pub IsPass-pdi : (a m i : ℕ) (out : List (List ℕ)) (stack : List ℕ) (w : Option ℕ) (waits : List (Option ℕ)) → IsPass a m out (i ∷ stack) (w ∷ waits) → is_pdi_at classes m ≡ true → IsPass a (m + 1) out stack waits
-  IsPass-pdi a m i out stack w waits h here =
-      record { begun = h.begun; shares = h.shares; in_order = h.in_order; isolates = IsReadStack-more (is_initiator_at classes) (is_pdi_at classes) m false true (i ∷ stack) (pdis_apart classes m here) here (λ e. absurd (cc e)) h.isolates; waiting = h.waiting.1 }
+  pub IsPass-pdi : (a m i : ℕ) (out : List (List ℕ)) (stack : List ℕ) (w : Option ℕ) (waits : List (Option ℕ)) → IsPass a m out (i ∷ stack) (w ∷ waits)
+      → is_pdi_at classes m ≡ true → IsPass a (m + 1) out stack waits
+  IsPass-pdi a m i out stack w waits h here = IsPass-read a m (m + 1) out (i ∷ stack) stack (w ∷ waits) waits h
+      (IsReadStack-more (is_initiator_at classes) (is_pdi_at classes) m false true (i ∷ stack) (pdis_apart classes m here) here (λ e. absurd (cc e)) h.isolates) h.waiting.1
 
   -- the kept characters from a on, which follow one another, begin a sequence
-  pub IsPass-begin : (a n m p : ℕ) (ps : List ℕ) (out : List (List ℕ)) (stack : List ℕ) (waits : List (Option ℕ)) → IsPass a m out stack waits → filter (is_kept_at classes) (range_with_len a n) ≡ p ∷ ps → a + n ≤ length classes → AreSuccessors classes levels (p ∷ ps) → is_first classes levels p ≡ true
+  pub IsPass-begin : (a n m p : ℕ) (ps : List ℕ) (out : List (List ℕ)) (stack : List ℕ) (waits : List (Option ℕ)) → IsPass a m out stack waits
+      → filter (is_kept_at classes) (range_with_len a n) ≡ p ∷ ps → a + n ≤ length classes → AreSuccessors classes levels (p ∷ ps) → is_first classes levels p ≡ true
       → IsPass (a + n) m (out ++ (p ∷ ps) ∷ []) stack waits
   IsPass-begin a n m p ps out stack waits h here fits follows first =
       let front : IsFront classes levels a (a + n) p ps = front_of classes levels a n p ps here in
+      let up_to_p : Ascends 0 (firsts classes levels out) p = Ascends-higher 0 a p (firsts classes levels out) front.from h.in_order in
+      let with_p : Ascends 0 (firsts classes levels out ++ p ∷ []) (p + 1) = Ascends-push 0 p (firsts classes levels out) up_to_p in
       record {
         begun = AllBegun-push classes levels out p ps h.begun (record { kept = front.kept; within = omega (arith, front.below); first = first; follows = follows });
         shares = shares-push classes levels a n out (p ∷ ps) h.shares here;
-        in_order = rw (firsts-push classes levels out p ps) (Ascends-higher 0 (p + 1) (a + n) (firsts classes levels out ++ p ∷ []) (omega (arith, front.below)) (Ascends-push 0 p (firsts classes levels out) (Ascends-higher 0 a p (firsts classes levels out) front.from h.in_order)));
+        in_order = rw (firsts-push classes levels out p ps) (Ascends-higher 0 (p + 1) (a + n) (firsts classes levels out ++ p ∷ []) (omega (arith, front.below)) with_p);
         isolates = h.isolates;
         waiting = AreWaiting-longer out (out ++ (p ∷ ps) ∷ []) stack waits (IsLonger-push out (p ∷ ps)) h.waiting;
       }
 
   -- they go on with the sequence at s
-  pub IsPass-join : (a n m p s : ℕ) (ps : List ℕ) (out : List (List ℕ)) (stack : List ℕ) (waits : List (Option ℕ)) → IsPass a m out stack waits → filter (is_kept_at classes) (range_with_len a n) ≡ p ∷ ps → AreSuccessors classes levels (p ∷ ps) → s < length out
+  pub IsPass-join : (a n m p s : ℕ) (ps : List ℕ) (out : List (List ℕ)) (stack : List ℕ) (waits : List (Option ℕ)) → IsPass a m out stack waits
+      → filter (is_kept_at classes) (range_with_len a n) ≡ p ∷ ps → AreSuccessors classes levels (p ∷ ps) → s < length out
       → successor classes levels (last_or 0 (get_or out s [])) ≡ Some p → IsPass (a + n) m (set out s (get_or out s [] ++ p ∷ ps)) stack waits
   IsPass-join a n m p s ps out stack waits h here follows within next =
       record {
@@ -188,14 +220,16 @@ module _ (classes : List BidiClass) (levels : List ℕ) where
       }
 
   -- a run that begins with a PDI goes on with the sequence that waits for it
-  pub successor-waiting : (a m i s : ℕ) (out : List (List ℕ)) (stack : List ℕ) (waits : List (Option ℕ)) → IsPass a m out (i ∷ stack) (Some s ∷ waits) → a ≤ m → m < length classes → is_pdi_at classes m ≡ true → BeginsRun classes levels m
+  pub successor-waiting : (a m i s : ℕ) (out : List (List ℕ)) (stack : List ℕ) (waits : List (Option ℕ)) → IsPass a m out (i ∷ stack) (Some s ∷ waits)
+      → a ≤ m → m < length classes → is_pdi_at classes m ≡ true → BeginsRun classes levels m
       → successor classes levels (last_or 0 (get_or out s [])) ≡ Some m
   unfolding matching_pdi
   successor-waiting a m i s out stack waits h after fits here begins =
       let opens : is_initiator_at classes i ≡ true = h.isolates.are_open.0 in
       let matches : matching_pdi classes i ≡ Some m = IsReadStack-match (is_initiator_at classes) (is_pdi_at classes) (initiators_apart classes) (length classes) m i stack h.isolates here fits in
       let next : successor classes levels i ≡ Some m = successor-at_match classes levels i m opens matches h.waiting.0.2 begins in
-      let last : last_or 0 (get_or out s []) ≡ i = last_of_sequence i m (get_or out s []) (begun_at out s h.begun h.waiting.0.0) h.waiting.0.1 next (λ member. earlier a m s out h.shares h.waiting.0.0 member after) in
+      let last : last_or 0 (get_or out s []) ≡ i =
+      last_of_sequence i m (get_or out s []) (begun_at out s h.begun h.waiting.0.0) h.waiting.0.1 next (λ member. earlier a m s out h.shares h.waiting.0.0 member after) in
       ap (successor classes levels) last ∙ next
 
   -- any other run begins a sequence
@@ -204,9 +238,12 @@ module _ (classes : List BidiClass) (levels : List ℕ) where
 
   pub is_first-none_open : (a m : ℕ) (out : List (List ℕ)) (waits : List (Option ℕ)) → IsPass a m out [] waits → BeginsRun classes levels m → is_first classes levels m ≡ true
   unfolding matching_pdi
-  is_first-none_open a m out waits h begins = is_first-run classes levels m begins (λ i opens matches ends. IsReadStack-no_match (is_initiator_at classes) (is_pdi_at classes) (initiators_apart classes) (length classes) m i h.isolates opens matches)
+  is_first-none_open a m out waits h begins =
+      is_first-run classes levels m begins
+      (λ i opens matches ends. IsReadStack-no_match (is_initiator_at classes) (is_pdi_at classes) (initiators_apart classes) (length classes) m i h.isolates opens matches)
 
-  pub is_first-not_waiting : (a m i : ℕ) (out : List (List ℕ)) (stack : List ℕ) (waits : List (Option ℕ)) → IsPass a m out (i ∷ stack) (None ∷ waits) → m < length classes → is_pdi_at classes m ≡ true → BeginsRun classes levels m → is_first classes levels m ≡ true
+  pub is_first-not_waiting : (a m i : ℕ) (out : List (List ℕ)) (stack : List ℕ) (waits : List (Option ℕ)) → IsPass a m out (i ∷ stack) (None ∷ waits)
+      → m < length classes → is_pdi_at classes m ≡ true → BeginsRun classes levels m → is_first classes levels m ≡ true
   unfolding matching_pdi
   is_first-not_waiting a m i out stack waits h fits here begins = is_first-run classes levels m begins none
     where

@@ -8,7 +8,6 @@ use Rattle.bidi_base.specs.declared.char_data.BidiClass.TheVariants.{L}
 use Rattle.bidi_base.specs.Direction.{is_pure_ltr}
 use Rattle.bidi_base.specs.Display.{Run, line_text, visual_runs, AreVisualRuns}
 use Rattle.bidi_base.specs.Isolates.{paragraph_level, stored_classes}
-use Rattle.bidi_base.specs.Laws.{AreLevelsFrom}
 use Rattle.bidi_base.specs.Levels.{has_rtl}
 use Rattle.bidi_base.specs.Line.{levels_of_line, levels_with_line, char_levels_of_line, char_levels_with_line}
 use Rattle.bidi_base.specs.Paragraphs.{pieces_of, ranges_from}
@@ -51,7 +50,7 @@ pub record HasCharValues (a : AnalysedText) (char_classes : List BidiClass) (cha
   pub classes : per_char L a.len_of a.chars a.classes ≡ char_classes
   pub levels : per_char 0 a.len_of a.chars a.levels ≡ char_levels
 
--- the same of a text that is one paragraph, with its level, and whether nothing in it can turn the direction
+-- a text that is one paragraph has its stored classes and levels, this level, and nothing in it can turn the direction exactly if `pure` says so
 pub record IsParagraphAnalysis (source : Source) (base : Option ℕ) (a : AnalysedText) (level : ℕ) (pure : Bool) : Type 0 where
   pub classes : a.classes ≡ per_unit a.len_of a.chars (stored_classes (map source.class_of a.chars))
   pub levels : a.levels ≡ per_unit a.len_of a.chars (stored_levels source base a.chars)

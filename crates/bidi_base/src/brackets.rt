@@ -1,7 +1,8 @@
 //! The bracket pairs of an isolating run sequence (BD14 to BD16), over its kept characters alone: an
 //! index counts the characters that X9 leaves.
 
-ghost use Rattle.std.specs.Prelude.{◌≡◌, ◌==◌, ◌<◌, nat_lt, [], length, filter, slice_get, OnOk, IfSome, IfNone};
+ghost use Rattle.std.specs.Prelude.{◌≡◌, ◌==◌, ◌<◌, nat_lt, false, [], ◌∷◌, ◌++◌, length, filter, slice_get, IsTrue, OnOk, IfOk, IfSome, IfNone};
+ghost use Rattle.bidi_base.specs.Brackets.{max_open_brackets};
 ghost use Rattle.bidi_base.specs.Places.{find_last};
 ghost use Rattle.bidi_base.specs.FoundBrackets.{ArePairsOf};
 
@@ -65,14 +66,10 @@ fn search(brackets: &[Bracket], pairs: &mut Vec<(usize, usize)>) -> Result<(), A
     let mut waiting: ArrayVec<Waiting, MAX_OPEN_BRACKETS> = ArrayVec::new();
     for bracket in brackets {
         if bracket.is_open {
-            if waiting.is_full() {
+            let had_room = open(bracket, &mut waiting, pairs)?;
+            if !had_room {
                 break;
             }
-            waiting.push(Waiting {
-                opening: bracket.opening,
-                pair: pairs.len(),
-            });
-            pairs.push((bracket.index, bracket.index))?;
         } else if let Some(entry) = topmost(waiting.as_slice(), bracket.opening) {
             pairs[waiting.as_slice()[entry].pair].1 = bracket.index;
             waiting.truncate(entry);
@@ -80,6 +77,30 @@ fn search(brackets: &[Bracket], pairs: &mut Vec<(usize, usize)>) -> Result<(), A
     }
     drop_unclosed(pairs);
     Ok(())
+}
+
+/// An opening comes, if there is room for it on the stack. Answers whether there is: the search ends
+/// at the first opening for which there is none (BD16).
+fn open(
+    bracket: &Bracket,
+    waiting: &mut ArrayVec<Waiting, MAX_OPEN_BRACKETS>,
+    pairs: &mut Vec<(usize, usize)>,
+) -> Result<bool, AllocError>
+    ensures room { IfOk result (λ room. room ≡ nat_lt (length waiting.old.items) max_open_brackets) }
+    ensures waiting { IfOk result (λ room. IsTrue room → waiting.new.items ≡ waiting.old.items
+        ++ record { opening = bracket.now.opening; pair = length pairs.old.items } ∷ []) }
+    ensures pairs { IfOk result (λ room. IsTrue room → pairs.new.items ≡ pairs.old.items ++ (bracket.now.index, bracket.now.index) ∷ []) }
+    ensures full { IfOk result (λ room. room ≡ false → (waiting.new.items ≡ waiting.old.items) × (pairs.new.items ≡ pairs.old.items)) }
+{
+    if waiting.is_full() {
+        return Ok(false);
+    }
+    waiting.push(Waiting {
+        opening: bracket.opening,
+        pair: pairs.len(),
+    });
+    pairs.push((bracket.index, bracket.index))?;
+    Ok(true)
 }
 
 /// The topmost entry of the stack with this opening character.

@@ -37,36 +37,44 @@ pub fn nearest_direction(before: BidiClass, classes: &[BidiClass]) -> BidiClass
 }
 
 /// Gives a bracket a direction, and the characters directly after it that are nonspacing marks by
-/// their source classes (N0).
+/// their original classes (N0).
 pub fn set_direction(
-    source: &[BidiClass],
+    original_classes: &[BidiClass],
     classes: &mut [BidiClass],
     bracket: usize,
     direction: BidiClass,
 )
-    requires lengths { length source.now ≡ length classes.old }
+    requires lengths { length original_classes.now ≡ length classes.old }
     requires bracket { bracket < length classes.old }
-    ensures { classes.new ≡ map (λ k. if k == bracket || is_mark_after source.now bracket k
+    ensures { classes.new ≡ map (λ k. if k == bracket || is_mark_after original_classes.now bracket k
         then direction else class_at classes.old k) (indexes classes.old) }
 {
-    let end = bracket + 1 + marks(&source[bracket + 1..]);
+    let end = bracket + 1 + marks(&original_classes[bracket + 1..]);
     classes[bracket..end].fill(direction);
 }
 
 /// How many nonspacing marks the list begins with.
-fn marks(source: &[BidiClass]) -> usize
-    ensures count { result ≡ prefix_len is_nsm source.now }
-    ensures within { result ≤ length source.now }
+fn marks(original_classes: &[BidiClass]) -> usize
+    ensures count { result ≡ prefix_len is_nsm original_classes.now }
+    ensures within { result ≤ length original_classes.now }
 {
-    source
+    original_classes
         .iter()
         .take_while(|class| **class == BidiClass::NSM)
         .count()
 }
 
 /// What neutrals between two directions take (N1, N2).
-pub fn common_direction(embedding: BidiClass, left: BidiClass, right: BidiClass) -> BidiClass
-    ensures { result ≡ (if same_class left right then left else embedding) }
+pub fn common_direction(
+    embedding_direction: BidiClass,
+    left: BidiClass,
+    right: BidiClass,
+) -> BidiClass
+    ensures { result ≡ (if same_class left right then left else embedding_direction) }
 {
-    if left == right { left } else { embedding }
+    if left == right {
+        left
+    } else {
+        embedding_direction
+    }
 }

@@ -27,13 +27,6 @@ runs_within start levels ranges e k d fits =
     (there.starts_within, omega (arith, there.not_empty, there.ends_within))
 
 -- one more place
-pub at_places-more : (ranges : List (Range ℕ)) (order : List ℕ) (i : ℕ) (d : Range ℕ) → i < length order → get_or order i 0 < length ranges
-    → at_places (0, 0) (map run_of ranges) (take (i + 1) order) ≡ at_places (0, 0) (map run_of ranges) (take i order) ++ run_of (get_or ranges (get_or order i 0) d) ∷ []
-at_places-more ranges order i d fits inside =
-    ap (at_places (0, 0) (map run_of ranges)) (take_more order i 0 fits)
-    ∙ at_places-append (0, 0) (map run_of ranges) (take i order) (get_or order i 0 ∷ [])
-    ∙ ap (λ (r : Run). at_places (0, 0) (map run_of ranges) (take i order) ++ r ∷ []) (get_or-map run_of ranges (get_or order i 0) d (0, 0) inside)
-
 pub pushed-more : (ranges old new : List (Range ℕ)) (order : List ℕ) (i : ℕ) (d x : Range ℕ) → i < length order → get_or order i 0 < length ranges
     → map run_of old ≡ at_places (0, 0) (map run_of ranges) (take i order) → new ≡ old ++ x ∷ [] → run_of x ≡ run_of (get_or ranges (get_or order i 0) d)
     → map run_of new ≡ at_places (0, 0) (map run_of ranges) (take (i + 1) order)
@@ -42,7 +35,9 @@ pushed-more ranges old new order i d x fits inside h e same =
     ∙ map-append run_of old (x ∷ [])
     ∙ ap (λ (l : List Run). l ++ run_of x ∷ []) h
     ∙ ap (λ (r : Run). at_places (0, 0) (map run_of ranges) (take i order) ++ r ∷ []) same
-    ∙ sym (at_places-more ranges order i d fits inside)
+    ∙ sym (ap (at_places (0, 0) (map run_of ranges)) (take_more order i 0 fits)
+    ∙ at_places-append (0, 0) (map run_of ranges) (take i order) (get_or order i 0 ∷ [])
+    ∙ ap (λ (r : Run). at_places (0, 0) (map run_of ranges) (take i order) ++ r ∷ []) (get_or-map run_of ranges (get_or order i 0) d (0, 0) inside))
 
 -- where no run has an odd level, the runs stand as they are
 pub visual_runs-still : (start : ℕ) (levels : List ℕ) → has_rtl (map (run_level start levels) (level_runs start levels)) ≡ false → level_runs start levels ≡ visual_runs start levels
@@ -78,9 +73,6 @@ pub visual_runs-found : (start : ℕ) (levels of_runs order : List ℕ) (runs : 
 unfolding visual_runs
 visual_runs-found start levels of_runs order runs e f g =
     ap (at_places (0, 0) runs) (g ∙ ap visual_order f) ∙ ap (λ rs. at_places (0, 0) rs (visual_order (map (run_level start levels) rs))) e
-
-pub order_below : (of_runs order : List ℕ) (n : ℕ) → length of_runs ≡ n → IsVisualOrder of_runs order → All (λ k. k < n) order
-order_below of_runs order n e h k d fits = let r : get_or order k d < length of_runs = All-permutation (λ i. i < length of_runs) (indexes of_runs) order h.all_indexes (all_below of_runs) k d fits in omega arith
 
 pub AreVisualRuns-from_same : (start : ℕ) (levels : List ℕ) (runs : List Run) → runs ≡ visual_runs start levels → AreVisualRuns start levels runs
 AreVisualRuns-from_same start levels runs e = subst (AreVisualRuns start levels) (sym e) (visual_runs-are start levels)

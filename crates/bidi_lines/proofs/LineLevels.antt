@@ -1,6 +1,6 @@
 -- L1 along a line: the level that each place takes, and what a pass over the line keeps true.
-use Rattle.std.proofs.Common.{◌≡◌, ℕ, zero, suc, ◌+◌, ◌-◌, ◌<◌, ◌≤◌, if◌then◌else◌, ◌&&◌, ◌||◌, Bool, true, false, not, nat_lt, List, [], ◌∷◌, length, get_or, drop, set, All, refl, sym, ap, ap₂, subst, ◌∙◌, arith, inl, inr, drop-cons, get_or-set_other, get_or-set_same, length-set, ◌≢◌}
-use Rattle.std.proofs.lemmas.Bool.{cases_lt, cond-true, cond-false, both_ways, ltb-true, ltb-false}
+use Rattle.std.proofs.Common.{◌≡◌, ℕ, zero, suc, ◌+◌, ◌-◌, ◌<◌, ◌≤◌, if◌then◌else◌, ◌&&◌, ◌||◌, Bool, true, false, not, nat_lt, List, [], ◌∷◌, length, get_or, drop, set, All, refl, sym, ap, ap₂, subst, ◌∙◌, arith, inl, inr, drop-cons, get_or-set_other, get_or-set_same, length-set, ◌≢◌, lt-ltb}
+use Rattle.std.proofs.lemmas.Bool.{cases_lt, cond-true, cond-false, both_ways, ltb-true}
 use Rattle.std.proofs.lemmas.List.{get_or_default}
 use Rattle.std.proofs.lemmas.List.Folds.{list_any_at, list_any_none}
 use Rattle.bidi_base.specs.declared.char_data.BidiClass.{BidiClass}
@@ -38,10 +38,6 @@ is_removed-not_blank c e = not_removed (is_removed c) refl
 step : (s b r : Bool) → s ≡ false → b ≡ true → (s || (b && r)) ≡ r
 step s b r p q = grind arith
 
--- a blank is reset if what follows is
-pub is_reset-blank : (c : BidiClass) (after : List BidiClass) → is_blank c ≡ true → is_reset (c ∷ after) ≡ is_reset after
-is_reset-blank c after e = step (is_separator c) (is_blank c) (is_reset after) (is_separator-blank c e) e
-
 stop : (s b r : Bool) → s ≡ false → b ≡ false → (s || (b && r)) ≡ false
 stop s b r p q = grind arith
 
@@ -53,7 +49,7 @@ module _ (classes : List BidiClass) where
   first i fits = ap is_reset (drop-cons classes i L fits)
 
   pub is_reset-at_blank : (i : ℕ) → i < length classes → is_blank (class_at classes i) ≡ true → is_reset (drop i classes) ≡ is_reset (drop (suc i) classes)
-  is_reset-at_blank i fits e = first i fits ∙ is_reset-blank (class_at classes i) (drop (suc i) classes) e
+  is_reset-at_blank i fits e = first i fits ∙ step (is_separator (class_at classes i)) (is_blank (class_at classes i)) (is_reset (drop (suc i) classes)) (is_separator-blank (class_at classes i) e) e
 
   pub is_reset-at_separator : (i : ℕ) → i < length classes → is_separator (class_at classes i) ≡ true → is_reset (drop i classes) ≡ true
   is_reset-at_separator i fits e = first i fits ∙ at_once (is_separator (class_at classes i)) (is_blank (class_at classes i)) (is_reset (drop (suc i) classes)) e
@@ -68,6 +64,16 @@ module _ (classes : List BidiClass) where
       is_reset-at_blank k (omega arith) (blank k (omega arith) (omega arith))
       ∙ is_reset-blanks n (suc k) (omega arith) (λ j from below. blank j (omega arith) (omega arith))
       ∙ ap (λ j. is_reset (drop j classes)) (let e : suc k + n ≡ k + suc n = omega arith in e)
+
+  pub is_reset-to : (k i : ℕ) → (k ≤ i) × (i ≤ length classes) → ((j : ℕ) → k ≤ j → j < i → is_blank (class_at classes j) ≡ true) → is_reset (drop k classes) ≡ is_reset (drop i classes)
+  is_reset-to k i within blank =
+      let n : k + (i - k) ≡ i = omega arith in
+      is_reset-blanks (i - k) k (omega arith) (λ j low high. blank j low (omega arith)) ∙ ap (λ j. is_reset (drop j classes)) n
+
+-- the line's end counts as reset
+is_reset-end : (xs : List BidiClass) → is_reset (drop (length xs) xs) ≡ true
+is_reset-end [] = refl
+is_reset-end (x ∷ xs) = is_reset-end xs
 
 -- ---- the level at a place
 
@@ -165,6 +171,10 @@ IsResetTo-start level classes levels = record {
   last = refl;
 }
 
+-- one more place
+up_to : (P : ℕ → Type 0) (from i : ℕ) → ((k : ℕ) → from ≤ k → k < i → P k) → P i → (k : ℕ) → from ≤ k → k < i + 1 → P k
+up_to P from i h here k a b = elim (cases_lt k i) [ inl earlier ↦ h k a earlier | inr now ↦ let e : i ≡ k = omega arith in subst P e here ]
+
 -- what stays where the entries below k stay
 stays : (level : ℕ) (classes : List BidiClass) (old xs ys : List ℕ) (k : ℕ) → ((j : ℕ) → j < k → get_or xs j 0 ≡ get_or ys j 0) → kept_level level classes old xs k ≡ kept_level level classes old ys k
 stays level classes old xs ys k h = ap (λ x. if is_removed (class_at classes k) then x else get_or old k 0) (level_before-same level xs ys k h)
@@ -180,14 +190,9 @@ module _ (level : ℕ) (classes : List BidiClass) (old new : List ℕ) (blank_st
     ordered = omega (arith, h.ordered);
     long = length-set new i before ∙ h.long;
     done = λ k below. done_stays level classes old new (set new i before) k (λ j under. sym (other j (omega (arith, h.ordered)))) (h.done k below);
-    blank = λ k from below. elim (cases_lt k i) [
-      | inl earlier ↦ h.blank k from earlier
-      | inr here ↦ subst (λ (n : ℕ). is_blank (class_at classes n) ≡ true) (let e : i ≡ k = omega arith in e) (is_blank-removed (class_at classes i) removed)
-    ];
-    pending = λ k from below. elim (cases_lt k i) [
-      | inl earlier ↦ other k earlier ∙ h.pending k from earlier ∙ stays level classes old new (set new i before) k (λ j under. sym (other j (omega arith)))
-      | inr here ↦ subst (λ (n : ℕ). get_or (set new i before) n 0 ≡ kept_level level classes old (set new i before) n) (let e : i ≡ k = omega arith in e) at_i
-    ];
+    blank = up_to (λ n. is_blank (class_at classes n) ≡ true) blank_start i h.blank (is_blank-removed (class_at classes i) removed);
+    pending = up_to (λ n. get_or (set new i before) n 0 ≡ kept_level level classes old (set new i before) n) blank_start i
+        (λ k from below. other k below ∙ h.pending k from below ∙ stays level classes old new (set new i before) k (λ j under. sym (other j (omega arith)))) at_i;
     rest = λ k from. later k from ∙ h.rest k (omega arith);
     last = sym (level_before-more level (set new i before) i ∙ written);
   }
@@ -215,15 +220,9 @@ module _ (level : ℕ) (classes : List BidiClass) (old new : List ℕ) (blank_st
     ordered = omega (arith, h.ordered);
     long = h.long;
     done = h.done;
-    blank = λ k from below. elim (cases_lt k i) [
-      | inl earlier ↦ h.blank k from earlier
-      | inr same ↦ subst (λ (n : ℕ). is_blank (class_at classes n) ≡ true) (let e : i ≡ k = omega arith in e) here
-    ];
-    pending = λ k from below. elim (cases_lt k i) [
-      | inl earlier ↦ h.pending k from earlier
-      | inr same ↦ subst (λ (n : ℕ). get_or new n 0 ≡ kept_level level classes old new n) (let e : i ≡ k = omega arith in e)
-          (h.rest i (omega arith) ∙ sym (cond-false (is_removed (class_at classes i)) (level_before level new i) (get_or old i 0) kept))
-    ];
+    blank = up_to (λ n. is_blank (class_at classes n) ≡ true) blank_start i h.blank here;
+    pending = up_to (λ n. get_or new n 0 ≡ kept_level level classes old new n) blank_start i h.pending
+        (h.rest i (omega arith) ∙ sym (cond-false (is_removed (class_at classes i)) (level_before level new i) (get_or old i 0) kept));
     rest = λ k from. h.rest k (omega arith);
     last = read ∙ sym (level_before-more level new i);
   }
@@ -235,17 +234,14 @@ module _ (level : ℕ) (classes : List BidiClass) (old new : List ℕ) (blank_st
     long = h.long;
     done = λ k below. elim (cases_lt k blank_start) [
       | inl earlier ↦ h.done k earlier
-      | inr from ↦ elim (cases_lt k i) [
-        | inl pending ↦
-            let n : k + (i - k) ≡ i = omega arith in
-            let stays : is_reset (drop k classes) ≡ false =
-            is_reset-blanks classes (i - k) k (omega arith) (λ j low high. h.blank j (omega arith) (omega arith)) ∙ ap (λ j. is_reset (drop j classes)) n ∙ is_reset-at_other classes i fits apart other in
-            h.pending k from pending ∙ sym (cond-false (is_reset (drop k classes)) level (kept_level level classes old new k) stays)
-        | inr same ↦ subst (λ (n : ℕ). HasLineLevel level level classes old new n) (let e : i ≡ k = omega arith in e)
-            (h.rest i (omega arith)
-            ∙ sym (cond-false (is_removed (class_at classes i)) (level_before level new i) (get_or old i 0) (is_removed-not_blank (class_at classes i) other))
-            ∙ sym (cond-false (is_reset (drop i classes)) level (kept_level level classes old new i) (is_reset-at_other classes i fits apart other)))
-      ]
+      | inr from ↦ up_to (HasLineLevel level level classes old new) blank_start i
+          (λ k from below.
+          let stays : is_reset (drop k classes) ≡ false = is_reset-to classes k i (omega arith, omega arith) (λ j low high. h.blank j (omega arith) high) ∙ is_reset-at_other classes i fits apart other in
+          h.pending k from below ∙ sym (cond-false (is_reset (drop k classes)) level (kept_level level classes old new k) stays))
+          (h.rest i (omega arith)
+          ∙ sym (cond-false (is_removed (class_at classes i)) (level_before level new i) (get_or old i 0) (is_removed-not_blank (class_at classes i) other))
+          ∙ sym (cond-false (is_reset (drop i classes)) level (kept_level level classes old new i) (is_reset-at_other classes i fits apart other)))
+          k from below
     ];
     blank = λ k from below. absurd (omega arith);
     pending = λ k from below. absurd (omega arith);
@@ -282,22 +278,14 @@ module _ (level : ℕ) (classes : List BidiClass) (old new next : List ℕ) (bla
   }
     where
       reset : (k : ℕ) → blank_start ≤ k → k < i + 1 → is_reset (drop k classes) ≡ true
-      reset k from below =
-          let n : k + (i - k) ≡ i = omega arith in
-          is_reset-blanks classes (i - k) k (omega arith) (λ j low high. h.blank j (omega arith) (omega arith)) ∙ ap (λ j. is_reset (drop j classes)) n ∙ is_reset-at_separator classes i fits apart
+      reset k from below = is_reset-to classes k i (omega arith, omega arith) (λ j low high. h.blank j (omega arith) high) ∙ is_reset-at_separator classes i fits apart
 
   -- at the line's end the blanks are reset
   pub IsResetTo-end : i ≡ length classes → length old ≡ length classes → IsFilled new next blank_start (length classes) level → IsResetTo level classes old new blank_start before i → next ≡ line_levels level classes old
   IsResetTo-end e same f h = line_levels-is level classes old next same (f.long ∙ h.long ∙ same) (all_done (length classes) (omega arith) reset f h)
     where
-      none : (xs : List BidiClass) → is_reset (drop (length xs) xs) ≡ true
-      none [] = refl
-      none (x ∷ xs) = none xs
-
       reset : (k : ℕ) → blank_start ≤ k → k < length classes → is_reset (drop k classes) ≡ true
-      reset k from below =
-          let n : k + (length classes - k) ≡ length classes = omega arith in
-          is_reset-blanks classes (length classes - k) k (omega arith) (λ j low high. h.blank j (omega arith) (omega arith)) ∙ ap (λ j. is_reset (drop j classes)) n ∙ none classes
+      reset k from below = is_reset-to classes k (length classes) (omega arith, omega arith) (λ j low high. h.blank j (omega arith) (omega arith)) ∙ is_reset-end classes
 
 -- ---- whether some level is odd
 
@@ -370,25 +358,17 @@ module _ (level : ℕ) (classes : List BidiClass) (levels : List ℕ) (same : le
   -- what the last test says, once no character shows an odd level
   pub has_rtl-end : (first : Bool) → ((k : ℕ) → k < length classes → shows_rtl level classes levels k ≡ false)
       → first ≡ (is_odd level && (nat_lt 0 (length classes) && is_removed (class_at classes 0))) → first ≡ has_rtl (line_levels level classes levels)
-  has_rtl-end first none e = by (is_odd level) (nat_lt 0 (length classes)) (is_removed (class_at classes 0)) refl refl refl
+  has_rtl-end true none e = let p = parts (is_odd level) (nat_lt 0 (length classes)) (is_removed (class_at classes 0)) (sym e) in sym (has_rtl-first (ltb-true 0 (length classes) p.1) p.2 p.0)
     where
-      by : (a b c : Bool) → is_odd level ≡ a → nat_lt 0 (length classes) ≡ b → is_removed (class_at classes 0) ≡ c → first ≡ has_rtl (line_levels level classes levels)
-      by true true true p q r = e ∙ all_true (is_odd level) (nat_lt 0 (length classes)) (is_removed (class_at classes 0)) p q r ∙ sym (has_rtl-first (ltb-true 0 (length classes) q) r p)
-        where
-          all_true : (a b c : Bool) → a ≡ true → b ≡ true → c ≡ true → (a && (b && c)) ≡ true
-          all_true a b c p q r = grind arith
-      by false b c p q r = e ∙ left (is_odd level) (nat_lt 0 (length classes) && is_removed (class_at classes 0)) p ∙ sym (has_rtl-none none (λ some removed. p))
-        where
-          left : (a b : Bool) → a ≡ false → (a && b) ≡ false
-          left a b p = grind arith
-      by true false c p q r = e ∙ middle (is_odd level) (nat_lt 0 (length classes)) (is_removed (class_at classes 0)) q ∙ sym (has_rtl-none none (λ some removed. absurd (omega (arith, ltb-false 0 (length classes) q))))
-        where
-          middle : (a b c : Bool) → b ≡ false → (a && (b && c)) ≡ false
-          middle a b c p = grind arith
-      by true true false p q r = e ∙ right (is_odd level) (nat_lt 0 (length classes)) (is_removed (class_at classes 0)) r ∙ sym (has_rtl-none none (λ some removed. absurd (both_ways (is_removed (class_at classes 0)) r removed)))
-        where
-          right : (a b c : Bool) → c ≡ false → (a && (b && c)) ≡ false
-          right a b c p = grind arith
+      parts : (a b c : Bool) → (a && (b && c)) ≡ true → (a ≡ true) × (b ≡ true) × (c ≡ true)
+      parts true true true e = (refl, refl, refl)
+      parts true true false e = absurd (cc e)
+      parts true false c e = absurd (cc e)
+      parts false b c e = absurd (cc e)
+  has_rtl-end false none e = sym (has_rtl-none none (λ some removed. even (is_odd level) (nat_lt 0 (length classes)) (is_removed (class_at classes 0)) (sym e) (lt-ltb 0 (length classes) some) removed))
+    where
+      even : (a b c : Bool) → (a && (b && c)) ≡ false → b ≡ true → c ≡ true → a ≡ false
+      even a b c e f g = grind arith
 
 -- ---- a pass from the line's end
 
@@ -400,23 +380,18 @@ pub record IsQuietFrom (level : ℕ) (classes : List BidiClass) (levels : List �
 
 module _ (level : ℕ) (classes : List BidiClass) (levels : List ℕ) where
   pub IsQuietFrom-start : IsQuietFrom level classes levels true (length classes)
-  IsQuietFrom-start = record { within = omega arith; reset_next = sym (at_end classes); none = λ k from below. absurd (omega arith) }
+  IsQuietFrom-start = record { within = omega arith; reset_next = sym (is_reset-end classes); none = λ k from below. absurd (omega arith) }
+
+  -- what is read at a unit: whether it is reset, and whether it shows an odd level
+  pub read-at : (at : ℕ) (next reset shows : Bool) (own : ℕ) → at < length classes → next ≡ is_reset (drop (at + 1) classes)
+      → reset ≡ (is_separator (class_at classes at) || (is_blank (class_at classes at) && next)) → own ≡ get_or levels at 0
+      → shows ≡ (if reset then is_odd level else (not (is_removed (class_at classes at)) && is_odd own)) → (reset ≡ is_reset (drop at classes)) × (shows ≡ shows_rtl level classes levels at)
+  read-at at next reset shows own fits e f g h = (here, h ∙ ap₂ (λ r x. if r then is_odd level else (not (is_removed (class_at classes at)) && is_odd x)) here g)
     where
-      at_end : (xs : List BidiClass) → is_reset (drop (length xs) xs) ≡ true
-      at_end [] = refl
-      at_end (x ∷ xs) = at_end xs
-
-  -- the unit before it
-  pub reset-before : (at : ℕ) (next reset : Bool) → at < length classes → next ≡ is_reset (drop (at + 1) classes) → reset ≡ (is_separator (class_at classes at) || (is_blank (class_at classes at) && next)) → reset ≡ is_reset (drop at classes)
-  reset-before at next reset fits e f =
-      f ∙ ap (λ r. is_separator (class_at classes at) || (is_blank (class_at classes at) && r)) (e ∙ ap (λ n. is_reset (drop n classes)) (let n : at + 1 ≡ suc at = omega arith in n))
-      ∙ sym (ap is_reset (drop-cons classes at L fits))
-
-  -- what is read at a unit
-  pub shows_rtl-at : (at : ℕ) (reset shows : Bool) (own : ℕ) → reset ≡ is_reset (drop at classes) → own ≡ get_or levels at 0
-      → shows ≡ (if reset then is_odd level else (not (is_removed (class_at classes at)) && is_odd own)) → shows ≡ shows_rtl level classes levels at
-  shows_rtl-at at reset shows own e f g =
-      g ∙ ap₂ (λ r x. if r then is_odd level else (not (is_removed (class_at classes at)) && is_odd x)) e f
+      here : reset ≡ is_reset (drop at classes)
+      here =
+          f ∙ ap (λ r. is_separator (class_at classes at) || (is_blank (class_at classes at) && r)) (e ∙ ap (λ n. is_reset (drop n classes)) (let n : at + 1 ≡ suc at = omega arith in n))
+          ∙ sym (ap is_reset (drop-cons classes at L fits))
 
   pub IsQuietFrom-more : (at : ℕ) (next reset : Bool) → at < length classes → reset ≡ is_reset (drop at classes) → shows_rtl level classes levels at ≡ false → IsQuietFrom level classes levels next (at + 1) → IsQuietFrom level classes levels reset at
   IsQuietFrom-more at next reset fits e here h = record { within = omega arith; reset_next = e; none = each }

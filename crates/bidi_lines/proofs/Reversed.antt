@@ -75,7 +75,8 @@ module _ (levels : List ℕ) (t : ℕ) where
     low : (z : ℕ) → z < length levels → get_or levels z 0 ≤ t → (All (λ x. z ≤ x) held × All (λ x. z ≤ x) line) ⊎ Contains line z
 
   -- what is between two items of the stretch, and before both or after both, is one of them
-  none_between : (z i k : ℕ) → t < get_or levels i 0 → t < get_or levels k 0 → get_or levels z 0 ≤ t → (i ≤ z × z ≤ k) ⊎ (k ≤ z × z ≤ i) → (z ≤ k × z ≤ i) ⊎ (k ≤ z × i ≤ z) → ⊥
+  none_between : (z i k : ℕ) → t < get_or levels i 0 → t < get_or levels k 0 → get_or levels z 0 ≤ t
+      → (i ≤ z × z ≤ k) ⊎ (k ≤ z × z ≤ i) → (z ≤ k × z ≤ i) ⊎ (k ≤ z × i ≤ z) → ⊥
   none_between z i k a b low between side = elim (cases_eq z i) [
     | inl e ↦ omega (arith, ap (λ n. get_or levels n 0) e)
     | inr n ↦ elim (cases_eq z k) [
@@ -183,7 +184,8 @@ module _ (levels : List ℕ) (t : ℕ) where
 
 -- ---- all passes
 
-passes : (levels : List ℕ) (l count k : ℕ) (line : List ℕ) → k ≡ l + count → IsPermutation (indexes levels) line → AllPairs (StandsLeft levels k) line → AllPairs (StandsLeft levels l) (reversals levels (suc l) count line)
+passes : (levels : List ℕ) (l count k : ℕ) (line : List ℕ) → k ≡ l + count → IsPermutation (indexes levels) line → AllPairs (StandsLeft levels k) line
+    → AllPairs (StandsLeft levels l) (reversals levels (suc l) count line)
 passes levels l zero k line e perm pairs = let f : k ≡ l = omega arith in rw f at pairs
 passes levels l (suc count) k line e perm pairs =
     let f : k ≡ suc (l + count) = omega arith in
@@ -230,12 +232,14 @@ lowest_is top xs = record {
     ]
 
 -- after the pass of the lowest odd number l + 1, or before the first pass where none is odd
-ends : (levels : List ℕ) (l : ℕ) (line : List ℕ) → (l < highest levels → IsEven l) → ((p : ℕ) → p < length levels → IsOdd (get_or levels p 0) → l < get_or levels p 0) → All (λ x. x < length levels) line
+ends : (levels : List ℕ) (l : ℕ) (line : List ℕ) → (l < highest levels → IsEven l)
+    → ((p : ℕ) → p < length levels → IsOdd (get_or levels p 0) → l < get_or levels p 0) → All (λ x. x < length levels) line
     → AllPairs (StandsLeft levels l) line → AllPairs (StandsLeft levels 0) line
 ends levels l line even lowest within pairs p q d before fits =
     let s = pairs p q d before fits in
     record {
-      up = λ a. up _ (top _ _ a (within q d fits)) (s.up a) (least_between-has (λ n. n ≤ l → IsEven n) levels (get_or line p d) (get_or line q d) (omega arith) (within q d fits) (λ k b c. low_even k (omega (arith, within q d fits))));
+      up = λ a. up _ (top _ _ a (within q d fits)) (s.up a)
+          (least_between-has (λ n. n ≤ l → IsEven n) levels (get_or line p d) (get_or line q d) (omega arith) (within q d fits) (λ k b c. low_even k (omega (arith, within q d fits))));
       down = λ a. down _ (top _ _ a (within p d (omega arith))) (s.down a);
     }
   where

@@ -1,5 +1,5 @@
 -- The level runs in the visual order of their levels, written out, are the visual order of the units.
-use Rattle.std.proofs.Common.{◌≡◌, ◌≢◌, ℕ, zero, suc, ◌+◌, ◌-◌, ◌%◌, ◌<◌, ◌≤◌, max, true, false, List, [], ◌∷◌, ◌++◌, map, flat_map, reverse, length, get_or, AllPairs, All, refl, sym, ap, subst, ◌∙◌, arith, inl, inr, eq-eqb, le_refl, length-append}
+use Rattle.std.proofs.Common.{cond, Bool, ◌≡◌, ◌≢◌, ℕ, zero, suc, ◌+◌, ◌-◌, ◌%◌, ◌<◌, ◌≤◌, max, true, false, List, [], ◌∷◌, ◌++◌, map, flat_map, reverse, length, get_or, AllPairs, All, refl, sym, ap, subst, ◌∙◌, arith, inl, inr, eq-eqb, le_refl, length-append}
 use Rattle.std.specs.List.{range_with_len}
 use Rattle.std.specs.List.Sorted.{IsPermutation}
 use Rattle.std.proofs.lemmas.Bool.{cases_lt, cases_Bool, cases_order, cond-true, cond-false, both_ways, eqb-false}
@@ -14,6 +14,7 @@ use Rattle.bidi_base.specs.Order.{least_between, stands_left, visual_order, IsVi
 use Rattle.bidi_base.specs.Display.{Run, level_runs, run_level, visual_runs, written_run, written_runs, IsLevelRun, AreVisualRuns}
 use Rattle.bidi_base.proofs.OrderLemmas.{le-least_between, least_between-le, stands_left-before, stands_left-after}
 use Rattle.bidi_base.proofs.VisualOrderLemmas.{stands_left-same, visual_order-unique, all_below}
+use Rattle.bidi_lines.proofs.Least.{least_between-is}
 use Rattle.bidi_lines.proofs.Ordered.{visual_order-is}
 use Rattle.bidi_lines.proofs.Pieces.{AllPairs-map, AllPairs-reverse, AllPairs-between, All-between, AllPairs-flat_map, between-append, length-between, get_or-between, at_places-map, IsPermutation-flat_map, IsPermutation-flat_map_each}
 use Rattle.bidi_lines.proofs.RunsLemmas.{Follow, level_runs-follow, level_runs-each}
@@ -46,6 +47,14 @@ follow-apart a b [] h j k before fits = absurd (omega arith)
 follow-apart a b (run ∷ runs) h j zero before fits = absurd (omega arith)
 follow-apart a b (run ∷ runs) h zero (suc k) before fits = follow-low run.1 b runs h.2 k (omega arith)
 follow-apart a b (run ∷ runs) h (suc j) (suc k) before fits = follow-apart run.1 b runs h.2 j k (omega arith) (omega arith)
+
+-- and so neither its begin nor its end is after the other's
+follow-ordered : (a b : ℕ) (runs : List Run) → Follow a b runs → (j k : ℕ) → j ≤ k → k < length runs → (run_at runs k).0 < (run_at runs k).1 → (run_at runs j).0 < (run_at runs j).1
+    → ((run_at runs j).0 ≤ (run_at runs k).0) × ((run_at runs j).1 ≤ (run_at runs k).1)
+follow-ordered a b runs h j k order fits some some' = elim (cases_lt j k) [
+  | inl before ↦ let g = follow-apart a b runs h j k before fits in (omega arith, omega arith)
+  | inr same ↦ let e : k ≡ j = omega arith in rw e (le_refl _, le_refl _)
+]
 
 -- a line cut into its level runs
 record Cut (from : ℕ) (levels : List ℕ) (runs : List Run) : Type 0 where
@@ -109,20 +118,10 @@ least-runs from levels runs cut k l u w order fits unit unit' up = omega (arith,
         let begins = first.starts_within in
         let ends = last.ends_within in
         let some = here.not_empty in
-        let unit_y : IsUnitOf (run_at runs j) (max u (run_at runs j).0) = elim (cases_order k j) [
-          | inl e ↦ let e' : run_at runs k ≡ run_at runs j = ap (run_at runs) e in let p : IsUnitOf (run_at runs j) u = subst (λ (r : Run). IsUnitOf r u) e' unit in (omega (arith, p.0), omega (arith, p.1, p.0))
-          | inr apart ↦ elim apart [
-            | inl c ↦ let g = follow-apart from (from + length levels) runs cut.follow k j c (omega arith) in (omega arith, omega (arith, g, unit.1, some))
-            | inr c ↦ absurd (omega arith)
-          ]
-        ] in
-        let within : max u (run_at runs j).0 ≤ w = elim (cases_order j l) [
-          | inl e ↦ let e' : run_at runs l ≡ run_at runs j = ap (run_at runs) (sym e) in let p : IsUnitOf (run_at runs j) w = subst (λ (r : Run). IsUnitOf r w) e' unit' in omega (arith, p.0)
-          | inr apart ↦ elim apart [
-            | inl c ↦ let g = follow-apart from (from + length levels) runs cut.follow j l c fits in omega (arith, g, unit'.0, some)
-            | inr c ↦ absurd (omega arith)
-          ]
-        ] in
+        let g = follow-ordered from (from + length levels) runs cut.follow k j a (omega arith) some first.not_empty in
+        let h = follow-ordered from (from + length levels) runs cut.follow j l b fits last.not_empty some in
+        let unit_y : IsUnitOf (run_at runs j) (max u (run_at runs j).0) = (omega arith, omega (arith, g.1, unit.1)) in
+        let within : max u (run_at runs j).0 ≤ w = omega (arith, h.0, unit'.0) in
         let same : get_or levels (max u (run_at runs j).0 - from) 0 ≡ get_or (run_levels from levels runs) j 0 = unit_level from levels runs cut j (max u (run_at runs j).0) (omega arith) unit_y in
         let le : least_between levels (u - from) (w - from) ≤ get_or levels (max u (run_at runs j).0 - from) 0 =
         le-least_between levels (u - from) (w - from) (least_between levels (u - from) (w - from)) (omega arith) (omega (arith, unit'.1, unit.0)) (le_refl _) (max u (run_at runs j).0 - from) (omega arith) (omega arith) in
@@ -133,13 +132,6 @@ least-runs from levels runs cut k l u w order fits unit unit' up = omega (arith,
 
     high : least_between levels (u - from) (w - from) ≤ least_between (run_levels from levels runs) k l
     high = least_between-le (run_levels from levels runs) k l (least_between levels (u - from) (w - from)) order (omega (arith, long)) at_run
-
--- the least level from a run to itself is its own
-least-one : (ks : List ℕ) (k : ℕ) → k < length ks → least_between ks k k ≡ get_or ks k 0
-least-one ks k fits =
-    let low : least_between ks k k ≤ get_or ks k 0 = le-least_between ks k k (least_between ks k k) (omega arith) fits (le_refl _) k (omega arith) (omega arith) in
-    let high : get_or ks k 0 ≤ least_between ks k k = least_between-le ks k k (get_or ks k 0) (omega arith) fits (λ j a b. let e : j ≡ k = omega arith in rw e (omega arith)) in
-    omega arith
 
 -- units of two runs stand as their runs do
 units-apart : (from : ℕ) (levels : List ℕ) (runs : List Run) → Cut from levels runs → (k l u w : ℕ) → k < length runs → l < length runs → IsUnitOf (run_at runs k) u → IsUnitOf (run_at runs l) w
@@ -167,53 +159,52 @@ least-inside : (from : ℕ) (levels : List ℕ) (runs : List Run) → Cut from l
     → least_between levels (u - from) (w - from) ≡ run_level from levels (run_at runs k)
 least-inside from levels runs cut k u w fits unit unit' up =
     least-runs from levels runs cut k k u w (omega arith) fits unit unit' up
-    ∙ least-one (run_levels from levels runs) k (omega (arith, length-run_levels from levels runs))
+    ∙ least_between-is (run_levels from levels runs) k k _ k (le_refl k) (le_refl k) (omega (arith, length-run_levels from levels runs)) refl
+    (λ j a b. let e : j ≡ k = omega arith in rw e (le_refl _))
     ∙ sym (unit_level from levels runs cut k u fits unit)
     ∙ (cut.each k (0, 0) fits).equal u unit.0 unit.1
 
--- what holds of each unit of a run holds of each one written
-pub All-written_run : (P : ℕ → Type 0) (from : ℕ) (levels : List ℕ) (run : Run) → ((u : ℕ) → run.0 ≤ u → u < run.1 → P u) → All P (written_run from levels run)
-All-written_run P from levels run h = elim (cases_Bool (is_odd (run_level from levels run))) [
-  | inl odd ↦
-      rw (cond-true (is_odd (run_level from levels run)) (reverse (between run.0 run.1)) (between run.0 run.1) odd)
-      (All-permutation P (between run.0 run.1) (reverse (between run.0 run.1)) (IsPermutation-reverse (between run.0 run.1)) (All-between P run.0 run.1 h))
-  | inr even ↦
-      rw (cond-false (is_odd (run_level from levels run)) (reverse (between run.0 run.1)) (between run.0 run.1) even)
-      (All-between P run.0 run.1 h)
-]
+-- a list, or the same the other way round
+turned-permutation : (odd : Bool) (xs : List ℕ) → IsPermutation (cond odd (reverse xs) xs) xs
+turned-permutation true xs = IsPermutation-sym _ _ (IsPermutation-reverse xs)
+turned-permutation false xs = IsPermutation-refl xs
+
+turned-pairs : (R : ℕ → ℕ → Type 0) (odd : Bool) (xs : List ℕ) → (odd ≡ true → AllPairs (λ a b. R b a) xs) → (odd ≡ false → AllPairs R xs) → AllPairs R (cond odd (reverse xs) xs)
+turned-pairs R true xs back on = AllPairs-reverse R xs (back refl)
+turned-pairs R false xs back on = on refl
 
 IsPermutation-written_run : (from : ℕ) (levels : List ℕ) (run : Run) → IsPermutation (written_run from levels run) (between run.0 run.1)
-IsPermutation-written_run from levels run = elim (cases_Bool (is_odd (run_level from levels run))) [
-  | inl odd ↦
-      rw (cond-true (is_odd (run_level from levels run)) (reverse (between run.0 run.1)) (between run.0 run.1) odd)
-      (IsPermutation-sym (between run.0 run.1) (reverse (between run.0 run.1)) (IsPermutation-reverse (between run.0 run.1)))
-  | inr even ↦
-      rw (cond-false (is_odd (run_level from levels run)) (reverse (between run.0 run.1)) (between run.0 run.1) even)
-      (IsPermutation-refl (between run.0 run.1))
-]
+IsPermutation-written_run from levels run = turned-permutation (is_odd (run_level from levels run)) (between run.0 run.1)
+
+-- what holds of each unit of a run holds of each one written
+All-written_run : (P : ℕ → Type 0) (from : ℕ) (levels : List ℕ) (run : Run) → ((u : ℕ) → run.0 ≤ u → u < run.1 → P u) → All P (written_run from levels run)
+All-written_run P from levels run h =
+    All-permutation P (between run.0 run.1) (written_run from levels run) (IsPermutation-sym _ _ (IsPermutation-written_run from levels run)) (All-between P run.0 run.1 h)
 
 -- u stands left of w
 abbrev Left : ℕ → List ℕ → ℕ → ℕ → Type 0
 Left from levels u w = stands_left levels (u - from) (w - from) ≡ true
 
 pairs-written_run : (from : ℕ) (levels : List ℕ) (runs : List Run) → Cut from levels runs → (k : ℕ) → k < length runs → AllPairs (Left from levels) (written_run from levels (run_at runs k))
-pairs-written_run from levels runs cut k fits = elim (cases_Bool (is_odd (run_level from levels (run_at runs k)))) [
-  | inl odd ↦
-      rw (cond-true (is_odd (run_level from levels (run_at runs k))) (reverse (between (run_at runs k).0 (run_at runs k).1)) (between (run_at runs k).0 (run_at runs k).1) odd)
-      (AllPairs-reverse (Left from levels) (between (run_at runs k).0 (run_at runs k).1)
-      (AllPairs-between (λ a b. Left from levels b a) (run_at runs k).0 (run_at runs k).1
-      (λ u w a b c. stands_left-after levels (w - from) (u - from) (omega (arith, begins)) ∙ ap is_odd (least-inside from levels runs cut k u w fits (a, omega arith) (omega arith, c) (omega arith)) ∙ odd)))
-  | inr even ↦
-      rw (cond-false (is_odd (run_level from levels (run_at runs k))) (reverse (between (run_at runs k).0 (run_at runs k).1)) (between (run_at runs k).0 (run_at runs k).1) even)
-      (AllPairs-between (Left from levels) (run_at runs k).0 (run_at runs k).1
-      (λ u w a b c. stands_left-before levels (u - from) (w - from) (omega (arith, begins)) ∙ ap is_even (least-inside from levels runs cut k u w fits (a, omega arith) (omega arith, c) (omega arith)) ∙ is_even-from_not_odd _ even))
-]
+pairs-written_run from levels runs cut k fits =
+    turned-pairs (Left from levels) (is_odd (run_level from levels (run_at runs k))) (between (run_at runs k).0 (run_at runs k).1)
+    (λ odd. AllPairs-between (λ a b. Left from levels b a) (run_at runs k).0 (run_at runs k).1 (λ u w a b c.
+    stands_left-after levels (w - from) (u - from) (omega (arith, begins)) ∙ ap is_odd (inside u w a b c) ∙ odd))
+    (λ even. AllPairs-between (Left from levels) (run_at runs k).0 (run_at runs k).1 (λ u w a b c.
+    stands_left-before levels (u - from) (w - from) (omega (arith, begins)) ∙ ap is_even (inside u w a b c) ∙ is_even-from_not_odd _ even))
   where
     begins : from ≤ (run_at runs k).0
     begins = (cut.each k (0, 0) fits).starts_within
 
+    inside : (u w : ℕ) → (run_at runs k).0 ≤ u → u < w → w < (run_at runs k).1 → least_between levels (u - from) (w - from) ≡ run_level from levels (run_at runs k)
+    inside u w a b c = least-inside from levels runs cut k u w fits (a, omega arith) (omega arith, c) (omega arith)
+
     is_even-from_not_odd : (n : ℕ) → is_odd n ≡ false → is_even n ≡ true
     is_even-from_not_odd n e = let odd : n % 2 ≢ 1 = eqb-false _ _ e in eq-eqb (n % 2) 0 (omega arith)
+
+-- a visual order has the indexes alone
+pub order_below : (of_runs order : List ℕ) (n : ℕ) → length of_runs ≡ n → IsVisualOrder of_runs order → All (λ k. k < n) order
+order_below of_runs order n e h k d fits = omega (arith, All-permutation (λ i. i < length of_runs) (indexes of_runs) order h.all_indexes (all_below of_runs) k d fits)
 
 -- the units in the order of their runs
 pairs-written_runs : (from : ℕ) (levels : List ℕ) (runs : List Run) (order : List ℕ) → Cut from levels runs → IsVisualOrder (run_levels from levels runs) order
@@ -227,9 +218,7 @@ pairs-written_runs from levels runs order cut h =
     units-apart from levels runs cut (get_or order i d) (get_or order j d) u w (within i d (omega arith)) (within j d fits) (a, b) (a', b') (h.in_order i j d before fits))))
   where
     within : (i d : ℕ) → i < length order → get_or order i d < length runs
-    within i d fits =
-        let r : get_or order i d < length (run_levels from levels runs) = All-permutation (λ k. k < length (run_levels from levels runs)) (indexes (run_levels from levels runs)) order h.all_indexes (all_below (run_levels from levels runs)) i d fits in
-        omega (arith, length-run_levels from levels runs)
+    within i d fits = order_below (run_levels from levels runs) order (length runs) (length-run_levels from levels runs) h i d fits
 
 follow-le : (a b : ℕ) (runs : List Run) → Follow a b runs → a ≤ b
 follow-le a b [] h = omega arith
@@ -315,6 +304,5 @@ visual_runs-are from levels = record {
 
     each : All (λ k. IsLevelRun from levels (run_at (level_runs from levels) k)) (runs_order from levels)
     each i d fits =
-        let r : get_or (runs_order from levels) i d < length (map (run_level from levels) (level_runs from levels)) =
-        All-permutation (λ k. k < length (map (run_level from levels) (level_runs from levels))) (indexes (map (run_level from levels) (level_runs from levels))) (runs_order from levels) visual.all_indexes (all_below (map (run_level from levels) (level_runs from levels))) i d fits in
-        level_runs-each from levels (get_or (runs_order from levels) i d) (0, 0) (omega (arith, length-map (level_runs from levels) (run_level from levels)))
+        level_runs-each from levels (get_or (runs_order from levels) i d) (0, 0)
+        (order_below (map (run_level from levels) (level_runs from levels)) (runs_order from levels) (length (level_runs from levels)) (length-map (level_runs from levels) (run_level from levels)) visual i d fits)

@@ -1,22 +1,21 @@
 -- The pass over a list of characters, one by one.
-use Rattle.std.proofs.Common.{◌≡◌, ℕ, zero, suc, ◌+◌, ◌-◌, ◌<◌, Bool, true, false, cond, eqb, List, [], ◌∷◌, ◌++◌, length, map, get_or, set, take, reverse, length-append, le_refl, Option, Some, None, refl, sym, ap, subst, ◌∙◌, arith, inl, inr, eqb-true, ne_eqb}
+use Rattle.std.proofs.Common.{◌≡◌, ℕ, zero, suc, ◌+◌, ◌-◌, ◌<◌, Bool, true, false, eqb, List, [], ◌∷◌, ◌++◌, length, map, get_or, set, reverse, length-append, le_refl, Option, Some, None, refl, sym, ap, subst, ◌∙◌, arith, inl, inr, eqb-true, ne_eqb}
 use Rattle.std.specs.Prelude.{filter, IfSome}
 use Rattle.std.specs.List.{range_with_len}
-use Rattle.std.proofs.lemmas.Bool.{cases_Bool, cases_eq, cond-true, cond-false, eqb-false}
-use Rattle.std.proofs.lemmas.List.{reverse-append, get_or-set_same, length-set, get_or_push}
+use Rattle.std.proofs.lemmas.Bool.{cases_eq, cond-true, cond-false, eqb-false}
+use Rattle.std.proofs.lemmas.List.{get_or_push, get_or-set_same, length-set}
 use Rattle.bidi_base.specs.declared.char_data.BidiClass.{BidiClass}
-use Rattle.bidi_base.specs.Classes.{is_initiator, is_pdi}
 use Rattle.bidi_base.specs.Places.{class_at, last_or}
-use Rattle.bidi_base.specs.Isolates.{is_initiator_at, is_pdi_at}
 use Rattle.bidi_base.specs.Sequences.{with_ends, is_kept_at, next_kept, level_at, have_one_level, successor, is_first, sequences}
 use Rattle.bidi_base.specs.SequencePass.{read_class, waiting_for, wait_of, choice, waits_before, choice_at, with_entry, index_of, ArePlaces}
 use Rattle.bidi_base.proofs.ReadStack.{Member}
 use Rattle.bidi_base.proofs.SuccessorLemmas.{successor-IsLaterKept, have_one_level-from, next_kept-is, kept_before-is, kept_before-is_None, successor-run_step}
+use Rattle.bidi_base.proofs.OpenPass.{IsAt, IsAt-read, goes_on}
 use Rattle.bidi_base.proofs.PassLemmas.{AreSuccessors, IsBegunList, AllBegun}
 use Rattle.bidi_base.proofs.RunsLemmas.{BeginsRun, EndsRun}
-use Rattle.bidi_base.proofs.WaitingLemmas.{Member-append_right, IsWaiting, IsPass, IsPass-start, IsPass-end, IsPass-begin, IsPass-join, IsPass-removed, IsPass-stay, IsPass-skip, IsPass-initiator, IsPass-pdi, successor-waiting, is_first-no_pdi, is_first-none_open, is_first-not_waiting}
-use Rattle.bidi_base.proofs.Lists.{reverse_front, last_or-append, last_or-reverse, reverse_none}
 use Rattle.bidi_base.proofs.ChainLemmas.{filter_range-none}
+use Rattle.bidi_base.proofs.Lists.{last_or-append}
+use Rattle.bidi_base.proofs.WaitingLemmas.{Member-append_right, IsWaiting, IsPass, IsPass-start, IsPass-end, IsPass-begin, IsPass-join, IsPass-removed, IsPass-skip, is_first-none_open}
 
 module _ (classes : List BidiClass) (levels : List ℕ) where
   -- all before p came, l was the last of them that X9 keeps, and came to the sequence at s; what is open was read up to l
@@ -56,39 +55,19 @@ module _ (classes : List BidiClass) (levels : List ℕ) where
       ]
 
   -- the last one is read
-  record IsRead (p : ℕ) (out : List (List ℕ)) (waits : List (Option ℕ)) : Type 0 where
-    stack : List ℕ
-    pass : IsPass classes levels p p out stack (reverse waits)
+  abbrev IsRead : ℕ → List (List ℕ) → List (Option ℕ) → Type 0
+  IsRead p out waits = IsAt classes levels p p out waits
 
   reading : (p l s : ℕ) (out : List (List ℕ)) (waits : List (Option ℕ)) (w : Option ℕ) → IsGoing p out waits l s → IsWaiting classes levels out l w → IsRead p out (read_class (class_at classes l) w waits)
-  reading p l s out waits w h wait = elim (cases_Bool (is_initiator_at classes l)) [
-    | inl opens ↦
-        rw (cond-true (is_initiator (class_at classes l)) (waits ++ w ∷ []) (cond (is_pdi (class_at classes l)) (take (length waits - 1) waits) waits) opens)
-        (finish (waits ++ w ∷ []) (l ∷ h.stack) (w ∷ reverse waits) (IsPass-initiator classes levels p l out h.stack (reverse waits) w h.pass opens wait) (sym (reverse-append waits (w ∷ []))))
-    | inr other ↦
-        rw (cond-false (is_initiator (class_at classes l)) (waits ++ w ∷ []) (cond (is_pdi (class_at classes l)) (take (length waits - 1) waits) waits) other)
-        (elim (cases_Bool (is_pdi_at classes l)) [
-          | inl closes ↦ rw (cond-true (is_pdi (class_at classes l)) (take (length waits - 1) waits) waits closes) (popped other closes h.stack (reverse waits) refl h.pass)
-          | inr quiet ↦
-              rw (cond-false (is_pdi (class_at classes l)) (take (length waits - 1) waits) waits quiet)
-              (finish waits h.stack (reverse waits) (IsPass-stay classes levels p l out h.stack (reverse waits) h.pass other (inl quiet)) refl)
-        ])
-  ]
-    where
-      finish : (now : List (Option ℕ)) (st : List ℕ) (r : List (Option ℕ)) → IsPass classes levels p (l + 1) out st r → r ≡ reverse now → IsRead p out now
-      finish now st r pass e =
-          let n = p - (l + 1) in
-          let place : l + 1 + n ≡ p = omega (arith, h.before) in
-          let skipped : IsPass classes levels p (l + 1 + n) out st r = IsPass-skip classes levels n p (l + 1) out st r pass (λ k from below. h.none k (omega arith) (omega arith)) in
-          record { stack = st; pass = subst (λ (x : List (Option ℕ)). IsPass classes levels p p out st x) e (subst (λ (x : ℕ). IsPass classes levels p x out st r) place skipped) }
-
-      popped : is_initiator_at classes l ≡ false → is_pdi_at classes l ≡ true → (st : List ℕ) (r : List (Option ℕ)) → reverse waits ≡ r → IsPass classes levels p l out st r → IsRead p out (take (length waits - 1) waits)
-      popped other closes [] [] e pass =
-          let none : waits ≡ [] = reverse_none waits e in
-          finish (take (length waits - 1) waits) [] [] (IsPass-stay classes levels p l out [] [] pass other (inr refl)) (sym (ap (λ (x : List (Option ℕ)). reverse (take (length x - 1) x)) none))
-      popped other closes [] (v ∷ vs) e pass = absurd pass.waiting
-      popped other closes (i ∷ st) [] e pass = absurd pass.waiting
-      popped other closes (i ∷ st) (v ∷ vs) e pass = finish (take (length waits - 1) waits) st vs (IsPass-pdi classes levels p l i out st v vs pass closes) (sym (reverse_front waits v vs e))
+  reading p l s out waits w h wait =
+      let read = IsAt-read classes levels p l out waits w (record { stack = h.stack; pass = h.pass }) (λ opens. wait) in
+      let now = reverse (read_class (class_at classes l) w waits) in
+      let place : l + 1 + (p - (l + 1)) ≡ p = omega (arith, h.before) in
+      record {
+        stack = read.stack;
+        pass = subst (λ (x : ℕ). IsPass classes levels p x out read.stack now) place
+            (IsPass-skip classes levels (p - (l + 1)) p (l + 1) out read.stack now read.pass (λ k from below. h.none k (omega arith) (omega arith)));
+      }
 
   -- a character that goes on with a sequence, or begins one
   came_join : (p s : ℕ) (out : List (List ℕ)) (waits : List (Option ℕ)) → is_kept_at classes p ≡ true → p < length classes → IsRead p out waits → s < length out → successor classes levels (last_or 0 (get_or out s [])) ≡ Some p → IsGoing (p + 1) (with_entry (Some s) p out) waits p s
@@ -148,7 +127,10 @@ module _ (classes : List BidiClass) (levels : List ℕ) where
       let next : next_kept classes l ≡ Some p = next_is p l s out waits h kept fits in
       let read : IsRead p out (read_class (class_at classes l) None waits) = reading p l s out waits None h (have_one_level-from levels (next_kept classes l) l p next (sym level)) in
       record { fits = h.within; state = came_join p s out (read_class (class_at classes l) None waits) kept fits read h.within (ap (successor classes levels) h.last ∙ successor-run_step classes levels l p (record { next = next; level = sym level })) }
-  IsStateAt-next p l s out waits false h kept fits e = by_pdi (is_pdi_at classes p) refl
+  IsStateAt-next p l s out waits false h kept fits e = elim (goes_on classes levels p p out now read (le_refl _) fits begins) [
+    | inl g ↦ by_choice None g.0 tt (came_begin p out now kept fits read g.1)
+    | inr g ↦ by_choice (Some g.0) g.1 g.2 (came_join p g.0 out now kept fits read g.2 g.3)
+  ]
     where
       now : List (Option ℕ)
       now = read_class (class_at classes l) (Some s) waits
@@ -167,21 +149,6 @@ module _ (classes : List BidiClass) (levels : List ℕ) where
 
       by_choice : (g : Option ℕ) → waiting_for (class_at classes p) now ≡ g → IfSome g (λ r. r < length out) → IsGoing (p + 1) (with_entry g p out) now p (index_of g out) → IsNext p l s out waits false
       by_choice g is some state = record { fits = subst (λ (o : Option ℕ). IfSome o (λ r. r < length out)) (sym is) some; state = subst (λ (o : Option ℕ). IsGoing (p + 1) (with_entry o p out) now p (index_of o out)) (sym is) state }
-
-      by_top : is_pdi_at classes p ≡ true → (st : List ℕ) (r : List (Option ℕ)) → reverse now ≡ r → IsPass classes levels p p out st r → IsNext p l s out waits false
-      by_top closes [] [] f pass =
-          by_choice None (cond-true (is_pdi (class_at classes p)) (last_or None now) None closes ∙ ap (last_or None) (reverse_none now f)) tt (came_begin p out now kept fits read (is_first-none_open classes levels p p out [] pass begins))
-      by_top closes [] (v ∷ vs) f pass = absurd pass.waiting
-      by_top closes (i ∷ st) [] f pass = absurd pass.waiting
-      by_top closes (i ∷ st) (None ∷ vs) f pass =
-          by_choice None (cond-true (is_pdi (class_at classes p)) (last_or None now) None closes ∙ last_or-reverse None now None vs f) tt (came_begin p out now kept fits read (is_first-not_waiting classes levels p p i out st vs pass fits closes begins))
-      by_top closes (i ∷ st) (Some t ∷ vs) f pass =
-          by_choice (Some t) (cond-true (is_pdi (class_at classes p)) (last_or None now) None closes ∙ last_or-reverse None now (Some t) vs f) pass.waiting.0.0
-          (came_join p t out now kept fits read pass.waiting.0.0 (successor-waiting classes levels p p i t out st vs pass (le_refl _) fits closes begins))
-
-      by_pdi : (b : Bool) → is_pdi_at classes p ≡ b → IsNext p l s out waits false
-      by_pdi true closes = by_top closes read.stack (reverse now) refl read.pass
-      by_pdi false other = by_choice None (cond-false (is_pdi (class_at classes p)) (last_or None now) None other) tt (came_begin p out now kept fits read (is_first-no_pdi classes levels p other begins))
 
   -- p has come to the sequence that it goes on with, or to a new one
   pub record HasCome (p : ℕ) (out : List (List ℕ)) (g : Option ℕ) (now : List (Option ℕ)) : Type 0 where

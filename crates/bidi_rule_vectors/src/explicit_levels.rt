@@ -3,7 +3,7 @@
 ghost use Rattle.std.specs.Prelude.{◌≡◌, ◌≤◌, length};
 
 use crate::conditions::has_initiator;
-use crate::units::{Sequence, ends_of, per_unit};
+use crate::units::{Sequence, ends_of, per_unit, same};
 use bidi_base::char_data::BidiClass::{
     self, AL, AN, B, BN, CS, EN, ES, ET, FSI, L, LRE, LRI, LRO, NSM, ON, PDF, PDI, R, RLE, RLI,
     RLO, S, WS,
@@ -193,8 +193,8 @@ impl Prepared {
         let text = StrText::new(text);
         let levels = per_unit(rt.alloc(), text, levels)?;
         let classes = per_unit(rt.alloc(), text, classes)?;
-        assert_eq!(rt; self.levels.as_slice(), levels.as_slice(), "{name}");
-        assert_eq!(rt; self.classes.as_slice(), classes.as_slice(), "{name}");
+        same(rt, name, self.levels.as_slice(), levels.as_slice());
+        same(rt, name, self.classes.as_slice(), classes.as_slice());
         Ok(())
     }
 }
@@ -236,13 +236,14 @@ fn agree_sequence(
     wanted: &PlainSequence,
 ) -> Result<(), Fail> {
     let places = places(rt.alloc(), text, found, listed)?;
-    assert_eq!(rt; places.as_slice(), wanted.places(), "{name}");
-    assert_eq!(rt;
-        (found.sos(), found.eos()),
-        (wanted.sos(), wanted.eos()),
-        "{name}"
+    same(rt, name, places.as_slice(), wanted.places());
+    same(
+        rt,
+        name,
+        &[found.sos(), found.eos()],
+        &[wanted.sos(), wanted.eos()],
     );
-    assert!(rt; found.fits(StrText::new(text)), "{name}");
+    same(rt, name, &[found.fits(StrText::new(text))], &[true]);
     Ok(())
 }
 
@@ -259,7 +260,7 @@ fn agree_sequences(
     if wanted.is_empty() {
         return Ok(());
     }
-    assert_eq!(rt; found.len(), wanted.len(), "{name}");
+    same(rt, name, &[found.len()], &[wanted.len()]);
     for (sequence, of_list) in found.iter().zip(wanted) {
         agree_sequence(rt, name, text, listed, sequence, of_list)?;
     }
@@ -299,11 +300,11 @@ fn check_sequences(
     found: &[IsolatingRunSequence],
     wanted: &[Sequence<'_>],
 ) -> Result<(), Fail> {
-    assert_eq!(rt; found.len(), wanted.len(), "{name}");
+    same(rt, name, &[found.len()], &[wanted.len()]);
     for (sequence, (runs, sos, eos)) in found.iter().zip(wanted) {
         let ends = ends_of(rt.alloc(), sequence.runs())?;
-        assert_eq!(rt; ends.as_slice(), *runs, "{name}");
-        assert_eq!(rt; (sequence.sos(), sequence.eos()), (*sos, *eos), "{name}");
+        same(rt, name, ends.as_slice(), *runs);
+        same(rt, name, &[sequence.sos(), sequence.eos()], &[*sos, *eos]);
     }
     Ok(())
 }
@@ -315,10 +316,10 @@ fn check_plain(
     found: &[PlainSequence],
     wanted: &[(&[usize], BidiClass, BidiClass)],
 ) {
-    assert_eq!(rt; found.len(), wanted.len(), "{name}");
+    same(rt, name, &[found.len()], &[wanted.len()]);
     for (sequence, (places, sos, eos)) in found.iter().zip(wanted) {
-        assert_eq!(rt; sequence.places(), *places, "{name}");
-        assert_eq!(rt; (sequence.sos(), sequence.eos()), (*sos, *eos), "{name}");
+        same(rt, name, sequence.places(), *places);
+        same(rt, name, &[sequence.sos(), sequence.eos()], &[*sos, *eos]);
     }
 }
 
@@ -328,8 +329,8 @@ fn levels_of_lists(rt: HostRuntime) -> Result<(), Fail> {
         let level = Level::new_explicit(para_level)?;
         let levels = Level::vec(rt.alloc(), levels)?;
         let explicit = explicit_levels(rt.alloc(), level, classes)?;
-        assert_eq!(rt; explicit.levels(), levels.as_slice(), "{name}");
-        assert_eq!(rt; explicit.classes(), overridden, "{name}");
+        same(&rt, name, explicit.levels(), levels.as_slice());
+        same(&rt, name, explicit.classes(), overridden);
         let found = sequences(rt.alloc(), level, classes, explicit.levels())?;
         agree(&rt, name, para_level, classes, &explicit, found.as_slice())?;
     }
@@ -342,7 +343,7 @@ fn sequences_of_lists(rt: HostRuntime) -> Result<(), Fail> {
         let level = Level::new_explicit(para_level)?;
         let levels = Level::vec(rt.alloc(), levels)?;
         let explicit = explicit_levels(rt.alloc(), level, classes)?;
-        assert_eq!(rt; explicit.levels(), levels.as_slice(), "{name}");
+        same(&rt, name, explicit.levels(), levels.as_slice());
         let found = sequences(rt.alloc(), level, classes, explicit.levels())?;
         check_plain(&rt, name, found.as_slice(), wanted);
         agree(&rt, name, para_level, classes, &explicit, found.as_slice())?;
@@ -358,7 +359,7 @@ fn units(rt: HostRuntime) -> Result<(), Fail> {
         for flag in [has_initiator(classes), true] {
             let found = Prepared::new(&rt, para_level, text, classes, flag)?;
             found.check_units(&rt, name, text, levels.as_slice(), in_place)?;
-            assert_eq!(rt; found.runs.as_slice(), runs, "{name}");
+            same(&rt, name, found.runs.as_slice(), runs);
             check_sequences(&rt, name, found.sequences.as_slice(), wanted)?;
         }
     }

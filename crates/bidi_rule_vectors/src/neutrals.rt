@@ -1,7 +1,7 @@
 //! Bracket pairs (BD16), neutrals (N0 to N2) and what follows from them, over lists and in place.
 
 use crate::conditions::{are_directed, are_kept, are_left, are_left_or_removed, is_side};
-use crate::units::{Sequence, per_unit, sequence_of};
+use crate::units::{Sequence, per_unit, same, sequence_of};
 use bidi_base::char_data::BidiClass::{
     self, AL, AN, BN, CS, EN, ES, ET, L, LRI, NSM, ON, PDF, R, RLE,
 };
@@ -284,7 +284,7 @@ fn check_in_place(
             &mut units,
             is_by_one,
         )?;
-        assert_eq!(rt; units.classes.as_slice(), wanted.as_slice(), "{name}");
+        same(rt, name, units.classes.as_slice(), wanted.as_slice());
     }
     Ok(())
 }
@@ -309,7 +309,7 @@ fn pairs_of_lists(rt: HostRuntime) -> Result<(), Fail> {
         assert!(rt; brackets.len() == classes.len());
         assert!(rt; are_left(classes));
         let found = pairs(rt.alloc(), classes, brackets.as_slice())?;
-        assert_eq!(rt; found.as_slice(), wanted, "{name}");
+        same(&rt, name, found.as_slice(), wanted);
     }
     Ok(())
 }
@@ -351,7 +351,7 @@ fn lists(rt: HostRuntime) -> Result<(), Fail> {
             brackets.as_slice(),
             classes,
         )?;
-        assert_eq!(rt; answer.as_slice(), wanted, "{name}");
+        same(&rt, name, answer.as_slice(), wanted);
         let whole = [(0, text.len())];
         let sequences = [(whole.as_slice(), sos, eos)];
         let levels = vec![in rt.alloc(); 0; classes.len()]?;
@@ -389,10 +389,11 @@ fn levels_of_lists(rt: HostRuntime) -> Result<(), Fail> {
         )?;
         assert!(rt; are_directed(answer.as_slice()));
         let levels = implicit(rt.alloc(), level, answer.as_slice())?;
-        assert_eq!(rt;
+        same(
+            &rt,
+            name,
             levels.as_slice(),
             Level::vec(rt.alloc(), wanted)?.as_slice(),
-            "{name}"
         );
     }
     Ok(())

@@ -1,7 +1,7 @@
 //! The weak types (W1 to W7), over lists and in place.
 
 use crate::conditions::{are_kept, is_side};
-use crate::units::{per_unit, sequence_of};
+use crate::units::{per_unit, same, sequence_of};
 use bidi_base::char_data::BidiClass::{self, AL, AN, BN, CS, EN, ES, ET, L, LRI, NSM, ON, PDI, R};
 use bidi_base::text::{StrText, is_per_char};
 use bidi_plain::plain::weak;
@@ -106,7 +106,7 @@ fn lists(rt: HostRuntime) -> Result<(), Fail> {
         assert!(rt; is_side(sos));
         assert!(rt; are_kept(classes));
         let answer = weak(alloc, sos, classes)?;
-        assert_eq!(rt; answer.as_slice(), wanted, "{name}");
+        same(&rt, name, answer.as_slice(), wanted);
         if classes.is_empty() {
             continue;
         }
@@ -116,7 +116,7 @@ fn lists(rt: HostRuntime) -> Result<(), Fail> {
             let text = text.as_str();
             let units = resolve(&rt, text, &[(0, text.len())], sos, before.as_slice())?;
             let expected = per_unit(alloc, StrText::new(text), after.as_slice())?;
-            assert_eq!(rt; units.as_slice(), expected.as_slice(), "{name}");
+            same(&rt, name, units.as_slice(), expected.as_slice());
         }
     }
     Ok(())
@@ -127,7 +127,7 @@ fn units(rt: HostRuntime) -> Result<(), Fail> {
     for (name, text, runs, before, after) in UNITS {
         let units = resolve(&rt, text, runs, R, before)?;
         let expected = per_unit(rt.alloc(), StrText::new(text), after)?;
-        assert_eq!(rt; units.as_slice(), expected.as_slice(), "{name}");
+        same(&rt, name, units.as_slice(), expected.as_slice());
     }
     Ok(())
 }

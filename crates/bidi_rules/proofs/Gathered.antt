@@ -60,6 +60,3 @@ module _ (len_of : ℕ → ℕ) (chars : List ℕ) (source : Source) (units : Li
 
   pub AreGathered-length : (ks : List ℕ) (classes : List BidiClass) (brackets : List Bracket) → AreGathered len_of chars source units ks classes brackets → length classes ≡ length ks
   AreGathered-length ks classes brackets h = ap length h.classes_are ∙ length-values_of len_of chars L units ks
-
-  pub length-brackets_of : (ks : List ℕ) (classes : List BidiClass) (brackets : List Bracket) → AreGathered len_of chars source units ks classes brackets → length (map source.bracket_of (at_places 0 chars ks)) ≡ length classes
-  length-brackets_of ks classes brackets h = length-sources_of ks ∙ sym (AreGathered-length ks classes brackets h)

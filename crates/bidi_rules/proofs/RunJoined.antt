@@ -27,7 +27,8 @@ use Rattle.bidi_rules.specs.Joining.{JoinedRuns, no_runs, with_run, characters_o
 use Rattle.bidi_rules.proofs.RunCutting.{run_starts-some}
 use Rattle.bidi_rules.proofs.LevelRunLemmas.{kept_in_run, kept_in_runs-push}
 use Rattle.bidi_rules.proofs.RunUnits.{NoneKept, IsLast}
-use Rattle.bidi_rules.proofs.RunPass.{with_places, index_in, IsAt, IsAt-start, IsAt-end, HasCome, HasCome-run}
+use Rattle.bidi_base.proofs.OpenPass.{IsAt, IsAt-start, IsAt-end}
+use Rattle.bidi_rules.proofs.RunPass.{with_places, index_in, HasCome, HasCome-run}
 use Rattle.bidi_rules.proofs.RunJoining.{IsFirst, first_at, kept_before-first, rest_of, front_is, last_is, one_level, kept_before-next_run, level_beyond, end_is, came, begins_kept, begins_after}
 
 -- the runs of all that was joined, where one of them is longer
@@ -116,31 +117,31 @@ module _ (len_of : ℕ → ℕ) (h : HasUnits len_of) (chars : List ℕ) (classe
     kept_is : filter (is_kept_at classes) (range_with_len a (b - a)) ≡ xs
     kept_is = front_is classes levels paragraph a b f range first
 
-    has_come : HasCome classes levels a b f (rest_of classes levels paragraph f b) (map (λ (j : JoinedRuns). kept_in_runs len_of chars classes j.runs) out) waits (waiting_for (class_at classes f) waits)
-    has_come = HasCome-run classes levels a b f (rest_of classes levels paragraph f b) (map (λ (j : JoinedRuns). kept_in_runs len_of chars classes j.runs) out) waits joined.state range kept_is
+    has_come : HasCome classes levels a b f (rest_of classes levels paragraph f b) (map places_of out) waits (waiting_for (class_at classes f) waits)
+    has_come = HasCome-run classes levels a b f (rest_of classes levels paragraph f b) (map places_of out) waits joined.state range kept_is
 
     -- the code may look at that sequence
     pub g-fits : IfSome g (λ s. s < length out)
     g-fits =
         subst (λ (o : Option ℕ). IfSome o (λ s. s < length out)) (sym waits_for)
-        (subst (λ (n : ℕ). IfSome (waiting_for (class_at classes f) waits) (λ s. s < n)) (length-map out (λ (j : JoinedRuns). kept_in_runs len_of chars classes j.runs)) has_come.fits)
+        (subst (λ (n : ℕ). IfSome (waiting_for (class_at classes f) waits) (λ s. s < n)) (length-map out places_of) has_come.fits)
 
     run_places : kept_in_runs len_of chars classes (r ∷ []) ≡ xs
     run_places = ap (λ q. kept_in_runs len_of chars classes (q ∷ [])) run_is ∙ kept_in_run len_of h chars classes a b (omega (arith, range.not_empty)) short ∙ kept_is
 
-    places_with : (sos eos : BidiClass) (o : Option ℕ) → IfSome o (λ s. s < length out) → map (λ (j : JoinedRuns). kept_in_runs len_of chars classes j.runs) (with_run o r sos eos out) ≡ with_places o xs (map (λ (j : JoinedRuns). kept_in_runs len_of chars classes j.runs) out)
+    places_with : (sos eos : BidiClass) (o : Option ℕ) → IfSome o (λ s. s < length out) → map places_of (with_run o r sos eos out) ≡ with_places o xs (map places_of out)
     places_with sos eos None fits =
-        map-append (λ (j : JoinedRuns). kept_in_runs len_of chars classes j.runs) out (record { runs = r ∷ []; sos = sos; eos = eos } ∷ [])
-        ∙ ap (λ (ys : List ℕ). map (λ (j : JoinedRuns). kept_in_runs len_of chars classes j.runs) out ++ ys ∷ []) run_places
+        map-append places_of out (record { runs = r ∷ []; sos = sos; eos = eos } ∷ [])
+        ∙ ap (λ (ys : List ℕ). map places_of out ++ ys ∷ []) run_places
     places_with sos eos (Some s) fits =
-        map-set (λ (j : JoinedRuns). kept_in_runs len_of chars classes j.runs) out s (record (get_or out s no_runs) { runs = (get_or out s no_runs).runs ++ r ∷ []; eos = eos })
-        ∙ ap (set (map (λ (j : JoinedRuns). kept_in_runs len_of chars classes j.runs) out) s)
+        map-set places_of out s (record (get_or out s no_runs) { runs = (get_or out s no_runs).runs ++ r ∷ []; eos = eos })
+        ∙ ap (set (map places_of out) s)
         (kept_in_runs-push len_of chars classes (get_or out s no_runs).runs r
         ∙ ap (λ (ys : List ℕ). kept_in_runs len_of chars classes (get_or out s no_runs).runs ++ ys) run_places
-        ∙ ap (λ (ys : List ℕ). ys ++ xs) (sym (get_or-map (λ (j : JoinedRuns). kept_in_runs len_of chars classes j.runs) out s no_runs [] fits)))
+        ∙ ap (λ (ys : List ℕ). ys ++ xs) (sym (get_or-map places_of out s no_runs [] fits)))
 
-    index_is : (o : Option ℕ) → index_of o out ≡ index_in o (map (λ (j : JoinedRuns). kept_in_runs len_of chars classes j.runs) out)
-    index_is None = sym (length-map out (λ (j : JoinedRuns). kept_in_runs len_of chars classes j.runs))
+    index_is : (o : Option ℕ) → index_of o out ≡ index_in o (map places_of out)
+    index_is None = sym (length-map out places_of)
     index_is (Some s) = refl
 
     module _ (level after : ℕ) (sos eos : BidiClass) (level_is : level ≡ level_at levels l) (after_is : after ≡ level_beyond classes levels paragraph l b) (sos_is : sos ≡ direction_of (max level before)) (eos_is : eos ≡ direction_of (max level after)) where
@@ -161,14 +162,14 @@ module _ (len_of : ℕ → ℕ) (h : HasUnits len_of) (chars : List ℕ) (classe
       last_of_xs : last_or f (rest_of classes levels paragraph f b) ≡ l
       last_of_xs = last_is classes levels paragraph a b f l range first last
 
-      ends_with : (o : Option ℕ) → IfSome o (λ s. s < length out) → map (characters_of len_of chars classes) (with_run o r sos eos out) ≡ map (with_ends paragraph classes levels) (map (λ (j : JoinedRuns). kept_in_runs len_of chars classes j.runs) (with_run o r sos eos out))
+      ends_with : (o : Option ℕ) → IfSome o (λ s. s < length out) → map (characters_of len_of chars classes) (with_run o r sos eos out) ≡ map (ended) (map places_of (with_run o r sos eos out))
       ends_with None fits =
           map-append (characters_of len_of chars classes) out (one ∷ [])
           ∙ ap (λ (ys : List RunSequence). ys ++ characters_of len_of chars classes one ∷ []) joined.ends
-          ∙ ap (λ (y : RunSequence). map (with_ends paragraph classes levels) (map (λ (j : JoinedRuns). kept_in_runs len_of chars classes j.runs) out) ++ y ∷ []) one_is
+          ∙ ap (λ (y : RunSequence). map (ended) (map places_of out) ++ y ∷ []) one_is
           ∙ sym
-          (ap (map (with_ends paragraph classes levels)) (map-append (λ (j : JoinedRuns). kept_in_runs len_of chars classes j.runs) out (one ∷ []))
-          ∙ map-append (with_ends paragraph classes levels) (map (λ (j : JoinedRuns). kept_in_runs len_of chars classes j.runs) out) (kept_in_runs len_of chars classes (r ∷ []) ∷ []))
+          (ap (map (ended)) (map-append places_of out (one ∷ []))
+          ∙ map-append (ended) (map places_of out) (kept_in_runs len_of chars classes (r ∷ []) ∷ []))
         where
           one : JoinedRuns
           one = record { runs = r ∷ []; sos = sos; eos = eos }
@@ -179,15 +180,15 @@ module _ (len_of : ℕ → ℕ) (h : HasUnits len_of) (chars : List ℕ) (classe
           at_end : eos ≡ end_class paragraph classes levels (last_or 0 (kept_in_runs len_of chars classes (r ∷ [])))
           at_end = eos_end ∙ ap (end_class paragraph classes levels) (sym last_of_xs) ∙ ap (λ (ys : List ℕ). end_class paragraph classes levels (last_or 0 ys)) (sym run_places)
 
-          one_is : characters_of len_of chars classes one ≡ with_ends paragraph classes levels (kept_in_runs len_of chars classes (r ∷ []))
+          one_is : characters_of len_of chars classes one ≡ ended (kept_in_runs len_of chars classes (r ∷ []))
           one_is = λ i. record { places = kept_in_runs len_of chars classes (r ∷ []); sos = at_start i; eos = at_end i }
       ends_with (Some s) fits =
           map-set (characters_of len_of chars classes) out s new
           ∙ ap (λ (ys : List RunSequence). set ys s (characters_of len_of chars classes new)) joined.ends
-          ∙ ap (set (map (with_ends paragraph classes levels) (map (λ (j : JoinedRuns). kept_in_runs len_of chars classes j.runs) out)) s) new_is
+          ∙ ap (set (map (ended) (map places_of out)) s) new_is
           ∙ sym
-          (ap (map (with_ends paragraph classes levels)) (map-set (λ (j : JoinedRuns). kept_in_runs len_of chars classes j.runs) out s new)
-          ∙ map-set (with_ends paragraph classes levels) (map (λ (j : JoinedRuns). kept_in_runs len_of chars classes j.runs) out) s (kept_in_runs len_of chars classes new.runs))
+          (ap (map (ended)) (map-set places_of out s new)
+          ∙ map-set (ended) (map places_of out) s (kept_in_runs len_of chars classes new.runs))
         where
           old : JoinedRuns
           old = get_or out s no_runs
@@ -198,20 +199,20 @@ module _ (len_of : ℕ → ℕ) (h : HasUnits len_of) (chars : List ℕ) (classe
           whole : kept_in_runs len_of chars classes new.runs ≡ kept_in_runs len_of chars classes (get_or out s no_runs).runs ++ xs
           whole = kept_in_runs-push len_of chars classes (get_or out s no_runs).runs r ∙ ap (λ (ys : List ℕ). kept_in_runs len_of chars classes (get_or out s no_runs).runs ++ ys) run_places
 
-          there : get_or (map (λ (j : JoinedRuns). kept_in_runs len_of chars classes j.runs) out) s [] ≡ kept_in_runs len_of chars classes (get_or out s no_runs).runs
-          there = get_or-map (λ (j : JoinedRuns). kept_in_runs len_of chars classes j.runs) out s no_runs [] fits
+          there : get_or (map places_of out) s [] ≡ kept_in_runs len_of chars classes (get_or out s no_runs).runs
+          there = get_or-map places_of out s no_runs [] fits
 
           some : 0 < length (kept_in_runs len_of chars classes (get_or out s no_runs).runs)
           some =
               subst (λ (ys : List ℕ). 0 < length ys) there
-              (not_empty_at classes levels (map (λ (j : JoinedRuns). kept_in_runs len_of chars classes j.runs) out) s joined.state.pass.begun (omega (arith, fits, length-map out (λ (j : JoinedRuns). kept_in_runs len_of chars classes j.runs))))
+              (not_empty_at classes levels (map places_of out) s joined.state.pass.begun (omega (arith, fits, length-map out places_of)))
 
-          old_is : characters_of len_of chars classes (get_or out s no_runs) ≡ with_ends paragraph classes levels (kept_in_runs len_of chars classes (get_or out s no_runs).runs)
+          old_is : characters_of len_of chars classes (get_or out s no_runs) ≡ ended (kept_in_runs len_of chars classes (get_or out s no_runs).runs)
           old_is =
               sym (get_or-map (characters_of len_of chars classes) out s no_runs (characters_of len_of chars classes no_runs) fits)
               ∙ ap (λ (ys : List RunSequence). get_or ys s (characters_of len_of chars classes no_runs)) joined.ends
-              ∙ get_or-map (with_ends paragraph classes levels) (map (λ (j : JoinedRuns). kept_in_runs len_of chars classes j.runs) out) s [] (characters_of len_of chars classes no_runs) (omega (arith, fits, length-map out (λ (j : JoinedRuns). kept_in_runs len_of chars classes j.runs)))
-              ∙ ap (with_ends paragraph classes levels) there
+              ∙ get_or-map (ended) (map places_of out) s [] (characters_of len_of chars classes no_runs) (omega (arith, fits, length-map out places_of))
+              ∙ ap (ended) there
 
           at_start : (get_or out s no_runs).sos ≡ start_class paragraph classes levels (first_or 0 (kept_in_runs len_of chars classes new.runs))
           at_start =
@@ -225,7 +226,7 @@ module _ (len_of : ℕ → ℕ) (h : HasUnits len_of) (chars : List ℕ) (classe
               ∙ ap (end_class paragraph classes levels) (sym (last_or-append 0 f (kept_in_runs len_of chars classes (get_or out s no_runs).runs) (rest_of classes levels paragraph f b) ∙ last_of_xs))
               ∙ ap (λ (ys : List ℕ). end_class paragraph classes levels (last_or 0 ys)) (sym whole)
 
-          new_is : characters_of len_of chars classes new ≡ with_ends paragraph classes levels (kept_in_runs len_of chars classes new.runs)
+          new_is : characters_of len_of chars classes new ≡ ended (kept_in_runs len_of chars classes new.runs)
           new_is = λ i. record { places = kept_in_runs len_of chars classes new.runs; sos = at_start i; eos = at_end i }
 
       lines_with : (o : Option ℕ) → IfSome o (λ s. s < length out) → All (λ (j : JoinedRuns). All (IsBefore len_of chars (place len_of chars b)) j.runs) (with_run o r sos eos out)
@@ -280,29 +281,29 @@ module _ (len_of : ℕ → ℕ) (h : HasUnits len_of) (chars : List ℕ) (classe
             fresh = λ e. absurd (omega (arith, range.not_empty));
           })
         where
-          here : s ≡ index_in (waiting_for (class_at classes f) waits) (map (λ (j : JoinedRuns). kept_in_runs len_of chars classes j.runs) out)
-          here = at ∙ index_is g ∙ ap (λ (o : Option ℕ). index_in o (map (λ (j : JoinedRuns). kept_in_runs len_of chars classes j.runs) out)) waits_for
+          here : s ≡ index_in (waiting_for (class_at classes f) waits) (map places_of out)
+          here = at ∙ index_is g ∙ ap (λ (o : Option ℕ). index_in o (map places_of out)) waits_for
 
-          state : IsAt classes levels b b (map (λ (j : JoinedRuns). kept_in_runs len_of chars classes j.runs) (with_run g r sos eos out)) now
+          state : IsAt classes levels b b (map places_of (with_run g r sos eos out)) now
           state =
               subst (λ (ps : List (List ℕ)). IsAt classes levels b b ps now) (sym (places_with sos eos g g-fits))
-              (subst (λ (o : Option ℕ). IsAt classes levels b b (with_places o xs (map (λ (j : JoinedRuns). kept_in_runs len_of chars classes j.runs) out)) now) (sym waits_for)
-              (came classes levels paragraph a b f l s (map (λ (j : JoinedRuns). kept_in_runs len_of chars classes j.runs) out) waits now range first last has_come here read))
+              (subst (λ (o : Option ℕ). IsAt classes levels b b (with_places o xs (map places_of out)) now) (sym waits_for)
+              (came classes levels paragraph a b f l s (map places_of out) waits now range first last has_come here read))
 
   -- once all runs came, these are the sequences
   pub IsJoined-sequences : (a : ℕ) (runs : List (ℕ × ℕ)) (out : List JoinedRuns) (waits : List (Option ℕ)) (before : ℕ) → a ≡ length classes → IsJoined len_of chars classes levels paragraph a runs out waits before → filter has_places (map (characters_of len_of chars classes) out) ≡ sequences paragraph classes levels
   IsJoined-sequences a runs out waits before all w =
       ap (filter has_places) w.ends
-      ∙ all_kept (map (λ (j : JoinedRuns). kept_in_runs len_of chars classes j.runs) out) w.state.pass.begun
-      ∙ IsAt-end classes levels paragraph a (map (λ (j : JoinedRuns). kept_in_runs len_of chars classes j.runs) out) waits (subst (λ (n : ℕ). IsAt classes levels n a (map (λ (j : JoinedRuns). kept_in_runs len_of chars classes j.runs) out) waits) all w.state)
+      ∙ all_kept (map places_of out) w.state.pass.begun
+      ∙ IsAt-end classes levels paragraph a (map places_of out) waits (subst (λ (n : ℕ). IsAt classes levels n a (map places_of out) waits) all w.state)
     where
-      all_kept : (ps : List (List ℕ)) → AllBegun classes levels ps → filter has_places (map (with_ends paragraph classes levels) ps) ≡ map (with_ends paragraph classes levels) ps
+      all_kept : (ps : List (List ℕ)) → AllBegun classes levels ps → filter has_places (map (ended) ps) ≡ map (ended) ps
       all_kept [] begun = refl
       all_kept ([] ∷ ps) begun = absurd begun.0
       all_kept ((p ∷ qs) ∷ ps) begun =
-          let rest : List RunSequence = filter has_places (map (with_ends paragraph classes levels) ps) in
-          cond-true (nat_lt 0 (length (p ∷ qs))) (with_ends paragraph classes levels (p ∷ qs) ∷ rest) rest (lt-ltb 0 (length (p ∷ qs)) (omega arith))
-          ∙ ap {B = List RunSequence} (λ ys. with_ends paragraph classes levels (p ∷ qs) ∷ ys) (all_kept ps begun.1)
+          let rest : List RunSequence = filter has_places (map (ended) ps) in
+          cond-true (nat_lt 0 (length (p ∷ qs))) (ended (p ∷ qs) ∷ rest) rest (lt-ltb 0 (length (p ∷ qs)) (omega arith))
+          ∙ ap {B = List RunSequence} (λ ys. ended (p ∷ qs) ∷ ys) (all_kept ps begun.1)
 
 -- a run in which no character is kept is a whole paragraph of removed characters
 pub record IsAllRemoved (classes : List BidiClass) (a b : ℕ) : Type 0 where

@@ -18,7 +18,8 @@ use Rattle.bidi_base.proofs.WaitingLemmas.{IsWaiting}
 use Rattle.bidi_rules.specs.Joining.{read_range}
 use Rattle.bidi_rules.proofs.KeptRangeLemmas.{filter_range-first, last_or-range}
 use Rattle.bidi_rules.proofs.RunUnits.{NoneKept, IsLast}
-use Rattle.bidi_rules.proofs.RunPass.{with_places, index_in, IsAt, IsAt-read, HasCome, IsWaiting-in_run}
+use Rattle.bidi_base.proofs.OpenPass.{IsAt, IsAt-read}
+use Rattle.bidi_rules.proofs.RunPass.{with_places, index_in, HasCome, IsWaiting-in_run}
 
 -- the first kept character of a run
 pub record IsFirst (classes : List BidiClass) (a b f : ℕ) : Type 0 where

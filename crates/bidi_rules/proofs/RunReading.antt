@@ -40,19 +40,22 @@ pub record IsReadTo (len_of : ℕ → ℕ) (chars : List ℕ) (units : List Bidi
   pub is : waits ≡ read_range (per_char L len_of chars units) (char_index len_of chars last) s (char_index len_of chars start) (char_index len_of chars start + n) old
 
 module _ (len_of : ℕ → ℕ) (h : HasUnits len_of) (chars : List ℕ) (units : List BidiClass) (whole : is_per_char ghosts.eq len_of chars units ≡ true) (start end : ℕ) (line : IsLine len_of chars start end) where
-  first : ℕ
+  abbrev first : ℕ
   first = char_index len_of chars start
+
+  abbrev stored : List BidiClass
+  stored = per_char L len_of chars units
 
   -- the n-th character of the run, which stands at `start + at` and is l units long
   record IsTurnIn (n at l : ℕ) : Type 0 where
-    here : start + at ≡ place len_of chars (char_index len_of chars start + n)
-    after : start + at + l ≡ place len_of chars (char_index len_of chars start + n + 1)
-    within : char_index len_of chars start + n < char_index len_of chars end
+    here : start + at ≡ place len_of chars (first + n)
+    after : start + at + l ≡ place len_of chars (first + n + 1)
+    within : first + n < char_index len_of chars end
     fits : start + at + l ≤ end
 
   turn_in : (n at l : ℕ) → LengthTurn len_of (subrange len_of chars start end) n at l → IsTurnIn n at l
   turn_in n at l turn =
-      let a : ℕ = char_index len_of chars start in
+      let a : ℕ = first in
       let b : ℕ = char_index len_of chars end in
       let w = line_places len_of h chars start end line in
       let cut : List ℕ = slice_range chars a b in
@@ -74,16 +77,13 @@ module _ (len_of : ℕ → ℕ) (h : HasUnits len_of) (chars : List ℕ) (units 
       place-whole : (cut : List ℕ) (n : ℕ) → length cut ≡ n → place len_of cut n ≡ text_len len_of cut
       place-whole cut n e = place-end len_of cut n (omega arith)
 
-  stored : List BidiClass
-  stored = per_char L len_of chars units
-
-  class_in : (n at l : ℕ) → LengthTurn len_of (subrange len_of chars start end) n at l → get_or units (start + at) L ≡ class_at (per_char L len_of chars units) (char_index len_of chars start + n)
+  class_in : (n at l : ℕ) → LengthTurn len_of (subrange len_of chars start end) n at l → get_or units (start + at) L ≡ class_at stored (first + n)
   class_in n at l turn =
       let t = turn_in n at l turn in
       let w = line_places len_of h chars start end line in
       ap (λ us. get_or us (start + at) L) (per_unit-from_is_per_char ghosts.eq class_test L len_of h chars units whole)
-      ∙ ap (λ u. get_or (per_unit len_of chars (per_char L len_of chars units)) u L) t.here
-      ∙ get_or-per_unit-place len_of h chars (per_char L len_of chars units) (char_index len_of chars start + n) L (length-per_char L len_of chars units) (omega (arith, t.within, w.within))
+      ∙ ap (λ u. get_or (per_unit len_of chars stored) u L) t.here
+      ∙ get_or-per_unit-place len_of h chars stored (first + n) L (length-per_char L len_of chars units) (omega (arith, t.within, w.within))
 
   -- what the code asks of the n-th character
   pub record IsRunTurn (n at l : ℕ) : Type 0 where
@@ -104,22 +104,22 @@ module _ (len_of : ℕ → ℕ) (h : HasUnits len_of) (chars : List ℕ) (units 
   IsReadTo-more last s n at l old waits now wait boundary turn before wait_as read = record {
     is = read
         ∙ ap (λ c. read_class c wait waits) (class_in n at l turn)
-        ∙ ap (λ w. read_class (class_at (per_char L len_of chars units) m) w waits) (wait_as ∙ some_if (eqb (start + at + l) last) s ∙ same_end)
-        ∙ ap (read_class (class_at (per_char L len_of chars units) m) (cond (eqb (m + 1) e) (Some s) None)) before.is
-        ∙ sym (read_range-more (per_char L len_of chars units) e s a m old (omega arith))
-        ∙ ap (λ x. read_range (per_char L len_of chars units) e s a x old) next;
+        ∙ ap (λ w. read_class (class_at stored m) w waits) (wait_as ∙ some_if (eqb (start + at + l) last) s ∙ same_end)
+        ∙ ap (read_class (class_at stored m) (cond (eqb (m + 1) e) (Some s) None)) before.is
+        ∙ sym (read_range-more stored e s a m old (omega arith))
+        ∙ ap (λ x. read_range stored e s a x old) next;
   }
     where
       a : ℕ
-      a = char_index len_of chars start
+      a = first
 
       m : ℕ
-      m = char_index len_of chars start + n
+      m = first + n
 
       e : ℕ
       e = char_index len_of chars last
 
-      next : m + 1 ≡ char_index len_of chars start + (n + 1)
+      next : m + 1 ≡ first + (n + 1)
       next = omega arith
 
       t : IsTurnIn n at l
@@ -139,8 +139,8 @@ module _ (len_of : ℕ → ℕ) (h : HasUnits len_of) (chars : List ℕ) (units 
   -- all characters of the run
   pub IsReadTo-end : (last s n : ℕ) (old waits : List (Option ℕ)) → n ≡ length (subrange len_of chars start end) → IsReadTo len_of chars units start last s n old waits → waits ≡ read_units len_of chars units last s start end old
   IsReadTo-end last s n old waits all before =
-      let a : ℕ = char_index len_of chars start in
+      let a : ℕ = first in
       let b : ℕ = char_index len_of chars end in
       let w = line_places len_of h chars start end line in
       let top : a + n ≡ b = omega (arith, length-take (b - a) (drop a chars), length-drop a chars, w.ordered, w.within) in
-      before.is ∙ ap (λ x. read_range (per_char L len_of chars units) (char_index len_of chars last) s a x old) top
+      before.is ∙ ap (λ x. read_range stored (char_index len_of chars last) s a x old) top

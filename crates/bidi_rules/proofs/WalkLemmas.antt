@@ -74,10 +74,7 @@ between-last low high order =
 pub between-none : (low high : ℕ) → high ≤ low → between low high ≡ []
 between-none low high order = let none : high - low ≡ 0 = omega arith in ap (range_with_len low) none
 
--- upwards: the next unit of a range, or the first one of the next range
-pub forwards_unit : (at end : ℕ) (later : List (ℕ × ℕ)) → at < end → between at end ++ units_in_runs later ≡ at ∷ (between (at + 1) end ++ units_in_runs later)
-forwards_unit at end later order = ap (λ (xs : List ℕ). xs ++ units_in_runs later) (between-first at end order)
-
+-- upwards: the first unit of the next range
 pub forwards_run : (at end : ℕ) (all later : List (ℕ × ℕ)) (r : ℕ × ℕ) → end ≤ at → are_ordered all ≡ true → all ≡ r ∷ later → between at end ++ units_in_runs all ≡ r.0 ∷ (between (r.0 + 1) r.1 ++ units_in_runs later)
 forwards_run at end all later r order h e =
     let f = are_ordered-front 0 r later (subst (λ (xs : List (ℕ × ℕ)). are_ordered xs ≡ true) e h) in

@@ -7,10 +7,8 @@ use Rattle.bidi_rules.specs.declared.implicit.weak.steps.Before.TheVariants.{Oth
 use Rattle.bidi_base.specs.Classes.{is_strong, is_nsm, is_et, is_al, is_en, is_l, is_l_or_r}
 use Rattle.bidi_base.specs.Places.{nearest, nearest_is, in_context}
 use Rattle.bidi_base.specs.Weak.{carried, w1_rule, w2_rule, w3_rule, w4_rule, w5_rule, w6_rule, w7_rule, w3, w6, weak_classes}
+use Rattle.bidi_rules.proofs.Marks.{cons_both}
 use Rattle.bidi_rules.specs.WeakPass.{marked, w2_w3, is_after_al, after_w3, waits, is_beside_european, w7_by, after_w7}
-
-cons_both : {X : Type 0} (x y : X) (xs ys : List X) → x ≡ y → xs ≡ ys → x ∷ xs ≡ y ∷ ys
-cons_both x y xs ys e f = cc
 
 -- W1 to W3
 carried-twice : (c : BidiClass) → carried (carried c) ≡ carried c

@@ -5,7 +5,7 @@ use Rattle.bidi_base.specs.Text.{place, IsLine, char_index, subrange}
 use Rattle.bidi_base.proofs.TextLemmas.{HasUnits}
 use Rattle.bidi_base.proofs.PlaceLemmas.{place-slice_range, line_places, text_len-subrange, LengthTurn}
 use Rattle.bidi_rules.specs.declared.implicit.weak.Walk.{Walk}
-use Rattle.bidi_rules.specs.WeakWalk.{IsCharacter, IsUnderWay, Reads, ReadsTo}
+use Rattle.bidi_rules.specs.WeakWalk.{IsCharacter, Reads, ReadsTo}
 
 -- ---- the characters of a line
 
@@ -64,6 +64,3 @@ ReadsTo-more len_of chars runs run at end first before after old now new fits c 
       run_ends = c.below;
     })
     (h p same over start)
-
-pub ReadsTo-none : (len_of : ℕ → ℕ) (chars : List ℕ) (runs : List (ℕ × ℕ)) (from at : ℕ) (walk : Walk) (old : List BidiClass) → at ≡ from → ReadsTo len_of chars runs from at walk walk old old
-ReadsTo-none len_of chars runs from at walk old e = λ p same over start. subst (IsUnderWay p old walk) (sym e) start

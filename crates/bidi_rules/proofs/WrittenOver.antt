@@ -10,9 +10,6 @@ use Rattle.bidi_rules.specs.WeakWalk.{is_seen, IsWrittenOver}
 use Rattle.bidi_rules.proofs.InRuns.{in_run, in_run-true, in_run-inside, in_runs-more, in_runs-take}
 
 module _ (test : ℕ → Bool) (class : BidiClass) (from : ℕ) (old : List BidiClass) where
-  pub IsWrittenOver-start : IsWrittenOver test class from from old old
-  IsWrittenOver-start = record { inside = λ k a b t. absurd (omega arith); failing = λ k t. refl; below = λ k a. refl; above = λ k a. refl; long = refl }
-
   -- one unit more
   pub IsWrittenOver-skip : (i : ℕ) (now : List BidiClass) → test i ≡ false → IsWrittenOver test class from i old now → IsWrittenOver test class from (i + 1) old now
   IsWrittenOver-skip i now plain h = record {

@@ -39,7 +39,7 @@ pub record HasGatheredNothing (r : NeutralResolver) : Type 0 where
   pub classes : r.classes.items ≡ []
   pub brackets : r.brackets.items ≡ []
   pub pairs : r.pairs.items ≡ []
-  pub sources : r.sources.items ≡ []
+  pub original_classes : r.original_classes.items ≡ []
 
 -- a number, or the direction other than this one
 abbrev pub turns_from : BidiClass → BidiClass → Bool

@@ -1,5 +1,5 @@
 -- N0 in one walk over the pairs: what it knows at an opening, and what follows for the pair.
-use Rattle.std.specs.Prelude.{ℕ, ◌+◌, nat_lt, Bool, false, not, if◌then◌else◌, List, drop, reverse, slice_range, Option, Some, None}
+use Rattle.std.specs.Prelude.{ℕ, ◌+◌, nat_lt, Bool, not, if◌then◌else◌, List, drop, reverse, slice_range, Option, Some, None}
 use Rattle.std.specs.List.{list_any, prefix_len}
 use Rattle.bidi_base.specs.declared.char_data.BidiClass.{BidiClass}
 use Rattle.bidi_base.specs.Classes.{has_direction, stands_for}

@@ -2,7 +2,7 @@
 //! characters (I1, I2), in place over the units of one paragraph.
 
 ghost use Rattle.std.specs.Prelude.{◌≡◌};
-ghost use Rattle.bidi_base.specs.Classes.{is_kept_in_place as is_kept_in_place_of};
+ghost use Rattle.bidi_base.specs.Classes.{is_kept_in_place};
 
 mod brackets;
 mod levels;
@@ -14,9 +14,10 @@ pub use levels::resolve_levels;
 pub use neutral::{NeutralResolver, resolve_neutral};
 pub use weak::resolve_weak;
 
-/// Whether the passes in place take characters of this class as kept: all but BN, which stands for what X9 removed.
+/// Whether the passes in place take characters of this class as kept: all but BN, which stands for
+/// what X9 removed.
 fn is_kept_in_place(class: BidiClass) -> bool
-    ensures { result ≡ is_kept_in_place_of class }
+    ensures { result ≡ is_kept_in_place class }
 {
     !matches!(class, BN)
 }

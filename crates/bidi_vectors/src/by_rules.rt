@@ -5,8 +5,8 @@ ghost use Rattle.std.specs.List.{list_all};
 ghost use Rattle.bidi_base.specs.Classes.{is_kept, is_l_or_r};
 
 use crate::rows::{
-    LINES, ONE_PARAGRAPH, OPENINGS, SOURCES, TEXTS, base_of, deepest_embeddings, per_char, sample,
-    with_openings,
+    LINES, ONE_PARAGRAPH, OPENINGS, SOURCES, TEXTS, base_of, deepest_embeddings, per_char, same,
+    sample, with_openings,
 };
 use bidi_base::char_data::BidiClass::{self, B, FSI, L, LRI, R, RLI};
 use bidi_base::classes::{is_initiator, is_pdi, is_removed, is_strong};
@@ -146,47 +146,78 @@ impl Characters {
     }
 }
 
-// The stored classes and levels of a paragraph.
+// The brackets of a text, one entry a character.
+fn brackets_of(
+    alloc: Global,
+    source: &TableBidiData,
+    text: &[char],
+) -> Result<Vec<Option<BidiMatchedOpeningBracket>>, Fail> {
+    let mut brackets = Vec::new(alloc);
+    for c in text {
+        brackets.push(source.bidi_matched_opening_bracket(*c))?;
+    }
+    Ok(brackets)
+}
+
+// The stored classes of a paragraph.
+fn classes_of(
+    alloc: Global,
+    source: &TableBidiData,
+    text: &[char],
+) -> Result<Vec<BidiClass>, Fail> {
+    let mut classes = Vec::new(alloc);
+    for c in text {
+        classes.push(source.bidi_class(*c))?;
+    }
+    with_resolved_fsi(alloc, classes.as_slice())
+}
+
+// Writes levels at these places.
+fn write(levels: &mut [Level], places: &[usize], resolved: &[Level]) {
+    for (place, level) in places.iter().zip(resolved) {
+        if *place < levels.len() {
+            levels[*place] = *level;
+        }
+    }
+}
+
+// The levels of a paragraph's characters, where those of what X9 removed are open.
+fn levels_by_sequences(
+    rt: &(impl AllocGlobal + Abort),
+    characters: &Characters,
+    sequences: &[PlainSequence],
+) -> Result<Vec<Level>, Fail> {
+    let mut levels = Vec::from_slice(rt.alloc(), characters.levels.as_slice())?;
+    for sequence in sequences {
+        let resolved = characters.levels_of(rt, sequence)?;
+        write(
+            levels.as_mut_slice(),
+            sequence.places(),
+            resolved.as_slice(),
+        );
+    }
+    Ok(levels)
+}
+
+// The stored levels of a paragraph.
 fn resolve_paragraph(
     rt: &(impl AllocGlobal + Abort),
     source: &TableBidiData,
     text: &[char],
+    classes: &[BidiClass],
     base: Option<u8>,
-) -> Result<(Vec<BidiClass>, Vec<Level>), Fail> {
-    let alloc = rt.alloc();
-    let mut classes = Vec::new(alloc);
-    let mut brackets = Vec::new(alloc);
-    for c in text {
-        classes.push(source.bidi_class(*c))?;
-        brackets.push(source.bidi_matched_opening_bracket(*c))?;
-    }
-    let classes = with_resolved_fsi(alloc, classes.as_slice())?;
-    let para_level = paragraph_level(classes.as_slice(), base)?;
-    let para_level = Level::new_explicit(para_level.number())?;
-    let explicit = explicit_levels(alloc, para_level, classes.as_slice())?;
-    let found = sequences(alloc, para_level, classes.as_slice(), explicit.levels())?;
-    let mut levels = Vec::from_slice(alloc, explicit.levels())?;
+) -> Result<Vec<Level>, Fail> {
+    let para_level = Level::new_explicit(paragraph_level(classes, base)?.number())?;
+    let explicit = explicit_levels(rt.alloc(), para_level, classes)?;
+    let found = sequences(rt.alloc(), para_level, classes, explicit.levels())?;
     let characters = Characters {
-        classes,
-        brackets,
-        overridden: Vec::from_slice(alloc, explicit.classes())?,
-        levels: Vec::from_slice(alloc, explicit.levels())?,
+        classes: Vec::from_slice(rt.alloc(), classes)?,
+        brackets: brackets_of(rt.alloc(), source, text)?,
+        overridden: Vec::from_slice(rt.alloc(), explicit.classes())?,
+        levels: Vec::from_slice(rt.alloc(), explicit.levels())?,
     };
-    for sequence in &found {
-        let resolved = characters.levels_of(rt, sequence)?;
-        for (place, level) in sequence.places().iter().zip(&resolved) {
-            if *place < levels.len() {
-                levels[*place] = *level;
-            }
-        }
-    }
-    let stored = with_removed(
-        alloc,
-        para_level,
-        characters.classes.as_slice(),
-        levels.as_slice(),
-    )?;
-    Ok((characters.classes, stored))
+    let levels = levels_by_sequences(rt, &characters, found.as_slice())?;
+    with_removed(rt.alloc(), para_level, classes, levels.as_slice())
 }
 
 // The levels, where what X9 removed has that of the character before it.
@@ -207,7 +238,7 @@ fn with_removed(
     Ok(stored)
 }
 
-// The same of a text, cut behind each separator (P1) or as one paragraph.
+// The stored classes and levels of a text, cut behind each separator (P1) or as one paragraph.
 fn resolve(
     rt: &(impl AllocGlobal + Abort),
     source: &TableBidiData,
@@ -222,18 +253,68 @@ fn resolve(
     for (index, c) in text.chars().enumerate() {
         paragraph.push(c)?;
         if index.saturating_add(1) == count || (is_cut && source.bidi_class(c) == B) {
-            let (of_classes, of_levels) = resolve_paragraph(
-                rt,
-                source,
-                paragraph.as_slice(),
-                base,
-            )?;
-            classes.extend_from_slice(of_classes.as_slice())?;
+            let of_paragraph = classes_of(rt.alloc(), source, paragraph.as_slice())?;
+            let (characters, stored) = (paragraph.as_slice(), of_paragraph.as_slice());
+            let of_levels = resolve_paragraph(rt, source, characters, stored, base)?;
+            classes.extend_from_slice(stored)?;
             levels.extend_from_slice(of_levels.as_slice())?;
             paragraph.clear();
         }
     }
     Ok((classes, levels))
+}
+
+// Compares entries one a unit with those that the rules give, one a character.
+fn agree(
+    rt: &(impl AllocGlobal + Abort),
+    name: &str,
+    text: &str,
+    found: (&[BidiClass], &[Level]),
+    wanted: (&[BidiClass], &[Level]),
+) -> Result<(), Fail> {
+    let classes = per_char(rt.alloc(), StrText::new(text), found.0)?;
+    same(rt, name, classes.as_slice(), wanted.0);
+    let levels = per_char(rt.alloc(), StrText::new(text), found.1)?;
+    same(rt, name, levels.as_slice(), wanted.1);
+    Ok(())
+}
+
+fn check_info(
+    rt: &(impl AllocGlobal + Abort),
+    source: &TableBidiData,
+    name: &str,
+    text: &str,
+    base: Option<u8>,
+) -> Result<(), Fail> {
+    let (classes, levels) = resolve(rt, source, text, base, true)?;
+    let info = BidiInfo::new_with_data_source(rt.alloc(), source, text, base_of(base)?)?;
+    let found = (info.original_classes(), info.levels());
+    agree(
+        rt,
+        name,
+        text,
+        found,
+        (classes.as_slice(), levels.as_slice()),
+    )
+}
+
+fn check_paragraph(
+    rt: &(impl AllocGlobal + Abort),
+    source: &TableBidiData,
+    name: &str,
+    text: &str,
+    base: Option<u8>,
+) -> Result<(), Fail> {
+    let (classes, levels) = resolve(rt, source, text, base, false)?;
+    let info = ParagraphBidiInfo::new_with_data_source(rt.alloc(), source, text, base_of(base)?)?;
+    let found = (info.original_classes(), info.levels());
+    agree(
+        rt,
+        name,
+        text,
+        found,
+        (classes.as_slice(), levels.as_slice()),
+    )
 }
 
 // Sees that both constructors find what the rules do.
@@ -244,29 +325,8 @@ fn check(
     text: &str,
     base: Option<u8>,
 ) -> Result<(), Fail> {
-    let alloc = rt.alloc();
-    let units = StrText::new(text);
-    let (classes, levels) = resolve(rt, source, text, base, true)?;
-    let info = BidiInfo::new_with_data_source(alloc, source, text, base_of(base)?)?;
-    let found = per_char(alloc, units, info.original_classes())?;
-    assert_eq!(rt; found.as_slice(), classes.as_slice(), "{name}");
-    let found = per_char(alloc, units, info.levels())?;
-    assert_eq!(rt; found.as_slice(), levels.as_slice(), "{name}");
-    let (classes, levels) = resolve(rt, source, text, base, false)?;
-    let info = ParagraphBidiInfo::new_with_data_source(alloc, source, text, base_of(base)?)?;
-    let found = per_char(alloc, units, info.original_classes())?;
-    assert_eq!(rt;
-        found.as_slice(),
-        classes.as_slice(),
-        "{name}, one paragraph"
-    );
-    let found = per_char(alloc, units, info.levels())?;
-    assert_eq!(rt;
-        found.as_slice(),
-        levels.as_slice(),
-        "{name}, one paragraph"
-    );
-    Ok(())
+    check_info(rt, source, name, text, base)?;
+    check_paragraph(rt, source, name, text, base)
 }
 
 #[test]

@@ -1,10 +1,10 @@
 //! What the constructors find in a text: stored classes, paragraphs and stored levels.
 
 use crate::rows::{
-    ONE_PARAGRAPH, OPENINGS, SOURCES, TEXTS, TextRow, base_of, deepest_embeddings, per_char,
+    ONE_PARAGRAPH, OPENINGS, SOURCES, TEXTS, TextRow, base_of, deepest_embeddings, per_char, same,
     sample, with_openings,
 };
-use bidi_base::char_data::BidiClass::{self, FSI, L, LRI, R, RLI};
+use bidi_base::char_data::BidiClass::{self, B, FSI, L, LRI, R, RLI};
 use bidi_base::char_data::Direction;
 use bidi_base::data_source::{BidiDataSource, TableBidiData};
 use bidi_base::level::{Level, has_rtl};
@@ -26,6 +26,15 @@ const DIRECTIONS: [(&str, Option<u8>, bool, bool, Direction); 6] = [
     ("a\u{5D0}\u{2066}x\u{2069}(\u{5D1})", None, false, true, Direction::Mixed),
 ];
 
+// What a constructor finds in a text, one entry a character.
+#[derive(Drop)]
+struct Found {
+    classes: Vec<BidiClass>,
+    paragraphs: Vec<(usize, usize, u8)>,
+    levels: Vec<Level>,
+    has_rtl: bool,
+}
+
 // The start, the end and the level of each paragraph.
 fn numbers(alloc: Global, paragraphs: &[ParagraphInfo]) -> Result<Vec<(usize, usize, u8)>, Fail> {
     let mut numbers = Vec::new(alloc);
@@ -36,55 +45,71 @@ fn numbers(alloc: Global, paragraphs: &[ParagraphInfo]) -> Result<Vec<(usize, us
     Ok(numbers)
 }
 
-fn check_initial<D: BidiDataSource>(
-    rt: &(impl AllocGlobal + Abort),
-    source: &D,
-    row: TextRow,
-) -> Result<(), Fail> {
-    let (name, text, base, classes, paragraphs, _) = row;
-    let info = InitialInfo::new_with_data_source(rt.alloc(), source, text, base_of(base)?)?;
-    let found = per_char(rt.alloc(), StrText::new(text), info.original_classes())?;
-    assert_eq!(rt; found.as_slice(), classes, "{name}");
-    let found = numbers(rt.alloc(), info.paragraphs())?;
-    assert_eq!(rt; found.as_slice(), paragraphs, "{name}");
+// What `InitialInfo` finds, which has no levels.
+fn of_initial<D: BidiDataSource>(alloc: Global, source: &D, row: TextRow) -> Result<Found, Fail> {
+    let (_, text, base, _, _, _) = row;
+    let info = InitialInfo::new_with_data_source(alloc, source, text, base_of(base)?)?;
+    Ok(Found {
+        classes: per_char(alloc, StrText::new(text), info.original_classes())?,
+        paragraphs: numbers(alloc, info.paragraphs())?,
+        levels: Vec::new(alloc),
+        has_rtl: false,
+    })
+}
+
+fn of_info<D: BidiDataSource>(alloc: Global, source: &D, row: TextRow) -> Result<Found, Fail> {
+    let (_, text, base, _, _, _) = row;
+    let info = BidiInfo::new_with_data_source(alloc, source, text, base_of(base)?)?;
+    Ok(Found {
+        classes: per_char(alloc, StrText::new(text), info.original_classes())?,
+        paragraphs: numbers(alloc, info.paragraphs())?,
+        levels: per_char(alloc, StrText::new(text), info.levels())?,
+        has_rtl: info.has_rtl(),
+    })
+}
+
+// What `ParagraphBidiInfo` finds, whose one paragraph is the whole text.
+fn of_paragraph<D: BidiDataSource>(alloc: Global, source: &D, row: TextRow) -> Result<Found, Fail> {
+    let (_, text, base, _, _, _) = row;
+    let info = ParagraphBidiInfo::new_with_data_source(alloc, source, text, base_of(base)?)?;
+    let mut paragraphs = Vec::new(alloc);
+    if text != "" {
+        paragraphs.push((0, text.len(), info.paragraph_level().number()))?;
+    }
+    Ok(Found {
+        classes: per_char(alloc, StrText::new(text), info.original_classes())?,
+        paragraphs,
+        levels: per_char(alloc, StrText::new(text), info.levels())?,
+        has_rtl: info.has_rtl(),
+    })
+}
+
+// Compares classes and paragraphs with those of a row.
+fn check_first(rt: &impl Abort, found: &Found, row: TextRow) {
+    let (name, _, _, classes, paragraphs, _) = row;
+    same(rt, name, found.classes.as_slice(), classes);
+    same(rt, name, found.paragraphs.as_slice(), paragraphs);
+}
+
+// Compares levels too.
+fn check(rt: &(impl AllocGlobal + Abort), found: &Found, row: TextRow) -> Result<(), Fail> {
+    check_first(rt, found, row);
+    let (name, _, _, _, _, levels) = row;
+    let levels = Level::vec(rt.alloc(), levels)?;
+    same(rt, name, found.levels.as_slice(), levels.as_slice());
+    same(rt, name, &[found.has_rtl], &[has_rtl(levels.as_slice())]);
     Ok(())
 }
 
-fn check_info<D: BidiDataSource>(
+fn check_all<D: BidiDataSource>(
     rt: &(impl AllocGlobal + Abort),
     source: &D,
     row: TextRow,
 ) -> Result<(), Fail> {
-    let (name, text, base, classes, paragraphs, levels) = row;
-    let levels = Level::vec(rt.alloc(), levels)?;
-    let info = BidiInfo::new_with_data_source(rt.alloc(), source, text, base_of(base)?)?;
-    let found = per_char(rt.alloc(), StrText::new(text), info.original_classes())?;
-    assert_eq!(rt; found.as_slice(), classes, "{name}");
-    let found = per_char(rt.alloc(), StrText::new(text), info.levels())?;
-    assert_eq!(rt; found.as_slice(), levels.as_slice(), "{name}");
-    assert_eq!(rt; info.has_rtl(), has_rtl(levels.as_slice()), "{name}");
-    let found = numbers(rt.alloc(), info.paragraphs())?;
-    assert_eq!(rt; found.as_slice(), paragraphs, "{name}");
-    Ok(())
-}
-
-// The same of a text as one paragraph.
-fn check_one<D: BidiDataSource>(
-    rt: &(impl AllocGlobal + Abort),
-    source: &D,
-    row: TextRow,
-) -> Result<(), Fail> {
-    let (name, text, base, classes, paragraphs, levels) = row;
-    let levels = Level::vec(rt.alloc(), levels)?;
-    let info = ParagraphBidiInfo::new_with_data_source(rt.alloc(), source, text, base_of(base)?)?;
-    let found = per_char(rt.alloc(), StrText::new(text), info.original_classes())?;
-    assert_eq!(rt; found.as_slice(), classes, "{name}");
-    let found = per_char(rt.alloc(), StrText::new(text), info.levels())?;
-    assert_eq!(rt; found.as_slice(), levels.as_slice(), "{name}");
-    assert_eq!(rt; info.has_rtl(), has_rtl(levels.as_slice()), "{name}");
-    for paragraph in paragraphs {
-        let found = (0, text.len(), info.paragraph_level().number());
-        assert_eq!(rt; found, *paragraph, "{name}");
+    check_first(rt, &of_initial(rt.alloc(), source, row)?, row);
+    check(rt, &of_info(rt.alloc(), source, row)?, row)?;
+    if row.4.len() < 2 {
+        check(rt, &of_paragraph(rt.alloc(), source, row)?, row)?;
     }
     Ok(())
 }
@@ -93,14 +118,10 @@ fn check_one<D: BidiDataSource>(
 fn texts(rt: HostRuntime) -> Result<(), Fail> {
     let source = sample()?;
     for row in TEXTS {
-        check_initial(&rt, &source, row)?;
-        check_info(&rt, &source, row)?;
-        if row.4.len() < 2 {
-            check_one(&rt, &source, row)?;
-        }
+        check_all(&rt, &source, row)?;
     }
     for row in ONE_PARAGRAPH {
-        check_one(&rt, &source, row)?;
+        check(&rt, &of_paragraph(rt.alloc(), &source, row)?, row)?;
     }
     Ok(())
 }
@@ -111,9 +132,7 @@ fn sources(rt: HostRuntime) -> Result<(), Fail> {
         let Ok(source) = TableBidiData::new(ranges, brackets) else {
             return Err(Fail::from("the ranges ascend"));
         };
-        check_initial(&rt, &source, row)?;
-        check_info(&rt, &source, row)?;
-        check_one(&rt, &source, row)?;
+        check_all(&rt, &source, row)?;
     }
     Ok(())
 }
@@ -123,9 +142,8 @@ fn directions(rt: HostRuntime) -> Result<(), Fail> {
     for (text, base, is_pure_ltr, has_rtl, direction) in DIRECTIONS {
         let base = base_of(base)?;
         let info = ParagraphBidiInfo::new_with_data_source(rt.alloc(), &sample()?, text, base)?;
-        assert_eq!(rt; info.is_pure_ltr(), is_pure_ltr, "{text:?}");
-        assert_eq!(rt; info.has_rtl(), has_rtl, "{text:?}");
-        assert_eq!(rt; info.direction(), direction, "{text:?}");
+        let found = (info.is_pure_ltr(), info.has_rtl(), info.direction());
+        assert_eq!(rt; found, (is_pure_ltr, has_rtl, direction), "{text:?}");
     }
     Ok(())
 }
@@ -227,75 +245,75 @@ fn many_open_isolates(rt: HostRuntime) -> Result<(), Fail> {
 
 #[test]
 fn initial_info(rt: HostRuntime) -> Result<(), Fail> {
-    let alloc = rt.alloc();
     let source = sample()?;
-    let info = InitialInfo::new_with_data_source(alloc, &source, "a\u{5D0}", None)?;
-    assert_eq!(rt; info.text(), "a\u{5D0}");
+    let text = "a\u{5D0}";
+    let info = InitialInfo::new_with_data_source(rt.alloc(), &source, text, None)?;
+    assert_eq!(rt; info.text(), text);
     assert_eq!(rt; info.original_classes(), [L, R, R].as_slice());
     let wanted = ParagraphInfo::new(0..3, Level::ltr());
-    assert_eq!(rt; info.paragraphs().first(), wanted.as_ref());
-    assert_eq!(rt;
-        info,
-        InitialInfo::new_with_data_source(alloc, &source, "a\u{5D0}", None)?
-    );
-    let highest = InitialInfo::new_with_data_source(alloc, &source, "a", Some(Level::new(126)?))?;
-    assert_eq!(rt; highest.original_classes(), [L].as_slice());
-    assert_eq!(rt;
-        numbers(alloc, highest.paragraphs())?.as_slice(),
-        [(0, 1, 126)].as_slice()
-    );
+    assert!(rt; info.paragraphs().first() == wanted.as_ref());
+    let again = InitialInfo::new_with_data_source(rt.alloc(), &source, text, None)?;
+    assert_eq!(rt; info, again);
+    Ok(())
+}
+
+// It takes any base level.
+#[test]
+fn greatest_base_level(rt: HostRuntime) -> Result<(), Fail> {
+    let base = Some(Level::new(126)?);
+    let info = InitialInfo::new_with_data_source(rt.alloc(), &sample()?, "a", base)?;
+    assert_eq!(rt; info.original_classes(), [L].as_slice());
+    let paragraphs = numbers(rt.alloc(), info.paragraphs())?;
+    assert_eq!(rt; paragraphs.as_slice(), [(0, 1, 126)].as_slice());
     Ok(())
 }
 
 #[test]
 fn bidi_info(rt: HostRuntime) -> Result<(), Fail> {
-    let alloc = rt.alloc();
     let source = sample()?;
-    let info = BidiInfo::new_with_data_source(alloc, &source, "a\n\u{5D0}", None)?;
-    assert_eq!(rt; info.text(), "a\n\u{5D0}");
-    assert_eq!(rt; info.original_classes().last().copied(), Some(R));
-    assert_eq!(rt; info.levels().len(), 4);
-    assert_eq!(rt; info.paragraphs().len(), 2);
-    let wanted = (
-        ParagraphInfo::new(0..2, Level::ltr()),
-        ParagraphInfo::new(2..4, Level::rtl()),
-    );
-    assert_eq!(rt; info.paragraphs().first(), wanted.0.as_ref());
-    assert_eq!(rt; info.paragraphs().last(), wanted.1.as_ref());
-    assert!(rt; info.has_rtl());
+    let text = "a\n\u{5D0}";
+    let info = BidiInfo::new_with_data_source(rt.alloc(), &source, text, None)?;
+    assert_eq!(rt; info.text(), text);
+    assert_eq!(rt; info.original_classes(), [L, B, R, R].as_slice());
     assert_eq!(rt;
-        info,
-        BidiInfo::new_with_data_source(alloc, &source, "a\n\u{5D0}", None)?
+        (info.levels().len(), info.paragraphs().len(), info.has_rtl()),
+        (4, 2, true)
     );
+    let first = ParagraphInfo::new(0..2, Level::ltr());
+    assert!(rt; info.paragraphs().first() == first.as_ref());
+    let last = ParagraphInfo::new(2..4, Level::rtl());
+    assert!(rt; info.paragraphs().last() == last.as_ref());
+    let again = BidiInfo::new_with_data_source(rt.alloc(), &source, text, None)?;
+    assert_eq!(rt; info, again);
     Ok(())
 }
 
 #[test]
 fn paragraph_bidi_info(rt: HostRuntime) -> Result<(), Fail> {
-    let alloc = rt.alloc();
     let source = sample()?;
     let text = "a\u{5D0}\u{2066}x\u{2069}(\u{5D1})";
-    let info = ParagraphBidiInfo::new_with_data_source(alloc, &source, text, None)?;
+    let info = ParagraphBidiInfo::new_with_data_source(rt.alloc(), &source, text, None)?;
     assert_eq!(rt; info.text(), text);
     assert_eq!(rt; info.original_classes().get(3).copied(), Some(LRI));
-    assert_eq!(rt; info.levels().len(), text.len());
-    assert_eq!(rt; info.paragraph_level(), Level::ltr());
-    assert!(rt; info.has_rtl() && !info.is_pure_ltr());
-    assert_eq!(rt; info.direction(), Direction::Mixed);
     assert_eq!(rt;
-        info,
-        ParagraphBidiInfo::new_with_data_source(alloc, &source, text, None)?
+        (info.levels().len(), info.paragraph_level().number()),
+        (text.len(), 0)
     );
+    let again = ParagraphBidiInfo::new_with_data_source(rt.alloc(), &source, text, None)?;
+    assert_eq!(rt; info, again);
     Ok(())
 }
 
 #[test]
 fn paragraph_info(rt: HostRuntime) -> Result<(), Fail> {
     let paragraph = ParagraphInfo::new(2..5, Level::rtl()).ok_or("in order")?;
-    assert_eq!(rt; paragraph.range(), 2..5);
-    assert_eq!(rt; paragraph.level(), Level::rtl());
-    assert_eq!(rt; paragraph.len(), 3);
-    assert_eq!(rt; paragraph.clone()?, paragraph);
+    let found = (
+        paragraph.range(),
+        paragraph.level().number(),
+        paragraph.len(),
+    );
+    assert_eq!(rt; found, (2..5, 1, 3));
+    assert!(rt; paragraph.clone()? == paragraph);
     assert!(rt; ParagraphInfo::new(3..3, Level::ltr()).is_some());
     assert!(rt; ParagraphInfo::new(3..2, Level::ltr()).is_none());
     Ok(())

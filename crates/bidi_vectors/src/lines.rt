@@ -1,6 +1,6 @@
 //! Lines: levels after L1, visual runs, and the text from left to right (L2).
 
-use crate::rows::{LINES, LineRow, base_of, per_char, sample};
+use crate::rows::{LINES, LineRow, base_of, per_char, same, sample};
 use bidi_base::char_data::Direction;
 use bidi_base::level::Level;
 use bidi_base::text::{StrText, is_line};
@@ -93,14 +93,14 @@ impl Shown {
         let (name, text, _, _, _, levels, runs, shown, is_borrowed) = row;
         let levels = Level::vec(rt.alloc(), levels)?;
         let of_units = per_char(rt.alloc(), StrText::new(text), self.units.as_slice())?;
-        assert_eq!(rt; of_units.as_slice(), levels.as_slice(), "{name}");
-        assert_eq!(rt; self.characters.as_slice(), levels.as_slice(), "{name}");
-        assert_eq!(rt; self.runs.len(), runs.len(), "{name}");
+        same(rt, name, of_units.as_slice(), levels.as_slice());
+        same(rt, name, self.characters.as_slice(), levels.as_slice());
+        same(rt, name, &[self.runs.len()], &[runs.len()]);
         for (run, ends) in self.runs.iter().zip(runs) {
-            assert_eq!(rt; (run.start, run.end), *ends, "{name}");
+            same(rt, name, &[(run.start, run.end)], &[*ends]);
         }
         assert_eq!(rt; self.text.as_str(), shown, "{name}");
-        assert_eq!(rt; self.is_borrowed, is_borrowed, "{name}");
+        same(rt, name, &[self.is_borrowed], &[is_borrowed]);
         Ok(())
     }
 }
@@ -113,10 +113,11 @@ fn lines_of_texts(rt: HostRuntime) -> Result<(), Fail> {
         let (name, text, base, line, stored, _, _, _, _) = row;
         let info = BidiInfo::new_with_data_source(alloc, &source, text, base_of(base)?)?;
         let levels = per_char(alloc, StrText::new(text), info.levels())?;
-        assert_eq!(rt;
+        same(
+            &rt,
+            name,
             levels.as_slice(),
             Level::vec(alloc, stored)?.as_slice(),
-            "{name}"
         );
         let para = info.paragraphs().first().ok_or("a paragraph")?;
         Shown::of_info(alloc, &info, para, line)?.check(&rt, row)?;
@@ -163,13 +164,15 @@ fn one_paragraph(rt: HostRuntime) -> Result<(), Fail> {
     let info = BidiInfo::new_with_data_source(rt.alloc(), &sample()?, text, None)?;
     let first = info.paragraphs().first().ok_or("a paragraph")?;
     let paragraph = Paragraph::new(&info, first);
-    assert_eq!(rt; paragraph.para(), first);
-    assert!(rt; *paragraph.info() == info);
+    assert!(rt; paragraph.para() == first && paragraph.info() == &info);
     if first.range() != (0..9) || info.levels().len() != 9 {
         return Err(Fail::from("nine bytes"));
     }
     assert_eq!(rt; paragraph.direction(), Direction::Mixed);
-    assert_eq!(rt; paragraph.level_at(0).number(), 1);
-    assert_eq!(rt; paragraph.level_at(6).number(), 2);
+    let levels = (
+        paragraph.level_at(0).number(),
+        paragraph.level_at(6).number(),
+    );
+    assert_eq!(rt; levels, (1, 2));
     Ok(())
 }

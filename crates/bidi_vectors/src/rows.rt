@@ -11,6 +11,8 @@ use bidi_base::level::Level;
 use bidi_base::sample;
 use bidi_base::text::{TextSource, is_per_char};
 use std::alloc::Global;
+use std::fmt::Debug;
+use std::process::Abort;
 use std::test::Fail;
 
 /// A name, a text, its base level, its stored classes, its paragraphs as start, end and level, and
@@ -204,4 +206,9 @@ pub fn per_char<T: TextSource, X: Copy + Eq>(
         entries.push(units.get(*place).copied().ok_or("an entry for each unit")?)?;
     }
     Ok(entries)
+}
+
+/// Sees that a list is the wanted one, of the row with this name.
+pub fn same<X: PartialEq + Debug>(rt: &impl Abort, name: &str, found: &[X], wanted: &[X]) {
+    assert_eq!(rt; found, wanted, "{name}");
 }

@@ -12,7 +12,7 @@ use Rattle.bidi_base.proofs.TextLemmas.{HasUnits}
 use Rattle.bidi_base.proofs.PerUnit.{get_or-per_unit-place}
 use Rattle.bidi_base.specs.Display.{Run, level_runs_from, level_runs, run_level, visual_runs, IsLevelRun}
 use Rattle.bidi_lines.proofs.Ordered.{visual_order-is}
-use Rattle.bidi_lines.proofs.FoundRuns.{order_below}
+use Rattle.bidi_lines.proofs.VisualRuns.{order_below}
 use Rattle.bidi_lines.proofs.Pieces.{at_places-map}
 use Rattle.bidi_lines.proofs.RunsLemmas.{level_runs-each}
 use Rattle.bidi_lines.proofs.VisualRuns.{run_at}

@@ -37,7 +37,7 @@ pub struct BidiInfo<T: TextSource> {
 impl<T: TextSource> BidiInfo<T> {
     ghost use Rattle.unicode_bidi.specs.BidiInfo.{analysed as analysed_of, paragraphs, original_classes, levels as levels_of_info};
 
-    // The same of any text.
+    // What `new_with_data_source` finds at each encoding, of any text.
     pub(crate) fn of_text<D: BidiDataSource>(
         alloc: Global,
         data_source: &D,

@@ -33,7 +33,7 @@ pub struct ParagraphBidiInfo<T: TextSource> {
 impl<T: TextSource> ParagraphBidiInfo<T> {
     ghost use Rattle.unicode_bidi.specs.ParagraphBidiInfo.{analysed as analysed_of, original_classes, levels as levels_of_info, paragraph_level, is_pure_ltr};
 
-    // The same of any text.
+    // What `new_with_data_source` finds at each encoding, of any text.
     pub(crate) fn of_text<D: BidiDataSource>(
         alloc: Global,
         data_source: &D,

@@ -3,7 +3,7 @@
 ghost use Rattle.std.specs.Prelude.{◌≡◌, ◌≤◌, length, vec_len, IsTrue, IfOk};
 ghost use Rattle.std.specs.List.{list_all};
 ghost use Rattle.bidi_base.specs.Classes.{has_direction};
-ghost use Rattle.bidi_base.specs.Implicit.{added_at_even, added_at_odd, implicit_level as implicit_level_of, implicit_levels};
+ghost use Rattle.bidi_base.specs.Implicit.{added_at_even, added_at_odd, implicit_level, implicit_levels};
 
 use bidi_base::char_data::BidiClass::{self, AN, EN, L, R};
 use bidi_base::level::Level;
@@ -29,7 +29,7 @@ pub fn implicit(
 
 fn implicit_level(level: Level, class: BidiClass) -> Level
     requires { level ≤ 125 }
-    ensures { result ≡ implicit_level_of level class }
+    ensures { result ≡ implicit_level level class }
 {
     let added = if level.is_rtl() {
         added_at_odd_level(class)

@@ -5,7 +5,7 @@ ghost use Rattle.std.specs.Prelude.{◌≡◌, ◌<◌, ◌≤◌, length, vec_l
 ghost use Rattle.std.specs.List.{list_all, prefix_len};
 ghost use Rattle.bidi_base.specs.Classes.{as_direction, has_direction, is_kept, is_l_or_r, is_neutral, is_weak_resolved};
 ghost use Rattle.bidi_base.specs.Brackets.{ArePairsWithin};
-ghost use Rattle.bidi_base.specs.Neutral.{n0, n1_n2, neutral_classes, pair_direction as pair_direction_of};
+ghost use Rattle.bidi_base.specs.Neutral.{n0, n1_n2, neutral_classes, pair_direction};
 
 use super::bracket_pairs::pairs;
 use bidi_base::char_data::BidiClass;
@@ -44,7 +44,7 @@ pub fn neutral(
 {
     let pairs = pairs(alloc, classes, brackets)?;
     let mut resolved = Vec::from_slice(alloc, classes)?;
-    resolve(
+    apply_n0_to_n2(
         level.bidi_class(),
         sos,
         eos,
@@ -55,30 +55,30 @@ pub fn neutral(
     Ok(resolved)
 }
 
-fn resolve(
-    embedding: BidiClass,
+fn apply_n0_to_n2(
+    embedding_direction: BidiClass,
     sos: BidiClass,
     eos: BidiClass,
     source: &[BidiClass],
     pairs: &[(usize, usize)],
     classes: &mut [BidiClass],
 )
-    requires embedding { IsTrue (is_l_or_r embedding) }
+    requires embedding_direction { IsTrue (is_l_or_r embedding_direction) }
     requires sos { IsTrue (is_l_or_r sos) }
     requires lengths { length source.now ≡ length classes.old }
     requires within { ArePairsWithin (length classes.old) pairs.now }
     requires classes { IsTrue (list_all is_weak_resolved classes.old) }
     ensures classes { classes.new
-        ≡ n1_n2 embedding sos eos (n0 embedding sos source.now pairs.now classes.old) }
+        ≡ n1_n2 embedding_direction sos eos (n0 embedding_direction sos source.now pairs.now classes.old) }
     ensures directed { IsTrue (list_all has_direction classes.new) }
 {
-    apply_n0(embedding, sos, source, pairs, classes);
-    apply_n1_n2(embedding, sos, eos, classes);
+    apply_n0(embedding_direction, sos, source, pairs, classes);
+    apply_n1_n2(embedding_direction, sos, eos, classes);
 }
 
 /// N0: the bracket pairs one by one, in the order of their openings.
 fn apply_n0(
-    embedding: BidiClass,
+    embedding_direction: BidiClass,
     sos: BidiClass,
     source: &[BidiClass],
     pairs: &[(usize, usize)],
@@ -86,10 +86,10 @@ fn apply_n0(
 )
     requires lengths { length source.now ≡ length classes.old }
     requires within { ArePairsWithin (length classes.old) pairs.now }
-    ensures { classes.new ≡ n0 embedding sos source.now pairs.now classes.old }
+    ensures { classes.new ≡ n0 embedding_direction sos source.now pairs.now classes.old }
 {
     for pair in pairs {
-        if let Some(direction) = pair_direction(embedding, sos, classes, *pair) {
+        if let Some(direction) = pair_direction(embedding_direction, sos, classes, *pair) {
             set_direction(source, classes, pair.0, direction);
             set_direction(source, classes, pair.1, direction);
         }
@@ -99,17 +99,17 @@ fn apply_n0(
 /// What a pair of brackets takes: the embedding direction if it stands inside (N0 b), otherwise,
 /// if the opposite one does, that of the context before the pair (N0 c), and else none (N0 d).
 fn pair_direction(
-    embedding: BidiClass,
+    embedding_direction: BidiClass,
     sos: BidiClass,
     classes: &[BidiClass],
     pair: (usize, usize),
 ) -> Option<BidiClass>
     requires { (pair.0 < pair.1) × (pair.1 < length classes.now) }
-    ensures { result ≡ pair_direction_of embedding sos classes.now pair }
+    ensures { result ≡ pair_direction embedding_direction sos classes.now pair }
 {
     let inside = &classes[pair.0 + 1..pair.1];
-    if contains_direction(inside, embedding) {
-        Some(embedding)
+    if contains_direction(inside, embedding_direction) {
+        Some(embedding_direction)
     } else if contains_any_direction(inside) {
         Some(nearest_direction(sos, &classes[..pair.0]))
     } else {
@@ -119,16 +119,21 @@ fn pair_direction(
 
 /// N1 and N2: a sequence of neutrals takes the direction on both its sides, where sos and eos stand
 /// at the ends, and the embedding direction where the two differ.
-fn apply_n1_n2(embedding: BidiClass, sos: BidiClass, eos: BidiClass, classes: &mut [BidiClass])
+fn apply_n1_n2(
+    embedding_direction: BidiClass,
+    sos: BidiClass,
+    eos: BidiClass,
+    classes: &mut [BidiClass],
+)
     requires { IsTrue (list_all is_weak_resolved classes.old) }
-    ensures { classes.new ≡ n1_n2 embedding sos eos classes.old }
+    ensures { classes.new ≡ n1_n2 embedding_direction sos eos classes.old }
 {
     let mut left = sos;
     let mut start = 0;
     while start < classes.len() {
         let end = start + neutrals(&classes[start..]);
         let right = direction_at(classes, end, eos);
-        classes[start..end].fill(common_direction(embedding, left, right));
+        classes[start..end].fill(common_direction(embedding_direction, left, right));
         left = right;
         start = end + 1;
     }

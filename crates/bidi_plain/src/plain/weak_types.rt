@@ -25,12 +25,12 @@ pub fn weak(
     ensures len { IfOk result (λ v. vec_len v ≡ length classes.now) }
 {
     let mut resolved = Vec::from_slice(alloc, classes)?;
-    resolve(sos, resolved.as_mut_slice());
+    apply_w1_to_w7(sos, resolved.as_mut_slice());
     Ok(resolved)
 }
 
 #[tactic(auto, unfolding(bidi_base::specs::Weak::weak_classes))]
-fn resolve(sos: BidiClass, classes: &mut [BidiClass])
+fn apply_w1_to_w7(sos: BidiClass, classes: &mut [BidiClass])
     requires sos { IsTrue (is_l_or_r sos) }
     requires kept { IsTrue (list_all is_kept classes.old) }
     ensures classes { classes.new ≡ weak_classes sos classes.old }

@@ -6,7 +6,7 @@ ghost use Rattle.std.specs.List.{prefix_len};
 ghost use Rattle.bidi_base.specs.Classes.{has_direction, stands_for};
 ghost use Rattle.bidi_base.specs.Brackets.{AreNestedPairs};
 ghost use Rattle.bidi_base.specs.Neutral.{n0};
-ghost use Rattle.bidi_rules.specs.PairWalk.{first_pair_walk, come_to as come_to_of, enclosed_in, taken};
+ghost use Rattle.bidi_rules.specs.PairWalk.{first_pair_walk, come_to, enclosed_in, taken};
 
 use bidi_base::char_data::BidiClass::{self, NSM};
 use bidi_base::classes::{as_direction, stands_for};
@@ -14,34 +14,34 @@ use bidi_base::neutrals::{
     contains_any_direction, contains_direction, nearest_direction, set_direction,
 };
 
-/// N0: the pairs one by one, in the order of their openings. `source` has the classes that the data
-/// source gives, and `classes` those after W7.
+/// N0: the pairs one by one, in the order of their openings. `original_classes` has the stored
+/// classes, and `classes` those after W7.
 ///
 /// One walk over the classes serves all pairs. Only a pair whose opening is a nonspacing mark by its
-/// source class is looked through by itself, since it may stand among the marks that another pair
+/// original class is looked through by itself, since it may stand among the marks that another pair
 /// changed.
 pub fn resolve_pairs(
-    embedding: BidiClass,
+    embedding_direction: BidiClass,
     sos: BidiClass,
-    source: &[BidiClass],
+    original_classes: &[BidiClass],
     pairs: &[(usize, usize)],
     classes: &mut [BidiClass],
 )
-    requires lengths { length source.now ≡ length classes.old }
+    requires lengths { length original_classes.now ≡ length classes.old }
     requires pairs { AreNestedPairs (length classes.old) pairs.now }
-    ensures { classes.new ≡ n0 embedding sos source.now pairs.now classes.old }
+    ensures { classes.new ≡ n0 embedding_direction sos original_classes.now pairs.now classes.old }
 {
     let mut walk = PairWalk::new(sos);
     for pair in pairs {
         let (opening, closing) = *pair;
-        walk.come_to(embedding, classes, opening);
-        let enclosed = match source[opening] {
-            NSM => Enclosed::in_classes(embedding, &classes[opening + 1..closing]),
+        walk.come_to(embedding_direction, classes, opening);
+        let enclosed = match original_classes[opening] {
+            NSM => Enclosed::in_classes(embedding_direction, &classes[opening + 1..closing]),
             _ => walk.enclosed_before(closing),
         };
-        if let Some(direction) = enclosed.pair_direction(embedding, walk.context) {
-            set_direction(source, classes, opening, direction);
-            set_direction(source, classes, closing, direction);
+        if let Some(direction) = enclosed.pair_direction(embedding_direction, walk.context) {
+            set_direction(original_classes, classes, opening, direction);
+            set_direction(original_classes, classes, closing, direction);
         }
     }
 }
@@ -57,22 +57,22 @@ struct Enclosed {
 
 impl Enclosed {
     /// Those in these classes.
-    fn in_classes(embedding: BidiClass, inside: &[BidiClass]) -> Enclosed
-        ensures { result ≡ enclosed_in embedding inside.now }
+    fn in_classes(embedding_direction: BidiClass, inside: &[BidiClass]) -> Enclosed
+        ensures { result ≡ enclosed_in embedding_direction inside.now }
     {
         Enclosed {
-            embedding: contains_direction(inside, embedding),
+            embedding: contains_direction(inside, embedding_direction),
             any: contains_any_direction(inside),
         }
     }
 
     /// What the pair takes: the embedding direction if it stands inside (N0 b), otherwise, if the
     /// opposite one does, that of the context before the pair (N0 c), and else none (N0 d).
-    fn pair_direction(self, embedding: BidiClass, context: BidiClass) -> Option<BidiClass>
-        ensures { result ≡ taken embedding context self }
+    fn pair_direction(self, embedding_direction: BidiClass, context: BidiClass) -> Option<BidiClass>
+        ensures { result ≡ taken embedding_direction context self }
     {
         if self.embedding {
-            Some(embedding)
+            Some(embedding_direction)
         } else if self.any {
             Some(context)
         } else {
@@ -109,16 +109,16 @@ impl PairWalk {
     }
 
     /// Goes on to an opening.
-    fn come_to(&mut self, embedding: BidiClass, classes: &[BidiClass], opening: usize)
+    fn come_to(&mut self, embedding_direction: BidiClass, classes: &[BidiClass], opening: usize)
         requires ahead { self.old.at ≤ opening }
         requires inside { opening < length classes.now }
-        ensures { self.new ≡ come_to_of embedding classes.now opening self.old }
+        ensures { self.new ≡ come_to embedding_direction classes.now opening self.old }
     {
         let inside = opening + 1;
         self.context = nearest_direction(self.context, &classes[self.at..opening]);
         self.at = opening;
         if self.next_embedding < inside {
-            self.next_embedding = inside + count_without(embedding, &classes[inside..]);
+            self.next_embedding = inside + count_without(embedding_direction, &classes[inside..]);
         }
         if self.next_direction < inside {
             self.next_direction = inside + count_undirected(&classes[inside..]);

@@ -2,7 +2,7 @@
 
 ghost use Rattle.std.specs.Prelude.{◌≡◌, ◌≤◌, All, fold, length, map, max};
 ghost use Rattle.std.specs.List.{zip};
-ghost use Rattle.bidi_base.specs.Implicit.{implicit_level as implicit_level_of};
+ghost use Rattle.bidi_base.specs.Implicit.{implicit_level};
 
 use bidi_base::char_data::BidiClass::{self, AN, EN, L, R};
 use bidi_base::level::Level;
@@ -13,7 +13,7 @@ use bidi_base::level::Level;
 pub fn resolve_levels(processing_classes: &[BidiClass], levels: &mut [Level]) -> Level
     requires lengths { length levels.old ≡ length processing_classes.now }
     requires explicit { All (λ level. level ≤ 125) levels.old }
-    ensures levels { levels.new ≡ map (λ e. implicit_level_of e.0 e.1) (zip levels.old processing_classes.now) }
+    ensures levels { levels.new ≡ map (λ e. implicit_level e.0 e.1) (zip levels.old processing_classes.now) }
     ensures greatest { result ≡ fold max 0 levels.new }
 {
     let mut greatest = 0u8;
@@ -28,7 +28,7 @@ pub fn resolve_levels(processing_classes: &[BidiClass], levels: &mut [Level]) ->
 // Sums in place of branches, and no way out, so that a loop over it is done for many units at once.
 fn implicit_level(level: Level, class: BidiClass) -> Level
     requires { level ≤ 125 }
-    ensures { result ≡ implicit_level_of level class }
+    ensures { result ≡ implicit_level level class }
 {
     let number = u8::from(class == EN || class == AN);
     let added = if level.is_rtl() {

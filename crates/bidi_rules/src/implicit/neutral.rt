@@ -32,7 +32,7 @@ use bidi_base::char_data::BidiClass;
 use bidi_base::data_source::BidiDataSource;
 use bidi_base::level::Level;
 use bidi_base::text::TextSource;
-use directions::resolve_directions;
+use directions::{Directions, resolve_directions};
 use one_direction::stands_alone;
 use std::alloc::{AllocError, Global};
 use units::{first_kept, gather_sources, write_back};
@@ -47,7 +47,7 @@ pub struct NeutralResolver {
     /// The bracket pairs, as indexes of these characters.
     pairs: Vec<(usize, usize)>,
     /// The classes of these characters before the weak types were resolved, where there are pairs.
-    sources: Vec<BidiClass>,
+    original_classes: Vec<BidiClass>,
 }
 
 impl NeutralResolver {
@@ -59,7 +59,7 @@ impl NeutralResolver {
             classes: Vec::new(alloc),
             brackets: Vec::new(alloc),
             pairs: Vec::new(alloc),
-            sources: Vec::new(alloc),
+            original_classes: Vec::new(alloc),
         }
     }
 
@@ -93,21 +93,19 @@ impl NeutralResolver {
         };
         let embedding = levels[first].bidi_class();
         let eos = sequence.eos();
-        if stands_alone(embedding, sos, eos, runs, processing_classes) {
+        let directions = Directions {
+            embedding,
+            sos,
+            eos,
+        };
+        if stands_alone(directions, runs, processing_classes) {
             let end = processing_classes.len();
             write_over_runs(runs, processing_classes, 0, end, embedding);
             return Ok(());
         }
         self.gather(text, data_source, runs, processing_classes)?;
-        self.resolve_brackets(
-            text,
-            runs,
-            original_classes,
-            processing_classes,
-            embedding,
-            sos,
-        )?;
-        resolve_directions(embedding, sos, eos, self.classes.as_mut_slice());
+        self.resolve_brackets(text, runs, original_classes, processing_classes, directions)?;
+        resolve_directions(directions, self.classes.as_mut_slice());
         write_back(text, runs, self.classes.as_slice(), processing_classes);
         Ok(())
     }
@@ -188,8 +186,7 @@ impl NeutralResolver {
         runs: &[LevelRun],
         original_classes: &[BidiClass],
         processing_classes: &[BidiClass],
-        embedding: BidiClass,
-        sos: BidiClass,
+        directions: Directions,
     ) -> Result<(), AllocError>
         requires lines { AreLines T.units (T.characters text) (map bounds runs.now) }
         requires long { length processing_classes.now ≡ text_len T.units (T.characters text) }
@@ -197,7 +194,7 @@ impl NeutralResolver {
         requires gathered { length self.old.classes.items ≡ length (kept_in_place T.units (T.characters text) processing_classes.now (map bounds runs.now)) }
         requires brackets { AreBracketsOf self.old.classes.items self.old.brackets.items }
         ensures { (brackets : List (Option BidiMatchedOpeningBracket)) → self.old.brackets.items ≡ found_brackets self.old.classes.items brackets
-            → OnOk result (self.new.classes.items ≡ n0 embedding sos (values_of L T.units (T.characters text) original_classes.now (kept_in_place T.units (T.characters text) processing_classes.now (map bounds runs.now)))
+            → OnOk result (self.new.classes.items ≡ n0 directions.embedding directions.sos (values_of L T.units (T.characters text) original_classes.now (kept_in_place T.units (T.characters text) processing_classes.now (map bounds runs.now)))
             (bracket_pairs self.old.classes.items brackets) self.old.classes.items) }
     {
         find_pairs(self.brackets.as_slice(), &mut self.pairs)?;
@@ -209,12 +206,12 @@ impl NeutralResolver {
             runs,
             original_classes,
             processing_classes,
-            &mut self.sources,
+            &mut self.original_classes,
         )?;
         resolve_pairs(
-            embedding,
-            sos,
-            self.sources.as_slice(),
+            directions.embedding,
+            directions.sos,
+            self.original_classes.as_slice(),
             self.pairs.as_slice(),
             self.classes.as_mut_slice(),
         );

@@ -1,7 +1,7 @@
 //! The weak types in place (W1 to W7).
 
 ghost use Rattle.std.specs.Prelude.{◌≡◌, ℕ, ◌+◌, ◌<◌, ◌≤◌, true, false, length, map, drop, get_or, if◌then◌else◌, IsTrue};
-ghost use Rattle.bidi_base.specs.Classes.{is_kept_in_place as is_kept_in_place_of};
+ghost use Rattle.bidi_base.specs.Classes.{is_kept_in_place};
 ghost use Rattle.bidi_base.specs.Places.{at_places, class_at};
 ghost use Rattle.bidi_base.specs.Text.{IsLine, is_per_char, place, text_len};
 ghost use Rattle.bidi_base.specs.Units.{bounds, are_ordered, in_runs, kept_in_place, AreLines};
@@ -43,7 +43,7 @@ struct Walk {
 
 /// What is in the place of a class once another is written over it.
 fn written_over(before: BidiClass, class: BidiClass) -> BidiClass
-    ensures { result ≡ (if is_kept_in_place_of before then class else before) }
+    ensures { result ≡ (if is_kept_in_place before then class else before) }
 {
     if is_kept_in_place(before) {
         class
@@ -55,7 +55,7 @@ fn written_over(before: BidiClass, class: BidiClass) -> BidiClass
 /// Writes the class over those units from `from` up to `to` that are not BN.
 fn write_over(classes: &mut [BidiClass], from: usize, to: usize, class: BidiClass)
     requires { to ≤ length classes.old }
-    ensures { IsWrittenOver (λ k. is_kept_in_place_of (class_at classes.old k)) class from to classes.old classes.new }
+    ensures { IsWrittenOver (λ k. is_kept_in_place (class_at classes.old k)) class from to classes.old classes.new }
 {
     for unit in from..to {
         classes[unit] = written_over(classes[unit], class);
@@ -182,8 +182,9 @@ impl Walk {
 ///
 /// Each unit of `processing_classes` has the class of its character, and the sequence fits the
 /// text. BN stays, and so do the units outside the sequence. No memory is taken. Without numbers and
-/// nonspacing marks each class changes by itself; otherwise one walk looks at each character once, and goes over the units of terminators and separators that wait for the
-/// character behind them once more.
+/// nonspacing marks each class changes by itself; otherwise one walk looks at each character once, and
+/// goes over the units of terminators and separators that wait for the character behind them once
+/// more.
 pub fn resolve_weak<T: TextSource>(
     text: T,
     sequence: &IsolatingRunSequence,

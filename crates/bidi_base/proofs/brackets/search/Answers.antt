@@ -1,18 +1,19 @@
-use Rattle.std.proofs.Common.{◌≡◌, ℕ, ◌+◌, ◌<◌, false, List, [], ◌∷◌, ◌++◌, length, get_or, drop, Option, None, refl, sym, ap, subst, ◌∙◌, arith, rules, eqb-true}
+use Rattle.std.proofs.Common.{◌≡◌, ◌+◌, ◌<◌, false, List, ◌∷◌, length, get_or, drop, Option, None, refl, sym, ap, subst, ◌∙◌, arith}
 use Rattle.std.specs.Prelude.{◌==◌}
 use Rattle.std.specs.List.{slice_get}
 use Rattle.std.proofs.lemmas.List.{drop_more, drop_all, get_or_default}
 use Rattle.std.proofs.lemmas.List.Elements.{All-nil}
+use Rattle.std.proofs.lemmas.Bool.{ltb-true, ltb-false}
 use Rattle.bidi_base.specs.declared.data_source.BidiMatchedOpeningBracket.{BidiMatchedOpeningBracket}
 use Rattle.bidi_base.specs.Places.{find_last}
 use Rattle.bidi_base.specs.Brackets.{counted_brackets, bracket_pairs}
 use Rattle.bidi_base.specs.declared.brackets.Bracket.{Bracket}
 use Rattle.bidi_base.specs.FoundBrackets.{brackets_from, found_brackets}
 use Rattle.bidi_base.specs.declared.brackets.Waiting.{Waiting}
-use Rattle.bidi_base.proofs.BracketSearch.{AreWithin-opening, AreWithin-pair, IsAt, IsAt-start, IsAt-opening, IsAt-unmatched, IsAt-pair, IsAt-full, IsAt-end, has_room}
+use Rattle.bidi_base.proofs.BracketSearch.{AreWithin-opening, AreWithin-pair, IsAt, IsAt-start, IsAt-opening, IsAt-unmatched, IsAt-pair, IsAt-full, IsAt-end}
 use Rattle.bidi_base.proofs.brackets.search.Goals as goal
-use Rattle.bidi_base.proofs.brackets.search.Goals.{then-bracket+else-is_full+in_ok-push, else-bracket+in-Some, else-bracket+in_default}
-use Rattle.bidi_base.proofs.brackets.search.Goals.{else-loop-bracket-test, then-loop-bracket-test+then-bracket+then-is_full}
+use Rattle.bidi_base.proofs.brackets.search.Goals.{then-bracket+in_ok-had_room+else-not-had_room, else-bracket+in-Some, else-bracket+in_default}
+use Rattle.bidi_base.proofs.brackets.search.Goals.{else-loop-bracket-test, then-loop-bracket-test+then-bracket+in_ok-had_room+then-not-had_room}
 
 pub loop-bracket-init : goal.loop-bracket-init
 loop-bracket-init c = record {
@@ -28,7 +29,8 @@ here : (c : goal.Joined-bracket) → (counted : List (Option BidiMatchedOpeningB
     → IsAt counted c.loop-bracket.pairs.items c.loop-bracket.waiting.items (read c ∷ drop (c.loop-bracket.bracket-index + 1) c.args.brackets.now)
 here c counted is =
     let s = c.loop-bracket in
-    subst (λ (rest : List Bracket). IsAt counted s.pairs.items s.waiting.items rest) (drop_more c.args.brackets.now s.bracket-index (record { index = 0; opening = 0; is_open = false }) c.loop-bracket-test.true)
+    subst (λ (rest : List Bracket). IsAt counted s.pairs.items s.waiting.items rest) (drop_more c.args.brackets.now s.bracket-index (record { index = 0; opening = 0; is_open = false })
+    c.loop-bracket-test.true)
     (s.invariant.found counted is)
 
 pub loop-bracket-preserved : goal.loop-bracket-preserved
@@ -37,16 +39,15 @@ loop-bracket-preserved c =
     let bracket = read c in
     let rest = drop (s.bracket-index + 1) c.args.brackets.now in
     elim c.if-bracket.branch [
-      | then-bracket+else-is_full+in_ok-push w ↦
+      | then-bracket+in_ok-had_room+else-not-had_room w ↦
           let e : Waiting = record { opening = bracket.opening; pair = length s.pairs.items } in
-          let pushed : w.push-then-bracket.new.self.items ≡ s.pairs.items ++ (bracket.index, bracket.index) ∷ [] = search rules in
-          let size : w.len.result ≡ length s.pairs.items = omega (arith, w.len.ensures, s.pairs.ok.0) in
-          let stacked : w.push.new.self.items ≡ s.waiting.items ++ e ∷ [] = w.push.ensures.items ∙ ap (λ (n : ℕ). let x : Waiting = record { opening = bracket.opening; pair = n } in s.waiting.items ++ x ∷ []) size in
-          let few : length s.waiting.items < 63 = has_room (length s.waiting.items) 63 w.is_full.ensures.fits (sym w.is_full.ensures.value ∙ w.if-is_full.false) in
+          let opened = w.in_ok-had_room.ensures in
+          let room = w.if-not-had_room.false in
+          let few : length s.waiting.items < 63 = ltb-true (length s.waiting.items) 63 (sym opened.room ∙ room) in
           record {
-            within = rw (w.pairs-is, w.waiting-is, pushed, stacked) (AreWithin-opening s.pairs.items (bracket.index, bracket.index) s.waiting.items e s.invariant.within refl);
+            within = rw (w.pairs-is, w.waiting-is, opened.pairs room, opened.waiting room) (AreWithin-opening s.pairs.items (bracket.index, bracket.index) s.waiting.items e s.invariant.within refl);
             found = λ counted is.
-                rw (w.pairs-is, w.waiting-is, pushed, stacked) (IsAt-opening counted s.pairs.items s.waiting.items bracket rest (here c counted is) w.if-bracket.true few);
+                rw (w.pairs-is, w.waiting-is, opened.pairs room, opened.waiting room) (IsAt-opening counted s.pairs.items s.waiting.items bracket rest (here c counted is) w.if-bracket.true few);
           }
       | else-bracket+in-Some w ↦
           let k = w.in-Some.entry in
@@ -77,11 +78,17 @@ returns c = λ classes sources is.
     let at = s.invariant.found counted is in
     c.drop_unclosed.ensures
     ∙ elim c.loop-bracket-test.branch [
-      | else-loop-bracket-test w ↦ IsAt-end counted s.pairs.items s.waiting.items (subst (λ (rest : List Bracket). IsAt counted s.pairs.items s.waiting.items rest) (drop_all s.bracket-index c.args.brackets.now (omega (arith, w.loop-bracket-test.false))) at)
-      | then-loop-bracket-test+then-bracket+then-is_full w ↦
+      | else-loop-bracket-test w ↦
+          rw w.pairs-is
+          (IsAt-end counted s.pairs.items s.waiting.items
+          (subst (λ (rest : List Bracket). IsAt counted s.pairs.items s.waiting.items rest) (drop_all s.bracket-index c.args.brackets.now (omega (arith, w.loop-bracket-test.false))) at))
+      | then-loop-bracket-test+then-bracket+in_ok-had_room+then-not-had_room w ↦
           let d : Bracket = record { index = 0; opening = 0; is_open = false } in
           let bracket = get_or c.args.brackets.now s.bracket-index d in
-          IsAt-full counted s.pairs.items s.waiting.items bracket (drop (s.bracket-index + 1) c.args.brackets.now)
+          let opened = w.in_ok-had_room.ensures in
+          let none = w.if-not-had_room.true in
+          rw (w.pairs-is, (opened.full none).1)
+          (IsAt-full counted s.pairs.items s.waiting.items bracket (drop (s.bracket-index + 1) c.args.brackets.now)
           (subst (λ (rest : List Bracket). IsAt counted s.pairs.items s.waiting.items rest) (drop_more c.args.brackets.now s.bracket-index d w.loop-bracket-test.true) at) w.if-bracket.true
-          (let full : length s.waiting.items ≡ 63 = eqb-true (length s.waiting.items) 63 (sym w.is_full.ensures.value ∙ w.if-is_full.true) in omega arith)
+          (ltb-false (length s.waiting.items) 63 (sym opened.room ∙ none)))
     ]

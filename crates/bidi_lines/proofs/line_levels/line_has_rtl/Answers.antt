@@ -3,7 +3,7 @@ use Rattle.std.proofs.lemmas.List.{get_or_default}
 use Rattle.bidi_base.specs.Levels.{is_odd, is_even}
 use Rattle.bidi_base.specs.Line.{is_reset}
 use Rattle.bidi_base.proofs.LevelsLemmas.{is_odd-not_even}
-use Rattle.bidi_lines.proofs.LineLevels.{IsQuietFrom, IsQuietFrom-start, IsQuietFrom-more, reset-before, shows_rtl-at, has_rtl-shown, has_rtl-even, has_rtl-end}
+use Rattle.bidi_lines.proofs.LineLevels.{IsQuietFrom, IsQuietFrom-start, IsQuietFrom-more, read-at, has_rtl-shown, has_rtl-even, has_rtl-end}
 use Rattle.bidi_lines.proofs.line_levels.line_has_rtl.Goals as goal
 
 not_odd : (a b : Bool) → a ≡ not b → b ≡ true → a ≡ false
@@ -25,24 +25,20 @@ pub returns-then-shows_rtl : goal.returns-then-shows_rtl
 returns-then-shows_rtl c =
     let at : ℕ = c.loop-at.at - 1 in
     let fits : at < length c.args.classes.now = omega (arith, c.loop-at.invariant.within) in
-    let next = c.loop-at.invariant.reset_next ∙ ap (λ n. is_reset (drop n c.args.classes.now)) (sym (back c.loop-at.at c.loop-at-test.true)) in
-    let reset = reset-before c.args.level c.args.classes.now c.args.levels.now at c.loop-at.reset c.is_reset-reset.result fits next c.is_reset-reset.ensures in
-    sym (has_rtl-shown c.args.level c.args.classes.now c.args.levels.now c.requires at fits
-    (sym (shows_rtl-at c.args.level c.args.classes.now c.args.levels.now at c.is_reset-reset.result c.shows_rtl.result c.index-levels-at.result reset
-    (c.index-levels-at.is ∙ get_or_default c.args.levels.now at c.index-levels-at.result 0 (omega arith)) c.shows_rtl.ensures)
-    ∙ c.if-shows_rtl.true))
+    let w = read-at c.args.level c.args.classes.now c.args.levels.now at c.loop-at.reset _ _ c.index-levels-at.result fits
+    (c.loop-at.invariant.reset_next ∙ ap (λ n. is_reset (drop n c.args.classes.now)) (sym (back c.loop-at.at c.loop-at-test.true)))
+    c.is_reset-reset.ensures (c.index-levels-at.is ∙ get_or_default c.args.levels.now at c.index-levels-at.result 0 (omega arith)) c.shows_rtl.ensures in
+    sym (has_rtl-shown c.args.level c.args.classes.now c.args.levels.now c.requires at fits (sym w.1 ∙ c.if-shows_rtl.true))
 
 pub loop-at-preserved : goal.loop-at-preserved
 loop-at-preserved c =
     let at : ℕ = c.loop-at.at - 1 in
     let fits : at < length c.args.classes.now = omega (arith, c.loop-at.invariant.within) in
     let same = sym (back c.loop-at.at c.loop-at-test.true) in
-    let next = c.loop-at.invariant.reset_next ∙ ap (λ n. is_reset (drop n c.args.classes.now)) same in
-    let reset = reset-before c.args.level c.args.classes.now c.args.levels.now at c.loop-at.reset c.is_reset-reset.result fits next c.is_reset-reset.ensures in
-    IsQuietFrom-more c.args.level c.args.classes.now c.args.levels.now at c.loop-at.reset c.is_reset-reset.result fits reset
-    (sym (shows_rtl-at c.args.level c.args.classes.now c.args.levels.now at c.is_reset-reset.result c.shows_rtl.result c.index-levels-at.result reset
-    (c.index-levels-at.is ∙ get_or_default c.args.levels.now at c.index-levels-at.result 0 (omega arith)) c.shows_rtl.ensures)
-    ∙ c.if-shows_rtl.false)
+    let w = read-at c.args.level c.args.classes.now c.args.levels.now at c.loop-at.reset _ _ c.index-levels-at.result fits
+    (c.loop-at.invariant.reset_next ∙ ap (λ n. is_reset (drop n c.args.classes.now)) same)
+    c.is_reset-reset.ensures (c.index-levels-at.is ∙ get_or_default c.args.levels.now at c.index-levels-at.result 0 (omega arith)) c.shows_rtl.ensures in
+    IsQuietFrom-more c.args.level c.args.classes.now c.args.levels.now at c.loop-at.reset c.is_reset-reset.result fits w.0 (sym w.1 ∙ c.if-shows_rtl.false)
     (subst (λ (n : ℕ). IsQuietFrom c.args.level c.args.classes.now c.args.levels.now c.loop-at.reset n) same c.loop-at.invariant)
 
 both : (r a b : Bool) → a ≡ true → r ≡ b → r ≡ (a && b)

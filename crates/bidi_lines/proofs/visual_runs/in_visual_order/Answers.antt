@@ -1,7 +1,7 @@
 use Rattle.std.proofs.Common.{◌∙◌, map, length, ap}
 use Rattle.std.proofs.lemmas.List.{length-map}
 use Rattle.bidi_base.specs.Display.{run_of, run_level}
-use Rattle.bidi_lines.proofs.FoundRuns.{order_below}
+use Rattle.bidi_lines.proofs.VisualRuns.{order_below}
 use Rattle.bidi_lines.proofs.visual_runs.in_visual_order.Goals as goal
 
 pub runs_at-requires : goal.runs_at-requires

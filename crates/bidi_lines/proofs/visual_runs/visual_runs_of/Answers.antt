@@ -2,7 +2,8 @@ use Rattle.std.proofs.Common.{◌≡◌, ◌∙◌, Result, Ok, Err, IfOk, map, 
 use Rattle.std.proofs.lemmas.List.{length-map}
 use Rattle.bidi_base.specs.Levels.{has_rtl}
 use Rattle.bidi_base.specs.Display.{run_of, run_level, level_runs}
-use Rattle.bidi_lines.proofs.FoundRuns.{runs_within, visual_runs-still, visual_runs-one, visual_runs-found, order_below, AreVisualRuns-from_same}
+use Rattle.bidi_lines.proofs.FoundRuns.{runs_within, visual_runs-still, visual_runs-one, visual_runs-found, AreVisualRuns-from_same}
+use Rattle.bidi_lines.proofs.VisualRuns.{order_below}
 use Rattle.bidi_lines.proofs.visual_runs.visual_runs_of.Goals as goal
 
 answered : {A E : Type 0} {P Q : A → Type 0} (r : Result A E) → ((x : A) → P x → Q x) → IfOk r P → IfOk r Q

@@ -10,32 +10,43 @@ use bidi_base::char_data::BidiClass;
 use bidi_base::classes::as_direction;
 use bidi_base::neutrals::common_direction;
 
+/// The directions that neutrals of a sequence can take beside those among them.
+#[derive(Clone, Copy, Debug)]
+pub struct Directions {
+    /// That of the sequence's level.
+    pub embedding: BidiClass,
+    /// That before its first character.
+    pub sos: BidiClass,
+    /// That after its last character.
+    pub eos: BidiClass,
+}
+
 /// N1 and N2: neutrals take the direction on both their sides, where sos and eos stand at the ends,
 /// and the embedding direction where the two differ.
-pub fn resolve_directions(
-    embedding: BidiClass,
-    sos: BidiClass,
-    eos: BidiClass,
-    classes: &mut [BidiClass],
-)
+pub fn resolve_directions(directions: Directions, classes: &mut [BidiClass])
     requires { IsTrue (list_all is_weak_resolved classes.old) }
-    ensures { classes.new ≡ n1_n2 embedding sos eos classes.old }
+    ensures { classes.new ≡ n1_n2 directions.embedding directions.sos directions.eos classes.old }
 {
+    let Directions {
+        embedding,
+        sos,
+        eos,
+    } = directions;
     let mut left = sos;
     let mut start = 0;
     for at in 0..classes.len() {
         if let Some(right) = as_direction(classes[at]) {
-            settle(classes, start, at, common_direction(embedding, left, right));
+            fill_between(classes, start, at, common_direction(embedding, left, right));
             left = right;
             start = at + 1;
         }
     }
     let end = classes.len();
-    settle(classes, start, end, common_direction(embedding, left, eos));
+    fill_between(classes, start, end, common_direction(embedding, left, eos));
 }
 
 /// Writes a class to the part from `start` to `end`, which is mostly empty.
-fn settle(classes: &mut [BidiClass], start: usize, end: usize, class: BidiClass)
+fn fill_between(classes: &mut [BidiClass], start: usize, end: usize, class: BidiClass)
     requires begins { start ≤ end }
     requires ends { end ≤ length classes.old }
     ensures { classes.new ≡ filled start (end - start) class classes.old }

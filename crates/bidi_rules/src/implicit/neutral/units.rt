@@ -2,7 +2,7 @@
 
 ghost use Rattle.std.specs.Prelude.{◌≡◌, ℕ, ◌+◌, ◌<◌, ◌≤◌, [], ◌∷◌, ◌++◌, length, map, drop, find, All, IsTrue, OnOk};
 ghost use Rattle.bidi_base.specs.declared.char_data.BidiClass.TheVariants.{L};
-ghost use Rattle.bidi_base.specs.Classes.{is_kept_in_place as is_kept_in_place_of};
+ghost use Rattle.bidi_base.specs.Classes.{is_kept_in_place};
 ghost use Rattle.bidi_base.specs.Places.{class_at};
 ghost use Rattle.bidi_base.specs.Text.{per_char, per_unit, text_len, IsLine, IsPerChar};
 ghost use Rattle.bidi_base.specs.Units.{are_ordered, bounds, kept_in_place, units_in_runs, AreLines};
@@ -18,7 +18,7 @@ use std::alloc::AllocError;
 /// The first unit of a sequence that is not BN.
 pub fn first_kept(runs: &[LevelRun], classes: &[BidiClass]) -> Option<usize>
     requires { All (λ r. r.1 ≤ length classes.now) (map bounds runs.now) }
-    ensures { result ≡ find (λ u. is_kept_in_place_of (class_at classes.now u)) (units_in_runs (map bounds runs.now)) }
+    ensures { result ≡ find (λ u. is_kept_in_place (class_at classes.now u)) (units_in_runs (map bounds runs.now)) }
 {
     for run in runs {
         for unit in run.start..run.end {

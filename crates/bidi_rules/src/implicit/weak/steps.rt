@@ -2,8 +2,8 @@
 
 ghost use Rattle.std.specs.Prelude.{◌≡◌};
 ghost use Rattle.bidi_base.specs.Classes.{is_al, is_l};
-ghost use Rattle.bidi_base.specs.Weak.{carried as carried_of};
-ghost use Rattle.bidi_rules.specs.WeakPass.{marked as marked_of, w2_w3, is_after_al, is_after_l, w7_by, waits as waits_of, joins, next_before, settled as settled_of, resolved as resolved_of};
+ghost use Rattle.bidi_base.specs.Weak.{carried};
+ghost use Rattle.bidi_rules.specs.WeakPass.{marked, w2_w3, is_after_al, is_after_l, w7_by, waits, joins, next_before, settled, resolved};
 
 use bidi_base::char_data::BidiClass::{
     self, AL, AN, CS, EN, ES, ET, FSI, L, LRI, NSM, ON, PDI, R, RLI,
@@ -31,7 +31,7 @@ pub enum Before {
 impl Before {
     /// Whether what stands before waits for the next character to decide its class.
     pub fn waits(self) -> bool
-        ensures { result ≡ waits_of self }
+        ensures { result ≡ waits self }
     {
         matches!(
             self,
@@ -75,7 +75,7 @@ impl Before {
 
     /// What the characters that wait become where one of this class follows (W4 to W6).
     pub fn settled(self, class: BidiClass) -> BidiClass
-        ensures { result ≡ settled_of class self }
+        ensures { result ≡ settled class self }
     {
         match class {
             EN => match self {
@@ -92,7 +92,7 @@ impl Before {
 
     /// What a character that need not wait becomes (W4 to W6).
     pub fn resolved(self, class: BidiClass) -> BidiClass
-        ensures { result ≡ resolved_of class self }
+        ensures { result ≡ resolved class self }
     {
         match class {
             ET => match self {
@@ -107,7 +107,7 @@ impl Before {
 
 /// What a nonspacing mark takes from the character before it (W1).
 pub fn carried(class: BidiClass) -> BidiClass
-    ensures { result ≡ carried_of class }
+    ensures { result ≡ carried class }
 {
     match class {
         LRI | RLI | FSI | PDI => ON,
@@ -117,7 +117,7 @@ pub fn carried(class: BidiClass) -> BidiClass
 
 /// A class after W1, where a nonspacing mark takes `mark`.
 pub fn marked(mark: BidiClass, class: BidiClass) -> BidiClass
-    ensures { result ≡ marked_of mark class }
+    ensures { result ≡ marked mark class }
 {
     match class {
         NSM => mark,

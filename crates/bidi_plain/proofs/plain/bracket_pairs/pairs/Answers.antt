@@ -1,4 +1,4 @@
-use Rattle.std.proofs.Common.{◌≡◌, ℕ, List, length, sym, subst, ap, ◌∙◌}
+use Rattle.std.proofs.Common.{◌≡◌, ℕ, List, length, sym, subst, ◌∙◌}
 use Rattle.bidi_base.specs.Brackets.{bracket_pairs, ArePairsWithin}
 use Rattle.bidi_base.proofs.PairsLemmas.{bracket_pairs-in_order}
 use Rattle.bidi_plain.proofs.plain.bracket_pairs.pairs.Goals as goal

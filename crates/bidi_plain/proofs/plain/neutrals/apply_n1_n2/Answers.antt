@@ -17,16 +17,16 @@ loop-start-preserved c =
     let fits : s.start ≤ length old = omega arith in
     let block : IsBlock is_neutral old s.start n = IsBlock-counted is_neutral old s.classes s.start n fits s.invariant.rewritten.rest c.neutrals.ensures.count in
     let room : s.start + n ≤ length s.classes = omega (arith, block.room) in
-    let filled : c.fill.new.self ≡ replicate n (common a.embedding s.left c.direction_at-right.result) =
+    let filled : c.fill.new.self ≡ replicate n (common a.embedding_direction s.left c.direction_at-right.result) =
     c.fill.ensures.after (λ y e. e)
     ∙ ap (λ (y : BidiClass). replicate (length (take (s.start + n - s.start) (drop s.start s.classes))) y) c.common_direction.ensures
-    ∙ ap (λ (m : ℕ). replicate m (common a.embedding s.left c.direction_at-right.result)) (length-part s.classes s.start n room)
+    ∙ ap (λ (m : ℕ). replicate m (common a.embedding_direction s.left c.direction_at-right.result)) (length-part s.classes s.start n room)
     in
-    rw filled (IsAtNeutrals-block a.embedding a.sos a.eos old s.classes s.left c.direction_at-right.result s.start n c.requires s.invariant fits block c.direction_at-right.ensures)
+    rw filled (IsAtNeutrals-block a.embedding_direction a.sos a.eos old s.classes s.left c.direction_at-right.result s.start n c.requires s.invariant fits block c.direction_at-right.ensures)
 
 pub returns : goal.returns
 returns c =
     let s = c.loop-start in
     let a = c.args in
     let long : length s.classes ≡ length a.classes.now = s.invariant.rewritten.long in
-    IsRewritten-end (n1_rule a.embedding a.sos a.eos) a.classes.now s.classes s.start (omega arith) s.invariant.rewritten
+    IsRewritten-end (n1_rule a.embedding_direction a.sos a.eos) a.classes.now s.classes s.start (omega arith) s.invariant.rewritten

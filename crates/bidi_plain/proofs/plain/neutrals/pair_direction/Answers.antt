@@ -7,14 +7,14 @@ use Rattle.bidi_plain.proofs.plain.neutrals.pair_direction.Goals as goal
 pub returns-then-contains_direction : goal.returns-then-contains_direction
 returns-then-contains_direction c =
     let a = c.args in
-    sym (pair_direction-tests a.embedding a.sos a.classes.now a.pair true (list_any (λ x. is_some (as_direction x)) (slice_range a.classes.now (a.pair.0 + 1) a.pair.1)) c.if-contains_direction.ensures refl)
+    sym (pair_direction-tests a.embedding_direction a.sos a.classes.now a.pair true (list_any (λ x. is_some (as_direction x)) (slice_range a.classes.now (a.pair.0 + 1) a.pair.1)) c.if-contains_direction.ensures refl)
 
 pub returns-then-contains_any_direction : goal.returns-then-contains_any_direction
 returns-then-contains_any_direction c =
     let a = c.args in
-    ap Some c.nearest_direction.ensures ∙ sym (pair_direction-tests a.embedding a.sos a.classes.now a.pair false true c.if-contains_direction.ensures c.if-contains_any_direction.ensures)
+    ap Some c.nearest_direction.ensures ∙ sym (pair_direction-tests a.embedding_direction a.sos a.classes.now a.pair false true c.if-contains_direction.ensures c.if-contains_any_direction.ensures)
 
 pub returns-else-contains_any_direction : goal.returns-else-contains_any_direction
 returns-else-contains_any_direction c =
     let a = c.args in
-    sym (pair_direction-tests a.embedding a.sos a.classes.now a.pair false false c.if-contains_direction.ensures c.if-contains_any_direction.ensures)
+    sym (pair_direction-tests a.embedding_direction a.sos a.classes.now a.pair false false c.if-contains_direction.ensures c.if-contains_any_direction.ensures)

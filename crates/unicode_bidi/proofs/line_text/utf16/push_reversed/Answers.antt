@@ -18,7 +18,10 @@ all_taken text rest xs h e = sym (reverse-reverse xs) ∙ ap reverse (ap (λ ys.
 pub loop-c-preserved : goal.loop-c-preserved
 loop-c-preserved c = record {
   rest = taken _ _ _ c.loop-c.yielded c.in-Some.c c.loop-c.invariant.rest c.in-Some.ensures.steps;
-  written = c.in_ok-extend_from_slice.ensures.items ∙ ap (λ us. c.loop-c.out.items ++ us) c.encode_utf16.ensures.value ∙ ap (λ us. us ++ encode_utf16 c.in-Some.c) c.loop-c.invariant.written ∙ flat_map_more encode_utf16 c.args.out.now.items c.loop-c.yielded c.in-Some.c;
+  written =
+      c.in_ok-extend_from_slice.ensures.items ∙ ap (λ us. c.loop-c.out.items ++ us) c.encode_utf16.ensures.value
+      ∙ ap (λ us. us ++ encode_utf16 c.in-Some.c) c.loop-c.invariant.written
+      ∙ flat_map_more encode_utf16 c.args.out.now.items c.loop-c.yielded c.in-Some.c;
 }
 
 pub returns : goal.returns

@@ -23,7 +23,9 @@ all_taken text rest xs u h e =
 pub loop-c-preserved : goal.loop-c-preserved
 loop-c-preserved c = record {
   rest = taken c.args.text.now _ _ c.loop-c.yielded c.in-Some.c c.loop-c.invariant.rest c.in-Some.ensures.steps;
-  written = c.in_ok-push.ensures.bytes ∙ ap (λ bs. bs ++ encode_utf8 c.in-Some.c) c.loop-c.invariant.written ∙ flat_map_more encode_utf8 (string_bytes c.args.out.now) c.loop-c.yielded c.in-Some.c;
+  written =
+      c.in_ok-push.ensures.bytes ∙ ap (λ bs. bs ++ encode_utf8 c.in-Some.c) c.loop-c.invariant.written
+      ∙ flat_map_more encode_utf8 (string_bytes c.args.out.now) c.loop-c.yielded c.in-Some.c;
 }
 
 pub returns : goal.returns

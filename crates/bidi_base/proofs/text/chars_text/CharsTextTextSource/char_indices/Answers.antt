@@ -6,5 +6,5 @@ use Rattle.bidi_base.proofs.text.chars_text.CharsTextTextSource.char_indices.Goa
 
 pub returns : goal.returns
 returns c =
-    gives_first _ (λ (s : CharsCharIndexIter). char_indices_from one_unit s.at s.rest.now) c.new.result (char_indices_from one_unit 0 c.args.self.list.now) (search rules)
-    (rw (c.new.ensures.at, c.new.ensures.rest))
+    gives_first _ (λ (s : CharsCharIndexIter). char_indices_from one_unit s.at s.rest.now) c.new.result
+    (char_indices_from one_unit 0 c.args.self.list.now) (search rules) (rw (c.new.ensures.at, c.new.ensures.rest))

@@ -7,10 +7,13 @@ use Rattle.bidi_base.proofs.text.utf16_text.Utf16TextTextSource.char_at.Goals as
 use Rattle.bidi_base.proofs.text.utf16_text.Utf16TextTextSource.char_at.Goals.{then-index-units-via-then-index-units, then-index-units-via-else-index-units+then-splits_pair}
 
 pub returns-then-index-units : goal.returns-then-index-units
-returns-then-index-units c = elim c.then-index-units.branch [
-  | then-index-units-via-then-index-units w ↦ rw (← c.units-units.ensures) (sym (char_at-past c.units-units.result.now c.args.index w.if-index-units.true))
-  | then-index-units-via-else-index-units+then-splits_pair w ↦ rw (← c.units-units.ensures) (sym (char_at-inside c.units-units.result.now c.args.index (sym w.splits_pair.ensures ∙ w.if-splits_pair.true)))
-]
+returns-then-index-units c =
+    let us : List ℕ = c.units-units.result.now in
+    rw (← c.units-units.ensures)
+    (elim c.then-index-units.branch [
+      | then-index-units-via-then-index-units w ↦ sym (char_at-past us c.args.index w.if-index-units.true)
+      | then-index-units-via-else-index-units+then-splits_pair w ↦ sym (char_at-inside us c.args.index (sym w.splits_pair.ensures ∙ w.if-splits_pair.true))
+    ])
 
 pub returns : goal.returns
 returns c =

@@ -7,5 +7,5 @@ use Rattle.bidi_base.proofs.text.utf16_text.Utf16TextTextSource.char_indices.Goa
 
 pub returns : goal.returns
 returns c =
-    gives_first _ (λ (s : Utf16CharIndexIter). char_indices_from utf16_len s.at (utf16_text s.rest.now)) c.new.result (char_indices_from utf16_len 0 (utf16_text c.args.self.units.now)) (search rules)
-    (rw (c.new.ensures.at, c.new.ensures.rest))
+    gives_first _ (λ (s : Utf16CharIndexIter). char_indices_from utf16_len s.at (utf16_text s.rest.now)) c.new.result
+    (char_indices_from utf16_len 0 (utf16_text c.args.self.units.now)) (search rules) (rw (c.new.ensures.at, c.new.ensures.rest))

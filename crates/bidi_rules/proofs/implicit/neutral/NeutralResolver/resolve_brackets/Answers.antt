@@ -19,7 +19,7 @@ returns-then-is_empty g c =
     let few : vec_len c.find_pairs.new.pairs ≡ 0 = eqb-true (vec_len c.find_pairs.new.pairs) 0 (sym c.is_empty.ensures ∙ c.if-is_empty.true) in
     let none : c.find_pairs.new.pairs.items ≡ [] = nil_from_length c.find_pairs.new.pairs.items (omega (arith, few, c.find_pairs.new.pairs.ok)) in
     let pairs : bracket_pairs classes brackets ≡ [] = sym (c.in_ok-find_pairs.ensures classes brackets (c.as_slice.ensures.value ∙ found)) ∙ none in
-    sym (ap (λ (ps : List (ℕ × ℕ)). n0 c.args.embedding c.args.sos source ps classes) pairs ∙ n0-none c.args.embedding c.args.sos source classes)
+    sym (ap (λ (ps : List (ℕ × ℕ)). n0 c.args.directions.embedding c.args.directions.sos source ps classes) pairs ∙ n0-none c.args.directions.embedding c.args.directions.sos source classes)
 
 pub resolve_pairs-requires-clause-lengths : goal.resolve_pairs-requires-clause-lengths
 resolve_pairs-requires-clause-lengths g c =
@@ -45,6 +45,6 @@ returns g c =
     λ brackets found.
     with_items_is c.args.self.now.classes c.resolve_pairs.new.classes (c.resolve_pairs.auto.classes ∙ c.as_mut_slice.ensures.len)
     ∙ c.resolve_pairs.ensures
-    ∙ ap (λ (source : List BidiClass). n0 c.args.embedding c.args.sos source c.as_slice-3.result.now c.as_mut_slice.result.now) (c.as_slice-2.ensures.value ∙ c.in_ok-gather_sources.ensures)
-    ∙ ap (λ (ps : List (ℕ × ℕ)). n0 c.args.embedding c.args.sos source ps c.as_mut_slice.result.now) (c.as_slice-3.ensures.value ∙ c.in_ok-find_pairs.ensures classes brackets (c.as_slice.ensures.value ∙ found))
-    ∙ ap (n0 c.args.embedding c.args.sos source (bracket_pairs classes brackets)) c.as_mut_slice.ensures.value
+    ∙ ap (λ (source : List BidiClass). n0 c.args.directions.embedding c.args.directions.sos source c.as_slice-3.result.now c.as_mut_slice.result.now) (c.as_slice-2.ensures.value ∙ c.in_ok-gather_sources.ensures)
+    ∙ ap (λ (ps : List (ℕ × ℕ)). n0 c.args.directions.embedding c.args.directions.sos source ps c.as_mut_slice.result.now) (c.as_slice-3.ensures.value ∙ c.in_ok-find_pairs.ensures classes brackets (c.as_slice.ensures.value ∙ found))
+    ∙ ap (n0 c.args.directions.embedding c.args.directions.sos source (bracket_pairs classes brackets)) c.as_mut_slice.ensures.value

@@ -1,5 +1,4 @@
-use Rattle.std.proofs.Common.{◌≡◌, ◌≤◌, length, ap, sym, ◌∙◌, rules}
-use Rattle.bidi_base.specs.declared.text.utf16_text.Utf16Text.{Utf16Text}
+use Rattle.std.proofs.Common.{◌≤◌, List, ℕ, length, sym, rules}
 use Rattle.bidi_base.proofs.Utf16Lemmas.{text_len-utf16, is_boundary-within}
 use Rattle.unicode_bidi.specs.Analysed.{text_of}
 use Rattle.unicode_bidi.proofs.line_text.utf16.Analysed+Utf16Text.reorder_line.Goals as goal
@@ -9,10 +8,12 @@ turned_line-requires-clause-units c = sym (text_len-utf16 (text_of c.args.self.n
 
 pub offset_bounds-text-line : goal.offset_bounds-text-line
 offset_bounds-text-line c =
-    let within : c.args.line.end ≤ length c.units-text.result.now = rw (c.units-text.ensures, c.text.ensures) (is_boundary-within (text_of c.args.self.now).units.now c.args.line.end c.requires.ends) in
+    let us : List ℕ = (text_of c.args.self.now).units.now in
+    let within : c.args.line.end ≤ length c.units-text.result.now = rw (c.units-text.ensures, c.text.ensures) (is_boundary-within us c.args.line.end c.requires.ends) in
     search rules
 
 pub slice_bounds-result-end : goal.slice_bounds-result-end
 slice_bounds-result-end c =
-    let within : c.args.line.end ≤ length c.units-text.result.now = rw (c.units-text.ensures, c.text.ensures) (is_boundary-within (text_of c.args.self.now).units.now c.args.line.end c.requires.ends) in
+    let us : List ℕ = (text_of c.args.self.now).units.now in
+    let within : c.args.line.end ≤ length c.units-text.result.now = rw (c.units-text.ensures, c.text.ensures) (is_boundary-within us c.args.line.end c.requires.ends) in
     search rules

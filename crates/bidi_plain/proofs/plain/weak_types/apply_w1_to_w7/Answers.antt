@@ -4,7 +4,7 @@ use Rattle.bidi_base.specs.declared.char_data.BidiClass.{BidiClass}
 use Rattle.bidi_base.specs.Classes.{is_weak_resolved}
 use Rattle.bidi_base.specs.Weak.{weak_classes}
 use Rattle.bidi_base.proofs.WeakLemmas.{weak_classes-resolved}
-use Rattle.bidi_plain.proofs.plain.weak_types.resolve.Goals as goal
+use Rattle.bidi_plain.proofs.plain.weak_types.apply_w1_to_w7.Goals as goal
 
 pub returns-clause-resolved : goal.returns-clause-resolved
 unfolding weak_classes

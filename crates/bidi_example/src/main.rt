@@ -1,0 +1,53 @@
+//! Prints the lines of a text as a terminal that knows no Hebrew has to be given them.
+#![tactic(auto)]
+
+mod callers;
+
+use std::io;
+use std::ops::Range;
+use unicode_bidi::BidiInfo;
+use unicode_bidi::char_data::BidiClass::{self, B, EN, ON, R, WS};
+use unicode_bidi::data_source::TableBidiData;
+use unicode_bidi::text::{StrText, is_line};
+
+// Ranges of characters with their classes; every other character is L.
+const RANGES: [(char, char, BidiClass); 5] = [
+    ('\n', '\n', B),
+    (' ', ' ', WS),
+    ('(', ')', ON),
+    ('0', '9', EN),
+    ('א', 'ת', R),
+];
+
+// Each opening bracket with its closing one.
+const BRACKETS: [(char, char, Option<char>); 1] = [('(', ')', None)];
+
+// Prints those of the ranges of bytes that cut no character, each as a line of the paragraph that it
+// begins in.
+fn print_lines(
+    rt: &(impl Print + AllocGlobal),
+    info: &BidiInfo<'_>,
+    lines: &[Range<usize>],
+) -> io::Result<()> {
+    for line in lines {
+        let paragraph = info
+            .paragraphs()
+            .iter()
+            .find(|paragraph| line.start < paragraph.range().end);
+        let Some(paragraph) = paragraph else { continue };
+        if is_line(StrText::new(info.text()), line) {
+            let shown = info.reorder_line(rt.alloc(), paragraph, line.start..line.end)?;
+            println!(rt; "{}", shown.as_str())?;
+        }
+    }
+    Ok(())
+}
+
+fn main(rt: HostRuntime) -> io::Result<()> {
+    let Ok(source) = TableBidiData::new(&RANGES, &BRACKETS) else {
+        return Ok(());
+    };
+    let text = "car (מכונית) 12\nאבג abc";
+    let info = BidiInfo::new_with_data_source(rt.alloc(), &source, text, None)?;
+    print_lines(&rt, &info, &[0..4, 4..21, 22..32])
+}
