@@ -35,8 +35,30 @@ const UNITS: [UnitsRow; 6] = [
     ("X5a: an initiator of one unit", &[0x2067, 0x61], None, &[0, 2], &[(0, 1), (1, 2)], &[0x2067, 0x61], true),
 ];
 
-fn numbers(alloc: Global, runs: &[Range<usize>]) -> Result<Vec<(usize, usize)>, Fail> {
-    Ok(runs.iter().map(|run| (run.start, run.end)).collect(alloc)?)
+fn check_runs(
+    rt: &(impl AllocGlobal + Abort),
+    name: &str,
+    found: &[Range<usize>],
+    runs: &[(usize, usize)],
+) {
+    assert_eq!(rt; found.len(), runs.len(), "{name}");
+    for (run, ends) in found.iter().zip(runs) {
+        assert_eq!(rt; (run.start, run.end), *ends, "{name}");
+    }
+}
+
+fn check_shown(
+    rt: &(impl AllocGlobal + Abort),
+    name: &str,
+    line: CowSlice<'_, u16>,
+    shown: &[u16],
+    is_borrowed: bool,
+) -> Result<(), Fail> {
+    let found = matches!(&line, CowSlice::Borrowed(_));
+    assert_eq!(rt; found, is_borrowed, "{name}");
+    let units = line.into_owned(rt.alloc())?;
+    assert_eq!(rt; units.as_slice(), shown, "{name}");
+    Ok(())
 }
 
 fn check_units(rt: &(impl AllocGlobal + Abort), row: UnitsRow) -> Result<(), Fail> {
@@ -52,21 +74,11 @@ fn check_units(rt: &(impl AllocGlobal + Abort), row: UnitsRow) -> Result<(), Fai
         return Err(Fail::from("no line"));
     }
     let (after, found) = info.visual_runs(rt.alloc(), paragraph, 0..end)?;
-    assert_eq!(rt;
-        numbers(rt.alloc(), found.as_slice())?.as_slice(),
-        runs,
-        "{name}"
-    );
+    check_runs(rt, name, found.as_slice(), runs);
     let units_after = info.reordered_levels(rt.alloc(), paragraph, 0..end)?;
     assert_eq!(rt; units_after.as_slice(), after.as_slice(), "{name}");
     let line = info.reorder_line(rt.alloc(), paragraph, 0..end)?;
-    assert_eq!(rt;
-        matches!(&line, CowSlice::Borrowed(_)),
-        is_borrowed,
-        "{name}"
-    );
-    assert_eq!(rt; line.into_owned(rt.alloc())?.as_slice(), shown, "{name}");
-    Ok(())
+    check_shown(rt, name, line, shown, is_borrowed)
 }
 
 // The same of the text as one paragraph.
@@ -82,21 +94,11 @@ fn check_one(rt: &(impl AllocGlobal + Abort), row: UnitsRow) -> Result<(), Fail>
         return Err(Fail::from("no line"));
     }
     let (after, found) = info.visual_runs(rt.alloc(), 0..end)?;
-    assert_eq!(rt;
-        numbers(rt.alloc(), found.as_slice())?.as_slice(),
-        runs,
-        "{name}"
-    );
+    check_runs(rt, name, found.as_slice(), runs);
     let units_after = info.reordered_levels(rt.alloc(), 0..end)?;
     assert_eq!(rt; units_after.as_slice(), after.as_slice(), "{name}");
     let line = info.reorder_line(rt.alloc(), 0..end)?;
-    assert_eq!(rt;
-        matches!(&line, CowSlice::Borrowed(_)),
-        is_borrowed,
-        "{name}"
-    );
-    assert_eq!(rt; line.into_owned(rt.alloc())?.as_slice(), shown, "{name}");
-    Ok(())
+    check_shown(rt, name, line, shown, is_borrowed)
 }
 
 #[test]
@@ -144,7 +146,7 @@ fn accessors(rt: HostRuntime) -> Result<(), Fail> {
     assert_eq!(rt; order.as_slice(), [1, 0].as_slice());
     let paragraph = Paragraph::new(&info, first);
     assert_eq!(rt; paragraph.para(), first);
-    assert_eq!(rt; paragraph.info(), &info);
+    assert!(rt; *paragraph.info() == info);
     if first.range() != (0..3) || info.levels().len() != 3 {
         return Err(Fail::from("three units"));
     }
