@@ -38,7 +38,19 @@ pub record IsAnalysis (source : Source) (base : Option ℕ) (split : Bool) (a : 
   pub ranges : own_ranges ≡ ranges_from a.len_of 0 (pieces_of split source a.chars)
   pub paragraph_levels : own_levels ≡ paragraph_levels source base (pieces_of split source a.chars)
 
--- the same of a text that is one paragraph, with its level, and whether nothing in it can turn the direction
+-- the classes and the levels, one a character: of the characters, the source, the base level and the split alone
+abbrev pub classes_of_chars : Source → Bool → List ℕ → List BidiClass
+classes_of_chars source split chars = text_classes source (pieces_of split source chars)
+
+abbrev pub levels_of_chars : Source → Option ℕ → Bool → List ℕ → List ℕ
+levels_of_chars source base split chars = text_levels source base (pieces_of split source chars)
+
+-- the text's characters have these classes and levels
+pub record HasCharValues (a : AnalysedText) (char_classes : List BidiClass) (char_levels : List ℕ) : Type 0 where
+  pub classes : per_char L a.len_of a.chars a.classes ≡ char_classes
+  pub levels : per_char 0 a.len_of a.chars a.levels ≡ char_levels
+
+-- a text that is one paragraph has its stored classes and levels, this level, and nothing in it can turn the direction exactly if `pure` says so
 pub record IsParagraphAnalysis (source : Source) (base : Option ℕ) (a : AnalysedText) (level : ℕ) (pure : Bool) : Type 0 where
   pub classes : a.classes ≡ per_unit a.len_of a.chars (stored_classes (map source.class_of a.chars))
   pub levels : a.levels ≡ per_unit a.len_of a.chars (stored_levels source base a.chars)

@@ -59,7 +59,8 @@ fn is_reset(class: BidiClass, is_next_reset: bool) -> bool
     is_separator(class) || is_next_reset && is_blank(class)
 }
 
-// Whether a unit has an odd level after L1 that is not the one of the unit before it.
+// Whether a unit has an odd level after L1 by itself: what X9 removes takes that of the unit before it,
+// unless it is reset.
 fn shows_rtl(level: Level, class: BidiClass, own: Level, is_reset: bool) -> bool
     ensures { result ≡ (if is_reset then is_odd level else (not (is_removed class) && is_odd own)) }
 {

@@ -14,7 +14,8 @@ pub use levels::resolve_levels;
 pub use neutral::{NeutralResolver, resolve_neutral};
 pub use weak::resolve_weak;
 
-/// Whether the passes in place take characters of this class as kept: all but BN, which stands for what X9 removed.
+/// Whether the passes in place take characters of this class as kept: all but BN, which stands for
+/// what X9 removed.
 fn is_kept_in_place(class: BidiClass) -> bool
     ensures { result ≡ is_kept_in_place class }
 {

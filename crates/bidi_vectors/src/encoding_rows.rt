@@ -1,4 +1,5 @@
-// Texts of UTF-16 and lists of characters.
+//! Texts of UTF-16 and lists of characters: their walks, and their lines.
+
 use bidi_base::text::{
     CharsCharIndexIter, CharsCharIter, CharsIndexLenIter, CharsText, TextSource,
     Utf16CharIndexIter, Utf16CharIter, Utf16IndexLenIter, Utf16Text, is_line,

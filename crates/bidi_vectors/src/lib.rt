@@ -23,3 +23,5 @@ mod rows;
 mod sources;
 #[cfg(test)]
 mod texts;
+#[cfg(test)]
+mod utf16_rows;

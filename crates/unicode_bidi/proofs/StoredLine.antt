@@ -1,5 +1,5 @@
 -- A line of a text whose stored classes and levels pass the test `is_per_char`, as those of the info types do.
-use Rattle.std.proofs.Common.{◌≡◌, ◌∙◌, ℕ, ◌≤◌, List, length, sym, false}
+use Rattle.std.proofs.Common.{◌≡◌, ◌∙◌, ℕ, ◌≤◌, List, length, ap, sym, false}
 use Rattle.std.specs.Prelude.{IsTrue, slice_range}
 use Rattle.std.specs.declared.ops.Range.{Range}
 use Rattle.bidi_base.specs.Analysed.{AreLevelsWithLine, IsTextOfLine, levels_with_line_per_char}
@@ -7,7 +7,7 @@ use Rattle.bidi_base.specs.declared.char_data.BidiClass.{BidiClass}
 use Rattle.bidi_base.specs.declared.char_data.BidiClass.TheVariants.{L}
 use Rattle.bidi_base.specs.Display.{line_text}
 use Rattle.bidi_base.specs.Levels.{has_rtl}
-use Rattle.bidi_base.specs.Line.{levels_of_line, levels_with_line, char_levels_of_line}
+use Rattle.bidi_base.specs.Line.{levels_of_line, levels_with_line, char_levels_of_line, char_levels_with_line}
 use Rattle.bidi_base.specs.Text.{text_len, per_char, is_per_char, IsLine, IsPerChar}
 use Rattle.bidi_base.proofs.PerCharTests.{class_eq, class_test, level_eq, level_test}
 use Rattle.bidi_base.proofs.TextLemmas.{HasUnits}
@@ -44,6 +44,13 @@ module _ (len_of : ℕ → ℕ) (some : HasUnits len_of) (chars : List ℕ) wher
         → shown ≡ levels_with_line_per_char (record { len_of = len_of; chars = chars; classes = classes; levels = levels }) level line
     of_chars shown e =
         e ∙ line_of.per_char-levels_with_line len_of some chars level classes levels line.start line.end (classes_IsPerChar classes of_classes) (levels_IsPerChar levels of_levels) is_line
+
+    -- L1 on the units, read one a character, is L1 on the characters
+    pub of_chars-units : (shown : List ℕ) → shown ≡ levels_with_line level classes levels line.start line.end
+        → per_char 0 len_of chars shown ≡ char_levels_with_line len_of chars level classes levels line.start line.end
+    of_chars-units shown e =
+        ap (per_char 0 len_of chars) e
+        ∙ line_of.per_char-levels_with_line len_of some chars level classes levels line.start line.end (classes_IsPerChar classes of_classes) (levels_IsPerChar levels of_levels) is_line
 
     pub has_rtl-chars : has_rtl (levels_of_line level classes levels line.start line.end) ≡ has_rtl (char_levels_of_line len_of chars level classes levels line.start line.end)
     has_rtl-chars = line_of.has_rtl-chars len_of some chars level classes levels line.start line.end (classes_IsPerChar classes of_classes) (levels_IsPerChar levels of_levels) is_line

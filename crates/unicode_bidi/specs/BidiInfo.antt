@@ -3,6 +3,7 @@ use Rattle.std.specs.Prelude.{ℕ, List}
 use Rattle.bidi_base.specs.Analysed.{AnalysedText}
 use Rattle.bidi_base.specs.declared.char_data.BidiClass.{BidiClass}
 use Rattle.bidi_base.specs.declared.text.str_text.StrText.{StrText}
+use Rattle.bidi_base.specs.declared.text.utf16_text.Utf16Text.{Utf16Text}
 use Rattle.unicode_bidi.specs.Analysed as of
 use Rattle.unicode_bidi.specs.declared.info.BidiInfo.{BidiInfo}
 use Rattle.unicode_bidi.specs.declared.paragraph_info.ParagraphInfo.{ParagraphInfo}
@@ -10,6 +11,10 @@ use Rattle.unicode_bidi.specs.declared.paragraph_info.ParagraphInfo.{ParagraphIn
 -- `i.text()`, of UTF-8
 abbrev pub text : {C I L : Type 0} {t : _} {c : _} {i : _} {l : _} → BidiInfo StrText C I L t c i l → List ℕ
 text i = i.analysed.text.text.now
+
+-- `i.text()`, of UTF-16
+abbrev pub units : {C I L : Type 0} {t : _} {c : _} {i : _} {l : _} → BidiInfo Utf16Text C I L t c i l → List ℕ
+units i = i.analysed.text.units.now
 
 module _ {T C I L : Type 0} {t : _} {c : _} {i : _} {l : _} (info : BidiInfo T C I L t c i l) where
   -- the text, as its characters, with `i.original_classes()` and `i.levels()`

@@ -11,9 +11,23 @@ use Rattle.unicode_bidi.specs.declared.engine.Analysis.{Analysis}
 use Rattle.unicode_bidi.specs.declared.first_walk.ParagraphFlags.{ParagraphFlags}
 use Rattle.unicode_bidi.specs.declared.paragraph_info.ParagraphInfo.{ParagraphInfo}
 
+-- `a.original_classes()`, `a.levels()` and `a.paragraphs()`
+abbrev pub original_classes : Analysis → List BidiClass
+original_classes a = a.original_classes.items
+
+abbrev pub levels : Analysis → List ℕ
+levels a = a.levels.items
+
+abbrev pub paragraphs : Analysis → List ParagraphInfo
+paragraphs a = a.paragraphs.items
+
+-- what later steps ask of each paragraph
+abbrev pub flags : Analysis → List ParagraphFlags
+flags a = a.flags.items
+
 -- a text of these characters, with what was found
-abbrev pub found_text : (ℕ → ℕ) → List ℕ → Analysis → AnalysedText
-found_text len_of chars a = record { len_of = len_of; chars = chars; classes = a.original_classes.items; levels = a.levels.items }
+abbrev pub with_analysis : (ℕ → ℕ) → List ℕ → Analysis → AnalysedText
+with_analysis len_of chars a = record { len_of = len_of; chars = chars; classes = original_classes a; levels = levels a }
 
 -- the characters of a paragraph
 abbrev pub chars_of : (ℕ → ℕ) → List ℕ → ParagraphInfo → List ℕ

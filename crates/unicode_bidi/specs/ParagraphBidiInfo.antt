@@ -3,17 +3,22 @@ use Rattle.std.specs.Prelude.{ℕ, Bool, List}
 use Rattle.bidi_base.specs.Analysed.{AnalysedText}
 use Rattle.bidi_base.specs.declared.char_data.BidiClass.{BidiClass}
 use Rattle.bidi_base.specs.declared.text.str_text.StrText.{StrText}
+use Rattle.bidi_base.specs.declared.text.utf16_text.Utf16Text.{Utf16Text}
 use Rattle.unicode_bidi.specs.Analysed as of
 use Rattle.unicode_bidi.specs.declared.paragraph_bidi_info.ParagraphBidiInfo.{ParagraphBidiInfo}
 
 -- `i.text()`, of UTF-8
 abbrev pub text : {C I L : Type 0} {t : _} {c : _} {i : _} {l : _} → ParagraphBidiInfo StrText C I L t c i l → List ℕ
-text i = i.analysed.text.text.now
+text i = i.paragraph.text.text.now
+
+-- `i.text()`, of UTF-16
+abbrev pub units : {C I L : Type 0} {t : _} {c : _} {i : _} {l : _} → ParagraphBidiInfo Utf16Text C I L t c i l → List ℕ
+units i = i.paragraph.text.units.now
 
 module _ {T C I L : Type 0} {t : _} {c : _} {i : _} {l : _} (info : ParagraphBidiInfo T C I L t c i l) where
   -- the text, as its characters, with `i.original_classes()` and `i.levels()`
   abbrev pub analysed : AnalysedText
-  analysed = of.analysed info.analysed
+  analysed = of.analysed info.paragraph
 
   -- `i.original_classes()`, `i.levels()`, `i.paragraph_level()` and `i.is_pure_ltr()`
   abbrev pub original_classes : List BidiClass

@@ -73,6 +73,7 @@ fn find_direction<D: BidiDataSource, T: TextSource>(
     ensures { let classes = map (map (D.source data_source.now).class_of) (paragraphs_of (each_separator (D.source data_source.now)) (T.characters text)) in
         result ≡ (if full then full_base_direction classes else base_direction classes) }
 {
+    // A text has no more units than a `usize` counts, so the depth never wraps.
     let _units = text.len();
     let mut depth = 0;
     for c in text.chars() {

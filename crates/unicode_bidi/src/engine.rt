@@ -1,9 +1,12 @@
-// The classes, the paragraphs and the levels of a whole text, whatever its encoding.
-ghost use Rattle.std.specs.Prelude.{◌≡◌, ◌≤◌, ◌++◌, length, map, take, drop, flat_map, All, OnOk, IfOk, IfSome};
-ghost use Rattle.bidi_base.specs.Analysed.{IsAnalysis};
-ghost use Rattle.bidi_base.specs.Paragraphs.{pieces_of};
-ghost use Rattle.bidi_base.specs.Text.{text_len};
-ghost use Rattle.unicode_bidi.specs.Engine.{found_text, unit_levels, own_flags, CanWrite, Follow};
+//! The classes, the paragraphs and the levels of a whole text, whatever its encoding.
+
+ghost use Rattle.std.specs.Prelude.{◌≡◌, [], ◌∷◌, true, false, IsTrue, ◌≤◌, ◌++◌, length, map, take, drop, flat_map, All, OnOk, IfOk, IfSome};
+ghost use Rattle.bidi_base.specs.Analysed.{IsAnalysis, IsPerCharText, HasCharValues, AreLevelsWithLine, classes_of_chars, levels_of_chars};
+ghost use Rattle.bidi_base.specs.Line.{levels_with_line as levels_with_line_of};
+ghost use Rattle.bidi_base.specs.declared.char_data.BidiClass.TheVariants.{L};
+ghost use Rattle.bidi_base.specs.Paragraphs.{pieces_of, AreParagraphRanges};
+ghost use Rattle.bidi_base.specs.Text.{text_len, is_per_char, per_char, char_index, IsLine};
+ghost use Rattle.unicode_bidi.specs.Engine.{with_analysis, original_classes as original_classes_of, levels as stored_levels_of, paragraphs as paragraphs_of_analysis, flags as flags_of_analysis, unit_levels, own_flags, CanWrite, Follow};
 ghost use Rattle.unicode_bidi.specs.ParagraphFlags.{paragraph_flags};
 ghost use Rattle.unicode_bidi.specs.ParagraphInfo.{ranges_of, levels_of};
 
@@ -14,19 +17,43 @@ use bidi_base::char_data::BidiClass;
 use bidi_base::data_source::BidiDataSource;
 use bidi_base::level::{LTR_LEVEL, Level};
 use bidi_base::text::TextSource;
+use bidi_lines::line_levels::levels_with_line;
 use std::alloc::{AllocError, Global};
+use std::ops::Range;
 
-/// What the algorithm finds out about a text.
-#[derive(Drop)]
-pub(crate) struct Analysis {
-    /// The stored class of each unit.
+/// What the algorithm finds out about a text. It doesn't hold the text.
+#[derive(PartialEq, Debug, Drop)]
+pub struct Analysis {
     pub(crate) original_classes: Vec<BidiClass>,
-    /// The stored level of each unit.
     pub(crate) levels: Vec<Level>,
-    /// The paragraphs, in order.
     pub(crate) paragraphs: Vec<ParagraphInfo>,
-    /// One entry a paragraph.
+    // One entry a paragraph.
     pub(crate) flags: Vec<ParagraphFlags>,
+}
+
+impl Analysis {
+    /// The class of each unit's character. An FSI whose isolate has a deciding character stands
+    /// here as RLI or LRI.
+    pub fn original_classes(&self) -> &[BidiClass]
+        ensures { result.now ≡ original_classes_of self.now }
+    {
+        self.original_classes.as_slice()
+    }
+
+    /// The level of each unit's character, before L1. A character that X9 removes has the level of
+    /// the character before it, the paragraph's first one the paragraph level.
+    pub fn levels(&self) -> &[Level]
+        ensures { result.now ≡ stored_levels_of self.now }
+    {
+        self.levels.as_slice()
+    }
+
+    /// The paragraphs, in order. Together they take the whole text.
+    pub fn paragraphs(&self) -> &[ParagraphInfo]
+        ensures { result.now ≡ paragraphs_of_analysis self.now }
+    {
+        self.paragraphs.as_slice()
+    }
 }
 
 // A text whose stored classes are known.
@@ -87,9 +114,11 @@ fn write_paragraphs<D: BidiDataSource, T: TextSource>(
     Ok(())
 }
 
-/// The stored classes and levels of a text, and its paragraphs with the levels that `base` or their
-/// characters give them. With `split` false the whole text is one paragraph, even an empty one.
-pub(crate) fn analyse<D: BidiDataSource, T: TextSource>(
+/// Finds the paragraphs of a text (P1) with their levels (P2, P3), the class of each character, with
+/// each FSI resolved (X5c), and its level (X1 to I2). A base level that is given is the level of
+/// every paragraph. It must be at most 125. With `split` false the whole text is one paragraph, even
+/// an empty one.
+pub fn analyse<D: BidiDataSource, T: TextSource>(
     alloc: Global,
     data_source: &D,
     text: T,
@@ -97,9 +126,25 @@ pub(crate) fn analyse<D: BidiDataSource, T: TextSource>(
     split: bool,
 ) -> Result<Analysis, AllocError>
     requires { IfSome base (λ level. level ≤ 125) }
-    ensures analysis { IfOk result (λ a. IsAnalysis (D.source data_source.now) base split (found_text T.units (T.characters text) a) (ranges_of a.paragraphs.items) (levels_of a.paragraphs.items)) }
+    ensures analysis { IfOk result (λ a. IsAnalysis (D.source data_source.now) base split (with_analysis T.units (T.characters text) a) (ranges_of (paragraphs_of_analysis a)) (levels_of (paragraphs_of_analysis a))) }
+
+    // All units of a character have one class and one level.
+    ensures per_char { IfOk result (λ a. IsPerCharText (with_analysis T.units (T.characters text) a)) }
+
+    // The classes and the levels, one a character, come of the characters, the source, the base level
+    // and the split alone: two texts of the same characters have the same, whatever their encodings.
+    ensures by_characters { IfOk result (λ a. HasCharValues (with_analysis T.units (T.characters text) a)
+        (classes_of_chars (D.source data_source.now) split (T.characters text)) (levels_of_chars (D.source data_source.now) base split (T.characters text))) }
+
+    // Split, every unit is in one paragraph, and separators stand at the paragraphs' ends alone.
+    ensures parted { split ≡ true → IfOk result (λ a. AreParagraphRanges (D.source data_source.now) T.units (T.characters text) (ranges_of (paragraphs_of_analysis a))) }
+
+    // Not split, there is one paragraph, the whole text.
+    ensures whole { split ≡ false → IfOk result (λ a. ranges_of (paragraphs_of_analysis a) ≡ (0, text_len T.units (T.characters text)) ∷ []) }
+
+    // What this crate's own types read of each paragraph.
     ensures flags { let pieces = pieces_of split (D.source data_source.now) (T.characters text) in
-        IfOk result (λ a. a.flags.items ≡ paragraph_flags (D.source data_source.now) pieces) }
+        IfOk result (λ a. flags_of_analysis a ≡ paragraph_flags (D.source data_source.now) pieces) }
 {
     let found = first_walk::walk(alloc, data_source, text, base, split)?;
     let mut levels = vec![in alloc; LTR_LEVEL; text.len()]?;
@@ -121,4 +166,35 @@ pub(crate) fn analyse<D: BidiDataSource, T: TextSource>(
         paragraphs: found.paragraphs,
         flags: found.flags,
     })
+}
+
+/// The levels of a text's units, those of the line as L1 leaves them and all others as they are in
+/// the analysis. The line goes from one unit up to another, both of which have to begin a character
+/// or be the text's length (see `is_line`), and `level` is its paragraph's. The lists of the
+/// analysis have to be of this text: see `is_per_char`.
+pub fn line_levels<T: TextSource>(
+    alloc: Global,
+    text: T,
+    analysis: &Analysis,
+    level: Level,
+    line: Range<usize>,
+) -> Result<Vec<Level>, AllocError>
+    requires is_line { IsLine T.units (T.characters text) line.start line.end }
+    requires classes { IsTrue (is_per_char ⟦<BidiClass as PartialEq>⟧.eq T.units (T.characters text) (original_classes_of analysis.now)) }
+    requires levels { IsTrue (is_per_char ⟦<Level as PartialEq>⟧.eq T.units (T.characters text) (stored_levels_of analysis.now)) }
+    ensures levels { IfOk result (λ v. AreLevelsWithLine (with_analysis T.units (T.characters text) analysis.now) level line v.items) }
+
+    // The levels, one a character, come of the analysis's classes and levels, one a character, of the
+    // level handed in and of the line counted in characters alone.
+    ensures by_characters { let chars = T.characters text in IfOk result (λ v. per_char 0 T.units chars v.items
+        ≡ levels_with_line_of level (per_char L T.units chars (original_classes_of analysis.now)) (per_char 0 T.units chars (stored_levels_of analysis.now))
+        (char_index T.units chars line.start) (char_index T.units chars line.end)) }
+{
+    levels_with_line(
+        alloc,
+        level,
+        analysis.original_classes(),
+        analysis.levels(),
+        line,
+    )
 }

@@ -57,7 +57,7 @@ fn resolve(classes: &mut [BidiClass], initiator: &Range<usize>, class: BidiClass
     }
 }
 
-/// What the later steps ask of a paragraph's source classes.
+/// What the later steps ask of the classes that the data source gives a paragraph's characters.
 #[derive(Clone, Copy, PartialEq, Debug)]
 pub(crate) struct ParagraphFlags {
     /// No character can make the paragraph other than left to right throughout, at level 0.

@@ -1,7 +1,6 @@
 // What the algorithm finds out about a text.
-ghost use Rattle.std.specs.Prelude.{◌≡◌, ◌<◌, ◌≤◌, ◌↔◌, IsTrue, IfOk, IfSome, All, map, slice_range, true, false, encode_utf8};
-ghost use Rattle.std.specs.Cow.{cow_str_bytes, IsBorrowedStr};
-ghost use Rattle.bidi_base.specs.Analysed.{IsLineOf, IsPerCharText, IsAnalysis, AreLevelsWithLine, AreRunsOfLine, IsTextOfLine, StaysInOrder, levels_with_line_per_char};
+ghost use Rattle.std.specs.Prelude.{◌≡◌, ◌<◌, ◌≤◌, IsTrue, IfOk, IfSome, All, map, slice_range, true, false};
+ghost use Rattle.bidi_base.specs.Analysed.{IsLineOf, IsPerCharText, IsAnalysis, AreLevelsWithLine, AreRunsOfLine, levels_with_line_per_char};
 ghost use Rattle.bidi_base.specs.Display.{run_of};
 ghost use Rattle.bidi_base.specs.Laws.{HasOwnUnits, AreLevelsFrom, BoundaryNeutralsAreAlike, StaysLeftToRight};
 ghost use Rattle.bidi_base.specs.Levels.{has_rtl as has_rtl_of};
@@ -18,81 +17,18 @@ use crate::paragraph_info::ParagraphInfo;
 use bidi_base::char_data::BidiClass;
 use bidi_base::data_source::BidiDataSource;
 use bidi_base::level::Level;
-use bidi_base::text::{StrText, TextSource};
+use bidi_base::text::TextSource;
 use bidi_lines::visual_order;
 use std::alloc::{AllocError, Global};
-use std::borrow::CowStr;
 use std::ops::Range;
 
 /// What the algorithm finds out about a text: its paragraphs, and the class and the level of each
 /// character.
 #[derive(PartialEq, Debug, Drop)]
 pub struct BidiInfo<T: TextSource> {
-    analysed: Analysed<T>,
+    pub(crate) analysed: Analysed<T>,
     paragraphs: Vec<ParagraphInfo>,
     ghost paragraphs_are_lines: { All (λ p. IsLine T.units (T.characters analysed.text) (range_of p).start (range_of p).end) paragraphs.items },
-}
-
-impl<'t> BidiInfo<StrText<'t>> {
-    ghost use Rattle.unicode_bidi.specs.BidiInfo.{text as text_of, analysed as analysed_of, paragraphs};
-
-    /// Finds the paragraphs of a text (P1) with their levels (P2, P3), the class of each character,
-    /// with each FSI resolved (X5c), and its level (X1 to I2). A base level that is given is the
-    /// level of every paragraph. It must be at most 125.
-    pub fn new_with_data_source<D: BidiDataSource>(
-        alloc: Global,
-        data_source: &D,
-        text: &'t str,
-        default_para_level: Option<Level>,
-    ) -> Result<BidiInfo<StrText<'t>>, AllocError>
-        requires { IfSome default_para_level (λ level. level ≤ 125) }
-        ensures text { IfOk result (λ i. text_of i ≡ text.now) }
-        ensures analysis { IfOk result (λ i. IsAnalysis (D.source data_source.now) default_para_level true (analysed_of i) (ranges_of (paragraphs i)) (levels_of (paragraphs i))) }
-
-        // Every unit is in one paragraph, and separators stand at the paragraphs' ends alone.
-        ensures parted { IfOk result (λ i. let a = analysed_of i in AreParagraphRanges (D.source data_source.now) a.len_of a.chars (ranges_of (paragraphs i))) }
-
-        // All units of a character have one class and one level.
-        ensures per_char { IfOk result (λ i. IsPerCharText (analysed_of i)) }
-
-        // No level is below that of its paragraph or above the greatest.
-        ensures bounded { IfOk result (λ i. All (λ p. AreLevelsFrom (level_of p) (slice_range (analysed_of i).levels (range_of p).start (range_of p).end)) (paragraphs i)) }
-
-        // Each paragraph has the levels that its characters would have as the whole text.
-        ensures each_by_itself { IfOk result (λ i. let a = analysed_of i in
-            All (HasOwnUnits a.len_of (stored_levels (D.source data_source.now) default_para_level) a.chars a.levels) (ranges_of (paragraphs i))) }
-
-        // Which character of class BN stands at a place changes no level of its paragraph.
-        ensures boundary_neutrals_alike { BoundaryNeutralsAreAlike (D.source data_source.now) default_para_level }
-
-        // A paragraph of level 0 in which nothing can turn the direction has level 0 throughout.
-        ensures stays_left_to_right { StaysLeftToRight (D.source data_source.now) default_para_level }
-    {
-        BidiInfo::of_text(alloc, data_source, StrText::new(text), default_para_level)
-    }
-
-    /// The text.
-    pub fn text(&self) -> &'t str
-        ensures { result.now ≡ text_of self.now }
-    {
-        self.analysed.text().as_str()
-    }
-
-    /// The text of the line from left to right: its characters in the order of L2, by their levels
-    /// after L1. Neither combining marks (L3) nor mirrored characters (L4) are seen to. The text is
-    /// borrowed, and takes no memory, exactly where no level of the line is odd after L1.
-    pub fn reorder_line(
-        &self,
-        alloc: Global,
-        para: &ParagraphInfo,
-        line: Range<usize>,
-    ) -> Result<CowStr<'t>, AllocError>
-        requires { IsLineOf (analysed_of self.now) line }
-        ensures text { IfOk result (λ c. IsTextOfLine encode_utf8 (text_of self.now) (analysed_of self.now) (level_of para.now) line (cow_str_bytes c)) }
-        ensures borrowed { IfOk result (λ c. IsBorrowedStr c ↔ StaysInOrder (analysed_of self.now) (level_of para.now) line) }
-    {
-        self.analysed.reorder_line(alloc, para.level(), line)
-    }
 }
 
 // A line goes from one unit up to another, both of which have to begin a character or be the text's
@@ -101,7 +37,7 @@ impl<'t> BidiInfo<StrText<'t>> {
 impl<T: TextSource> BidiInfo<T> {
     ghost use Rattle.unicode_bidi.specs.BidiInfo.{analysed as analysed_of, paragraphs, original_classes, levels as levels_of_info};
 
-    // The same of any text.
+    // What `new_with_data_source` finds at each encoding, of any text.
     pub(crate) fn of_text<D: BidiDataSource>(
         alloc: Global,
         data_source: &D,

@@ -10,58 +10,23 @@ use crate::paragraph_info::ParagraphInfo;
 use bidi_base::char_data::BidiClass;
 use bidi_base::data_source::BidiDataSource;
 use bidi_base::level::Level;
-use bidi_base::text::{StrText, TextSource};
+use bidi_base::text::TextSource;
 use std::alloc::{AllocError, Global};
 
 /// The paragraphs of a text and the classes of its characters: what there is before any level is
 /// resolved.
 #[derive(PartialEq, Debug, Drop)]
 pub struct InitialInfo<T: TextSource> {
-    text: T,
+    pub(crate) text: T,
     original_classes: Vec<BidiClass>,
     paragraphs: Vec<ParagraphInfo>,
     ghost classes_per_char: { IsTrue (is_per_char ⟦<BidiClass as PartialEq>⟧.eq T.units (T.characters text) original_classes.items) },
 }
 
-impl<'t> InitialInfo<StrText<'t>> {
-    ghost use Rattle.unicode_bidi.specs.InitialInfo.{text as text_of, len_of, chars_of, original_classes, paragraphs};
-
-    /// Finds the paragraphs of a text (P1) with their levels (P2, P3), and the class of each
-    /// character, with each FSI resolved (X5c). A base level that is given, which may be any, is
-    /// the level of every paragraph.
-    pub fn new_with_data_source<D: BidiDataSource>(
-        alloc: Global,
-        data_source: &D,
-        text: &'t str,
-        default_para_level: Option<Level>,
-    ) -> Result<InitialInfo<StrText<'t>>, AllocError>
-        ensures text { IfOk result (λ i. text_of i ≡ text.now) }
-        ensures classes { IfOk result (λ i. let pieces = pieces_of true (D.source data_source.now) (chars_of i) in
-            original_classes i ≡ per_unit (len_of i) (chars_of i) (text_classes (D.source data_source.now) pieces)) }
-        ensures ranges { IfOk result (λ i. let pieces = pieces_of true (D.source data_source.now) (chars_of i) in
-            ranges_of (paragraphs i) ≡ ranges_from (len_of i) 0 pieces) }
-        ensures levels { IfOk result (λ i. let pieces = pieces_of true (D.source data_source.now) (chars_of i) in
-            levels_of (paragraphs i) ≡ paragraph_levels (D.source data_source.now) default_para_level pieces) }
-
-        // Every unit is in one paragraph, and separators stand at the paragraphs' ends alone.
-        ensures parted { IfOk result (λ i. AreParagraphRanges (D.source data_source.now) (len_of i) (chars_of i) (ranges_of (paragraphs i))) }
-        ensures per_char { IfOk result (λ i. IsTrue (is_per_char ⟦<BidiClass as PartialEq>⟧.eq (len_of i) (chars_of i) (original_classes i))) }
-    {
-        InitialInfo::of_text(alloc, data_source, StrText::new(text), default_para_level)
-    }
-
-    /// The text.
-    pub fn text(&self) -> &'t str
-        ensures { result.now ≡ text_of self.now }
-    {
-        self.text.as_str()
-    }
-}
-
 impl<T: TextSource> InitialInfo<T> {
     ghost use Rattle.unicode_bidi.specs.InitialInfo.{len_of, chars_of, original_classes, paragraphs};
 
-    // The same of any text.
+    // What `new_with_data_source` finds at each encoding, of any text.
     pub(crate) fn of_text<D: BidiDataSource>(
         alloc: Global,
         data_source: &D,

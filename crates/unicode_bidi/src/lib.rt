@@ -10,14 +10,15 @@
 //! BidiInfo::reorder_visual(alloc, levels)?;   // of levels 1 3 3 2 1: 4 2 1 3 0
 //! ```
 //!
-//! `CALLING.md` beside this crate has a caller that is proved, the clauses that callers use most, and
-//! what each call costs.
+//! Texts of UTF-16 have the same calls in `utf16`, and any other text goes through `engine`.
+//! `CALLING.md` in this crate's folder has callers with contracts, the clauses that callers use most,
+//! and what each call costs.
 #![tactic(auto)]
 
 mod analysed;
 mod base_direction;
 pub mod deprecated;
-mod engine;
+pub mod engine;
 mod first_walk;
 mod info;
 mod initial_info;
@@ -27,6 +28,8 @@ mod paragraph;
 mod paragraph_bidi_info;
 mod paragraph_info;
 mod paragraph_levels;
+pub mod utf16;
+mod utf8;
 
 pub use base_direction::{
     get_base_direction_full_with_data_source, get_base_direction_with_data_source,
@@ -34,21 +37,9 @@ pub use base_direction::{
 pub use bidi_base::char_data::{BidiClass, Direction};
 pub use bidi_base::data_source::BidiDataSource;
 pub use bidi_base::level::{LTR_LEVEL, Level, RTL_LEVEL};
-use bidi_base::text::StrText;
 pub use bidi_base::text::{TextSource, Utf8IndexLenIter};
 pub use bidi_base::{char_data, data_source, format_chars, level, sample, text};
 pub use bidi_rules::prepare::{LevelRun, LevelRunVec};
 pub use bidi_rules::{explicit, implicit, prepare};
 pub use paragraph_info::ParagraphInfo;
-
-/// What the algorithm finds out about a text of UTF-8, whose units are bytes.
-pub type BidiInfo<'t> = info::BidiInfo<StrText<'t>>;
-
-/// The same where the text is one paragraph.
-pub type ParagraphBidiInfo<'t> = paragraph_bidi_info::ParagraphBidiInfo<StrText<'t>>;
-
-/// What there is before any level is resolved.
-pub type InitialInfo<'t> = initial_info::InitialInfo<StrText<'t>>;
-
-/// A paragraph of a text of UTF-8.
-pub type Paragraph<'a, 't> = paragraph::Paragraph<'a, StrText<'t>>;
+pub use utf8::{BidiInfo, InitialInfo, Paragraph, ParagraphBidiInfo};

@@ -1,7 +1,6 @@
 // What the algorithm finds out about a text that is one paragraph.
-ghost use Rattle.std.specs.Prelude.{◌≡◌, ◌<◌, ◌≤◌, ◌↔◌, IsTrue, IfOk, IfSome, map, false, encode_utf8};
-ghost use Rattle.std.specs.Cow.{cow_str_bytes, IsBorrowedStr};
-ghost use Rattle.bidi_base.specs.Analysed.{IsLineOf, IsPerCharText, IsParagraphAnalysis, AreLevelsWithLine, AreRunsOfLine, IsTextOfLine, StaysInOrder, levels_with_line_per_char};
+ghost use Rattle.std.specs.Prelude.{◌≡◌, ◌<◌, ◌≤◌, IsTrue, IfOk, IfSome, map, false};
+ghost use Rattle.bidi_base.specs.Analysed.{IsLineOf, IsPerCharText, IsParagraphAnalysis, AreLevelsWithLine, AreRunsOfLine, levels_with_line_per_char};
 ghost use Rattle.bidi_base.specs.Direction.{direction_of_levels};
 ghost use Rattle.bidi_base.specs.Display.{run_of};
 ghost use Rattle.bidi_base.specs.Laws.{AreLevelsFrom, BoundaryNeutralsAreAlike, StaysLeftToRight};
@@ -15,70 +14,18 @@ use crate::engine;
 use bidi_base::char_data::{BidiClass, Direction};
 use bidi_base::data_source::BidiDataSource;
 use bidi_base::level::Level;
-use bidi_base::text::{StrText, TextSource};
+use bidi_base::text::TextSource;
 use bidi_lines::visual_order;
 use std::alloc::{AllocError, Global};
-use std::borrow::CowStr;
 use std::ops::Range;
 
 /// What the algorithm finds out about a text that is taken as one paragraph, whatever separators
 /// stand in it.
 #[derive(PartialEq, Debug, Drop)]
 pub struct ParagraphBidiInfo<T: TextSource> {
-    analysed: Analysed<T>,
+    pub(crate) paragraph: Analysed<T>,
     paragraph_level: Level,
     is_pure_ltr: bool,
-}
-
-impl<'t> ParagraphBidiInfo<StrText<'t>> {
-    ghost use Rattle.unicode_bidi.specs.ParagraphBidiInfo.{text as text_of, analysed as analysed_of, levels as levels_of_info, paragraph_level, is_pure_ltr};
-
-    /// Finds the level of a text that is one paragraph (P2, P3), the class of each character, with
-    /// each FSI resolved (X5c), and its level (X1 to I2). A base level that is given is the level
-    /// of the paragraph. It must be at most 125.
-    pub fn new_with_data_source<D: BidiDataSource>(
-        alloc: Global,
-        data_source: &D,
-        text: &'t str,
-        default_para_level: Option<Level>,
-    ) -> Result<ParagraphBidiInfo<StrText<'t>>, AllocError>
-        requires { IfSome default_para_level (λ level. level ≤ 125) }
-        ensures text { IfOk result (λ i. text_of i ≡ text.now) }
-        ensures analysis { IfOk result (λ i. IsParagraphAnalysis (D.source data_source.now) default_para_level (analysed_of i) (paragraph_level i) (is_pure_ltr i)) }
-
-        // All units of a character have one class and one level.
-        ensures per_char { IfOk result (λ i. IsPerCharText (analysed_of i)) }
-
-        // No level is below that of the paragraph or above the greatest.
-        ensures bounded { IfOk result (λ i. AreLevelsFrom (paragraph_level i) (levels_of_info i)) }
-
-        // Which character of class BN stands at a place changes no level.
-        ensures boundary_neutrals_alike { BoundaryNeutralsAreAlike (D.source data_source.now) default_para_level }
-
-        // A paragraph of level 0 in which nothing can turn the direction has level 0 throughout.
-        ensures stays_left_to_right { StaysLeftToRight (D.source data_source.now) default_para_level }
-    {
-        ParagraphBidiInfo::of_text(alloc, data_source, StrText::new(text), default_para_level)
-    }
-
-    /// The text.
-    pub fn text(&self) -> &'t str
-        ensures { result.now ≡ text_of self.now }
-    {
-        self.analysed.text().as_str()
-    }
-
-    /// The text of the line from left to right: its characters in the order of L2, by their levels
-    /// after L1. Neither combining marks (L3) nor mirrored characters (L4) are seen to. The text is
-    /// borrowed, and takes no memory, exactly where no level of the line is odd after L1.
-    pub fn reorder_line(&self, alloc: Global, line: Range<usize>) -> Result<CowStr<'t>, AllocError>
-        requires { IsLineOf (analysed_of self.now) line }
-        ensures text { IfOk result (λ c. IsTextOfLine encode_utf8 (text_of self.now) (analysed_of self.now) (paragraph_level self.now) line (cow_str_bytes c)) }
-        ensures borrowed { IfOk result (λ c. IsBorrowedStr c ↔ StaysInOrder (analysed_of self.now) (paragraph_level self.now) line) }
-    {
-        self.analysed
-            .reorder_line(alloc, self.paragraph_level, line)
-    }
 }
 
 // A line goes from one unit up to another, both of which have to begin a character or be the text's
@@ -86,7 +33,7 @@ impl<'t> ParagraphBidiInfo<StrText<'t>> {
 impl<T: TextSource> ParagraphBidiInfo<T> {
     ghost use Rattle.unicode_bidi.specs.ParagraphBidiInfo.{analysed as analysed_of, original_classes, levels as levels_of_info, paragraph_level, is_pure_ltr};
 
-    // The same of any text.
+    // What `new_with_data_source` finds at each encoding, of any text.
     pub(crate) fn of_text<D: BidiDataSource>(
         alloc: Global,
         data_source: &D,
@@ -94,7 +41,7 @@ impl<T: TextSource> ParagraphBidiInfo<T> {
         default_para_level: Option<Level>,
     ) -> Result<ParagraphBidiInfo<T>, AllocError>
         requires { IfSome default_para_level (λ level. level ≤ 125) }
-        ensures text { IfOk result (λ i. i.analysed.text ≡ text) }
+        ensures text { IfOk result (λ i. i.paragraph.text ≡ text) }
         ensures analysis { IfOk result (λ i. IsParagraphAnalysis (D.source data_source.now) default_para_level (analysed_of i) (paragraph_level i) (is_pure_ltr i)) }
         ensures per_char { IfOk result (λ i. IsPerCharText (analysed_of i)) }
         ensures bounded { IfOk result (λ i. AreLevelsFrom (paragraph_level i) (levels_of_info i)) }
@@ -103,7 +50,7 @@ impl<T: TextSource> ParagraphBidiInfo<T> {
     {
         let found = engine::analyse(alloc, data_source, text, default_para_level, false)?;
         Ok(ParagraphBidiInfo {
-            analysed: Analysed::new(text, found.original_classes, found.levels),
+            paragraph: Analysed::new(text, found.original_classes, found.levels),
             paragraph_level: found.paragraphs[0].level(),
             is_pure_ltr: found.flags[0].is_pure_ltr,
         })
@@ -115,7 +62,7 @@ impl<T: TextSource> ParagraphBidiInfo<T> {
         ensures classes { result.now ≡ original_classes self.now }
         ensures per_char { let a = analysed_of self.now in IsTrue (is_per_char ⟦<BidiClass as PartialEq>⟧.eq a.len_of a.chars result.now) }
     {
-        self.analysed.original_classes()
+        self.paragraph.original_classes()
     }
 
     /// The level of each unit's character, before L1. A character that X9 removes has the level of
@@ -124,7 +71,7 @@ impl<T: TextSource> ParagraphBidiInfo<T> {
         ensures levels { result.now ≡ levels_of_info self.now }
         ensures per_char { let a = analysed_of self.now in IsTrue (is_per_char ⟦<Level as PartialEq>⟧.eq a.len_of a.chars result.now) }
     {
-        self.analysed.levels()
+        self.paragraph.levels()
     }
 
     /// The paragraph level (BD4).
@@ -146,7 +93,7 @@ impl<T: TextSource> ParagraphBidiInfo<T> {
     pub fn has_rtl(&self) -> bool
         ensures { result ≡ has_rtl_of (levels_of_info self.now) }
     {
-        self.analysed.has_rtl()
+        self.paragraph.has_rtl()
     }
 
     /// The direction of the levels: left to right if there are some and all are even, right to left
@@ -154,7 +101,7 @@ impl<T: TextSource> ParagraphBidiInfo<T> {
     pub fn direction(&self) -> Direction
         ensures { result ≡ direction_of_levels (levels_of_info self.now) }
     {
-        self.analysed.direction()
+        self.paragraph.direction()
     }
 
     /// The level of each unit of the whole text, where those of the line are as L1 leaves them and
@@ -167,7 +114,7 @@ impl<T: TextSource> ParagraphBidiInfo<T> {
         requires { IsLineOf (analysed_of self.now) line }
         ensures { IfOk result (λ v. AreLevelsWithLine (analysed_of self.now) (paragraph_level self.now) line v.items) }
     {
-        self.analysed
+        self.paragraph
             .reordered_levels(alloc, self.paragraph_level, line)
     }
 
@@ -180,7 +127,7 @@ impl<T: TextSource> ParagraphBidiInfo<T> {
         requires { IsLineOf (analysed_of self.now) line }
         ensures { IfOk result (λ v. v.items ≡ levels_with_line_per_char (analysed_of self.now) (paragraph_level self.now) line) }
     {
-        self.analysed
+        self.paragraph
             .reordered_levels_per_char(alloc, self.paragraph_level, line)
     }
 
@@ -196,7 +143,8 @@ impl<T: TextSource> ParagraphBidiInfo<T> {
         ensures levels { IfOk result (λ r. AreLevelsWithLine (analysed_of self.now) (paragraph_level self.now) line r.0.items) }
         ensures runs { IfOk result (λ r. AreRunsOfLine (analysed_of self.now) (paragraph_level self.now) line (map run_of r.1.items)) }
     {
-        self.analysed.visual_runs(alloc, self.paragraph_level, line)
+        self.paragraph
+            .visual_runs(alloc, self.paragraph_level, line)
     }
 
     /// The visual order of a line's items by L2: at each place from the left, the index in `levels`

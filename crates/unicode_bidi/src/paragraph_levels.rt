@@ -40,12 +40,13 @@ pub(crate) struct ClassifiedParagraph<'a, D: BidiDataSource, T: TextSource> {
     ghost stored: { original_classes.now ≡ per_unit T.units (T.characters text) (stored_classes (map (D.source data_source.now).class_of (T.characters text))) },
 }
 
-/// Finds the levels of one paragraph after another, and keeps its memory from each to the next.
+/// Finds the levels of one paragraph after another, and keeps the memory of these lists from each to
+/// the next.
 #[derive(Drop)]
 pub(crate) struct LevelResolver {
     /// The class of each unit, as far as the passes have resolved it.
     classes: Vec<BidiClass>,
-    /// The isolating run sequences.
+    /// The isolating run sequences. The runs of each take memory anew.
     sequences: IsolatingRunSequenceVec,
     neutrals: NeutralResolver,
 }

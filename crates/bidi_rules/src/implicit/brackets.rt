@@ -14,8 +14,8 @@ use bidi_base::neutrals::{
     contains_any_direction, contains_direction, nearest_direction, set_direction,
 };
 
-/// N0: the pairs one by one, in the order of their openings. `original_classes` has
-/// the classes that the data source gives, and `classes` those after W7.
+/// N0: the pairs one by one, in the order of their openings. `original_classes` has the stored
+/// classes, and `classes` those after W7.
 ///
 /// One walk over the classes serves all pairs. Only a pair whose opening is a nonspacing mark by its
 /// original class is looked through by itself, since it may stand among the marks that another pair

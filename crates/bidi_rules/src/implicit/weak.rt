@@ -182,8 +182,9 @@ impl Walk {
 ///
 /// Each unit of `processing_classes` has the class of its character, and the sequence fits the
 /// text. BN stays, and so do the units outside the sequence. No memory is taken. Without numbers and
-/// nonspacing marks each class changes by itself; otherwise one walk looks at each character once, and goes over the units of terminators and separators that wait for the
-/// character behind them once more.
+/// nonspacing marks each class changes by itself; otherwise one walk looks at each character once, and
+/// goes over the units of terminators and separators that wait for the character behind them once
+/// more.
 pub fn resolve_weak<T: TextSource>(
     text: T,
     sequence: &IsolatingRunSequence,

@@ -1,13 +1,14 @@
-use Rattle.std.proofs.Common.{◌≡◌, ◌∙◌, List, ℕ, length, map, take, drop, ◌++◌, ap, sym, subst, arith, rules}
+use Rattle.std.proofs.Common.{◌≡◌, ◌∙◌, Bool, List, ℕ, length, map, take, drop, ◌++◌, ap, sym, subst, arith, rules}
 use Rattle.std.proofs.Math.Seq.{take-append_seam}
 use Rattle.std.specs.Prelude.{All, flat_map}
-use Rattle.bidi_base.specs.Paragraphs.{pieces_of}
+use Rattle.bidi_base.specs.Paragraphs.{pieces_of, ranges_from, AreParagraphRanges}
 use Rattle.bidi_base.specs.Stored.{text_classes}
 use Rattle.bidi_base.specs.Text.{text_len}
-use Rattle.bidi_base.proofs.ParagraphsLemmas.{pieces-joined, length-text_classes}
+use Rattle.bidi_base.proofs.ParagraphsLemmas.{pieces-joined, length-text_classes, paragraphs-AreParagraphRanges}
 use Rattle.bidi_base.proofs.PerUnit.{length-per_unit}
 use Rattle.unicode_bidi.specs.declared.paragraph_info.ParagraphInfo.{ParagraphInfo}
 use Rattle.unicode_bidi.specs.Engine.{unit_levels, own_flags, CanWrite, Follow}
+use Rattle.unicode_bidi.proofs.FoundLaws.{analysis-IsPerCharText, analysis-HasCharValues}
 use Rattle.unicode_bidi.proofs.ParagraphUnits.{paragraphs-Follow, paragraphs-flags, paragraphs-CanWrite, paragraphs-levels}
 use Rattle.unicode_bidi.proofs.engine.analyse.Goals as goal
 
@@ -70,3 +71,18 @@ returns-clause-analysis g c =
       ranges = c.in_ok-found.ensures.ranges;
       paragraph_levels = c.in_ok-found.ensures.levels;
     }
+
+pub returns-clause-per_char : goal.returns-clause-per_char
+returns-clause-per_char g c = analysis-IsPerCharText (g.D.BidiDataSource.source c.args.data_source.now) c.args.base c.args.split _ _ _ (returns-clause-analysis g c)
+
+pub returns-clause-by_characters : goal.returns-clause-by_characters
+returns-clause-by_characters g c =
+    analysis-HasCharValues (g.D.BidiDataSource.source c.args.data_source.now) c.args.base c.args.split _ _ _ (returns-clause-analysis g c) g.met.T.TextSource.has_units
+
+pub returns-clause-parted : goal.returns-clause-parted
+returns-clause-parted g c = λ all.
+    let source = g.D.BidiDataSource.source c.args.data_source.now in
+    let cs : List ℕ = g.T.TextSource.characters c.args.text in
+    subst (AreParagraphRanges source g.T.TextSource.units cs)
+    (sym (c.in_ok-found.ensures.ranges ∙ ap (λ (split : Bool). ranges_from g.T.TextSource.units 0 (pieces_of split source cs)) all))
+    (paragraphs-AreParagraphRanges source g.T.TextSource.units g.met.T.TextSource.has_units cs)

@@ -1,7 +1,7 @@
 use Rattle.bidi_base.proofs.LevelLaws.{BoundaryNeutralsAreAlike-all, StaysLeftToRight-all}
 use Rattle.unicode_bidi.specs.Analysed.{analysed}
-use Rattle.unicode_bidi.specs.Engine.{found_text}
-use Rattle.unicode_bidi.proofs.FoundLaws.{is_per_char-found, parted-found, lines-found, bounded-found, own_units-found}
+use Rattle.unicode_bidi.specs.Engine.{with_analysis}
+use Rattle.unicode_bidi.proofs.FoundLaws.{parted-found, lines-found, bounded-found, own_units-found}
 use Rattle.unicode_bidi.proofs.info.BidiInfo.of_text.Goals as goal
 
 pub returns-in_err-found-clause-boundary_neutrals_alike : goal.returns-in_err-found-clause-boundary_neutrals_alike
@@ -15,16 +15,6 @@ returns-in_err-found-clause-stays_left_to_right g c = StaysLeftToRight-all (g.D.
 
 pub returns-clause-stays_left_to_right : goal.returns-clause-stays_left_to_right
 returns-clause-stays_left_to_right g c = StaysLeftToRight-all (g.D.BidiDataSource.source c.args.data_source.now) c.args.default_para_level
-
-pub new-requires-clause-classes : goal.new-requires-clause-classes
-new-requires-clause-classes g c =
-    (is_per_char-found (g.D.BidiDataSource.source c.args.data_source.now) c.args.default_para_level (found_text g.T.TextSource.units (g.T.TextSource.characters c.args.text) c.in_ok-found.found)
-    g.met.T.TextSource.has_units c.in_ok-found.found.paragraphs.items c.in_ok-found.ensures.analysis).classes
-
-pub new-requires-clause-levels : goal.new-requires-clause-levels
-new-requires-clause-levels g c =
-    (is_per_char-found (g.D.BidiDataSource.source c.args.data_source.now) c.args.default_para_level (found_text g.T.TextSource.units (g.T.TextSource.characters c.args.text) c.in_ok-found.found)
-    g.met.T.TextSource.has_units c.in_ok-found.found.paragraphs.items c.in_ok-found.ensures.analysis).levels
 
 pub invariant_of-result : goal.invariant_of-result
 invariant_of-result g c = record {

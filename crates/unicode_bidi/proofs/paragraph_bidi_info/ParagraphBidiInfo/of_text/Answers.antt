@@ -4,10 +4,10 @@ use Rattle.bidi_base.specs.Isolates.{paragraph_level}
 use Rattle.bidi_base.specs.Laws.{AreLevelsFrom}
 use Rattle.bidi_base.proofs.LevelLaws.{BoundaryNeutralsAreAlike-all, StaysLeftToRight-all}
 use Rattle.unicode_bidi.specs.Analysed.{analysed}
-use Rattle.unicode_bidi.specs.Engine.{found_text}
+use Rattle.unicode_bidi.specs.Engine.{with_analysis}
 use Rattle.unicode_bidi.specs.ParagraphFlags.{flags_of}
 use Rattle.unicode_bidi.specs.ParagraphInfo.{level_of}
-use Rattle.unicode_bidi.proofs.FoundLaws.{classes-one, levels-one, paragraph_level-one, is_per_char-one, bounded-one}
+use Rattle.unicode_bidi.proofs.FoundLaws.{classes-one, levels-one, paragraph_level-one, bounded-one}
 use Rattle.unicode_bidi.proofs.ParagraphUnits.{only, flags-one}
 use Rattle.unicode_bidi.proofs.paragraph_bidi_info.ParagraphBidiInfo.of_text.Goals as goal
 
@@ -29,22 +29,12 @@ index-requires-2 g c =
     let ok = c.in_ok-found.found.flags.ok in
     omega (arith, one, ok)
 
-pub new-requires-clause-classes : goal.new-requires-clause-classes
-new-requires-clause-classes g c =
-    (is_per_char-one (g.D.BidiDataSource.source c.args.data_source.now) c.args.default_para_level (found_text g.T.TextSource.units (g.T.TextSource.characters c.args.text) c.in_ok-found.found)
-    _ _ c.in_ok-found.ensures.analysis).classes
-
-pub new-requires-clause-levels : goal.new-requires-clause-levels
-new-requires-clause-levels g c =
-    (is_per_char-one (g.D.BidiDataSource.source c.args.data_source.now) c.args.default_para_level (found_text g.T.TextSource.units (g.T.TextSource.characters c.args.text) c.in_ok-found.found)
-    _ _ c.in_ok-found.ensures.analysis).levels
-
 pub returns-clause-analysis : goal.returns-clause-analysis
 returns-clause-analysis g c =
     let source = g.D.BidiDataSource.source c.args.data_source.now in
     let base = c.args.default_para_level in
     let cs : List ℕ = g.T.TextSource.characters c.args.text in
-    let found = found_text g.T.TextSource.units cs c.in_ok-found.found in
+    let found = with_analysis g.T.TextSource.units cs c.in_ok-found.found in
     let one : c.in_ok-found.found.flags.items ≡ flags_of (map source.class_of cs) ∷ [] = rw (← flags-one) c.in_ok-found.ensures.flags in
     record {
       classes = c.new.ensures.classes ∙ rw c.new.ensures.text (classes-one source base found _ _ c.in_ok-found.ensures.analysis);
@@ -63,7 +53,7 @@ returns-clause-bounded g c =
     let source = g.D.BidiDataSource.source c.args.data_source.now in
     let base = c.args.default_para_level in
     let cs : List ℕ = g.T.TextSource.characters c.args.text in
-    let found = found_text g.T.TextSource.units cs c.in_ok-found.found in
+    let found = with_analysis g.T.TextSource.units cs c.in_ok-found.found in
     let level : c.level.result ≡ paragraph_level base (map source.class_of cs) =
     c.level.ensures
     ∙ only level_of c.in_ok-found.found.paragraphs.items c.index.result.now (paragraph_level base (map source.class_of cs)) (paragraph_level-one source base found _ _ c.in_ok-found.ensures.analysis) c.index.ensures in

@@ -1,0 +1,32 @@
+use Rattle.std.proofs.Common.{◌≡◌, ◌∙◌, ℕ, List, sym, ap, subst}
+use Rattle.std.specs.Prelude.{IsTrue}
+use Rattle.std.proofs.lemmas.Result.{IfOk-weaker}
+use Rattle.bidi_base.specs.declared.char_data.BidiClass.{BidiClass}
+use Rattle.bidi_base.specs.Text.{is_per_char}
+use Rattle.bidi_base.proofs.PerCharTests.{class_eq, level_eq}
+use Rattle.unicode_bidi.proofs.StoredLine.{same_len, within, of_units, of_chars-units}
+use Rattle.unicode_bidi.proofs.engine.line_levels.Goals as goal
+
+pub levels_with_line-requires-clause-same_len : goal.levels_with_line-requires-clause-same_len
+levels_with_line-requires-clause-same_len g c =
+    rw (c.original_classes.ensures, c.levels.ensures)
+    (same_len g.T.TextSource.units g.met.T.TextSource.has_units (g.T.TextSource.characters c.args.text) c.args.level _ _ c.args.line c.requires.classes c.requires.levels c.requires.is_line)
+
+pub levels_with_line-requires-clause-within : goal.levels_with_line-requires-clause-within
+levels_with_line-requires-clause-within g c =
+    rw c.levels.ensures
+    (within g.T.TextSource.units g.met.T.TextSource.has_units (g.T.TextSource.characters c.args.text) c.args.level _ _ c.args.line c.requires.classes c.requires.levels c.requires.is_line)
+
+pub returns-clause-levels : goal.returns-clause-levels
+returns-clause-levels g c =
+    IfOk-weaker c.levels_with_line.result _ _
+    (λ v e. of_units g.T.TextSource.units g.met.T.TextSource.has_units (g.T.TextSource.characters c.args.text) c.args.level _ _ c.args.line c.requires.classes c.requires.levels c.requires.is_line
+    v.items (rw (← c.original_classes.ensures, ← c.levels.ensures) e))
+    c.levels_with_line.ensures
+
+pub returns-clause-by_characters : goal.returns-clause-by_characters
+returns-clause-by_characters g c =
+    IfOk-weaker c.levels_with_line.result _ _
+    (λ v e. of_chars-units g.T.TextSource.units g.met.T.TextSource.has_units (g.T.TextSource.characters c.args.text) c.args.level _ _ c.args.line c.requires.classes c.requires.levels c.requires.is_line
+    v.items (rw (← c.original_classes.ensures, ← c.levels.ensures) e))
+    c.levels_with_line.ensures

@@ -1,0 +1,190 @@
+//! Texts of UTF-8, whose units are bytes.
+
+ghost use Rattle.std.specs.Prelude.{◌≡◌, ◌≤◌, ◌↔◌, IsTrue, IfOk, IfSome, All, slice_range, true, encode_utf8};
+ghost use Rattle.std.specs.Cow.{cow_str_bytes, IsBorrowedStr};
+ghost use Rattle.bidi_base.specs.Analysed.{IsLineOf, IsPerCharText, IsAnalysis, IsParagraphAnalysis, IsTextOfLine, StaysInOrder};
+ghost use Rattle.bidi_base.specs.Laws.{HasOwnUnits, AreLevelsFrom, BoundaryNeutralsAreAlike, StaysLeftToRight};
+ghost use Rattle.bidi_base.specs.Paragraphs.{pieces_of, ranges_from, AreParagraphRanges};
+ghost use Rattle.bidi_base.specs.Stored.{text_classes, stored_levels, paragraph_levels};
+ghost use Rattle.bidi_base.specs.Text.{per_unit, is_per_char};
+ghost use Rattle.unicode_bidi.specs.ParagraphInfo.{level_of, range_of, ranges_of, levels_of};
+
+use crate::paragraph_info::ParagraphInfo;
+use crate::{info, initial_info, paragraph, paragraph_bidi_info};
+use bidi_base::char_data::BidiClass;
+use bidi_base::data_source::BidiDataSource;
+use bidi_base::level::Level;
+use bidi_base::text::StrText;
+use std::alloc::{AllocError, Global};
+use std::borrow::CowStr;
+use std::ops::Range;
+
+/// What the algorithm finds out about a text.
+pub type BidiInfo<'t> = info::BidiInfo<StrText<'t>>;
+
+/// The same of a text that is taken as one paragraph, whatever separators stand in it.
+pub type ParagraphBidiInfo<'t> = paragraph_bidi_info::ParagraphBidiInfo<StrText<'t>>;
+
+/// The paragraphs of a text and the classes of its characters.
+pub type InitialInfo<'t> = initial_info::InitialInfo<StrText<'t>>;
+
+/// A paragraph together with what was found out about its text.
+pub type Paragraph<'a, 't> = paragraph::Paragraph<'a, StrText<'t>>;
+
+impl<'t> info::BidiInfo<StrText<'t>> {
+    ghost use Rattle.unicode_bidi.specs.BidiInfo.{text as text_of, analysed as analysed_of, paragraphs};
+
+    /// Finds the paragraphs of a text (P1) with their levels (P2, P3), the class of each character,
+    /// with each FSI resolved (X5c), and its level (X1 to I2). A base level that is given is the
+    /// level of every paragraph. It must be at most 125.
+    pub fn new_with_data_source<D: BidiDataSource>(
+        alloc: Global,
+        data_source: &D,
+        text: &'t str,
+        default_para_level: Option<Level>,
+    ) -> Result<BidiInfo<'t>, AllocError>
+        requires { IfSome default_para_level (λ level. level ≤ 125) }
+        ensures text { IfOk result (λ i. text_of i ≡ text.now) }
+        ensures analysis { IfOk result (λ i. IsAnalysis (D.source data_source.now) default_para_level true (analysed_of i) (ranges_of (paragraphs i)) (levels_of (paragraphs i))) }
+
+        // Every unit is in one paragraph, and separators stand at the paragraphs' ends alone.
+        ensures parted { IfOk result (λ i. let a = analysed_of i in AreParagraphRanges (D.source data_source.now) a.len_of a.chars (ranges_of (paragraphs i))) }
+
+        // All units of a character have one class and one level.
+        ensures per_char { IfOk result (λ i. IsPerCharText (analysed_of i)) }
+
+        // No level is below that of its paragraph or above the greatest.
+        ensures bounded { IfOk result (λ i. All (λ p. AreLevelsFrom (level_of p) (slice_range (analysed_of i).levels (range_of p).start (range_of p).end)) (paragraphs i)) }
+
+        // Each paragraph has the levels that its characters would have as the whole text.
+        ensures each_by_itself { IfOk result (λ i. let a = analysed_of i in
+            All (HasOwnUnits a.len_of (stored_levels (D.source data_source.now) default_para_level) a.chars a.levels) (ranges_of (paragraphs i))) }
+
+        // Which character of class BN stands at a place changes no level of its paragraph.
+        ensures boundary_neutrals_alike { BoundaryNeutralsAreAlike (D.source data_source.now) default_para_level }
+
+        // A paragraph of level 0 in which nothing can turn the direction has level 0 throughout.
+        ensures stays_left_to_right { StaysLeftToRight (D.source data_source.now) default_para_level }
+    {
+        info::BidiInfo::of_text(alloc, data_source, StrText::new(text), default_para_level)
+    }
+
+    /// The text.
+    pub fn text(&self) -> &'t str
+        ensures { result.now ≡ text_of self.now }
+    {
+        self.analysed.text().as_str()
+    }
+
+    /// The text of the line from left to right: its characters in the order of L2, by their levels
+    /// after L1. Neither combining marks (L3) nor mirrored characters (L4) are seen to. The text is
+    /// borrowed, and takes no memory, exactly where no level of the line is odd after L1.
+    pub fn reorder_line(
+        &self,
+        alloc: Global,
+        para: &ParagraphInfo,
+        line: Range<usize>,
+    ) -> Result<CowStr<'t>, AllocError>
+        requires { IsLineOf (analysed_of self.now) line }
+        ensures text { IfOk result (λ c. IsTextOfLine encode_utf8 (text_of self.now) (analysed_of self.now) (level_of para.now) line (cow_str_bytes c)) }
+        ensures borrowed { IfOk result (λ c. IsBorrowedStr c ↔ StaysInOrder (analysed_of self.now) (level_of para.now) line) }
+    {
+        self.analysed.reorder_line(alloc, para.level(), line)
+    }
+}
+
+impl<'t> paragraph_bidi_info::ParagraphBidiInfo<StrText<'t>> {
+    ghost use Rattle.unicode_bidi.specs.ParagraphBidiInfo.{text as text_of, analysed as analysed_of, levels as levels_of_info, paragraph_level, is_pure_ltr};
+
+    /// Finds the level of a text that is one paragraph (P2, P3), the class of each character, with
+    /// each FSI resolved (X5c), and its level (X1 to I2). A base level that is given is the level
+    /// of the paragraph. It must be at most 125.
+    pub fn new_with_data_source<D: BidiDataSource>(
+        alloc: Global,
+        data_source: &D,
+        text: &'t str,
+        default_para_level: Option<Level>,
+    ) -> Result<ParagraphBidiInfo<'t>, AllocError>
+        requires { IfSome default_para_level (λ level. level ≤ 125) }
+        ensures text { IfOk result (λ i. text_of i ≡ text.now) }
+        ensures analysis { IfOk result (λ i. IsParagraphAnalysis (D.source data_source.now) default_para_level (analysed_of i) (paragraph_level i) (is_pure_ltr i)) }
+
+        // All units of a character have one class and one level.
+        ensures per_char { IfOk result (λ i. IsPerCharText (analysed_of i)) }
+
+        // No level is below that of the paragraph or above the greatest.
+        ensures bounded { IfOk result (λ i. AreLevelsFrom (paragraph_level i) (levels_of_info i)) }
+
+        // Which character of class BN stands at a place changes no level.
+        ensures boundary_neutrals_alike { BoundaryNeutralsAreAlike (D.source data_source.now) default_para_level }
+
+        // A paragraph of level 0 in which nothing can turn the direction has level 0 throughout.
+        ensures stays_left_to_right { StaysLeftToRight (D.source data_source.now) default_para_level }
+    {
+        paragraph_bidi_info::ParagraphBidiInfo::of_text(
+            alloc,
+            data_source,
+            StrText::new(text),
+            default_para_level,
+        )
+    }
+
+    /// The text.
+    pub fn text(&self) -> &'t str
+        ensures { result.now ≡ text_of self.now }
+    {
+        self.paragraph.text().as_str()
+    }
+
+    /// The text of the line from left to right: its characters in the order of L2, by their levels
+    /// after L1. Neither combining marks (L3) nor mirrored characters (L4) are seen to. The text is
+    /// borrowed, and takes no memory, exactly where no level of the line is odd after L1.
+    pub fn reorder_line(&self, alloc: Global, line: Range<usize>) -> Result<CowStr<'t>, AllocError>
+        requires { IsLineOf (analysed_of self.now) line }
+        ensures text { IfOk result (λ c. IsTextOfLine encode_utf8 (text_of self.now) (analysed_of self.now) (paragraph_level self.now) line (cow_str_bytes c)) }
+        ensures borrowed { IfOk result (λ c. IsBorrowedStr c ↔ StaysInOrder (analysed_of self.now) (paragraph_level self.now) line) }
+    {
+        self.paragraph
+            .reorder_line(alloc, self.paragraph_level(), line)
+    }
+}
+
+impl<'t> initial_info::InitialInfo<StrText<'t>> {
+    ghost use Rattle.unicode_bidi.specs.InitialInfo.{text as text_of, len_of, chars_of, original_classes, paragraphs};
+
+    /// Finds the paragraphs of a text (P1) with their levels (P2, P3), and the class of each
+    /// character, with each FSI resolved (X5c). A base level that is given, which may be any, is
+    /// the level of every paragraph.
+    pub fn new_with_data_source<D: BidiDataSource>(
+        alloc: Global,
+        data_source: &D,
+        text: &'t str,
+        default_para_level: Option<Level>,
+    ) -> Result<InitialInfo<'t>, AllocError>
+        ensures text { IfOk result (λ i. text_of i ≡ text.now) }
+        ensures classes { IfOk result (λ i. let pieces = pieces_of true (D.source data_source.now) (chars_of i) in
+            original_classes i ≡ per_unit (len_of i) (chars_of i) (text_classes (D.source data_source.now) pieces)) }
+        ensures ranges { IfOk result (λ i. let pieces = pieces_of true (D.source data_source.now) (chars_of i) in
+            ranges_of (paragraphs i) ≡ ranges_from (len_of i) 0 pieces) }
+        ensures levels { IfOk result (λ i. let pieces = pieces_of true (D.source data_source.now) (chars_of i) in
+            levels_of (paragraphs i) ≡ paragraph_levels (D.source data_source.now) default_para_level pieces) }
+
+        // Every unit is in one paragraph, and separators stand at the paragraphs' ends alone.
+        ensures parted { IfOk result (λ i. AreParagraphRanges (D.source data_source.now) (len_of i) (chars_of i) (ranges_of (paragraphs i))) }
+        ensures per_char { IfOk result (λ i. IsTrue (is_per_char ⟦<BidiClass as PartialEq>⟧.eq (len_of i) (chars_of i) (original_classes i))) }
+    {
+        initial_info::InitialInfo::of_text(
+            alloc,
+            data_source,
+            StrText::new(text),
+            default_para_level,
+        )
+    }
+
+    /// The text.
+    pub fn text(&self) -> &'t str
+        ensures { result.now ≡ text_of self.now }
+    {
+        self.text.as_str()
+    }
+}
