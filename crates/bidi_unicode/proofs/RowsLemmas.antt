@@ -12,6 +12,10 @@ use Rattle.bidi_unicode.specs.Rows.{row_value, rows_rise, IsRowOf}
 abbrev pub key_at : {V : Type 0} → List (ℕ × V) → ℕ → (ℕ × V) → ℕ
 key_at rows i default = (get_or rows i default).0
 
+-- the search ended at the character's row, or no row has the character
+abbrev pub IsSearched : {V : Type 0} → List (ℕ × V) → ℕ → Result ℕ ℕ → Type 0
+IsSearched rows c r = MatchResult r (IsRowOf rows c) (λ i. row_value rows c ≡ None)
+
 ranks_rise : (x y c : ℕ) → x ≤ y → ordering_index (nat_cmp x c) ≤ ordering_index (nat_cmp y c)
 ranks_rise x y c le = grind (arith, nat_tests)
 
@@ -53,7 +57,7 @@ module _ {V : Type 0} where
       grind (arith, nat_tests, differs, row_value-none rs c (λ i d below same. none (suc i) d (omega arith) same))
 
   -- what a binary search says
-  pub searched : (rows : List (ℕ × V)) (c : ℕ) (r : Result ℕ ℕ) → rows_rise 0 rows ≡ true → IsSearchInRange r (length rows) → IsBinarySearchResult (λ row. nat_cmp row.0 c) rows r → MatchResult r (IsRowOf rows c) (λ i. row_value rows c ≡ None)
+  pub searched : (rows : List (ℕ × V)) (c : ℕ) (r : Result ℕ ℕ) → rows_rise 0 rows ≡ true → IsSearchInRange r (length rows) → IsBinarySearchResult (λ row. nat_cmp row.0 c) rows r → IsSearched rows c r
   searched rows c (Ok i) up within equal = (
     within,
     λ d.
@@ -76,6 +80,6 @@ module _ {V : Type 0} where
       by_order j k d le below (inr same) = let e : j ≡ k = omega arith in le_of_eq (ap (λ x. key_at rows x d) e)
 
 -- the same of the index alone
-pub index_of_searched : {V : Type 0} (rows : List (ℕ × V)) (c : ℕ) (r : Result ℕ ℕ) → MatchResult r (IsRowOf rows c) (λ i. row_value rows c ≡ None) → IfSome (result_ok r) (IsRowOf rows c) × IfNone (result_ok r) (row_value rows c ≡ None)
+pub index_of_searched : {V : Type 0} (rows : List (ℕ × V)) (c : ℕ) (r : Result ℕ ℕ) → IsSearched rows c r → IfSome (result_ok r) (IsRowOf rows c) × IfNone (result_ok r) (row_value rows c ≡ None)
 index_of_searched rows c (Ok i) found = (found, tt)
 index_of_searched rows c (Err i) absent = (tt, absent)

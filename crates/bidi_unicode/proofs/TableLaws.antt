@@ -105,12 +105,15 @@ holds-true : (o : Option ℕ) (c : ℕ) → holds o c ≡ true → o ≡ Some c
 holds-true None c h = cc
 holds-true (Some p) c h = ap Some (eqb-true p c h)
 
+abbrev no_partner : Option ℕ → Bool
+no_partner row = not (is_some row)
+
 -- the partner of the partner is the character
 abbrev comes_back : ℕ → Option ℕ → Bool
 comes_back c None = true
 comes_back c (Some p) = holds (row_value MIRRORED p) c
 
-all_come_back : at_points (row_value MIRRORED) mirrored_stepped (λ row. not (is_some row)) comes_back ≡ true
+all_come_back : at_points (row_value MIRRORED) mirrored_stepped no_partner comes_back ≡ true
 unfolding tables mirrored_stepped points_ok
 all_come_back = refl
 
@@ -125,7 +128,7 @@ mirrored_of-is_mirrored c some = by_test (is_some (mirrored_of c)) (is_bidi_mirr
 -- and is its partner's partner
 pub mirrored_of-mirrored_of : (c p : ℕ) → mirrored_of c ≡ Some p → mirrored_of p ≡ Some c
 mirrored_of-mirrored_of c p e =
-    let back : comes_back c (mirrored_of c) ≡ true = Stepped-at_points (row_value MIRRORED) mirrored_stepped (λ row. not (is_some row)) comes_back all_come_back c (ap (λ (row : Option ℕ). not (is_some row)) e) in
+    let back : comes_back c (mirrored_of c) ≡ true = Stepped-at_points (row_value MIRRORED) mirrored_stepped no_partner comes_back all_come_back c (ap no_partner e) in
     holds-true (row_value MIRRORED p) c (ap (comes_back c) (sym e) ∙ back)
 
 -- the two tables together
