@@ -1,0 +1,116 @@
+//! Unicode's data as the algorithm asks for it.
+ghost use Rattle.std.specs.Prelude.{◌≡◌, Some, option_map, option_and_then, IsSome, IfSome, IsTrue};
+ghost use Rattle.bidi_unicode.specs.Unicode.{class_named, bracket_of, bracket_in, normal_form, mirrored_of, unicode_source, is_opening, is_closing, other_bracket, is_mirrored_in};
+ghost use Rattle.ucd_bidi.specs.Binary.{is_bidi_mirrored};
+ghost use Rattle.ucd_category.specs.declared.GeneralCategory.TheVariants.{OpenPunctuation, ClosePunctuation};
+
+use crate::rows;
+use crate::tables::{BRACKETS, MIRRORED, Side};
+use bidi_base::char_data::BidiClass;
+use bidi_base::data_source::{BidiDataSource, BidiMatchedOpeningBracket};
+use ucd_bidi::BidiClass as Property;
+
+/// The data source over Unicode's own data: the Bidi_Class of every character, also of those that are
+/// not assigned, and Unicode's pairs of brackets. U+2329 and U+232A are taken as U+3008 and U+3009,
+/// whose canonical equivalents they are (BD16).
+#[derive(Clone, Copy, Debug, Default)]
+pub struct UnicodeData;
+
+#[tactic(auto, unfolding(crate::specs::Unicode::unicode_source))]
+impl BidiDataSource for UnicodeData {
+    ghost use Rattle.bidi_unicode.specs.Unicode.{unicode_source};
+
+    ghost source = { λ _. unicode_source };
+
+    fn bidi_class(&self, c: char) -> BidiClass {
+        class_named(Property::for_char(c))
+    }
+
+    fn bidi_matched_opening_bracket(&self, c: char) -> Option<BidiMatchedOpeningBracket>
+        ensures bracket { result ≡ unicode_source.bracket_of c }
+        // The opening brackets are the mirrored characters of general category Ps, and the closing
+        // ones those of Pe.
+        ensures opening { is_opening result ≡ is_mirrored_in OpenPunctuation c }
+        ensures closing { is_closing result ≡ is_mirrored_in ClosePunctuation c }
+        // The mirrored partner of a bracket is the other bracket of its pair.
+        ensures pair { option_and_then bracket_of (mirrored_of c) ≡ option_map other_bracket result }
+    {
+        bracket_of(c)
+    }
+}
+
+/// The partner of a character that is mirrored (L4): the one that is shown in its place at an odd
+/// level. `None` where Unicode names no such partner, also for some characters that it calls mirrored.
+pub fn mirrored(c: char) -> Option<char>
+    ensures partner { result ≡ mirrored_of c }
+    ensures mirrored { IsSome result → IsTrue (is_bidi_mirrored c) }
+    ensures back { IfSome result (λ partner. mirrored_of partner ≡ Some c) }
+{
+    let (_, partner) = MIRRORED[rows::index_of(&MIRRORED, c)?];
+    Some(partner)
+}
+
+/// The bracket that a character is by the table of brackets.
+fn bracket_of(c: char) -> Option<BidiMatchedOpeningBracket>
+    ensures { result ≡ bracket_of c }
+{
+    let (_, (partner, side)) = BRACKETS[rows::index_of(&BRACKETS, c)?];
+    Some(bracket_in(c, partner, side))
+}
+
+/// The class that the property's value stands for.
+fn class_named(value: Property) -> BidiClass
+    ensures { result ≡ class_named value }
+{
+    match value {
+        Property::ArabicLetter => BidiClass::AL,
+        Property::ArabicNumber => BidiClass::AN,
+        Property::ParagraphSeparator => BidiClass::B,
+        Property::BoundaryNeutral => BidiClass::BN,
+        Property::CommonSeparator => BidiClass::CS,
+        Property::EuropeanNumber => BidiClass::EN,
+        Property::EuropeanSeparator => BidiClass::ES,
+        Property::EuropeanTerminator => BidiClass::ET,
+        Property::FirstStrongIsolate => BidiClass::FSI,
+        Property::LeftToRight => BidiClass::L,
+        Property::LeftToRightEmbedding => BidiClass::LRE,
+        Property::LeftToRightIsolate => BidiClass::LRI,
+        Property::LeftToRightOverride => BidiClass::LRO,
+        Property::NonspacingMark => BidiClass::NSM,
+        Property::OtherNeutral => BidiClass::ON,
+        Property::PopDirectionalFormat => BidiClass::PDF,
+        Property::PopDirectionalIsolate => BidiClass::PDI,
+        Property::RightToLeft => BidiClass::R,
+        Property::RightToLeftEmbedding => BidiClass::RLE,
+        Property::RightToLeftIsolate => BidiClass::RLI,
+        Property::RightToLeftOverride => BidiClass::RLO,
+        Property::SegmentSeparator => BidiClass::S,
+        Property::WhiteSpace => BidiClass::WS,
+    }
+}
+
+/// The bracket that a character of the table is.
+fn bracket_in(c: char, partner: char, side: Side) -> BidiMatchedOpeningBracket
+    ensures { result ≡ bracket_in c partner side }
+{
+    match side {
+        Side::Open => BidiMatchedOpeningBracket {
+            opening: normal_form(c),
+            is_open: true,
+        },
+        Side::Close => BidiMatchedOpeningBracket {
+            opening: normal_form(partner),
+            is_open: false,
+        },
+    }
+}
+
+/// The opening bracket that an opening bracket is canonically equivalent to, or itself.
+fn normal_form(opening: char) -> char
+    ensures { result ≡ normal_form opening }
+{
+    match opening {
+        '\u{2329}' => '\u{3008}',
+        _ => opening,
+    }
+}
