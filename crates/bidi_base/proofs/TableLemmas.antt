@@ -1,5 +1,5 @@
 -- What a table of ranges and one of brackets answer, by indexes, and when a table has a fault.
-use Rattle.std.proofs.Common.{◌≡◌, ℕ, zero, suc, ◌+◌, ◌-◌, ◌<◌, ◌≤◌, Bool, true, false, ◌&&◌, min, nat_le, nat_lt, if◌then◌else◌, List, [], length, get_or, take, drop, replicate, find, Option, Some, None, is_some, option_map, option_and_then, unwrap_or, refl, sym, ap, subst, ◌∙◌, arith, cond, inl, inr}
+use Rattle.std.proofs.Common.{◌≡◌, ℕ, zero, suc, ◌+◌, ◌-◌, ◌<◌, ◌≤◌, Bool, true, false, ◌&&◌, min, nat_le, nat_lt, if◌then◌else◌, List, length, get_or, take, drop, replicate, find, Option, Some, None, is_some, option_map, option_and_then, unwrap_or, refl, sym, ap, subst, ◌∙◌, arith, cond, inl, inr}
 use Rattle.std.specs.List.{range_with_len}
 use Rattle.std.proofs.lemmas.Bool.{cases_lt, both_ways, cond-true, cond-false}
 use Rattle.std.proofs.lemmas.List.{at_drop_more, length-drop, length-take-le}

@@ -4,13 +4,13 @@ use Rattle.std.specs.declared.ops.Range.{Range}
 use Rattle.std.specs.List.{range_with_len}
 use Rattle.std.proofs.lemmas.List.{get_or-map, length-map, map-append, take_more}
 use Rattle.std.proofs.lemmas.List.FromFn.{length-range_with_len}
-use Rattle.std.proofs.lemmas.List.Sorted.{All-permutation, IsPermutation-refl}
+use Rattle.std.proofs.lemmas.List.Sorted.{IsPermutation-refl}
 use Rattle.bidi_base.specs.Levels.{has_rtl}
 use Rattle.bidi_base.specs.Places.{indexes, at_places}
 use Rattle.bidi_base.specs.Order.{visual_order, IsVisualOrder}
 use Rattle.bidi_base.specs.Display.{Run, run_of, level_runs, run_level, visual_runs, IsLevelRun, AreVisualRuns}
 use Rattle.bidi_lines.proofs.Ordered.{visual_order-still, none_odd}
-use Rattle.bidi_base.proofs.VisualOrderLemmas.{visual_order-unique, all_below}
+use Rattle.bidi_base.proofs.VisualOrderLemmas.{visual_order-unique}
 use Rattle.bidi_lines.proofs.Pieces.{at_places-map}
 use Rattle.bidi_base.proofs.StoredLemmas.{at_places-append}
 use Rattle.bidi_lines.proofs.RunsLemmas.{level_runs-each}

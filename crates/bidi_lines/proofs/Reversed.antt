@@ -1,9 +1,8 @@
 -- What the annex's reversals leave: each pair stands as the levels between its items ask.
-use Rattle.std.proofs.Common.{◌≡◌, ℕ, zero, suc, ◌+◌, ◌-◌, ◌%◌, ◌<◌, ◌≤◌, Bool, true, false, cond, fold, filter, get_or, nat_lt, max, List, [], ◌∷◌, ◌++◌, length, All, AllPairs, Contains, arith, refl, ◌⊎◌, inl, inr, eqb-true, eq-eqb, le_refl, ltb-true, ltb-false, subst, sym, ap, min}
-use Rattle.std.proofs.lemmas.Bool.{cases_lt, cases_eq, cases_Bool, cond-true, cond-false, eqb-false}
-use Rattle.std.specs.List.{range_with_len}
+use Rattle.std.proofs.Common.{◌≡◌, ℕ, zero, suc, ◌+◌, ◌-◌, ◌%◌, ◌<◌, ◌≤◌, Bool, true, false, cond, fold, filter, get_or, nat_lt, max, List, [], ◌∷◌, ◌++◌, length, All, AllPairs, Contains, arith, refl, ◌⊎◌, inl, inr, eqb-true, eq-eqb, le_refl, ltb-true, ltb-false, subst, ap, min}
+use Rattle.std.proofs.lemmas.Bool.{cases_lt, cases_eq, cases_Bool, cond-true, cond-false}
 use Rattle.std.specs.List.Sorted.{IsPermutation}
-use Rattle.std.proofs.lemmas.List.{append-nil, get_or_default}
+use Rattle.std.proofs.lemmas.List.{append-nil}
 use Rattle.std.proofs.lemmas.List.Elements.{All-cons, All-nil, All-tail, filter_passes}
 use Rattle.std.proofs.lemmas.List.Kept.{AllPairs-cons}
 use Rattle.std.proofs.lemmas.List.FromFn.{length-range_with_len, get_or-range_with_len}

@@ -1,13 +1,13 @@
 -- The level runs in the visual order of their levels, written out, are the visual order of the units.
-use Rattle.std.proofs.Common.{cond, Bool, ◌≡◌, ◌≢◌, ℕ, zero, suc, ◌+◌, ◌-◌, ◌%◌, ◌<◌, ◌≤◌, max, true, false, List, [], ◌∷◌, ◌++◌, map, flat_map, reverse, length, get_or, AllPairs, All, refl, sym, ap, subst, ◌∙◌, arith, inl, inr, eq-eqb, le_refl, length-append}
+use Rattle.std.proofs.Common.{cond, Bool, ◌≡◌, ◌≢◌, ℕ, zero, suc, ◌+◌, ◌-◌, ◌%◌, ◌<◌, ◌≤◌, max, true, false, List, [], ◌∷◌, ◌++◌, map, flat_map, reverse, length, get_or, AllPairs, All, refl, sym, ap, subst, ◌∙◌, arith, inl, inr, eq-eqb, le_refl}
 use Rattle.std.specs.List.{range_with_len}
 use Rattle.std.specs.List.Sorted.{IsPermutation}
-use Rattle.std.proofs.lemmas.Bool.{cases_lt, cases_Bool, cases_order, cond-true, cond-false, both_ways, eqb-false}
-use Rattle.std.proofs.lemmas.List.{get_or-map, length-map, same_lists, get_or_append_left, append_cancel_left, get_or_default}
+use Rattle.std.proofs.lemmas.Bool.{cases_lt, cases_order, both_ways, eqb-false}
+use Rattle.std.proofs.lemmas.List.{get_or-map, length-map, same_lists, get_or_default}
 use Rattle.std.proofs.lemmas.List.Folds.{flat_map-map}
 use Rattle.std.proofs.lemmas.List.FromFn.{length-range_with_len, get_or-range_with_len, length-map-range_with_len, get_or-map-range_with_len}
 use Rattle.std.proofs.lemmas.List.Elements.{All-tail, All-map}
-use Rattle.std.proofs.lemmas.List.Sorted.{All-permutation, length_permutation, IsPermutation-refl, IsPermutation-sym, IsPermutation-trans, IsPermutation-reverse, IsPermutation-map}
+use Rattle.std.proofs.lemmas.List.Sorted.{All-permutation, IsPermutation-refl, IsPermutation-sym, IsPermutation-trans, IsPermutation-reverse, IsPermutation-map}
 use Rattle.bidi_base.specs.Levels.{is_odd, is_even}
 use Rattle.bidi_base.specs.Places.{between, indexes, at_places}
 use Rattle.bidi_base.specs.Order.{least_between, stands_left, visual_order, IsVisualOrder}

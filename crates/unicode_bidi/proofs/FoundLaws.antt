@@ -11,7 +11,7 @@ use Rattle.bidi_base.specs.Paragraphs.{pieces_of, AreParagraphRanges}
 use Rattle.bidi_base.specs.Source.{Source}
 use Rattle.bidi_base.specs.Stored.{stored_levels}
 use Rattle.bidi_base.specs.Text.{per_unit, per_char, is_per_char, IsLine}
-use Rattle.bidi_base.proofs.LevelLaws.{length-text_levels, length-stored_levels, stored_levels-AreLevelsFrom, text_classes-one, text_levels-one, paragraph_levels-one, All-per_unit}
+use Rattle.bidi_base.proofs.LevelLaws.{length-text_levels, stored_levels-AreLevelsFrom, text_classes-one, text_levels-one, paragraph_levels-one, All-per_unit}
 use Rattle.bidi_base.proofs.ParagraphsLemmas.{length-text_classes, pieces-joined, paragraphs-joined, paragraphs-AreParagraphRanges}
 use Rattle.bidi_base.proofs.PerUnit.{per_char-per_unit}
 use Rattle.bidi_base.proofs.PerCharTests.{class_eq, class_test, level_eq, level_test}

@@ -185,7 +185,8 @@ pub fn line_levels<T: TextSource>(
     ensures levels { IfOk result (λ v. AreLevelsWithLine (with_analysis T.units (T.characters text) analysis.now) level line v.items) }
 
     // The levels, one a character, come of the analysis's classes and levels, one a character, of the
-    // level handed in and of the line counted in characters alone.
+    // level handed in and of the line counted in characters alone. So corresponding lines of two texts
+    // of the same characters have the same levels a character, and the same order.
     ensures by_characters { let chars = T.characters text in IfOk result (λ v. per_char 0 T.units chars v.items
         ≡ levels_with_line_of level (per_char L T.units chars (original_classes_of analysis.now)) (per_char 0 T.units chars (stored_levels_of analysis.now))
         (char_index T.units chars line.start) (char_index T.units chars line.end)) }

@@ -1,9 +1,8 @@
-use Rattle.std.proofs.Common.{◌≡◌, ℕ, ◌+◌, ◌<◌, length, slice_index, arith, ◌∙◌, ap, sym, subst, inl, inr}
+use Rattle.std.proofs.Common.{◌≡◌, ◌+◌, length, slice_index, arith, ◌∙◌, ap, sym, subst, inl, inr}
 use Rattle.std.specs.List.{range_with_len}
 use Rattle.std.proofs.lemmas.Bool.{cases_lt}
 use Rattle.std.proofs.lemmas.List.FromFn.{length-range_with_len, get_or-range_with_len}
 use Rattle.bidi_base.specs.Order.{IsVisualOrder}
-use Rattle.bidi_lines.specs.Arranged.{IsArranged}
 use Rattle.bidi_lines.proofs.Ordered.{visual-from_arranged, visual_law, visual-still, visual_order-still, none_odd}
 use Rattle.bidi_lines.proofs.visual_order.put_in_visual_order.Goals as goal
 

@@ -1,9 +1,4 @@
-use Rattle.std.proofs.Common.{◌≡◌, ◌∙◌, ℕ, List, sym, ap, subst}
-use Rattle.std.specs.Prelude.{IsTrue}
 use Rattle.std.proofs.lemmas.Result.{IfOk-weaker}
-use Rattle.bidi_base.specs.declared.char_data.BidiClass.{BidiClass}
-use Rattle.bidi_base.specs.Text.{is_per_char}
-use Rattle.bidi_base.proofs.PerCharTests.{class_eq, level_eq}
 use Rattle.unicode_bidi.proofs.StoredLine.{same_len, within, of_units, of_chars-units}
 use Rattle.unicode_bidi.proofs.engine.line_levels.Goals as goal
 

@@ -1,6 +1,5 @@
 use Rattle.bidi_base.proofs.LevelLaws.{BoundaryNeutralsAreAlike-all, StaysLeftToRight-all}
 use Rattle.unicode_bidi.specs.Analysed.{analysed}
-use Rattle.unicode_bidi.specs.Engine.{with_analysis}
 use Rattle.unicode_bidi.proofs.FoundLaws.{parted-found, lines-found, bounded-found, own_units-found}
 use Rattle.unicode_bidi.proofs.info.BidiInfo.of_text.Goals as goal
 

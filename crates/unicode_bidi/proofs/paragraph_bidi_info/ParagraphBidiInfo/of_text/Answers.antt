@@ -3,7 +3,6 @@ use Rattle.bidi_base.specs.Direction.{is_pure_ltr}
 use Rattle.bidi_base.specs.Isolates.{paragraph_level}
 use Rattle.bidi_base.specs.Laws.{AreLevelsFrom}
 use Rattle.bidi_base.proofs.LevelLaws.{BoundaryNeutralsAreAlike-all, StaysLeftToRight-all}
-use Rattle.unicode_bidi.specs.Analysed.{analysed}
 use Rattle.unicode_bidi.specs.Engine.{with_analysis}
 use Rattle.unicode_bidi.specs.ParagraphFlags.{flags_of}
 use Rattle.unicode_bidi.specs.ParagraphInfo.{level_of}

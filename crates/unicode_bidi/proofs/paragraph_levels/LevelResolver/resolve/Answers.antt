@@ -4,12 +4,10 @@ use Rattle.std.specs.List.{All}
 use Rattle.std.proofs.lemmas.List.{length-map}
 use Rattle.bidi_base.specs.declared.char_data.BidiClass.TheVariants.{L}
 use Rattle.bidi_base.specs.Isolates.{stored_classes}
-use Rattle.bidi_base.specs.Text.{is_per_char, per_char}
-use Rattle.bidi_base.proofs.PerCharTests.{class_eq, class_test}
+use Rattle.bidi_base.specs.Text.{per_char}
 use Rattle.bidi_base.specs.Units.{AreLines}
 use Rattle.bidi_base.proofs.PerUnit.{length-per_unit}
 use Rattle.bidi_base.proofs.StoredSteps.{length-stored_classes}
-use Rattle.bidi_base.proofs.UnitsLemmas.{is_per_char-per_unit}
 use Rattle.bidi_rules.specs.RunSequence.{run_bounds, sequences_in}
 use Rattle.unicode_bidi.proofs.LevelPasses.{AreResolvedTo, AreResolvedTo-start, AreResolvedTo-per_char, AreResolvedTo-long, AreWeakTo-from, AreWeakTo-resolved, AreResolvedTo-more, prepared, prepared-next, prepared-lines, prepared-more, prepared-long, prepared-low, sequences_before, AreLevels-from}
 use Rattle.unicode_bidi.proofs.paragraph_levels.LevelResolver.resolve.Goals as goal

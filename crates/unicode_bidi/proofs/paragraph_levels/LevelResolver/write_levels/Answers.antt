@@ -4,7 +4,7 @@ use Rattle.std.proofs.lemmas.List.{length-map}
 use Rattle.bidi_base.specs.Isolates.{stored_classes}
 use Rattle.bidi_base.proofs.PerUnit.{length-per_unit}
 use Rattle.bidi_base.proofs.StoredSteps.{length-stored_classes}
-use Rattle.unicode_bidi.proofs.FilledUnits.{filled-levels_in, pure_levels, initiators-stored}
+use Rattle.unicode_bidi.proofs.FilledUnits.{filled-levels_in, pure_levels}
 use Rattle.unicode_bidi.proofs.paragraph_levels.LevelResolver.write_levels.Goals as goal
 
 pub returns-then-paragraph : goal.returns-then-paragraph
