@@ -5,8 +5,7 @@ ghost use Rattle.std.specs.List.{list_all};
 ghost use Rattle.bidi_base.specs.Classes.{is_kept, is_l_or_r};
 
 use crate::rows::{
-    LINES, ONE_PARAGRAPH, OPENINGS, SOURCES, TEXTS, base_of, deepest_embeddings, per_char, same,
-    sample, with_openings,
+    self, OPENINGS, TextRow, base_of, deepest_embeddings, per_char, same, sample, with_openings,
 };
 use bidi_base::char_data::BidiClass::{self, B, FSI, L, LRI, R, RLI};
 use bidi_base::classes::{is_initiator, is_pdi, is_removed, is_strong};
@@ -329,24 +328,43 @@ fn check(
     check_paragraph(rt, source, name, text, base)
 }
 
+fn check_table(
+    rt: &(impl AllocGlobal + Abort),
+    source: &TableBidiData,
+    table: &[TextRow],
+) -> Result<(), Fail> {
+    for (name, text, base, _, _, _) in table {
+        check(rt, source, *name, *text, *base)?;
+    }
+    Ok(())
+}
+
 #[test]
 fn texts(rt: HostRuntime) -> Result<(), Fail> {
-    let alloc = rt.alloc();
     let source = sample()?;
-    for (name, text, base, _, _, _) in TEXTS {
-        check(&rt, &source, name, text, base)?;
+    for table in rows::texts() {
+        check_table(&rt, &source, table)?;
     }
-    for (name, text, base, _, _, _) in ONE_PARAGRAPH {
-        check(&rt, &source, name, text, base)?;
+    check_table(&rt, &source, rows::one_paragraph())
+}
+
+#[test]
+fn lines(rt: HostRuntime) -> Result<(), Fail> {
+    let source = sample()?;
+    for (name, text, base, _, _, _, _, _, _) in rows::lines() {
+        check(&rt, &source, *name, *text, *base)?;
     }
-    for (name, text, base, _, _, _, _, _, _) in LINES {
-        check(&rt, &source, name, text, base)?;
-    }
+    Ok(())
+}
+
+#[test]
+fn limits(rt: HostRuntime) -> Result<(), Fail> {
+    let source = sample()?;
     for (before, count, behind, base, _) in OPENINGS {
-        let text = with_openings(alloc, before, count, behind)?;
+        let text = with_openings(rt.alloc(), before, count, behind)?;
         check(&rt, &source, "BD16: many openings", text.as_str(), base)?;
     }
-    let deepest = deepest_embeddings(alloc)?;
+    let deepest = deepest_embeddings(rt.alloc())?;
     check(
         &rt,
         &source,
@@ -358,11 +376,11 @@ fn texts(rt: HostRuntime) -> Result<(), Fail> {
 
 #[test]
 fn sources(rt: HostRuntime) -> Result<(), Fail> {
-    for (ranges, brackets, (name, text, base, _, _, _)) in SOURCES {
-        let Ok(source) = TableBidiData::new(ranges, brackets) else {
+    for (ranges, brackets, (name, text, base, _, _, _)) in rows::sources() {
+        let Ok(source) = TableBidiData::new(*ranges, *brackets) else {
             return Err(Fail::from("the ranges ascend"));
         };
-        check(&rt, &source, name, text, base)?;
+        check(&rt, &source, *name, *text, *base)?;
     }
     Ok(())
 }

@@ -26,70 +26,137 @@ pub type TextRow = (
     &'static [u8],
 );
 
+/// Paragraphs and their levels (P1 to P3).
 #[rattlefmt::skip]
-pub const TEXTS: [TextRow; 53] = [
+static PARAGRAPHS: [TextRow; 7] = [
     ("P3: right to left, then left to right", "\u{5D0}\u{5D1}\u{5D2}abc", None, &[R, R, R, L, L, L], &[(0, 9, 1)], &[1, 1, 1, 2, 2, 2]),
-    ("I2: numbers in right to left text", "\u{5D0}\u{5D1} 12", None, &[R, R, WS, EN, EN], &[(0, 7, 1)], &[1, 1, 1, 2, 2]),
-    ("W2 before W4", "\u{627}1,2", None, &[AL, EN, CS, EN], &[(0, 5, 1)], &[1, 2, 2, 2]),
     ("P1: two paragraphs", "a\n\u{5D0}", None, &[L, B, R], &[(0, 2, 0), (2, 4, 1)], &[0, 0, 1]),
     ("P1: CR and LF are two", "\r\n", None, &[B, B], &[(0, 1, 0), (1, 2, 0)], &[0, 0]),
     ("P1: a separator of three bytes", "a\u{2029}b", Some(1), &[L, B, L], &[(0, 4, 1), (4, 5, 1)], &[2, 1, 2]),
-    ("X9: an embedding alone", "\u{202B}a\u{202C}", None, &[RLE, L, PDF], &[(0, 7, 0)], &[0, 2, 2]),
     ("P1: no character", "", None, &[], &[], &[]),
+    ("P3: a character of four bytes", "\u{5D0}\u{10000}", None, &[R, L], &[(0, 6, 1)], &[1, 2]),
+    ("P2: a second letter of its own direction", "a\u{5D0}", None, &[L, R], &[(0, 3, 0)], &[0, 1]),
+];
+
+/// Explicit levels, sequences and what X9 removes (X1 to X10).
+#[rattlefmt::skip]
+static EXPLICIT: [TextRow; 9] = [
+    ("X9: an embedding alone", "\u{202B}a\u{202C}", None, &[RLE, L, PDF], &[(0, 7, 0)], &[0, 2, 2]),
     ("X9: a removed character between R", "\u{5D0}\u{AD}\u{5D0}", Some(0), &[R, BN, R], &[(0, 6, 0)], &[1, 1, 1]),
+    ("X5a, X6a: an override stops at an isolate", "\u{202E}a\u{2066}b\u{2069}c\u{202C}", Some(0), &[RLO, L, LRI, L, PDI, L, PDF], &[(0, 15, 0)], &[0, 1, 1, 2, 1, 1, 1]),
+    ("X7: a PDF inside an isolate", "\u{202B}\u{2066}\u{202C}\u{2069}a\u{202C}", Some(0), &[RLE, LRI, PDF, PDI, L, PDF], &[(0, 16, 0)], &[0, 1, 1, 1, 2, 2]),
+    ("X10: eos after an initiator", "\u{5D0}\u{2067}\u{5D1}", Some(0), &[R, RLI, R], &[(0, 7, 0)], &[1, 0, 1]),
+    ("X9: a removed character first", "\u{AD}a", Some(1), &[BN, L], &[(0, 3, 1)], &[1, 2]),
+    ("X5b: an isolate alone", "\u{2066}a\u{2069}", Some(0), &[LRI, L, PDI], &[(0, 7, 0)], &[0, 2, 0]),
+    ("BD9: a separator ends an isolate", "\u{2066}\u{5D0}\n\u{5D1}", None, &[LRI, R, B, R], &[(0, 6, 0), (6, 8, 1)], &[0, 3, 0, 1]),
+    ("X6a: a PDI without a match", "\u{2069}\u{627}", None, &[PDI, AL], &[(0, 5, 1)], &[1, 1]),
+];
+
+/// First strong isolates (X5c).
+#[rattlefmt::skip]
+static ISOLATES: [TextRow; 9] = [
+    ("X5c: FSI decided by L", "\u{2068}a\u{2069}", None, &[LRI, L, PDI], &[(0, 7, 0)], &[0, 2, 0]),
+    ("X5c: FSI that nothing decides", "\u{2068}1\u{2069}", None, &[FSI, EN, PDI], &[(0, 7, 0)], &[0, 2, 0]),
+    ("X5c: FSI decided by R", "\u{2068}\u{5D0}", None, &[RLI, R], &[(0, 5, 0)], &[0, 1]),
+    ("X5c: FSI decided by AL", "\u{2068}\u{627}", None, &[RLI, AL], &[(0, 5, 0)], &[0, 1]),
+    ("X5c: FSI around an isolate", "\u{2068}\u{2066}\u{5D0}\u{2069}a\u{2069}", None, &[LRI, LRI, R, PDI, L, PDI], &[(0, 15, 0)], &[0, 2, 5, 2, 2, 0]),
+    ("X5c: FSI around nothing, then L", "\u{2068}\u{2069}a", None, &[FSI, PDI, L], &[(0, 7, 0)], &[0, 0, 0]),
+    ("X5c: FSI around nothing, then R", "\u{2068}\u{2069}\u{5D0}", None, &[FSI, PDI, R], &[(0, 8, 1)], &[1, 1, 1]),
+    ("X5c: FSI without a PDI around FSI", "\u{2068}\u{2068}\u{5D0}\u{2069}a", None, &[LRI, RLI, R, PDI, L], &[(0, 12, 0)], &[0, 2, 3, 2, 2]),
+    ("X5c: FSI at a paragraph's end", "\u{2068}\na", None, &[FSI, B, L], &[(0, 4, 0), (4, 5, 0)], &[0, 0, 0]),
+];
+
+/// The same where the base level is given.
+#[rattlefmt::skip]
+static ISOLATES_AT_A_BASE_LEVEL: [TextRow; 10] = [
+    ("X5c: FSI decided by L, base 1", "\u{2068}a\u{2069}", Some(1), &[LRI, L, PDI], &[(0, 7, 1)], &[1, 2, 1]),
+    ("X5c: FSI that nothing decides, base 1", "\u{2068}1\u{2069}", Some(1), &[FSI, EN, PDI], &[(0, 7, 1)], &[1, 2, 1]),
+    ("X5c: FSI decided by R, base 1", "\u{2068}\u{5D0}", Some(1), &[RLI, R], &[(0, 5, 1)], &[1, 3]),
+    ("X5c: FSI decided by AL, base 1", "\u{2068}\u{627}", Some(1), &[RLI, AL], &[(0, 5, 1)], &[1, 3]),
+    ("X5c: FSI around an isolate, base 1", "\u{2068}\u{2066}\u{5D0}\u{2069}a\u{2069}", Some(1), &[LRI, LRI, R, PDI, L, PDI], &[(0, 15, 1)], &[1, 2, 5, 2, 2, 1]),
+    ("X5c: FSI around nothing, then L, base 0", "\u{2068}\u{2069}a", Some(0), &[FSI, PDI, L], &[(0, 7, 0)], &[0, 0, 0]),
+    ("X5c: FSI around nothing, then L, base 1", "\u{2068}\u{2069}a", Some(1), &[FSI, PDI, L], &[(0, 7, 1)], &[1, 1, 2]),
+    ("X5c: FSI around nothing, then R, base 1", "\u{2068}\u{2069}\u{5D0}", Some(1), &[FSI, PDI, R], &[(0, 8, 1)], &[1, 1, 1]),
+    ("X5c: FSI without a PDI around FSI, base 1", "\u{2068}\u{2068}\u{5D0}\u{2069}a", Some(1), &[LRI, RLI, R, PDI, L], &[(0, 12, 1)], &[1, 2, 3, 2, 2]),
+    ("X5c: FSI at a paragraph's end, base 1", "\u{2068}\na", Some(1), &[FSI, B, L], &[(0, 4, 1), (4, 5, 1)], &[1, 1, 2]),
+];
+
+/// Weak types (W1 to W7).
+#[rattlefmt::skip]
+static WEAK: [TextRow; 6] = [
+    ("W2 before W4", "\u{627}1,2", None, &[AL, EN, CS, EN], &[(0, 5, 1)], &[1, 2, 2, 2]),
+    ("W4, W5: separators and terminators", "\u{5D0}$1+2%,3", None, &[R, ET, EN, ES, EN, ET, CS, EN], &[(0, 9, 1)], &[1, 2, 2, 2, 2, 2, 1, 2]),
+    ("W1: a mark behind a removed character", "\u{5D0}\u{AD}\u{301}a", Some(0), &[R, BN, NSM, L], &[(0, 7, 0)], &[1, 1, 1, 0]),
+    ("W2: the nearest strong class", "\u{627}\u{5D0}$1", Some(0), &[AL, R, ET, EN], &[(0, 6, 0)], &[1, 1, 2, 2]),
+    ("W7: a number behind a letter", "a1.", None, &[L, EN, CS], &[(0, 3, 0)], &[0, 0, 0]),
+    ("W7: a number behind a letter at level 2", "a1.", Some(2), &[L, EN, CS], &[(0, 3, 2)], &[2, 2, 2]),
+];
+
+/// Brackets, neutrals and implicit levels (N0 to N2, I1, I2).
+#[rattlefmt::skip]
+static NEUTRAL: [TextRow; 12] = [
+    ("I2: numbers in right to left text", "\u{5D0}\u{5D1} 12", None, &[R, R, WS, EN, EN], &[(0, 7, 1)], &[1, 1, 1, 2, 2]),
     ("I2: letters at level 1", "a b", Some(1), &[L, WS, L], &[(0, 3, 1)], &[2, 2, 2]),
     ("N0c: context before an isolate", "a\u{5D0}\u{2066}x\u{2069}(\u{5D1})", None, &[L, R, LRI, L, PDI, ON, R, ON], &[(0, 14, 0)], &[0, 1, 1, 2, 1, 1, 1, 1]),
     ("I2: the greatest level", "a", Some(125), &[L], &[(0, 1, 125)], &[126]),
-    ("W4, W5: separators and terminators", "\u{5D0}$1+2%,3", None, &[R, ET, EN, ES, EN, ET, CS, EN], &[(0, 9, 1)], &[1, 2, 2, 2, 2, 2, 1, 2]),
-    ("W1: a mark behind a removed character", "\u{5D0}\u{AD}\u{301}a", Some(0), &[R, BN, NSM, L], &[(0, 7, 0)], &[1, 1, 1, 0]),
-    ("X5a, X6a: an override stops at an isolate", "\u{202E}a\u{2066}b\u{2069}c\u{202C}", Some(0), &[RLO, L, LRI, L, PDI, L, PDF], &[(0, 15, 0)], &[0, 1, 1, 2, 1, 1, 1]),
-    ("X7: a PDF inside an isolate", "\u{202B}\u{2066}\u{202C}\u{2069}a\u{202C}", Some(0), &[RLE, LRI, PDF, PDI, L, PDF], &[(0, 16, 0)], &[0, 1, 1, 1, 2, 2]),
     ("BD16: canonical equivalents", "\u{5D0}\u{2329}\u{5D1}\u{3009}", Some(0), &[R, ON, R, ON], &[(0, 10, 0)], &[1, 1, 1, 1]),
     ("BD16: crossed brackets", "\u{5D0}([\u{5D1})]", Some(0), &[R, ON, ON, R, ON, ON], &[(0, 8, 0)], &[1, 1, 1, 1, 1, 0]),
     ("BD16: a closing without its opening", "\u{5D0}[)\u{5D1}]", Some(0), &[R, ON, ON, R, ON], &[(0, 7, 0)], &[1, 1, 1, 1, 1]),
     ("N0c: a number as the context", "\u{660}(\u{5D0})", Some(0), &[AN, ON, R, ON], &[(0, 6, 0)], &[2, 1, 1, 1]),
     ("N0b: the embedding direction first", "\u{5D0}(\u{5D1}a)", Some(0), &[R, ON, R, L, ON], &[(0, 7, 0)], &[1, 0, 1, 0, 0]),
     ("N1: a number beside neutrals", "\u{5D0}!\u{660}", Some(0), &[R, ON, AN], &[(0, 5, 0)], &[1, 1, 2]),
-    ("X10: eos after an initiator", "\u{5D0}\u{2067}\u{5D1}", Some(0), &[R, RLI, R], &[(0, 7, 0)], &[1, 0, 1]),
-    ("X9: a removed character first", "\u{AD}a", Some(1), &[BN, L], &[(0, 3, 1)], &[1, 2]),
-    ("W2: the nearest strong class", "\u{627}\u{5D0}$1", Some(0), &[AL, R, ET, EN], &[(0, 6, 0)], &[1, 1, 2, 2]),
-    ("P3: a character of four bytes", "\u{5D0}\u{10000}", None, &[R, L], &[(0, 6, 1)], &[1, 2]),
     ("N2: an initiator behind removed characters", "\u{202B}\u{202C}\u{5D0}\u{2066}", Some(0), &[RLE, PDF, R, LRI], &[(0, 11, 0)], &[0, 0, 1, 0]),
     ("I2: neutrals alone", "...", Some(1), &[CS, CS, CS], &[(0, 3, 1)], &[1, 1, 1]),
-    ("X5b: an isolate alone", "\u{2066}a\u{2069}", Some(0), &[LRI, L, PDI], &[(0, 7, 0)], &[0, 2, 0]),
-    ("W7: a number behind a letter", "a1.", None, &[L, EN, CS], &[(0, 3, 0)], &[0, 0, 0]),
-    ("W7: a number behind a letter at level 2", "a1.", Some(2), &[L, EN, CS], &[(0, 3, 2)], &[2, 2, 2]),
-    ("P2: a second letter of its own direction", "a\u{5D0}", None, &[L, R], &[(0, 3, 0)], &[0, 1]),
-    ("X5c: FSI decided by L", "\u{2068}a\u{2069}", None, &[LRI, L, PDI], &[(0, 7, 0)], &[0, 2, 0]),
-    ("X5c: FSI decided by L, base 1", "\u{2068}a\u{2069}", Some(1), &[LRI, L, PDI], &[(0, 7, 1)], &[1, 2, 1]),
-    ("X5c: FSI that nothing decides", "\u{2068}1\u{2069}", None, &[FSI, EN, PDI], &[(0, 7, 0)], &[0, 2, 0]),
-    ("X5c: FSI that nothing decides, base 1", "\u{2068}1\u{2069}", Some(1), &[FSI, EN, PDI], &[(0, 7, 1)], &[1, 2, 1]),
-    ("X5c: FSI decided by R", "\u{2068}\u{5D0}", None, &[RLI, R], &[(0, 5, 0)], &[0, 1]),
-    ("X5c: FSI decided by R, base 1", "\u{2068}\u{5D0}", Some(1), &[RLI, R], &[(0, 5, 1)], &[1, 3]),
-    ("X5c: FSI decided by AL", "\u{2068}\u{627}", None, &[RLI, AL], &[(0, 5, 0)], &[0, 1]),
-    ("X5c: FSI decided by AL, base 1", "\u{2068}\u{627}", Some(1), &[RLI, AL], &[(0, 5, 1)], &[1, 3]),
-    ("X5c: FSI around an isolate", "\u{2068}\u{2066}\u{5D0}\u{2069}a\u{2069}", None, &[LRI, LRI, R, PDI, L, PDI], &[(0, 15, 0)], &[0, 2, 5, 2, 2, 0]),
-    ("X5c: FSI around an isolate, base 1", "\u{2068}\u{2066}\u{5D0}\u{2069}a\u{2069}", Some(1), &[LRI, LRI, R, PDI, L, PDI], &[(0, 15, 1)], &[1, 2, 5, 2, 2, 1]),
-    ("X5c: FSI around nothing, then L", "\u{2068}\u{2069}a", None, &[FSI, PDI, L], &[(0, 7, 0)], &[0, 0, 0]),
-    ("X5c: FSI around nothing, then L, base 0", "\u{2068}\u{2069}a", Some(0), &[FSI, PDI, L], &[(0, 7, 0)], &[0, 0, 0]),
-    ("X5c: FSI around nothing, then L, base 1", "\u{2068}\u{2069}a", Some(1), &[FSI, PDI, L], &[(0, 7, 1)], &[1, 1, 2]),
-    ("X5c: FSI around nothing, then R", "\u{2068}\u{2069}\u{5D0}", None, &[FSI, PDI, R], &[(0, 8, 1)], &[1, 1, 1]),
-    ("X5c: FSI around nothing, then R, base 1", "\u{2068}\u{2069}\u{5D0}", Some(1), &[FSI, PDI, R], &[(0, 8, 1)], &[1, 1, 1]),
-    ("X5c: FSI without a PDI around FSI", "\u{2068}\u{2068}\u{5D0}\u{2069}a", None, &[LRI, RLI, R, PDI, L], &[(0, 12, 0)], &[0, 2, 3, 2, 2]),
-    ("X5c: FSI without a PDI around FSI, base 1", "\u{2068}\u{2068}\u{5D0}\u{2069}a", Some(1), &[LRI, RLI, R, PDI, L], &[(0, 12, 1)], &[1, 2, 3, 2, 2]),
-    ("X5c: FSI at a paragraph's end", "\u{2068}\na", None, &[FSI, B, L], &[(0, 4, 0), (4, 5, 0)], &[0, 0, 0]),
-    ("X5c: FSI at a paragraph's end, base 1", "\u{2068}\na", Some(1), &[FSI, B, L], &[(0, 4, 1), (4, 5, 1)], &[1, 1, 2]),
-    ("BD9: a separator ends an isolate", "\u{2066}\u{5D0}\n\u{5D1}", None, &[LRI, R, B, R], &[(0, 6, 0), (6, 8, 1)], &[0, 3, 0, 1]),
-    ("X6a: a PDI without a match", "\u{2069}\u{627}", None, &[PDI, AL], &[(0, 5, 1)], &[1, 1]),
 ];
+
+fn paragraphs() -> &'static [TextRow] {
+    &PARAGRAPHS
+}
+
+fn explicit() -> &'static [TextRow] {
+    &EXPLICIT
+}
+
+fn isolates() -> &'static [TextRow] {
+    &ISOLATES
+}
+
+fn isolates_at_a_base_level() -> &'static [TextRow] {
+    &ISOLATES_AT_A_BASE_LEVEL
+}
+
+fn weak() -> &'static [TextRow] {
+    &WEAK
+}
+
+fn neutral() -> &'static [TextRow] {
+    &NEUTRAL
+}
+
+/// The rows of the tables of texts.
+pub fn texts() -> [&'static [TextRow]; 6] {
+    [
+        paragraphs(),
+        explicit(),
+        isolates(),
+        isolates_at_a_base_level(),
+        weak(),
+        neutral(),
+    ]
+}
 
 /// The same of texts that are handed in as one paragraph, whatever separators they have.
 #[rattlefmt::skip]
-pub const ONE_PARAGRAPH: [TextRow; 2] = [
+static ONE_PARAGRAPH: [TextRow; 2] = [
     ("X6a: a separator closes nothing", "\u{5D0}\u{2066}a\n\u{2069}\u{202B}\u{5D0}\u{202C}\u{2069}\u{5D0}", Some(0),
         &[R, LRI, L, B, PDI, RLE, R, PDF, PDI, R], &[(0, 23, 0)], &[1, 0, 2, 0, 0, 0, 1, 1, 1, 1]),
     ("X8: an override goes on behind a separator", "\u{202E}a\na", Some(0), &[RLO, L, B, L], &[(0, 6, 0)], &[0, 1, 1, 1]),
 ];
+
+/// The rows of `ONE_PARAGRAPH`.
+pub fn one_paragraph() -> &'static [TextRow] {
+    &ONE_PARAGRAPH
+}
 
 /// The ranges and the brackets of a source, and a text over it.
 pub type SourceRow = (
@@ -99,7 +166,7 @@ pub type SourceRow = (
 );
 
 #[rattlefmt::skip]
-pub const SOURCES: [SourceRow; 3] = [
+static SOURCES: [SourceRow; 3] = [
     (&[('f', 'f', FSI), ('\u{5D0}', '\u{5D0}', R)], &[],
         ("X5c: an initiator of one byte", "f\u{5D0}", None, &[RLI, R], &[(0, 3, 0)], &[0, 1])),
     (&[('a', 'a', R), ('\u{5D0}', '\u{5D0}', FSI)], &[],
@@ -107,6 +174,11 @@ pub const SOURCES: [SourceRow; 3] = [
     (&[('(', ')', ON), (',', ',', CS), ('z', 'z', BN), ('\u{5D0}', '\u{5EA}', R)], &[('z', ')', None), ('(', ')', None)],
         ("BD14: a removed character is no bracket", "\u{5D0},z\u{5D1})", Some(0), &[R, CS, BN, R, ON], &[(0, 7, 0)], &[1, 1, 1, 1, 0])),
 ];
+
+/// The rows of `SOURCES`.
+pub fn sources() -> &'static [SourceRow] {
+    &SOURCES
+}
 
 /// A name, a text, its base level, the start and the end of a line; the stored levels and those after
 /// L1; the line's visual runs, its text from left to right, and whether that is borrowed.
@@ -124,7 +196,7 @@ pub type LineRow = (
 
 /// Rows whose line takes the level of the text's first paragraph.
 #[rattlefmt::skip]
-pub const LINES: [LineRow; 13] = [
+static LINES: [LineRow; 13] = [
     ("L2: right to left, then left to right", "\u{5D0}\u{5D1}\u{5D2}abc", None, (0, 9), &[1, 1, 1, 2, 2, 2], &[1, 1, 1, 2, 2, 2], &[(6, 9), (0, 6)], "abc\u{5D2}\u{5D1}\u{5D0}", false),
     ("L2: numbers in right to left text", "\u{5D0}\u{5D1} 12", None, (0, 7), &[1, 1, 1, 2, 2], &[1, 1, 1, 2, 2], &[(5, 7), (0, 5)], "12 \u{5D1}\u{5D0}", false),
     ("L1: a removed character at the line's start", "\u{5D0}\u{AD}\u{5D0}", Some(0), (2, 6), &[1, 1, 1], &[1, 0, 1], &[(2, 4), (4, 6)], "\u{AD}\u{5D0}", false),
@@ -139,6 +211,11 @@ pub const LINES: [LineRow; 13] = [
     ("L2: an even level above the others", "ab", Some(1), (1, 2), &[2, 2], &[2, 2], &[(1, 2)], "b", true),
     ("L2: a letter behind a letter", "\u{5D0}a", Some(1), (0, 3), &[1, 2], &[1, 2], &[(2, 3), (0, 2)], "a\u{5D0}", false),
 ];
+
+/// The rows of `LINES`.
+pub fn lines() -> &'static [LineRow] {
+    &LINES
+}
 
 /// A text, a number of openings `{` behind it, what stands behind them, the base level, and the level
 /// of the last character: the 64th open bracket ends the search for pairs in its sequence.

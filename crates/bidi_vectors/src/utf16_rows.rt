@@ -1,6 +1,6 @@
 //! Texts of UTF-16, and the same texts in three encodings.
 
-use crate::rows::{LINES, LineRow, TEXTS, TextRow, base_of, per_char, sample};
+use crate::rows::{self, LineRow, TextRow, base_of, per_char, sample};
 use bidi_base::char_data::BidiClass::{L, R};
 use bidi_base::char_data::Direction;
 use bidi_base::level::{Level, has_rtl};
@@ -244,27 +244,42 @@ fn check_line<T: TextSource>(
     Ok(())
 }
 
-#[test]
-fn three_encodings(rt: HostRuntime) -> Result<(), Fail> {
-    for row in TEXTS {
-        let characters: Vec<char> = row.1.chars().collect(rt.alloc())?;
-        let units = units_of(rt.alloc(), row.1)?;
-        check_text(&rt, StrText::new(row.1), row)?;
-        check_text(&rt, Utf16Text::new(units.as_slice()), row)?;
-        check_text(&rt, CharsText::new(characters.as_slice()), row)?;
+fn check_text_in_encodings(rt: &(impl AllocGlobal + Abort), row: TextRow) -> Result<(), Fail> {
+    let characters: Vec<char> = row.1.chars().collect(rt.alloc())?;
+    let units = units_of(rt.alloc(), row.1)?;
+    check_text(rt, StrText::new(row.1), row)?;
+    check_text(rt, Utf16Text::new(units.as_slice()), row)?;
+    check_text(rt, CharsText::new(characters.as_slice()), row)
+}
+
+fn check_table(rt: &(impl AllocGlobal + Abort), table: &[TextRow]) -> Result<(), Fail> {
+    for row in table {
+        check_text_in_encodings(rt, *row)?;
     }
     Ok(())
 }
 
 #[test]
+fn three_encodings(rt: HostRuntime) -> Result<(), Fail> {
+    for table in rows::texts() {
+        check_table(&rt, table)?;
+    }
+    Ok(())
+}
+
+fn check_line_in_encodings(rt: &(impl AllocGlobal + Abort), row: LineRow) -> Result<(), Fail> {
+    let characters: Vec<char> = row.1.chars().collect(rt.alloc())?;
+    let units = units_of(rt.alloc(), row.1)?;
+    check_line(rt, StrText::new(row.1), row)?;
+    check_line(rt, Utf16Text::new(units.as_slice()), row)?;
+    check_line(rt, CharsText::new(characters.as_slice()), row)
+}
+
+#[test]
 fn whole_lines_in_three_encodings(rt: HostRuntime) -> Result<(), Fail> {
-    for row in LINES {
+    for row in rows::lines() {
         if row.3 == (0, row.1.len()) {
-            let characters: Vec<char> = row.1.chars().collect(rt.alloc())?;
-            let units = units_of(rt.alloc(), row.1)?;
-            check_line(&rt, StrText::new(row.1), row)?;
-            check_line(&rt, Utf16Text::new(units.as_slice()), row)?;
-            check_line(&rt, CharsText::new(characters.as_slice()), row)?;
+            check_line_in_encodings(&rt, *row)?;
         }
     }
     Ok(())
