@@ -12,6 +12,8 @@ mod constructors;
 #[cfg(test)]
 mod encoding_rows;
 #[cfg(test)]
+mod equality;
+#[cfg(test)]
 mod levels;
 #[cfg(test)]
 mod lines;
