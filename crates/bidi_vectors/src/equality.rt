@@ -5,7 +5,6 @@ use bidi_base::level::{LTR_LEVEL, RTL_LEVEL};
 use std::test::Fail;
 use unicode_bidi::{BidiInfo, InitialInfo, ParagraphBidiInfo, utf16};
 
-// The operator `==` is not covered at these types yet, which are generic over a text.
 #[test]
 fn infos(rt: HostRuntime) -> Result<(), Fail> {
     let source = sample()?;
@@ -13,9 +12,9 @@ fn infos(rt: HostRuntime) -> Result<(), Fail> {
     let same = BidiInfo::new_with_data_source(rt.alloc(), &source, "a b", Some(LTR_LEVEL))?;
     let turned = BidiInfo::new_with_data_source(rt.alloc(), &source, "a b", Some(RTL_LEVEL))?;
     let other = BidiInfo::new_with_data_source(rt.alloc(), &source, "a c", None)?;
-    assert!(rt; one.eq(&same));
-    assert!(rt; !one.eq(&turned));
-    assert!(rt; !one.eq(&other));
+    assert!(rt; one == same);
+    assert!(rt; !(one == turned));
+    assert!(rt; !(one == other));
     Ok(())
 }
 
@@ -35,8 +34,8 @@ fn paragraph_infos(rt: HostRuntime) -> Result<(), Fail> {
         "a b",
         Some(RTL_LEVEL),
     )?;
-    assert!(rt; one.eq(&same));
-    assert!(rt; !one.eq(&turned));
+    assert!(rt; one == same);
+    assert!(rt; !(one == turned));
     Ok(())
 }
 
@@ -46,8 +45,8 @@ fn initial_infos(rt: HostRuntime) -> Result<(), Fail> {
     let one = InitialInfo::new_with_data_source(rt.alloc(), &source, "a b", None)?;
     let same = InitialInfo::new_with_data_source(rt.alloc(), &source, "a b", Some(LTR_LEVEL))?;
     let turned = InitialInfo::new_with_data_source(rt.alloc(), &source, "a b", Some(RTL_LEVEL))?;
-    assert!(rt; one.eq(&same));
-    assert!(rt; !one.eq(&turned));
+    assert!(rt; one == same);
+    assert!(rt; !(one == turned));
     Ok(())
 }
 
@@ -58,7 +57,7 @@ fn utf16_infos(rt: HostRuntime) -> Result<(), Fail> {
     let one = utf16::BidiInfo::new_with_data_source(rt.alloc(), &source, &[0xd800], None)?;
     let same = utf16::BidiInfo::new_with_data_source(rt.alloc(), &source, &[0xd800], None)?;
     let other = utf16::BidiInfo::new_with_data_source(rt.alloc(), &source, &[0xd801], None)?;
-    assert!(rt; one.eq(&same));
-    assert!(rt; !one.eq(&other));
+    assert!(rt; one == same);
+    assert!(rt; !(one == other));
     Ok(())
 }
