@@ -1,13 +1,13 @@
 //! What the constructors find in a text: stored classes, paragraphs and stored levels.
 
-use crate::rows::{
-    self, OPENINGS, TextRow, base_of, deepest_embeddings, per_char, same, sample, with_openings,
-};
 use bidi_base::char_data::BidiClass::{self, B, FSI, L, LRI, R, RLI};
 use bidi_base::char_data::Direction;
 use bidi_base::data_source::{BidiDataSource, TableBidiData};
 use bidi_base::level::{Level, has_rtl};
 use bidi_base::text::StrText;
+use bidi_rows::{
+    OPENINGS, TextRow, base_of, deepest_embeddings, per_char, same, sample, with_openings,
+};
 use std::alloc::Global;
 use std::process::Abort;
 use std::test::Fail;
@@ -127,10 +127,10 @@ fn check_table(
 #[test]
 fn texts(rt: HostRuntime) -> Result<(), Fail> {
     let source = sample()?;
-    for table in rows::texts() {
+    for table in bidi_rows::texts() {
         check_table(&rt, &source, table)?;
     }
-    for row in rows::one_paragraph() {
+    for row in bidi_rows::one_paragraph() {
         check(&rt, &of_paragraph(rt.alloc(), &source, *row)?, *row)?;
     }
     Ok(())
@@ -138,7 +138,7 @@ fn texts(rt: HostRuntime) -> Result<(), Fail> {
 
 #[test]
 fn sources(rt: HostRuntime) -> Result<(), Fail> {
-    for (ranges, brackets, row) in rows::sources() {
+    for (ranges, brackets, row) in bidi_rows::sources() {
         let Ok(source) = TableBidiData::new(*ranges, *brackets) else {
             return Err(Fail::from("the ranges ascend"));
         };
@@ -229,7 +229,7 @@ fn check_all_soft_hyphens(rt: &(impl AllocGlobal + Abort), table: &[TextRow]) ->
 // A removed character changes no other character's level.
 #[test]
 fn soft_hyphen_anywhere(rt: HostRuntime) -> Result<(), Fail> {
-    for table in rows::texts() {
+    for table in bidi_rows::texts() {
         check_all_soft_hyphens(&rt, table)?;
     }
     Ok(())

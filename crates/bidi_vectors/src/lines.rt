@@ -1,9 +1,9 @@
 //! Lines: levels after L1, visual runs, and the text from left to right (L2).
 
-use crate::rows::{self, LineRow, base_of, per_char, same, sample};
 use bidi_base::char_data::Direction;
 use bidi_base::level::Level;
 use bidi_base::text::{StrText, is_line};
+use bidi_rows::{LineRow, base_of, per_char, same, sample};
 use std::alloc::Global;
 use std::borrow::CowStr;
 use std::ops::Range;
@@ -109,7 +109,7 @@ impl Shown {
 fn lines_of_texts(rt: HostRuntime) -> Result<(), Fail> {
     let alloc = rt.alloc();
     let source = sample()?;
-    for row in rows::lines() {
+    for row in bidi_rows::lines() {
         let (name, text, base, line, stored, _, _, _, _) = *row;
         let info = BidiInfo::new_with_data_source(alloc, &source, text, base_of(base)?)?;
         let levels = per_char(alloc, StrText::new(text), info.levels())?;
@@ -129,7 +129,7 @@ fn lines_of_texts(rt: HostRuntime) -> Result<(), Fail> {
 fn lines_of_paragraphs(rt: HostRuntime) -> Result<(), Fail> {
     let alloc = rt.alloc();
     let source = sample()?;
-    for row in rows::lines() {
+    for row in bidi_rows::lines() {
         let (_, text, base, line, _, _, _, _, _) = *row;
         let info = ParagraphBidiInfo::new_with_data_source(alloc, &source, text, base_of(base)?)?;
         Shown::of_paragraph(alloc, &info, line)?.check(&rt, *row)?;

@@ -1,5 +1,6 @@
 //! The worked texts, over the sample table where a row names no other source. Numbers of a text's
 //! units are bytes, and lists have one entry a character.
+#![tactic(auto)]
 
 ghost use Rattle.std.specs.Prelude.{◌≤◌, IfOk, IfSome};
 
