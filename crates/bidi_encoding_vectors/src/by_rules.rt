@@ -272,9 +272,9 @@ fn agree(
     wanted: (&[BidiClass], &[Level]),
 ) -> Result<(), Fail> {
     let classes = per_char(rt.alloc(), StrText::new(text), found.0)?;
-    same(rt, name, classes.as_slice(), wanted.0);
+    same(name, classes.as_slice(), wanted.0)?;
     let levels = per_char(rt.alloc(), StrText::new(text), found.1)?;
-    same(rt, name, levels.as_slice(), wanted.1);
+    same(name, levels.as_slice(), wanted.1)?;
     Ok(())
 }
 
