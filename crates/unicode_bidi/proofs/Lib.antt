@@ -1,6 +1,8 @@
 pub mod CharRuns
+pub mod ClassSets
 pub mod DirectionLemmas
 pub mod FilledUnits
+pub mod FlagsLemmas
 pub mod FoundLaws
 pub mod LevelPasses
 pub mod LineUnits

@@ -1,10 +1,7 @@
 // The levels of one paragraph after another (X1 to I2), by passes in place over its units, and those
 // of the characters that X9 removes.
 ghost use Rattle.std.specs.Prelude.{◌≡◌, ℕ, ◌+◌, ◌<◌, ◌≤◌, true, false, length, map, slice_index, All, IsTrue, OnOk};
-ghost use Rattle.std.specs.List.{list_any};
 ghost use Rattle.bidi_base.specs.declared.char_data.BidiClass.TheVariants.{L};
-ghost use Rattle.bidi_base.specs.Classes.{is_initiator};
-ghost use Rattle.bidi_base.specs.Direction.{is_pure_ltr};
 ghost use Rattle.bidi_base.specs.Explicit.{explicit_levels, explicit_classes, processing_classes};
 ghost use Rattle.bidi_base.specs.Isolates.{stored_classes};
 ghost use Rattle.bidi_base.specs.Sequences.{is_kept_at, sequences};
@@ -12,12 +9,13 @@ ghost use Rattle.bidi_base.specs.Stored.{AreResolved, levels_in};
 ghost use Rattle.bidi_base.specs.Text.{text_len, is_per_char, per_unit, per_char};
 ghost use Rattle.bidi_base.specs.Units.{AreLines};
 ghost use Rattle.bidi_rules.specs.RunSequence.{run_bounds, sequences_in};
+ghost use Rattle.unicode_bidi.specs.ParagraphFlags.{flags_of};
 
-use crate::first_walk::ParagraphFlags;
+use crate::paragraph_flags::ParagraphFlags;
 use bidi_base::char_data::BidiClass;
 use bidi_base::classes::is_removed;
 use bidi_base::data_source::BidiDataSource;
-use bidi_base::level::{LTR_LEVEL, Level};
+use bidi_base::level::Level;
 use bidi_base::text::TextSource;
 use bidi_rules::explicit;
 use bidi_rules::implicit::{NeutralResolver, resolve_levels, resolve_weak};
@@ -35,8 +33,7 @@ pub(crate) struct ClassifiedParagraph<'a, D: BidiDataSource, T: TextSource> {
     /// Its stored classes, one a unit.
     pub(crate) original_classes: &'a [BidiClass],
     ghost low: { level ≤ 125 },
-    ghost pure: { flags.is_pure_ltr ≡ is_pure_ltr (map (D.source data_source.now).class_of (T.characters text)) },
-    ghost isolates: { flags.has_isolates ≡ list_any is_initiator (map (D.source data_source.now).class_of (T.characters text)) },
+    ghost own_flags: { flags ≡ flags_of (map (D.source data_source.now).class_of (T.characters text)) },
     ghost stored: { original_classes.now ≡ per_unit T.units (T.characters text) (stored_classes (map (D.source data_source.now).class_of (T.characters text))) },
 }
 
@@ -98,7 +95,7 @@ impl LevelResolver {
             original_classes,
             levels,
             runs,
-            paragraph.flags.has_isolates,
+            paragraph.flags.has_isolates(),
             &mut self.sequences,
         )
     }
@@ -149,8 +146,8 @@ impl LevelResolver {
             OnOk result (levels.new ≡ per_unit T.units (T.characters text)
             (levels_in paragraph.now.level (map source.class_of (T.characters text)) (map source.bracket_of (T.characters text)))) }
     {
-        if paragraph.level == LTR_LEVEL && paragraph.flags.is_pure_ltr {
-            levels.fill(LTR_LEVEL);
+        if paragraph.flags.keeps_to(paragraph.level) {
+            levels.fill(paragraph.level);
             return Ok(());
         }
         self.resolve(alloc, paragraph, levels)?;

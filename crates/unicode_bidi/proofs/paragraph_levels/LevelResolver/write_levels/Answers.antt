@@ -1,21 +1,22 @@
 -- The shortcut, and what X9 removed.
-use Rattle.std.proofs.Common.{◌∙◌, List, ℕ, length, map, ap, sym, refl, arith, eqb-true}
+use Rattle.std.proofs.Common.{◌∙◌, List, ℕ, length, map, ap, sym, refl, arith}
 use Rattle.std.proofs.lemmas.List.{length-map}
 use Rattle.bidi_base.specs.Isolates.{stored_classes}
 use Rattle.bidi_base.proofs.PerUnit.{length-per_unit}
 use Rattle.bidi_base.proofs.StoredSteps.{length-stored_classes}
-use Rattle.unicode_bidi.proofs.FilledUnits.{filled-levels_in, pure_levels}
+use Rattle.unicode_bidi.proofs.FilledUnits.{filled-levels_in, kept_to_levels}
+use Rattle.unicode_bidi.proofs.FlagsLemmas.{keeps_to-flags}
 use Rattle.unicode_bidi.proofs.paragraph_levels.LevelResolver.write_levels.Goals as goal
 
-pub returns-then-paragraph : goal.returns-then-paragraph
-returns-then-paragraph g c =
+pub returns-then-keeps_to : goal.returns-then-keeps_to
+returns-then-keeps_to g c =
     let len = g.T.TextSource.units in
     let cs : List ℕ = g.T.TextSource.characters c.args.paragraph.now.text in
     let given = g.D.BidiDataSource.source c.args.paragraph.now.data_source.now in
     let source = map given.class_of cs in
-    let zero_level = eqb-true c.args.paragraph.now.level 0 (sym c.eq.ensures ∙ c.if-eq.true) in
-    let pure = sym c.args.paragraph.now.pure ∙ c.if-paragraph.true in
-    pure_levels len cs source (map given.bracket_of cs) c.args.paragraph.now.level c.args.levels.now c.fill.new.self (length-map cs given.class_of) c.requires zero_level pure (c.fill.ensures.after (λ y e. e))
+    let level = c.args.paragraph.now.level in
+    let keeps = sym (keeps_to-flags c.args.paragraph.now.flags source c.args.paragraph.now.own_flags level) ∙ sym c.keeps_to.ensures ∙ c.if-keeps_to.true in
+    kept_to_levels len cs source (map given.bracket_of cs) level c.args.levels.now c.fill.new.self (length-map cs given.class_of) c.requires keeps (c.fill.ensures.after (λ y e. e))
 
 pub fill_removed-requires : goal.fill_removed-requires
 fill_removed-requires g c =
