@@ -1,17 +1,17 @@
 -- The levels of a paragraph's units: of what X9 removed, and of a paragraph that keeps to its level throughout.
-use Rattle.std.proofs.Common.{◌≡◌, ℕ, zero, suc, ◌+◌, ◌-◌, ◌<◌, ◌≤◌, ◌≢◌, Bool, true, false, List, [], ◌∷◌, ◌++◌, length, get_or, set, Option, Some, refl, sym, ap, subst, ◌∙◌, arith, inl, inr, get_or-set_same, get_or-set_other}
+use Rattle.std.proofs.Common.{◌≡◌, ℕ, zero, suc, ◌+◌, ◌-◌, ◌<◌, ◌≤◌, ◌≢◌, Bool, true, false, not, List, [], ◌∷◌, ◌++◌, length, get_or, set, Option, Some, refl, sym, map, ap, subst, ◌∙◌, arith, inl, inr, get_or-set_same, get_or-set_other}
 use Rattle.std.specs.Prelude.{replicate, filter}
 use Rattle.std.specs.List.{list_any}
-use Rattle.std.proofs.lemmas.Bool.{cases_Bool, cases_eq, cases_lt, both_ways, or_cases, or_left, or_right}
-use Rattle.std.proofs.lemmas.List.{ext_get_or, replicate-append-replicate, get_or_default}
+use Rattle.std.proofs.lemmas.Bool.{cases_Bool, cases_eq, cases_lt, both_ways, or_cases, or_left, or_right, cond-false, not-true}
+use Rattle.std.proofs.lemmas.List.{ext_get_or, replicate-append-replicate, get_or_default, get_or-map, length-map}
 use Rattle.std.proofs.lemmas.List.Folds.{Any-from_list_any, list_any_at, list_any-append}
 use Rattle.std.proofs.lemmas.List.Sums.{sum_by-cons}
 use Rattle.std.proofs.lemmas.List.Sorted.{IsPermutation-refl}
 use Rattle.bidi_base.specs.declared.char_data.BidiClass.{BidiClass}
-use Rattle.bidi_base.specs.declared.char_data.BidiClass.TheVariants.{L, R, AL, FSI}
+use Rattle.bidi_base.specs.declared.char_data.BidiClass.TheVariants.{L, R, AL, BN, FSI}
 use Rattle.bidi_base.specs.declared.data_source.BidiMatchedOpeningBracket.{BidiMatchedOpeningBracket}
-use Rattle.bidi_base.specs.Classes.{is_initiator, is_kept}
-use Rattle.bidi_base.specs.Flat.{is_flat, keeps_to, run_levels, kept_of}
+use Rattle.bidi_base.specs.Classes.{is_initiator, is_kept, is_removed}
+use Rattle.bidi_base.specs.Flat.{hidden, is_flat, keeps_to, run_levels, kept_of}
 use Rattle.bidi_base.specs.Places.{class_at}
 use Rattle.bidi_base.specs.Isolates.{resolved_fsi, deciding_class, isolated_classes, stored_class, stored_classes}
 use Rattle.bidi_base.specs.Explicit.{explicit_levels, explicit_classes}
@@ -213,7 +213,7 @@ module _ (len_of : ℕ → ℕ) (h : HasUnits len_of) (chars : List ℕ) (stored
 
 -- ---- a paragraph that keeps to its level throughout
 
-per_unit-replicate : {X : Type 0} (len_of : ℕ → ℕ) (chars : List ℕ) (x : X) → per_unit len_of chars (replicate (length chars) x) ≡ replicate (text_len len_of chars) x
+pub per_unit-replicate : {X : Type 0} (len_of : ℕ → ℕ) (chars : List ℕ) (x : X) → per_unit len_of chars (replicate (length chars) x) ≡ replicate (text_len len_of chars) x
 per_unit-replicate len_of [] x = refl
 per_unit-replicate len_of (c ∷ chars) x =
     ap (λ us. replicate (len_of c) x ++ us) (per_unit-replicate len_of chars x) ∙ replicate-append-replicate (len_of c) (text_len len_of chars) x ∙ ap (λ n. replicate n x) (sym (sum_by-cons len_of c chars))
@@ -225,17 +225,7 @@ kept_to_levels len_of chars source brackets paragraph old new fits long keeps is
     ∙ ap (λ n. per_unit len_of chars (replicate n paragraph)) (sym fits)
     ∙ ap (per_unit len_of chars) (sym (levels_in-keeps_to paragraph source brackets keeps))
 
--- ---- an initiator among the stored classes is one among the source classes
-
-resolved_fsi-initiator : (o : Option BidiClass) → is_initiator (resolved_fsi o) ≡ true
-resolved_fsi-initiator (Some R) = refl
-resolved_fsi-initiator (Some AL) = refl
-resolved_fsi-initiator (Some L) = refl
-resolved_fsi-initiator _ = refl
-
-stored_class-initiator : (classes : List BidiClass) (q : ℕ) (c : BidiClass) → is_initiator (stored_class classes q c) ≡ is_initiator c
-stored_class-initiator classes q FSI = resolved_fsi-initiator (deciding_class (isolated_classes classes q))
-stored_class-initiator classes q _ = refl
+-- ---- a class of a group among the stored classes is one among the source classes
 
 list_any-replicate : {X : Type 0} (test : X → Bool) (n : ℕ) (x : X) → list_any test (replicate n x) ≡ true → test x ≡ true
 list_any-replicate test zero x e = absurd (both_ways false refl e)
@@ -250,10 +240,46 @@ list_any-per_unit test len_of (c ∷ chars) (v ∷ vs) e =
       | inr later ↦ or_right (test v) (list_any test vs) (list_any-per_unit test len_of chars vs later)
     ]
 
-pub initiators-stored : (len_of : ℕ → ℕ) (chars : List ℕ) (source units : List BidiClass) → units ≡ per_unit len_of chars (stored_classes source) → list_any is_initiator units ≡ true → list_any is_initiator source ≡ true
-initiators-stored len_of chars source units is e =
-    let found = Any-from_list_any is_initiator (stored_classes source) (list_any-per_unit is_initiator len_of chars (stored_classes source) (ap (list_any is_initiator) (sym is) ∙ e)) in
-    let k = found.0 in
-    let within : k < length source = omega (arith, found.2, length-stored_classes source) in
-    list_any_at is_initiator source k L within
-    (sym (stored_class-initiator source k (class_at source k)) ∙ ap is_initiator (sym (class_at-stored_classes source k within) ∙ get_or_default (stored_classes source) k L found.1 found.2 ∙ found.3) ∙ found.4)
+module _ (test : BidiClass → Bool) (of_stored : (o : Option BidiClass) → test (resolved_fsi o) ≡ test FSI) where
+  stored_class-test : (classes : List BidiClass) (q : ℕ) (c : BidiClass) → test (stored_class classes q c) ≡ test c
+  stored_class-test classes q FSI = of_stored (deciding_class (isolated_classes classes q))
+  stored_class-test classes q _ = refl
+
+  any-stored : (len_of : ℕ → ℕ) (chars : List ℕ) (source units : List BidiClass) → units ≡ per_unit len_of chars (stored_classes source) → list_any test units ≡ true → list_any test source ≡ true
+  any-stored len_of chars source units is e =
+      let found = Any-from_list_any test (stored_classes source) (list_any-per_unit test len_of chars (stored_classes source) (ap (list_any test) (sym is) ∙ e)) in
+      let k = found.0 in
+      let within : k < length source = omega (arith, found.2, length-stored_classes source) in
+      list_any_at test source k L within
+      (sym (stored_class-test source k (class_at source k)) ∙ ap test (sym (class_at-stored_classes source k within) ∙ get_or_default (stored_classes source) k L found.1 found.2 ∙ found.3) ∙ found.4)
+
+module _ (len_of : ℕ → ℕ) (chars : List ℕ) (source units : List BidiClass) (is : units ≡ per_unit len_of chars (stored_classes source)) where
+  pub initiators-stored : list_any is_initiator units ≡ true → list_any is_initiator source ≡ true
+  initiators-stored = any-stored is_initiator resolved_fsi-initiator len_of chars source units is
+    where
+      resolved_fsi-initiator : (o : Option BidiClass) → is_initiator (resolved_fsi o) ≡ true
+      resolved_fsi-initiator (Some R) = refl
+      resolved_fsi-initiator (Some AL) = refl
+      resolved_fsi-initiator (Some L) = refl
+      resolved_fsi-initiator _ = refl
+
+  -- where X9 removes nothing, each unit is kept
+  pub all_kept : list_any is_removed source ≡ false → (u : ℕ) → u < length units → is_kept_at units u ≡ true
+  all_kept none u within = elim (cases_Bool (is_removed (class_at units u))) [
+    | inl gone ↦ absurd (both_ways (list_any is_removed source) none (any-stored is_removed resolved_fsi-removed len_of chars source units is (list_any_at is_removed units u L within gone)))
+    | inr stays ↦ ap not stays
+  ]
+    where
+      resolved_fsi-removed : (o : Option BidiClass) → is_removed (resolved_fsi o) ≡ false
+      resolved_fsi-removed (Some R) = refl
+      resolved_fsi-removed (Some AL) = refl
+      resolved_fsi-removed (Some L) = refl
+      resolved_fsi-removed _ = refl
+
+  -- so the passes begin with the same classes
+  pub none_hidden : list_any is_removed source ≡ false → map hidden units ≡ units
+  none_hidden none =
+      ext_get_or L (map hidden units) units (length-map units hidden)
+      (λ u within.
+      let inside : u < length units = omega (arith, within, length-map units hidden) in
+      get_or-map hidden units u L L inside ∙ cond-false (is_removed (class_at units u)) BN (class_at units u) (not-true (is_removed (class_at units u)) (all_kept none u inside)))

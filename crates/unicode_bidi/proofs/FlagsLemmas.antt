@@ -1,5 +1,5 @@
 -- What a paragraph's flags say of its classes.
-use Rattle.std.proofs.Common.{◌≡◌, ℕ, Bool, true, false, not, ◌||◌, List, [], ◌∷◌, ◌++◌, refl, sym, ap, ◌∙◌, inl, inr}
+use Rattle.std.proofs.Common.{◌≡◌, ℕ, ◌<◌, Bool, true, false, not, ◌||◌, List, [], ◌∷◌, ◌++◌, length, arith, refl, sym, ap, ◌∙◌, inl, inr}
 use Rattle.std.specs.List.{list_any}
 use Rattle.std.proofs.lemmas.Bool.{cases_Bool, both_ways, cond-true, cond-false}
 use Rattle.bidi_base.specs.declared.char_data.BidiClass.{BidiClass}
@@ -102,3 +102,8 @@ module _ (flags : ParagraphFlags) (classes : List BidiClass) (is : flags ≡ fla
   keeps_to-flags level =
       ap not (ap (λ (f : ParagraphFlags). any_of f.met (may_leave level)) is
       ∙ any_of-flags_of (may_leave level) (may_leave_counted (is_odd level)) classes)
+
+-- a paragraph that may leave its level is not empty
+pub some-keeps_to : (level : ℕ) (classes : List BidiClass) → keeps_to level classes ≡ false → 0 < length classes
+some-keeps_to level [] e = absurd (both_ways true e refl)
+some-keeps_to level (c ∷ classes) e = omega arith

@@ -3,6 +3,7 @@ pub mod ClassSets
 pub mod DirectionLemmas
 pub mod FilledUnits
 pub mod FlagsLemmas
+pub mod FlatPasses
 pub mod FoundLaws
 pub mod LevelPasses
 pub mod LineUnits

@@ -3,6 +3,7 @@
 ghost use Rattle.std.specs.Prelude.{◌≡◌, ℕ, ◌+◌, ◌<◌, ◌≤◌, true, false, length, map, slice_index, All, IsTrue, OnOk};
 ghost use Rattle.bidi_base.specs.declared.char_data.BidiClass.TheVariants.{L};
 ghost use Rattle.bidi_base.specs.Explicit.{explicit_levels, explicit_classes, processing_classes};
+ghost use Rattle.bidi_base.specs.Flat.{is_flat, hidden};
 ghost use Rattle.bidi_base.specs.Isolates.{stored_classes};
 ghost use Rattle.bidi_base.specs.Sequences.{is_kept_at, sequences};
 ghost use Rattle.bidi_base.specs.Stored.{AreResolved, levels_in};
@@ -18,8 +19,8 @@ use bidi_base::data_source::BidiDataSource;
 use bidi_base::level::Level;
 use bidi_base::text::TextSource;
 use bidi_rules::explicit;
-use bidi_rules::implicit::{NeutralResolver, resolve_levels, resolve_weak};
-use bidi_rules::prepare::{IsolatingRunSequenceVec, isolating_run_sequences};
+use bidi_rules::implicit::{NeutralResolver, resolve_levels, resolve_weak, resolve_weak_lent};
+use bidi_rules::prepare::{IsolatingRunSequenceVec, LentSequence, isolating_run_sequences};
 use std::alloc::{AllocError, Global};
 
 /// A paragraph whose stored classes are known, and whose levels are sought.
@@ -100,8 +101,60 @@ impl LevelResolver {
         )
     }
 
-    /// Finds the levels of all characters that X9 keeps.
-    fn resolve<D: BidiDataSource, T: TextSource>(
+    /// Takes the classes of a paragraph in which nothing opens a level, with BN for what X9 removes.
+    fn copy_flat<D: BidiDataSource, T: TextSource>(
+        &mut self,
+        paragraph: &ClassifiedParagraph<D, T>,
+    ) -> Result<(), AllocError>
+        ensures { OnOk result (self.new.classes.items ≡ map hidden paragraph.now.original_classes.now) }
+    {
+        self.classes.clear();
+        self.classes.extend_from_slice(paragraph.original_classes)?;
+        if paragraph.flags.has_removed() {
+            hide_removed(self.classes.as_mut_slice());
+        }
+        Ok(())
+    }
+
+    /// Finds the levels of all characters that X9 keeps, in a paragraph that is not empty and in which
+    /// nothing opens a level. It is one level run, and one sequence.
+    fn resolve_flat<D: BidiDataSource, T: TextSource>(
+        &mut self,
+        paragraph: &ClassifiedParagraph<D, T>,
+        levels: &mut [Level],
+    ) -> Result<(), AllocError>
+        requires long { length levels.old ≡ text_len T.units (T.characters paragraph.now.text) }
+        requires some { 0 < length levels.old }
+        requires flat { is_flat (map (D.source paragraph.now.data_source.now).class_of (T.characters paragraph.now.text)) ≡ true }
+        ensures per_char { OnOk result (IsTrue (is_per_char ⟦<Level as PartialEq>⟧.eq T.units (T.characters paragraph.now.text) levels.new)) }
+        ensures resolved { let source = D.source paragraph.now.data_source.now in
+            let classes = map source.class_of (T.characters paragraph.now.text) in
+            let stored = stored_classes classes in
+            let level = paragraph.now.level in
+            OnOk result (AreResolved classes (map source.bracket_of (T.characters paragraph.now.text)) (explicit_levels level stored) (explicit_classes level stored)
+            (per_char 0 T.units (T.characters paragraph.now.text) levels.new) (sequences level stored (explicit_levels level stored))) }
+    {
+        levels.fill(paragraph.level);
+        self.copy_flat(paragraph)?;
+        let classes = self.classes.as_mut_slice();
+        let runs = [0..classes.len()];
+        let side = paragraph.level.bidi_class();
+        let sequence = LentSequence::new(&runs, side, side);
+        resolve_weak_lent(paragraph.text, sequence, classes);
+        self.neutrals.resolve_lent(
+            paragraph.text,
+            paragraph.data_source,
+            sequence,
+            levels,
+            paragraph.original_classes,
+            classes,
+        )?;
+        resolve_levels(classes, levels);
+        Ok(())
+    }
+
+    /// The same of any paragraph, by X1 to X10.
+    fn resolve_nested<D: BidiDataSource, T: TextSource>(
         &mut self,
         alloc: Global,
         paragraph: &ClassifiedParagraph<D, T>,
@@ -133,6 +186,30 @@ impl LevelResolver {
         Ok(())
     }
 
+    /// The same of a paragraph that is not empty.
+    fn resolve<D: BidiDataSource, T: TextSource>(
+        &mut self,
+        alloc: Global,
+        paragraph: &ClassifiedParagraph<D, T>,
+        levels: &mut [Level],
+    ) -> Result<(), AllocError>
+        requires long { length levels.old ≡ text_len T.units (T.characters paragraph.now.text) }
+        requires some { 0 < length levels.old }
+        ensures per_char { OnOk result (IsTrue (is_per_char ⟦<Level as PartialEq>⟧.eq T.units (T.characters paragraph.now.text) levels.new)) }
+        ensures resolved { let source = D.source paragraph.now.data_source.now in
+            let classes = map source.class_of (T.characters paragraph.now.text) in
+            let stored = stored_classes classes in
+            let level = paragraph.now.level in
+            OnOk result (AreResolved classes (map source.bracket_of (T.characters paragraph.now.text)) (explicit_levels level stored) (explicit_classes level stored)
+            (per_char 0 T.units (T.characters paragraph.now.text) levels.new) (sequences level stored (explicit_levels level stored))) }
+    {
+        if paragraph.flags.is_flat() {
+            self.resolve_flat(paragraph, levels)
+        } else {
+            self.resolve_nested(alloc, paragraph, levels)
+        }
+    }
+
     /// Writes the stored levels of a paragraph, one for each of its units. What `levels` holds
     /// before doesn't count; where memory is refused it may hold anything.
     pub(crate) fn write_levels<D: BidiDataSource, T: TextSource>(
@@ -151,20 +228,31 @@ impl LevelResolver {
             return Ok(());
         }
         self.resolve(alloc, paragraph, levels)?;
-        fill_removed(paragraph.level, paragraph.original_classes, levels);
+        if paragraph.flags.has_removed() {
+            fill_removed(paragraph.level, paragraph.original_classes, levels);
+        }
         Ok(())
     }
 }
 
-// Whether X9 removes some unit. The walk never stops early, so that many units are tested at once.
-fn has_removed(classes: &[BidiClass]) -> bool
-    ensures { result ≡ false → (u : ℕ) → u < length classes.now → is_kept_at classes.now u ≡ true }
+// The class that the passes take a class for.
+fn hidden(class: BidiClass) -> BidiClass
+    ensures { result ≡ hidden class }
 {
-    let mut found = false;
-    for i in 0..classes.len() {
-        found = found | is_removed(classes[i]);
+    if is_removed(class) {
+        BidiClass::BN
+    } else {
+        class
     }
-    found
+}
+
+// Gives each unit of a removed character the class BN, by which the passes know it.
+fn hide_removed(classes: &mut [BidiClass])
+    ensures { classes.new ≡ map hidden classes.old }
+{
+    for class in classes {
+        *class = hidden(*class);
+    }
 }
 
 // The level before a unit, at the front the paragraph level.
@@ -188,9 +276,6 @@ fn fill_removed(para_level: Level, classes: &[BidiClass], levels: &mut [Level])
     ensures front { 0 < length classes.now → is_kept_at classes.now 0 ≡ false → slice_index levels.new 0 ≡ para_level }
     ensures removed { (u : ℕ) → u + 1 < length classes.now → is_kept_at classes.now (u + 1) ≡ false → slice_index levels.new (u + 1) ≡ slice_index levels.new u }
 {
-    if !has_removed(classes) {
-        return;
-    }
     for i in 0..classes.len() {
         if is_removed(classes[i]) {
             levels[i] = level_before(para_level, levels, i);
