@@ -10,9 +10,9 @@ use Rattle.bidi_base.specs.Laws.{AreLevelsFrom, BoundaryNeutralsAreAlike, StaysL
 use Rattle.bidi_base.specs.Source.{Source}
 use Rattle.bidi_base.specs.Stored.{levels_in, stored_levels, text_classes, text_levels, paragraph_levels}
 use Rattle.bidi_base.specs.Text.{per_unit}
+use Rattle.bidi_base.proofs.KeepsToLemmas.{levels_in-pure_ltr}
 use Rattle.bidi_base.proofs.ParagraphsLemmas.{joined}
 use Rattle.bidi_base.proofs.PieceUnits.{length-values}
-use Rattle.bidi_base.proofs.PureLtrLemmas.{levels_in-pure_ltr}
 use Rattle.bidi_base.proofs.ResolvedLemmas.{length-levels_in, levels_in-IsStoredIn, stored_levels-BN}
 
 -- ---- the paragraph level

@@ -12,10 +12,13 @@ pub mod EmbeddingsLemmas
 mod Examples
 pub mod ExplicitLemmas
 pub mod FoundBracketsLemmas
+pub mod FlatLemmas
+pub mod FlatUnits
 pub mod GivesLemmas
 pub mod InPlace
 pub mod IsolateWalk
 pub mod IsolatesLemmas
+pub mod KeepsToLemmas
 pub mod LevelLaws
 pub mod LevelTableLemmas
 pub mod LevelsInLemmas
@@ -43,7 +46,6 @@ pub mod PermutationLemmas
 pub mod PieceUnits
 pub mod PlaceLemmas
 pub mod PlacesLemmas
-pub mod PureLtrLemmas
 pub mod ReadStack
 pub mod ReadingLemmas
 pub mod ResolvedLemmas

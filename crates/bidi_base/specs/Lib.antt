@@ -5,6 +5,7 @@ pub mod Direction
 pub mod Display
 pub mod Embeddings
 pub mod Explicit
+pub mod Flat
 pub mod FoundBrackets
 pub mod Implicit
 pub mod Isolates

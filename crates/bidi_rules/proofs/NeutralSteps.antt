@@ -26,9 +26,9 @@ use Rattle.bidi_base.proofs.PlacesLemmas.{length-in_context}
 use Rattle.bidi_base.proofs.ResolvedLemmas.{length-n0}
 use Rattle.bidi_base.proofs.TextLemmas.{HasUnits, is_boundary-le}
 use Rattle.bidi_base.proofs.UnitsLemmas.{IsPerChar-from_is_per_char, is_per_char-from_IsPerChar, length-from_IsPerChar}
-use Rattle.bidi_rules.specs.declared.prepare.sequence.IsolatingRunSequence.{IsolatingRunSequence}
+use Rattle.bidi_rules.specs.declared.prepare.lent.LentSequence.{LentSequence}
 use Rattle.bidi_rules.specs.NeutralPass.{put_at, values_of}
-use Rattle.bidi_rules.specs.RunSequence.{runs as runs_of, sos as sos_of, eos as eos_of}
+use Rattle.bidi_rules.specs.RunSequence.{lent_runs, lent_sos, lent_eos}
 use Rattle.bidi_rules.proofs.FirstKept.{first_kept-is, first-Some, first-None}
 use Rattle.bidi_rules.proofs.Gathered.{length-values_of}
 use Rattle.bidi_rules.proofs.NeutralUnits.{kept_units, removed_units, outside_units, IsPerChar-units}
@@ -44,16 +44,16 @@ pub record IsReady (len_of : ℕ → ℕ) (chars : List ℕ) (runs : List (Range
   pub side : is_l_or_r sos ≡ true
   pub resolved : list_all is_weak_resolved (values_of L len_of chars old (kept_in_place len_of chars old (map bounds runs))) ≡ true
 
-pub IsReady-sequence : (len_of : ℕ → ℕ) → HasUnits len_of → (chars : List ℕ) (sequence : IsolatingRunSequence) (runs : List (Range ℕ)) (sos : BidiClass) (old : List BidiClass) → runs ≡ runs_of sequence → sos ≡ sos_of sequence
-    → is_per_char class_eq len_of chars old ≡ true → AreLines len_of chars (map bounds (runs_of sequence))
-    → list_all is_weak_resolved (values_of L len_of chars old (kept_in_place len_of chars old (map bounds (runs_of sequence)))) ≡ true → IsReady len_of chars runs sos old
+pub IsReady-sequence : (len_of : ℕ → ℕ) → HasUnits len_of → (chars : List ℕ) (sequence : LentSequence) (runs : List (Range ℕ)) (sos : BidiClass) (old : List BidiClass) → runs ≡ lent_runs sequence → sos ≡ lent_sos sequence
+    → is_per_char class_eq len_of chars old ≡ true → AreLines len_of chars (map bounds (lent_runs sequence))
+    → list_all is_weak_resolved (values_of L len_of chars old (kept_in_place len_of chars old (map bounds (lent_runs sequence)))) ≡ true → IsReady len_of chars runs sos old
 IsReady-sequence len_of h chars sequence runs sos old runs_is sos_is per lines resolved =
-    let all = map bounds sequence.runs.items in
+    let all = map bounds sequence.runs.now in
     let sides = is_l_or_r sequence.sos && is_l_or_r sequence.eos in
     let others = and_parts (ltb 0 (length all)) (are_ordered all && sides) sequence.well_formed in
     let last = and_parts (are_ordered all) sides others.1 in
     subst (λ (rs : List (Range ℕ)). IsReady len_of chars rs sos old) (sym runs_is)
-    (subst (λ (s : BidiClass). IsReady len_of chars (runs_of sequence) s old) (sym sos_is) (record {
+    (subst (λ (s : BidiClass). IsReady len_of chars (lent_runs sequence) s old) (sym sos_is) (record {
       ordered = is_run_sequence-ordered all sequence.sos sequence.eos sequence.well_formed;
       lines = lines;
       per_char = IsPerChar-from_is_per_char class_eq class_test len_of h chars old per;
@@ -177,8 +177,8 @@ IsResolved-none len_of h chars source levels original old runs sos eos ready fou
     }
 
 -- at the sequence itself
-pub IsResolved-sequence : (len_of : ℕ → ℕ) (chars : List ℕ) (source : Source) (levels : List ℕ) (original old new : List BidiClass) (sequence : IsolatingRunSequence) (runs : List (Range ℕ)) (sos eos : BidiClass) → runs ≡ runs_of sequence
-    → sos ≡ sos_of sequence → eos ≡ eos_of sequence → IsResolved len_of chars source levels original old new runs sos eos → IsResolved len_of chars source levels original old new (runs_of sequence) (sos_of sequence) (eos_of sequence)
+pub IsResolved-sequence : (len_of : ℕ → ℕ) (chars : List ℕ) (source : Source) (levels : List ℕ) (original old new : List BidiClass) (sequence : LentSequence) (runs : List (Range ℕ)) (sos eos : BidiClass) → runs ≡ lent_runs sequence
+    → sos ≡ lent_sos sequence → eos ≡ lent_eos sequence → IsResolved len_of chars source levels original old new runs sos eos → IsResolved len_of chars source levels original old new (lent_runs sequence) (lent_sos sequence) (lent_eos sequence)
 IsResolved-sequence len_of chars source levels original old new sequence runs sos eos runs_are sos_is eos_is r =
-    subst (λ (rs : List (Range ℕ)). IsResolved len_of chars source levels original old new rs (sos_of sequence) (eos_of sequence)) runs_are
-    (subst (λ (s : BidiClass). IsResolved len_of chars source levels original old new runs s (eos_of sequence)) sos_is (subst (IsResolved len_of chars source levels original old new runs sos) eos_is r))
+    subst (λ (rs : List (Range ℕ)). IsResolved len_of chars source levels original old new rs (lent_sos sequence) (lent_eos sequence)) runs_are
+    (subst (λ (s : BidiClass). IsResolved len_of chars source levels original old new runs s (lent_eos sequence)) sos_is (subst (IsResolved len_of chars source levels original old new runs sos) eos_is r))

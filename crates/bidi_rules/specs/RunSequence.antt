@@ -7,6 +7,7 @@ use Rattle.bidi_base.specs.Sequences.{RunSequence, has_places}
 use Rattle.bidi_base.specs.Units.{bounds, units_in_runs}
 use Rattle.bidi_rules.specs.Joining.{JoinedRuns, characters_of}
 use Rattle.bidi_rules.specs.declared.prepare.sequence.IsolatingRunSequence.{IsolatingRunSequence}
+use Rattle.bidi_rules.specs.declared.prepare.lent.LentSequence.{LentSequence}
 use Rattle.bidi_rules.specs.declared.prepare.sequence.ForwardsFrom.{ForwardsFrom}
 use Rattle.bidi_rules.specs.declared.prepare.sequence.BackwardsFrom.{BackwardsFrom}
 
@@ -25,7 +26,17 @@ sos s = s.sos
 abbrev pub eos : IsolatingRunSequence → BidiClass
 eos s = s.eos
 
--- the same, with the classes at both ends
+-- the same of a sequence whose runs are lent
+abbrev pub lent_runs : LentSequence → List (Range ℕ)
+lent_runs s = s.runs.now
+
+abbrev pub lent_sos : LentSequence → BidiClass
+lent_sos s = s.sos
+
+abbrev pub lent_eos : LentSequence → BidiClass
+lent_eos s = s.eos
+
+-- a sequence's runs, with the classes at both ends
 abbrev pub joined : IsolatingRunSequence → JoinedRuns
 joined s = record { runs = run_bounds s; sos = s.sos; eos = s.eos }
 

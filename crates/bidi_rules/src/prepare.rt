@@ -4,11 +4,13 @@ ghost use Rattle.std.specs.Prelude.{◌≡◌};
 ghost use Rattle.bidi_base.specs.Classes.{is_removed, is_kept};
 
 mod joining;
+mod lent;
 mod sequence;
 
 use bidi_base::char_data::BidiClass;
 use bidi_base::classes::is_removed;
 pub use joining::isolating_run_sequences;
+pub use lent::LentSequence;
 pub use sequence::{BackwardsFrom, ForwardsFrom, IsolatingRunSequence};
 use std::ops::Range;
 

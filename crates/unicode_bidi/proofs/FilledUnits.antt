@@ -1,28 +1,30 @@
--- The levels of a paragraph's units: of what X9 removed, and of a paragraph that is left to right throughout.
-use Rattle.std.proofs.Common.{◌≡◌, ℕ, zero, suc, ◌+◌, ◌-◌, ◌<◌, ◌≤◌, ◌≢◌, Bool, true, false, List, [], ◌∷◌, ◌++◌, length, get_or, set, Option, Some, refl, sym, ap, ◌∙◌, arith, inl, inr, get_or-set_same, get_or-set_other}
-use Rattle.std.specs.Prelude.{replicate}
+-- The levels of a paragraph's units: of what X9 removed, and of a paragraph that keeps to its level throughout.
+use Rattle.std.proofs.Common.{◌≡◌, ℕ, zero, suc, ◌+◌, ◌-◌, ◌<◌, ◌≤◌, ◌≢◌, Bool, true, false, not, List, [], ◌∷◌, ◌++◌, length, get_or, set, Option, Some, refl, sym, map, ap, subst, ◌∙◌, arith, inl, inr, get_or-set_same, get_or-set_other}
+use Rattle.std.specs.Prelude.{replicate, filter}
 use Rattle.std.specs.List.{list_any}
-use Rattle.std.proofs.lemmas.Bool.{cases_Bool, cases_eq, cases_lt, both_ways, or_cases, or_left, or_right}
-use Rattle.std.proofs.lemmas.List.{ext_get_or, replicate-append-replicate, get_or_default}
+use Rattle.std.proofs.lemmas.Bool.{cases_Bool, cases_eq, cases_lt, both_ways, or_cases, or_left, or_right, cond-false, not-true}
+use Rattle.std.proofs.lemmas.List.{ext_get_or, replicate-append-replicate, get_or_default, get_or-map, length-map}
 use Rattle.std.proofs.lemmas.List.Folds.{Any-from_list_any, list_any_at, list_any-append}
 use Rattle.std.proofs.lemmas.List.Sums.{sum_by-cons}
 use Rattle.std.proofs.lemmas.List.Sorted.{IsPermutation-refl}
 use Rattle.bidi_base.specs.declared.char_data.BidiClass.{BidiClass}
-use Rattle.bidi_base.specs.declared.char_data.BidiClass.TheVariants.{L, R, AL, FSI}
+use Rattle.bidi_base.specs.declared.char_data.BidiClass.TheVariants.{L, R, AL, BN, FSI}
 use Rattle.bidi_base.specs.declared.data_source.BidiMatchedOpeningBracket.{BidiMatchedOpeningBracket}
-use Rattle.bidi_base.specs.Classes.{is_initiator, is_kept}
-use Rattle.bidi_base.specs.Direction.{is_pure_ltr}
+use Rattle.bidi_base.specs.Classes.{is_initiator, is_kept, is_removed}
+use Rattle.bidi_base.specs.Flat.{hidden, is_flat, keeps_to, run_levels, kept_of}
 use Rattle.bidi_base.specs.Places.{class_at}
 use Rattle.bidi_base.specs.Isolates.{resolved_fsi, deciding_class, isolated_classes, stored_class, stored_classes}
 use Rattle.bidi_base.specs.Explicit.{explicit_levels, explicit_classes}
 use Rattle.bidi_base.specs.Sequences.{is_kept_at, level_at, sequences}
 use Rattle.bidi_base.specs.Stored.{AreResolved, levels_in}
 use Rattle.bidi_base.specs.Text.{text_len, place, is_per_char, per_unit, per_char}
+use Rattle.bidi_base.proofs.FlatLemmas.{kept_of-classes, length-run_levels, stored_classes-flat, AreResolved-flat_lists}
+use Rattle.bidi_base.proofs.FlatUnits.{length-kept_of, kept_of-from_units}
 use Rattle.bidi_base.proofs.LevelsInLemmas.{levels_in-written}
 use Rattle.bidi_base.proofs.PerCharTests.{level_eq, level_test}
 use Rattle.bidi_base.proofs.PerUnit.{length-per_char, length-per_unit, get_or-per_char, get_or-per_unit}
 use Rattle.bidi_base.proofs.PlaceLemmas.{place-zero, place-more, place-more-le, UnitOf, unit_of}
-use Rattle.bidi_base.proofs.PureLtrLemmas.{levels_in-pure_ltr}
+use Rattle.bidi_base.proofs.KeepsToLemmas.{levels_in-keeps_to}
 use Rattle.bidi_base.proofs.StoredLemmas.{class_at-stored_classes}
 use Rattle.bidi_base.proofs.StoredSteps.{length-stored_classes}
 use Rattle.bidi_base.proofs.TextLemmas.{HasUnits}
@@ -188,32 +190,42 @@ module _ (len_of : ℕ → ℕ) (h : HasUnits len_of) (chars : List ℕ) (stored
       ∙ ap (per_unit len_of chars) (levels_in-written paragraph source brackets stored (explicit_levels paragraph stored) (explicit_classes paragraph stored) (sequences paragraph stored (explicit_levels paragraph stored)) values filled stored_is refl refl
       (IsPermutation-refl _) resolved (omega (arith, length-per_char 0 len_of chars new, stored_long)) filled-kept filled-front filled-removed)
 
--- ---- a paragraph that is left to right throughout
+  -- and of a paragraph in which nothing opens a level, if the levels of the kept characters are those of one run
+  pub filled-levels_in-flat : (source : List BidiClass) (brackets : List (Option BidiMatchedOpeningBracket)) → is_flat source ≡ true → stored ≡ source → length brackets ≡ length source
+      → kept_of source values ≡ run_levels paragraph (filter is_kept source) (kept_of source brackets) → new ≡ per_unit len_of chars (levels_in paragraph source brackets)
+  filled-levels_in-flat source brackets flat stored_is fits is =
+      filled-levels_in source brackets (stored_is ∙ sym (stored_classes-flat source flat))
+      (subst (λ (st : List BidiClass). AreResolved source brackets (explicit_levels paragraph st) (explicit_classes paragraph st) values (sequences paragraph st (explicit_levels paragraph st))) (sym stored_is)
+      (AreResolved-flat_lists source flat paragraph brackets values (length-per_char 0 len_of chars old ∙ sym stored_long ∙ ap length stored_is) fits is))
 
-per_unit-replicate : {X : Type 0} (len_of : ℕ → ℕ) (chars : List ℕ) (x : X) → per_unit len_of chars (replicate (length chars) x) ≡ replicate (text_len len_of chars) x
+  -- the same from the units of the kept characters
+  pub filled-levels_in-flat_units : (source : List BidiClass) (brackets : List (Option BidiMatchedOpeningBracket)) → is_flat source ≡ true → stored ≡ source → length brackets ≡ length source
+      → kept_of classes old ≡ per_unit len_of (kept_of source chars) (run_levels paragraph (filter is_kept source) (kept_of source brackets)) → new ≡ per_unit len_of chars (levels_in paragraph source brackets)
+  filled-levels_in-flat_units source brackets flat stored_is fits left =
+      let answers : List ℕ = run_levels paragraph (filter is_kept source) (kept_of source brackets) in
+      let source_long : length source ≡ length chars = sym (ap length stored_is) ∙ stored_long in
+      let answers_long : length answers ≡ length (kept_of source chars) =
+      length-run_levels paragraph (filter is_kept source) (kept_of source brackets) ∙ ap length (sym (kept_of-classes source)) ∙ length-kept_of source source chars refl (sym source_long) in
+      let units : kept_of classes old ≡ kept_of (per_unit len_of chars source) (per_unit len_of chars values) =
+      ap (λ (us : List BidiClass). kept_of us old) (is ∙ ap (per_unit len_of chars) stored_is) ∙ ap (kept_of (per_unit len_of chars source)) old_is in
+      filled-levels_in-flat source brackets flat stored_is fits
+      (kept_of-from_units len_of h 0 chars source values answers source_long (length-per_char 0 len_of chars old) answers_long (sym units ∙ left))
+
+-- ---- a paragraph that keeps to its level throughout
+
+pub per_unit-replicate : {X : Type 0} (len_of : ℕ → ℕ) (chars : List ℕ) (x : X) → per_unit len_of chars (replicate (length chars) x) ≡ replicate (text_len len_of chars) x
 per_unit-replicate len_of [] x = refl
 per_unit-replicate len_of (c ∷ chars) x =
     ap (λ us. replicate (len_of c) x ++ us) (per_unit-replicate len_of chars x) ∙ replicate-append-replicate (len_of c) (text_len len_of chars) x ∙ ap (λ n. replicate n x) (sym (sum_by-cons len_of c chars))
 
-pub pure_levels : (len_of : ℕ → ℕ) (chars : List ℕ) (source : List BidiClass) (brackets : List (Option BidiMatchedOpeningBracket)) (paragraph : ℕ) (old new : List ℕ) → length source ≡ length chars → length old ≡ text_len len_of chars
-    → paragraph ≡ 0 → is_pure_ltr source ≡ true → new ≡ replicate (length old) 0 → new ≡ per_unit len_of chars (levels_in paragraph source brackets)
-pure_levels len_of chars source brackets paragraph old new fits long zero_level pure is =
-    is ∙ ap (λ n. replicate n 0) long ∙ sym (per_unit-replicate len_of chars 0)
-    ∙ ap (λ n. per_unit len_of chars (replicate n 0)) (sym fits)
-    ∙ ap (per_unit len_of chars) (sym (levels_in-pure_ltr source brackets pure))
-    ∙ ap (λ n. per_unit len_of chars (levels_in n source brackets)) (sym zero_level)
+pub kept_to_levels : (len_of : ℕ → ℕ) (chars : List ℕ) (source : List BidiClass) (brackets : List (Option BidiMatchedOpeningBracket)) (paragraph : ℕ) (old new : List ℕ) → length source ≡ length chars → length old ≡ text_len len_of chars
+    → keeps_to paragraph source ≡ true → new ≡ replicate (length old) paragraph → new ≡ per_unit len_of chars (levels_in paragraph source brackets)
+kept_to_levels len_of chars source brackets paragraph old new fits long keeps is =
+    is ∙ ap (λ n. replicate n paragraph) long ∙ sym (per_unit-replicate len_of chars paragraph)
+    ∙ ap (λ n. per_unit len_of chars (replicate n paragraph)) (sym fits)
+    ∙ ap (per_unit len_of chars) (sym (levels_in-keeps_to paragraph source brackets keeps))
 
--- ---- an initiator among the stored classes is one among the source classes
-
-resolved_fsi-initiator : (o : Option BidiClass) → is_initiator (resolved_fsi o) ≡ true
-resolved_fsi-initiator (Some R) = refl
-resolved_fsi-initiator (Some AL) = refl
-resolved_fsi-initiator (Some L) = refl
-resolved_fsi-initiator _ = refl
-
-stored_class-initiator : (classes : List BidiClass) (q : ℕ) (c : BidiClass) → is_initiator (stored_class classes q c) ≡ is_initiator c
-stored_class-initiator classes q FSI = resolved_fsi-initiator (deciding_class (isolated_classes classes q))
-stored_class-initiator classes q _ = refl
+-- ---- a class of a group among the stored classes is one among the source classes
 
 list_any-replicate : {X : Type 0} (test : X → Bool) (n : ℕ) (x : X) → list_any test (replicate n x) ≡ true → test x ≡ true
 list_any-replicate test zero x e = absurd (both_ways false refl e)
@@ -228,10 +240,46 @@ list_any-per_unit test len_of (c ∷ chars) (v ∷ vs) e =
       | inr later ↦ or_right (test v) (list_any test vs) (list_any-per_unit test len_of chars vs later)
     ]
 
-pub initiators-stored : (len_of : ℕ → ℕ) (chars : List ℕ) (source units : List BidiClass) → units ≡ per_unit len_of chars (stored_classes source) → list_any is_initiator units ≡ true → list_any is_initiator source ≡ true
-initiators-stored len_of chars source units is e =
-    let found = Any-from_list_any is_initiator (stored_classes source) (list_any-per_unit is_initiator len_of chars (stored_classes source) (ap (list_any is_initiator) (sym is) ∙ e)) in
-    let k = found.0 in
-    let within : k < length source = omega (arith, found.2, length-stored_classes source) in
-    list_any_at is_initiator source k L within
-    (sym (stored_class-initiator source k (class_at source k)) ∙ ap is_initiator (sym (class_at-stored_classes source k within) ∙ get_or_default (stored_classes source) k L found.1 found.2 ∙ found.3) ∙ found.4)
+module _ (test : BidiClass → Bool) (of_stored : (o : Option BidiClass) → test (resolved_fsi o) ≡ test FSI) where
+  stored_class-test : (classes : List BidiClass) (q : ℕ) (c : BidiClass) → test (stored_class classes q c) ≡ test c
+  stored_class-test classes q FSI = of_stored (deciding_class (isolated_classes classes q))
+  stored_class-test classes q _ = refl
+
+  any-stored : (len_of : ℕ → ℕ) (chars : List ℕ) (source units : List BidiClass) → units ≡ per_unit len_of chars (stored_classes source) → list_any test units ≡ true → list_any test source ≡ true
+  any-stored len_of chars source units is e =
+      let found = Any-from_list_any test (stored_classes source) (list_any-per_unit test len_of chars (stored_classes source) (ap (list_any test) (sym is) ∙ e)) in
+      let k = found.0 in
+      let within : k < length source = omega (arith, found.2, length-stored_classes source) in
+      list_any_at test source k L within
+      (sym (stored_class-test source k (class_at source k)) ∙ ap test (sym (class_at-stored_classes source k within) ∙ get_or_default (stored_classes source) k L found.1 found.2 ∙ found.3) ∙ found.4)
+
+module _ (len_of : ℕ → ℕ) (chars : List ℕ) (source units : List BidiClass) (is : units ≡ per_unit len_of chars (stored_classes source)) where
+  pub initiators-stored : list_any is_initiator units ≡ true → list_any is_initiator source ≡ true
+  initiators-stored = any-stored is_initiator resolved_fsi-initiator len_of chars source units is
+    where
+      resolved_fsi-initiator : (o : Option BidiClass) → is_initiator (resolved_fsi o) ≡ true
+      resolved_fsi-initiator (Some R) = refl
+      resolved_fsi-initiator (Some AL) = refl
+      resolved_fsi-initiator (Some L) = refl
+      resolved_fsi-initiator _ = refl
+
+  -- where X9 removes nothing, each unit is kept
+  pub all_kept : list_any is_removed source ≡ false → (u : ℕ) → u < length units → is_kept_at units u ≡ true
+  all_kept none u within = elim (cases_Bool (is_removed (class_at units u))) [
+    | inl gone ↦ absurd (both_ways (list_any is_removed source) none (any-stored is_removed resolved_fsi-removed len_of chars source units is (list_any_at is_removed units u L within gone)))
+    | inr stays ↦ ap not stays
+  ]
+    where
+      resolved_fsi-removed : (o : Option BidiClass) → is_removed (resolved_fsi o) ≡ false
+      resolved_fsi-removed (Some R) = refl
+      resolved_fsi-removed (Some AL) = refl
+      resolved_fsi-removed (Some L) = refl
+      resolved_fsi-removed _ = refl
+
+  -- so the passes begin with the same classes
+  pub none_hidden : list_any is_removed source ≡ false → map hidden units ≡ units
+  none_hidden none =
+      ext_get_or L (map hidden units) units (length-map units hidden)
+      (λ u within.
+      let inside : u < length units = omega (arith, within, length-map units hidden) in
+      get_or-map hidden units u L L inside ∙ cond-false (is_removed (class_at units u)) BN (class_at units u) (not-true (is_removed (class_at units u)) (all_kept none u inside)))

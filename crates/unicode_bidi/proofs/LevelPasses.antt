@@ -1,6 +1,6 @@
 -- The passes over the units of a paragraph, put together: what they leave once some sequences are resolved, and once all are.
 use Rattle.std.proofs.Common.{◌≡◌, ℕ, zero, suc, ◌+◌, ◌<◌, ◌≤◌, true, false, ◌&&◌, List, [], ◌∷◌, ◌++◌, length, get_or, take, map, Option, None, refl, sym, ap, subst, ◌∙◌, arith}
-use Rattle.std.specs.Prelude.{zip, replicate, nat_lt}
+use Rattle.std.specs.Prelude.{zip, replicate, nat_lt, filter}
 use Rattle.std.proofs.lemmas.Bool.{and_parts}
 use Rattle.std.specs.List.{All, list_all}
 use Rattle.std.proofs.lemmas.List.{take_more, take_all, length-map, get_or-map, get_or_default, length-replicate}
@@ -12,7 +12,7 @@ use Rattle.bidi_base.specs.Classes.{is_l_or_r, is_weak_resolved}
 use Rattle.bidi_base.specs.Places.{class_at, at_places, first_or}
 use Rattle.bidi_base.specs.Isolates.{stored_classes}
 use Rattle.bidi_base.specs.Explicit.{explicit_levels, explicit_classes, processing_classes}
-use Rattle.bidi_base.specs.Sequences.{RunSequence, level_at, sequences}
+use Rattle.bidi_base.specs.Sequences.{RunSequence, level_at, has_places, sequences}
 use Rattle.bidi_base.specs.Weak.{weak_classes}
 use Rattle.bidi_base.specs.Neutral.{neutral_classes}
 use Rattle.bidi_base.specs.Implicit.{implicit_level}
@@ -28,6 +28,7 @@ use Rattle.bidi_base.proofs.StoredLemmas.{explicit_levels-IsExplicitIn}
 use Rattle.bidi_base.proofs.StoredSteps.{length-stored_classes}
 use Rattle.bidi_base.proofs.TextLemmas.{HasUnits}
 use Rattle.bidi_base.proofs.UnitsLemmas.{per_unit-from_is_per_char, is_per_char-per_unit}
+use Rattle.bidi_rules.specs.Joining.{JoinedRuns, characters_of}
 use Rattle.bidi_rules.specs.RunSequence.{run_bounds, sequence_in, sequences_in}
 use Rattle.bidi_rules.specs.declared.prepare.sequence.IsolatingRunSequence.{IsolatingRunSequence}
 use Rattle.unicode_bidi.proofs.SequencesInPlace.{IsUnderWay, IsNext, IsWeakNext, IsWeakNext-from, weak_next-resolved, IsUnderWay-more, IsUnderWay-start, IsNext-at, AreResolved-all}
@@ -73,6 +74,10 @@ module _ (len_of : ℕ → ℕ) (h : HasUnits len_of) (chars : List ℕ) (source
   abbrev classes : List BidiClass
   classes = explicit_classes paragraph stored
 
+  -- the characters of runs that were joined, and of a sequence
+  abbrev members : JoinedRuns → RunSequence
+  members s = characters_of len_of chars stored s
+
   abbrev characters : IsolatingRunSequence → RunSequence
   characters s = sequence_in len_of chars stored s
 
@@ -83,10 +88,10 @@ module _ (len_of : ℕ → ℕ) (h : HasUnits len_of) (chars : List ℕ) (source
     pub under_way : IsUnderWay source brackets stored levels classes seqs values
 
   -- and the weak types of one more
-  pub record AreWeakTo (seqs : List RunSequence) (s : IsolatingRunSequence) (units : List BidiClass) : Type 0 where
+  pub record AreWeakTo (seqs : List RunSequence) (s : JoinedRuns) (units : List BidiClass) : Type 0 where
     pub values : List BidiClass
     pub is : units ≡ per_unit len_of chars values
-    pub next : IsWeakNext source brackets stored levels classes seqs (characters s) values
+    pub next : IsWeakNext source brackets stored levels classes seqs (members s) values
 
   stored_read : (original : List BidiClass) → length source ≡ length chars → original ≡ per_unit len_of chars stored → per_char L len_of chars original ≡ stored
   stored_read original fits is = ap (per_char L len_of chars) is ∙ per_char-per_unit len_of h L chars stored (length-stored_classes source ∙ fits)
@@ -106,9 +111,9 @@ module _ (len_of : ℕ → ℕ) (h : HasUnits len_of) (chars : List ℕ) (source
   pub AreResolvedTo-long : (seqs : List RunSequence) (units : List BidiClass) → length source ≡ length chars → AreResolvedTo seqs units → length units ≡ text_len len_of chars
   AreResolvedTo-long seqs units fits now = ap length now.is ∙ length-per_unit len_of chars now.values (now.under_way.long ∙ length-stored_classes source ∙ fits)
 
-  module _ (fits : length source ≡ length chars) (seqs : List RunSequence) (s : IsolatingRunSequence) (lines : AreLines len_of chars (run_bounds s)) (next : IsNext source brackets stored levels classes seqs (characters s)) where
+  module _ (fits : length source ≡ length chars) (seqs : List RunSequence) (s : JoinedRuns) (lines : AreLines len_of chars (s.runs)) (next : IsNext source brackets stored levels classes seqs (members s)) where
     abbrev runs : List (ℕ × ℕ)
-    runs = run_bounds s
+    runs = s.runs
 
     abbrev ps : List ℕ
     ps = kept_in_runs len_of chars stored runs
@@ -138,7 +143,7 @@ module _ (len_of : ℕ → ℕ) (h : HasUnits len_of) (chars : List ℕ) (source
         record {
           values = values;
           is = is;
-          next = IsWeakNext-from source brackets stored levels classes seqs (characters s) next now.values values now.under_way (new_long ∙ sym old_long)
+          next = IsWeakNext-from source brackets stored levels classes seqs (members s) next now.values values now.under_way (new_long ∙ sym old_long)
               (stays_elsewhere len_of h chars stored now.values values old new runs lines old_long new_long now.is is (λ p there. now.under_way.read p (within p there)) removed outside) answer;
         }
 
@@ -149,14 +154,14 @@ module _ (len_of : ℕ → ℕ) (h : HasUnits len_of) (chars : List ℕ) (source
         let read = kept_in_place-kept len_of h chars stored now.values units runs long now.is (λ p there. now.next.read p (within p there)) in
         ap (λ (rs : List ℕ). list_all is_weak_resolved (at_places L units (map (place len_of chars) rs))) read
         ∙ ap (list_all is_weak_resolved) (at_places-place len_of h chars L now.values units ps long now.is (kept_in_runs-within len_of h chars stored runs))
-        ∙ weak_next-resolved source brackets stored levels classes seqs (characters s) next now.values now.next
+        ∙ weak_next-resolved source brackets stored levels classes seqs (members s) next now.values now.next
 
     -- N0 to N2
     pub AreResolvedTo-more : (old new original : List BidiClass) (unit_levels : List ℕ) → original ≡ per_unit len_of chars stored → unit_levels ≡ per_unit len_of chars levels → AreWeakTo seqs s old
         → at_places L new (map (place len_of chars) (kept_in_place len_of chars old runs)) ≡ neutral_classes (level_at unit_levels (first_or 0 (map (place len_of chars) (kept_in_place len_of chars old runs)))) s.sos s.eos
         (at_places L original (map (place len_of chars) (kept_in_place len_of chars old runs))) (map bracket_of (at_places 0 chars (kept_in_place len_of chars old runs))) (at_places L old (map (place len_of chars) (kept_in_place len_of chars old runs)))
         → ((u : ℕ) → class_at old u ≡ BN → class_at new u ≡ BN) → ((u : ℕ) → in_runs runs u ≡ false → class_at new u ≡ class_at old u) → is_per_char class_eq len_of chars new ≡ true
-        → AreResolvedTo (seqs ++ characters s ∷ []) new
+        → AreResolvedTo (seqs ++ members s ∷ []) new
     AreResolvedTo-more old new original unit_levels original_is levels_is now kept removed outside per =
         let values = per_char L len_of chars new in
         let is = per_unit-from_is_per_char class_eq class_test L len_of h chars new per in
@@ -180,9 +185,40 @@ module _ (len_of : ℕ → ℕ) (h : HasUnits len_of) (chars : List ℕ) (source
         record {
           values = values;
           is = is;
-          under_way = IsUnderWay-more source brackets stored levels classes seqs (characters s) next now.values values now.next (new_long ∙ sym old_long)
+          under_way = IsUnderWay-more source brackets stored levels classes seqs (members s) next now.values values now.next (new_long ∙ sym old_long)
               (stays_elsewhere len_of h chars stored now.values values old new runs lines old_long new_long now.is is (λ p there. now.next.read p (within p there)) removed outside) answer;
         }
+
+  -- ---- I1 and I2 once all are resolved
+
+  pub record AreLevels (new : List ℕ) : Type 0 where
+    pub even : is_per_char level_eq len_of chars new ≡ true
+    pub resolved : AreResolved source brackets levels classes (per_char 0 len_of chars new) (sequences paragraph stored levels)
+
+  pub AreLevels-all : (seqs : List RunSequence) (units : List BidiClass) (unit_levels new : List ℕ) → length source ≡ length chars → unit_levels ≡ per_unit len_of chars levels
+      → filter has_places seqs ≡ sequences paragraph stored levels → AreResolvedTo seqs units → new ≡ map (λ (e : ℕ × BidiClass). implicit_level e.0 e.1) (zip unit_levels units) → AreLevels new
+  AreLevels-all seqs units unit_levels new fits levels_is sequences_are now is =
+      let long : length now.values ≡ length chars = now.under_way.long ∙ length-stored_classes source ∙ fits in
+      let levels_long : length levels ≡ length chars = length-explicit_levels paragraph stored ∙ length-stored_classes source ∙ fits in
+      let of_chars : List ℕ = map (λ (e : ℕ × BidiClass). implicit_level e.0 e.1) (zip levels now.values) in
+      let of_chars_long : length of_chars ≡ length chars = omega (arith, length-map (zip levels now.values) (λ (e : ℕ × BidiClass). implicit_level e.0 e.1), length-zip levels now.values, long, levels_long) in
+      let whole : new ≡ per_unit len_of chars of_chars =
+      is
+      ∙ ap (λ (us : List BidiClass). map (λ (e : ℕ × BidiClass). implicit_level e.0 e.1) (zip unit_levels us)) now.is
+      ∙ ap (λ (ls : List ℕ). map (λ (e : ℕ × BidiClass). implicit_level e.0 e.1) (zip ls (per_unit len_of chars now.values))) levels_is
+      ∙ ap (map (λ (e : ℕ × BidiClass). implicit_level e.0 e.1)) (zip-per_unit len_of chars levels now.values)
+      ∙ map-per_unit (λ (e : ℕ × BidiClass). implicit_level e.0 e.1) len_of chars (zip levels now.values) in
+      let read : per_char 0 len_of chars new ≡ of_chars = ap (per_char 0 len_of chars) whole ∙ per_char-per_unit len_of h 0 chars of_chars of_chars_long in
+      record {
+        even = ap (is_per_char level_eq len_of chars) whole ∙ is_per_char-per_unit level_eq level_test len_of chars of_chars of_chars_long;
+        resolved =
+            subst (λ (ls : List ℕ). AreResolved source brackets levels classes ls (sequences paragraph stored levels)) (sym read)
+            (AreResolved-all paragraph stored seqs sequences_are source brackets now.values of_chars now.under_way
+            (λ p within.
+            let below : p < length chars = omega (arith, within, length-stored_classes source, fits) in
+            get_or-map (λ (e : ℕ × BidiClass). implicit_level e.0 e.1) (zip levels now.values) p (0, L) 0 (omega (arith, below, length-zip levels now.values, long, levels_long))
+            ∙ ap (λ (e : ℕ × BidiClass). implicit_level e.0 e.1) (get_or-zip levels now.values p (0, L) (omega (arith, below, levels_long)) (omega (arith, below, long)))));
+      }
 
   -- ---- what X1 to X10 leave
 
@@ -238,33 +274,7 @@ module _ (len_of : ℕ → ℕ) (h : HasUnits len_of) (chars : List ℕ) (source
         let inside : k < length stored = omega (arith, within, length-explicit_levels paragraph stored) in
         subst (λ (n : ℕ). n ≤ 125) (get_or_default levels k 0 d within) (explicit_levels-IsExplicitIn paragraph stored k fits inside).below))
 
-    -- I1 and I2 once all are resolved
-    pub record AreLevels (new : List ℕ) : Type 0 where
-      pub even : is_per_char level_eq len_of chars new ≡ true
-      pub resolved : AreResolved source brackets levels classes (per_char 0 len_of chars new) (sequences paragraph stored levels)
-
     pub AreLevels-from : (k : ℕ) (units : List BidiClass) (new : List ℕ) → length out ≤ k → AreResolvedTo (sequences_before out k) units → new ≡ map (λ (e : ℕ × BidiClass). implicit_level e.0 e.1) (zip unit_levels units) → AreLevels new
     AreLevels-from k units new past now is =
-        let long : length now.values ≡ length chars = now.under_way.long ∙ length-stored_classes source ∙ ready.fits in
-        let levels_long : length levels ≡ length chars = length-explicit_levels paragraph stored ∙ length-stored_classes source ∙ ready.fits in
-        let of_chars : List ℕ = map (λ (e : ℕ × BidiClass). implicit_level e.0 e.1) (zip levels now.values) in
-        let of_chars_long : length of_chars ≡ length chars = omega (arith, length-map (zip levels now.values) (λ (e : ℕ × BidiClass). implicit_level e.0 e.1), length-zip levels now.values, long, levels_long) in
-        let whole : new ≡ per_unit len_of chars of_chars =
-        is
-        ∙ ap (λ (us : List BidiClass). map (λ (e : ℕ × BidiClass). implicit_level e.0 e.1) (zip unit_levels us)) now.is
-        ∙ ap (λ (ls : List ℕ). map (λ (e : ℕ × BidiClass). implicit_level e.0 e.1) (zip ls (per_unit len_of chars now.values))) ready.levels_is
-        ∙ ap (map (λ (e : ℕ × BidiClass). implicit_level e.0 e.1)) (zip-per_unit len_of chars levels now.values)
-        ∙ map-per_unit (λ (e : ℕ × BidiClass). implicit_level e.0 e.1) len_of chars (zip levels now.values) in
-        let read : per_char 0 len_of chars new ≡ of_chars = ap (per_char 0 len_of chars) whole ∙ per_char-per_unit len_of h 0 chars of_chars of_chars_long in
         let all : sequences_before out k ≡ map characters out = take_all k (map characters out) (omega (arith, past, length-map out characters)) in
-        record {
-          even = ap (is_per_char level_eq len_of chars) whole ∙ is_per_char-per_unit level_eq level_test len_of chars of_chars of_chars_long;
-          resolved =
-              subst (λ (ls : List ℕ). AreResolved source brackets levels classes ls (sequences paragraph stored levels)) (sym read)
-              (AreResolved-all paragraph stored (map characters out) ready.sequences_are source brackets now.values of_chars
-              (subst (λ (ss : List RunSequence). IsUnderWay source brackets stored levels classes ss now.values) all now.under_way)
-              (λ p within.
-              let fits : p < length chars = omega (arith, within, length-stored_classes source, ready.fits) in
-              get_or-map (λ (e : ℕ × BidiClass). implicit_level e.0 e.1) (zip levels now.values) p (0, L) 0 (omega (arith, fits, length-zip levels now.values, long, levels_long))
-              ∙ ap (λ (e : ℕ × BidiClass). implicit_level e.0 e.1) (get_or-zip levels now.values p (0, L) (omega (arith, fits, levels_long)) (omega (arith, fits, long)))));
-        }
+        AreLevels-all (map characters out) units unit_levels new ready.fits ready.levels_is ready.sequences_are (subst (λ (ss : List RunSequence). AreResolvedTo ss units) all now) is

@@ -1,6 +1,9 @@
 pub mod CharRuns
+pub mod ClassSets
 pub mod DirectionLemmas
 pub mod FilledUnits
+pub mod FlagsLemmas
+pub mod FlatPasses
 pub mod FoundLaws
 pub mod LevelPasses
 pub mod LineUnits

@@ -1,18 +1,15 @@
 -- What the walk over a text holds once n characters were read.
-use Rattle.std.proofs.Common.{◌≡◌, ℕ, ◌+◌, ◌<◌, ◌≤◌, Bool, true, false, not, ◌&&◌, ◌||◌, List, [], ◌∷◌, ◌++◌, length, get_or, take, map, Option, Some, None, option_map, unwrap_or, refl, sym, ap, subst, ◌∙◌, arith, ◌⊎◌, inl, inr, append_assoc, length-append, length-take, ◌-◌}
+use Rattle.std.proofs.Common.{◌≡◌, ℕ, ◌+◌, ◌<◌, ◌≤◌, Bool, true, false, ◌&&◌, List, [], ◌∷◌, ◌++◌, length, get_or, take, map, Option, Some, None, option_map, unwrap_or, refl, sym, ap, subst, ◌∙◌, arith, ◌⊎◌, inl, inr, append_assoc, length-append, length-take, ◌-◌}
 use Rattle.std.specs.Prelude.{All, replicate}
 use Rattle.std.specs.Option.{option_or}
-use Rattle.std.specs.List.{list_any}
 use Rattle.std.specs.declared.ops.Range.{Range}
 use Rattle.std.proofs.lemmas.List.{append-nil, map-append, length-map, take_more, take_all}
 use Rattle.std.proofs.lemmas.Bool.{cases_Bool, both_ways, and_left, cond-true, cond-false}
 use Rattle.std.proofs.lemmas.List.Sums.{sum_by-append, sum_by-cons}
 use Rattle.std.proofs.lemmas.List.Concat.{flat_map-append}
-use Rattle.std.proofs.lemmas.List.Folds.{list_any-append}
 use Rattle.std.proofs.lemmas.List.Elements.{All-map}
 use Rattle.bidi_base.specs.declared.char_data.BidiClass.{BidiClass}
-use Rattle.bidi_base.specs.Classes.{is_initiator, is_paragraph_separator}
-use Rattle.bidi_base.specs.Direction.{may_turn, is_pure_ltr}
+use Rattle.bidi_base.specs.Classes.{is_paragraph_separator}
 use Rattle.bidi_base.specs.Isolates.{deciding_class, level_by, paragraph_level, stored_classes}
 use Rattle.bidi_base.specs.Paragraphs.{pieces_of, paragraphs_of, each_separator, ranges_from}
 use Rattle.bidi_base.specs.Reading.{innermost, opened_by, decided_by, met_units, filled}
@@ -26,10 +23,11 @@ use Rattle.bidi_base.proofs.ParagraphsLemmas.{joined, length-text_classes, IsCut
 use Rattle.bidi_base.proofs.ReadingLemmas.{char_units, char_units-take, met_units-char, innermost-All, opened_by-map, decided_by-map}
 use Rattle.bidi_base.proofs.StoredSteps.{open_initiators, open_initiators-push, met_by, innermost-map, stored_classes-push, stored_classes-nil, length-stored_classes, length-met_by, open_initiators-below, deciding_class-push, deciding_class-nil}
 use Rattle.unicode_bidi.specs.declared.first_walk.Found.{Found}
-use Rattle.unicode_bidi.specs.declared.first_walk.ParagraphFlags.{ParagraphFlags}
+use Rattle.unicode_bidi.specs.declared.paragraph_flags.ParagraphFlags.{ParagraphFlags}
 use Rattle.unicode_bidi.specs.declared.first_walk.Reading.{Reading}
 use Rattle.unicode_bidi.specs.ParagraphInfo.{ranges_of, levels_of}
-use Rattle.unicode_bidi.specs.ParagraphFlags.{flags_of, paragraph_flags}
+use Rattle.unicode_bidi.specs.ParagraphFlags.{flags_of, with_class, paragraph_flags}
+use Rattle.unicode_bidi.proofs.FlagsLemmas.{with_classes-push}
 use Rattle.unicode_bidi.proofs.PutUnits.{take-filled-end, take-met_units}
 
 pub take-turn : (chars : List ℕ) (n c : ℕ) → n < length chars → get_or chars n 0 ≡ c → take (n + 1) chars ≡ take n chars ++ c ∷ []
@@ -226,9 +224,9 @@ module _ (source : Source) (len_of : ℕ → ℕ) (chars : List ℕ) where
       pub IsTextRead-more : (changed : List BidiClass) (range : Range ℕ) (longer : Found) (after : Reading) → range ≡ char_units len_of chars n → changed ≡ met_units class (innermost reading.initiators.items) found.original_classes.items
           → longer.original_classes.items ≡ filled range class changed → length changed ≡ length found.original_classes.items → length longer.original_classes.items ≡ length changed → longer.paragraphs.items ≡ found.paragraphs.items → longer.flags.items ≡ found.flags.items
           → after.start ≡ reading.start → after.initiators.items ≡ opened_by class range reading.initiators.items → after.deciding ≡ option_or reading.deciding (decided_by class reading.initiators.items)
-          → after.flags.is_pure_ltr ≡ (reading.flags.is_pure_ltr && not (may_turn class)) → after.flags.has_isolates ≡ (reading.flags.has_isolates || is_initiator class)
+          → after.flags ≡ with_class reading.flags class
           → IsTextRead base (n + 1) done (current ++ c ∷ []) longer after
-      IsTextRead-more changed range longer after is_range is_changed is_longer changed_length same_length same_paragraphs same_flags same_start is_open is_deciding is_pure has_isolates = record {
+      IsTextRead-more changed range longer after is_range is_changed is_longer changed_length same_length same_paragraphs same_flags same_start is_open is_deciding is_flags = record {
         whole = sym (append_assoc (joined done) current (c ∷ [])) ∙ ap (λ (cs : List ℕ). cs ++ c ∷ []) h.whole ∙ sym read_more;
         sized = same_length ∙ changed_length ∙ h.sized;
         classes =
@@ -248,7 +246,9 @@ module _ (source : Source) (len_of : ℕ → ℕ) (chars : List ℕ) where
         deciding =
             is_deciding ∙ ap (λ (rs : List (Range ℕ)). option_or reading.deciding (decided_by class rs)) h.under ∙ ap (option_or reading.deciding) (decided_by-map (units_after done) class (open_initiators (classes_of current)))
             ∙ ap (λ (o : Option BidiClass). option_or o (decided_by class (open_initiators (classes_of current)))) h.deciding ∙ sym (deciding_class-push (classes_of current) class) ∙ ap deciding_class (sym classes_more);
-        turns = flags_same after.flags (flags_of (classes_of (current ++ c ∷ []))) pure isolates;
+        turns =
+            is_flags ∙ ap (λ (f : ParagraphFlags). with_class f class) h.turns
+            ∙ sym (with_classes-push (flags_of []) (classes_of current) class) ∙ ap flags_of (sym classes_more);
       }
         where
           -- the units up to those of the character
@@ -266,28 +266,6 @@ module _ (source : Source) (len_of : ℕ → ℕ) (chars : List ℕ) where
 
           last : n ≡ length (joined done) + length (classes_of current)
           last = omega (arith, long, length-map current source.class_of)
-
-          or_false : (b : Bool) → (b || false) ≡ b
-          or_false true = refl
-          or_false false = refl
-
-          not_or : (a b : Bool) → (not a && not b) ≡ not (a || b)
-          not_or true b = refl
-          not_or false b = refl
-
-          any_more : (test : BidiClass → Bool) → list_any test (classes_of (current ++ c ∷ [])) ≡ (list_any test (classes_of current) || test class)
-          any_more test = ap (list_any test) classes_more ∙ list_any-append test (classes_of current) (class ∷ []) ∙ ap (λ (b : Bool). list_any test (classes_of current) || b) (or_false (test class))
-
-          pure : after.flags.is_pure_ltr ≡ is_pure_ltr (classes_of (current ++ c ∷ []))
-          pure =
-              is_pure ∙ ap (λ (f : ParagraphFlags). f.is_pure_ltr && not (may_turn class)) h.turns ∙ not_or (list_any may_turn (classes_of current)) (may_turn class)
-              ∙ ap not (sym (any_more may_turn))
-
-          isolates : after.flags.has_isolates ≡ list_any is_initiator (classes_of (current ++ c ∷ []))
-          isolates = has_isolates ∙ ap (λ (f : ParagraphFlags). f.has_isolates || is_initiator class) h.turns ∙ sym (any_more is_initiator)
-
-          flags_same : (f e : ParagraphFlags) → f.is_pure_ltr ≡ e.is_pure_ltr → f.has_isolates ≡ e.has_isolates → f ≡ e
-          flags_same f e a b = λ i. record { is_pure_ltr = a i; has_isolates = b i }
 
   -- ---- the whole walk
 

@@ -1,5 +1,6 @@
 pub mod Analysed
 pub mod BidiInfo
+pub mod ClassSet
 pub mod Engine
 pub mod InitialInfo
 pub mod Paragraph

@@ -1,15 +1,33 @@
 -- What the later steps ask of a paragraph's classes.
-use Rattle.std.specs.Prelude.{ℕ, List, map}
-use Rattle.std.specs.List.{list_any}
+use Rattle.std.specs.Prelude.{ℕ, Bool, true, false, if◌then◌else◌, List, [], ◌∷◌, map}
 use Rattle.bidi_base.specs.declared.char_data.BidiClass.{BidiClass}
-use Rattle.bidi_base.specs.Classes.{is_initiator}
-use Rattle.bidi_base.specs.Direction.{is_pure_ltr}
+use Rattle.bidi_base.specs.declared.char_data.BidiClass.TheVariants.{ES, ET, CS, NSM, S, WS, ON}
 use Rattle.bidi_base.specs.Source.{Source}
-use Rattle.unicode_bidi.specs.declared.first_walk.ParagraphFlags.{ParagraphFlags}
+use Rattle.unicode_bidi.specs.ClassSet.{with}
+use Rattle.unicode_bidi.specs.declared.paragraph_flags.ParagraphFlags.{ParagraphFlags}
 
--- the flags of a paragraph, by its source classes
+-- the classes that the later steps tell apart in a paragraph
+abbrev pub is_counted : BidiClass → Bool
+is_counted ES = false
+is_counted ET = false
+is_counted CS = false
+is_counted NSM = false
+is_counted S = false
+is_counted WS = false
+is_counted ON = false
+is_counted _ = true
+
+-- the flags with those of one more character
+abbrev pub with_class : ParagraphFlags → BidiClass → ParagraphFlags
+with_class flags c = if is_counted c then record { met = with flags.met c } else flags
+
+abbrev pub with_classes : ParagraphFlags → List BidiClass → ParagraphFlags
+with_classes flags [] = flags
+with_classes flags (c ∷ classes) = with_classes (with_class flags c) classes
+
+-- the flags of a paragraph, by its source classes: those of them that are counted
 abbrev pub flags_of : List BidiClass → ParagraphFlags
-flags_of classes = record { is_pure_ltr = is_pure_ltr classes; has_isolates = list_any is_initiator classes }
+flags_of classes = with_classes (record { met = record { bits = 0 } }) classes
 
 -- those of the paragraphs of a text, given by their characters
 unfoldable pub paragraph_flags : Source → List (List ℕ) → List ParagraphFlags

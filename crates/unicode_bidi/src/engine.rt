@@ -10,7 +10,8 @@ ghost use Rattle.unicode_bidi.specs.Engine.{with_analysis, original_classes as o
 ghost use Rattle.unicode_bidi.specs.ParagraphFlags.{paragraph_flags};
 ghost use Rattle.unicode_bidi.specs.ParagraphInfo.{ranges_of, levels_of};
 
-use crate::first_walk::{self, ParagraphFlags};
+use crate::first_walk;
+use crate::paragraph_flags::ParagraphFlags;
 use crate::paragraph_info::ParagraphInfo;
 use crate::paragraph_levels::{ClassifiedParagraph, LevelResolver};
 use bidi_base::char_data::BidiClass;

@@ -1,21 +1,20 @@
 // One walk over a text: the class of each character, with each FSI resolved (X5c), and the
 // paragraphs (P1) with their levels (P2, P3).
-ghost use Rattle.std.specs.Prelude.{◌≡◌, ◌↔◌, IsTrue, ℕ, ◌+◌, ◌<◌, ◌≤◌, Bool, true, false, not, ◌&&◌, ◌||◌, [], ◌∷◌, ◌++◌, length, map, replicate, unwrap_or, OnOk, IfOk, All, None, Some, Option, MatchOption};
+ghost use Rattle.std.specs.Prelude.{◌≡◌, ◌↔◌, IsTrue, ℕ, ◌+◌, ◌<◌, ◌≤◌, [], ◌∷◌, ◌++◌, length, map, replicate, unwrap_or, OnOk, IfOk, All, None, Some, Option, MatchOption};
 ghost use Rattle.std.specs.Option.{option_or, IsSome};
 ghost use Rattle.std.specs.declared.ops.Range.{Range};
-ghost use Rattle.bidi_base.specs.Classes.{is_initiator as is_initiator_class};
-ghost use Rattle.bidi_base.specs.Direction.{may_turn as may_turn_class};
 ghost use Rattle.bidi_base.specs.Isolates.{level_by, resolved_fsi};
 ghost use Rattle.bidi_base.specs.Reading.{innermost, opened_by, decided_by, filled, resolved_units, met_units};
 ghost use Rattle.bidi_base.specs.Paragraphs.{pieces_of, ranges_from};
 ghost use Rattle.bidi_base.specs.Stored.{text_classes, paragraph_levels};
 ghost use Rattle.bidi_base.specs.Text.{per_unit};
 ghost use Rattle.unicode_bidi.specs.ParagraphInfo.{ranges_of, levels_of};
-ghost use Rattle.unicode_bidi.specs.ParagraphFlags.{paragraph_flags};
+ghost use Rattle.unicode_bidi.specs.ParagraphFlags.{flags_of, with_class, paragraph_flags};
 
+use crate::paragraph_flags::ParagraphFlags;
 use crate::paragraph_info::ParagraphInfo;
 use bidi_base::char_data::BidiClass;
-use bidi_base::classes::{is_initiator, is_paragraph_separator, is_pdi, is_strong, may_turn};
+use bidi_base::classes::{is_initiator, is_paragraph_separator, is_pdi, is_strong};
 use bidi_base::data_source::BidiDataSource;
 use bidi_base::level::{LTR_LEVEL, Level, RTL_LEVEL};
 use bidi_base::text::TextSource;
@@ -57,31 +56,6 @@ fn resolve(classes: &mut [BidiClass], initiator: &Range<usize>, class: BidiClass
     }
 }
 
-/// What the later steps ask of the classes that the data source gives a paragraph's characters.
-#[derive(Clone, Copy, PartialEq, Debug)]
-pub(crate) struct ParagraphFlags {
-    /// No character can make the paragraph other than left to right throughout, at level 0.
-    pub(crate) is_pure_ltr: bool,
-    /// Some character is an isolate initiator.
-    pub(crate) has_isolates: bool,
-}
-
-impl ParagraphFlags {
-    // The paragraph has a character of this class. It is quick where nothing changes, whatever the
-    // class: words and the spaces between them come in turn.
-    fn add(&mut self, class: BidiClass)
-        ensures pure { self.new.is_pure_ltr ≡ (self.old.is_pure_ltr && not (may_turn_class class)) }
-        ensures isolates { self.new.has_isolates ≡ (self.old.has_isolates || is_initiator_class class) }
-    {
-        if self.is_pure_ltr && may_turn(class) {
-            self.is_pure_ltr = false;
-        }
-        if is_initiator(class) {
-            self.has_isolates = true;
-        }
-    }
-}
-
 // The paragraph that is being read.
 #[derive(Drop)]
 struct Reading {
@@ -100,16 +74,13 @@ impl Reading {
         ensures start { result.start ≡ 0 }
         ensures initiators { result.initiators.items ≡ [] }
         ensures deciding { result.deciding ≡ None }
-        ensures flags { result.flags ≡ record { is_pure_ltr = true; has_isolates = false } }
+        ensures flags { result.flags ≡ flags_of [] }
     {
         Reading {
             start: 0,
             initiators: Vec::new(alloc),
             deciding: None,
-            flags: ParagraphFlags {
-                is_pure_ltr: true,
-                has_isolates: false,
-            },
+            flags: ParagraphFlags::NONE,
         }
     }
 
@@ -132,10 +103,9 @@ impl Reading {
         ensures start { self.new.start ≡ self.old.start }
         ensures initiators { OnOk result (self.new.initiators.items ≡ opened_by class units self.old.initiators.items) }
         ensures deciding { OnOk result (self.new.deciding ≡ option_or self.old.deciding (decided_by class self.old.initiators.items)) }
-        ensures pure { OnOk result (self.new.flags.is_pure_ltr ≡ (self.old.flags.is_pure_ltr && not (may_turn_class class))) }
-        ensures isolates { OnOk result (self.new.flags.has_isolates ≡ (self.old.flags.has_isolates || is_initiator_class class)) }
+        ensures flags { OnOk result (self.new.flags ≡ with_class self.old.flags class) }
     {
-        self.flags.add(class);
+        self.flags = self.flags.with(class);
         if self.is_settled() && !is_initiator(class) {
             return Ok(());
         }
@@ -161,15 +131,12 @@ impl Reading {
         ensures start { self.new.start ≡ start }
         ensures initiators { self.new.initiators.items ≡ [] }
         ensures deciding { self.new.deciding ≡ None }
-        ensures flags { self.new.flags ≡ record { is_pure_ltr = true; has_isolates = false } }
+        ensures flags { self.new.flags ≡ flags_of [] }
     {
         self.start = start;
         self.initiators.clear();
         self.deciding = None;
-        self.flags = ParagraphFlags {
-            is_pure_ltr: true,
-            has_isolates: false,
-        };
+        self.flags = ParagraphFlags::NONE;
     }
 }
 

@@ -17,6 +17,7 @@
 
 mod analysed;
 mod base_direction;
+mod class_set;
 pub mod deprecated;
 pub mod engine;
 mod first_walk;
@@ -26,6 +27,7 @@ mod level_direction;
 mod line_text;
 mod paragraph;
 mod paragraph_bidi_info;
+mod paragraph_flags;
 mod paragraph_info;
 mod paragraph_levels;
 pub mod utf16;

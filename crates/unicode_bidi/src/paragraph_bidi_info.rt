@@ -52,7 +52,7 @@ impl<T: TextSource> ParagraphBidiInfo<T> {
         Ok(ParagraphBidiInfo {
             paragraph: Analysed::new(text, found.original_classes, found.levels),
             paragraph_level: found.paragraphs[0].level(),
-            is_pure_ltr: found.flags[0].is_pure_ltr,
+            is_pure_ltr: found.flags[0].is_pure_ltr(),
         })
     }
 

@@ -1,27 +1,26 @@
 // The levels of one paragraph after another (X1 to I2), by passes in place over its units, and those
 // of the characters that X9 removes.
 ghost use Rattle.std.specs.Prelude.{◌≡◌, ℕ, ◌+◌, ◌<◌, ◌≤◌, true, false, length, map, slice_index, All, IsTrue, OnOk};
-ghost use Rattle.std.specs.List.{list_any};
 ghost use Rattle.bidi_base.specs.declared.char_data.BidiClass.TheVariants.{L};
-ghost use Rattle.bidi_base.specs.Classes.{is_initiator};
-ghost use Rattle.bidi_base.specs.Direction.{is_pure_ltr};
 ghost use Rattle.bidi_base.specs.Explicit.{explicit_levels, explicit_classes, processing_classes};
+ghost use Rattle.bidi_base.specs.Flat.{is_flat, hidden};
 ghost use Rattle.bidi_base.specs.Isolates.{stored_classes};
 ghost use Rattle.bidi_base.specs.Sequences.{is_kept_at, sequences};
 ghost use Rattle.bidi_base.specs.Stored.{AreResolved, levels_in};
 ghost use Rattle.bidi_base.specs.Text.{text_len, is_per_char, per_unit, per_char};
 ghost use Rattle.bidi_base.specs.Units.{AreLines};
 ghost use Rattle.bidi_rules.specs.RunSequence.{run_bounds, sequences_in};
+ghost use Rattle.unicode_bidi.specs.ParagraphFlags.{flags_of};
 
-use crate::first_walk::ParagraphFlags;
+use crate::paragraph_flags::ParagraphFlags;
 use bidi_base::char_data::BidiClass;
 use bidi_base::classes::is_removed;
 use bidi_base::data_source::BidiDataSource;
-use bidi_base::level::{LTR_LEVEL, Level};
+use bidi_base::level::Level;
 use bidi_base::text::TextSource;
 use bidi_rules::explicit;
-use bidi_rules::implicit::{NeutralResolver, resolve_levels, resolve_weak};
-use bidi_rules::prepare::{IsolatingRunSequenceVec, isolating_run_sequences};
+use bidi_rules::implicit::{NeutralResolver, resolve_levels, resolve_weak, resolve_weak_lent};
+use bidi_rules::prepare::{IsolatingRunSequenceVec, LentSequence, isolating_run_sequences};
 use std::alloc::{AllocError, Global};
 
 /// A paragraph whose stored classes are known, and whose levels are sought.
@@ -35,8 +34,7 @@ pub(crate) struct ClassifiedParagraph<'a, D: BidiDataSource, T: TextSource> {
     /// Its stored classes, one a unit.
     pub(crate) original_classes: &'a [BidiClass],
     ghost low: { level ≤ 125 },
-    ghost pure: { flags.is_pure_ltr ≡ is_pure_ltr (map (D.source data_source.now).class_of (T.characters text)) },
-    ghost isolates: { flags.has_isolates ≡ list_any is_initiator (map (D.source data_source.now).class_of (T.characters text)) },
+    ghost own_flags: { flags ≡ flags_of (map (D.source data_source.now).class_of (T.characters text)) },
     ghost stored: { original_classes.now ≡ per_unit T.units (T.characters text) (stored_classes (map (D.source data_source.now).class_of (T.characters text))) },
 }
 
@@ -98,13 +96,65 @@ impl LevelResolver {
             original_classes,
             levels,
             runs,
-            paragraph.flags.has_isolates,
+            paragraph.flags.has_isolates(),
             &mut self.sequences,
         )
     }
 
-    /// Finds the levels of all characters that X9 keeps.
-    fn resolve<D: BidiDataSource, T: TextSource>(
+    /// Takes the classes of a paragraph in which nothing opens a level, with BN for what X9 removes.
+    fn copy_flat<D: BidiDataSource, T: TextSource>(
+        &mut self,
+        paragraph: &ClassifiedParagraph<D, T>,
+    ) -> Result<(), AllocError>
+        ensures { OnOk result (self.new.classes.items ≡ map hidden paragraph.now.original_classes.now) }
+    {
+        self.classes.clear();
+        self.classes.extend_from_slice(paragraph.original_classes)?;
+        if paragraph.flags.has_removed() {
+            hide_removed(self.classes.as_mut_slice());
+        }
+        Ok(())
+    }
+
+    /// Finds the levels of all characters that X9 keeps, in a paragraph that is not empty and in which
+    /// nothing opens a level. It is one level run, and one sequence.
+    fn resolve_flat<D: BidiDataSource, T: TextSource>(
+        &mut self,
+        paragraph: &ClassifiedParagraph<D, T>,
+        levels: &mut [Level],
+    ) -> Result<(), AllocError>
+        requires long { length levels.old ≡ text_len T.units (T.characters paragraph.now.text) }
+        requires some { 0 < length levels.old }
+        requires flat { is_flat (map (D.source paragraph.now.data_source.now).class_of (T.characters paragraph.now.text)) ≡ true }
+        ensures per_char { OnOk result (IsTrue (is_per_char ⟦<Level as PartialEq>⟧.eq T.units (T.characters paragraph.now.text) levels.new)) }
+        ensures resolved { let source = D.source paragraph.now.data_source.now in
+            let classes = map source.class_of (T.characters paragraph.now.text) in
+            let stored = stored_classes classes in
+            let level = paragraph.now.level in
+            OnOk result (AreResolved classes (map source.bracket_of (T.characters paragraph.now.text)) (explicit_levels level stored) (explicit_classes level stored)
+            (per_char 0 T.units (T.characters paragraph.now.text) levels.new) (sequences level stored (explicit_levels level stored))) }
+    {
+        levels.fill(paragraph.level);
+        self.copy_flat(paragraph)?;
+        let classes = self.classes.as_mut_slice();
+        let runs = [0..classes.len()];
+        let side = paragraph.level.bidi_class();
+        let sequence = LentSequence::new(&runs, side, side);
+        resolve_weak_lent(paragraph.text, sequence, classes);
+        self.neutrals.resolve_lent(
+            paragraph.text,
+            paragraph.data_source,
+            sequence,
+            levels,
+            paragraph.original_classes,
+            classes,
+        )?;
+        resolve_levels(classes, levels);
+        Ok(())
+    }
+
+    /// The same of any paragraph, by X1 to X10.
+    fn resolve_nested<D: BidiDataSource, T: TextSource>(
         &mut self,
         alloc: Global,
         paragraph: &ClassifiedParagraph<D, T>,
@@ -136,6 +186,30 @@ impl LevelResolver {
         Ok(())
     }
 
+    /// The same of a paragraph that is not empty.
+    fn resolve<D: BidiDataSource, T: TextSource>(
+        &mut self,
+        alloc: Global,
+        paragraph: &ClassifiedParagraph<D, T>,
+        levels: &mut [Level],
+    ) -> Result<(), AllocError>
+        requires long { length levels.old ≡ text_len T.units (T.characters paragraph.now.text) }
+        requires some { 0 < length levels.old }
+        ensures per_char { OnOk result (IsTrue (is_per_char ⟦<Level as PartialEq>⟧.eq T.units (T.characters paragraph.now.text) levels.new)) }
+        ensures resolved { let source = D.source paragraph.now.data_source.now in
+            let classes = map source.class_of (T.characters paragraph.now.text) in
+            let stored = stored_classes classes in
+            let level = paragraph.now.level in
+            OnOk result (AreResolved classes (map source.bracket_of (T.characters paragraph.now.text)) (explicit_levels level stored) (explicit_classes level stored)
+            (per_char 0 T.units (T.characters paragraph.now.text) levels.new) (sequences level stored (explicit_levels level stored))) }
+    {
+        if paragraph.flags.is_flat() {
+            self.resolve_flat(paragraph, levels)
+        } else {
+            self.resolve_nested(alloc, paragraph, levels)
+        }
+    }
+
     /// Writes the stored levels of a paragraph, one for each of its units. What `levels` holds
     /// before doesn't count; where memory is refused it may hold anything.
     pub(crate) fn write_levels<D: BidiDataSource, T: TextSource>(
@@ -149,25 +223,36 @@ impl LevelResolver {
             OnOk result (levels.new ≡ per_unit T.units (T.characters text)
             (levels_in paragraph.now.level (map source.class_of (T.characters text)) (map source.bracket_of (T.characters text)))) }
     {
-        if paragraph.level == LTR_LEVEL && paragraph.flags.is_pure_ltr {
-            levels.fill(LTR_LEVEL);
+        if paragraph.flags.keeps_to(paragraph.level) {
+            levels.fill(paragraph.level);
             return Ok(());
         }
         self.resolve(alloc, paragraph, levels)?;
-        fill_removed(paragraph.level, paragraph.original_classes, levels);
+        if paragraph.flags.has_removed() {
+            fill_removed(paragraph.level, paragraph.original_classes, levels);
+        }
         Ok(())
     }
 }
 
-// Whether X9 removes some unit. The walk never stops early, so that many units are tested at once.
-fn has_removed(classes: &[BidiClass]) -> bool
-    ensures { result ≡ false → (u : ℕ) → u < length classes.now → is_kept_at classes.now u ≡ true }
+// The class that the passes take a class for.
+fn hidden(class: BidiClass) -> BidiClass
+    ensures { result ≡ hidden class }
 {
-    let mut found = false;
-    for i in 0..classes.len() {
-        found = found | is_removed(classes[i]);
+    if is_removed(class) {
+        BidiClass::BN
+    } else {
+        class
     }
-    found
+}
+
+// Gives each unit of a removed character the class BN, by which the passes know it.
+fn hide_removed(classes: &mut [BidiClass])
+    ensures { classes.new ≡ map hidden classes.old }
+{
+    for class in classes {
+        *class = hidden(*class);
+    }
 }
 
 // The level before a unit, at the front the paragraph level.
@@ -191,9 +276,6 @@ fn fill_removed(para_level: Level, classes: &[BidiClass], levels: &mut [Level])
     ensures front { 0 < length classes.now → is_kept_at classes.now 0 ≡ false → slice_index levels.new 0 ≡ para_level }
     ensures removed { (u : ℕ) → u + 1 < length classes.now → is_kept_at classes.now (u + 1) ≡ false → slice_index levels.new (u + 1) ≡ slice_index levels.new u }
 {
-    if !has_removed(classes) {
-        return;
-    }
     for i in 0..classes.len() {
         if is_removed(classes[i]) {
             levels[i] = level_before(para_level, levels, i);

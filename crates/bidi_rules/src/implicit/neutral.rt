@@ -17,7 +17,7 @@ ghost use Rattle.bidi_base.specs.Text.{is_per_char, place, text_len, IsLine};
 ghost use Rattle.bidi_base.specs.Units.{bounds, in_runs, kept_in_place, AreLines};
 ghost use Rattle.bidi_base.specs.FoundBrackets.{brackets_from, found_brackets};
 ghost use Rattle.bidi_rules.specs.NeutralPass.{values_of, AreBracketsOf, AreGathered, HasGatheredNothing};
-ghost use Rattle.bidi_rules.specs.RunSequence.{runs as runs_of, sos as sos_of, eos as eos_of};
+ghost use Rattle.bidi_rules.specs.RunSequence.{lent_runs, lent_sos, lent_eos, runs as runs_of, sos as sos_of, eos as eos_of};
 
 mod directions;
 mod one_direction;
@@ -26,7 +26,7 @@ mod units;
 use super::brackets::resolve_pairs;
 use super::is_kept_in_place;
 use super::weak::write_over_runs;
-use crate::prepare::{IsolatingRunSequence, LevelRun};
+use crate::prepare::{IsolatingRunSequence, LentSequence, LevelRun};
 use bidi_base::brackets::{Bracket, find_pairs};
 use bidi_base::char_data::BidiClass;
 use bidi_base::data_source::BidiDataSource;
@@ -83,6 +83,39 @@ impl NeutralResolver {
             (at_places L original_classes.now places) (map (D.source data_source.now).bracket_of (at_places 0 (T.characters text) indexes)) (at_places L processing_classes.old places)) }
         ensures removed { (u : ℕ) → class_at processing_classes.old u ≡ BN → class_at processing_classes.new u ≡ BN }
         ensures outside { (u : ℕ) → in_runs (map bounds (runs_of sequence.now)) u ≡ false → class_at processing_classes.new u ≡ class_at processing_classes.old u }
+        ensures per_char { IsTrue (is_per_char ⟦<BidiClass as PartialEq>⟧.eq T.units (T.characters text) processing_classes.new) }
+        ensures refused { OnErr result (processing_classes.new ≡ processing_classes.old) }
+    {
+        self.resolve_lent(
+            text,
+            data_source,
+            sequence.lend(),
+            levels,
+            original_classes,
+            processing_classes,
+        )
+    }
+
+    /// The same of a sequence whose runs are lent.
+    pub fn resolve_lent<D: BidiDataSource, T: TextSource>(
+        &mut self,
+        text: T,
+        data_source: &D,
+        sequence: LentSequence<'_>,
+        levels: &[Level],
+        original_classes: &[BidiClass],
+        processing_classes: &mut [BidiClass],
+    ) -> Result<(), AllocError>
+        requires per_char { IsTrue (is_per_char ⟦<BidiClass as PartialEq>⟧.eq T.units (T.characters text) processing_classes.old) }
+        requires fits { AreLines T.units (T.characters text) (map bounds (lent_runs sequence)) }
+        requires levels { length levels.now ≡ length processing_classes.old }
+        requires original { length original_classes.now ≡ length processing_classes.old }
+        requires resolved { let places = map (place T.units (T.characters text)) (kept_in_place T.units (T.characters text) processing_classes.old (map bounds (lent_runs sequence))) in IsTrue (list_all is_weak_resolved (at_places L processing_classes.old places)) }
+        ensures kept { let indexes = kept_in_place T.units (T.characters text) processing_classes.old (map bounds (lent_runs sequence.entry)) in let places = map (place T.units (T.characters text)) indexes in
+            OnOk result (at_places L processing_classes.new places ≡ neutral_classes (level_at levels.now (first_or 0 places)) (lent_sos sequence.entry) (lent_eos sequence.entry)
+            (at_places L original_classes.now places) (map (D.source data_source.now).bracket_of (at_places 0 (T.characters text) indexes)) (at_places L processing_classes.old places)) }
+        ensures removed { (u : ℕ) → class_at processing_classes.old u ≡ BN → class_at processing_classes.new u ≡ BN }
+        ensures outside { (u : ℕ) → in_runs (map bounds (lent_runs sequence.entry)) u ≡ false → class_at processing_classes.new u ≡ class_at processing_classes.old u }
         ensures per_char { IsTrue (is_per_char ⟦<BidiClass as PartialEq>⟧.eq T.units (T.characters text) processing_classes.new) }
         ensures refused { OnErr result (processing_classes.new ≡ processing_classes.old) }
     {

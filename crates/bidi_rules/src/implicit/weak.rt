@@ -7,7 +7,7 @@ ghost use Rattle.bidi_base.specs.Text.{IsLine, is_per_char, place, text_len};
 ghost use Rattle.bidi_base.specs.Units.{bounds, are_ordered, in_runs, kept_in_place, AreLines};
 ghost use Rattle.bidi_base.specs.Weak.{weak_classes};
 ghost use Rattle.bidi_base.specs.declared.char_data.BidiClass.TheVariants.{L, BN};
-ghost use Rattle.bidi_rules.specs.RunSequence.{runs as runs_of, sos as sos_of};
+ghost use Rattle.bidi_rules.specs.RunSequence.{lent_runs, lent_sos, runs as runs_of, sos as sos_of};
 ghost use Rattle.bidi_rules.specs.WeakPass.{waits};
 ghost use Rattle.bidi_rules.specs.WeakWalk.{first_walk, is_seen, IsWrittenOver, Reads, ReadsTo};
 
@@ -15,7 +15,7 @@ mod plain;
 mod steps;
 
 use super::is_kept_in_place;
-use crate::prepare::{IsolatingRunSequence, LevelRun};
+use crate::prepare::{IsolatingRunSequence, LentSequence, LevelRun};
 use bidi_base::char_data::BidiClass;
 use bidi_base::text::TextSource;
 use plain::{are_plain, change};
@@ -195,6 +195,22 @@ pub fn resolve_weak<T: TextSource>(
     ensures kept { let places = map (place T.units (T.characters text)) (kept_in_place T.units (T.characters text) processing_classes.old (map bounds (runs_of sequence.now))) in at_places L processing_classes.new places ≡ weak_classes (sos_of sequence.now) (at_places L processing_classes.old places) }
     ensures removed { (u : ℕ) → class_at processing_classes.old u ≡ BN → class_at processing_classes.new u ≡ BN }
     ensures outside { (u : ℕ) → in_runs (map bounds (runs_of sequence.now)) u ≡ false → class_at processing_classes.new u ≡ class_at processing_classes.old u }
+    ensures per_char { IsTrue (is_per_char ⟦<BidiClass as PartialEq>⟧.eq T.units (T.characters text) processing_classes.new) }
+{
+    resolve_weak_lent(text, sequence.lend(), processing_classes)
+}
+
+/// The same of a sequence whose runs are lent.
+pub fn resolve_weak_lent<T: TextSource>(
+    text: T,
+    sequence: LentSequence<'_>,
+    processing_classes: &mut [BidiClass],
+)
+    requires per_char { IsTrue (is_per_char ⟦<BidiClass as PartialEq>⟧.eq T.units (T.characters text) processing_classes.old) }
+    requires fits { AreLines T.units (T.characters text) (map bounds (lent_runs sequence)) }
+    ensures kept { let places = map (place T.units (T.characters text)) (kept_in_place T.units (T.characters text) processing_classes.old (map bounds (lent_runs sequence.entry))) in at_places L processing_classes.new places ≡ weak_classes (lent_sos sequence.entry) (at_places L processing_classes.old places) }
+    ensures removed { (u : ℕ) → class_at processing_classes.old u ≡ BN → class_at processing_classes.new u ≡ BN }
+    ensures outside { (u : ℕ) → in_runs (map bounds (lent_runs sequence.entry)) u ≡ false → class_at processing_classes.new u ≡ class_at processing_classes.old u }
     ensures per_char { IsTrue (is_per_char ⟦<BidiClass as PartialEq>⟧.eq T.units (T.characters text) processing_classes.new) }
 {
     let runs = sequence.runs();

@@ -5,11 +5,8 @@ use Rattle.bidi_base.specs.Isolates.{stored_classes}
 use Rattle.bidi_base.specs.Text.{per_unit, subrange, text_len}
 use Rattle.bidi_lines.proofs.LineInText.{length-part}
 use Rattle.unicode_bidi.proofs.ParagraphUnits.{paragraph-IsPart, paragraph-written}
-use Rattle.std.specs.List.{list_any}
-use Rattle.bidi_base.specs.Classes.{is_initiator}
-use Rattle.bidi_base.specs.Direction.{is_pure_ltr}
 use Rattle.unicode_bidi.specs.Engine.{chars_of}
-use Rattle.unicode_bidi.specs.declared.first_walk.ParagraphFlags.{ParagraphFlags}
+use Rattle.unicode_bidi.specs.ParagraphFlags.{flags_of}
 use Rattle.unicode_bidi.proofs.engine.write_paragraph.Goals as goal
 
 pub slice_bounds-own-end : goal.slice_bounds-own-end
@@ -30,8 +27,7 @@ invariant_of-own g c =
     let piece : g.T.TextSource.characters c.subrange.result ≡ chars_of len cs c.args.paragraph.now = c.subrange.ensures ∙ ap (λ (r : Range ℕ). subrange len cs r.start r.end) c.range-units.ensures in
     record {
       low = rw c.level.ensures c.requires.paragraph.level;
-      pure = ap (λ (f : ParagraphFlags). f.is_pure_ltr) c.requires.flags ∙ ap (λ (p : List ℕ). is_pure_ltr (map class_of p)) (sym piece);
-      isolates = ap (λ (f : ParagraphFlags). f.has_isolates) c.requires.flags ∙ ap (λ (p : List ℕ). list_any is_initiator (map class_of p)) (sym piece);
+      own_flags = c.requires.flags ∙ ap (λ (p : List ℕ). flags_of (map class_of p)) (sym piece);
       stored =
           ap (λ (r : Range ℕ). slice_range c.args.text.now.original_classes.now r.start r.end) c.range-units.ensures ∙ c.requires.paragraph.classes
           ∙ ap (λ (p : List ℕ). per_unit len p (stored_classes (map class_of p))) (sym piece);

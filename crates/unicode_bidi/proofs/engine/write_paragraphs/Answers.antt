@@ -1,8 +1,8 @@
-use Rattle.std.proofs.Common.{◌∙◌, false, List, ℕ, get_or, arith, ap, sym, subst}
+use Rattle.std.proofs.Common.{◌∙◌, List, ℕ, get_or, arith, ap, sym, subst}
 use Rattle.std.proofs.lemmas.List.{get_or-map}
 use Rattle.std.proofs.lemmas.List.Elements.{All-get_or}
 use Rattle.unicode_bidi.specs.Engine.{unit_levels, own_flags, CanWrite}
-use Rattle.unicode_bidi.specs.declared.first_walk.ParagraphFlags.{ParagraphFlags}
+use Rattle.unicode_bidi.specs.declared.paragraph_flags.ParagraphFlags.{ParagraphFlags}
 use Rattle.unicode_bidi.proofs.ParagraphUnits.{AreParagraphsWritten-more, length-unit_levels}
 use Rattle.unicode_bidi.proofs.engine.write_paragraphs.Goals as goal
 
@@ -16,7 +16,7 @@ write_paragraph-requires-clause-flags g c =
     let own = own_flags (g.D.BidiDataSource.source c.args.text.now.data_source.now) g.T.TextSource.units (g.T.TextSource.characters c.args.text.now.text) in
     let ps = c.args.paragraphs.now in
     let k = c.loop-index.index in
-    let none : ParagraphFlags = record { is_pure_ltr = false; has_isolates = false } in
+    let none : ParagraphFlags = record { met = record { bits = 0 } } in
     ap (λ flags. get_or flags k none) c.requires.flags ∙ get_or-map own ps k c.index-paragraphs-index.result none (omega arith) ∙ ap own (sym c.index-paragraphs-index.is)
 
 pub loop-index-preserved : goal.loop-index-preserved

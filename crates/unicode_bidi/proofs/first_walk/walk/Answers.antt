@@ -67,7 +67,7 @@ read_with g c w =
     let written : (with_items c.loop-c.found.original_classes c.write.new.classes).items ≡ c.write.new.classes = with_items_is c.loop-c.found.original_classes c.write.new.classes (c.write.auto.classes ∙ c.read.auto.classes ∙ c.as_mut_slice-classes.ensures.len) in
     IsTextRead-more (g.D.BidiDataSource.source c.args.data_source.now) len cs g.met.T.TextSource.has_units c.args.base n h.done h.current c.loop-c.found c.loop-c.reading w.within h.read c.in-Some.c w.is_char class c.bidi_class-class.ensures c.read.new.classes range (found_with g c) c.read.new.self
     (same_range c.loop-c.end (place len cs n) (c.loop-c.end + c.char_len.result) (place len cs (n + 1)) c.loop-c.invariant.2 end) changed (written ∙ c.write.ensures) kept (ap length written ∙ c.write.auto.classes) refl refl
-    c.read.ensures.start c.in_ok-read.ensures.initiators c.in_ok-read.ensures.deciding c.in_ok-read.ensures.pure c.in_ok-read.ensures.isolates
+    c.read.ensures.start c.in_ok-read.ensures.initiators c.in_ok-read.ensures.deciding c.in_ok-read.ensures.flags
 
 pub close-requires : goal.close-requires
 close-requires g c =

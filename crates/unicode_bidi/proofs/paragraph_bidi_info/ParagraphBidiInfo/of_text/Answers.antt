@@ -1,11 +1,12 @@
 use Rattle.std.proofs.Common.{◌≡◌, ◌∙◌, ℕ, List, [], ◌∷◌, length, map, ap, subst, sym, arith, refl}
-use Rattle.bidi_base.specs.Direction.{is_pure_ltr}
 use Rattle.bidi_base.specs.Isolates.{paragraph_level}
 use Rattle.bidi_base.specs.Laws.{AreLevelsFrom}
 use Rattle.bidi_base.proofs.LevelLaws.{BoundaryNeutralsAreAlike-all, StaysLeftToRight-all}
 use Rattle.unicode_bidi.specs.Engine.{with_analysis}
 use Rattle.unicode_bidi.specs.ParagraphFlags.{flags_of}
 use Rattle.unicode_bidi.specs.ParagraphInfo.{level_of}
+use Rattle.unicode_bidi.specs.declared.paragraph_flags.ParagraphFlags.{ParagraphFlags}
+use Rattle.unicode_bidi.proofs.FlagsLemmas.{is_pure_ltr-flags}
 use Rattle.unicode_bidi.proofs.FoundLaws.{classes-one, levels-one, paragraph_level-one, bounded-one}
 use Rattle.unicode_bidi.proofs.ParagraphUnits.{only, flags-one}
 use Rattle.unicode_bidi.proofs.paragraph_bidi_info.ParagraphBidiInfo.of_text.Goals as goal
@@ -43,7 +44,9 @@ returns-clause-analysis g c =
           ∙ only level_of c.in_ok-found.found.paragraphs.items c.index.result.now (paragraph_level base (map source.class_of cs)) (paragraph_level-one source base found _ _ c.in_ok-found.ensures.analysis) c.index.ensures
           ∙ rw c.new.ensures.text refl;
       pure_ltr =
-          only (λ f. f.is_pure_ltr) c.in_ok-found.found.flags.items c.index-2.result.now (is_pure_ltr (map source.class_of cs)) (ap (map (λ f. f.is_pure_ltr)) one) c.index-2.ensures
+          c.is_pure_ltr.ensures
+          ∙ is_pure_ltr-flags c.index-2.result.now (map source.class_of cs)
+          (only (λ (f : ParagraphFlags). f) c.in_ok-found.found.flags.items c.index-2.result.now (flags_of (map source.class_of cs)) (ap (map (λ (f : ParagraphFlags). f)) one) c.index-2.ensures)
           ∙ rw c.new.ensures.text refl;
     }
 

@@ -9,6 +9,7 @@ use Rattle.bidi_base.proofs.PerCharTests.{level_eq, level_test}
 use Rattle.bidi_base.proofs.PerUnit.{length-per_char, per_char-per_unit}
 use Rattle.bidi_base.proofs.UnitsLemmas.{is_per_char-per_unit}
 use Rattle.bidi_rules.specs.RunSequence.{sequences_in}
+use Rattle.unicode_bidi.proofs.FlagsLemmas.{has_isolates-flags}
 use Rattle.unicode_bidi.proofs.FilledUnits.{initiators-stored}
 use Rattle.unicode_bidi.proofs.FoundLaws.{stored-is_per_char}
 use Rattle.unicode_bidi.proofs.paragraph_levels.LevelResolver.prepare.Goals as goal
@@ -27,7 +28,7 @@ pub isolating_run_sequences-requires-clause-isolates : goal.isolating_run_sequen
 isolating_run_sequences-requires-clause-isolates g c = λ some.
     let class_of = (g.D.BidiDataSource.source c.args.paragraph.now.data_source.now).class_of in
     let cs : List ℕ = g.T.TextSource.characters c.args.paragraph.now.text in
-    c.args.paragraph.now.isolates ∙ initiators-stored g.T.TextSource.units cs (map class_of cs) c.args.paragraph.now.original_classes.now c.args.paragraph.now.stored some
+    c.has_isolates.ensures ∙ has_isolates-flags c.args.paragraph.now.flags (map class_of cs) c.args.paragraph.now.own_flags ∙ initiators-stored g.T.TextSource.units cs (map class_of cs) c.args.paragraph.now.original_classes.now c.args.paragraph.now.stored some
 
 pub isolating_run_sequences-requires-clause-levels : goal.isolating_run_sequences-requires-clause-levels
 isolating_run_sequences-requires-clause-levels g c =

@@ -11,19 +11,19 @@ use Rattle.bidi_base.specs.Units.{bounds, kept_in_place}
 use Rattle.bidi_rules.specs.NeutralPass.{values_of}
 use Rattle.bidi_rules.proofs.OneDirection.{IsResolved-one}
 use Rattle.bidi_base.proofs.NeutralLemmas.{direction_of-l_or_r}
-use Rattle.bidi_rules.specs.RunSequence.{runs as runs_of, sos as sos_of, eos as eos_of}
+use Rattle.bidi_rules.specs.RunSequence.{lent_runs, lent_sos, lent_eos}
 use Rattle.bidi_rules.proofs.Gathered.{AreGathered-brackets, AreGathered-length}
 use Rattle.bidi_rules.proofs.NeutralSteps.{AreSteps, IsReady, IsResolved, IsReady-sequence, long, runs-within, first-within, paired-resolved, length-resolved, IsResolved-steps, IsResolved-none, IsResolved-sequence}
-use Rattle.bidi_rules.proofs.implicit.neutral.NeutralResolver.resolve.Given.{Over}
-use Rattle.bidi_rules.proofs.implicit.neutral.NeutralResolver.resolve.Goals as goal
-use Rattle.bidi_rules.proofs.implicit.neutral.NeutralResolver.resolve.Goals.{After-sos-sos, After-eos-eos, After-write_over_runs, After-write_back}
+use Rattle.bidi_rules.proofs.implicit.neutral.NeutralResolver.resolve_lent.Given.{Over}
+use Rattle.bidi_rules.proofs.implicit.neutral.NeutralResolver.resolve_lent.Goals as goal
+use Rattle.bidi_rules.proofs.implicit.neutral.NeutralResolver.resolve_lent.Goals.{After-sos-sos, After-eos-eos, After-write_over_runs, After-write_back}
 
 -- the level that is read
 level_is : (levels : List ℕ) (first level : ℕ) → first < length levels → level ≡ get_or levels first level → level ≡ level_at levels first
 level_is levels first level within is = is ∙ get_or_default levels first level 0 within
 
 ready : (g : Over) (c : After-sos-sos g) → IsReady g.T.TextSource.units (g.T.TextSource.characters c.args.text) c.runs-runs.result.now c.sos-sos.result c.args.processing_classes.now
-ready g c = IsReady-sequence g.T.TextSource.units g.met.T.TextSource.has_units (g.T.TextSource.characters c.args.text) c.args.sequence.now c.runs-runs.result.now c.sos-sos.result c.args.processing_classes.now c.runs-runs.ensures c.sos-sos.ensures c.requires.per_char c.requires.fits c.requires.resolved
+ready g c = IsReady-sequence g.T.TextSource.units g.met.T.TextSource.has_units (g.T.TextSource.characters c.args.text) c.args.sequence c.runs-runs.result.now c.sos-sos.result c.args.processing_classes.now c.runs-runs.ensures c.sos-sos.ensures c.requires.per_char c.requires.fits c.requires.resolved
 
 -- what stands at the first unit that is kept
 record Begins (g : Over) (c : After-eos-eos g) : Type 0 where
@@ -49,8 +49,8 @@ stands_alone-requires g c =
 
 pub returns-in_default-clause-kept : goal.returns-in_default-clause-kept
 returns-in_default-clause-kept g c =
-    let eos = eos_of c.args.sequence.now in
-    (IsResolved-sequence g.T.TextSource.units (g.T.TextSource.characters c.args.text) (g.D.BidiDataSource.source c.args.data_source.now) c.args.levels.now c.args.original_classes.now c.args.processing_classes.now c.args.processing_classes.now c.args.sequence.now c.runs-runs.result.now c.sos-sos.result eos c.runs-runs.ensures c.sos-sos.ensures refl
+    let eos = lent_eos c.args.sequence in
+    (IsResolved-sequence g.T.TextSource.units (g.T.TextSource.characters c.args.text) (g.D.BidiDataSource.source c.args.data_source.now) c.args.levels.now c.args.original_classes.now c.args.processing_classes.now c.args.processing_classes.now c.args.sequence c.runs-runs.result.now c.sos-sos.result eos c.runs-runs.ensures c.sos-sos.ensures refl
     (IsResolved-none g.T.TextSource.units g.met.T.TextSource.has_units (g.T.TextSource.characters c.args.text) (g.D.BidiDataSource.source c.args.data_source.now) c.args.levels.now c.args.original_classes.now c.args.processing_classes.now c.runs-runs.result.now c.sos-sos.result eos (ready g (goal.at.returns-in_default-clause-kept g c).After-sos-sos) (sym c.in_default.is ∙ c.first_kept.ensures))).kept
 
 pub bounds-levels-first : goal.bounds-levels-first
@@ -59,10 +59,10 @@ bounds-levels-first g c =
 
 -- one direction alone is written
 alone : (g : Over) (c : After-write_over_runs g) → (c.bidi_class-embedding.result ≡ direction_of (level_at c.args.levels.now c.in-Some.first)) → IsReady g.T.TextSource.units (g.T.TextSource.characters c.args.text) c.runs-runs.result.now c.sos-sos.result c.args.processing_classes.now
-    → IsResolved g.T.TextSource.units (g.T.TextSource.characters c.args.text) (g.D.BidiDataSource.source c.args.data_source.now) c.args.levels.now c.args.original_classes.now c.args.processing_classes.now c.write_over_runs.new.classes (runs_of c.args.sequence.now) (sos_of c.args.sequence.now) (eos_of c.args.sequence.now)
+    → IsResolved g.T.TextSource.units (g.T.TextSource.characters c.args.text) (g.D.BidiDataSource.source c.args.data_source.now) c.args.levels.now c.args.original_classes.now c.args.processing_classes.now c.write_over_runs.new.classes (lent_runs c.args.sequence) (lent_sos c.args.sequence) (lent_eos c.args.sequence)
 alone g c embedding r =
     let side = ap is_l_or_r embedding ∙ direction_of-l_or_r (level_at c.args.levels.now c.in-Some.first) in
-    IsResolved-sequence g.T.TextSource.units (g.T.TextSource.characters c.args.text) (g.D.BidiDataSource.source c.args.data_source.now) c.args.levels.now c.args.original_classes.now c.args.processing_classes.now c.write_over_runs.new.classes c.args.sequence.now c.runs-runs.result.now c.sos-sos.result c.eos-eos.result c.runs-runs.ensures c.sos-sos.ensures c.eos-eos.ensures
+    IsResolved-sequence g.T.TextSource.units (g.T.TextSource.characters c.args.text) (g.D.BidiDataSource.source c.args.data_source.now) c.args.levels.now c.args.original_classes.now c.args.processing_classes.now c.write_over_runs.new.classes c.args.sequence c.runs-runs.result.now c.sos-sos.result c.eos-eos.result c.runs-runs.ensures c.sos-sos.ensures c.eos-eos.ensures
     (IsResolved-one g.T.TextSource.units g.met.T.TextSource.has_units (g.T.TextSource.characters c.args.text) c.runs-runs.result.now c.sos-sos.result c.args.processing_classes.now r c.bidi_class-embedding.result side (c.stands_alone.ensures.classes c.if-stands_alone.true) c.write_over_runs.new.classes c.write_over_runs.ensures
     (g.D.BidiDataSource.source c.args.data_source.now) c.args.levels.now c.args.original_classes.now c.eos-eos.result c.in-Some.first (c.stands_alone.ensures.sos c.if-stands_alone.true) (c.stands_alone.ensures.eos c.if-stands_alone.true) (sym c.in-Some.is ∙ c.first_kept.ensures) embedding)
 
@@ -118,7 +118,7 @@ write_back-requires-clause-resolved g c =
 
 -- the steps, one after the other
 resolved : (g : Over) (c : After-write_back g) → (c.bidi_class-embedding.result ≡ direction_of (level_at c.args.levels.now c.in-Some.first)) → IsReady g.T.TextSource.units (g.T.TextSource.characters c.args.text) c.runs-runs.result.now c.sos-sos.result c.args.processing_classes.now
-    → IsResolved g.T.TextSource.units (g.T.TextSource.characters c.args.text) (g.D.BidiDataSource.source c.args.data_source.now) c.args.levels.now c.args.original_classes.now c.args.processing_classes.now c.write_back.new.classes (runs_of c.args.sequence.now) (sos_of c.args.sequence.now) (eos_of c.args.sequence.now)
+    → IsResolved g.T.TextSource.units (g.T.TextSource.characters c.args.text) (g.D.BidiDataSource.source c.args.data_source.now) c.args.levels.now c.args.original_classes.now c.args.processing_classes.now c.write_back.new.classes (lent_runs c.args.sequence) (lent_sos c.args.sequence) (lent_eos c.args.sequence)
 resolved g c embedding r =
     let directed = c.as_slice.result.now in
     let items = with_items_is c.resolve_brackets.new.self.classes c.resolve_directions.new.classes (c.resolve_directions.auto.classes ∙ c.as_mut_slice.ensures.len) in
@@ -129,7 +129,7 @@ resolved g c embedding r =
       directed_are = c.as_slice.ensures.value ∙ items ∙ c.resolve_directions.ensures ∙ ap (n1_n2 c.bidi_class-embedding.result c.sos-sos.result c.eos-eos.result) c.as_mut_slice.ensures.value;
       new_are = c.write_back.ensures;
     } in
-    IsResolved-sequence g.T.TextSource.units (g.T.TextSource.characters c.args.text) (g.D.BidiDataSource.source c.args.data_source.now) c.args.levels.now c.args.original_classes.now c.args.processing_classes.now c.write_back.new.classes c.args.sequence.now c.runs-runs.result.now c.sos-sos.result c.eos-eos.result c.runs-runs.ensures c.sos-sos.ensures c.eos-eos.ensures
+    IsResolved-sequence g.T.TextSource.units (g.T.TextSource.characters c.args.text) (g.D.BidiDataSource.source c.args.data_source.now) c.args.levels.now c.args.original_classes.now c.args.processing_classes.now c.write_back.new.classes c.args.sequence c.runs-runs.result.now c.sos-sos.result c.eos-eos.result c.runs-runs.ensures c.sos-sos.ensures c.eos-eos.ensures
     (IsResolved-steps g.T.TextSource.units g.met.T.TextSource.has_units (g.T.TextSource.characters c.args.text) (g.D.BidiDataSource.source c.args.data_source.now) c.args.levels.now c.args.original_classes.now c.args.processing_classes.now c.runs-runs.result.now c.bidi_class-embedding.result c.sos-sos.result c.eos-eos.result c.gather.new.self.classes.items c.resolve_brackets.new.self.classes.items directed c.write_back.new.classes c.in-Some.first
     r (sym c.in-Some.is ∙ c.first_kept.ensures) steps)
 

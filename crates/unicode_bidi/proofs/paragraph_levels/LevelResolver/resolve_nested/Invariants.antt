@@ -1,7 +1,7 @@
 -- The sequences before the next one are resolved.
 use Rattle.std.proofs.Common.{List, ℕ, map}
 use Rattle.unicode_bidi.proofs.LevelPasses.{AreResolvedTo, sequences_before}
-use Rattle.unicode_bidi.proofs.paragraph_levels.LevelResolver.resolve.Given as goal
+use Rattle.unicode_bidi.proofs.paragraph_levels.LevelResolver.resolve_nested.Given as goal
 
 abbrev pub invariant-loop-sequence : goal.invariant-loop-sequence
 invariant-loop-sequence g l =

@@ -1,0 +1,157 @@
+-- Sets of classes: what is in them, and which tests of what is in them agree.
+use Rattle.std.proofs.Common.{◌≡◌, ℕ, zero, suc, ◌+◌, ◌^◌, ◌<◌, ◌≢◌, min, max, bit_and, Bool, true, false, not, ◌==◌, ◌&&◌, ◌||◌, List, [], ◌∷◌, get_or, refl, sym, ap, ◌∙◌, arith, inl, inr, eqb-true}
+use Rattle.std.specs.Int.{bit_at}
+use Rattle.std.specs.List.{list_any}
+use Rattle.std.proofs.Math.Bool.{or-true}
+use Rattle.std.proofs.lemmas.Bool.{cases_Bool, cases_eq, cases_lt, both_ways, eq-eqb}
+use Rattle.std.proofs.lemmas.List.{get_or-map}
+use Rattle.std.proofs.lemmas.List.FromFn.{get_or-range_with_len}
+use Rattle.std.proofs.lemmas.List.Folds.{list_any_none, list_any_at}
+use Rattle.std.proofs.lemmas.Nat.Bits.{bit_at_or, bit_at_and, bit_at-zero, bit_at-pow_same, bit_at-pow_other, bit_at_above, bit_at-lt, same_from_bits}
+use Rattle.bidi_base.specs.declared.char_data.BidiClass.{BidiClass}
+use Rattle.bidi_base.specs.declared.char_data.BidiClass.TheVariants.{L, R, AL, EN, ES, ET, AN, CS, NSM, BN, B, S, WS, ON, LRE, LRO, RLE, RLO, PDF, LRI, RLI, FSI, PDI}
+use Rattle.bidi_base.specs.Classes.{class_number, same_class}
+use Rattle.unicode_bidi.specs.declared.class_set.ClassSet.{ClassSet}
+use Rattle.unicode_bidi.specs.ClassSet.{has, with, any_of, every_class}
+
+-- ---- one more class
+
+has_bit : (x y : ℕ) → x < 2 → y < 2 → (max x y == 1) ≡ ((x == 1) || (y == 1))
+has_bit zero zero h k = refl
+has_bit zero (suc zero) h k = refl
+has_bit (suc zero) zero h k = refl
+has_bit (suc zero) (suc zero) h k = refl
+has_bit (suc (suc x)) y h k = absurd (omega arith)
+has_bit zero (suc (suc y)) h k = absurd (omega arith)
+has_bit (suc zero) (suc (suc y)) h k = absurd (omega arith)
+
+apart_eqb : (k j : ℕ) → k ≢ j → (k == j) ≡ false
+apart_eqb k j apart = elim (cases_Bool (k == j)) [ inl same ↦ absurd (apart (eqb-true k j same)) | inr other ↦ other ]
+
+one_bit : (k j : ℕ) → (bit_at (2 ^ k) j == 1) ≡ (k == j)
+one_bit k j = elim (cases_eq k j) [
+  | inl same ↦ ap (λ m. bit_at (2 ^ k) m == 1) (sym same) ∙ ap (λ n. n == 1) (bit_at-pow_same k) ∙ sym (eq-eqb k j same)
+  | inr apart ↦ ap (λ n. n == 1) (bit_at-pow_other k j (λ e. apart (sym e))) ∙ sym (apart_eqb k j apart)
+]
+
+pub has-with : (set : ClassSet) (c d : BidiClass) → has (with set c) d ≡ (has set d || same_class c d)
+has-with set c d =
+    ap (λ n. n == 1) (bit_at_or set.bits (2 ^ class_number c) (class_number d))
+    ∙ has_bit (bit_at set.bits (class_number d)) (bit_at (2 ^ class_number c) (class_number d)) (bit_at-lt _ _) (bit_at-lt _ _)
+    ∙ ap (λ b. has set d || b) (one_bit (class_number c) (class_number d))
+
+or_false : (b : Bool) → (b || false) ≡ b
+or_false true = refl
+or_false false = refl
+
+-- of all classes, one is the class
+any_same : (test : BidiClass → Bool) (c : BidiClass) → list_any (λ d. same_class c d && test d) every_class ≡ test c
+any_same test L = or_false (test L)
+any_same test R = or_false (test R)
+any_same test AL = or_false (test AL)
+any_same test EN = or_false (test EN)
+any_same test ES = or_false (test ES)
+any_same test ET = or_false (test ET)
+any_same test AN = or_false (test AN)
+any_same test CS = or_false (test CS)
+any_same test NSM = or_false (test NSM)
+any_same test BN = or_false (test BN)
+any_same test B = or_false (test B)
+any_same test S = or_false (test S)
+any_same test WS = or_false (test WS)
+any_same test ON = or_false (test ON)
+any_same test LRE = or_false (test LRE)
+any_same test LRO = or_false (test LRO)
+any_same test RLE = or_false (test RLE)
+any_same test RLO = or_false (test RLO)
+any_same test PDF = or_false (test PDF)
+any_same test LRI = or_false (test LRI)
+any_same test RLI = or_false (test RLI)
+any_same test FSI = or_false (test FSI)
+any_same test PDI = or_false (test PDI)
+
+any_either : (p q test : BidiClass → Bool) (classes : List BidiClass)
+    → list_any (λ d. (p d || q d) && test d) classes ≡ (list_any (λ d. p d && test d) classes || list_any (λ d. q d && test d) classes)
+any_either p q test [] = refl
+any_either p q test (d ∷ classes) = ap (λ b. ((p d || q d) && test d) || b) (any_either p q test classes) ∙ parts (p d) (q d) (test d) (list_any (λ d. p d && test d) classes) (list_any (λ d. q d && test d) classes)
+  where
+    parts : (a b t x y : Bool) → (((a || b) && t) || (x || y)) ≡ (((a && t) || x) || ((b && t) || y))
+    parts true true true x y = refl
+    parts true false true x y = refl
+    parts false true true x y = sym (or-true x)
+    parts false false true x y = refl
+    parts true true false x y = refl
+    parts true false false x y = refl
+    parts false true false x y = refl
+    parts false false false x y = refl
+
+pub any_of-with : (set : ClassSet) (c : BidiClass) (test : BidiClass → Bool) → any_of (with set c) test ≡ (any_of set test || test c)
+unfolding any_of
+any_of-with set c test =
+    ap (λ (p : BidiClass → Bool). list_any (λ d. p d && test d) every_class) (λ i d. has-with set c d i)
+    ∙ any_either (has set) (same_class c) test every_class ∙ ap (λ b. list_any (λ d. has set d && test d) every_class || b) (any_same test c)
+
+-- ---- tests
+
+-- tests that agree on every class
+pub any_of-alike : (set : ClassSet) (p q : BidiClass → Bool) → ((c : BidiClass) → p c ≡ q c) → any_of set p ≡ any_of set q
+any_of-alike set p q alike = ap (any_of set) (λ i c. alike c i)
+
+pub any_of-empty : (test : BidiClass → Bool) → any_of (record { bits = 0 }) test ≡ false
+unfolding any_of
+any_of-empty test = refl
+
+-- ---- what two sets share
+
+class_of_number : (k : ℕ) → k < 23 → class_number (get_or every_class k L) ≡ k
+class_of_number k below = sym (get_or-map class_number every_class k L 0 below) ∙ get_or-range_with_len 0 23 k 0 below ∙ (let same : 0 + k ≡ k = omega arith in same)
+
+module _ (a b : ClassSet) (small : b.bits < 2 ^ 23) where
+  both_bits : (x y : ℕ) → x < 2 → y < 2 → (min x y == 1) ≡ ((x == 1) && (y == 1))
+  both_bits zero y h k = let none : min 0 y ≡ 0 = omega arith in ap (λ n. n == 1) none
+  both_bits (suc zero) zero h k = refl
+  both_bits (suc zero) (suc zero) h k = refl
+  both_bits (suc (suc x)) y h k = absurd (omega arith)
+  both_bits (suc zero) (suc (suc y)) h k = absurd (omega arith)
+
+  bit_of_both : (c : BidiClass) → (bit_at (bit_and a.bits b.bits) (class_number c) == 1) ≡ (has a c && has b c)
+  bit_of_both c =
+      ap (λ n. n == 1) (bit_at_and a.bits b.bits (class_number c))
+      ∙ both_bits (bit_at a.bits (class_number c)) (bit_at b.bits (class_number c)) (bit_at-lt _ _) (bit_at-lt _ _)
+
+  none_of : bit_and a.bits b.bits ≡ 0 → (c : BidiClass) → (has a c && has b c) ≡ false
+  none_of none c = sym (bit_of_both c) ∙ ap (λ n. bit_at n (class_number c) == 1) none ∙ ap (λ n. n == 1) (bit_at-zero (class_number c))
+
+  not_one : (x : ℕ) → x < 2 → (x == 1) ≡ false → x ≡ 0
+  not_one zero h e = refl
+  not_one (suc zero) h e = absurd (both_ways true e refl)
+  not_one (suc (suc x)) h e = absurd (omega arith)
+
+  -- a bit of both is that of a class
+  no_bit : list_any (λ c. has a c && has b c) every_class ≡ false → (k : ℕ) → bit_at (bit_and a.bits b.bits) k ≡ bit_at 0 k
+  no_bit none k = elim (cases_lt k 23) [
+    | inl below ↦
+        let c = get_or every_class k L in
+        let at : class_number c ≡ k = class_of_number k below in
+        let here : (has a c && has b c) ≡ false = elim (cases_Bool (has a c && has b c)) [
+          | inl some ↦ absurd (both_ways (list_any (λ d. has a d && has b d) every_class) none (list_any_at (λ d. has a d && has b d) every_class k L below some))
+          | inr other ↦ other
+        ] in
+        ap (bit_at (bit_and a.bits b.bits)) (sym at) ∙ not_one (bit_at (bit_and a.bits b.bits) (class_number c)) (bit_at-lt _ _) (bit_of_both c ∙ here) ∙ sym (bit_at-zero k)
+    | inr past ↦
+        bit_at_and a.bits b.bits k ∙ ap (min (bit_at a.bits k)) (bit_at_above b.bits 23 k small past) ∙ none_more (bit_at a.bits k) ∙ sym (bit_at-zero k)
+  ]
+    where
+      none_more : (x : ℕ) → min x 0 ≡ 0
+      none_more x = omega arith
+
+  -- the bits of both are none exactly if no class is in both
+  pub meets_any : not (bit_and a.bits b.bits == 0) ≡ any_of a (has b)
+  unfolding any_of
+  meets_any = elim (cases_Bool (list_any (λ c. has a c && has b c) every_class)) [
+    | inl some ↦
+        let other : (bit_and a.bits b.bits == 0) ≡ false =
+        apart_eqb (bit_and a.bits b.bits) 0 (λ none. both_ways (list_any (λ c. has a c && has b c) every_class) (list_any_none (λ c. has a c && has b c) every_class (λ k d within. none_of none (get_or every_class k d))) some) in
+        ap not other ∙ sym some
+    | inr none ↦ ap not (eq-eqb (bit_and a.bits b.bits) 0 (same_from_bits (bit_and a.bits b.bits) 0 (no_bit none))) ∙ sym none
+  ]

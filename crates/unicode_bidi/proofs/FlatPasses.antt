@@ -1,0 +1,126 @@
+-- A paragraph in which nothing opens a level: the passes over its one run.
+use Rattle.std.proofs.Common.{◌≡◌, ℕ, ◌-◌, Bool, true, false, cond, List, [], ◌∷◌, length, map, Option, refl, sym, ap, subst, ◌∙◌, arith}
+use Rattle.std.specs.Prelude.{replicate, filter}
+use Rattle.std.specs.declared.ops.Range.{Range}
+use Rattle.std.specs.List.{range_with_len}
+use Rattle.std.proofs.lemmas.List.{append-nil}
+use Rattle.std.proofs.lemmas.List.Elements.{All-cons, All-nil}
+use Rattle.bidi_base.specs.declared.char_data.BidiClass.{BidiClass}
+use Rattle.bidi_base.specs.declared.char_data.BidiClass.TheVariants.{L, R}
+use Rattle.bidi_base.specs.declared.data_source.BidiMatchedOpeningBracket.{BidiMatchedOpeningBracket}
+use Rattle.bidi_base.specs.Classes.{is_l_or_r}
+use Rattle.bidi_base.specs.Explicit.{explicit_levels, explicit_classes, processing_classes}
+use Rattle.bidi_base.specs.Flat.{is_flat, hidden, whole_run}
+use Rattle.bidi_base.specs.Isolates.{stored_classes}
+use Rattle.bidi_base.specs.Levels.{is_odd, direction_of}
+use Rattle.bidi_base.specs.Places.{between}
+use Rattle.bidi_base.specs.Sequences.{RunSequence, has_places, is_kept_at, kept_places, sequences}
+use Rattle.bidi_base.specs.Text.{IsLine, is_boundary, char_index, text_len, per_unit, per_char}
+use Rattle.bidi_base.specs.Units.{AreLines, bounds, chars_in_runs, kept_in_runs}
+use Rattle.bidi_base.proofs.FlatLemmas.{stored_classes-flat, explicit_levels-flat, processing_classes-flat, sequences-flat}
+use Rattle.bidi_base.proofs.PerUnit.{map-per_unit, per_char-per_unit}
+use Rattle.bidi_base.proofs.PlaceLemmas.{char_index-place, is_boundary-place, place-zero, place-end}
+use Rattle.bidi_base.proofs.StoredSteps.{length-stored_classes}
+use Rattle.bidi_base.proofs.TextLemmas.{HasUnits}
+use Rattle.bidi_rules.specs.Joining.{JoinedRuns, characters_of}
+use Rattle.bidi_rules.specs.RunSequence.{lent_runs, lent_sos, lent_eos}
+use Rattle.bidi_rules.specs.declared.prepare.lent.LentSequence.{LentSequence}
+use Rattle.unicode_bidi.proofs.FilledUnits.{per_unit-replicate}
+use Rattle.unicode_bidi.proofs.LevelPasses.{AreResolvedTo, AreResolvedTo-start}
+use Rattle.unicode_bidi.proofs.SequencesInPlace.{IsNext, IsNext-at}
+
+pub direction_of-is_l_or_r : (level : ℕ) → is_l_or_r (direction_of level) ≡ true
+direction_of-is_l_or_r level = by_parity (is_odd level)
+  where
+    by_parity : (odd : Bool) → is_l_or_r (cond odd R L) ≡ true
+    by_parity true = refl
+    by_parity false = refl
+
+-- the runs of a sequence that is lent, with its ends
+abbrev pub lent : LentSequence → JoinedRuns
+lent s = record { runs = map bounds (lent_runs s); sos = lent_sos s; eos = lent_eos s }
+
+module _ (len_of : ℕ → ℕ) (h : HasUnits len_of) (chars : List ℕ) (source : List BidiClass) (bracket_of : ℕ → Option BidiMatchedOpeningBracket) (paragraph : ℕ)
+    (fits : length source ≡ length chars) (flat : is_flat source ≡ true) where
+  abbrev stored : List BidiClass
+  stored = stored_classes source
+
+  -- the one run, with the direction of the paragraph at both ends
+  abbrev pub whole : JoinedRuns
+  whole = record { runs = (0, text_len len_of chars) ∷ []; sos = direction_of paragraph; eos = direction_of paragraph }
+
+  -- a sequence of it, as code lends it
+  pub lent-whole : (s : LentSequence) (runs : List (Range ℕ)) (end : ℕ) → lent_runs s ≡ runs → runs ≡ record { start = 0; end = end } ∷ [] → end ≡ text_len len_of chars
+      → lent_sos s ≡ direction_of paragraph → lent_eos s ≡ direction_of paragraph → lent s ≡ whole
+  lent-whole s runs end runs_are is long sos eos =
+      λ i. record { runs = (ap (map bounds) (runs_are ∙ is) ∙ ap (λ n. (0, n) ∷ []) long) i; sos = sos i; eos = eos i }
+
+  stored_is : stored ≡ source
+  stored_is = stored_classes-flat source flat
+
+  stored_long : length stored ≡ length chars
+  stored_long = length-stored_classes source ∙ fits
+
+  begins : char_index len_of chars 0 ≡ 0
+  begins = ap (char_index len_of chars) (sym (place-zero len_of chars)) ∙ char_index-place len_of chars h 0 (omega arith)
+
+  ends : char_index len_of chars (text_len len_of chars) ≡ length chars
+  ends = ap (char_index len_of chars) (sym (place-end len_of chars (length chars) (omega arith))) ∙ char_index-place len_of chars h (length chars) (omega arith)
+
+  places-whole : kept_in_runs len_of chars stored whole.runs ≡ kept_places stored
+  unfolding kept_in_runs chars_in_runs kept_places
+  places-whole =
+      ap (filter (is_kept_at stored))
+      (append-nil (between (char_index len_of chars 0) (char_index len_of chars (text_len len_of chars)))
+      ∙ ap (λ n. between n (char_index len_of chars (text_len len_of chars))) begins ∙ ap (between 0) (ends ∙ sym stored_long) ∙ from_zero (length stored))
+    where
+      from_zero : (n : ℕ) → between 0 n ≡ range_with_len 0 n
+      from_zero n = let same : n - 0 ≡ n = omega arith in ap (range_with_len 0) same
+
+  characters-whole : characters_of len_of chars stored whole ≡ whole_run paragraph stored
+  characters-whole = ap (λ (ps : List ℕ). record { places = ps; sos = direction_of paragraph; eos = direction_of paragraph }) places-whole
+
+  -- it is all there is
+  sequences-whole : filter has_places (characters_of len_of chars stored whole ∷ []) ≡ sequences paragraph stored (explicit_levels paragraph stored)
+  sequences-whole =
+      ap (λ (s : RunSequence). filter has_places (s ∷ [])) characters-whole
+      ∙ sym (subst (λ (cs : List BidiClass). sequences paragraph cs (explicit_levels paragraph cs) ≡ filter has_places (whole_run paragraph cs ∷ [])) (sym stored_is) (sequences-flat source flat paragraph))
+
+  -- a sequence in code that has this run
+  module _ (j : JoinedRuns) (same : j ≡ whole) where
+    pub joined-IsNext : IsNext source (map bracket_of chars) stored (explicit_levels paragraph stored) (explicit_classes paragraph stored) [] (characters_of len_of chars stored j)
+    joined-IsNext =
+        subst (λ (r : JoinedRuns). IsNext source (map bracket_of chars) stored (explicit_levels paragraph stored) (explicit_classes paragraph stored) [] (characters_of len_of chars stored r)) (sym same)
+        (IsNext-at paragraph stored (characters_of len_of chars stored whole ∷ []) sequences-whole source (map bracket_of chars) 0 (characters_of len_of chars stored whole) (omega arith) (direction_of-is_l_or_r paragraph))
+
+    pub joined-AreLines : AreLines len_of chars j.runs
+    joined-AreLines =
+        subst (λ (r : JoinedRuns). AreLines len_of chars r.runs) (sym same)
+        (All-cons (λ (r : ℕ × ℕ). IsLine len_of chars r.0 r.1) (0, text_len len_of chars) [] line (All-nil (λ (r : ℕ × ℕ). IsLine len_of chars r.0 r.1)))
+      where
+        line : IsLine len_of chars 0 (text_len len_of chars)
+        line = record {
+          ordered = omega arith;
+          begins = ap (is_boundary len_of chars) (sym (place-zero len_of chars)) ∙ is_boundary-place len_of chars 0;
+          ends = ap (is_boundary len_of chars) (sym (place-end len_of chars (length chars) (omega arith))) ∙ is_boundary-place len_of chars (length chars);
+        }
+
+    pub joined-sequences : filter has_places (characters_of len_of chars stored j ∷ []) ≡ sequences paragraph stored (explicit_levels paragraph stored)
+    joined-sequences = ap (λ (r : JoinedRuns). filter has_places (characters_of len_of chars stored r ∷ [])) same ∙ sequences-whole
+
+  -- the levels that are filled are the explicit ones
+  pub levels-whole : (old new : List ℕ) → length old ≡ text_len len_of chars → new ≡ replicate (length old) paragraph → new ≡ per_unit len_of chars (explicit_levels paragraph stored)
+  levels-whole old new long is =
+      is ∙ ap (λ n. replicate n paragraph) long ∙ sym (per_unit-replicate len_of chars paragraph)
+      ∙ ap (per_unit len_of chars) (ap (λ n. replicate n paragraph) (sym fits) ∙ sym (explicit_levels-flat source flat paragraph) ∙ ap (explicit_levels paragraph) (sym stored_is))
+
+  -- and the passes begin with the hidden classes
+  pub whole-AreResolvedTo : (original units : List BidiClass) → original ≡ per_unit len_of chars stored → units ≡ map hidden original → AreResolvedTo len_of h chars source bracket_of paragraph [] units
+  whole-AreResolvedTo original units original_is is =
+      AreResolvedTo-start len_of h chars source bracket_of paragraph original units fits original_is
+      (is ∙ ap (map hidden) original_is ∙ map-per_unit hidden len_of chars stored ∙ ap (per_unit len_of chars) (sym processed))
+    where
+      processed : processing_classes paragraph (per_char L len_of chars original) ≡ map hidden stored
+      processed =
+          ap (processing_classes paragraph) (ap (per_char L len_of chars) original_is ∙ per_char-per_unit len_of h L chars stored stored_long)
+          ∙ subst (λ (cs : List BidiClass). processing_classes paragraph cs ≡ map hidden cs) (sym stored_is) (processing_classes-flat source flat paragraph)
