@@ -27,6 +27,7 @@ pub mod NestedPairs
 pub mod NeutralBlocks
 pub mod NeutralLemmas
 pub mod NeutralSource
+pub mod NeutralStretches
 pub mod OneDirection
 pub mod OpenMatches
 pub mod OpenPass
@@ -46,6 +47,9 @@ pub mod PlacesLemmas
 pub mod PureLtrLemmas
 pub mod ReadStack
 pub mod ReadingLemmas
+pub mod Repeated
+pub mod RepeatedPlaces
+pub mod RepeatedRules
 pub mod ResolvedLemmas
 pub mod RunsLemmas
 pub mod SequencePlaces
