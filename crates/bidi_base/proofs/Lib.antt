@@ -30,6 +30,7 @@ pub mod NestedPairs
 pub mod NeutralBlocks
 pub mod NeutralLemmas
 pub mod NeutralSource
+pub mod NeutralStretches
 pub mod OneDirection
 pub mod OpenMatches
 pub mod OpenPass
@@ -48,6 +49,9 @@ pub mod PlaceLemmas
 pub mod PlacesLemmas
 pub mod ReadStack
 pub mod ReadingLemmas
+pub mod Repeated
+pub mod RepeatedPlaces
+pub mod RepeatedRules
 pub mod ResolvedLemmas
 pub mod RunsLemmas
 pub mod SequencePlaces

@@ -20,6 +20,7 @@ pub mod RunLoop
 pub mod RunPass
 pub mod RunReading
 pub mod RunUnits
+pub mod SeenUnits
 pub mod StackLemmas
 pub mod WalkLemmas
 pub mod WeakPassLemmas

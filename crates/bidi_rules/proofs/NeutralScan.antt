@@ -1,104 +1,221 @@
--- N1 and N2 in one walk: the neutrals that have come wait for the next class with a direction.
-use Rattle.std.proofs.Common.{◌≡◌, ℕ, ◌+◌, ◌-◌, ◌<◌, ◌≤◌, true, false, List, ◌++◌, length, get_or, take, replicate, unwrap_or, Option, Some, None, refl, sym, ap, subst, ◌∙◌, arith, drop-drop, inl, inr}
-use Rattle.std.proofs.lemmas.Bool.{cases_lt}
-use Rattle.std.proofs.lemmas.List.{get_or_default, get_or_past}
-use Rattle.std.specs.List.{list_all}
-use borrow.Rule.Slice.PartMut.{put_mid}
+-- N1 and N2 in one walk over units: the neutrals that have come wait for the next class with a direction.
+use Rattle.std.proofs.Common.{◌≡◌, ℕ, zero, suc, ◌+◌, ◌-◌, ◌<◌, ◌≤◌, Bool, true, false, ◌&&◌, List, [], ◌∷◌, ◌++◌, length, map, get_or, drop, replicate, Some, None, refl, sym, ap, subst, ◌∙◌, arith, add-one, append_assoc, inl, inr}
+use Rattle.std.specs.Prelude.{filter}
+use Rattle.std.specs.List.{list_all, range_with_len}
+use Rattle.std.specs.declared.ops.Range.{Range}
+use Rattle.std.proofs.lemmas.List.{length-map}
+use Rattle.std.proofs.lemmas.Bool.{cases_Bool, cases_lt, both_ways, and_parts, and_from, and_left, cond-true, cond-false}
 use Rattle.bidi_base.specs.declared.char_data.BidiClass.{BidiClass}
-use Rattle.bidi_base.specs.declared.char_data.BidiClass.TheVariants.{L, R, EN, AN, ON}
-use Rattle.bidi_base.specs.Classes.{as_direction, is_neutral, is_weak_resolved}
-use Rattle.bidi_base.specs.Neutral.{n1_rule, n1_n2}
-use Rattle.bidi_base.proofs.Blocks.{IsBlock, read_later}
-use Rattle.bidi_base.proofs.ContextLemmas.{list_all-get_or}
-use Rattle.bidi_base.proofs.InPlace.{IsRewritten-end}
-use Rattle.bidi_base.proofs.NeutralBlocks.{common, IsAtNeutrals, IsAtNeutrals-start, IsAtNeutrals-block}
-use Rattle.bidi_rules.specs.ExplicitPass.{filled}
+use Rattle.bidi_base.specs.declared.char_data.BidiClass.TheVariants.{L, BN}
+use Rattle.bidi_base.specs.Classes.{as_direction, is_kept_in_place, is_neutral, is_weak_resolved}
+use Rattle.bidi_base.specs.Neutral.{n1_n2}
+use Rattle.bidi_base.specs.Places.{at_places, class_at}
+use Rattle.bidi_base.specs.Units.{bounds, are_ordered, in_runs}
+use Rattle.bidi_base.proofs.NeutralBlocks.{common}
+use Rattle.bidi_base.proofs.NeutralStretches.{undirected-neutral, n1_n2-stretch, n1_n2-last}
+use Rattle.bidi_base.proofs.StoredLemmas.{at_places-append}
+use Rattle.bidi_rules.specs.NeutralPass.{seen_units}
+use Rattle.bidi_rules.specs.WeakWalk.{is_seen, IsWrittenOver}
+use Rattle.bidi_rules.proofs.InRuns.{in_runs-at, in_runs-drop, start_or, start_or-past, gap_before, gap_after, next_start}
+use Rattle.bidi_rules.proofs.Marks.{marked, marked-parts, marked-one, at_marked-same, at_marked-all}
+use Rattle.bidi_rules.proofs.WrittenOver.{IsWrittenOver-same_test}
 
-undirected-neutral : (c : BidiClass) → is_weak_resolved c ≡ true → as_direction c ≡ None → is_neutral c ≡ true
-undirected-neutral L h e = absurd (cc e)
-undirected-neutral R h e = absurd (cc e)
-undirected-neutral EN h e = absurd (cc e)
-undirected-neutral AN h e = absurd (cc e)
-undirected-neutral _ h e = h
+module _ (e eos : BidiClass) (mark : ℕ → Bool) (old answers : List BidiClass) where
+  -- the units below `at` are read; of those from `first` on the marked ones are neutrals, which wait, and `left` is the direction before them
+  pub record IsScanned (now : List BidiClass) (left : BidiClass) (first at : ℕ) : Type 0 where
+    pub written : at_places L now (marked mark 0 first) ++ n1_n2 e left eos (at_places L old (marked mark first (length old))) ≡ answers
+    pub waiting : (k : ℕ) → first ≤ k → k < at → mark k ≡ true → is_neutral (class_at old k) ≡ true
+    pub unwritten : (k : ℕ) → first ≤ k → class_at now k ≡ class_at old k
+    pub unmarked : (k : ℕ) → mark k ≡ false → class_at now k ≡ class_at old k
+    pub order : first ≤ at
+    pub long : length now ≡ length old
 
-directed-other : (c d : BidiClass) → as_direction c ≡ Some d → is_neutral c ≡ false
-directed-other L d e = refl
-directed-other R d e = refl
-directed-other EN d e = refl
-directed-other AN d e = refl
-directed-other _ d e = absurd (cc e)
-
-module _ (e sos eos : BidiClass) (old : List BidiClass) where
-  -- the classes below `at` are read; those from `start` on are neutrals, which wait, and `left` is the direction before them
-  pub record IsScanned (now : List BidiClass) (left : BidiClass) (start at : ℕ) : Type 0 where
-    pub written : IsAtNeutrals e sos eos old now left start
-    pub order : start ≤ at
-    pub waiting : (k : ℕ) → start ≤ k → k < at → is_neutral (get_or old k L) ≡ true
-
-  pub IsScanned-start : IsScanned old sos 0 0
-  IsScanned-start = record { written = IsAtNeutrals-start e sos eos old; order = omega arith; waiting = λ k from below. absurd (omega arith) }
-
-  -- what is read at a place is what stood there
-  read_is : (now : List BidiClass) (left : BidiClass) (start at : ℕ) → IsScanned now left start at → get_or now at L ≡ get_or old at L
-  read_is now left start at s =
-      let order = s.order in
-      let here : start + (at - start) ≡ at = omega arith in
-      ap (λ k. get_or now k L) (sym here) ∙ read_later now old start (at - start) s.written.rewritten.rest ∙ ap (λ k. get_or old k L) here
-
-  pub IsScanned-neutral : (now : List BidiClass) (left : BidiClass) (start at : ℕ) → list_all is_weak_resolved old ≡ true → at < length old → as_direction (get_or now at L) ≡ None → IsScanned now left start at → IsScanned now left start (at + 1)
-  IsScanned-neutral now left start at resolved fits none s =
-      let is = read_is now left start at s in
-      let neutral : is_neutral (get_or old at L) ≡ true = undirected-neutral (get_or old at L) (list_all-get_or is_weak_resolved old at L fits resolved) (ap as_direction (sym is) ∙ none) in
+  -- more units that wait or are none of the sequence
+  pub IsScanned-more : (now : List BidiClass) (left : BidiClass) (first at to : ℕ) → at ≤ to → ((k : ℕ) → at ≤ k → k < to → mark k ≡ true → is_neutral (class_at old k) ≡ true)
+      → IsScanned now left first at → IsScanned now left first to
+  IsScanned-more now left first at to upto more s =
       let order = s.order in
       record {
         written = s.written;
+        waiting = λ k from below is. elim (cases_lt k at) [ inl earlier ↦ s.waiting k from earlier is | inr later ↦ more k later below is ];
+        unwritten = s.unwritten;
+        unmarked = s.unmarked;
         order = omega arith;
-        waiting = λ k from below. elim (cases_lt k at) [
-          | inl earlier ↦ s.waiting k from earlier
-          | inr here ↦ let same : at ≡ k = omega arith in ap (λ j. is_neutral (get_or old j L)) (sym same) ∙ neutral
-        ];
+        long = s.long;
       }
 
-  -- a class with a direction, or the end, settles what waits
-  settled : (now : List BidiClass) (left right : BidiClass) (start at : ℕ) → IsScanned now left start at → at ≤ length old → (at < length old → is_neutral (get_or old at L) ≡ false)
-      → right ≡ unwrap_or (as_direction (get_or now at ON)) eos → list_all is_weak_resolved old ≡ true → IsAtNeutrals e sos eos old (filled start (at - start) (common e left right) now) right (at + 1)
-  settled now left right start at s fits behind next resolved =
-      let order = s.order in
-      let here : start + (at - start) ≡ at = omega arith in
-      let part : start + (at - start) - start ≡ at - start = omega arith in
-      let block : IsBlock is_neutral old start (at - start) = record {
-        room = omega arith;
-        inside = λ k below. s.waiting (start + k) (omega arith) (omega arith);
-        behind = λ more. ap (λ j. is_neutral (get_or old j L)) here ∙ behind (omega arith);
-      } in
-      let y = common e left right in
-      let same : put_mid start (start + (at - start) - start) now (replicate (at - start) y) ≡ filled start (at - start) y now =
-      ap (λ m. put_mid start m now (replicate (at - start) y)) part
-      ∙ ap (λ (xs : List BidiClass). take start now ++ (replicate (at - start) y ++ xs)) (drop-drop (at - start) start now)
-      in
-      subst (λ (j : ℕ). IsAtNeutrals e sos eos old (filled start (at - start) y now) right (j + 1)) here
-      (subst (λ (xs : List BidiClass). IsAtNeutrals e sos eos old xs right (start + (at - start) + 1)) same
-      (IsAtNeutrals-block e sos eos old now left right start (at - start) resolved s.written (omega arith) block (next ∙ ap (λ j. unwrap_or (as_direction (get_or now j ON)) eos) (sym here))))
+  neutrals : (low n : ℕ) → ((k : ℕ) → low ≤ k → k < low + n → mark k ≡ true → is_neutral (class_at old k) ≡ true) → list_all is_neutral (at_places L old (filter mark (range_with_len low n))) ≡ true
+  neutrals low zero h = refl
+  neutrals low (suc n) h =
+      let more = filter mark (range_with_len (low + 1) n) in
+      let rest : list_all is_neutral (at_places L old more) ≡ true = neutrals (low + 1) n (λ k from below is. h k (omega arith) (omega arith) is) in
+      elim (cases_Bool (mark low)) [
+        | inl yes' ↦
+            ap (λ (us : List ℕ). list_all is_neutral (at_places L old us)) (cond-true (mark low) (low ∷ more) more yes')
+            ∙ and_from (is_neutral (class_at old low)) (list_all is_neutral (at_places L old more)) (h low (omega arith) (omega arith) yes') rest
+        | inr no' ↦ ap (λ (us : List ℕ). list_all is_neutral (at_places L old us)) (cond-false (mark low) (low ∷ more) more no') ∙ rest
+      ]
 
-  pub IsScanned-direction : (now new : List BidiClass) (left right : BidiClass) (start at : ℕ) → list_all is_weak_resolved old ≡ true → at < length old → as_direction (get_or now at L) ≡ Some right
-      → new ≡ filled start (at - start) (common e left right) now → IsScanned now left start at → IsScanned new right (at + 1) (at + 1)
-  IsScanned-direction now new left right start at resolved fits some is s =
-      let long : length now ≡ length old = s.written.rewritten.long in
-      let there : as_direction (get_or now at ON) ≡ Some right = ap as_direction (get_or_default now at ON L (omega arith)) ∙ some in
-      record {
-        written = subst (λ (xs : List BidiClass). IsAtNeutrals e sos eos old xs right (at + 1)) (sym is)
-            (settled now left right start at s (omega arith) (λ more. directed-other (get_or old at L) right (ap as_direction (sym (read_is now left start at s)) ∙ some))
-            (ap (λ (o : Option BidiClass). unwrap_or o eos) (sym there)) resolved);
-        order = omega arith;
-        waiting = λ k from below. absurd (omega arith);
+  module _ (now new : List BidiClass) (left : BidiClass) (first at : ℕ) (s : IsScanned now left first at) where
+    wait : list_all is_neutral (at_places L old (marked mark first at)) ≡ true
+    wait = neutrals first (at - first) (λ k from below is. let order = s.order in s.waiting k from (omega arith) is)
+
+    length-waiting : (xs : List BidiClass) (us : List ℕ) → length (at_places L xs us) ≡ length us
+    length-waiting xs [] = refl
+    length-waiting xs (u ∷ us) = ap suc (length-waiting xs us)
+
+    -- what waits takes the class, and what stands before is left
+    taken : (c : BidiClass) → IsWrittenOver mark c first at now new → at_places L new (marked mark 0 at) ≡ at_places L now (marked mark 0 first) ++ replicate (length (at_places L old (marked mark first at))) c
+    taken c w =
+        let us = marked mark first at in
+        ap (at_places L new) (marked-parts mark 0 first at (omega arith) s.order)
+        ∙ at_places-append L new (marked mark 0 first) us
+        ∙ ap (λ (xs : List BidiClass). xs ++ at_places L new us) (at_marked-same mark new now 0 first (λ k from below is. w.below k below))
+        ∙ ap (λ (xs : List BidiClass). at_places L now (marked mark 0 first) ++ xs)
+        (at_marked-all mark new c first at (λ k from below is. w.inside k from below is) ∙ ap (λ n. replicate n c) (sym (length-waiting old us)))
+
+    pub IsScanned-direction : (right : BidiClass) → at < length old → mark at ≡ true → as_direction (class_at now at) ≡ Some right → IsWrittenOver mark (common e left right) first at now new → IsScanned new right (at + 1) (at + 1)
+    IsScanned-direction right fits here is w = record {
+      written = by_parts;
+      waiting = λ k from below seen. absurd (omega arith);
+      unwritten = λ k from. let order = s.order in w.above k (omega arith) ∙ s.unwritten k (omega arith);
+      unmarked = λ k plain. w.failing k plain ∙ s.unmarked k plain;
+      order = omega arith;
+      long = w.long ∙ s.long;
+    }
+      where
+        by_parts : at_places L new (marked mark 0 (at + 1)) ++ n1_n2 e right eos (at_places L old (marked mark (at + 1) (length old))) ≡ answers
+        by_parts =
+            let order = s.order in
+            let d = class_at old at in
+            let front = at_places L now (marked mark 0 first) in
+            let cs = at_places L old (marked mark first at) in
+            let row = replicate (length cs) (common e left right) in
+            let rest = at_places L old (marked mark (at + 1) (length old)) in
+            let tail = n1_n2 e right eos rest in
+            let one = marked-one mark at (at + 1) (omega arith) here (λ k a b. absurd (omega arith)) in
+            let old_is : at_places L old (marked mark first (length old)) ≡ cs ++ d ∷ rest =
+            ap (at_places L old) (marked-parts mark first at (length old) order (omega arith) ∙ ap (λ (us : List ℕ). marked mark first at ++ us) (marked-parts mark at (at + 1) (length old) (omega arith) (omega arith) ∙ ap (λ (us : List ℕ). us ++ marked mark (at + 1) (length old)) one))
+            ∙ at_places-append L old (marked mark first at) (at ∷ marked mark (at + 1) (length old)) in
+            let there : class_at new at ≡ d = w.above at (omega arith) ∙ s.unwritten at order in
+            let new_is : at_places L new (marked mark 0 (at + 1)) ≡ (front ++ row) ++ d ∷ [] =
+            ap (at_places L new) (marked-parts mark 0 at (at + 1) (omega arith) (omega arith) ∙ ap (λ (us : List ℕ). marked mark 0 at ++ us) one)
+            ∙ at_places-append L new (marked mark 0 at) (at ∷ [])
+            ∙ ap (λ (xs : List BidiClass). xs ++ class_at new at ∷ []) (taken (common e left right) w)
+            ∙ ap (λ (x : BidiClass). (front ++ row) ++ x ∷ []) there in
+            let step : n1_n2 e left eos (cs ++ d ∷ rest) ≡ row ++ d ∷ tail = n1_n2-stretch e left right eos d cs rest wait (ap as_direction (sym (s.unwritten at order)) ∙ is) in
+            ap (λ (xs : List BidiClass). xs ++ tail) new_is
+            ∙ append_assoc (front ++ row) (d ∷ []) tail
+            ∙ append_assoc front row (d ∷ tail)
+            ∙ ap (λ (xs : List BidiClass). front ++ xs) (sym step ∙ ap (n1_n2 e left eos) (sym old_is))
+            ∙ s.written
+
+    pub IsScanned-end : at ≡ length old → IsWrittenOver mark (common e left eos) first at now new → at_places L new (marked mark 0 at) ≡ answers
+    IsScanned-end end w =
+        let cs = at_places L old (marked mark first at) in
+        taken (common e left eos) w
+        ∙ ap (λ (xs : List BidiClass). at_places L now (marked mark 0 first) ++ xs) (sym (n1_n2-last e left eos cs wait) ∙ ap (λ n. n1_n2 e left eos (at_places L old (marked mark first n))) end)
+        ∙ s.written
+
+-- before the first unit
+pub IsScanned-start : (e sos eos : BidiClass) (mark : ℕ → Bool) (old : List BidiClass) (at : ℕ) → ((k : ℕ) → k < at → mark k ≡ false) → IsScanned e eos mark old (n1_n2 e sos eos (at_places L old (marked mark 0 (length old)))) old sos 0 at
+IsScanned-start e sos eos mark old at none = record {
+  written = refl;
+  waiting = λ k from below is. absurd (both_ways (mark k) (none k below) is);
+  unwritten = λ k from. refl;
+  unmarked = λ k plain. refl;
+  order = omega arith;
+  long = refl;
+}
+
+directed-kept : (c d : BidiClass) → as_direction c ≡ Some d → is_kept_in_place c ≡ true
+directed-kept BN d e = absurd (cc e)
+directed-kept _ d e = refl
+
+module _ (e sos eos : BidiClass) (runs : List (Range ℕ)) (old : List BidiClass) where
+  abbrev rs : List (ℕ × ℕ)
+  rs = map bounds runs
+
+  abbrev goal : List BidiClass
+  goal = n1_n2 e sos eos (at_places L old (seen_units rs old))
+
+  -- the same over the runs of a sequence, where nothing of the run at `first_run` stands behind `first`
+  pub record IsScannedTo (now : List BidiClass) (left : BidiClass) (first first_run at : ℕ) : Type 0 where
+    pub scanned : IsScanned e eos (is_seen rs old) old goal now left first at
+    pub reached : (k : ℕ) → first ≤ k → in_runs (drop first_run rs) k ≡ in_runs rs k
+    pub fits : first_run ≤ length runs
+
+  seen_alike : (now : List BidiClass) (left : BidiClass) (first first_run at : ℕ) → IsScannedTo now left first first_run at → (to k : ℕ) → first ≤ k → k < to → is_seen (drop first_run rs) now k ≡ is_seen rs old k
+  seen_alike now left first first_run at s to k from below =
+      ap (λ b. b && is_kept_in_place (class_at now k)) (s.reached k from) ∙ ap (λ c. in_runs rs k && is_kept_in_place c) (s.scanned.unwritten k from)
+
+  module _ (ordered : are_ordered rs ≡ true) where
+    pub IsScannedTo-start : IsScannedTo old sos 0 0 (start_or rs 0 (length old))
+    IsScannedTo-start = record {
+      scanned = IsScanned-start e sos eos (is_seen rs old) old (start_or rs 0 (length old))
+          (λ k below. and_left (in_runs rs k) (is_kept_in_place (class_at old k)) (gap_before 0 rs k (length old) ordered below));
+      reached = λ k from. refl;
+      fits = omega arith;
+    }
+
+    module _ (run : ℕ) (here : run < length runs) (now : List BidiClass) (left : BidiClass) (first first_run at : ℕ) (s : IsScannedTo now left first first_run at) where
+      abbrev r : ℕ × ℕ
+      r = get_or rs run (0, 0)
+
+      fit : run < length rs
+      fit = omega (arith, length-map runs bounds)
+
+      -- a unit without a direction
+      pub IsScannedTo-neutral : ((u : ℕ) → is_seen rs old u ≡ true → is_weak_resolved (class_at old u) ≡ true) → as_direction (class_at now at) ≡ None → IsScannedTo now left first first_run (at + 1)
+      IsScannedTo-neutral resolved none = record {
+        scanned = IsScanned-more e eos (is_seen rs old) old goal now left first at (at + 1) (omega arith)
+            (λ k from below seen.
+            let same : k ≡ at = omega arith in
+            let there : class_at now k ≡ class_at old k = s.scanned.unwritten k (let order = s.scanned.order in omega arith) in
+            undirected-neutral (class_at old k) (resolved k seen) (ap as_direction (sym there ∙ ap (class_at now) same) ∙ none))
+            s.scanned;
+        reached = s.reached;
+        fits = s.fits;
       }
 
-  pub IsScanned-end : (now new : List BidiClass) (left : BidiClass) (start at end : ℕ) → list_all is_weak_resolved old ≡ true → length old ≤ at → at ≤ length old → end ≡ length now
-      → new ≡ filled start (end - start) (common e left eos) now → IsScanned now left start at → new ≡ n1_n2 e sos eos old
-  IsScanned-end now new left start at end resolved past within end_is is s =
-      let long : length now ≡ length old = s.written.rewritten.long in
-      let here : end ≡ at = omega arith in
-      let done : IsAtNeutrals e sos eos old (filled start (at - start) (common e left eos) now) eos (at + 1) =
-      settled now left eos start at s within (λ more. absurd (omega arith)) (ap (λ (c : BidiClass). unwrap_or (as_direction c) eos) (sym (get_or_past now at ON (omega arith)))) resolved
-      in
-      is ∙ ap (λ n. filled start (n - start) (common e left eos) now) here ∙ IsRewritten-end (n1_rule e sos eos) old (filled start (at - start) (common e left eos) now) (at + 1) (omega arith) done.rewritten
+      -- one with a direction
+      pub IsScannedTo-direction : (new : List BidiClass) (right : BidiClass) → r.0 ≤ at → at < r.1 → at < length old → as_direction (class_at now at) ≡ Some right
+          → IsWrittenOver (is_seen (drop first_run rs) now) (common e left right) first at now new → IsScannedTo new right (at + 1) run (at + 1)
+      IsScannedTo-direction new right from below within is w = record {
+        scanned = IsScanned-direction e eos (is_seen rs old) old goal now new left first at s.scanned right within
+            (and_from (in_runs rs at) (is_kept_in_place (class_at old at)) (in_runs-at run rs at fit from below) (directed-kept (class_at old at) right (ap as_direction (sym (s.scanned.unwritten at s.scanned.order)) ∙ is)))
+            is (IsWrittenOver-same_test (is_seen (drop first_run rs) now) (is_seen rs old) (common e left right) first at now new (seen_alike now left first first_run at s at) w);
+        reached = λ k behind. in_runs-drop 0 run rs k ordered fit (omega arith);
+        fits = omega arith;
+      }
+
+      -- behind a run
+      pub IsScannedTo-gap : r.1 ≤ at → r.1 ≤ length old → at ≤ r.1 → IsScannedTo now left first first_run (start_or rs (run + 1) (length old))
+      IsScannedTo-gap past within upto =
+          let next : start_or rs (run + 1) (length old) ≡ start_or rs (suc run) (length old) = ap (λ k. start_or rs k (length old)) (add-one run) in
+          record {
+            scanned = IsScanned-more e eos (is_seen rs old) old goal now left first at (start_or rs (run + 1) (length old)) (omega (arith, next, next_start 0 run rs (length old) ordered fit within))
+                (λ k from below seen. absurd (both_ways (in_runs rs k) (gap_after 0 run rs k (length old) ordered fit (omega arith) (omega (arith, next))) (and_parts (in_runs rs k) (is_kept_in_place (class_at old k)) seen).0))
+                s.scanned;
+            reached = s.reached;
+            fits = s.fits;
+          }
+
+    -- behind the last one
+    pub IsScannedTo-end : (run : ℕ) (now new : List BidiClass) (left : BidiClass) (first first_run to : ℕ) → length runs ≤ run → to ≡ length now → IsScannedTo now left first first_run (start_or rs run (length old))
+        → IsWrittenOver (is_seen (drop first_run rs) now) (common e left eos) first to now new → at_places L new (seen_units rs old) ≡ goal
+    IsScannedTo-end run now new left first first_run to past to_is s w =
+        let end : start_or rs run (length old) ≡ length old = start_or-past rs run (length old) (omega (arith, length-map runs bounds)) in
+        let top : to ≡ start_or rs run (length old) = to_is ∙ s.scanned.long ∙ sym end in
+        ap (λ n. at_places L new (marked (is_seen rs old) 0 n)) (sym end)
+        ∙ IsScanned-end e eos (is_seen rs old) old goal now new left first (start_or rs run (length old)) s.scanned end
+        (IsWrittenOver-same_test (is_seen (drop first_run rs) now) (is_seen rs old) (common e left eos) first (start_or rs run (length old)) now new (seen_alike now left first first_run (start_or rs run (length old)) s (start_or rs run (length old)))
+        (subst (λ n. IsWrittenOver (is_seen (drop first_run rs) now) (common e left eos) first n now new) top w))
+
+    pub IsScannedTo-others : (now new : List BidiClass) (left c : BidiClass) (first first_run at to : ℕ) → IsScannedTo now left first first_run at → IsWrittenOver (is_seen (drop first_run rs) now) c first to now new
+        → (u : ℕ) → is_seen rs old u ≡ false → class_at new u ≡ class_at old u
+    IsScannedTo-others now new left c first first_run at to s w u plain =
+        elim (cases_lt u first) [
+          | inl before ↦ w.below u before ∙ s.scanned.unmarked u plain
+          | inr behind ↦ w.failing u (seen_alike now left first first_run at s (u + 1) u behind (omega arith) ∙ plain) ∙ s.scanned.unmarked u plain
+        ]

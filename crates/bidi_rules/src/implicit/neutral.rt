@@ -9,14 +9,14 @@ ghost use Rattle.std.specs.List.{list_all};
 ghost use Rattle.bidi_base.specs.declared.char_data.BidiClass.TheVariants.{L, BN};
 ghost use Rattle.bidi_base.specs.declared.data_source.BidiMatchedOpeningBracket.{BidiMatchedOpeningBracket};
 ghost use Rattle.bidi_base.specs.Brackets.{bracket_pairs, counted_bracket};
-ghost use Rattle.bidi_base.specs.Classes.{is_weak_resolved};
+ghost use Rattle.bidi_base.specs.Classes.{is_l_or_r, is_weak_resolved};
 ghost use Rattle.bidi_base.specs.Neutral.{n0, neutral_classes};
 ghost use Rattle.bidi_base.specs.Places.{at_places, class_at, first_or};
 ghost use Rattle.bidi_base.specs.Sequences.{level_at};
 ghost use Rattle.bidi_base.specs.Text.{is_per_char, place, text_len, IsLine};
 ghost use Rattle.bidi_base.specs.Units.{bounds, in_runs, kept_in_place, AreLines};
 ghost use Rattle.bidi_base.specs.FoundBrackets.{brackets_from, found_brackets};
-ghost use Rattle.bidi_rules.specs.NeutralPass.{values_of, AreBracketsOf, AreGathered, HasGatheredNothing};
+ghost use Rattle.bidi_rules.specs.NeutralPass.{values_of, AreBracketsOf, AreGathered, HasGatheredNothing, IsPaired, IsReady};
 ghost use Rattle.bidi_rules.specs.RunSequence.{lent_runs, lent_sos, lent_eos, runs as runs_of, sos as sos_of, eos as eos_of};
 
 mod directions;
@@ -136,10 +136,37 @@ impl NeutralResolver {
             write_over_runs(runs, processing_classes, 0, end, embedding);
             return Ok(());
         }
-        self.gather(text, data_source, runs, processing_classes)?;
-        self.resolve_brackets(text, runs, original_classes, processing_classes, directions)?;
-        resolve_directions(directions, self.classes.as_mut_slice());
-        write_back(text, runs, self.classes.as_slice(), processing_classes);
+        self.resolve_brackets(
+            text,
+            data_source,
+            directions,
+            runs,
+            original_classes,
+            processing_classes,
+        )?;
+        resolve_directions(directions, runs, processing_classes);
+        Ok(())
+    }
+
+    /// N0 over the characters of a sequence that are not BN.
+    fn resolve_brackets<D: BidiDataSource, T: TextSource>(
+        &mut self,
+        text: T,
+        data_source: &D,
+        directions: Directions,
+        runs: &[LevelRun],
+        original_classes: &[BidiClass],
+        classes: &mut [BidiClass],
+    ) -> Result<(), AllocError>
+        requires ready { IsReady T.units (T.characters text) runs.now directions.sos classes.old }
+        requires side { IsTrue (is_l_or_r directions.embedding) }
+        requires original { length original_classes.now ≡ length classes.old }
+        ensures paired { OnOk result (IsPaired T.units (T.characters text) (D.source data_source.now) original_classes.now classes.old classes.new runs.now directions.embedding directions.sos) }
+        ensures refused { OnErr result (classes.new ≡ classes.old) }
+    {
+        self.gather(text, data_source, runs, classes)?;
+        self.resolve_gathered(text, runs, original_classes, classes, directions)?;
+        write_back(text, runs, self.classes.as_slice(), classes);
         Ok(())
     }
 
@@ -213,7 +240,7 @@ impl NeutralResolver {
     }
 
     /// N0 over what was gathered.
-    fn resolve_brackets<T: TextSource>(
+    fn resolve_gathered<T: TextSource>(
         &mut self,
         text: T,
         runs: &[LevelRun],

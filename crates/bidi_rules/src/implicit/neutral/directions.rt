@@ -1,11 +1,16 @@
-//! N1 and N2 over the classes of a sequence's characters.
+//! N1 and N2 over the units of a sequence.
 
-ghost use Rattle.std.specs.Prelude.{◌≡◌, ◌-◌, ◌≤◌, length, IsTrue};
-ghost use Rattle.std.specs.List.{list_all};
+ghost use Rattle.std.specs.Prelude.{◌≡◌, ℕ, ◌≤◌, true, false, length, map, All, IsTrue};
 ghost use Rattle.bidi_base.specs.Classes.{is_weak_resolved};
 ghost use Rattle.bidi_base.specs.Neutral.{n1_n2};
-ghost use Rattle.bidi_rules.specs.ExplicitPass.{filled};
+ghost use Rattle.bidi_base.specs.Places.{at_places, class_at};
+ghost use Rattle.bidi_base.specs.Units.{bounds, are_ordered};
+ghost use Rattle.bidi_base.specs.declared.char_data.BidiClass.TheVariants.{L};
+ghost use Rattle.bidi_rules.specs.NeutralPass.{seen_units};
+ghost use Rattle.bidi_rules.specs.WeakWalk.{is_seen, IsWrittenOver};
 
+use crate::implicit::weak::write_over_runs;
+use crate::prepare::LevelRun;
 use bidi_base::char_data::BidiClass;
 use bidi_base::classes::as_direction;
 use bidi_base::neutrals::common_direction;
@@ -22,10 +27,14 @@ pub struct Directions {
 }
 
 /// N1 and N2: neutrals take the direction on both their sides, where sos and eos stand at the ends,
-/// and the embedding direction where the two differ.
-pub fn resolve_directions(directions: Directions, classes: &mut [BidiClass])
-    requires { IsTrue (list_all is_weak_resolved classes.old) }
-    ensures { classes.new ≡ n1_n2 directions.embedding directions.sos directions.eos classes.old }
+/// and the embedding direction where the two differ. Units count as characters would: a class that
+/// stands several times in a row is seen as one.
+pub fn resolve_directions(directions: Directions, runs: &[LevelRun], classes: &mut [BidiClass])
+    requires ordered { IsTrue (are_ordered (map bounds runs.now)) }
+    requires inside { All (λ r. r.1 ≤ length classes.old) (map bounds runs.now) }
+    requires resolved { (u : ℕ) → is_seen (map bounds runs.now) classes.old u ≡ true → is_weak_resolved (class_at classes.old u) ≡ true }
+    ensures kept { let units = seen_units (map bounds runs.now) classes.old in at_places L classes.new units ≡ n1_n2 directions.embedding directions.sos directions.eos (at_places L classes.old units) }
+    ensures others { (u : ℕ) → is_seen (map bounds runs.now) classes.old u ≡ false → class_at classes.new u ≡ class_at classes.old u }
 {
     let Directions {
         embedding,
@@ -33,25 +42,38 @@ pub fn resolve_directions(directions: Directions, classes: &mut [BidiClass])
         eos,
     } = directions;
     let mut left = sos;
-    let mut start = 0;
-    for at in 0..classes.len() {
-        if let Some(right) = as_direction(classes[at]) {
-            fill_between(classes, start, at, common_direction(embedding, left, right));
-            left = right;
-            start = at + 1;
+    let mut first = 0;
+    let mut first_run = 0;
+    for run in 0..runs.len() {
+        for unit in runs[run].start..runs[run].end {
+            if let Some(right) = as_direction(classes[unit]) {
+                let common = common_direction(embedding, left, right);
+                write_between(&runs[first_run..], classes, first, unit, common);
+                left = right;
+                first = unit + 1;
+                first_run = run;
+            }
         }
     }
     let end = classes.len();
-    fill_between(classes, start, end, common_direction(embedding, left, eos));
+    let common = common_direction(embedding, left, eos);
+    write_between(&runs[first_run..], classes, first, end, common);
 }
 
-/// Writes a class to the part from `start` to `end`, which is mostly empty.
-fn fill_between(classes: &mut [BidiClass], start: usize, end: usize, class: BidiClass)
-    requires begins { start ≤ end }
-    requires ends { end ≤ length classes.old }
-    ensures { classes.new ≡ filled start (end - start) class classes.old }
+/// Writes a class over those units of some runs from `from` up to `to` that are not BN. Mostly there
+/// are none.
+fn write_between(
+    runs: &[LevelRun],
+    classes: &mut [BidiClass],
+    from: usize,
+    to: usize,
+    class: BidiClass,
+)
+    requires ordered { IsTrue (are_ordered (map bounds runs.now)) }
+    requires inside { to ≤ length classes.old }
+    ensures { IsWrittenOver (is_seen (map bounds runs.now) classes.old) class from to classes.old classes.new }
 {
-    if start < end {
-        classes[start..end].fill(class);
+    if from < to {
+        write_over_runs(runs, classes, from, to, class);
     }
 }

@@ -1,50 +1,43 @@
-use Rattle.std.proofs.Common.{◌≡◌, ℕ, List, [], length, map, sym, ap, subst, ◌∙◌, arith, eqb-true, vec_len}
-use Rattle.std.proofs.lemmas.List.{nil_from_length, with_items_is}
-use Rattle.bidi_base.specs.declared.char_data.BidiClass.{BidiClass}
+use Rattle.std.proofs.Common.{length, map, ap, ◌∙◌}
 use Rattle.bidi_base.specs.declared.char_data.BidiClass.TheVariants.{L}
-use Rattle.bidi_base.specs.Brackets.{bracket_pairs, AreNestedPairs}
-use Rattle.bidi_base.specs.Neutral.{n0}
+use Rattle.bidi_base.specs.Brackets.{bracket_pairs}
+use Rattle.bidi_base.specs.Places.{at_places}
 use Rattle.bidi_base.specs.Units.{bounds, kept_in_place}
-use Rattle.bidi_base.proofs.BracketRules.{n0-none}
-use Rattle.bidi_base.proofs.NestedPairs.{bracket_pairs-nested}
+use Rattle.bidi_base.proofs.ResolvedLemmas.{length-n0}
 use Rattle.bidi_rules.specs.NeutralPass.{values_of}
-use Rattle.bidi_rules.proofs.Gathered.{length-values_of}
+use Rattle.bidi_rules.proofs.Gathered.{AreGathered-brackets, AreGathered-length}
+use Rattle.bidi_rules.proofs.NeutralSteps.{long, IsPaired-written}
 use Rattle.bidi_rules.proofs.implicit.neutral.NeutralResolver.resolve_brackets.Goals as goal
 
-pub returns-then-is_empty : goal.returns-then-is_empty
-returns-then-is_empty g c =
-    let classes = c.args.self.now.classes.items in
-    λ brackets found.
-    let source = values_of L g.T.TextSource.units (g.T.TextSource.characters c.args.text) c.args.original_classes.now (kept_in_place g.T.TextSource.units (g.T.TextSource.characters c.args.text) c.args.processing_classes.now (map bounds c.args.runs.now)) in
-    let few : vec_len c.find_pairs.new.pairs ≡ 0 = eqb-true (vec_len c.find_pairs.new.pairs) 0 (sym c.is_empty.ensures ∙ c.if-is_empty.true) in
-    let none : c.find_pairs.new.pairs.items ≡ [] = nil_from_length c.find_pairs.new.pairs.items (omega (arith, few, c.find_pairs.new.pairs.ok)) in
-    let pairs : bracket_pairs classes brackets ≡ [] = sym (c.in_ok-find_pairs.ensures classes brackets (c.as_slice.ensures.value ∙ found)) ∙ none in
-    sym (ap (λ (ps : List (ℕ × ℕ)). n0 c.args.directions.embedding c.args.directions.sos source ps classes) pairs ∙ n0-none c.args.directions.embedding c.args.directions.sos source classes)
+pub gather-requires-clause-long : goal.gather-requires-clause-long
+gather-requires-clause-long g c = long g.T.TextSource.units g.met.T.TextSource.has_units (g.T.TextSource.characters c.args.text) c.args.runs.now c.args.directions.sos c.args.classes.now c.requires.ready
 
-pub resolve_pairs-requires-clause-lengths : goal.resolve_pairs-requires-clause-lengths
-resolve_pairs-requires-clause-lengths g c =
-    let len_of = g.T.TextSource.units in
-    let chars : List ℕ = g.T.TextSource.characters c.args.text in
-    let read = kept_in_place len_of chars c.args.processing_classes.now (map bounds c.args.runs.now) in
-    ap length (c.as_slice-2.ensures.value ∙ c.in_ok-gather_sources.ensures)
-    ∙ length-values_of len_of chars L c.args.original_classes.now read
-    ∙ sym c.requires.gathered
-    ∙ ap length (sym c.as_mut_slice.ensures.value)
+pub resolve_gathered-requires-clause-long : goal.resolve_gathered-requires-clause-long
+resolve_gathered-requires-clause-long g c = long g.T.TextSource.units g.met.T.TextSource.has_units (g.T.TextSource.characters c.args.text) c.args.runs.now c.args.directions.sos c.args.classes.now c.requires.ready
 
-pub resolve_pairs-requires-clause-pairs : goal.resolve_pairs-requires-clause-pairs
-resolve_pairs-requires-clause-pairs g c =
-    let classes = c.args.self.now.classes.items in
-    let found = c.requires.brackets in
-    subst (λ (ps : List (ℕ × ℕ)). AreNestedPairs (length c.as_mut_slice.result.now) ps) (sym (c.as_slice-3.ensures.value ∙ c.in_ok-find_pairs.ensures classes found.0 (c.as_slice.ensures.value ∙ found.2)))
-    (subst (λ (xs : List BidiClass). AreNestedPairs (length xs) (bracket_pairs classes found.0)) (sym c.as_mut_slice.ensures.value) (bracket_pairs-nested classes found.0 found.1))
+pub resolve_gathered-requires-clause-original : goal.resolve_gathered-requires-clause-original
+resolve_gathered-requires-clause-original g c = c.requires.original ∙ long g.T.TextSource.units g.met.T.TextSource.has_units (g.T.TextSource.characters c.args.text) c.args.runs.now c.args.directions.sos c.args.classes.now c.requires.ready
 
-pub returns : goal.returns
-returns g c =
-    let classes = c.args.self.now.classes.items in
-    let source = values_of L g.T.TextSource.units (g.T.TextSource.characters c.args.text) c.args.original_classes.now (kept_in_place g.T.TextSource.units (g.T.TextSource.characters c.args.text) c.args.processing_classes.now (map bounds c.args.runs.now)) in
-    λ brackets found.
-    with_items_is c.args.self.now.classes c.resolve_pairs.new.classes (c.resolve_pairs.auto.classes ∙ c.as_mut_slice.ensures.len)
-    ∙ c.resolve_pairs.ensures
-    ∙ ap (λ (source : List BidiClass). n0 c.args.directions.embedding c.args.directions.sos source c.as_slice-3.result.now c.as_mut_slice.result.now) (c.as_slice-2.ensures.value ∙ c.in_ok-gather_sources.ensures)
-    ∙ ap (λ (ps : List (ℕ × ℕ)). n0 c.args.directions.embedding c.args.directions.sos source ps c.as_mut_slice.result.now) (c.as_slice-3.ensures.value ∙ c.in_ok-find_pairs.ensures classes brackets (c.as_slice.ensures.value ∙ found))
-    ∙ ap (n0 c.args.directions.embedding c.args.directions.sos source (bracket_pairs classes brackets)) c.as_mut_slice.ensures.value
+pub resolve_gathered-requires-clause-gathered : goal.resolve_gathered-requires-clause-gathered
+resolve_gathered-requires-clause-gathered g c =
+    AreGathered-length g.T.TextSource.units (g.T.TextSource.characters c.args.text) (g.D.BidiDataSource.source c.args.data_source.now) c.args.classes.now (kept_in_place g.T.TextSource.units (g.T.TextSource.characters c.args.text) c.args.classes.now (map bounds c.args.runs.now)) c.gather.new.self.classes.items c.gather.new.self.brackets.items c.in_ok-gather.ensures
+
+pub resolve_gathered-requires-clause-brackets : goal.resolve_gathered-requires-clause-brackets
+resolve_gathered-requires-clause-brackets g c =
+    AreGathered-brackets g.T.TextSource.units (g.T.TextSource.characters c.args.text) (g.D.BidiDataSource.source c.args.data_source.now) c.args.classes.now (kept_in_place g.T.TextSource.units (g.T.TextSource.characters c.args.text) c.args.classes.now (map bounds c.args.runs.now)) c.gather.new.self.classes.items c.gather.new.self.brackets.items c.in_ok-gather.ensures
+
+pub write_back-requires-clause-resolved : goal.write_back-requires-clause-resolved
+write_back-requires-clause-resolved g c =
+    let read = kept_in_place g.T.TextSource.units (g.T.TextSource.characters c.args.text) c.args.classes.now (map bounds c.args.runs.now) in
+    let brackets = map (g.D.BidiDataSource.source c.args.data_source.now).bracket_of (at_places 0 (g.T.TextSource.characters c.args.text) read) in
+    ap length (c.as_slice.ensures.value ∙ c.in_ok-resolve_gathered.ensures brackets c.in_ok-gather.ensures.brackets_are)
+    ∙ length-n0 c.args.directions.embedding c.args.directions.sos (values_of L g.T.TextSource.units (g.T.TextSource.characters c.args.text) c.args.original_classes.now read) (bracket_pairs c.gather.new.self.classes.items brackets) c.gather.new.self.classes.items
+    ∙ AreGathered-length g.T.TextSource.units (g.T.TextSource.characters c.args.text) (g.D.BidiDataSource.source c.args.data_source.now) c.args.classes.now read c.gather.new.self.classes.items c.gather.new.self.brackets.items c.in_ok-gather.ensures
+
+pub returns-clause-paired : goal.returns-clause-paired
+returns-clause-paired g c =
+    let read = kept_in_place g.T.TextSource.units (g.T.TextSource.characters c.args.text) c.args.classes.now (map bounds c.args.runs.now) in
+    let brackets = map (g.D.BidiDataSource.source c.args.data_source.now).bracket_of (at_places 0 (g.T.TextSource.characters c.args.text) read) in
+    IsPaired-written g.T.TextSource.units g.met.T.TextSource.has_units (g.T.TextSource.characters c.args.text) (g.D.BidiDataSource.source c.args.data_source.now) c.args.original_classes.now c.args.classes.now c.args.runs.now c.args.directions.embedding c.args.directions.sos c.requires.ready c.requires.side
+    c.gather.new.self.classes.items c.as_slice.result.now c.write_back.new.classes c.in_ok-gather.ensures.classes_are
+    (c.as_slice.ensures.value ∙ c.in_ok-resolve_gathered.ensures brackets c.in_ok-gather.ensures.brackets_are) c.write_back.ensures

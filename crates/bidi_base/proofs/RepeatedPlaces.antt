@@ -1,0 +1,305 @@
+-- The units of some characters: what stands at them is what stands at the characters, repeated; and the units that a pass reads are those of the characters that it reads.
+use Rattle.std.proofs.Common.{◌≡◌, ◌≢◌, ◌⊎◌, subst, ℕ, zero, suc, ◌+◌, ◌-◌, ◌<◌, ◌≤◌, Bool, true, false, List, [], ◌∷◌, ◌++◌, length, map, get_or, replicate, refl, sym, ap, ◌∙◌, arith, inl, inr}
+use Rattle.std.specs.Prelude.{filter, flat_map}
+use Rattle.std.specs.List.{All, range_with_len}
+use Rattle.std.proofs.lemmas.Bool.{cases_Bool, cases_eq, cases_order, cond-true, cond-false}
+use Rattle.std.proofs.lemmas.Grind.{flat_map-append}
+use Rattle.std.proofs.lemmas.List.Elements.{All-nil, All-cons, All-head, All-tail, All-append, All-filter, filter-append}
+use Rattle.std.proofs.lemmas.List.{length-map, ext_get_or}
+use Rattle.bidi_base.specs.declared.char_data.BidiClass.{BidiClass}
+use Rattle.bidi_base.specs.declared.char_data.BidiClass.TheVariants.{L}
+use Rattle.bidi_base.specs.Classes.{is_kept_in_place}
+use Rattle.bidi_base.specs.Places.{between, class_at, at_places}
+use Rattle.bidi_base.specs.Text.{text_len, place, per_unit, per_char, IsPerChar, IsLine, char_index}
+use Rattle.bidi_base.specs.Units.{chars_in_runs, kept_in_place, units_in_runs, AreLines}
+use Rattle.bidi_base.proofs.ChainLemmas.{range_with_len-append}
+use Rattle.bidi_base.proofs.PlaceLemmas.{line_places, place-mono, place-more, unit_of}
+use Rattle.bidi_base.proofs.PerUnit.{length-per_unit, length-per_char, get_or-per_char, get_or-per_unit, get_or-per_unit-place}
+use Rattle.bidi_base.proofs.StoredLemmas.{length-at_places, at_places-append}
+use Rattle.bidi_base.proofs.TextLemmas.{HasUnits}
+use Rattle.bidi_base.proofs.Repeated.{HaveUnits, HaveUnits-every}
+
+-- the units of a character, and of some characters, by their indexes
+abbrev pub units_of_char : (ℕ → ℕ) → List ℕ → ℕ → List ℕ
+units_of_char len_of chars k = range_with_len (place len_of chars k) (len_of (get_or chars k 0))
+
+abbrev pub units_of_chars : (ℕ → ℕ) → List ℕ → List ℕ → List ℕ
+units_of_chars len_of chars ks = flat_map (units_of_char len_of chars) ks
+
+-- each index is one of a character
+abbrev pub AreIndexes : List ℕ → List ℕ → Type 0
+AreIndexes chars ks = All (λ k. k < length chars) ks
+
+-- ---- what stands there
+
+row_of : {X : Type 0} (d v : X) (units : List X) (u n : ℕ) → ((j : ℕ) → j < n → get_or units (u + j) d ≡ v) → at_places d units (range_with_len u n) ≡ replicate n v
+row_of d v units u zero each = refl
+row_of {X} d v units u (suc n) each =
+    let here : u ≡ u + 0 = omega arith in
+    ap (λ (x : X). x ∷ at_places d units (range_with_len (u + 1) n)) (ap (λ (p : ℕ). get_or units p d) here ∙ each 0 (omega arith))
+    ∙ ap (λ (xs : List X). v ∷ xs) (row_of d v units (u + 1) n (λ j below. let next : u + 1 + j ≡ u + suc j = omega arith in ap (λ (p : ℕ). get_or units p d) next ∙ each (suc j) (omega arith)))
+
+pub at_places-units : {X : Type 0} (d : X) (len_of : ℕ → ℕ) (chars : List ℕ) (values : List X) → length values ≡ length chars → (ks : List ℕ) → AreIndexes chars ks
+    → at_places d (per_unit len_of chars values) (units_of_chars len_of chars ks) ≡ per_unit len_of (at_places 0 chars ks) (at_places d values ks)
+at_places-units d len_of chars values long [] are = refl
+at_places-units {X} d len_of chars values long (k ∷ ks) are =
+    let units = per_unit len_of chars values in
+    at_places-append d units (units_of_char len_of chars k) (units_of_chars len_of chars ks)
+    ∙ ap (λ (xs : List X). xs ++ at_places d units (units_of_chars len_of chars ks))
+    (row_of d (get_or values k d) units (place len_of chars k) (len_of (get_or chars k 0)) (λ j below. get_or-per_unit len_of chars values k j 0 d long (All-head (λ (i : ℕ). i < length chars) k ks are) below))
+    ∙ ap (λ (xs : List X). replicate (len_of (get_or chars k 0)) (get_or values k d) ++ xs) (at_places-units d len_of chars values long ks (All-tail (λ (i : ℕ). i < length chars) k ks are))
+
+-- ---- and back: what a pass over units left there it left at the characters
+
+row_rest : {X : Type 0} (d w : X) (units xs ys : List X) (u n : ℕ) → at_places d units (range_with_len u n) ++ xs ≡ replicate n w ++ ys → xs ≡ ys
+row_rest d w units xs ys u zero e = e
+row_rest d w units xs ys u (suc n) e = row_rest d w units xs ys (u + 1) n (cc e)
+
+row_first : {X : Type 0} (d w : X) (units xs ys : List X) (u n : ℕ) → 1 ≤ n → at_places d units (range_with_len u n) ++ xs ≡ replicate n w ++ ys → get_or units u d ≡ w
+row_first d w units xs ys u zero some e = absurd (omega arith)
+row_first d w units xs ys u (suc n) some e = cc e
+
+pub at_places-from_units : {X : Type 0} (d : X) (len_of : ℕ → ℕ) → HasUnits len_of → (chars : List ℕ) (units : List X) (ks : List ℕ) (values : List X) → length values ≡ length ks
+    → at_places d units (units_of_chars len_of chars ks) ≡ per_unit len_of (at_places 0 chars ks) values → at_places d units (map (place len_of chars) ks) ≡ values
+at_places-from_units d len_of h chars units [] [] long e = refl
+at_places-from_units d len_of h chars units [] (v ∷ values) long e = absurd (omega arith)
+at_places-from_units d len_of h chars units (k ∷ ks) [] long e = absurd (omega arith)
+at_places-from_units {X} d len_of h chars units (k ∷ ks) (v ∷ values) long e =
+    let u = place len_of chars k in
+    let n = len_of (get_or chars k 0) in
+    let xs = at_places d units (units_of_chars len_of chars ks) in
+    let ys = per_unit len_of (at_places 0 chars ks) values in
+    let parts : at_places d units (range_with_len u n) ++ xs ≡ replicate n v ++ ys = sym (at_places-append d units (units_of_char len_of chars k) (units_of_chars len_of chars ks)) ∙ e in
+    ap (λ (x : X). x ∷ at_places d units (map (place len_of chars) ks)) (row_first d v units xs ys u n (h (get_or chars k 0)) parts)
+    ∙ ap (λ (vs : List X). v ∷ vs) (at_places-from_units d len_of h chars units ks values (omega arith) (row_rest d v units xs ys u n parts))
+
+row_each : {X : Type 0} (d w : X) (units xs ys : List X) (u n j : ℕ) → j < n → at_places d units (range_with_len u n) ++ xs ≡ replicate n w ++ ys → get_or units (u + j) d ≡ w
+row_each d w units xs ys u zero j below e = absurd (omega arith)
+row_each d w units xs ys u (suc n) zero below e = (let here : u + 0 ≡ u = omega arith in ap (λ (p : ℕ). get_or units p d) here) ∙ cc e
+row_each d w units xs ys u (suc n) (suc j) below e = (let next : u + suc j ≡ u + 1 + j = omega arith in ap (λ (p : ℕ). get_or units p d) next) ∙ row_each d w units xs ys (u + 1) n j (omega arith) (cc e)
+
+-- at each unit of the characters
+pub get_or-from_units : {X : Type 0} (d : X) (len_of : ℕ → ℕ) (chars : List ℕ) (units : List X) (ks : List ℕ) (values : List X) → length values ≡ length ks → at_places d units (units_of_chars len_of chars ks) ≡ per_unit len_of (at_places 0 chars ks) values
+    → (i j : ℕ) → i < length ks → j < len_of (get_or chars (get_or ks i 0) 0) → get_or units (place len_of chars (get_or ks i 0) + j) d ≡ get_or values i d
+get_or-from_units d len_of chars units [] values long e i j fits below = absurd (omega arith)
+get_or-from_units d len_of chars units (k ∷ ks) [] long e i j fits below = absurd (omega arith)
+get_or-from_units {X} d len_of chars units (k ∷ ks) (v ∷ values) long e zero j fits below =
+    row_each d v units (at_places d units (units_of_chars len_of chars ks)) (per_unit len_of (at_places 0 chars ks) values) (place len_of chars k) (len_of (get_or chars k 0)) j below
+    (sym (at_places-append d units (units_of_char len_of chars k) (units_of_chars len_of chars ks)) ∙ e)
+get_or-from_units {X} d len_of chars units (k ∷ ks) (v ∷ values) long e (suc i) j fits below =
+    get_or-from_units d len_of chars units ks values (omega arith)
+    (row_rest d v units (at_places d units (units_of_chars len_of chars ks)) (per_unit len_of (at_places 0 chars ks) values) (place len_of chars k) (len_of (get_or chars k 0))
+    (sym (at_places-append d units (units_of_char len_of chars k) (units_of_chars len_of chars ks)) ∙ e))
+    i j (omega arith) below
+
+-- ---- where nothing else is written, the units of each character stay alike
+
+-- the index stands in the list, or is none of it
+among : (k : ℕ) (ks : List ℕ) → ((i : ℕ) × (i < length ks) × (get_or ks i 0 ≡ k)) ⊎ All (λ q. q ≢ k) ks
+among k [] = inr (All-nil (λ (q : ℕ). q ≢ k))
+among k (q ∷ ks) = elim (cases_eq q k) [
+  | inl same ↦ inl (0, omega arith, same)
+  | inr other ↦ elim (among k ks) [
+    | inl w ↦ inl (suc w.0, omega (arith, w.1), w.2)
+    | inr none ↦ inr (All-cons (λ (q : ℕ). q ≢ k) q ks other none)
+  ]
+]
+
+row_without : (p u n : ℕ) → (p < u) ⊎ (u + n ≤ p) → All (λ q. q ≢ p) (range_with_len u n)
+row_without p u zero out = All-nil (λ (q : ℕ). q ≢ p)
+row_without p u (suc n) (inl below) = All-cons (λ (q : ℕ). q ≢ p) u (range_with_len (u + 1) n) (λ same. omega arith) (row_without p (u + 1) n (inl (omega arith)))
+row_without p u (suc n) (inr above) = All-cons (λ (q : ℕ). q ≢ p) u (range_with_len (u + 1) n) (λ same. omega arith) (row_without p (u + 1) n (inr (omega arith)))
+
+-- the units of a character are not those of others
+units_without : (len_of : ℕ → ℕ) (chars : List ℕ) (k j : ℕ) → k < length chars → j < len_of (get_or chars k 0) → (ks : List ℕ) → AreIndexes chars ks → All (λ q. q ≢ k) ks → All (λ q. q ≢ place len_of chars k + j) (units_of_chars len_of chars ks)
+units_without len_of chars k j fits below [] are none = All-nil (λ (q : ℕ). q ≢ place len_of chars k + j)
+units_without len_of chars k j fits below (q ∷ ks) are none =
+    let within = All-head (λ (i : ℕ). i < length chars) q ks are in
+    let other = All-head (λ (i : ℕ). i ≢ k) q ks none in
+    let own : place len_of chars (k + 1) ≡ place len_of chars k + len_of (get_or chars k 0) = place-more len_of chars k 0 fits in
+    let theirs : place len_of chars (q + 1) ≡ place len_of chars q + len_of (get_or chars q 0) = place-more len_of chars q 0 within in
+    let out : (place len_of chars k + j < place len_of chars q) ⊎ (place len_of chars q + len_of (get_or chars q 0) ≤ place len_of chars k + j) =
+    elim (cases_order q k) [
+      | inl same ↦ absurd (other same)
+      | inr apart ↦ elim apart [
+        | inl less ↦ let order = place-mono len_of chars (q + 1) k (omega arith) in inr (omega arith)
+        | inr more ↦ let order = place-mono len_of chars (k + 1) q (omega arith) in inl (omega arith)
+      ]
+    ] in
+    All-append (λ (p : ℕ). p ≢ place len_of chars k + j) (units_of_char len_of chars q) (units_of_chars len_of chars ks) (row_without (place len_of chars k + j) (place len_of chars q) (len_of (get_or chars q 0)) out)
+    (units_without len_of chars k j fits below ks (All-tail (λ (i : ℕ). i < length chars) q ks are) (All-tail (λ (i : ℕ). i ≢ k) q ks none))
+
+pub IsPerChar-units : {X : Type 0} (d : X) (len_of : ℕ → ℕ) → HasUnits len_of → (chars : List ℕ) (values new : List X) (ks : List ℕ) (answers : List X) → length values ≡ length chars → AreIndexes chars ks → length answers ≡ length ks
+    → length new ≡ text_len len_of chars → at_places d new (units_of_chars len_of chars ks) ≡ per_unit len_of (at_places 0 chars ks) answers
+    → ((u : ℕ) → All (λ q. q ≢ u) (units_of_chars len_of chars ks) → get_or new u d ≡ get_or (per_unit len_of chars values) u d) → IsPerChar len_of chars new
+IsPerChar-units {X} d len_of h chars values new ks answers long are many size e stays =
+    let now = per_char d len_of chars new in
+    let count : length now ≡ length chars = length-per_char d len_of chars new in
+    let whole : length (per_unit len_of chars now) ≡ text_len len_of chars = length-per_unit len_of chars now count in (
+      now,
+      count,
+      ext_get_or d new (per_unit len_of chars now) (omega arith) (λ u below.
+          let w = unit_of len_of chars u (omega arith) in
+          ap (λ (p : ℕ). get_or new p d) w.at_place
+          ∙ alike w.index w.offset w.within w.below
+          ∙ sym (get_or-per_char d len_of chars new w.index d w.within)
+          ∙ sym (get_or-per_unit len_of chars now w.index w.offset 0 d count w.within w.below)
+          ∙ sym (ap (λ (p : ℕ). get_or (per_unit len_of chars now) p d) w.at_place)),
+    )
+  where
+    alike : (k j : ℕ) → k < length chars → j < len_of (get_or chars k 0) → get_or new (place len_of chars k + j) d ≡ get_or new (place len_of chars k) d
+    alike k j fits below =
+        let first : place len_of chars k + 0 ≡ place len_of chars k = omega arith in
+        let some = h (get_or chars k 0) in
+        elim (among k ks) [
+          | inl w ↦
+              let each : (j : ℕ) → j < len_of (get_or chars k 0) → get_or new (place len_of chars k + j) d ≡ get_or answers w.0 d =
+              subst (λ (q : ℕ). (j : ℕ) → j < len_of (get_or chars q 0) → get_or new (place len_of chars q + j) d ≡ get_or answers w.0 d) w.2 (λ j. get_or-from_units d len_of chars new ks answers many e w.0 j w.1) in
+              each j below ∙ sym (each 0 (omega arith)) ∙ ap (λ (p : ℕ). get_or new p d) first
+          | inr none ↦
+              let each : (j : ℕ) → j < len_of (get_or chars k 0) → get_or new (place len_of chars k + j) d ≡ get_or values k d =
+              λ j below. stays (place len_of chars k + j) (units_without len_of chars k j fits below ks are none) ∙ get_or-per_unit len_of chars values k j 0 d long fits below in
+              each j below ∙ sym (each 0 (omega arith)) ∙ ap (λ (p : ℕ). get_or new p d) first
+        ]
+
+-- ---- the units that are read
+
+filter_all : (test : ℕ → Bool) (u n : ℕ) → ((j : ℕ) → j < n → test (u + j) ≡ true) → filter test (range_with_len u n) ≡ range_with_len u n
+filter_all test u zero each = refl
+filter_all test u (suc n) each =
+    let here : test u ≡ true = (let same : u ≡ u + 0 = omega arith in ap test same) ∙ each 0 (omega arith) in
+    let rest = filter test (range_with_len (u + 1) n) in
+    cond-true (test u) (u ∷ rest) rest here
+    ∙ ap {B = List ℕ} (λ us. u ∷ us) (filter_all test (u + 1) n (λ j below. let next : u + 1 + j ≡ u + suc j = omega arith in ap test next ∙ each (suc j) (omega arith)))
+
+filter_none : (test : ℕ → Bool) (u n : ℕ) → ((j : ℕ) → j < n → test (u + j) ≡ false) → filter test (range_with_len u n) ≡ []
+filter_none test u zero each = refl
+filter_none test u (suc n) each =
+    let here : test u ≡ false = (let same : u ≡ u + 0 = omega arith in ap test same) ∙ each 0 (omega arith) in
+    let rest = filter test (range_with_len (u + 1) n) in
+    cond-false (test u) (u ∷ rest) rest here
+    ∙ filter_none test (u + 1) n (λ j below. let next : u + 1 + j ≡ u + suc j = omega arith in ap test next ∙ each (suc j) (omega arith))
+
+module _ (len_of : ℕ → ℕ) (h : HasUnits len_of) (chars : List ℕ) (values : List BidiClass) (long : length values ≡ length chars) where
+  abbrev reads : ℕ → Bool
+  reads u = is_kept_in_place (class_at (per_unit len_of chars values) u)
+
+  abbrev reads_char : ℕ → Bool
+  reads_char k = reads (place len_of chars k)
+
+  -- of the n characters from i on
+  in_line : (i n : ℕ) → i + n ≤ length chars → filter reads (between (place len_of chars i) (place len_of chars (i + n))) ≡ units_of_chars len_of chars (filter reads_char (range_with_len i n))
+  in_line i zero fits =
+      let same : i + 0 ≡ i = omega arith in
+      let none : place len_of chars (i + 0) - place len_of chars i ≡ 0 = omega (arith, ap (place len_of chars) same) in
+      ap (λ m. filter reads (range_with_len (place len_of chars i) m)) none
+  in_line i (suc n) fits =
+      let a = place len_of chars i in
+      let m = len_of (get_or chars i 0) in
+      let next : i + 1 + n ≡ i + suc n = omega arith in
+      let order = place-mono len_of chars (i + 1) (i + suc n) (omega arith) in
+      let step : place len_of chars (i + 1) ≡ a + m = place-more len_of chars i 0 (omega arith) in
+      let later = filter reads_char (range_with_len (i + 1) n) in
+      let end = place len_of chars (i + suc n) in
+      let count : end - a ≡ m + (end - (a + m)) = omega arith in
+      let rest : filter reads (range_with_len (a + m) (end - (a + m))) ≡ units_of_chars len_of chars later =
+      ap (λ u. filter reads (between u end)) (sym step) ∙ ap (λ k. filter reads (between (place len_of chars (i + 1)) (place len_of chars k))) (sym next) ∙ in_line (i + 1) n (omega arith)
+      in
+      let one : (j : ℕ) → j < m → class_at (per_unit len_of chars values) (a + j) ≡ class_at (per_unit len_of chars values) a =
+      λ j below. get_or-per_unit len_of chars values i j 0 L long (omega arith) below ∙ sym (get_or-per_unit-place len_of h chars values i L long (omega arith))
+      in
+      ap (λ k. filter reads (range_with_len a k)) count
+      ∙ ap (filter reads) (range_with_len-append a m (end - (a + m)))
+      ∙ filter-append reads (range_with_len a m) (range_with_len (a + m) (end - (a + m)))
+      ∙ elim (cases_Bool (reads a)) [
+        | inl yes' ↦
+            ap (λ (us : List ℕ). us ++ filter reads (range_with_len (a + m) (end - (a + m)))) (filter_all reads a m (λ j below. ap is_kept_in_place (one j below) ∙ yes'))
+            ∙ ap (λ (us : List ℕ). range_with_len a m ++ us) rest
+            ∙ ap (units_of_chars len_of chars) (sym (cond-true (reads a) (i ∷ later) later yes'))
+        | inr no' ↦
+            ap (λ (us : List ℕ). us ++ filter reads (range_with_len (a + m) (end - (a + m)))) (filter_none reads a m (λ j below. ap is_kept_in_place (one j below) ∙ no'))
+            ∙ rest
+            ∙ ap (units_of_chars len_of chars) (sym (cond-false (reads a) (i ∷ later) later no'))
+      ]
+
+  pub read_units-is : (runs : List (ℕ × ℕ)) → AreLines len_of chars runs → filter (λ u. is_kept_in_place (class_at (per_unit len_of chars values) u)) (units_in_runs runs) ≡ units_of_chars len_of chars (kept_in_place len_of chars (per_unit len_of chars values) runs)
+  unfolding kept_in_place chars_in_runs
+  read_units-is [] lines = refl
+  read_units-is (r ∷ runs) lines =
+      let i = char_index len_of chars r.0 in
+      let j = char_index len_of chars r.1 in
+      let line = All-head (λ (q : ℕ × ℕ). IsLine len_of chars q.0 q.1) r runs lines in
+      let w = line_places len_of h chars r.0 r.1 line in
+      let whole : i + (j - i) ≡ j = omega (arith, w.ordered) in
+      filter-append reads (between r.0 r.1) (units_in_runs runs)
+      ∙ ap (λ (us : List ℕ). us ++ filter reads (units_in_runs runs))
+      (ap (λ u. filter reads (between u r.1)) w.begins
+      ∙ ap (λ u. filter reads (between (place len_of chars i) u)) (w.ends ∙ ap (place len_of chars) (sym whole))
+      ∙ in_line i (j - i) (omega (arith, w.within)))
+      ∙ ap (λ (us : List ℕ). units_of_chars len_of chars (filter reads_char (between i j)) ++ us) (read_units-is runs (All-tail (λ (q : ℕ × ℕ). IsLine len_of chars q.0 q.1) r runs lines))
+      ∙ sym (flat_map-append (units_of_char len_of chars) (filter reads_char (between i j)) (filter reads_char (chars_in_runs len_of chars runs)))
+      ∙ ap (units_of_chars len_of chars) (sym (filter-append reads_char (between i j) (chars_in_runs len_of chars runs)))
+
+  -- ---- a pass over the units that are read
+
+  range_below : (low n high : ℕ) → low + n ≤ high → All (λ k. k < high) (range_with_len low n)
+  range_below low zero high order = All-nil (λ (k : ℕ). k < high)
+  range_below low (suc n) high order = All-cons (λ (k : ℕ). k < high) low (range_with_len (low + 1) n) (omega arith) (range_below (low + 1) n high (omega arith))
+
+  pub kept_in_place-AreIndexes : (runs : List (ℕ × ℕ)) → AreLines len_of chars runs → AreIndexes chars (kept_in_place len_of chars (per_unit len_of chars values) runs)
+  unfolding kept_in_place chars_in_runs
+  kept_in_place-AreIndexes runs lines = All-filter reads_char (λ (k : ℕ). k < length chars) (chars_in_runs len_of chars runs) (in_runs_below runs lines)
+    where
+      in_runs_below : (runs : List (ℕ × ℕ)) → AreLines len_of chars runs → All (λ k. k < length chars) (chars_in_runs len_of chars runs)
+      in_runs_below [] lines = All-nil (λ (k : ℕ). k < length chars)
+      in_runs_below (r ∷ runs) lines =
+          let i = char_index len_of chars r.0 in
+          let j = char_index len_of chars r.1 in
+          let w = line_places len_of h chars r.0 r.1 (All-head (λ (q : ℕ × ℕ). IsLine len_of chars q.0 q.1) r runs lines) in
+          All-append (λ (k : ℕ). k < length chars) (between i j) (chars_in_runs len_of chars runs) (range_below i (j - i) (length chars) (omega (arith, w.ordered, w.within)))
+          (in_runs_below runs (All-tail (λ (q : ℕ × ℕ). IsLine len_of chars q.0 q.1) r runs lines))
+
+  module _ (runs : List (ℕ × ℕ)) (lines : AreLines len_of chars runs) where
+    -- the classes at the units that are read, of the list before the pass, are those at the characters, repeated
+    pub read_units-old : at_places L (per_unit len_of chars values) (filter (λ u. is_kept_in_place (class_at (per_unit len_of chars values) u)) (units_in_runs runs))
+        ≡ per_unit len_of (at_places 0 chars (kept_in_place len_of chars (per_unit len_of chars values) runs))
+        (at_places L (per_unit len_of chars values) (map (place len_of chars) (kept_in_place len_of chars (per_unit len_of chars values) runs)))
+    read_units-old =
+        let units = per_unit len_of chars values in
+        let ks = kept_in_place len_of chars units runs in
+        let at_units = at_places-units L len_of chars values long ks (kept_in_place-AreIndexes runs lines) in
+        let own : at_places L units (map (place len_of chars) ks) ≡ at_places L values ks = at_places-from_units L len_of h chars units ks (at_places L values ks) (length-at_places L values ks) at_units in
+        ap (at_places L units) (read_units-is runs lines) ∙ at_units ∙ ap (per_unit len_of (at_places 0 chars ks)) (sym own)
+
+    -- where the pass leaves the answers of the characters at their units, it leaves them at the characters
+    pub read_units-new : (new answers : List BidiClass) → length answers ≡ length (kept_in_place len_of chars (per_unit len_of chars values) runs)
+        → at_places L new (filter (λ u. is_kept_in_place (class_at (per_unit len_of chars values) u)) (units_in_runs runs)) ≡ per_unit len_of (at_places 0 chars (kept_in_place len_of chars (per_unit len_of chars values) runs)) answers
+        → at_places L new (map (place len_of chars) (kept_in_place len_of chars (per_unit len_of chars values) runs)) ≡ answers
+    read_units-new new answers many e =
+        let ks = kept_in_place len_of chars (per_unit len_of chars values) runs in
+        at_places-from_units L len_of h chars new ks answers many (ap (at_places L new) (sym (read_units-is runs lines)) ∙ e)
+
+    -- and where it writes nothing else, each character has one class still
+    pub read_units-per_char : (new answers : List BidiClass) → length answers ≡ length (kept_in_place len_of chars (per_unit len_of chars values) runs) → length new ≡ text_len len_of chars
+        → (let us = filter (λ u. is_kept_in_place (class_at (per_unit len_of chars values) u)) (units_in_runs runs) in at_places L new us ≡ per_unit len_of (at_places 0 chars (kept_in_place len_of chars (per_unit len_of chars values) runs)) answers)
+        → ((u : ℕ) → All (λ q. q ≢ u) (filter (λ u. is_kept_in_place (class_at (per_unit len_of chars values) u)) (units_in_runs runs)) → class_at new u ≡ class_at (per_unit len_of chars values) u) → IsPerChar len_of chars new
+    read_units-per_char new answers many size e stays =
+        let ks = kept_in_place len_of chars (per_unit len_of chars values) runs in
+        let same = read_units-is runs lines in
+        IsPerChar-units L len_of h chars values new ks answers long (kept_in_place-AreIndexes runs lines) many size (ap (at_places L new) (sym same) ∙ e)
+        (λ u none. stays u (subst (All (λ (q : ℕ). q ≢ u)) (sym same) none))
+
+    -- so a rule that commutes with repetition may run over the units
+    pub read_units-rule : (rule : List BidiClass → List BidiClass) → ((cs : List BidiClass) → length (rule cs) ≡ length cs)
+        → ((ds : List ℕ) (cs : List BidiClass) → HaveUnits len_of ds → length cs ≡ length ds → rule (per_unit len_of ds cs) ≡ per_unit len_of ds (rule cs))
+        → (new : List BidiClass)
+        → (let us = filter (λ u. is_kept_in_place (class_at (per_unit len_of chars values) u)) (units_in_runs runs) in at_places L new us ≡ rule (at_places L (per_unit len_of chars values) us))
+        → (let places = map (place len_of chars) (kept_in_place len_of chars (per_unit len_of chars values) runs) in at_places L new places ≡ rule (at_places L (per_unit len_of chars values) places))
+    read_units-rule rule keeps commutes new e =
+        let units = per_unit len_of chars values in
+        let ks = kept_in_place len_of chars units runs in
+        let ds = at_places 0 chars ks in
+        let cs = at_places L units (map (place len_of chars) ks) in
+        let many : length cs ≡ length ks = length-at_places L units (map (place len_of chars) ks) ∙ length-map ks (place len_of chars) in
+        read_units-new new (rule cs) (keeps cs ∙ many)
+        (e ∙ ap rule read_units-old ∙ commutes ds cs (HaveUnits-every len_of h ds) (many ∙ sym (length-at_places 0 chars ks)))

@@ -1,0 +1,174 @@
+-- The units of a sequence that are not BN: those that a pass over units reads, and the characters that they belong to.
+use Rattle.std.proofs.Common.{◌≡◌, ◌≢◌, ℕ, zero, suc, ◌+◌, ◌-◌, ◌<◌, ◌≤◌, Bool, true, false, ◌&&◌, ◌||◌, List, [], ◌∷◌, ◌++◌, length, map, replicate, refl, sym, ap, subst, ◌∙◌, arith, inl, inr}
+use Rattle.std.specs.Prelude.{filter, All}
+use Rattle.std.specs.List.{list_all, range_with_len}
+use Rattle.std.proofs.lemmas.Bool.{cases_Bool, cases_lt, cond-true, cond-false, and_parts, and_from, and_left}
+use Rattle.std.proofs.lemmas.List.{length-map}
+use Rattle.std.proofs.lemmas.List.Elements.{All-head, All-tail, filter-append, filter_agree}
+use Rattle.std.proofs.lemmas.List.Folds.{list_all-append}
+use Rattle.bidi_base.specs.declared.char_data.BidiClass.{BidiClass}
+use Rattle.bidi_base.specs.declared.char_data.BidiClass.TheVariants.{L}
+use Rattle.bidi_base.specs.Classes.{is_kept_in_place}
+use Rattle.bidi_base.specs.Places.{at_places, between, class_at}
+use Rattle.bidi_base.specs.Text.{place, per_unit, IsPerChar}
+use Rattle.bidi_base.specs.Units.{are_ordered_from, are_ordered, chars_in_runs, in_runs, kept_in_place, units_in_runs, AreLines}
+use Rattle.bidi_base.proofs.Repeated.{HaveUnits, HaveUnits-every}
+use Rattle.bidi_base.proofs.RepeatedPlaces.{read_units-old, read_units-rule, read_units-per_char}
+use Rattle.bidi_base.proofs.StoredLemmas.{length-at_places, at_places-append}
+use Rattle.bidi_base.proofs.TextLemmas.{HasUnits}
+use Rattle.bidi_base.proofs.UnitsLemmas.{length-from_IsPerChar}
+use Rattle.bidi_rules.specs.NeutralPass.{seen_units}
+use Rattle.bidi_rules.specs.WeakWalk.{is_seen}
+use Rattle.bidi_rules.proofs.InRuns.{in_run-inside, in_run-above, gap_before}
+use Rattle.bidi_rules.proofs.Marks.{marked, marked-none, marked-parts, marked-empty, marked-one}
+use Rattle.bidi_rules.proofs.PassOverText.{in_runs-within}
+use Rattle.bidi_rules.proofs.WalkLemmas.{are_ordered-front, are_ordered-lower}
+
+-- two tests that agree in a range keep the same units
+same_counted : (t u : ℕ → Bool) (low n : ℕ) → ((k : ℕ) → low ≤ k → k < low + n → t k ≡ u k) → filter t (range_with_len low n) ≡ filter u (range_with_len low n)
+same_counted t u low zero h = refl
+same_counted t u low (suc n) h =
+    let ts = filter t (range_with_len (low + 1) n) in
+    let us = filter u (range_with_len (low + 1) n) in
+    let rest : ts ≡ us = same_counted t u (low + 1) n (λ k from below. h k (omega arith) (omega arith)) in
+    let here = h low (omega arith) (omega arith) in
+    elim (cases_Bool (t low)) [
+      | inl yes' ↦ cond-true (t low) (low ∷ ts) ts yes' ∙ ap (λ (xs : List ℕ). low ∷ xs) rest ∙ sym (cond-true (u low) (low ∷ us) us (sym here ∙ yes'))
+      | inr no' ↦ cond-false (t low) (low ∷ ts) ts no' ∙ rest ∙ sym (cond-false (u low) (low ∷ us) us (sym here ∙ no'))
+    ]
+
+marked-alike : (t u : ℕ → Bool) (low high : ℕ) → ((k : ℕ) → low ≤ k → k < high → t k ≡ u k) → marked t low high ≡ marked u low high
+marked-alike t u low high h = elim (cases_lt low high) [
+  | inl some ↦ same_counted t u low (high - low) (λ k from below. h k from (omega arith))
+  | inr none ↦ marked-none t low high none ∙ sym (marked-none u low high none)
+]
+
+all_behind : (P : ℕ → Type 0) (xs ys : List ℕ) → All P (xs ++ ys) → All P ys
+all_behind P [] ys a = a
+all_behind P (x ∷ xs) ys a = all_behind P xs ys (All-tail P x (xs ++ ys) a)
+
+module _ (units : List BidiClass) where
+  abbrev kept_at : ℕ → Bool
+  kept_at u = is_kept_in_place (class_at units u)
+
+  seen-from : (low : ℕ) (runs : List (ℕ × ℕ)) → low ≤ length units → are_ordered_from low runs ≡ true → All (λ r. r.1 ≤ length units) runs → marked (is_seen runs units) low (length units) ≡ filter kept_at (units_in_runs runs)
+  seen-from low [] fits ordered within = marked-empty (is_seen [] units) low (length units) (λ k from below. refl)
+  seen-from low (r ∷ runs) fits ordered within =
+      let f = are_ordered-front low r runs ordered in
+      let from = f.from in
+      let some = f.not_empty in
+      let end : r.1 ≤ length units = All-head (λ (q : ℕ × ℕ). q.1 ≤ length units) r runs within in
+      let all = is_seen (r ∷ runs) units in
+      let rest : marked all r.1 (length units) ≡ filter kept_at (units_in_runs runs) =
+      marked-alike all (is_seen runs units) r.1 (length units) (λ k a b. ap (λ t. (t || in_runs runs k) && kept_at k) (in_run-above r k a))
+      ∙ seen-from r.1 runs end f.later (All-tail (λ (q : ℕ × ℕ). q.1 ≤ length units) r runs within) in
+      let inside : marked all r.0 r.1 ≡ filter kept_at (between r.0 r.1) = marked-alike all kept_at r.0 r.1 (λ k a b. ap (λ t. (t || in_runs runs k) && kept_at k) (in_run-inside r k a b)) in
+      let before : marked all low r.0 ≡ [] = marked-empty all low r.0 (λ k a b. and_left (in_runs (r ∷ runs) k) (kept_at k) (gap_before 0 (r ∷ runs) k (length units) (lowered low (r ∷ runs) ordered) b)) in
+      marked-parts all low r.0 (length units) from (omega arith)
+      ∙ ap (λ (us : List ℕ). us ++ marked all r.0 (length units)) before
+      ∙ marked-parts all r.0 r.1 (length units) (omega arith) end
+      ∙ ap (λ (us : List ℕ). us ++ marked all r.1 (length units)) inside
+      ∙ ap (λ (us : List ℕ). filter kept_at (between r.0 r.1) ++ us) rest
+      ∙ sym (filter-append kept_at (between r.0 r.1) (units_in_runs runs))
+    where
+      lowered : (low : ℕ) (runs : List (ℕ × ℕ)) → are_ordered_from low runs ≡ true → are_ordered_from 0 runs ≡ true
+      lowered low runs h = are_ordered-lower 0 low runs (omega arith) h
+
+  pub seen_units-is : (runs : List (ℕ × ℕ)) → are_ordered runs ≡ true → All (λ r. r.1 ≤ length units) runs → seen_units runs units ≡ filter kept_at (units_in_runs runs)
+  seen_units-is runs ordered within = seen-from 0 runs (omega arith) ordered within
+
+  -- one of them stands behind those below it
+  pub seen_at : (runs : List (ℕ × ℕ)) (u : ℕ) → u < length units → is_seen runs units u ≡ true
+      → seen_units runs units ≡ marked (is_seen runs units) 0 u ++ u ∷ marked (is_seen runs units) (u + 1) (length units)
+  seen_at runs u fits here =
+      let mark = is_seen runs units in
+      let one = marked-one mark u (u + 1) (omega arith) here (λ k a b. absurd (omega arith)) in
+      marked-parts mark 0 u (length units) (omega arith) (omega arith)
+      ∙ ap (λ (us : List ℕ). marked mark 0 u ++ us) (marked-parts mark u (u + 1) (length units) (omega arith) (omega arith) ∙ ap (λ (us : List ℕ). us ++ marked mark (u + 1) (length units)) one)
+
+  -- a unit that differs from all of them is none of them
+  not_seen : (runs : List (ℕ × ℕ)) (u : ℕ) → u < length units → All (λ q. q ≢ u) (seen_units runs units) → is_seen runs units u ≡ false
+  not_seen runs u fits differ = elim (cases_Bool (is_seen runs units u)) [
+    | inl yes' ↦
+        let below = marked (is_seen runs units) 0 u in
+        let above = marked (is_seen runs units) (u + 1) (length units) in
+        let here = all_behind (λ q. q ≢ u) below (u ∷ above) (subst (All (λ q. q ≢ u)) (seen_at runs u fits yes') differ) in
+        absurd (All-head (λ q. q ≢ u) u above here refl)
+    | inr no' ↦ no'
+  ]
+
+-- what reads the same as kept keeps the same characters
+pub kept_in_place-alike : (len_of : ℕ → ℕ) (chars : List ℕ) (old new : List BidiClass) (runs : List (ℕ × ℕ)) → ((u : ℕ) → is_kept_in_place (class_at new u) ≡ is_kept_in_place (class_at old u))
+    → kept_in_place len_of chars new runs ≡ kept_in_place len_of chars old runs
+unfolding kept_in_place
+kept_in_place-alike len_of chars old new runs same =
+    filter_agree (λ k. is_kept_in_place (class_at new (place len_of chars k))) (λ k. is_kept_in_place (class_at old (place len_of chars k))) (λ k. same (place len_of chars k)) (chars_in_runs len_of chars runs)
+
+-- a rule that commutes with repetition was applied to the units that are seen, and nothing else was written
+module _ (len_of : ℕ → ℕ) (h : HasUnits len_of) (chars : List ℕ) (old : List BidiClass) (per : IsPerChar len_of chars old) (runs : List (ℕ × ℕ)) (lines : AreLines len_of chars runs) (ordered : are_ordered runs ≡ true)
+    (within : All (λ r. r.1 ≤ length old) runs) (rule : List BidiClass → List BidiClass) (keeps : (cs : List BidiClass) → length (rule cs) ≡ length cs)
+    (commutes : (ds : List ℕ) (cs : List BidiClass) → HaveUnits len_of ds → length cs ≡ length ds → rule (per_unit len_of ds cs) ≡ per_unit len_of ds (rule cs))
+    (new : List BidiClass) (is : at_places L new (seen_units runs old) ≡ rule (at_places L old (seen_units runs old))) where
+  abbrev seen_of : List BidiClass → List ℕ
+  seen_of us = filter (λ u. is_kept_in_place (class_at us u)) (units_in_runs runs)
+
+  over_units : at_places L new (seen_of (per_unit len_of chars per.0)) ≡ rule (at_places L (per_unit len_of chars per.0) (seen_of (per_unit len_of chars per.0)))
+  over_units = subst (λ (us : List BidiClass). at_places L new (seen_of us) ≡ rule (at_places L us (seen_of us))) per.2
+      (subst (λ (ps : List ℕ). at_places L new ps ≡ rule (at_places L old ps)) (seen_units-is old runs ordered within) is)
+
+  pub ruled-places : (let places = map (place len_of chars) (kept_in_place len_of chars old runs) in at_places L new places ≡ rule (at_places L old places))
+  ruled-places =
+      subst (λ (us : List BidiClass). let places = map (place len_of chars) (kept_in_place len_of chars us runs) in at_places L new places ≡ rule (at_places L us places)) (sym per.2)
+      (read_units-rule len_of h chars per.0 per.1 runs lines rule keeps commutes new over_units)
+
+  pub ruled-IsPerChar : length new ≡ length old → ((u : ℕ) → is_seen runs old u ≡ false → class_at new u ≡ class_at old u) → IsPerChar len_of chars new
+  ruled-IsPerChar long others =
+      let units = per_unit len_of chars per.0 in
+      let size = length-from_IsPerChar len_of chars old per in
+      let ks = kept_in_place len_of chars units runs in
+      let ds = at_places 0 chars ks in
+      let cs = at_places L units (map (place len_of chars) ks) in
+      let many : length cs ≡ length ks = length-at_places L units (map (place len_of chars) ks) ∙ length-map ks (place len_of chars) in
+      read_units-per_char len_of h chars per.0 per.1 runs lines new (rule cs) (keeps cs ∙ many) (long ∙ size)
+      (over_units ∙ ap rule (read_units-old len_of h chars per.0 per.1 runs lines) ∙ commutes ds cs (HaveUnits-every len_of h ds) (many ∙ sym (length-at_places 0 chars ks)))
+      (λ u differ. others u (stays u (subst (λ (us : List BidiClass). All (λ q. q ≢ u) (seen_of us)) (sym per.2) differ)) ∙ ap (λ (us : List BidiClass). class_at us u) per.2)
+    where
+      stays : (u : ℕ) → All (λ q. q ≢ u) (seen_of old) → is_seen runs old u ≡ false
+      stays u differ = elim (cases_lt u (length old)) [
+        | inl inside ↦ not_seen old runs u inside (subst (All (λ q. q ≢ u)) (sym (seen_units-is old runs ordered within)) differ)
+        | inr past ↦ elim (cases_Bool (is_seen runs old u)) [
+          | inl yes' ↦
+              absurd (omega (arith, past, length-from_IsPerChar len_of chars old per, in_runs-within len_of h chars runs lines u (and_parts (in_runs runs u) (is_kept_in_place (class_at old u)) yes').0))
+          | inr no' ↦ no'
+        ]
+      ]
+
+-- a test that holds of the classes of the characters holds of those of their units
+all_replicate : (test : BidiClass → Bool) (n : ℕ) (c : BidiClass) → test c ≡ true → list_all test (replicate n c) ≡ true
+all_replicate test zero c h = refl
+all_replicate test (suc n) c h = and_from (test c) (list_all test (replicate n c)) h (all_replicate test n c h)
+
+all_units : (test : BidiClass → Bool) (len_of : ℕ → ℕ) (chars : List ℕ) (cs : List BidiClass) → list_all test cs ≡ true → list_all test (per_unit len_of chars cs) ≡ true
+all_units test len_of [] cs h = refl
+all_units test len_of (d ∷ ds) [] h = refl
+all_units test len_of (d ∷ ds) (c ∷ cs) h =
+    let parts = and_parts (test c) (list_all test cs) h in
+    list_all-append test (replicate (len_of d) c) (per_unit len_of ds cs)
+    ∙ and_from (list_all test (replicate (len_of d) c)) (list_all test (per_unit len_of ds cs)) (all_replicate test (len_of d) c parts.0) (all_units test len_of ds cs parts.1)
+
+pub seen-every : (len_of : ℕ → ℕ) (h : HasUnits len_of) (chars : List ℕ) (units : List BidiClass) → IsPerChar len_of chars units → (runs : List (ℕ × ℕ)) → AreLines len_of chars runs → are_ordered runs ≡ true
+    → All (λ r. r.1 ≤ length units) runs → (test : BidiClass → Bool) → list_all test (at_places L units (map (place len_of chars) (kept_in_place len_of chars units runs))) ≡ true
+    → (u : ℕ) → is_seen runs units u ≡ true → test (class_at units u) ≡ true
+seen-every len_of h chars units per runs lines ordered within test all u seen =
+    let fits : u < length units =
+    omega (arith, length-from_IsPerChar len_of chars units per, in_runs-within len_of h chars runs lines u (and_parts (in_runs runs u) (is_kept_in_place (class_at units u)) seen).0) in
+    let each : list_all test (at_places L units (filter (λ u. is_kept_in_place (class_at units u)) (units_in_runs runs))) ≡ true =
+    subst (λ (us : List BidiClass). list_all test (at_places L us (map (place len_of chars) (kept_in_place len_of chars us runs))) ≡ true → list_all test (at_places L us (filter (λ u. is_kept_in_place (class_at us u)) (units_in_runs runs))) ≡ true) (sym per.2)
+    (λ all. let us = per_unit len_of chars per.0 in
+    ap (list_all test) (read_units-old len_of h chars per.0 per.1 runs lines) ∙ all_units test len_of (at_places 0 chars (kept_in_place len_of chars us runs)) (at_places L us (map (place len_of chars) (kept_in_place len_of chars us runs))) all) all in
+    let below = marked (is_seen runs units) 0 u in
+    let above = marked (is_seen runs units) (u + 1) (length units) in
+    let parts : list_all test (at_places L units below ++ class_at units u ∷ at_places L units above) ≡ true =
+    ap (list_all test) (sym (at_places-append L units below (u ∷ above)) ∙ ap (at_places L units) (sym (seen_at units runs u fits seen) ∙ seen_units-is units runs ordered within)) ∙ each in
+    let last = and_parts (list_all test (at_places L units below)) (list_all test (class_at units u ∷ at_places L units above)) (sym (list_all-append test (at_places L units below) (class_at units u ∷ at_places L units above)) ∙ parts) in
+    (and_parts (test (class_at units u)) (list_all test (at_places L units above)) last.1).0
