@@ -16,6 +16,7 @@ pub mod GivesLemmas
 pub mod InPlace
 pub mod IsolateWalk
 pub mod IsolatesLemmas
+pub mod LayoutLemmas
 pub mod LevelLaws
 pub mod LevelTableLemmas
 pub mod LevelsInLemmas

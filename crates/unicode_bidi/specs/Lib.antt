@@ -2,6 +2,7 @@ pub mod Analysed
 pub mod BidiInfo
 pub mod Engine
 pub mod InitialInfo
+pub mod LineMap
 pub mod Paragraph
 pub mod ParagraphBidiInfo
 pub mod ParagraphFlags
