@@ -19,6 +19,7 @@ pub mod InPlace
 pub mod IsolateWalk
 pub mod IsolatesLemmas
 pub mod KeepsToLemmas
+pub mod LayoutLemmas
 pub mod LevelLaws
 pub mod LevelTableLemmas
 pub mod LevelsInLemmas

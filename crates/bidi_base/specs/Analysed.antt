@@ -1,5 +1,5 @@
 -- A text whose classes and levels are known: what they are, and what a line of the text shows.
-use Rattle.std.specs.Prelude.{◌≡◌, ℕ, Bool, false, List, [], map, Option, IsTrue}
+use Rattle.std.specs.Prelude.{◌≡◌, ℕ, ◌+◌, Bool, false, List, [], length, map, Option, IsTrue}
 use Rattle.std.specs.declared.ops.Range.{Range}
 use Rattle.bidi_base.specs.contracts.char_data.BidiClassPartialEq.TheImpl.{ghosts as class_test}
 use Rattle.bidi_base.specs.contracts.level.LevelPartialEq.TheImpl.{ghosts as level_test}
@@ -13,7 +13,7 @@ use Rattle.bidi_base.specs.Line.{levels_of_line, levels_with_line, char_levels_o
 use Rattle.bidi_base.specs.Paragraphs.{pieces_of, ranges_from}
 use Rattle.bidi_base.specs.Source.{Source}
 use Rattle.bidi_base.specs.Stored.{text_classes, text_levels, stored_levels, paragraph_levels}
-use Rattle.bidi_base.specs.Text.{per_unit, per_char, is_per_char, IsLine}
+use Rattle.bidi_base.specs.Text.{subrange, per_unit, per_char, is_per_char, IsLine}
 
 -- a text of these characters and their lengths, with the class and the level of each unit
 pub record AnalysedText : Type 0 where
@@ -65,6 +65,16 @@ pub record AreLevelsWithLine (a : AnalysedText) (level : ℕ) (line : Range ℕ)
 -- the same levels, one a character
 abbrev pub levels_with_line_per_char : AnalysedText → ℕ → Range ℕ → List ℕ
 levels_with_line_per_char a level line = char_levels_with_line a.len_of a.chars level a.classes a.levels line.start line.end
+
+-- the levels of the line's units after L1, one a unit: by characters, and by units
+pub record AreLevelsOfLine (a : AnalysedText) (level : ℕ) (line : Range ℕ) (shown : List ℕ) : Type 0 where
+  pub characters : shown ≡ per_unit a.len_of (subrange a.len_of a.chars line.start line.end) (char_levels_of_line a.len_of a.chars level a.classes a.levels line.start line.end)
+  pub units : shown ≡ levels_of_line level a.classes a.levels line.start line.end
+  pub one_a_unit : length shown + line.start ≡ line.end
+
+-- the same levels, one a character of the line
+abbrev pub line_levels_per_char : AnalysedText → ℕ → Range ℕ → List ℕ
+line_levels_per_char a level line = char_levels_of_line a.len_of a.chars level a.classes a.levels line.start line.end
 
 -- the level runs (BD7) of the line after L1, from left to right (L2): as a function, and as the runs that, written out, are the visual order of the line's units
 pub record AreRunsOfLine (a : AnalysedText) (level : ℕ) (line : Range ℕ) (shown : List Run) : Type 0 where

@@ -170,8 +170,19 @@ fn gather<T: TextSource>(text: T, levels: &mut [Level]) -> usize
     count
 }
 
-/// The same with one level for each character of the text: that of the character's first unit. `line`
-/// is a range of units too.
+/// The level of each character of a text, that of its first unit, from one level a unit. It takes no
+/// memory.
+pub fn first_units<T: TextSource>(text: T, mut levels: Vec<Level>) -> Vec<Level>
+    requires { length levels.items ≡ text_len T.units (T.characters text) }
+    ensures { result.items ≡ per_char 0 T.units (T.characters text) levels.items }
+{
+    let count = gather(text, levels.as_mut_slice());
+    levels.truncate(count);
+    levels
+}
+
+/// The levels of `levels_with_line`, one for each character of the text: that of the character's first
+/// unit. `line` is a range of units too.
 pub fn levels_per_char<T: TextSource>(
     alloc: Global,
     text: T,
@@ -187,8 +198,6 @@ pub fn levels_per_char<T: TextSource>(
     ensures { IfOk result (λ v. v.items
         ≡ per_char 0 T.units (T.characters text) (levels_with_line level classes.now levels.now line.start line.end)) }
 {
-    let mut shown = levels_with_line(alloc, level, classes, levels, line)?;
-    let count = gather(text, shown.as_mut_slice());
-    shown.truncate(count);
-    Ok(shown)
+    let shown = levels_with_line(alloc, level, classes, levels, line)?;
+    Ok(first_units(text, shown))
 }

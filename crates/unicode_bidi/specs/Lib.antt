@@ -3,6 +3,7 @@ pub mod BidiInfo
 pub mod ClassSet
 pub mod Engine
 pub mod InitialInfo
+pub mod LineMap
 pub mod Paragraph
 pub mod ParagraphBidiInfo
 pub mod ParagraphFlags

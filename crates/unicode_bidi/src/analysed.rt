@@ -1,6 +1,6 @@
 // A text with its stored classes and levels, and what its lines show, whatever its encoding.
 ghost use Rattle.std.specs.Prelude.{◌≡◌, ◌<◌, IsTrue, IfOk, map};
-ghost use Rattle.bidi_base.specs.Analysed.{IsLineOf, AreLevelsWithLine, AreRunsOfLine, levels_with_line_per_char};
+ghost use Rattle.bidi_base.specs.Analysed.{IsLineOf, AreLevelsWithLine, AreLevelsOfLine, AreRunsOfLine, levels_with_line_per_char};
 ghost use Rattle.bidi_base.specs.Direction.{direction_of_levels};
 ghost use Rattle.bidi_base.specs.Display.{run_of};
 ghost use Rattle.bidi_base.specs.Levels.{has_rtl as has_rtl_of};
@@ -10,8 +10,8 @@ use crate::level_direction::direction_of;
 use bidi_base::char_data::{BidiClass, Direction};
 use bidi_base::level::{Level, has_rtl};
 use bidi_base::text::TextSource;
-use bidi_lines::line_levels::{levels_per_char, levels_with_line};
-use bidi_lines::visual_runs::levels_and_runs;
+use bidi_lines::line_levels::{levels_of_line, levels_per_char, levels_with_line};
+use bidi_lines::visual_runs::{levels_and_runs, visual_runs_of};
 use std::alloc::{AllocError, Global};
 use std::ops::Range;
 
@@ -122,5 +122,33 @@ impl<T: TextSource> Analysed<T> {
         ensures runs { IfOk result (λ r. AreRunsOfLine (analysed self.now) level line (map run_of r.1.items)) }
     {
         levels_and_runs(alloc, level, self.original_classes(), self.levels(), line)
+    }
+
+    /// The levels of the line's units after L1.
+    pub(crate) fn line_levels(
+        &self,
+        alloc: Global,
+        level: Level,
+        line: Range<usize>,
+    ) -> Result<Vec<Level>, AllocError>
+        requires { IsLineOf (analysed self.now) line }
+        ensures { IfOk result (λ v. AreLevelsOfLine (analysed self.now) level line v.items) }
+    {
+        levels_of_line(alloc, level, self.original_classes(), self.levels(), line)
+    }
+
+    /// The line's level runs from left to right.
+    pub(crate) fn line_runs(
+        &self,
+        alloc: Global,
+        level: Level,
+        line: Range<usize>,
+    ) -> Result<Vec<Range<usize>>, AllocError>
+        requires { IsLineOf (analysed self.now) line }
+        ensures { IfOk result (λ v. AreRunsOfLine (analysed self.now) level line (map run_of v.items)) }
+    {
+        let (start, end) = (line.start, line.end);
+        let shown = self.line_levels(alloc, level, start..end)?;
+        visual_runs_of(alloc, shown.as_slice(), start)
     }
 }

@@ -1,6 +1,6 @@
 // What the algorithm finds out about a text.
 ghost use Rattle.std.specs.Prelude.{◌≡◌, ◌<◌, ◌≤◌, IsTrue, IfOk, IfSome, All, map, slice_range, true, false};
-ghost use Rattle.bidi_base.specs.Analysed.{IsLineOf, IsPerCharText, IsAnalysis, AreLevelsWithLine, AreRunsOfLine, levels_with_line_per_char};
+ghost use Rattle.bidi_base.specs.Analysed.{IsLineOf, IsPerCharText, IsAnalysis, AreLevelsWithLine, AreLevelsOfLine, AreRunsOfLine, levels_with_line_per_char};
 ghost use Rattle.bidi_base.specs.Display.{run_of};
 ghost use Rattle.bidi_base.specs.Laws.{HasOwnUnits, AreLevelsFrom, BoundaryNeutralsAreAlike, StaysLeftToRight};
 ghost use Rattle.bidi_base.specs.Levels.{has_rtl as has_rtl_of};
@@ -137,6 +137,35 @@ impl<T: TextSource> BidiInfo<T> {
         ensures runs { IfOk result (λ r. AreRunsOfLine (analysed_of self.now) (level_of para.now) line (map run_of r.1.items)) }
     {
         self.analysed.visual_runs(alloc, para.level(), line)
+    }
+
+    /// The level of each unit of the line after L1, that of the unit `line.start` first. It costs
+    /// the line alone, where `reordered_levels` costs the text.
+    pub fn line_levels(
+        &self,
+        alloc: Global,
+        para: &ParagraphInfo,
+        line: Range<usize>,
+    ) -> Result<Vec<Level>, AllocError>
+        requires { IsLineOf (analysed_of self.now) line }
+        ensures { IfOk result (λ v. AreLevelsOfLine (analysed_of self.now) (level_of para.now) line v.items) }
+    {
+        self.analysed.line_levels(alloc, para.level(), line)
+    }
+
+    /// The runs of `visual_runs` alone: the level runs (BD7) of the line after L1, in units of the
+    /// text, from left to right by L2. An empty line has none. It costs the line alone, where
+    /// `visual_runs` costs the text. `line_levels` has the level of each.
+    pub fn line_runs(
+        &self,
+        alloc: Global,
+        para: &ParagraphInfo,
+        line: Range<usize>,
+    ) -> Result<Vec<Range<usize>>, AllocError>
+        requires { IsLineOf (analysed_of self.now) line }
+        ensures { IfOk result (λ v. AreRunsOfLine (analysed_of self.now) (level_of para.now) line (map run_of v.items)) }
+    {
+        self.analysed.line_runs(alloc, para.level(), line)
     }
 
     /// The visual order of a line's items by L2: at each place from the left, the index in `levels`

@@ -1,6 +1,6 @@
 // What the algorithm finds out about a text that is one paragraph.
 ghost use Rattle.std.specs.Prelude.{◌≡◌, ◌<◌, ◌≤◌, IsTrue, IfOk, IfSome, map, false};
-ghost use Rattle.bidi_base.specs.Analysed.{IsLineOf, IsPerCharText, IsParagraphAnalysis, AreLevelsWithLine, AreRunsOfLine, levels_with_line_per_char};
+ghost use Rattle.bidi_base.specs.Analysed.{IsLineOf, IsPerCharText, IsParagraphAnalysis, AreLevelsWithLine, AreLevelsOfLine, AreRunsOfLine, levels_with_line_per_char};
 ghost use Rattle.bidi_base.specs.Direction.{direction_of_levels};
 ghost use Rattle.bidi_base.specs.Display.{run_of};
 ghost use Rattle.bidi_base.specs.Laws.{AreLevelsFrom, BoundaryNeutralsAreAlike, StaysLeftToRight};
@@ -145,6 +145,30 @@ impl<T: TextSource> ParagraphBidiInfo<T> {
     {
         self.paragraph
             .visual_runs(alloc, self.paragraph_level, line)
+    }
+
+    /// The level of each unit of the line after L1, that of the unit `line.start` first. It costs
+    /// the line alone, where `reordered_levels` costs the text.
+    pub fn line_levels(&self, alloc: Global, line: Range<usize>) -> Result<Vec<Level>, AllocError>
+        requires { IsLineOf (analysed_of self.now) line }
+        ensures { IfOk result (λ v. AreLevelsOfLine (analysed_of self.now) (paragraph_level self.now) line v.items) }
+    {
+        self.paragraph
+            .line_levels(alloc, self.paragraph_level, line)
+    }
+
+    /// The runs of `visual_runs` alone: the level runs (BD7) of the line after L1, in units of the
+    /// text, from left to right by L2. An empty line has none. It costs the line alone, where
+    /// `visual_runs` costs the text. `line_levels` has the level of each.
+    pub fn line_runs(
+        &self,
+        alloc: Global,
+        line: Range<usize>,
+    ) -> Result<Vec<Range<usize>>, AllocError>
+        requires { IsLineOf (analysed_of self.now) line }
+        ensures { IfOk result (λ v. AreRunsOfLine (analysed_of self.now) (paragraph_level self.now) line (map run_of v.items)) }
+    {
+        self.paragraph.line_runs(alloc, self.paragraph_level, line)
     }
 
     /// The visual order of a line's items by L2: at each place from the left, the index in `levels`

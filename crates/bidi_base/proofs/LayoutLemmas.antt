@@ -1,0 +1,247 @@
+-- Lines of given width: how many characters fit, and the lines of a paragraph as ranges of units.
+use Rattle.std.proofs.Common.{◌≡◌, ◌≢◌, ℕ, zero, suc, ◌+◌, ◌-◌, ◌<◌, ◌≤◌, Bool, true, leb, List, [], ◌∷◌, ◌++◌, length, get_or, map, take, drop, Option, Some, None, All, slice_get, refl, sym, ap, subst, ◌∙◌, arith, inl, inr, length-take-le, length-drop}
+use Rattle.std.specs.Prelude.{slice_range, unwrap_or}
+use Rattle.std.specs.List.{range_with_len}
+use Rattle.std.specs.List.Sorted.{IsPermutation}
+use Rattle.std.proofs.lemmas.Bool.{both_ways, le-leb, leb-true, cases_lt}
+use Rattle.std.proofs.lemmas.List.{take-append-drop, drop-drop, drop-take, get_or-map, get_or_default, length-map, same_lists}
+use Rattle.std.proofs.lemmas.List.FromFn.{length-range_with_len, get_or-range_with_len}
+use Rattle.std.proofs.lemmas.List.Sorted.{All-permutation, Contains-permutation, length_permutation}
+use Rattle.std.proofs.lemmas.Option.{slice_get_within, slice_get-get_or, get_or_from_slice_get}
+use Rattle.std.proofs.lemmas.List.Elements.{All-nil, All-cons}
+use Rattle.bidi_base.specs.Layout.{fitting, line_length, lines_up_to, lines_of, line_ranges, visual_places, AreInverse}
+use Rattle.bidi_base.specs.Order.{visual_place, IsVisualOrder}
+use Rattle.bidi_base.specs.Paragraphs.{ranges_from, IsPartition}
+use Rattle.bidi_base.specs.Places.{indexes, find_last}
+use Rattle.bidi_base.specs.Text.{place, text_len, char_index, subrange, IsLine}
+use Rattle.bidi_base.proofs.ParagraphsLemmas.{joined, ranges_from-IsPartition}
+use Rattle.bidi_base.proofs.PlaceLemmas.{CharTurn, place-zero, place-more, place-end, place-mono, place-lt, place-slice_range, char_index-place, IsLine-places, line_places, text_len-subrange}
+use Rattle.bidi_base.proofs.PlacesLemmas.{IsGreatest, find_last-range_with_len, find_last-range_with_len-None}
+use Rattle.bidi_base.proofs.TextLemmas.{HasUnits}
+use Rattle.bidi_base.proofs.VisualOrderLemmas.{visual_place-order, contains_index, all_below}
+
+-- the widths of one character more
+pub place-turn : (width_of len_of : ℕ → ℕ) (chars : List ℕ) (n at c : ℕ) → CharTurn len_of chars n at c → place width_of chars (n + 1) ≡ place width_of chars n + width_of c
+place-turn width_of len_of chars n at c turn = place-more width_of chars n 0 turn.within ∙ ap (λ (d : ℕ). place width_of chars n + width_of d) turn.is_char
+
+module _ (width_of : ℕ → ℕ) (limit : ℕ) where
+  -- ---- how many characters fit
+
+  -- the characters up to n fit
+  fits : List ℕ → ℕ → Bool
+  fits chars n = leb (place width_of chars n) limit
+
+  pub fitting-is : (chars : List ℕ) (n : ℕ) → n ≤ length chars → place width_of chars n ≤ limit → (n < length chars → limit < place width_of chars (n + 1)) → fitting width_of limit chars ≡ n
+  unfolding fitting fits
+  fitting-is chars n short fit full = found (find_last (fits chars) (range_with_len 0 (length chars + 1))) refl
+    where
+      passes : fits chars n ≡ true
+      passes = le-leb (place width_of chars n) limit fit
+
+      equal : (p : ℕ) → IsGreatest (fits chars) 0 (0 + (length chars + 1)) p → p ≡ n
+      equal p g = elim (cases_lt n p) [
+        | inl less ↦ absurd (omega (arith, full (omega (arith, g.below)), leb-true (place width_of chars p) limit g.passes, place-mono width_of chars (n + 1) p (omega arith)))
+        | inr more ↦ elim (cases_lt p n) [
+          | inl before ↦ absurd (both_ways (fits chars n) (g.last n before (omega arith)) passes)
+          | inr here ↦ omega arith
+        ]
+      ]
+
+      found : (o : Option ℕ) → find_last (fits chars) (range_with_len 0 (length chars + 1)) ≡ o → unwrap_or o 0 ≡ n
+      found None e = absurd (both_ways (fits chars n) (find_last-range_with_len-None (fits chars) 0 (length chars + 1) e n (omega arith) (omega arith)) passes)
+      found (Some p) e = equal p (find_last-range_with_len (fits chars) 0 (length chars + 1) p e)
+
+  pub fitting-within : (chars : List ℕ) → fitting width_of limit chars ≤ length chars
+  unfolding fitting fits
+  fitting-within chars = found (find_last (fits chars) (range_with_len 0 (length chars + 1))) refl
+    where
+      found : (o : Option ℕ) → find_last (fits chars) (range_with_len 0 (length chars + 1)) ≡ o → unwrap_or o 0 ≤ length chars
+      found None e = omega arith
+      found (Some p) e = let g = find_last-range_with_len (fits chars) 0 (length chars + 1) p e in omega (arith, g.below)
+
+  pub line_length-within : (chars : List ℕ) → 0 < length chars → line_length width_of limit chars ≤ length chars
+  line_length-within chars some = omega (arith, fitting-within chars)
+
+  -- ---- the lines of a paragraph
+
+  -- more than enough lines are enough
+  lines_up_to-enough : (n m : ℕ) (chars : List ℕ) → length chars ≤ n → length chars ≤ m → lines_up_to width_of limit n chars ≡ lines_up_to width_of limit m chars
+  lines_up_to-enough zero zero chars few many = refl
+  lines_up_to-enough zero (suc m) [] few many = refl
+  lines_up_to-enough zero (suc m) (c ∷ chars) few many = absurd (omega arith)
+  lines_up_to-enough (suc n) zero [] few many = refl
+  lines_up_to-enough (suc n) zero (c ∷ chars) few many = absurd (omega arith)
+  lines_up_to-enough (suc n) (suc m) [] few many = refl
+  lines_up_to-enough (suc n) (suc m) (c ∷ chars) few many =
+      let here : ℕ = line_length width_of limit (c ∷ chars) in
+      let left = length-drop here (c ∷ chars) in
+      ap (λ (ls : List (List ℕ)). take here (c ∷ chars) ∷ ls) (lines_up_to-enough n m (drop here (c ∷ chars)) (omega arith) (omega arith))
+
+  pub lines_of-none : lines_of width_of limit [] ≡ []
+  unfolding lines_of
+  lines_of-none = refl
+
+  -- the first line, and those of the rest
+  pub lines_of-more : (chars : List ℕ) → 0 < length chars
+      → lines_of width_of limit chars ≡ take (line_length width_of limit chars) chars ∷ lines_of width_of limit (drop (line_length width_of limit chars) chars)
+  unfolding lines_of
+  lines_of-more [] some = absurd (omega arith)
+  lines_of-more (c ∷ chars) some =
+      let here : ℕ = line_length width_of limit (c ∷ chars) in
+      let left = length-drop here (c ∷ chars) in
+      ap (λ (ls : List (List ℕ)). take here (c ∷ chars) ∷ ls) (lines_up_to-enough (length chars) (length (drop here (c ∷ chars))) (drop here (c ∷ chars)) (omega arith) (omega arith))
+
+  up_to-joined : (n : ℕ) (chars : List ℕ) → length chars ≤ n → joined (lines_up_to width_of limit n chars) ≡ chars
+  up_to-joined zero [] few = refl
+  up_to-joined zero (c ∷ chars) few = absurd (omega arith)
+  up_to-joined (suc n) [] few = refl
+  up_to-joined (suc n) (c ∷ chars) few =
+      let here : ℕ = line_length width_of limit (c ∷ chars) in
+      let left = length-drop here (c ∷ chars) in
+      ap (λ (cs : List ℕ). take here (c ∷ chars) ++ cs) (up_to-joined n (drop here (c ∷ chars)) (omega arith)) ∙ take-append-drop here (c ∷ chars)
+
+  -- the lines are the paragraph
+  pub lines_of-joined : (chars : List ℕ) → joined (lines_of width_of limit chars) ≡ chars
+  unfolding lines_of
+  lines_of-joined chars = up_to-joined (length chars) chars (omega arith)
+
+  up_to-some : (n : ℕ) (chars : List ℕ) → All (λ (l : List ℕ). 0 < length l) (lines_up_to width_of limit n chars)
+  up_to-some zero chars = All-nil (λ (l : List ℕ). 0 < length l)
+  up_to-some (suc n) [] = All-nil (λ (l : List ℕ). 0 < length l)
+  up_to-some (suc n) (c ∷ chars) =
+      let here : ℕ = line_length width_of limit (c ∷ chars) in
+      let within = line_length-within (c ∷ chars) (omega arith) in
+      All-cons (λ (l : List ℕ). 0 < length l) (take here (c ∷ chars)) (lines_up_to width_of limit n (drop here (c ∷ chars)))
+      (omega (arith, length-take-le here (c ∷ chars) within)) (up_to-some n (drop here (c ∷ chars)))
+
+  -- no line is empty
+  pub lines_of-some : (chars : List ℕ) → All (λ (l : List ℕ). 0 < length l) (lines_of width_of limit chars)
+  unfolding lines_of
+  lines_of-some chars = up_to-some (length chars) chars
+
+  -- ---- the lines as ranges of units
+
+  module _ (len_of : ℕ → ℕ) (units : HasUnits len_of) (chars : List ℕ) where
+    -- the character after the first n is too wide for what those leave of the limit
+    module _ (n at c left : ℕ) (turn : CharTurn len_of chars n at c) (rest : left + place width_of chars n ≡ limit) (wide : left < width_of c) where
+      stops : fitting width_of limit chars ≡ n
+      stops =
+          let next = place-turn width_of len_of chars n at c turn in
+          fitting-is chars n (omega (arith, turn.within)) (omega arith) (λ more. omega arith)
+
+      pub first_line-one : at ≡ 0 → len_of c ≡ place len_of chars (line_length width_of limit chars)
+      first_line-one none = elim (cases_lt 0 n) [
+        | inl some ↦ absurd (omega (arith, turn.at_place, place-lt len_of chars units 0 n some (omega (arith, turn.within))))
+        | inr first ↦
+            let one : line_length width_of limit chars ≡ n + 1 = omega (arith, stops) in
+            sym (ap (place len_of chars) one ∙ turn.after ∙ (let zero_th : at + len_of c ≡ len_of c = omega arith in zero_th))
+      ]
+
+      pub first_line-stops : at ≢ 0 → at ≡ place len_of chars (line_length width_of limit chars)
+      first_line-stops some = elim (cases_lt 0 n) [
+        | inl more ↦
+            let here : line_length width_of limit chars ≡ n = omega (arith, stops) in
+            turn.at_place ∙ ap (place len_of chars) (sym here)
+        | inr first ↦
+            let none : n ≡ 0 = omega arith in
+            absurd (some (turn.at_place ∙ ap (place len_of chars) none ∙ place-zero len_of chars))
+      ]
+
+    -- all characters fit
+    pub first_line-all : (n left : ℕ) → n ≡ length chars → left + place width_of chars n ≡ limit → text_len len_of chars ≡ place len_of chars (line_length width_of limit chars)
+    first_line-all n left all rest =
+        let stop : fitting width_of limit chars ≡ n = fitting-is chars n (omega arith) (omega arith) (λ more. absurd (omega arith)) in
+        sym (place-end len_of chars (line_length width_of limit chars) (omega arith))
+
+    -- an empty range has no lines
+    pub line_ranges-none : (start end : ℕ) → start ≡ end → line_ranges len_of chars width_of limit start end ≡ []
+    line_ranges-none start end same =
+        let none : char_index len_of chars end - char_index len_of chars start ≡ 0 = rw same (omega arith) in
+        ap (λ (n : ℕ). ranges_from len_of start (lines_of width_of limit (take n (drop (char_index len_of chars start) chars)))) none
+        ∙ ap (ranges_from len_of start) lines_of-none
+
+    pub line_ranges-IsPartition : (start end : ℕ) → IsLine len_of chars start end → IsPartition start end (line_ranges len_of chars width_of limit start end)
+    line_ranges-IsPartition start end line =
+        let cs : List ℕ = subrange len_of chars start end in
+        let all : start + text_len len_of (joined (lines_of width_of limit cs)) ≡ end =
+        omega (arith, ap (text_len len_of) (lines_of-joined cs), text_len-subrange len_of units chars start end line, line.ordered) in
+        subst (λ (n : ℕ). IsPartition start n (line_ranges len_of chars width_of limit start end)) all (ranges_from-IsPartition len_of units start (lines_of width_of limit cs) (lines_of-some cs))
+
+    -- the first line of a range ends at `next`, and the others are those of what follows
+    pub record FirstLine (start end next : ℕ) : Type 0 where
+      pub line : IsLine len_of chars start next
+      pub rest : IsLine len_of chars next end
+      pub some : start < next
+      pub ranges : line_ranges len_of chars width_of limit start end ≡ (start, next) ∷ line_ranges len_of chars width_of limit next end
+
+    pub first_line : (start end next : ℕ) → IsLine len_of chars start end → start < end
+        → next ≡ start + place len_of (subrange len_of chars start end) (line_length width_of limit (subrange len_of chars start end)) → FirstLine start end next
+    first_line start end next line some e =
+        let w = line_places len_of units chars start end line in
+        let i : ℕ = char_index len_of chars start in
+        let j : ℕ = char_index len_of chars end in
+        let cs : List ℕ = slice_range chars i j in
+        let n : ℕ = line_length width_of limit cs in
+        let before : i < j = elim (cases_lt i j) [ inl less ↦ less | inr more ↦ let same : i ≡ j = omega (arith, w.ordered) in absurd (omega (arith, ap (place len_of chars) same, w.begins, w.ends)) ] in
+        let long : length cs ≡ j - i = length-take-le (j - i) (drop i chars) (omega (arith, length-drop i chars, w.within)) in
+        let within = line_length-within cs (omega arith) in
+        let inside : i + n ≤ j = omega arith in
+        let stop : next ≡ place len_of chars (i + n) = omega (arith, e, w.begins, place-slice_range len_of chars i j n inside w.within) in
+        let last : char_index len_of chars next ≡ i + n = ap (char_index len_of chars) stop ∙ char_index-place len_of chars units (i + n) (omega (arith, w.within)) in
+        let both : n + (j - (i + n)) ≡ j - i = omega arith in
+        let left : subrange len_of chars next end ≡ drop n cs =
+        ap (λ (a : ℕ). slice_range chars a j) last
+        ∙ sym (ap (λ (m : ℕ). drop n (take m (drop i chars))) (sym both) ∙ drop-take n (j - (i + n)) (drop i chars) ∙ ap (take (j - (i + n))) (drop-drop n i chars)) in
+        record {
+          line = subst (λ (a : ℕ). IsLine len_of chars a next) (sym w.begins) (subst (λ (b : ℕ). IsLine len_of chars (place len_of chars i) b) (sym stop) (IsLine-places len_of chars i (i + n) (omega arith)));
+          rest = subst (λ (a : ℕ). IsLine len_of chars a end) (sym stop) (subst (λ (b : ℕ). IsLine len_of chars (place len_of chars (i + n)) b) (sym w.ends) (IsLine-places len_of chars (i + n) j inside));
+          some = omega (arith, stop, w.begins, place-lt len_of chars units i (i + n) (omega arith) (omega (arith, w.within)));
+          ranges =
+              ap (ranges_from len_of start) (lines_of-more cs (omega arith))
+              ∙ ap (λ (m : ℕ). (start, m) ∷ ranges_from len_of m (lines_of width_of limit (drop n cs))) (sym e)
+              ∙ ap (λ (ds : List ℕ). (start, next) ∷ ranges_from len_of next (lines_of width_of limit ds)) (sym left);
+        }
+
+-- ---- the maps between places in a line and on the screen
+
+module _ (levels order : List ℕ) (visual : IsVisualOrder levels order) where
+  order-long : length order ≡ length levels
+  order-long = length_permutation (indexes levels) order visual.all_indexes ∙ length-range_with_len 0 (length levels)
+
+  -- its own indexes stand in it, each once
+  pub own_indexes : IsPermutation (indexes order) order
+  own_indexes = subst (λ (n : ℕ). IsPermutation (range_with_len 0 n) order) (sym order-long) visual.all_indexes
+
+  -- the inverse of a visual order has the visual place of each index
+  pub visual_places-inverse : (places : List ℕ) → AreInverse order places → places ≡ visual_places levels
+  unfolding visual_places
+  visual_places-inverse places inverse = same_lists places (map (visual_place levels) (indexes levels)) long at_each
+    where
+      long : length places ≡ length (map (visual_place levels) (indexes levels))
+      long = sym inverse.same_len ∙ order-long ∙ sym (length-map (indexes levels) (visual_place levels) ∙ length-range_with_len 0 (length levels))
+
+      at_each : (k d : ℕ) → k < length places → get_or places k d ≡ get_or (map (visual_place levels) (indexes levels)) k d
+      at_each k d within =
+          let fits : k < length (indexes levels) = omega (arith, order-long, inverse.same_len, length-range_with_len 0 (length levels)) in
+          let here : get_or (indexes levels) k 0 ≡ k = get_or-range_with_len 0 (length levels) k 0 (omega (arith, order-long, inverse.same_len)) ∙ (let same : 0 + k ≡ k = omega arith in same) in
+          get_or_default places k d 0 within
+          ∙ at_place (get_or places k 0) (inverse.forth k within)
+          ∙ sym (get_or-map (visual_place levels) (indexes levels) k 0 d fits ∙ ap (visual_place levels) here)
+        where
+          at_place : (v : ℕ) → slice_get order v ≡ Some k → v ≡ visual_place levels k
+          at_place v e = sym (visual_place-order levels order v visual (slice_get_within order v k e)) ∙ ap (visual_place levels) (get_or_from_slice_get order v k 0 e)
+
+-- a list that has at each number of a permutation the place where it stands there is its inverse
+pub AreInverse-from_back : (order places : List ℕ) → IsPermutation (indexes order) order → length order ≡ length places
+    → ((k : ℕ) → k < length order → get_or places (get_or order k 0) 0 ≡ k) → AreInverse order places
+AreInverse-from_back order places perm same at = record {
+  same_len = same;
+  back = λ k within.
+      let inside : get_or order k 0 < length order = All-permutation (λ (i : ℕ). i < length order) (indexes order) order perm (all_below order) k 0 within in
+      slice_get-get_or places (get_or order k 0) 0 (omega arith) ∙ ap Some (at k within);
+  forth = λ k within.
+      let c = Contains-permutation (indexes order) order k perm (contains_index (length order) k (omega arith)) in
+      let there : get_or order c.0 0 ≡ k = get_or_default order c.0 0 k c.1 ∙ c.2 in
+      let place : get_or places k 0 ≡ c.0 = ap (λ (i : ℕ). get_or places i 0) (sym there) ∙ at c.0 c.1 in
+      ap (slice_get order) place ∙ slice_get-get_or order c.0 0 c.1 ∙ ap Some there;
+}

@@ -1,0 +1,26 @@
+use Rattle.std.proofs.Common.{◌≡◌, ◌∙◌, ℕ, List, sym, ap}
+use Rattle.std.specs.Char.{len_utf8}
+use Rattle.std.specs.Str.{chars}
+use Rattle.bidi_base.specs.Text.{text_len, per_char, subrange}
+use Rattle.bidi_base.proofs.StrLemmas.{has_units}
+use Rattle.unicode_bidi.specs.BidiInfo.{text, analysed}
+use Rattle.unicode_bidi.specs.ParagraphInfo.{level_of}
+use Rattle.unicode_bidi.proofs.StoredLine.{length-shown, per_char-shown}
+use Rattle.unicode_bidi.proofs.layout.char_levels.Goals as goal
+use Rattle.unicode_bidi.proofs.layout.char_levels.Goals.{In_ok-levels}
+
+-- the characters of the line
+chars_of_line : (c : In_ok-levels) → chars c.subrange-text.result.text.now ≡ subrange len_utf8 (chars (text c.args.info.now)) c.args.line.start c.args.line.end
+chars_of_line c =
+    c.subrange-text.ensures ∙ ap (λ (bytes : List ℕ). subrange len_utf8 (chars bytes) c.args.line.start c.args.line.end) (c.new.ensures ∙ c.text.ensures)
+
+pub first_units-requires : goal.first_units-requires
+first_units-requires c =
+    length-shown (analysed c.args.info.now) has_units (level_of c.args.para.now) c.args.line c.requires c.in_ok-levels.levels.items c.in_ok-levels.ensures
+    ∙ sym (ap (text_len len_utf8) (chars_of_line (goal.at.first_units-requires c).In_ok-levels))
+
+pub returns : goal.returns
+returns c =
+    c.first_units.ensures
+    ∙ ap (λ (cs : List ℕ). per_char 0 len_utf8 cs c.in_ok-levels.levels.items) (chars_of_line (goal.at.returns c).In_ok-levels)
+    ∙ per_char-shown (analysed c.args.info.now) has_units (level_of c.args.para.now) c.args.line c.requires c.in_ok-levels.levels.items c.in_ok-levels.ensures

@@ -1,0 +1,183 @@
+//! Lines of given width, and the places of their characters on the screen, over UTF-8.
+
+ghost use Rattle.std.specs.Prelude.{◌≡◌, ℕ, ◌<◌, map, length, slice_get, IfOk, IfSome, All, Some, IsPermutation};
+ghost use Rattle.bidi_base.specs.Analysed.{IsLineOf, line_levels_per_char};
+ghost use Rattle.bidi_base.specs.Display.{run_of};
+ghost use Rattle.bidi_base.specs.Layout.{line_length, line_ranges, visual_places, AreInverse};
+ghost use Rattle.bidi_base.specs.Order.{visual_order};
+ghost use Rattle.bidi_base.specs.Paragraphs.{IsPartition};
+ghost use Rattle.bidi_base.specs.Places.{indexes};
+ghost use Rattle.bidi_base.specs.Text.{place, per_char, text_len, IsLine};
+ghost use Rattle.unicode_bidi.specs.BidiInfo.{analysed as analysed_of};
+ghost use Rattle.unicode_bidi.specs.ParagraphInfo.{level_of, range_of};
+
+use crate::paragraph_info::ParagraphInfo;
+use crate::utf8::BidiInfo;
+use bidi_base::level::Level;
+use bidi_base::text::{StrText, TextSource};
+use bidi_lines::line_levels::first_units;
+use bidi_rules::prepare::LevelRun;
+use std::alloc::{AllocError, Global};
+use std::ops::Range;
+
+/// How wide each character is shown.
+pub trait CharWidth {
+    /// The widths, as a function.
+    ghost width_of: { Self → ℕ → ℕ };
+
+    /// The width of a character. A value answers a character always alike.
+    fn width(&self, c: char) -> usize
+        ensures { result ≡ width_of self.now c };
+}
+
+// How many units the first line of a text takes: as many characters as fit, and one where none does.
+fn first_line_len<T: TextSource, W: CharWidth>(text: T, widths: &W, limit: usize) -> usize
+    ensures { let chars = T.characters text in
+        result ≡ place T.units chars (line_length (W.width_of widths.now) limit chars) }
+{
+    let mut left = limit;
+    for (at, c) in text.char_indices() {
+        let width = widths.width(c);
+        if width > left {
+            return if at == 0 { T::char_len(c) } else { at };
+        }
+        left -= width;
+    }
+    text.len()
+}
+
+// The lines of a range of a text.
+fn lines_of<T: TextSource, W: CharWidth>(
+    alloc: Global,
+    text: T,
+    range: Range<usize>,
+    widths: &W,
+    limit: usize,
+) -> Result<Vec<LevelRun>, AllocError>
+    requires { IsLine T.units (T.characters text) range.start range.end }
+    ensures lines { IfOk result (λ v. map run_of v.items
+        ≡ line_ranges T.units (T.characters text) (W.width_of widths.now) limit range.start range.end) }
+    ensures parted { IfOk result (λ v. IsPartition range.start range.end (map run_of v.items)) }
+    ensures each_is_line { IfOk result (λ v. All (λ r. IsLine T.units (T.characters text) r.start r.end) v.items) }
+{
+    let mut lines = Vec::new(alloc);
+    let mut start = range.start;
+    while start < range.end {
+        let rest = text.subrange(start..range.end);
+        let end = start + first_line_len(rest, widths, limit);
+        lines.push(start..end)?;
+        start = end;
+    }
+    Ok(lines)
+}
+
+/// The lines of a paragraph, as ranges of bytes of the text: each takes as many characters as have
+/// widths that add up to at most `limit`, and one where the first is wider than that. A character of
+/// width 0 stays in the line before it, unless a character that is too wide stands there alone. No
+/// sum wraps. Both ends of the paragraph's range must begin a character or be the text's length (see
+/// `is_line`). Each line is one to hand to `reorder_line`, with no test.
+pub fn lines<W: CharWidth>(
+    alloc: Global,
+    info: &BidiInfo<'_>,
+    para: &ParagraphInfo,
+    widths: &W,
+    limit: usize,
+) -> Result<Vec<LevelRun>, AllocError>
+    requires { IsLineOf (analysed_of info.now) (range_of para.now) }
+    ensures lines { let a = analysed_of info.now in IfOk result (λ v. map run_of v.items
+        ≡ line_ranges a.len_of a.chars (W.width_of widths.now) limit (range_of para.now).start (range_of para.now).end) }
+
+    // No line is empty, and together they take the paragraph's range, in order.
+    ensures parted { IfOk result (λ v. IsPartition (range_of para.now).start (range_of para.now).end (map run_of v.items)) }
+    ensures each_is_line { IfOk result (λ v. All (IsLineOf (analysed_of info.now)) v.items) }
+{
+    lines_of(
+        alloc,
+        StrText::new(info.text()),
+        para.range(),
+        widths,
+        limit,
+    )
+}
+
+// The levels of a line's characters after L1.
+fn char_levels(
+    alloc: Global,
+    info: &BidiInfo<'_>,
+    para: &ParagraphInfo,
+    line: Range<usize>,
+) -> Result<Vec<Level>, AllocError>
+    requires { IsLineOf (analysed_of info.now) line }
+    ensures { IfOk result (λ v. v.items ≡ line_levels_per_char (analysed_of info.now) (level_of para.now) line) }
+{
+    let text = StrText::new(info.text()).subrange(line.start..line.end);
+    let levels = info.line_levels(alloc, para, line)?;
+    Ok(first_units(text, levels))
+}
+
+// The inverse of a list of indexes in which each stands once.
+fn inverse(alloc: Global, order: &[usize]) -> Result<Vec<usize>, AllocError>
+    requires { IsPermutation (indexes order.now) order.now }
+    ensures { IfOk result (λ v. AreInverse order.now v.items) }
+{
+    let mut places = vec![in alloc; 0; order.len()]?;
+    for (place, index) in order.iter().enumerate() {
+        places[*index] = place;
+    }
+    Ok(places)
+}
+
+/// Where each character of a line stands on the screen, and which one stands at each place there, by
+/// L2. Characters and visual places are counted from 0, those from the left.
+#[derive(PartialEq, Debug, Drop)]
+pub struct LineMap {
+    order: Vec<usize>,
+    places: Vec<usize>,
+    ghost inverse: { AreInverse order.items places.items },
+}
+
+impl LineMap {
+    ghost use Rattle.unicode_bidi.specs.LineMap.{order as order_of, places as places_of};
+
+    /// The map of a line, which goes from one byte of the text up to another, both of which have to
+    /// begin a character or be the text's length (see `is_line`). Its levels are those after L1, with
+    /// the level of the paragraph handed in, whichever that is. It costs the line.
+    pub fn new(
+        alloc: Global,
+        info: &BidiInfo<'_>,
+        para: &ParagraphInfo,
+        line: Range<usize>,
+    ) -> Result<LineMap, AllocError>
+        requires { IsLineOf (analysed_of info.now) line }
+        ensures order { IfOk result (λ m. order_of m ≡ visual_order (line_levels_per_char (analysed_of info.now) (level_of para.now) line)) }
+        ensures places { IfOk result (λ m. places_of m ≡ visual_places (line_levels_per_char (analysed_of info.now) (level_of para.now) line)) }
+    {
+        let levels = char_levels(alloc, info, para, line)?;
+        let order = BidiInfo::reorder_visual(alloc, levels.as_slice())?;
+        let places = inverse(alloc, order.as_slice())?;
+        Ok(LineMap { order, places })
+    }
+
+    /// The number of characters.
+    pub fn len(&self) -> usize
+        ensures { result ≡ length (order_of self.now) }
+    {
+        self.order.len()
+    }
+
+    /// The character at a visual place. `None` from `len()` on.
+    pub fn visual_to_logical(&self, visual: usize) -> Option<usize>
+        ensures found { result ≡ slice_get (order_of self.now) visual }
+        ensures back { IfSome result (λ logical. slice_get (places_of self.now) logical ≡ Some visual) }
+    {
+        self.order.get(visual).copied()
+    }
+
+    /// The visual place of a character. `None` from `len()` on.
+    pub fn logical_to_visual(&self, logical: usize) -> Option<usize>
+        ensures found { result ≡ slice_get (places_of self.now) logical }
+        ensures back { IfSome result (λ visual. slice_get (order_of self.now) visual ≡ Some logical) }
+    {
+        self.places.get(logical).copied()
+    }
+}
