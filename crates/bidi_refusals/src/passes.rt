@@ -1,0 +1,317 @@
+//! The passes in place, over the code units of one paragraph.
+
+ghost use Rattle.std.specs.Prelude.{◌≡◌, ◌≤◌, not, ◌||◌, length};
+ghost use Rattle.std.specs.List.{list_all, list_any};
+ghost use Rattle.bidi_base.specs.Classes.{is_initiator as is_initiator_of, is_kept_in_place, is_weak_resolved};
+
+use crate::lists::is_left;
+use crate::texts::{TEXT, WITHOUT_ISOLATES};
+use crate::trial::{Fault, NoAnswer, tried};
+use bidi_base::char_data::BidiClass::{self, BN, L};
+use bidi_base::classes::is_initiator;
+use bidi_base::data_source::TableBidiData;
+use bidi_base::level::{LTR_LEVEL, Level, RTL_LEVEL};
+use bidi_base::text::{StrText, is_per_char};
+use bidi_rules::explicit::compute;
+use bidi_rules::implicit::{NeutralResolver, resolve_levels, resolve_neutral, resolve_weak};
+use bidi_rules::prepare::{IsolatingRunSequence, LevelRunVec, isolating_run_sequences};
+use std::alloc::Global;
+use unicode_bidi::ParagraphBidiInfo;
+
+// The most units that a text here has.
+const ROOM: usize = 256;
+
+// What the passes write: levels and classes, one a unit.
+#[derive(Clone, Copy, PartialEq)]
+struct Units {
+    levels: [Level; ROOM],
+    classes: [BidiClass; ROOM],
+}
+
+// Whether some class is an isolate initiator.
+fn has_initiator(classes: &[BidiClass]) -> bool
+    ensures { result ≡ list_any is_initiator_of classes.now }
+{
+    classes.iter().any(|class| is_initiator(*class))
+}
+
+// Whether a unit may have a class: BN, or one that the weak types leave.
+fn is_left_or_removed(class: BidiClass) -> bool
+    ensures { result ≡ (is_weak_resolved class || not (is_kept_in_place class)) }
+{
+    is_left(class) || matches!(class, BN)
+}
+
+// Whether the weak types leave all the classes but BN.
+fn are_left_or_removed(classes: &[BidiClass]) -> bool
+    ensures { result ≡ list_all (λ c. is_weak_resolved c || not (is_kept_in_place c)) classes.now }
+{
+    classes.iter().all(|class| is_left_or_removed(*class))
+}
+
+// A text with its stored classes, one a unit, and whether one of them is an initiator.
+#[derive(Clone, Copy)]
+struct Classified<'a> {
+    text: StrText<'a>,
+    classes: &'a [BidiClass],
+    has_isolate_controls: bool,
+}
+
+// The explicit levels and the sequences of a paragraph. The slices get levels and classes.
+fn prepare(
+    alloc: Global,
+    text: StrText,
+    para_level: Level,
+    original_classes: &[BidiClass],
+    levels: &mut [Level],
+    processing_classes: &mut [BidiClass],
+    has_isolate_controls: bool,
+) -> Result<Vec<IsolatingRunSequence>, NoAnswer>
+    requires explicit { para_level ≤ 125 }
+    requires levels { length levels.old ≡ length original_classes.now }
+    requires processing { processing_classes.old ≡ original_classes.now }
+{
+    if !is_per_char(text, original_classes)
+        || (has_initiator(original_classes) && !has_isolate_controls)
+    {
+        return Err(NoAnswer::Wrong);
+    }
+    let mut runs = Vec::new(alloc);
+    compute(
+        alloc,
+        text,
+        para_level,
+        original_classes,
+        levels,
+        processing_classes,
+        &mut runs,
+    )?;
+    let mut sequences = Vec::new(alloc);
+    isolating_run_sequences(
+        alloc,
+        text,
+        para_level,
+        original_classes,
+        levels,
+        runs,
+        has_isolate_controls,
+        &mut sequences,
+    )?;
+    Ok(sequences)
+}
+
+// What the first two passes make of a text.
+fn prepared(
+    alloc: Global,
+    of: Classified<'_>,
+) -> Result<(Units, Vec<IsolatingRunSequence>), NoAnswer> {
+    let count = of.classes.len();
+    if count > ROOM {
+        return Err(NoAnswer::Wrong);
+    }
+    let mut units = Units {
+        levels: [LTR_LEVEL; ROOM],
+        classes: [L; ROOM],
+    };
+    let classes = &mut units.classes[..count];
+    classes.copy_from_slice(of.classes);
+    let sequences = prepare(
+        alloc,
+        of.text,
+        RTL_LEVEL,
+        of.classes,
+        &mut units.levels[..count],
+        classes,
+        of.has_isolate_controls,
+    )?;
+    Ok((units, sequences))
+}
+
+// What the first pass alone makes of it.
+fn computed(alloc: Global, of: Classified<'_>) -> Result<(Units, LevelRunVec), NoAnswer> {
+    let count = of.classes.len();
+    if count > ROOM || !is_per_char(of.text, of.classes) {
+        return Err(NoAnswer::Wrong);
+    }
+    let mut units = Units {
+        levels: [LTR_LEVEL; ROOM],
+        classes: [L; ROOM],
+    };
+    let classes = &mut units.classes[..count];
+    classes.copy_from_slice(of.classes);
+    let mut runs = Vec::new(alloc);
+    compute(
+        alloc,
+        of.text,
+        RTL_LEVEL,
+        of.classes,
+        &mut units.levels[..count],
+        classes,
+        &mut runs,
+    )?;
+    Ok((units, runs))
+}
+
+// The units with the weak types of a sequence resolved, which takes no memory.
+fn with_weak(
+    of: Classified<'_>,
+    sequence: &IsolatingRunSequence,
+    before: &Units,
+) -> Result<Units, NoAnswer> {
+    let mut units = *before;
+    let count = of.classes.len();
+    if count > ROOM || !sequence.fits(of.text) || !is_per_char(of.text, &units.classes[..count]) {
+        return Err(NoAnswer::Wrong);
+    }
+    resolve_weak(of.text, sequence, &mut units.classes[..count]);
+    Ok(units)
+}
+
+// Resolves the neutrals of a sequence in place, by a resolver or by the call alone.
+fn resolve(
+    alloc: Global,
+    text: StrText,
+    source: &TableBidiData<'_>,
+    sequence: &IsolatingRunSequence,
+    levels: &[Level],
+    original: &[BidiClass],
+    classes: &mut [BidiClass],
+    resolver: &mut NeutralResolver,
+    is_by_resolver: bool,
+) -> Result<(), NoAnswer> {
+    let fits = sequence.fits(text) && is_per_char(text, classes);
+    if !fits || levels.len() != classes.len() || original.len() != classes.len() {
+        return Err(NoAnswer::Wrong);
+    }
+    if !are_left_or_removed(classes) {
+        return Err(NoAnswer::Wrong);
+    }
+    if is_by_resolver {
+        resolver.resolve(text, source, sequence, levels, original, classes)?;
+    } else {
+        resolve_neutral(alloc, text, source, sequence, levels, original, classes)?;
+    }
+    Ok(())
+}
+
+// The units with the neutrals of a sequence resolved. A refusal has to leave the classes.
+fn with_neutrals(
+    alloc: Global,
+    of: Classified<'_>,
+    source: &TableBidiData<'_>,
+    sequence: &IsolatingRunSequence,
+    before: &Units,
+    resolver: &mut NeutralResolver,
+    is_by_resolver: bool,
+) -> Result<Units, NoAnswer> {
+    let count = of.classes.len();
+    if count > ROOM {
+        return Err(NoAnswer::Wrong);
+    }
+    let mut units = *before;
+    let outcome = resolve(
+        alloc,
+        of.text,
+        source,
+        sequence,
+        &before.levels[..count],
+        of.classes,
+        &mut units.classes[..count],
+        resolver,
+        is_by_resolver,
+    );
+    match outcome {
+        Ok(()) => Ok(units),
+        Err(_) if units != *before => Err(NoAnswer::Wrong),
+        Err(reason) => Err(reason),
+    }
+}
+
+// The units with their implicit levels, which take no memory, and the greatest of these.
+fn with_implicit(of: Classified<'_>, before: &Units) -> Result<(Units, Level), NoAnswer> {
+    let mut units = *before;
+    let count = of.classes.len();
+    if count > ROOM
+        || units.levels[..count]
+            .iter()
+            .any(|level| level.number() > 125)
+    {
+        return Err(NoAnswer::Wrong);
+    }
+    let greatest = resolve_levels(&units.classes[..count], &mut units.levels[..count]);
+    Ok((units, greatest))
+}
+
+// The weak types of a sequence.
+fn try_weak(
+    rt: &impl Print,
+    of: Classified<'_>,
+    sequence: &IsolatingRunSequence,
+    units: &mut Units,
+) -> Result<(), Fault> {
+    *units = tried!(rt, "implicit::resolve_weak", with_weak(of, sequence, units));
+    Ok(())
+}
+
+// The neutrals of a sequence, by a resolver and by the call alone.
+fn try_neutrals(
+    rt: &(impl Print + AllocGlobal),
+    of: Classified<'_>,
+    source: &TableBidiData<'_>,
+    sequence: &IsolatingRunSequence,
+    units: &mut Units,
+    resolver: &mut NeutralResolver,
+) -> Result<(), Fault> {
+    tried!(
+        rt,
+        "NeutralResolver::resolve",
+        with_neutrals(rt.alloc(), of, source, sequence, units, resolver, true)
+    );
+    *units = tried!(
+        rt,
+        "implicit::resolve_neutral",
+        with_neutrals(rt.alloc(), of, source, sequence, units, resolver, false)
+    );
+    Ok(())
+}
+
+// The passes over a text, one after the other.
+fn try_passes(
+    rt: &(impl Print + AllocGlobal),
+    source: &TableBidiData<'_>,
+    of: Classified<'_>,
+) -> Result<(), Fault> {
+    tried!(rt, "explicit::compute", computed(rt.alloc(), of));
+    let (mut units, sequences) = tried!(
+        rt,
+        "explicit::compute and prepare::isolating_run_sequences",
+        prepared(rt.alloc(), of)
+    );
+    for sequence in &sequences {
+        try_weak(rt, of, sequence, &mut units)?;
+    }
+    let mut resolver = NeutralResolver::new(rt.alloc());
+    for sequence in &sequences {
+        try_neutrals(rt, of, source, sequence, &mut units, &mut resolver)?;
+    }
+    tried!(rt, "implicit::resolve_levels", with_implicit(of, &units));
+    Ok(())
+}
+
+/// Tries the passes over a text with isolates, and over one without.
+pub fn run(rt: &(impl Print + AllocGlobal), source: &TableBidiData<'_>) -> Result<(), Fault> {
+    for (text, has_isolate_controls) in [(TEXT, true), (WITHOUT_ISOLATES, false)] {
+        let info = tried!(
+            rt,
+            "ParagraphBidiInfo::new_with_data_source",
+            ParagraphBidiInfo::new_with_data_source(rt.alloc(), source, text, None)
+        );
+        let of = Classified {
+            text: StrText::new(text),
+            classes: info.original_classes(),
+            has_isolate_controls,
+        };
+        try_passes(rt, source, of)?;
+    }
+    Ok(())
+}
