@@ -1,17 +1,22 @@
 -- W1 over units, one after another.
-use Rattle.std.proofs.Common.{◌≡◌, ℕ, suc, ◌+◌, ◌<◌, ◌≤◌, true, false, List, [], ◌∷◌, ◌++◌, length, get_or, set, subst, refl, sym, ap, ◌∙◌, arith, inl, inr, append_assoc, append-nil, length-set, get_or-set_same, get_or-set_other}
-use Rattle.std.specs.Prelude.{All}
-use Rattle.std.proofs.lemmas.Bool.{cases_eq, both_ways, and_parts, and_left}
-use Rattle.bidi_base.specs.Units.{are_ordered, in_runs}
+use Rattle.std.proofs.Common.{◌≡◌, ℕ, zero, suc, ◌+◌, ◌-◌, ◌<◌, ◌≤◌, Bool, true, false, List, [], ◌∷◌, ◌++◌, length, map, get_or, set, take, drop, subst, refl, sym, ap, ◌∙◌, arith, inl, inr, append_assoc, append-nil, length-set, length-take, length-drop, get_or-set_same, get_or-set_other}
+use Rattle.std.specs.Prelude.{All, filter, min, slice_range}
+use Rattle.std.specs.List.{list_any, range_with_len}
+use Rattle.std.specs.declared.ops.Range.{Range}
+use Rattle.std.proofs.lemmas.List.{get_or-take, get_or-drop}
+use Rattle.std.proofs.lemmas.List.Elements.{All-nil, All-cons, All-head, All-tail}
+use Rattle.std.proofs.lemmas.List.Folds.{list_any_at}
+use Rattle.std.proofs.lemmas.Bool.{cases_eq, cases_Bool, both_ways, and_parts, and_left, or_cases, or_parts}
+use Rattle.bidi_base.specs.Units.{are_ordered, bounds, in_runs}
 use Rattle.bidi_base.specs.declared.char_data.BidiClass.{BidiClass}
 use Rattle.bidi_base.specs.declared.char_data.BidiClass.TheVariants.{L, NSM, LRI, RLI, FSI, PDI}
-use Rattle.bidi_base.specs.Classes.{is_kept_in_place}
+use Rattle.bidi_base.specs.Classes.{is_kept_in_place, is_nsm}
 use Rattle.bidi_base.specs.Places.{at_places, class_at}
 use Rattle.bidi_base.specs.Weak.{carried}
 use Rattle.bidi_base.proofs.StoredLemmas.{at_places-append}
 use Rattle.bidi_rules.specs.WeakPass.{marked, after_w1}
-use Rattle.bidi_rules.specs.WeakWalk.{is_seen, seen_from, seen_units, AreMarked, IsMarked}
-use Rattle.bidi_rules.proofs.InRuns.{start_or, start_within, gap_before, gap_after, next_start}
+use Rattle.bidi_rules.specs.WeakWalk.{is_seen, part_of, is_any, seen_from, seen_units, AreMarked, IsMarked}
+use Rattle.bidi_rules.proofs.InRuns.{in_run, in_run-true, start_or, start_within, gap_before, gap_after, next_start}
 use Rattle.bidi_rules.proofs.Marks.{marked-none, marked-parts, marked-empty, marked-one, at_marked-same}
 
 carried-kept : (c : BidiClass) → is_kept_in_place c ≡ true → is_kept_in_place (carried c) ≡ true
@@ -112,3 +117,60 @@ module _ (runs : List (ℕ × ℕ)) (sos : BidiClass) (old : List BidiClass) whe
         subst (λ (n : ℕ). AreMarked runs sos old now mark (start_or runs n (length old))) next
         (AreMarked-unseen now mark (get_or runs index (0, 0)).1 h (start_or runs (suc index) (length old)) (next_start 0 index runs (length old) ordered fits (within index (0, 0) fits)) (start_within runs (suc index) (length old) ordered within)
         (λ k from below. and_left (in_runs runs k) (is_kept_in_place (class_at old k)) (gap_after 0 index runs k (length old) ordered fits from below)))
+
+-- ---- where no class passes a test
+
+in_part : (test : BidiClass → Bool) (units : List BidiClass) (start end u : ℕ) → end ≤ length units → start ≤ u → u < end → list_any test (part_of units (start, end)) ≡ false → test (class_at units u) ≡ false
+in_part test units start end u fits from below none =
+    let top : min end (length units) ≡ end = omega arith in
+    let bottom : min start end ≡ start = omega arith in
+    let part = take (end - start) (drop start units) in
+    let is : part_of units (start, end) ≡ part = ap (λ e. slice_range units (min start e) e) top ∙ ap (λ s. slice_range units s end) bottom in
+    let at : start + (u - start) ≡ u = omega arith in
+    let read : get_or part (u - start) L ≡ class_at units u = get_or-take (end - start) (drop start units) (u - start) L (omega arith) ∙ get_or-drop start units (u - start) L ∙ ap (class_at units) at in
+    elim (cases_Bool (test (class_at units u))) [
+      | inl passes ↦
+          absurd (both_ways (list_any test part) (ap (list_any test) (sym is) ∙ none)
+          (list_any_at test part (u - start) L (omega (arith, length-take (end - start) (drop start units), length-drop start units)) (ap test read ∙ passes)))
+      | inr fails ↦ fails
+    ]
+
+pub is_any-none : (test : BidiClass → Bool) (runs : List (Range ℕ)) (units : List BidiClass) → All (λ r. r.1 ≤ length units) (map bounds runs) → is_any test runs units ≡ false → (u : ℕ) → in_runs (map bounds runs) u ≡ true → test (class_at units u) ≡ false
+is_any-none test [] units within none u inside = absurd (both_ways false refl inside)
+is_any-none test (r ∷ runs) units within none u inside =
+    let parts = or_parts (list_any test (part_of units (bounds r))) (is_any test runs units) none in
+    elim (or_cases (in_run (bounds r) u) (in_runs (map bounds runs) u) inside) [
+      | inl here ↦
+          let ends = in_run-true (bounds r) u here in
+          in_part test units r.start r.end u (All-head (λ (q : ℕ × ℕ). q.1 ≤ length units) (bounds r) (map bounds runs) within) ends.0 ends.1 parts.0
+      | inr later ↦ is_any-none test runs units (All-tail (λ (q : ℕ × ℕ). q.1 ≤ length units) (bounds r) (map bounds runs) within) parts.1 u later
+    ]
+
+-- so of the units that are seen
+pub All-seen : (P : ℕ → Type 0) (runs : List (ℕ × ℕ)) (units : List BidiClass) → ((u : ℕ) → in_runs runs u ≡ true → P u) → All P (seen_units runs units)
+All-seen P runs units each = over 0 (length units - 0)
+  where
+    over : (low n : ℕ) → All P (filter (is_seen runs units) (range_with_len low n))
+    over low zero = All-nil P
+    over low (suc n) = elim (cases_Bool (is_seen runs units low)) [
+      | inl yes' ↦ rw yes' (All-cons P low (filter (is_seen runs units) (range_with_len (low + 1) n)) (each low (and_parts (in_runs runs low) (is_kept_in_place (class_at units low)) yes').0) (over (low + 1) n))
+      | inr no' ↦ rw no' (over (low + 1) n)
+    ]
+
+after_w1-none : (units : List BidiClass) (us : List ℕ) (mark : BidiClass) → All (λ u. is_nsm (class_at units u) ≡ false) us → after_w1 mark (at_places L units us) ≡ at_places L units us
+after_w1-none units [] mark none = refl
+after_w1-none units (u ∷ us) mark none =
+    rw (own (class_at units u) (All-head (λ u. is_nsm (class_at units u) ≡ false) u us none))
+    (ap (λ (cs : List BidiClass). class_at units u ∷ cs) (after_w1-none units us (carried (class_at units u)) (All-tail (λ u. is_nsm (class_at units u) ≡ false) u us none)))
+  where
+    own : (c : BidiClass) → is_nsm c ≡ false → marked mark c ≡ c
+    own NSM h = absurd (cc h)
+    own _ h = refl
+
+pub IsMarked-none : (runs : List (Range ℕ)) (sos : BidiClass) (old : List BidiClass) → All (λ r. r.1 ≤ length old) (map bounds runs) → is_any is_nsm runs old ≡ false → IsMarked (map bounds runs) sos old old
+IsMarked-none runs sos old within none = record {
+  answers = sym (after_w1-none old (seen_units (map bounds runs) old) sos (All-seen (λ u. is_nsm (class_at old u) ≡ false) (map bounds runs) old (is_any-none is_nsm runs old within none)));
+  unseen = λ k h. refl;
+  kept = λ k. refl;
+  long = refl;
+}

@@ -1,9 +1,10 @@
 -- The walk over units gives what W2 to W7 give the characters, repeated.
-use Rattle.std.proofs.Common.{◌≡◌, ℕ, zero, suc, ◌+◌, ◌-◌, ◌<◌, ◌≤◌, true, false, if◌then◌else◌, List, [], ◌∷◌, ◌++◌, length, map, get_or, replicate, refl, sym, ap, ◌∙◌, arith, inl, inr, append-nil, append_assoc, length-append}
+use Rattle.std.proofs.Common.{◌≡◌, ℕ, zero, suc, ◌+◌, ◌-◌, ◌<◌, ◌≤◌, Bool, true, false, if◌then◌else◌, List, [], ◌∷◌, ◌++◌, length, map, get_or, replicate, refl, sym, ap, ◌∙◌, arith, inl, inr, append-nil, append_assoc, length-append}
+use Rattle.std.specs.Prelude.{All}
 use Rattle.std.specs.List.{range_with_len}
 use Rattle.std.proofs.lemmas.Bool.{cases_Bool}
 use Rattle.bidi_base.specs.declared.char_data.BidiClass.{BidiClass}
-use Rattle.bidi_base.specs.declared.char_data.BidiClass.TheVariants.{L, AL, EN, ES, ET, CS, ON}
+use Rattle.bidi_base.specs.declared.char_data.BidiClass.TheVariants.{L, AL, EN, ES, ET, AN, CS, ON}
 use Rattle.std.proofs.lemmas.List.{replicate-append-replicate}
 use Rattle.std.proofs.lemmas.List.Sums.{sum_by-append, sum_by-cons}
 use Rattle.std.proofs.lemmas.List.Elements.{All-head, All-tail}
@@ -13,8 +14,8 @@ use Rattle.bidi_base.specs.Text.{place, per_unit, text_len}
 use Rattle.bidi_base.proofs.RepeatedPlaces.{AreIndexes, units_of_chars}
 use Rattle.bidi_base.proofs.TextLemmas.{HasUnits}
 use Rattle.bidi_rules.specs.declared.implicit.weak.steps.Before.{Before}
-use Rattle.bidi_rules.specs.declared.implicit.weak.steps.Before.TheVariants.{European, EuropeanTerminators, Arabic, Terminators, EuropeanSeparator, ArabicSeparator}
-use Rattle.bidi_rules.specs.WeakPass.{strengthened, strong_up_to, after_w3, waits, joins, next_before, settled, resolved, w7_by, is_after_l, after_w7, still_to_come, walked}
+use Rattle.bidi_rules.specs.declared.implicit.weak.steps.Before.TheVariants.{Other, European, EuropeanTerminators, Arabic, Terminators, EuropeanSeparator, ArabicSeparator}
+use Rattle.bidi_rules.specs.WeakPass.{strengthened, strong_up_to, after_w3, waits, joins, next_before, settled, resolved, w7_by, is_after_l, after_w7, left_over, is_number, still_to_come, walked}
 
 -- reading a second unit of a class that need not wait changes nothing
 record IsSteady (c strong : BidiClass) (before : Before) : Type 0 where
@@ -141,6 +142,52 @@ module _ (class : ℕ → BidiClass) (len : ℕ → ℕ) where
         ∙ rw (apart, free)
         (ap (λ (cs : List BidiClass). replicate n (w7_by (is_l strong) (settled z before)) ++ own ∷ cs)
         (decided (is_steady c strong before free) free m (a + 1) us (λ k from below. each k (omega arith) (omega arith))))
+
+-- ---- where no number stands, each class changes by itself
+
+abbrev is_idle : Before → Bool
+is_idle Other = true
+is_idle Terminators = true
+is_idle _ = false
+
+record IsPlain (c strong : BidiClass) (before : Before) : Type 0 where
+  next : is_idle (next_before (strengthened strong c) before) ≡ true
+  none : (n : ℕ) → still_to_come (next_before (strengthened strong c) before) n ≡ 0
+  held : w7_by (is_l strong) (settled (strengthened strong c) before) ≡ ON
+  joined : joins (strengthened strong c) before ≡ true → left_over c ≡ ON
+  waiting : waits (next_before (strengthened strong c) before) ≡ true → left_over c ≡ ON
+  own : waits (next_before (strengthened strong c) before) ≡ false → w7_by (is_l strong) (resolved (strengthened strong c) before) ≡ left_over c
+
+is_plain : (c strong : BidiClass) (before : Before) → is_number c ≡ false → is_idle before ≡ true → IsPlain c strong before
+is_plain EN strong before h idle = absurd (cc h)
+is_plain AN strong before h idle = absurd (cc h)
+is_plain ET strong Other h idle = record { next = refl; none = λ n. refl; held = refl; joined = λ j. refl; waiting = λ w. refl; own = λ w. absurd (cc w) }
+is_plain ET strong Terminators h idle = record { next = refl; none = λ n. refl; held = refl; joined = λ j. refl; waiting = λ w. refl; own = λ w. absurd (cc w) }
+is_plain c strong Other h idle = record { next = refl; none = λ n. refl; held = refl; joined = λ j. absurd (cc j); waiting = λ w. absurd (cc w); own = λ w. refl }
+is_plain c strong Terminators h idle = record { next = refl; none = λ n. refl; held = refl; joined = λ j. absurd (cc j); waiting = λ w. absurd (cc w); own = λ w. refl }
+is_plain c strong _ h idle = absurd (cc idle)
+
+held_front : (n : ℕ) (xs : List BidiClass) → ON ∷ (replicate n ON ++ xs) ≡ replicate n ON ++ ON ∷ xs
+held_front zero xs = refl
+held_front (suc n) xs = ap (λ (cs : List BidiClass). ON ∷ cs) (held_front n xs)
+
+pub walked-plain : (classes : List BidiClass) (len : ℕ → ℕ) (us : List ℕ) → All (λ u. is_number (class_at classes u) ≡ false) us → (strong : BidiClass) (before : Before) (n : ℕ) → is_idle before ≡ true
+    → walked (class_at classes) len strong before 0 n us ≡ replicate n ON ++ map left_over (at_places L classes us)
+walked-plain classes len [] none strong before n idle = sym (append-nil (replicate n ON))
+walked-plain classes len (u ∷ us) none strong before n idle =
+    let c = class_at classes u in
+    let z = strengthened strong c in
+    let next = next_before z before in
+    let rest = map left_over (at_places L classes us) in
+    let p = is_plain c strong before (All-head (λ u. is_number (class_at classes u) ≡ false) u us none) idle in
+    let later = walked-plain classes len us (All-tail (λ u. is_number (class_at classes u) ≡ false) u us none) (strong_up_to strong c) next in
+    elim (cases_Bool (joins z before)) [
+      | inl joins' ↦ rw (joins', p.joined joins') (later (suc n) p.next ∙ held_front n rest)
+      | inr apart ↦ elim (cases_Bool (waits next)) [
+        | inl wait ↦ rw (apart, p.held, wait, p.none (len u), p.waiting wait) (ap (λ (cs : List BidiClass). replicate n ON ++ cs) (later 1 p.next))
+        | inr free ↦ rw (apart, p.held, free, p.own free) (ap (λ (cs : List BidiClass). replicate n ON ++ left_over c ∷ cs) (later 0 p.next))
+      ]
+    ]
 
 -- ---- over the characters
 

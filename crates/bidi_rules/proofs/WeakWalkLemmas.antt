@@ -5,20 +5,22 @@ use Rattle.std.specs.List.{range_with_len}
 use Rattle.std.proofs.lemmas.Bool.{cases_Bool, cases_lt, both_ways, and_from, and_left}
 use Rattle.std.proofs.lemmas.List.{map-append}
 use Rattle.std.proofs.lemmas.List.FromFn.{length-range_with_len}
+use Rattle.std.specs.declared.ops.Range.{Range}
 use Rattle.bidi_base.specs.declared.char_data.BidiClass.{BidiClass}
 use Rattle.bidi_base.specs.declared.char_data.BidiClass.TheVariants.{L, AL, EN, ET, AN, ON}
 use Rattle.bidi_base.specs.Classes.{is_l, is_kept_in_place}
 use Rattle.bidi_base.specs.Places.{at_places, class_at}
-use Rattle.bidi_base.specs.Units.{are_ordered, in_runs}
+use Rattle.bidi_base.specs.Units.{are_ordered, bounds, in_runs}
 use Rattle.bidi_base.proofs.StoredLemmas.{at_places-append}
 use Rattle.bidi_rules.specs.declared.implicit.weak.numbers.Walk.{Walk}
 use Rattle.bidi_rules.specs.declared.implicit.weak.steps.Before.{Before}
 use Rattle.bidi_rules.specs.declared.implicit.weak.steps.Before.TheVariants.{European, EuropeanTerminators, Terminators, EuropeanSeparator, ArabicSeparator, Other}
-use Rattle.bidi_rules.specs.WeakPass.{strengthened, strong_up_to, waits, joins, next_before, settled, resolved, w7_by, left_over, still_to_come, walked}
-use Rattle.bidi_rules.specs.WeakWalk.{is_seen, IsWrittenOver, Pass, seen, units, IsUnderWay, IsStretch, IsWalked}
+use Rattle.bidi_rules.specs.WeakPass.{strengthened, strong_up_to, waits, joins, next_before, settled, resolved, w7_by, left_over, is_number, still_to_come, walked}
+use Rattle.bidi_rules.specs.WeakWalk.{is_seen, is_any, seen_units, IsWrittenOver, Pass, seen, units, IsUnderWay, IsStretch, IsWalked}
 use Rattle.bidi_rules.proofs.InRuns.{in_runs-at, in_runs-drop, start_or, start_within, gap_before, gap_after, next_start}
 use Rattle.bidi_rules.proofs.Marks.{marked-none, marked-parts, marked-empty, marked-full, at_marked-same, at_marked-all}
-use Rattle.bidi_rules.proofs.WeakUnits.{row-joins, row-waits, row-decides}
+use Rattle.bidi_rules.proofs.WeakMarks.{is_any-none, All-seen}
+use Rattle.bidi_rules.proofs.WeakUnits.{walked-plain, row-joins, row-waits, row-decides}
 use Rattle.bidi_rules.proofs.WrittenOver.{IsWrittenOver-same_test}
 
 -- ---- what is written is not changed by W3 and W6
@@ -330,3 +332,11 @@ module _ (p : Pass) (ordered : are_ordered p.runs ≡ true) (within : All (λ (r
       subst (λ (n : ℕ). IsUnderWay p now w (start_or p.runs n (length p.old))) next
       (IsUnderWay-unseen p now w (get_or p.runs index (0, 0)).1 h (start_or p.runs (suc index) (length p.old)) (next_start 0 index p.runs (length p.old) ordered fits (within index (0, 0) fits)) (start_within p.runs (suc index) (length p.old) ordered within)
       (λ k from below. and_left (in_runs p.runs k) (is_kept_in_place (class_at p.old k)) (gap_after 0 index p.runs k (length p.old) ordered fits from below)))
+
+-- where no number stands nothing is written
+pub IsWalked-none : (len : ℕ → ℕ) (runs : List (Range ℕ)) (sos : BidiClass) (old : List BidiClass) → All (λ r. r.1 ≤ length old) (map bounds runs) → is_any is_number runs old ≡ false → IsWalked len (map bounds runs) sos old old
+IsWalked-none len runs sos old within none = record {
+  answers = sym (walked-plain old len (seen_units (map bounds runs) old) (All-seen (λ u. is_number (class_at old u) ≡ false) (map bounds runs) old (is_any-none is_number runs old within none)) sos Other 0 refl);
+  unseen = λ k h. refl;
+  long = refl;
+}

@@ -129,6 +129,12 @@ left_over ET = ON
 left_over CS = ON
 left_over c = c
 
+-- a European or Arabic number
+abbrev pub is_number : BidiClass → Bool
+is_number EN = true
+is_number AN = true
+is_number _ = false
+
 -- how many units of a separator that waits come behind its first one, of n
 abbrev pub still_to_come : Before → ℕ → ℕ
 still_to_come EuropeanSeparator n = n - 1

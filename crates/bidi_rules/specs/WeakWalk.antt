@@ -1,12 +1,14 @@
 -- The weak passes over units in place: what each has done once it read some units of a slice.
-use Rattle.std.specs.Prelude.{◌≡◌, ℕ, ◌+◌, ◌-◌, ◌<◌, ◌≤◌, Bool, true, false, ◌&&◌, List, ◌++◌, length, map, filter, get_or}
+use Rattle.std.specs.Prelude.{◌≡◌, ℕ, ◌+◌, ◌-◌, ◌<◌, ◌≤◌, Bool, true, false, ◌&&◌, List, ◌++◌, length, map, filter, get_or, min, slice_range}
+use Rattle.std.specs.List.{list_any}
 use Rattle.std.specs.Option.{option_map_or}
+use Rattle.std.specs.declared.ops.Range.{Range}
 use Rattle.bidi_base.specs.declared.char_data.BidiClass.{BidiClass}
 use Rattle.bidi_base.specs.declared.char_data.BidiClass.TheVariants.{L}
 use Rattle.bidi_base.specs.Classes.{is_kept_in_place}
 use Rattle.bidi_base.specs.Places.{between, at_places, class_at}
 use Rattle.bidi_base.specs.Text.{char_at}
-use Rattle.bidi_base.specs.Units.{in_runs}
+use Rattle.bidi_base.specs.Units.{bounds, in_runs}
 use Rattle.bidi_rules.specs.declared.implicit.weak.numbers.Walk.{Walk}
 use Rattle.bidi_rules.specs.declared.implicit.weak.steps.Before.TheVariants.{Other}
 use Rattle.bidi_rules.specs.WeakPass.{after_w1, strengthened, next_before, waits, left_over, still_to_come, walked}
@@ -22,6 +24,14 @@ pub record IsWrittenOver (test : ℕ → Bool) (class : BidiClass) (from to : �
   pub below : (k : ℕ) → k < from → class_at new k ≡ class_at old k
   pub above : (k : ℕ) → to ≤ k → class_at new k ≡ class_at old k
   pub long : length new ≡ length old
+
+-- the classes of a range of units, as far as there are any
+abbrev pub part_of : List BidiClass → ℕ × ℕ → List BidiClass
+part_of units r = let end = min r.1 (length units) in slice_range units (min r.0 end) end
+
+-- one in some ranges passes the test
+abbrev pub is_any : (BidiClass → Bool) → List (Range ℕ) → List BidiClass → Bool
+is_any test runs units = list_any (λ run. list_any test (part_of units (bounds run))) runs
 
 -- the seen units from `low` up to `high`, and all of them
 abbrev pub seen_from : List (ℕ × ℕ) → List BidiClass → ℕ → ℕ → List ℕ

@@ -8,7 +8,7 @@ ghost use Rattle.bidi_base.specs.Units.{bounds, are_ordered, in_runs, kept_in_pl
 ghost use Rattle.bidi_base.specs.Weak.{weak_classes};
 ghost use Rattle.bidi_base.specs.declared.char_data.BidiClass.TheVariants.{L, BN};
 ghost use Rattle.bidi_rules.specs.RunSequence.{lent_runs, lent_sos, runs as runs_of, sos as sos_of};
-ghost use Rattle.bidi_rules.specs.WeakWalk.{is_seen, IsWrittenOver};
+ghost use Rattle.bidi_rules.specs.WeakWalk.{is_seen, part_of, IsWrittenOver};
 
 mod left_over;
 mod marks;
@@ -22,6 +22,14 @@ use bidi_base::text::TextSource;
 use left_over::change;
 use marks::resolve_marks;
 use numbers::resolve_numbers;
+
+/// The classes of a run's units, as far as there are any.
+fn part_of<'c>(classes: &'c [BidiClass], run: &LevelRun) -> &'c [BidiClass]
+    ensures { result.now ≡ part_of classes.now (bounds run.now) }
+{
+    let end = run.end.min(classes.len());
+    &classes[run.start.min(end)..end]
+}
 
 /// What is in the place of a class once another is written over it.
 fn written_over(before: BidiClass, class: BidiClass) -> BidiClass

@@ -1,14 +1,16 @@
 //! W1: a nonspacing mark takes the class of the character before it.
 
 ghost use Rattle.std.specs.Prelude.{◌≡◌, ℕ, ◌<◌, ◌≤◌, true, List, length, map, All, IsTrue};
+ghost use Rattle.std.specs.List.{list_any};
 ghost use Rattle.bidi_base.specs.declared.char_data.BidiClass.{BidiClass};
-ghost use Rattle.bidi_base.specs.Classes.{is_kept_in_place, is_l_or_r};
+ghost use Rattle.bidi_base.specs.Classes.{is_kept_in_place, is_l_or_r, is_nsm};
 ghost use Rattle.bidi_base.specs.Places.{class_at};
 ghost use Rattle.bidi_base.specs.Units.{bounds, are_ordered, in_runs};
 ghost use Rattle.bidi_base.specs.Weak.{carried};
 ghost use Rattle.bidi_rules.specs.WeakPass.{marked};
-ghost use Rattle.bidi_rules.specs.WeakWalk.{is_seen, AreMarked, IsMarked};
+ghost use Rattle.bidi_rules.specs.WeakWalk.{is_seen, is_any, AreMarked, IsMarked};
 
+use super::part_of;
 use crate::implicit::is_kept_in_place;
 use crate::prepare::LevelRun;
 use bidi_base::char_data::BidiClass::{self, FSI, LRI, NSM, ON, PDI, RLI};
@@ -20,10 +22,34 @@ pub fn resolve_marks(runs: &[LevelRun], sos: BidiClass, classes: &mut [BidiClass
     requires sos { IsTrue (is_l_or_r sos) }
     ensures { IsMarked (map bounds runs.now) (carried sos) classes.old classes.new }
 {
+    if !has_marks(runs, classes) {
+        return;
+    }
     let mut mark = carried(sos);
     for run in runs {
         mark = resolve_marks_in(run, mark, classes);
     }
+}
+
+/// Whether a nonspacing mark stands in the runs.
+fn has_marks(runs: &[LevelRun], classes: &[BidiClass]) -> bool
+    ensures { result ≡ is_any is_nsm runs.now classes.now }
+{
+    runs.iter().any(|run| is_mark_in(part_of(classes, run)))
+}
+
+/// Whether one of the classes is NSM.
+fn is_mark_in(classes: &[BidiClass]) -> bool
+    ensures { result ≡ list_any is_nsm classes.now }
+{
+    classes.iter().any(|class| is_mark(*class))
+}
+
+/// Whether a class is NSM.
+fn is_mark(class: BidiClass) -> bool
+    ensures { result ≡ is_nsm class }
+{
+    matches!(class, NSM)
 }
 
 /// The same over one run, where a mark at its front takes `mark`. Answers what a mark behind it takes.

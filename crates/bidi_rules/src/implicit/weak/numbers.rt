@@ -3,19 +3,20 @@
 //! separator between numbers has to be one character.
 
 ghost use Rattle.std.specs.Prelude.{◌≡◌, ℕ, ◌+◌, ◌-◌, ◌<◌, ◌≤◌, true, false, length, map, drop, get_or, IsTrue};
+ghost use Rattle.std.specs.List.{list_any};
 ghost use Rattle.bidi_base.specs.Places.{class_at};
 ghost use Rattle.bidi_base.specs.Text.{text_len, IsPerChar};
 ghost use Rattle.bidi_base.specs.Units.{bounds, are_ordered, AreLines};
 ghost use Rattle.bidi_rules.specs.ExplicitPass.{filled};
-ghost use Rattle.bidi_rules.specs.WeakPass.{next_before, still_to_come, strengthened, waits};
-ghost use Rattle.bidi_rules.specs.WeakWalk.{is_seen, len_at, IsWalked, IsWhole, IsWrittenOver, Reads, ReadsTo};
+ghost use Rattle.bidi_rules.specs.WeakPass.{is_number, next_before, still_to_come, strengthened, waits};
+ghost use Rattle.bidi_rules.specs.WeakWalk.{is_any, is_seen, len_at, IsWalked, IsWhole, IsWrittenOver, Reads, ReadsTo};
 
 use super::left_over::left_over;
 use super::steps::{Before, numbered, strengthened, strong_up_to};
-use super::write_over_runs;
+use super::{part_of, write_over_runs};
 use crate::implicit::is_kept_in_place;
 use crate::prepare::LevelRun;
-use bidi_base::char_data::BidiClass::{self, ON};
+use bidi_base::char_data::BidiClass::{self, AN, EN, ON};
 use bidi_base::text::TextSource;
 
 /// What a walk over a sequence knows of the units that it has read.
@@ -44,6 +45,9 @@ pub fn resolve_numbers<T: TextSource>(
     requires per_char { IsPerChar T.units (T.characters text) classes.old }
     ensures { IsWalked (len_at T.units (T.characters text)) (map bounds runs.now) sos classes.old classes.new }
 {
+    if !has_numbers(runs, classes) {
+        return;
+    }
     let mut walk = Walk {
         strong: sos,
         before: Before::Other,
@@ -55,6 +59,27 @@ pub fn resolve_numbers<T: TextSource>(
     }
     let end = classes.len();
     walk.settle(runs, classes, end, ON);
+}
+
+/// Whether a number stands in the runs.
+fn has_numbers(runs: &[LevelRun], classes: &[BidiClass]) -> bool
+    ensures { result ≡ is_any is_number runs.now classes.now }
+{
+    runs.iter().any(|run| is_number_in(part_of(classes, run)))
+}
+
+/// Whether one of the classes is a number.
+fn is_number_in(classes: &[BidiClass]) -> bool
+    ensures { result ≡ list_any is_number classes.now }
+{
+    classes.iter().any(|class| is_number(*class))
+}
+
+/// Whether a class is a European or Arabic number.
+fn is_number(class: BidiClass) -> bool
+    ensures { result ≡ is_number class }
+{
+    matches!(class, EN | AN)
 }
 
 impl Walk {

@@ -8,7 +8,7 @@ use Rattle.bidi_base.specs.Weak.{carried}
 use Rattle.bidi_rules.specs.WeakWalk.{AreMarked}
 use Rattle.bidi_rules.proofs.InRuns.{in_runs-at, run_some, start_or-at, start_or-past}
 use Rattle.bidi_rules.proofs.KeptRuns.{no_range}
-use Rattle.bidi_rules.proofs.WeakMarks.{AreMarked-first_run, AreMarked-next_run, AreMarked-end}
+use Rattle.bidi_rules.proofs.WeakMarks.{AreMarked-first_run, AreMarked-next_run, AreMarked-end, IsMarked-none}
 use Rattle.bidi_rules.proofs.implicit.weak.marks.resolve_marks.Goals as goal
 
 side_kept : (c : BidiClass) → is_l_or_r c ≡ true → is_kept_in_place (carried c) ≡ true
@@ -54,3 +54,6 @@ returns c =
     let old = c.args.classes.now in
     AreMarked-end runs (carried c.args.sos) old c.loop-run.classes c.loop-run.mark
     (subst (λ (u : ℕ). AreMarked runs (carried c.args.sos) old c.loop-run.classes c.loop-run.mark u) (start_or-past runs c.loop-run.run-index (length old) (omega (arith, length-map c.args.runs.now bounds))) c.loop-run.invariant)
+
+pub returns-then-not-has_marks : goal.returns-then-not-has_marks
+returns-then-not-has_marks c = IsMarked-none c.args.runs.now (carried c.args.sos) c.args.classes.now c.requires.within (sym c.has_marks.ensures ∙ c.if-not-has_marks.true)

@@ -12,7 +12,7 @@ use Rattle.bidi_base.proofs.UnitsLemmas.{length-from_IsPerChar}
 use Rattle.bidi_rules.specs.WeakWalk.{is_seen, len_at, IsWrittenOver, Pass, IsUnderWay}
 use Rattle.bidi_rules.proofs.InRuns.{start_or, start_or-at, start_or-past}
 use Rattle.bidi_rules.proofs.WeakText.{IsWhole-line}
-use Rattle.bidi_rules.proofs.WeakWalkLemmas.{IsUnderWay-first_run, IsUnderWay-next_run, IsWrittenOver-settled, IsWalked-settled}
+use Rattle.bidi_rules.proofs.WeakWalkLemmas.{IsUnderWay-first_run, IsUnderWay-next_run, IsWrittenOver-settled, IsWalked-settled, IsWalked-none}
 use Rattle.bidi_rules.proofs.implicit.weak.numbers.resolve_numbers.Goals as goal
 
 -- the runs lie within the units
@@ -84,3 +84,10 @@ returns g c =
     IsWalked-settled p now w (length old) h c.settle.new.classes (omega arith)
     (IsWrittenOver-settled p now w (length old) h ON c.settle.new.classes c.requires.ordered
     (λ t. subst (λ (u : ℕ). IsWrittenOver (is_seen (drop w.first_run runs) now) ON w.first u now c.settle.new.classes) h.long (c.settle.ensures.held t)) c.settle.ensures.idle)
+
+pub returns-then-not-has_numbers : goal.returns-then-not-has_numbers
+returns-then-not-has_numbers g c =
+    let len_of = g.T.TextSource.units in
+    let chars : List ℕ = g.T.TextSource.characters c.args.text in
+    let old = c.args.classes.now in
+    IsWalked-none (len_at len_of chars) c.args.runs.now c.args.sos old (within len_of chars (map bounds c.args.runs.now) old c.requires.lines c.requires.per_char) (sym c.has_numbers.ensures ∙ c.if-not-has_numbers.true)
