@@ -41,12 +41,14 @@ type UnitRow = (
 );
 
 #[rattlefmt::skip]
-const UNITS: [UnitRow; 7] = [
+const UNITS: [UnitRow; 9] = [
     ("W4, W5: separators and terminators", "\u{5D0}$1+2%,3", &[(0, 9)], &[R, ET, EN, ES, EN, ET, CS, EN], &[R, EN, EN, EN, EN, EN, ON, EN]),
     ("W4: a removed character behind a separator", "1+\u{AD}2", &[(0, 5)], &[EN, ES, BN, EN], &[EN, EN, BN, EN]),
     ("W5: a removed character behind a terminator", "$\u{AD}1", &[(0, 4)], &[ET, BN, EN], &[EN, BN, EN]),
     ("W6: a removed character at the end", "$\u{AD}", &[(0, 3)], &[ET, BN], &[ON, BN]),
     ("W4: one separator of two units", "1\u{E9}2", &[(0, 4)], &[EN, ES, EN], &[EN, EN, EN]),
+    ("W4: two separators of two units", "1\u{E9}\u{E9}2", &[(0, 6)], &[EN, CS, CS, EN], &[EN, ON, ON, EN]),
+    ("W1: a mark of two units behind a removed character, in the next run", "1\u{AD}x\u{301}2", &[(0, 3), (4, 7)], &[EN, BN, L, NSM, EN], &[EN, BN, L, EN, EN]),
     ("W4: a separator goes on in the next run", "1,x2", &[(0, 2), (3, 4)], &[EN, CS, L, EN], &[EN, EN, L, EN]),
     ("W5: a terminator goes on in the next run", "$x1", &[(0, 1), (2, 3)], &[ET, L, EN], &[EN, L, EN]),
 ];

@@ -1,6 +1,7 @@
 -- The units in some ranges that are in order.
-use Rattle.std.proofs.Common.{◌≡◌, ℕ, zero, suc, ◌+◌, ◌<◌, ◌≤◌, Bool, true, false, ◌&&◌, ◌||◌, leb, ltb, List, [], ◌∷◌, length, get_or, take, drop, refl, sym, ap, ◌∙◌, arith}
-use Rattle.std.proofs.lemmas.Bool.{and_parts, and_from, and_left, and_right, or_from, lt-ltb, le-ltb, le-leb, lt-leb, leb-true, ltb-true}
+use Rattle.std.proofs.Common.{◌≡◌, ℕ, zero, suc, ◌+◌, ◌<◌, ◌≤◌, Bool, true, false, ◌&&◌, ◌||◌, leb, ltb, List, [], ◌∷◌, length, get_or, take, drop, refl, sym, ap, ◌∙◌, arith, inl, inr}
+use Rattle.std.specs.Prelude.{All}
+use Rattle.std.proofs.lemmas.Bool.{cases_lt, and_parts, and_from, and_left, and_right, or_from, lt-ltb, le-ltb, le-leb, lt-leb, leb-true, ltb-true}
 use Rattle.std.proofs.lemmas.List.Folds.{list_any_more, list_any_at}
 use Rattle.bidi_base.specs.Units.{are_ordered_from, in_runs}
 use Rattle.bidi_rules.proofs.WalkLemmas.{are_ordered-front}
@@ -115,3 +116,12 @@ next_start low index [] n h fits within = absurd (omega arith)
 next_start low zero (r ∷ []) n h fits within = within
 next_start low zero (r ∷ q ∷ runs) n h fits within = (are_ordered-front r.1 q runs (are_ordered-front low r (q ∷ runs) h).later).from
 next_start low (suc index) (r ∷ runs) n h fits within = next_start r.1 index runs n (are_ordered-front low r runs h).later (omega arith) within
+
+pub start_within : (runs : List (ℕ × ℕ)) (index n : ℕ) → are_ordered_from 0 runs ≡ true → All (λ (r : ℕ × ℕ). r.1 ≤ n) runs → start_or runs index n ≤ n
+start_within runs index n ordered within = elim (cases_lt index (length runs)) [
+  | inl fits ↦
+      let some = run_some 0 index runs ordered fits in
+      let ends : (get_or runs index (0, 0)).1 ≤ n = within index (0, 0) fits in
+      omega (arith, start_or-at runs index n fits)
+  | inr past ↦ omega (arith, start_or-past runs index n past)
+]

@@ -23,9 +23,10 @@ pub mod RunUnits
 pub mod SeenUnits
 pub mod StackLemmas
 pub mod WalkLemmas
+pub mod WeakMarks
 pub mod WeakPassLemmas
-pub mod WeakPlain
+pub mod WeakText
+pub mod WeakUnits
 pub mod WeakWalkLemmas
-pub mod WeakWalkText
 pub mod WritingBack
 pub mod WrittenOver

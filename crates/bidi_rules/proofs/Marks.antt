@@ -57,6 +57,16 @@ module _ (mark : ℕ → Bool) where
     | inr none ↦ marked-none low high none
   ]
 
+  full : (low n : ℕ) → ((k : ℕ) → low ≤ k → k < low + n → mark k ≡ true) → counted low n ≡ range_with_len low n
+  full low zero h = refl
+  full low (suc n) h =
+      cond-true (mark low) (low ∷ counted (low + 1) n) (counted (low + 1) n) (h low (omega arith) (omega arith))
+      ∙ ap (λ (ps : List ℕ). low ∷ ps) (full (low + 1) n (λ k a b. h k (omega arith) (omega arith)))
+
+  -- each unit is marked
+  pub marked-full : (low high : ℕ) → ((k : ℕ) → low ≤ k → k < high → mark k ≡ true) → marked low high ≡ between low high
+  marked-full low high h = full low (high - low) (λ k a b. h k a (omega arith))
+
   -- only the first one is
   pub marked-one : (low high : ℕ) → low < high → mark low ≡ true → ((k : ℕ) → low < k → k < high → mark k ≡ false) → marked low high ≡ low ∷ []
   marked-one low high some is later =

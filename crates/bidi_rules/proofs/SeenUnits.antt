@@ -104,6 +104,29 @@ unfolding kept_in_place
 kept_in_place-alike len_of chars old new runs same =
     filter_agree (λ k. is_kept_in_place (class_at new (place len_of chars k))) (λ k. is_kept_in_place (class_at old (place len_of chars k))) (λ k. same (place len_of chars k)) (chars_in_runs len_of chars runs)
 
+-- at the units of the characters that are seen stands an answer for each, and nothing else was written
+module _ (len_of : ℕ → ℕ) (h : HasUnits len_of) (chars : List ℕ) (old : List BidiClass) (per : IsPerChar len_of chars old) (runs : List (ℕ × ℕ)) (lines : AreLines len_of chars runs) (ordered : are_ordered runs ≡ true)
+    (within : All (λ r. r.1 ≤ length old) runs) (new answers : List BidiClass) (many : length answers ≡ length (kept_in_place len_of chars old runs))
+    (is : at_places L new (filter (λ u. is_kept_in_place (class_at old u)) (units_in_runs runs)) ≡ per_unit len_of (at_places 0 chars (kept_in_place len_of chars old runs)) answers) where
+  pub answered-IsPerChar : length new ≡ length old → ((u : ℕ) → is_seen runs old u ≡ false → class_at new u ≡ class_at old u) → IsPerChar len_of chars new
+  answered-IsPerChar long others =
+      subst
+      (λ (us : List BidiClass). length answers ≡ length (kept_in_place len_of chars us runs) → at_places L new (filter (λ u. is_kept_in_place (class_at us u)) (units_in_runs runs)) ≡ per_unit len_of (at_places 0 chars (kept_in_place len_of chars us runs)) answers
+      → ((u : ℕ) → All (λ q. q ≢ u) (filter (λ u. is_kept_in_place (class_at us u)) (units_in_runs runs)) → class_at new u ≡ class_at us u) → IsPerChar len_of chars new)
+      (sym per.2)
+      (λ many is others. read_units-per_char len_of h chars per.0 per.1 runs lines new answers many (long ∙ length-from_IsPerChar len_of chars old per) is others)
+      many is (λ u differ. others u (stays u differ))
+    where
+      stays : (u : ℕ) → All (λ q. q ≢ u) (filter (λ u. is_kept_in_place (class_at old u)) (units_in_runs runs)) → is_seen runs old u ≡ false
+      stays u differ = elim (cases_lt u (length old)) [
+        | inl inside ↦ not_seen old runs u inside (subst (All (λ q. q ≢ u)) (sym (seen_units-is old runs ordered within)) differ)
+        | inr past ↦ elim (cases_Bool (is_seen runs old u)) [
+          | inl yes' ↦
+              absurd (omega (arith, past, length-from_IsPerChar len_of chars old per, in_runs-within len_of h chars runs lines u (and_parts (in_runs runs u) (is_kept_in_place (class_at old u)) yes').0))
+          | inr no' ↦ no'
+        ]
+      ]
+
 -- a rule that commutes with repetition was applied to the units that are seen, and nothing else was written
 module _ (len_of : ℕ → ℕ) (h : HasUnits len_of) (chars : List ℕ) (old : List BidiClass) (per : IsPerChar len_of chars old) (runs : List (ℕ × ℕ)) (lines : AreLines len_of chars runs) (ordered : are_ordered runs ≡ true)
     (within : All (λ r. r.1 ≤ length old) runs) (rule : List BidiClass → List BidiClass) (keeps : (cs : List BidiClass) → length (rule cs) ≡ length cs)
@@ -123,25 +146,16 @@ module _ (len_of : ℕ → ℕ) (h : HasUnits len_of) (chars : List ℕ) (old : 
 
   pub ruled-IsPerChar : length new ≡ length old → ((u : ℕ) → is_seen runs old u ≡ false → class_at new u ≡ class_at old u) → IsPerChar len_of chars new
   ruled-IsPerChar long others =
-      let units = per_unit len_of chars per.0 in
-      let size = length-from_IsPerChar len_of chars old per in
-      let ks = kept_in_place len_of chars units runs in
-      let ds = at_places 0 chars ks in
-      let cs = at_places L units (map (place len_of chars) ks) in
-      let many : length cs ≡ length ks = length-at_places L units (map (place len_of chars) ks) ∙ length-map ks (place len_of chars) in
-      read_units-per_char len_of h chars per.0 per.1 runs lines new (rule cs) (keeps cs ∙ many) (long ∙ size)
-      (over_units ∙ ap rule (read_units-old len_of h chars per.0 per.1 runs lines) ∙ commutes ds cs (HaveUnits-every len_of h ds) (many ∙ sym (length-at_places 0 chars ks)))
-      (λ u differ. others u (stays u (subst (λ (us : List BidiClass). All (λ q. q ≢ u) (seen_of us)) (sym per.2) differ)) ∙ ap (λ (us : List BidiClass). class_at us u) per.2)
-    where
-      stays : (u : ℕ) → All (λ q. q ≢ u) (seen_of old) → is_seen runs old u ≡ false
-      stays u differ = elim (cases_lt u (length old)) [
-        | inl inside ↦ not_seen old runs u inside (subst (All (λ q. q ≢ u)) (sym (seen_units-is old runs ordered within)) differ)
-        | inr past ↦ elim (cases_Bool (is_seen runs old u)) [
-          | inl yes' ↦
-              absurd (omega (arith, past, length-from_IsPerChar len_of chars old per, in_runs-within len_of h chars runs lines u (and_parts (in_runs runs u) (is_kept_in_place (class_at old u)) yes').0))
-          | inr no' ↦ no'
-        ]
-      ]
+      let ds = λ (us : List BidiClass). at_places 0 chars (kept_in_place len_of chars us runs) in
+      let cs = λ (us : List BidiClass). at_places L us (map (place len_of chars) (kept_in_place len_of chars us runs)) in
+      let many : length (cs old) ≡ length (kept_in_place len_of chars old runs) = length-at_places L old (map (place len_of chars) (kept_in_place len_of chars old runs)) ∙ length-map (kept_in_place len_of chars old runs) (place len_of chars) in
+      let at_old : at_places L old (seen_of old) ≡ per_unit len_of (ds old) (cs old) =
+      subst (λ (us : List BidiClass). at_places L us (seen_of us) ≡ per_unit len_of (ds us) (cs us)) (sym per.2) (read_units-old len_of h chars per.0 per.1 runs lines) in
+      let seen = seen_units-is old runs ordered within in
+      answered-IsPerChar len_of h chars old per runs lines ordered within new (rule (cs old)) (keeps (cs old) ∙ many)
+      (ap (at_places L new) (sym seen) ∙ is ∙ ap (λ (us : List ℕ). rule (at_places L old us)) seen ∙ ap rule at_old
+      ∙ commutes (ds old) (cs old) (HaveUnits-every len_of h (ds old)) (many ∙ sym (length-at_places 0 chars (kept_in_place len_of chars old runs))))
+      long others
 
 -- a test that holds of the classes of the characters holds of those of their units
 all_replicate : (test : BidiClass → Bool) (n : ℕ) (c : BidiClass) → test c ≡ true → list_all test (replicate n c) ≡ true

@@ -1,14 +1,15 @@
 -- The pass from the front gives W1 to W7.
 use Rattle.std.proofs.Common.{◌≡◌, ℕ, zero, suc, Bool, true, false, not, ◌||◌, if◌then◌else◌, List, [], ◌∷◌, ◌++◌, replicate, refl, sym, ap, ◌∙◌, append-nil}
 use Rattle.bidi_base.specs.declared.char_data.BidiClass.{BidiClass}
-use Rattle.bidi_base.specs.declared.char_data.BidiClass.TheVariants.{L, R, AL, EN, ES, ET, AN, CS, NSM, ON, LRI}
+use Rattle.bidi_base.specs.declared.char_data.BidiClass.TheVariants.{L, R, EN, ES, ET, AN, CS, NSM, ON, LRI}
 use Rattle.bidi_rules.specs.declared.implicit.weak.steps.Before.{Before}
 use Rattle.bidi_rules.specs.declared.implicit.weak.steps.Before.TheVariants.{Other, European, EuropeanTerminators, Arabic, Terminators, EuropeanSeparator, ArabicSeparator}
 use Rattle.bidi_base.specs.Classes.{is_strong, is_nsm, is_et, is_al, is_en, is_l, is_l_or_r}
 use Rattle.bidi_base.specs.Places.{nearest, nearest_is, in_context}
-use Rattle.bidi_base.specs.Weak.{carried, w1_rule, w2_rule, w3_rule, w4_rule, w5_rule, w6_rule, w7_rule, w3, w6, weak_classes}
+use Rattle.bidi_base.specs.Weak.{carried, w1_rule, w2_rule, w3_rule, w4_rule, w5_rule, w6_rule, w7_rule, w1, w3, w6, weak_classes}
 use Rattle.bidi_rules.proofs.Marks.{cons_both}
-use Rattle.bidi_rules.specs.WeakPass.{marked, w2_w3, is_after_al, after_w3, waits, is_beside_european, w7_by, after_w7}
+use Rattle.bidi_base.proofs.PlacesLemmas.{nearest-more}
+use Rattle.bidi_rules.specs.WeakPass.{marked, after_w1, strengthened, strong_up_to, after_w3, waits, is_beside_european, w7_by, after_w7}
 
 -- W1 to W3
 carried-twice : (c : BidiClass) → carried (carried c) ≡ carried c
@@ -23,31 +24,24 @@ marked-next : (m sos x : BidiClass) (before : List BidiClass) → m ≡ carried 
 marked-next m sos NSM before h = ap carried h ∙ carried-twice (nearest (λ c. not (is_nsm c)) before sos)
 marked-next m sos _ before h = refl
 
+pub after_w1-is : (sos m : BidiClass) (before xs : List BidiClass) → m ≡ carried (nearest (λ c. not (is_nsm c)) before sos) → in_context (w1_rule sos) before xs ≡ after_w1 m xs
+after_w1-is sos m before [] h = refl
+after_w1-is sos m before (x ∷ xs) h =
+    cons_both _ _ _ _ (marked-is m sos x before xs h) (after_w1-is sos (carried (marked m x)) (x ∷ before) xs (marked-next m sos x before h))
+
 w3-if : (b : Bool) → w3_rule (if b then AN else EN) ≡ (if b then AN else EN)
 w3-if true = refl
 w3-if false = refl
 
-w2_w3-is : (after_al : Bool) (sos y : BidiClass) (before after : List BidiClass) → after_al ≡ is_al (nearest is_strong before sos) → w3_rule (w2_rule sos before y after) ≡ w2_w3 after_al y
-w2_w3-is after_al sos EN before after h = w3-if (is_al (nearest is_strong before sos)) ∙ ap (λ b. if b then AN else EN) (sym h)
-w2_w3-is after_al sos _ before after h = refl
+strengthened-is : (strong sos y : BidiClass) (before after : List BidiClass) → strong ≡ nearest is_strong before sos → w3_rule (w2_rule sos before y after) ≡ strengthened strong y
+strengthened-is strong sos EN before after h = w3-if (is_al (nearest is_strong before sos)) ∙ ap (λ c. if is_al c then AN else EN) (sym h)
+strengthened-is strong sos _ before after h = refl
 
-is_after_al-next : (after_al : Bool) (sos y : BidiClass) (before : List BidiClass) → after_al ≡ is_al (nearest is_strong before sos) → is_after_al after_al y ≡ is_al (nearest is_strong (y ∷ before) sos)
-is_after_al-next after_al sos L before h = refl
-is_after_al-next after_al sos R before h = refl
-is_after_al-next after_al sos AL before h = refl
-is_after_al-next after_al sos _ before h = h
-
-pub after_w3-is : (sos m : BidiClass) (after_al : Bool) (b1 b2 xs : List BidiClass) → m ≡ carried (nearest (λ c. not (is_nsm c)) b1 sos) → after_al ≡ is_al (nearest is_strong b2 sos)
-    → w3 (in_context (w2_rule sos) b2 (in_context (w1_rule sos) b1 xs)) ≡ after_w3 m after_al xs
-after_w3-is sos m after_al b1 b2 [] h k = refl
-after_w3-is sos m after_al b1 b2 (x ∷ xs) h k =
-    let y = w1_rule sos b1 x xs in
-    let e : y ≡ marked m x = marked-is m sos x b1 xs h in
-    cons_both _ _ _ _
-    (w2_w3-is after_al sos y b2 (in_context (w1_rule sos) (x ∷ b1) xs) k ∙ ap (w2_w3 after_al) e)
-    (after_w3-is sos (carried (marked m x)) (is_after_al after_al (marked m x)) (x ∷ b1) (y ∷ b2) xs
-    (marked-next m sos x b1 h)
-    (ap (is_after_al after_al) (sym e) ∙ is_after_al-next after_al sos y b2 k))
+after_w3-is : (sos strong : BidiClass) (before ys : List BidiClass) → strong ≡ nearest is_strong before sos → w3 (in_context (w2_rule sos) before ys) ≡ after_w3 strong ys
+after_w3-is sos strong before [] h = refl
+after_w3-is sos strong before (y ∷ ys) h =
+    cons_both _ _ _ _ (strengthened-is strong sos y before ys h)
+    (after_w3-is sos (strong_up_to strong y) (y ∷ before) ys (ap (λ (c : BidiClass). if is_strong y then y else c) h ∙ sym (nearest-more is_strong y before sos)))
 
 -- W4 to W7
 abbrev after_all : BidiClass → List BidiClass → List BidiClass → List BidiClass → List BidiClass → List BidiClass
@@ -345,9 +339,9 @@ is_right sos (z ∷ zs) =
       arabic = arabic-more sos zs next z;
     }
 
--- W1 to W7 in one pass
-pub weak_classes-pass : (sos : BidiClass) (xs : List BidiClass) → weak_classes sos xs ≡ after_w7 (is_l sos) Other 0 (after_w3 (carried sos) (is_al sos) xs)
+-- W2 to W7 in one pass, behind W1
+pub weak_classes-pass : (sos : BidiClass) (xs : List BidiClass) → weak_classes sos xs ≡ after_w7 (is_l sos) Other 0 (after_w3 sos (w1 sos xs))
 unfolding weak_classes
 weak_classes-pass sos xs =
-    (is_right sos (w3 (in_context (w2_rule sos) [] (in_context (w1_rule sos) [] xs)))).ready Other [] [] [] (is_l sos) refl (record { number = refl; beside = refl; left = refl })
-    ∙ ap (after_w7 (is_l sos) Other 0) (after_w3-is sos (carried sos) (is_al sos) [] [] xs refl refl)
+    (is_right sos (w3 (in_context (w2_rule sos) [] (w1 sos xs)))).ready Other [] [] [] (is_l sos) refl (record { number = refl; beside = refl; left = refl })
+    ∙ ap (after_w7 (is_l sos) Other 0) (after_w3-is sos sos [] (w1 sos xs) refl)

@@ -1,61 +1,55 @@
--- The steps of the weak pass over units in place.
-use Rattle.std.proofs.Common.{◌≡◌, ℕ, suc, ◌+◌, ◌<◌, ◌≤◌, Bool, true, false, ◌&&◌, if◌then◌else◌, List, [], ◌∷◌, ◌++◌, length, get_or, drop, replicate, refl, sym, ap, subst, ◌∙◌, arith, inl, inr, append-nil, append_assoc, length-append}
-use Rattle.std.proofs.lemmas.Bool.{cond-true, cond-false, cases_Bool, cases_lt, cases_eq, both_ways, and_parts}
+-- The steps of the walk over numbers, by stretches of units.
+use Rattle.std.proofs.Common.{◌≡◌, ℕ, zero, suc, ◌+◌, ◌-◌, ◌<◌, ◌≤◌, Bool, true, false, ◌&&◌, List, [], ◌∷◌, ◌++◌, length, get_or, map, drop, replicate, refl, sym, ap, subst, ◌∙◌, arith, inl, inr, append-nil, append_assoc, length-append}
+use Rattle.std.specs.Prelude.{All}
+use Rattle.std.specs.List.{range_with_len}
+use Rattle.std.proofs.lemmas.Bool.{cases_Bool, cases_lt, both_ways, and_from, and_left}
+use Rattle.std.proofs.lemmas.List.{map-append}
+use Rattle.std.proofs.lemmas.List.FromFn.{length-range_with_len}
+use Rattle.std.specs.declared.ops.Range.{Range}
 use Rattle.bidi_base.specs.declared.char_data.BidiClass.{BidiClass}
-use Rattle.bidi_base.specs.declared.char_data.BidiClass.TheVariants.{L, ET, ON}
-use Rattle.bidi_base.specs.Classes.{is_kept_in_place}
+use Rattle.bidi_base.specs.declared.char_data.BidiClass.TheVariants.{L, AL, EN, ET, AN, ON}
+use Rattle.bidi_base.specs.Classes.{is_l, is_kept_in_place}
 use Rattle.bidi_base.specs.Places.{at_places, class_at}
-use Rattle.bidi_base.specs.Units.{are_ordered, in_runs}
-use Rattle.bidi_base.specs.Weak.{carried, weak_classes}
-use Rattle.bidi_rules.specs.declared.implicit.weak.Walk.{Walk}
-use Rattle.bidi_rules.specs.declared.implicit.weak.steps.Before.{Before}
-use Rattle.bidi_rules.specs.declared.implicit.weak.steps.Before.TheVariants.{Terminators}
-use Rattle.bidi_rules.specs.WeakPass.{marked, w2_w3, is_after_al, after_w3, waits, next_before, joins, settled, resolved, w7_by, is_after_l, after_w7}
-use Rattle.bidi_rules.specs.WeakWalk.{first_walk, is_seen, seen, marks, IsWrittenOver, Pass, AreMarks, IsCharacter, IsUnderWay, IsOver}
-use Rattle.bidi_rules.proofs.InRuns.{in_runs-drop}
+use Rattle.bidi_base.specs.Units.{are_ordered, bounds, in_runs}
 use Rattle.bidi_base.proofs.StoredLemmas.{at_places-append}
-use Rattle.bidi_rules.proofs.Marks.{marked-none, marked-parts, marked-empty, marked-one, at_marked-same, at_marked-all}
-use Rattle.bidi_rules.proofs.WeakPassLemmas.{weak_classes-pass}
+use Rattle.bidi_rules.specs.declared.implicit.weak.numbers.Walk.{Walk}
+use Rattle.bidi_rules.specs.declared.implicit.weak.steps.Before.{Before}
+use Rattle.bidi_rules.specs.declared.implicit.weak.steps.Before.TheVariants.{European, EuropeanTerminators, Terminators, EuropeanSeparator, ArabicSeparator, Other}
+use Rattle.bidi_rules.specs.WeakPass.{strengthened, strong_up_to, waits, joins, next_before, settled, resolved, w7_by, left_over, is_number, still_to_come, walked}
+use Rattle.bidi_rules.specs.WeakWalk.{is_seen, is_any, seen_units, IsWrittenOver, Pass, seen, units, IsUnderWay, IsStretch, IsWalked}
+use Rattle.bidi_rules.proofs.InRuns.{in_runs-at, in_runs-drop, start_or, start_within, gap_before, gap_after, next_start}
+use Rattle.bidi_rules.proofs.Marks.{marked-none, marked-parts, marked-empty, marked-full, at_marked-same, at_marked-all}
+use Rattle.bidi_rules.proofs.WeakMarks.{is_any-none, All-seen}
+use Rattle.bidi_rules.proofs.WeakUnits.{walked-plain, row-joins, row-waits, row-decides}
 use Rattle.bidi_rules.proofs.WrittenOver.{IsWrittenOver-same_test}
 
--- the pass as far as a list of answers: `front` are the final ones so far, n characters wait, x comes, and then `later`
-module _ (target front : List BidiClass) (m : BidiClass) (after_al after_l : Bool) (before : Before) (n : ℕ) (x : BidiClass) (later : List BidiClass)
-    (h : front ++ after_w7 after_l before n (after_w3 m after_al (x ∷ later)) ≡ target) where
-  abbrev after_mark : BidiClass
-  after_mark = marked m x
+-- ---- what is written is not changed by W3 and W6
 
-  abbrev strong : BidiClass
-  strong = w2_w3 after_al after_mark
+number_stays : (b : Bool) → left_over (w7_by b EN) ≡ w7_by b EN
+number_stays true = refl
+number_stays false = refl
 
-  abbrev go : ℕ → List BidiClass
-  go k = after_w7 (is_after_l after_l strong) (next_before strong before) k (after_w3 (carried after_mark) (is_after_al after_al after_mark) later)
+settled-stays : (c strong : BidiClass) (b : Bool) (before : Before) → left_over (w7_by b (settled (strengthened strong c) before)) ≡ w7_by b (settled (strengthened strong c) before)
+settled-stays EN AL b ArabicSeparator = refl
+settled-stays EN AL b _ = refl
+settled-stays EN _ b Terminators = number_stays b
+settled-stays EN _ b EuropeanSeparator = number_stays b
+settled-stays EN _ b _ = refl
+settled-stays AN strong b ArabicSeparator = refl
+settled-stays AN strong b _ = refl
+settled-stays _ strong b before = refl
 
-  abbrev held : BidiClass
-  held = w7_by after_l (settled strong before)
+pub resolved-stays : (c strong : BidiClass) (b : Bool) (before : Before) → left_over (w7_by b (resolved (strengthened strong c) before)) ≡ w7_by b (resolved (strengthened strong c) before)
+resolved-stays EN AL b before = refl
+resolved-stays EN _ b before = number_stays b
+resolved-stays ET strong b European = number_stays b
+resolved-stays ET strong b EuropeanTerminators = number_stays b
+resolved-stays ET strong b _ = refl
+resolved-stays _ strong b before = refl
 
-  abbrev own : BidiClass
-  own = w7_by after_l (resolved strong before)
-
-  -- x joins those that wait
-  answers-joins : joins strong before ≡ true → front ++ go (suc n) ≡ target
-  answers-joins j = ap (λ (cs : List BidiClass). front ++ cs) (sym (cond-true (joins strong before) (go (suc n)) (replicate n held ++ (if waits (next_before strong before) then go 1 else own ∷ go 0)) j)) ∙ h
-
-  answers-settled : joins strong before ≡ false → (front ++ replicate n held) ++ (if waits (next_before strong before) then go 1 else own ∷ go 0) ≡ target
-  answers-settled j =
-      append_assoc front (replicate n held) (if waits (next_before strong before) then go 1 else own ∷ go 0)
-      ∙ ap (λ (cs : List BidiClass). front ++ cs) (sym (cond-false (joins strong before) (go (suc n)) (replicate n held ++ (if waits (next_before strong before) then go 1 else own ∷ go 0)) j))
-      ∙ h
-
-  -- those that wait are decided, and x waits
-  answers-waits : joins strong before ≡ false → waits (next_before strong before) ≡ true → (front ++ replicate n held) ++ go 1 ≡ target
-  answers-waits j k = ap (λ (cs : List BidiClass). (front ++ replicate n held) ++ cs) (sym (cond-true (waits (next_before strong before)) (go 1) (own ∷ go 0) k)) ∙ answers-settled j
-
-  -- those that wait are decided, and so is x
-  answers-decides : joins strong before ≡ false → waits (next_before strong before) ≡ false → ((front ++ replicate n held) ++ own ∷ []) ++ go 0 ≡ target
-  answers-decides j k =
-      append_assoc (front ++ replicate n held) (own ∷ []) (go 0)
-      ∙ ap (λ (cs : List BidiClass). (front ++ replicate n held) ++ cs) (sym (cond-false (waits (next_before strong before)) (go 1) (own ∷ go 0) k))
-      ∙ answers-settled j
+stays-row : (n : ℕ) (v : BidiClass) → left_over v ≡ v → map left_over (replicate n v) ≡ replicate n v
+stays-row zero v h = refl
+stays-row (suc n) v h = rw h (ap (λ (cs : List BidiClass). v ∷ cs) (stays-row n v h))
 
 joins-waits : (z : BidiClass) (before : Before) → joins z before ≡ true → (waits before ≡ true) × (waits (next_before z before) ≡ true)
 joins-waits ET Terminators h = (refl, refl)
@@ -63,261 +57,286 @@ joins-waits ET _ h = absurd (cc h)
 joins-waits _ before h = absurd (cc h)
 
 -- the same walk, by its parts
-pub IsUnderWay-same : (p : Pass) (now now' : List BidiClass) (w w' : Walk) (i : ℕ) → now' ≡ now → w'.mark ≡ w.mark → w'.after_al ≡ w.after_al → w'.after_l ≡ w.after_l → w'.before ≡ w.before → w'.first ≡ w.first → w'.first_run ≡ w.first_run
+pub IsUnderWay-same : (p : Pass) (now now' : List BidiClass) (w w' : Walk) (i : ℕ) → now' ≡ now → w'.strong ≡ w.strong → w'.before ≡ w.before → w'.first ≡ w.first → w'.first_run ≡ w.first_run
     → IsUnderWay p now w i → IsUnderWay p now' w' i
-IsUnderWay-same p now now' w w' i n a b d e f g h =
-    by_parts now' w'.mark w'.after_al w'.after_l w'.before w'.first w'.first_run n a b d e f g
+IsUnderWay-same p now now' w w' i a b c d e h = by_parts now' w'.strong w'.before w'.first w'.first_run a b c d e
   where
-    by_parts : (now' : List BidiClass) (mark : BidiClass) (after_al after_l : Bool) (before : Before) (first first_run : ℕ) → now' ≡ now → mark ≡ w.mark → after_al ≡ w.after_al → after_l ≡ w.after_l → before ≡ w.before → first ≡ w.first → first_run ≡ w.first_run
-        → IsUnderWay p now' (record { mark = mark; after_al = after_al; after_l = after_l; before = before; first = first; first_run = first_run }) i
-    by_parts now' mark after_al after_l before first first_run n a b d e f g = rw (n, a, b, d, e, f, g) h
+    by_parts : (now' : List BidiClass) (strong : BidiClass) (before : Before) (first first_run : ℕ) → now' ≡ now → strong ≡ w.strong → before ≡ w.before → first ≡ w.first → first_run ≡ w.first_run
+        → IsUnderWay p now' (record { strong = strong; before = before; first = first; first_run = first_run }) i
+    by_parts now' strong before first first_run a b c d e = rw (a, b, c, d, e) h
 
-pub IsUnderWay-start : (p : Pass) → 0 < length p.runs → IsUnderWay p p.old (first_walk p.sos) 0
-IsUnderWay-start p some = record {
-  answers = sym (weak_classes-pass p.sos (at_places L p.old (marks p 0 (length p.old))));
+pub IsUnderWay-start : (p : Pass) → IsUnderWay p p.old (record { strong = p.sos; before = Other; first = 0; first_run = 0 }) 0
+IsUnderWay-start p = record {
+  from = 0;
+  answers = refl;
   unwritten = λ k a. refl;
   unseen = λ k a. refl;
-  even = λ k a b d. absurd (omega arith);
   waiting = λ h. absurd (cc h);
-  idle = λ h k a b. absurd (omega arith);
+  idle = λ h. refl;
   order = omega arith;
   inside = omega arith;
   long = refl;
-  run = some;
 }
 
--- the walk behind a character of class x
+-- the walk behind a stretch of class c
 abbrev pub next_walk : Walk → BidiClass → ℕ → ℕ → Walk
-next_walk w x first first_run =
-    let y = marked w.mark x in
-    let z = w2_w3 w.after_al y in
-    record { mark = carried y; after_al = is_after_al w.after_al y; after_l = is_after_l w.after_l z; before = next_before z w.before; first = first; first_run = first_run }
+next_walk w c first first_run = record { strong = strong_up_to w.strong c; before = next_before (strengthened w.strong c) w.before; first = first; first_run = first_run }
 
-module _ (p : Pass) (are : AreMarks p) (now : List BidiClass) (w : Walk) (i : ℕ) (h : IsUnderWay p now w i) where
+module _ (p : Pass) (now : List BidiClass) (w : Walk) (i : ℕ) (h : IsUnderWay p now w i) where
   abbrev target : List BidiClass
-  target = weak_classes p.sos (at_places L p.old (marks p 0 (length p.old)))
+  target = walked (class_at p.old) p.len p.sos Other 0 0 (units p 0 (length p.old))
 
-  unmarked : (k : ℕ) → seen p k ≡ false → p.mark k ≡ false
-  unmarked k unseen = elim (cases_Bool (p.mark k)) [ inl is ↦ absurd (both_ways (seen p k) unseen (are.marked_seen k is)) | inr no' ↦ no' ]
+  abbrev rest : BidiClass → Before → ℕ → ℕ → List BidiClass
+  rest strong before n j = walked (class_at p.old) p.len strong before 0 n (units p j (length p.old))
 
   -- units that are not seen
   pub IsUnderWay-unseen : (j : ℕ) → i ≤ j → j ≤ length p.old → ((k : ℕ) → i ≤ k → k < j → seen p k ≡ false) → IsUnderWay p now w j
   IsUnderWay-unseen j order fits none =
-      let start : w.first ≤ i = h.order in
-      let nothing : marks p i j ≡ [] = marked-empty p.mark i j (λ k a b. unmarked k (none k a b)) in
-      let held' : marks p w.first j ≡ marks p w.first i =
-      marked-parts p.mark w.first i j start order ∙ ap (λ (ps : List ℕ). marks p w.first i ++ ps) nothing ∙ append-nil (marks p w.first i) in
-      let later : marks p i (length p.old) ≡ marks p j (length p.old) = marked-parts p.mark i j (length p.old) order fits ∙ ap (λ (ps : List ℕ). ps ++ marks p j (length p.old)) nothing in
-      record {
-        answers = ap (λ (ps : List ℕ). at_places L now (marks p 0 w.first) ++ after_w7 w.after_l w.before (length ps) (after_w3 w.mark w.after_al (at_places L p.old (marks p j (length p.old))))) held'
-            ∙ ap (λ (ps : List ℕ). at_places L now (marks p 0 w.first) ++ after_w7 w.after_l w.before (length (marks p w.first i)) (after_w3 w.mark w.after_al (at_places L p.old ps))) (sym later)
-            ∙ h.answers;
-        unwritten = h.unwritten;
-        unseen = h.unseen;
-        even = h.even;
-        waiting = λ t. let r = h.waiting t in record { marked = r.marked; below = omega (arith, r.below); run = r.run };
-        idle = λ t k a b. elim (cases_lt k i) [ inl below ↦ h.idle t k a below | inr past ↦ none k past b ];
-        order = omega arith;
-        inside = fits;
-        long = h.long;
-        run = h.run;
-      }
+      let from = h.from in
+      let start : from ≤ i = h.order in
+      let nothing : units p i j ≡ [] = marked-empty (seen p) i j none in
+      let later : units p i (length p.old) ≡ units p j (length p.old) = marked-parts (seen p) i j (length p.old) order fits ∙ ap (λ (ps : List ℕ). ps ++ units p j (length p.old)) nothing in
+      let reads : map left_over (at_places L now (units p 0 from)) ++ rest w.strong w.before (length (units p from i)) j ≡ target =
+      ap (λ (ps : List ℕ). map left_over (at_places L now (units p 0 from)) ++ walked (class_at p.old) p.len w.strong w.before 0 (length (units p from i)) ps) (sym later) ∙ h.answers in
+      elim (cases_Bool (waits w.before)) [
+        | inl wait ↦
+            let held' : units p from j ≡ units p from i = marked-parts (seen p) from i j start order ∙ ap (λ (ps : List ℕ). units p from i ++ ps) nothing ∙ append-nil (units p from i) in
+            record {
+              from = from;
+              answers = ap (λ (ps : List ℕ). map left_over (at_places L now (units p 0 from)) ++ rest w.strong w.before (length ps) j) held' ∙ reads;
+              unwritten = h.unwritten;
+              unseen = h.unseen;
+              waiting = h.waiting;
+              idle = λ free. absurd (both_ways (waits w.before) free wait);
+              order = omega arith;
+              inside = fits;
+              long = h.long;
+            }
+        | inr free ↦
+            let at : from ≡ i = h.idle free in
+            let front : units p 0 j ≡ units p 0 from = marked-parts (seen p) 0 i j (omega arith) order ∙ ap (λ (ps : List ℕ). units p 0 i ++ ps) nothing ∙ append-nil (units p 0 i) ∙ ap (units p 0) (sym at) in
+            let none_held : units p j j ≡ units p from i = marked-none (seen p) j j (omega arith) ∙ sym (marked-none (seen p) from i (omega arith)) in
+            record {
+              from = j;
+              answers = ap (λ (ps : List ℕ). map left_over (at_places L now ps) ++ rest w.strong w.before (length (units p j j)) j) front
+                  ∙ ap (λ (ps : List ℕ). map left_over (at_places L now (units p 0 from)) ++ rest w.strong w.before (length ps) j) none_held
+                  ∙ reads;
+              unwritten = λ k a. h.unwritten k (omega arith);
+              unseen = h.unseen;
+              waiting = λ wait. absurd (both_ways (waits w.before) free wait);
+              idle = λ t. refl;
+              order = omega arith;
+              inside = fits;
+              long = h.long;
+            }
+      ]
 
   -- what waits becomes the class v
   pub IsWrittenOver-settled : (v : BidiClass) (now1 : List BidiClass) → are_ordered p.runs ≡ true
       → (waits w.before ≡ true → IsWrittenOver (is_seen (drop w.first_run p.runs) now) v w.first i now now1) → (waits w.before ≡ false → now1 ≡ now)
-      → IsWrittenOver (seen p) v w.first i now now1
+      → IsWrittenOver (seen p) v h.from i now now1
   IsWrittenOver-settled v now1 ordered some none = elim (cases_Bool (waits w.before)) [
     | inl wait ↦
         let r = h.waiting wait in
         let run = r.run in
-        IsWrittenOver-same_test (is_seen (drop w.first_run p.runs) now) (seen p) v w.first i now now1
-        (λ k a b. ap (λ t. t && is_kept_in_place (class_at now k)) (in_runs-drop 0 w.first_run p.runs k ordered h.run (omega arith)) ∙ ap (λ c. in_runs p.runs k && is_kept_in_place c) (h.unwritten k a))
-        (some wait)
+        IsWrittenOver-same_test (is_seen (drop w.first_run p.runs) now) (seen p) v h.from i now now1
+        (λ k a b. ap (λ t. t && is_kept_in_place (class_at now k)) (in_runs-drop 0 w.first_run p.runs k ordered r.run_fits (omega arith)) ∙ ap (λ c. in_runs p.runs k && is_kept_in_place c) (h.unwritten k a))
+        (subst (λ (u : ℕ). IsWrittenOver (is_seen (drop w.first_run p.runs) now) v u i now now1) r.first (some wait))
     | inr free ↦
-        subst (IsWrittenOver (seen p) v w.first i now) (sym (none free))
-        (record { inside = λ k a b t. absurd (both_ways (seen p k) (h.idle free k a b) t); failing = λ k t. refl; below = λ k a. refl; above = λ k a. refl; long = refl })
+        let at : h.from ≡ i = h.idle free in
+        subst (IsWrittenOver (seen p) v h.from i now) (sym (none free))
+        (record { inside = λ k a b t. absurd (omega arith); failing = λ k t. refl; below = λ k a. refl; above = λ k a. refl; long = refl })
   ]
 
-  module _ (j : ℕ) (c : IsCharacter p i j) where
-    -- BN
-    pub IsUnderWay-removed : seen p i ≡ false → IsUnderWay p now w j
-    IsUnderWay-removed none =
-        let some = c.some in
-        IsUnderWay-unseen j (omega arith) c.inside (λ k a b. c.alike k a b ∙ none)
-
-    module _ (is_seen_here : seen p i ≡ true) where
-      abbrev x : BidiClass
-      x = class_at p.old i
-
-      abbrev y : BidiClass
-      y = marked w.mark x
-
-      abbrev z : BidiClass
-      z = w2_w3 w.after_al y
-
-      abbrev v : BidiClass
-      v = w7_by w.after_l (settled z w.before)
-
-      abbrev u : BidiClass
-      u = w7_by w.after_l (resolved z w.before)
-
-      abbrev front : List BidiClass
-      front = at_places L now (marks p 0 w.first)
-
-      abbrev n : ℕ
-      n = length (marks p w.first i)
-
-      abbrev later : List BidiClass
-      later = at_places L p.old (marks p j (length p.old))
-
-      is : p.mark i ≡ true
-      is = c.first ∙ is_seen_here
-
-      only : marks p i j ≡ i ∷ []
-      only = marked-one p.mark i j c.some is c.later
-
-      reads : front ++ after_w7 w.after_l w.before n (after_w3 w.mark w.after_al (x ∷ later)) ≡ target
-      reads =
-          let some = c.some in
-          let e : marks p i (length p.old) ≡ i ∷ marks p j (length p.old) = marked-parts p.mark i j (length p.old) (omega arith) c.inside ∙ ap (λ (ps : List ℕ). ps ++ marks p j (length p.old)) only in
-          ap (λ (ps : List ℕ). front ++ after_w7 w.after_l w.before n (after_w3 w.mark w.after_al (at_places L p.old ps))) (sym e) ∙ h.answers
-
-      held-more : length (marks p w.first j) ≡ suc n
-      held-more =
-          let some = c.some in
-          ap length (marked-parts p.mark w.first i j h.order (omega arith) ∙ ap (λ (ps : List ℕ). marks p w.first i ++ ps) only) ∙ length-append (marks p w.first i) (i ∷ [])
-          ∙ (let k : n + 1 ≡ suc n = omega arith in k)
-
-      pub IsUnderWay-joins : joins z w.before ≡ true → IsUnderWay p now (next_walk w x w.first w.first_run) j
-      IsUnderWay-joins joined =
-          let both = joins-waits z w.before joined in
-          let some = c.some in
-          let rest = answers-joins target front w.mark w.after_al w.after_l w.before n x later reads joined in
-          record {
-            answers = ap (λ (k : ℕ). front ++ after_w7 (is_after_l w.after_l z) (next_before z w.before) k (after_w3 (carried y) (is_after_al w.after_al y) later)) held-more ∙ rest;
-            unwritten = h.unwritten;
-            unseen = h.unseen;
-            even = h.even;
-            waiting = λ t. let r = h.waiting both.0 in record { marked = r.marked; below = omega (arith, r.below); run = r.run };
-            idle = λ free k a b. absurd (both_ways (waits (next_before z w.before)) free both.1);
-            order = omega (arith, h.order);
-            inside = c.inside;
-            long = h.long;
-            run = h.run;
-          }
-
-      module _ (now1 : List BidiClass) (s : IsWrittenOver (seen p) v w.first i now now1) (parted : joins z w.before ≡ false) where
-        front-written : at_places L now1 (marks p 0 i) ≡ front ++ replicate n v
-        front-written =
-            ap (at_places L now1) (marked-parts p.mark 0 w.first i (omega arith) h.order)
-            ∙ at_places-append L now1 (marks p 0 w.first) (marks p w.first i)
-            ∙ ap (λ (cs : List BidiClass). cs ++ at_places L now1 (marks p w.first i)) (at_marked-same p.mark now1 now 0 w.first (λ k a b t. s.below k b))
-            ∙ ap (λ (cs : List BidiClass). front ++ cs) (at_marked-all p.mark now1 v w.first i (λ k a b t. s.inside k a b (are.marked_seen k t)))
-
-        even-written : (k : ℕ) → k + 1 < i → seen p (k + 1) ≡ true → p.mark (k + 1) ≡ false → class_at now1 (k + 1) ≡ class_at now1 k
-        even-written k below t plain = elim (cases_lt (k + 1) w.first) [
-          | inl early ↦ s.below (k + 1) early ∙ h.even k early t plain ∙ sym (s.below k (omega arith))
-          | inr late ↦ elim (cases_lt k w.first) [
-            | inl edge ↦
-                let at : k + 1 ≡ w.first = omega arith in
-                elim (cases_Bool (waits w.before)) [
-                  | inl wait ↦ absurd (both_ways (p.mark (k + 1)) plain (subst (λ (q : ℕ). p.mark q ≡ true) (sym at) (h.waiting wait).marked))
-                  | inr free ↦ absurd (both_ways (seen p (k + 1)) (h.idle free (k + 1) late below) t)
-                ]
-            | inr inner ↦ s.inside (k + 1) late below t ∙ sym (s.inside k inner (omega arith) (are.behind k t plain))
-          ]
-        ]
-
-        pub IsUnderWay-waits : waits (next_before z w.before) ≡ true → (run : ℕ) → run < length p.runs → (get_or p.runs run (0, 0)).0 ≤ i → IsUnderWay p now1 (next_walk w x i run) j
-        IsUnderWay-waits waiting run run_fits run_from =
-            let some = c.some in
-            let rest = answers-waits target front w.mark w.after_al w.after_l w.before n x later reads parted waiting in
-            record {
-              answers = ap (λ (cs : List BidiClass). cs ++ after_w7 (is_after_l w.after_l z) (next_before z w.before) (length (marks p i j)) (after_w3 (carried y) (is_after_al w.after_al y) later)) front-written
-                  ∙ ap (λ (ps : List ℕ). (front ++ replicate n v) ++ after_w7 (is_after_l w.after_l z) (next_before z w.before) (length ps) (after_w3 (carried y) (is_after_al w.after_al y) later)) only
-                  ∙ rest;
-              unwritten = λ k a. s.above k a ∙ h.unwritten k (omega (arith, h.order));
-              unseen = λ k t. s.failing k t ∙ h.unseen k t;
-              even = even-written;
-              waiting = λ t. record { marked = is; below = omega arith; run = run_from };
-              idle = λ free k a b. absurd (both_ways (waits (next_before z w.before)) free waiting);
-              order = omega arith;
-              inside = c.inside;
-              long = s.long ∙ h.long;
-              run = run_fits;
-            }
-
-        pub IsUnderWay-decides : waits (next_before z w.before) ≡ false → (now2 : List BidiClass) → IsWrittenOver (λ k. is_kept_in_place (class_at now1 k)) u i j now1 now2 → IsUnderWay p now2 (next_walk w x j w.first_run) j
-        IsUnderWay-decides free now2 r =
-            let some = c.some in
-            let order = h.order in
-            let readable : (k : ℕ) → i ≤ k → k < j → is_kept_in_place (class_at now1 k) ≡ true =
-            λ k a b. ap is_kept_in_place (s.above k a ∙ h.unwritten k (omega arith)) ∙ (and_parts (in_runs p.runs k) (is_kept_in_place (class_at p.old k)) (c.alike k a b ∙ is_seen_here)).1 in
-            let written : (k : ℕ) → i ≤ k → k < j → class_at now2 k ≡ u = λ k a b. r.inside k a b (readable k a b) in
-            let nothing : marks p j j ≡ [] = marked-none p.mark j j (omega arith) in
-            let up_to : at_places L now2 (marks p 0 j) ≡ (front ++ replicate n v) ++ u ∷ [] =
-            ap (at_places L now2) (marked-parts p.mark 0 i j (omega arith) (omega arith) ∙ ap (λ (ps : List ℕ). marks p 0 i ++ ps) only)
-            ∙ at_places-append L now2 (marks p 0 i) (i ∷ [])
-            ∙ ap (λ (cs : List BidiClass). cs ++ class_at now2 i ∷ []) (at_marked-same p.mark now2 now1 0 i (λ k a b t. r.below k b) ∙ front-written)
-            ∙ ap (λ (e : BidiClass). (front ++ replicate n v) ++ e ∷ []) (written i (omega arith) some)
-            in
-            let rest = answers-decides target front w.mark w.after_al w.after_l w.before n x later reads parted free in
-            record {
-              answers = ap (λ (cs : List BidiClass). cs ++ after_w7 (is_after_l w.after_l z) (next_before z w.before) (length (marks p j j)) (after_w3 (carried y) (is_after_al w.after_al y) later)) up_to
-                  ∙ ap (λ (ps : List ℕ). ((front ++ replicate n v) ++ u ∷ []) ++ after_w7 (is_after_l w.after_l z) (next_before z w.before) (length ps) (after_w3 (carried y) (is_after_al w.after_al y) later)) nothing
-                  ∙ rest;
-              unwritten = λ k a. r.above k a ∙ s.above k (omega arith) ∙ h.unwritten k (omega arith);
-              unseen = λ k t. elim (cases_lt k i) [
-                | inl low ↦ r.below k low ∙ s.failing k t ∙ h.unseen k t
-                | inr high ↦ elim (cases_lt k j) [
-                  | inl within ↦ absurd (both_ways (seen p k) t (c.alike k high within ∙ is_seen_here))
-                  | inr past ↦ r.above k past ∙ s.failing k t ∙ h.unseen k t
-                ]
-              ];
-              even = λ k below t plain. elim (cases_lt (k + 1) i) [
-                | inl early ↦ r.below (k + 1) early ∙ even-written k early t plain ∙ sym (r.below k (omega arith))
-                | inr late ↦ elim (cases_eq (k + 1) i) [
-                  | inl at ↦ absurd (both_ways (p.mark (k + 1)) plain (subst (λ (q : ℕ). p.mark q ≡ true) (sym at) is))
-                  | inr other ↦ written (k + 1) (omega arith) below ∙ sym (written k (omega arith) (omega arith))
-                ]
-              ];
-              waiting = λ t. absurd (both_ways (waits (next_before z w.before)) free t);
-              idle = λ t k a b. absurd (omega arith);
-              order = omega arith;
-              inside = c.inside;
-              long = r.long ∙ s.long ∙ h.long;
-              run = h.run;
-            }
+  -- the final classes below i, once it has
+  front-written : (v : BidiClass) (now1 : List BidiClass) → IsWrittenOver (seen p) v h.from i now now1 → left_over v ≡ v
+      → map left_over (at_places L now1 (units p 0 i)) ≡ map left_over (at_places L now (units p 0 h.from)) ++ replicate (length (units p h.from i)) v
+  front-written v now1 s stays =
+      let front = at_places L now (units p 0 h.from) in
+      ap (λ (ps : List ℕ). map left_over (at_places L now1 ps)) (marked-parts (seen p) 0 h.from i (omega arith) h.order)
+      ∙ ap (map left_over) (at_places-append L now1 (units p 0 h.from) (units p h.from i))
+      ∙ ap (λ (cs : List BidiClass). map left_over (cs ++ at_places L now1 (units p h.from i))) (at_marked-same (seen p) now1 now 0 h.from (λ k a b t. s.below k b))
+      ∙ ap (λ (cs : List BidiClass). map left_over (front ++ cs)) (at_marked-all (seen p) now1 v h.from i (λ k a b t. s.inside k a b t))
+      ∙ map-append left_over front (replicate (length (units p h.from i)) v)
+      ∙ ap (λ (cs : List BidiClass). map left_over front ++ cs) (stays-row (length (units p h.from i)) v stays)
 
   -- the end, once what waits is neutral
-  pub IsOver-settled : (now1 : List BidiClass) → length p.old ≤ i → IsWrittenOver (seen p) ON w.first i now now1 → IsOver p now1
-  IsOver-settled now1 past s =
-      let order : w.first ≤ i = h.order in
+  pub IsWalked-settled : (now1 : List BidiClass) → length p.old ≤ i → IsWrittenOver (seen p) ON h.from i now now1 → IsWalked p.len p.runs p.sos p.old now1
+  IsWalked-settled now1 past s =
       let within : i ≤ length p.old = h.inside in
       let top : length p.old ≡ i = omega arith in
-      let front = at_places L now (marks p 0 w.first) in
-      let held = marks p w.first i in
+      let n = length (units p h.from i) in
       record {
-        answers = ap (λ k. at_places L now1 (marks p 0 k)) top
-            ∙ ap (at_places L now1) (marked-parts p.mark 0 w.first i (omega arith) order)
-            ∙ at_places-append L now1 (marks p 0 w.first) held
-            ∙ ap (λ (cs : List BidiClass). cs ++ at_places L now1 held) (at_marked-same p.mark now1 now 0 w.first (λ k a b t. s.below k b))
-            ∙ ap (λ (cs : List BidiClass). front ++ cs) (at_marked-all p.mark now1 ON w.first i (λ k a b t. s.inside k a b (are.marked_seen k t)))
-            ∙ ap (λ (ps : List ℕ). front ++ after_w7 w.after_l w.before (length held) (after_w3 w.mark w.after_al (at_places L p.old ps))) (sym (marked-none p.mark i (length p.old) past))
+        answers = ap (λ k. map left_over (at_places L now1 (units p 0 k))) top
+            ∙ front-written ON now1 s refl
+            ∙ ap (λ (ps : List ℕ). map left_over (at_places L now (units p 0 h.from)) ++ walked (class_at p.old) p.len w.strong w.before 0 n ps) (sym (marked-none (seen p) i (length p.old) past))
             ∙ h.answers;
         unseen = λ k t. s.failing k t ∙ h.unseen k t;
-        even = λ k below t plain. elim (cases_lt (k + 1) w.first) [
-          | inl early ↦ s.below (k + 1) early ∙ h.even k early t plain ∙ sym (s.below k (omega arith))
-          | inr late ↦ elim (cases_lt k w.first) [
-            | inl edge ↦
-                let at : k + 1 ≡ w.first = omega arith in
-                elim (cases_Bool (waits w.before)) [
-                  | inl wait ↦ absurd (both_ways (p.mark (k + 1)) plain (subst (λ (q : ℕ). p.mark q ≡ true) (sym at) (h.waiting wait).marked))
-                  | inr free ↦ absurd (both_ways (seen p (k + 1)) (h.idle free (k + 1) late (omega arith)) t)
-                ]
-            | inr inner ↦ s.inside (k + 1) late (omega arith) t ∙ sym (s.inside k inner (omega arith) (are.behind k t plain))
-          ]
-        ];
         long = s.long ∙ h.long;
       }
+
+  module _ (runs : List (ℕ × ℕ)) (run j : ℕ) (s : IsStretch p w runs run i j) where
+    abbrev c : BidiClass
+    c = class_at p.old i
+
+    abbrev z : BidiClass
+    z = strengthened w.strong c
+
+    abbrev next : Before
+    next = next_before z w.before
+
+    abbrev strong : BidiClass
+    strong = strong_up_to w.strong c
+
+    abbrev v : BidiClass
+    v = w7_by (is_l w.strong) (settled z w.before)
+
+    abbrev own : BidiClass
+    own = w7_by (is_l w.strong) (resolved z w.before)
+
+    abbrev n : ℕ
+    n = length (units p h.from i)
+
+    abbrev front : List BidiClass
+    front = map left_over (at_places L now (units p 0 h.from))
+
+    -- how many units come behind the first
+    abbrev m : ℕ
+    m = j - i - 1
+
+    pub seen-stretch : (k : ℕ) → i ≤ k → k < j → seen p k ≡ true
+    seen-stretch k a b =
+        let ends = s.run_ends in
+        let starts = s.run_starts in
+        and_from (in_runs p.runs k) (is_kept_in_place (class_at p.old k)) (subst (λ (rs : List (ℕ × ℕ)). in_runs rs k ≡ true) (sym s.runs_are) (in_runs-at run runs k s.run_fits (omega arith) (omega arith)))
+        (ap is_kept_in_place (s.alike k a b) ∙ s.kept)
+
+    stretch : units p i j ≡ range_with_len i (suc m)
+    stretch =
+        let some = s.some in
+        let count : j - i ≡ suc m = omega arith in
+        marked-full (seen p) i j seen-stretch ∙ ap (range_with_len i) count
+
+    each : (k : ℕ) → i ≤ k → k < i + suc m → class_at p.old k ≡ c
+    each k a b = let some = s.some in s.alike k a (omega arith)
+
+    -- all that is left to read, with the stretch in front
+    reads : (xs : List BidiClass) → walked (class_at p.old) p.len w.strong w.before 0 n (range_with_len i (suc m) ++ units p j (length p.old)) ≡ xs → front ++ xs ≡ target
+    reads xs e =
+        let some = s.some in
+        let parts : units p i (length p.old) ≡ range_with_len i (suc m) ++ units p j (length p.old) =
+        marked-parts (seen p) i j (length p.old) (omega arith) s.inside ∙ ap (λ (ps : List ℕ). ps ++ units p j (length p.old)) stretch in
+        ap (λ (cs : List BidiClass). front ++ cs) (sym e) ∙ ap (λ (ps : List ℕ). front ++ walked (class_at p.old) p.len w.strong w.before 0 n ps) (sym parts) ∙ h.answers
+
+    count-stretch : length (units p i j) ≡ suc m
+    count-stretch = ap length stretch ∙ length-range_with_len i (suc m)
+
+    pub IsUnderWay-joins : joins z w.before ≡ true → IsUnderWay p now (next_walk w c w.first w.first_run) j
+    IsUnderWay-joins joined =
+        let both = joins-waits z w.before joined in
+        let some = s.some in
+        let order = h.order in
+        let more : length (units p h.from j) ≡ n + suc m =
+        ap length (marked-parts (seen p) h.from i j order (omega arith)) ∙ length-append (units p h.from i) (units p i j) ∙ ap (λ (k : ℕ). n + k) count-stretch in
+        record {
+          from = h.from;
+          answers = ap (λ (k : ℕ). front ++ rest strong next k j) more
+              ∙ reads (rest strong next (n + suc m) j) (row-joins (class_at p.old) p.len w.strong c w.before (suc m) n i (units p j (length p.old)) each joined);
+          unwritten = h.unwritten;
+          unseen = h.unseen;
+          waiting = λ t. let r = h.waiting both.0 in record { first = r.first; run_fits = r.run_fits; run = r.run };
+          idle = λ free. absurd (both_ways (waits next) free both.1);
+          order = omega arith;
+          inside = s.inside;
+          long = h.long;
+        }
+
+    module _ (now1 : List BidiClass) (t : IsWrittenOver (seen p) v h.from i now now1) (apart : joins z w.before ≡ false) where
+      pub IsUnderWay-waits : waits next ≡ true → IsUnderWay p now1 (next_walk w c i run) j
+      IsUnderWay-waits wait =
+          let some = s.some in
+          let count : j - i ≡ suc m = omega arith in
+          record {
+            from = i;
+            answers = ap (λ (cs : List BidiClass). cs ++ rest strong next (length (units p i j)) j) (front-written v now1 t (settled-stays c w.strong (is_l w.strong) w.before))
+                ∙ ap (λ (k : ℕ). (front ++ replicate n v) ++ rest strong next k j) count-stretch
+                ∙ append_assoc front (replicate n v) (rest strong next (suc m) j)
+                ∙ reads (replicate n v ++ rest strong next (suc m) j)
+                (row-waits (class_at p.old) p.len w.strong c w.before m n i (units p j (length p.old)) each apart wait (s.single ∙ ap (still_to_come next) count));
+            unwritten = λ k a. t.above k a ∙ h.unwritten k (omega (arith, h.order));
+            unseen = λ k u. t.failing k u ∙ h.unseen k u;
+            waiting = λ u. record {
+              first = refl;
+              run_fits = subst (λ (rs : List (ℕ × ℕ)). run < length rs) (sym s.runs_are) s.run_fits;
+              run = subst (λ (rs : List (ℕ × ℕ)). (get_or rs run (0, 0)).0 ≤ i) (sym s.runs_are) s.run_starts;
+            };
+            idle = λ free. absurd (both_ways (waits next) free wait);
+            order = omega arith;
+            inside = s.inside;
+            long = t.long ∙ h.long;
+          }
+
+      -- at its units stands what W3 and W6 take to the class that they get
+      pub IsUnderWay-decides : waits next ≡ false → (now2 : List BidiClass) → ((k : ℕ) → i ≤ k → k < j → left_over (class_at now2 k) ≡ own)
+          → ((k : ℕ) → k < i → class_at now2 k ≡ class_at now1 k) → ((k : ℕ) → j ≤ k → class_at now2 k ≡ class_at now1 k) → length now2 ≡ length now1 → (first first_run : ℕ) → IsUnderWay p now2 (next_walk w c first first_run) j
+      IsUnderWay-decides free now2 written below above long first first_run =
+          let some = s.some in
+          let order = h.order in
+          let up_to : map left_over (at_places L now2 (units p 0 j)) ≡ (front ++ replicate n v) ++ replicate (suc m) own =
+          ap (λ (ps : List ℕ). map left_over (at_places L now2 ps)) (marked-parts (seen p) 0 i j (omega arith) (omega arith))
+          ∙ ap (map left_over) (at_places-append L now2 (units p 0 i) (units p i j))
+          ∙ map-append left_over (at_places L now2 (units p 0 i)) (at_places L now2 (units p i j))
+          ∙ ap (λ (cs : List BidiClass). map left_over cs ++ map left_over (at_places L now2 (units p i j))) (at_marked-same (seen p) now2 now1 0 i (λ k a b u. below k b))
+          ∙ ap (λ (cs : List BidiClass). cs ++ map left_over (at_places L now2 (units p i j))) (front-written v now1 t (settled-stays c w.strong (is_l w.strong) w.before))
+          ∙ ap (λ (ps : List ℕ). (front ++ replicate n v) ++ map left_over (at_places L now2 ps)) stretch
+          ∙ ap (λ (cs : List BidiClass). (front ++ replicate n v) ++ cs) (row_left (suc m) i (λ k a b. written k a (omega arith)))
+          in
+          record {
+            from = j;
+            answers = ap (λ (cs : List BidiClass). cs ++ rest strong next (length (units p j j)) j) up_to
+                ∙ ap (λ (ps : List ℕ). ((front ++ replicate n v) ++ replicate (suc m) own) ++ rest strong next (length ps) j) (marked-none (seen p) j j (omega arith))
+                ∙ append_assoc (front ++ replicate n v) (replicate (suc m) own) (rest strong next 0 j)
+                ∙ append_assoc front (replicate n v) (replicate (suc m) own ++ rest strong next 0 j)
+                ∙ reads (replicate n v ++ (replicate (suc m) own ++ rest strong next 0 j))
+                (row-decides (class_at p.old) p.len w.strong c w.before m n i (units p j (length p.old)) each apart free);
+            unwritten = λ k a. above k a ∙ t.above k (omega arith) ∙ h.unwritten k (omega arith);
+            unseen = λ k u. elim (cases_lt k i) [
+              | inl low ↦ below k low ∙ t.failing k u ∙ h.unseen k u
+              | inr high ↦ elim (cases_lt k j) [
+                | inl within ↦ absurd (both_ways (seen p k) u (seen-stretch k high within))
+                | inr past ↦ above k past ∙ t.failing k u ∙ h.unseen k u
+              ]
+            ];
+            waiting = λ u. absurd (both_ways (waits next) free u);
+            idle = λ u. refl;
+            order = omega arith;
+            inside = s.inside;
+            long = long ∙ t.long ∙ h.long;
+          }
+        where
+          row_left : (l a : ℕ) → ((k : ℕ) → a ≤ k → k < a + l → left_over (class_at now2 k) ≡ own) → map left_over (at_places L now2 (range_with_len a l)) ≡ replicate l own
+          row_left zero a each = refl
+          row_left (suc l) a each = rw (each a (omega arith) (omega arith)) (ap (λ (cs : List BidiClass). own ∷ cs) (row_left l (a + 1) (λ k from below. each k (omega arith) (omega arith))))
+
+-- ---- over the runs, one behind another
+
+module _ (p : Pass) (ordered : are_ordered p.runs ≡ true) (within : All (λ (r : ℕ × ℕ). r.1 ≤ length p.old) p.runs) where
+  pub IsUnderWay-first_run : IsUnderWay p p.old (record { strong = p.sos; before = Other; first = 0; first_run = 0 }) (start_or p.runs 0 (length p.old))
+  IsUnderWay-first_run =
+      IsUnderWay-unseen p p.old (record { strong = p.sos; before = Other; first = 0; first_run = 0 }) 0 (IsUnderWay-start p) (start_or p.runs 0 (length p.old)) (omega arith) (start_within p.runs 0 (length p.old) ordered within)
+      (λ k from below. and_left (in_runs p.runs k) (is_kept_in_place (class_at p.old k)) (gap_before 0 p.runs k (length p.old) ordered below))
+
+  pub IsUnderWay-next_run : (now : List BidiClass) (w : Walk) (index : ℕ) → index < length p.runs → IsUnderWay p now w (get_or p.runs index (0, 0)).1 → IsUnderWay p now w (start_or p.runs (index + 1) (length p.old))
+  IsUnderWay-next_run now w index fits h =
+      let next : suc index ≡ index + 1 = omega arith in
+      subst (λ (n : ℕ). IsUnderWay p now w (start_or p.runs n (length p.old))) next
+      (IsUnderWay-unseen p now w (get_or p.runs index (0, 0)).1 h (start_or p.runs (suc index) (length p.old)) (next_start 0 index p.runs (length p.old) ordered fits (within index (0, 0) fits)) (start_within p.runs (suc index) (length p.old) ordered within)
+      (λ k from below. and_left (in_runs p.runs k) (is_kept_in_place (class_at p.old k)) (gap_after 0 index p.runs k (length p.old) ordered fits from below)))
+
+-- where no number stands nothing is written
+pub IsWalked-none : (len : ℕ → ℕ) (runs : List (Range ℕ)) (sos : BidiClass) (old : List BidiClass) → All (λ r. r.1 ≤ length old) (map bounds runs) → is_any is_number runs old ≡ false → IsWalked len (map bounds runs) sos old old
+IsWalked-none len runs sos old within none = record {
+  answers = sym (walked-plain old len (seen_units (map bounds runs) old) (All-seen (λ u. is_number (class_at old u) ≡ false) (map bounds runs) old (is_any-none is_number runs old within none)) sos Other 0 refl);
+  unseen = λ k h. refl;
+  long = refl;
+}

@@ -1,11 +1,13 @@
 -- A class written over some units of a slice.
-use Rattle.std.proofs.Common.{◌≡◌, ℕ, ◌+◌, ◌<◌, ◌≤◌, Bool, true, false, ◌&&◌, min, max, List, length, get_or, set, take, refl, sym, ap, subst, ◌∙◌, arith, inl, inr, length-set, get_or-set_other, get_or-set_same}
+use Rattle.std.proofs.Common.{◌≡◌, ℕ, ◌+◌, ◌-◌, ◌<◌, ◌≤◌, Bool, true, false, ◌&&◌, min, max, List, ◌++◌, length, get_or, set, take, drop, replicate, refl, sym, ap, subst, ◌∙◌, arith, inl, inr, length-set, length-take, length-drop, length-append, get_or-set_other, get_or-set_same}
 use Rattle.std.proofs.lemmas.Bool.{cases_lt, cases_eq, cases_Bool, and_parts, and_from, and_left, and_cases, or_cases, or_parts, both_ways}
+use Rattle.std.proofs.lemmas.List.{length-replicate, get_or-take, get_or-drop, get_or_append_left, get_or-append_right, get_or-replicate}
 use Rattle.bidi_base.specs.declared.char_data.BidiClass.{BidiClass}
 use Rattle.bidi_base.specs.declared.char_data.BidiClass.TheVariants.{L}
 use Rattle.bidi_base.specs.Classes.{is_kept_in_place}
 use Rattle.bidi_base.specs.Places.{class_at}
 use Rattle.bidi_base.specs.Units.{are_ordered, in_runs}
+use Rattle.bidi_rules.specs.ExplicitPass.{filled}
 use Rattle.bidi_rules.specs.WeakWalk.{is_seen, IsWrittenOver}
 use Rattle.bidi_rules.proofs.InRuns.{in_run, in_run-true, in_run-inside, in_runs-more, in_runs-take}
 
@@ -45,6 +47,26 @@ module _ (test : ℕ → Bool) (class : BidiClass) (from : ℕ) (old : List Bidi
     | inl some ↦ let top : i ≡ to = omega (arith, within (omega arith)) in subst (λ (j : ℕ). IsWrittenOver test class from j old now) top h
     | inr none ↦ subst (IsWrittenOver test class from to old) (sym (untouched none)) (IsWrittenOver-none to none)
   ]
+
+-- all units of a range
+pub IsWrittenOver-filled : (class : BidiClass) (from to : ℕ) (old : List BidiClass) → from ≤ to → to ≤ length old → IsWrittenOver (λ k. true) class from to old (filled from (to - from) class old)
+IsWrittenOver-filled class from to old order fits =
+    let front = length-take from old in
+    let row = replicate (to - from) class in
+    let row_len = length-replicate (to - from) class in
+    let later = drop (from + (to - from)) old in
+    let end : from + (to - from) ≡ to = omega arith in
+    let front_len : length (take from old) ≡ from = omega arith in
+    record {
+      inside = λ k a b t. get_or-append_right (take from old) (row ++ later) from k L front_len a ∙ get_or_append_left row later L (k - from) (omega arith) ∙ get_or-replicate (to - from) (k - from) class L (omega arith);
+      failing = λ k t. absurd (both_ways true t refl);
+      below = λ k a. get_or_append_left (take from old) (row ++ later) L k (omega arith) ∙ get_or-take from old k L a;
+      above = λ k a. get_or-append_right (take from old) (row ++ later) from k L front_len (omega arith)
+          ∙ get_or-append_right row later (to - from) (k - from) L row_len (omega arith)
+          ∙ get_or-drop (from + (to - from)) old (k - from - (to - from)) L
+          ∙ (let at : from + (to - from) + (k - from - (to - from)) ≡ k = omega arith in ap (class_at old) at);
+      long = length-append (take from old) (row ++ later) ∙ ap (λ (n : ℕ). length (take from old) + n) (length-append row later) ∙ omega (arith, length-drop (from + (to - from)) old);
+    }
 
 -- the same units by another test
 pub IsWrittenOver-same_test : (test other : ℕ → Bool) (class : BidiClass) (from to : ℕ) (old now : List BidiClass) → ((k : ℕ) → from ≤ k → k < to → test k ≡ other k) → IsWrittenOver test class from to old now → IsWrittenOver other class from to old now

@@ -1,7 +1,8 @@
--- The weak types in one pass from the front. It holds back the characters that wait for the next one to decide.
-use Rattle.std.specs.Prelude.{ℕ, suc, Bool, true, false, if◌then◌else◌, List, [], ◌∷◌, ◌++◌, replicate}
+-- The weak types in passes from the front: W1, and W2 to W7 in one walk, which holds back what waits for the next character to decide; first over characters, then over units.
+use Rattle.std.specs.Prelude.{ℕ, zero, suc, ◌-◌, Bool, true, false, if◌then◌else◌, List, [], ◌∷◌, ◌++◌, replicate}
 use Rattle.bidi_base.specs.declared.char_data.BidiClass.{BidiClass}
 use Rattle.bidi_base.specs.declared.char_data.BidiClass.TheVariants.{L, R, AL, EN, ES, ET, AN, CS, NSM, ON}
+use Rattle.bidi_base.specs.Classes.{is_strong, is_al, is_l}
 use Rattle.bidi_base.specs.Weak.{carried}
 use Rattle.bidi_rules.specs.declared.implicit.weak.steps.Before.{Before}
 use Rattle.bidi_rules.specs.declared.implicit.weak.steps.Before.TheVariants.{Other, European, EuropeanTerminators, Arabic, Terminators, EuropeanSeparator, ArabicSeparator}
@@ -11,24 +12,25 @@ abbrev pub marked : BidiClass → BidiClass → BidiClass
 marked m NSM = m
 marked m c = c
 
--- W2 and W3, where the nearest strong class before is AL or is not
-abbrev pub w2_w3 : Bool → BidiClass → BidiClass
-w2_w3 after_al EN = if after_al then AN else EN
-w2_w3 after_al AL = R
-w2_w3 after_al c = c
+-- W1, where a mark at the front takes m
+abbrev pub after_w1 : BidiClass → List BidiClass → List BidiClass
+after_w1 m [] = []
+after_w1 m (x ∷ xs) = marked m x ∷ after_w1 (carried (marked m x)) xs
 
--- the nearest strong class up to this one is AL
-abbrev pub is_after_al : Bool → BidiClass → Bool
-is_after_al after_al AL = true
-is_after_al after_al L = false
-is_after_al after_al R = false
-is_after_al after_al c = after_al
+-- W2 and W3 behind the nearest strong class
+abbrev pub strengthened : BidiClass → BidiClass → BidiClass
+strengthened strong EN = if is_al strong then AN else EN
+strengthened strong AL = R
+strengthened strong c = c
 
--- the classes after W3, where a mark at the front takes m
-abbrev pub after_w3 : BidiClass → Bool → List BidiClass → List BidiClass
-after_w3 m after_al [] = []
-after_w3 m after_al (x ∷ xs) =
-    w2_w3 after_al (marked m x) ∷ after_w3 (carried (marked m x)) (is_after_al after_al (marked m x)) xs
+-- the nearest strong class up to this one
+abbrev pub strong_up_to : BidiClass → BidiClass → BidiClass
+strong_up_to strong c = if is_strong c then c else strong
+
+-- the classes after W3, from those after W1
+abbrev pub after_w3 : BidiClass → List BidiClass → List BidiClass
+after_w3 strong [] = []
+after_w3 strong (x ∷ xs) = strengthened strong x ∷ after_w3 (strong_up_to strong x) xs
 
 -- what stands before the next character waits for it
 abbrev pub waits : Before → Bool
@@ -36,6 +38,12 @@ waits Terminators = true
 waits EuropeanSeparator = true
 waits ArabicSeparator = true
 waits _ = false
+
+-- it is a separator
+abbrev pub is_separator : Before → Bool
+is_separator EuropeanSeparator = true
+is_separator ArabicSeparator = true
+is_separator _ = false
 
 -- a terminator here stands behind a European number
 abbrev pub is_beside_european : Before → Bool
@@ -113,17 +121,35 @@ after_w7 after_l before n (c ∷ classes) =
     then after_w7 (is_after_l after_l c) (next_before c before) 1 classes
     else w7_by after_l (resolved c before) ∷ after_w7 (is_after_l after_l c) (next_before c before) 0 classes)
 
--- neither a number nor a nonspacing mark: a class that W1 to W7 change by itself where no such class stands beside it
-abbrev pub is_plain : BidiClass → Bool
-is_plain EN = false
-is_plain AN = false
-is_plain NSM = false
-is_plain _ = true
+-- what W3 and W6 make of what is left
+abbrev pub left_over : BidiClass → BidiClass
+left_over AL = R
+left_over ES = ON
+left_over ET = ON
+left_over CS = ON
+left_over c = c
 
--- what it becomes then
-abbrev pub plainly : BidiClass → BidiClass
-plainly AL = R
-plainly ES = ON
-plainly ET = ON
-plainly CS = ON
-plainly c = c
+-- a European or Arabic number
+abbrev pub is_number : BidiClass → Bool
+is_number EN = true
+is_number AN = true
+is_number _ = false
+
+-- how many units of a separator that waits come behind its first one, of n
+abbrev pub still_to_come : Before → ℕ → ℕ
+still_to_come EuropeanSeparator n = n - 1
+still_to_come ArabicSeparator n = n - 1
+still_to_come _ n = 0
+
+-- the classes after W7 of units that have these after W1, where n units before them wait, and the first `left` belong to the separator that waits; `len` is the length of the character that begins at a unit
+abbrev pub walked : (ℕ → BidiClass) → (ℕ → ℕ) → BidiClass → Before → ℕ → ℕ → List ℕ → List BidiClass
+walked class len strong before left n [] = replicate n ON
+walked class len strong before (suc left) n (u ∷ us) = walked class len strong before left (suc n) us
+walked class len strong before zero n (u ∷ us) =
+    let z = strengthened strong (class u) in
+    let next = next_before z before in
+    let now = strong_up_to strong (class u) in
+    if joins z before then walked class len now next 0 (suc n) us
+    else replicate n (w7_by (is_l strong) (settled z before))
+    ++ (if waits next then walked class len now next (still_to_come next (len u)) 1 us
+    else w7_by (is_l strong) (resolved z before) ∷ walked class len now next 0 0 us)

@@ -1,19 +1,17 @@
--- The weak pass over units in place: what it has done once it read some units of a slice.
-use Rattle.std.specs.Prelude.{◌≡◌, ℕ, ◌+◌, ◌<◌, ◌≤◌, Bool, true, false, ◌&&◌, List, ◌++◌, length, filter, get_or}
+-- The weak passes over units in place: what each has done once it read some units of a slice.
+use Rattle.std.specs.Prelude.{◌≡◌, ℕ, ◌+◌, ◌-◌, ◌<◌, ◌≤◌, Bool, true, false, ◌&&◌, List, ◌++◌, length, map, filter, get_or, min, slice_range}
+use Rattle.std.specs.List.{list_any}
+use Rattle.std.specs.Option.{option_map_or}
+use Rattle.std.specs.declared.ops.Range.{Range}
 use Rattle.bidi_base.specs.declared.char_data.BidiClass.{BidiClass}
 use Rattle.bidi_base.specs.declared.char_data.BidiClass.TheVariants.{L}
-use Rattle.bidi_base.specs.Classes.{is_al, is_l, is_kept_in_place}
+use Rattle.bidi_base.specs.Classes.{is_kept_in_place}
 use Rattle.bidi_base.specs.Places.{between, at_places, class_at}
-use Rattle.bidi_base.specs.Text.{place}
-use Rattle.bidi_base.specs.Units.{in_runs}
-use Rattle.bidi_base.specs.Weak.{carried, weak_classes}
-use Rattle.bidi_rules.specs.declared.implicit.weak.Walk.{Walk}
+use Rattle.bidi_base.specs.Text.{char_at}
+use Rattle.bidi_base.specs.Units.{bounds, in_runs}
+use Rattle.bidi_rules.specs.declared.implicit.weak.numbers.Walk.{Walk}
 use Rattle.bidi_rules.specs.declared.implicit.weak.steps.Before.TheVariants.{Other}
-use Rattle.bidi_rules.specs.WeakPass.{after_w3, after_w7, waits}
-
--- the walk before the first unit
-abbrev pub first_walk : BidiClass → Walk
-first_walk sos = record { mark = carried sos; after_al = is_al sos; after_l = is_l sos; before = Other; first = 0; first_run = 0 }
+use Rattle.bidi_rules.specs.WeakPass.{after_w1, strengthened, next_before, waits, left_over, still_to_come, walked}
 
 -- a unit of some ranges whose class is read
 abbrev pub is_seen : List (ℕ × ℕ) → List BidiClass → ℕ → Bool
@@ -27,79 +25,101 @@ pub record IsWrittenOver (test : ℕ → Bool) (class : BidiClass) (from to : �
   pub above : (k : ℕ) → to ≤ k → class_at new k ≡ class_at old k
   pub long : length new ≡ length old
 
--- a pass over the units in these ranges, which had these classes at first; a character whose class is read begins at each marked unit
+-- the classes of a range of units, as far as there are any
+abbrev pub part_of : List BidiClass → ℕ × ℕ → List BidiClass
+part_of units r = let end = min r.1 (length units) in slice_range units (min r.0 end) end
+
+-- one in some ranges passes the test
+abbrev pub is_any : (BidiClass → Bool) → List (Range ℕ) → List BidiClass → Bool
+is_any test runs units = list_any (λ run. list_any test (part_of units (bounds run))) runs
+
+-- the seen units from `low` up to `high`, and all of them
+abbrev pub seen_from : List (ℕ × ℕ) → List BidiClass → ℕ → ℕ → List ℕ
+seen_from runs units low high = filter (is_seen runs units) (between low high)
+
+abbrev pub seen_units : List (ℕ × ℕ) → List BidiClass → List ℕ
+seen_units runs units = seen_from runs units 0 (length units)
+
+-- W1 is done for the seen units below i, where the next mark takes `mark`
+pub record AreMarked (runs : List (ℕ × ℕ)) (sos : BidiClass) (old now : List BidiClass) (mark : BidiClass) (i : ℕ) : Type 0 where
+  pub answers : at_places L now (seen_from runs old 0 i) ++ after_w1 mark (at_places L old (seen_from runs old i (length old))) ≡ after_w1 sos (at_places L old (seen_units runs old))
+  pub unread : (k : ℕ) → i ≤ k → class_at now k ≡ class_at old k
+  pub unseen : (k : ℕ) → is_seen runs old k ≡ false → class_at now k ≡ class_at old k
+  pub kept : (k : ℕ) → is_kept_in_place (class_at now k) ≡ is_kept_in_place (class_at old k)
+  pub takes : is_kept_in_place mark ≡ true
+  pub inside : i ≤ length old
+  pub long : length now ≡ length old
+
+-- W1 is done
+pub record IsMarked (runs : List (ℕ × ℕ)) (sos : BidiClass) (old new : List BidiClass) : Type 0 where
+  pub answers : at_places L new (seen_units runs old) ≡ after_w1 sos (at_places L old (seen_units runs old))
+  pub unseen : (k : ℕ) → is_seen runs old k ≡ false → class_at new k ≡ class_at old k
+  pub kept : (k : ℕ) → is_kept_in_place (class_at new k) ≡ is_kept_in_place (class_at old k)
+  pub long : length new ≡ length old
+
+-- the length of the character that begins at a unit, or 1 where none begins
+abbrev pub len_at : (ℕ → ℕ) → List ℕ → ℕ → ℕ
+len_at len_of chars u = option_map_or (λ e. e.1) (char_at len_of chars u) 1
+
+-- a walk over the seen units of some ranges, which had these classes at first
 pub record Pass : Type 0 where
-  pub mark : ℕ → Bool
   pub runs : List (ℕ × ℕ)
   pub sos : BidiClass
   pub old : List BidiClass
+  pub len : ℕ → ℕ
 
 abbrev pub seen : Pass → ℕ → Bool
 seen p k = is_seen p.runs p.old k
 
--- the marked units from `low` up to `high`
-abbrev pub marks : Pass → ℕ → ℕ → List ℕ
-marks p low high = filter p.mark (between low high)
+abbrev pub units : Pass → ℕ → ℕ → List ℕ
+units p low high = seen_from p.runs p.old low high
 
--- a marked unit is seen, and a seen unit that is not marked goes on with the character of the unit before it
-pub record AreMarks (p : Pass) : Type 0 where
-  pub marked_seen : (k : ℕ) → p.mark k ≡ true → seen p k ≡ true
-  pub behind : (k : ℕ) → seen p (k + 1) ≡ true → p.mark (k + 1) ≡ false → seen p k ≡ true
+-- what waits begins at `from`, in the run that the walk names
+pub record AreHeld (p : Pass) (w : Walk) (from : ℕ) : Type 0 where
+  pub first : w.first ≡ from
+  pub run_fits : w.first_run < length p.runs
+  pub run : (get_or p.runs w.first_run (0, 0)).0 ≤ from
 
--- one character stands on the units from `from` up to `to`
-pub record IsCharacter (p : Pass) (from to : ℕ) : Type 0 where
-  pub some : from < to
-  pub inside : to ≤ length p.old
-  pub alike : (k : ℕ) → from ≤ k → k < to → seen p k ≡ seen p from
-  pub first : p.mark from ≡ seen p from
-  pub later : (k : ℕ) → from < k → k < to → p.mark k ≡ false
-
--- the characters that wait begin in the run that the walk names
-pub record AreHeld (p : Pass) (w : Walk) (i : ℕ) : Type 0 where
-  pub marked : p.mark w.first ≡ true
-  pub below : w.first < i
-  pub run : (get_or p.runs w.first_run (0, 0)).0 ≤ w.first
-
--- the units below i are read, those from `w.first` on are not yet written, and the rest of the pass gives W1 to W7
+-- the units below i are read, those from `from` on are not yet written, and the rest of the walk gives what it is to give
 pub record IsUnderWay (p : Pass) (now : List BidiClass) (w : Walk) (i : ℕ) : Type 0 where
-  pub answers : at_places L now (marks p 0 w.first)
-      ++ after_w7 w.after_l w.before (length (marks p w.first i)) (after_w3 w.mark w.after_al (at_places L p.old (marks p i (length p.old))))
-      ≡ weak_classes p.sos (at_places L p.old (marks p 0 (length p.old)))
-  pub unwritten : (k : ℕ) → w.first ≤ k → class_at now k ≡ class_at p.old k
+  pub from : ℕ
+  pub answers : map left_over (at_places L now (units p 0 from)) ++ walked (class_at p.old) p.len w.strong w.before 0 (length (units p from i)) (units p i (length p.old))
+      ≡ walked (class_at p.old) p.len p.sos Other 0 0 (units p 0 (length p.old))
+  pub unwritten : (k : ℕ) → from ≤ k → class_at now k ≡ class_at p.old k
   pub unseen : (k : ℕ) → seen p k ≡ false → class_at now k ≡ class_at p.old k
-  pub even : (k : ℕ) → k + 1 < w.first → seen p (k + 1) ≡ true → p.mark (k + 1) ≡ false → class_at now (k + 1) ≡ class_at now k
-  pub waiting : waits w.before ≡ true → AreHeld p w i
-  pub idle : waits w.before ≡ false → (k : ℕ) → w.first ≤ k → k < i → seen p k ≡ false
-  pub order : w.first ≤ i
+  pub waiting : waits w.before ≡ true → AreHeld p w from
+  pub idle : waits w.before ≡ false → from ≡ i
+  pub order : from ≤ i
   pub inside : i ≤ length p.old
   pub long : length now ≡ length p.old
-  pub run : w.first_run < length p.runs
 
--- a pass over a text: each of its characters stands on the units from its place to the next
-pub record IsPassOver (len_of : ℕ → ℕ) (chars : List ℕ) (p : Pass) : Type 0 where
-  pub marks_are : AreMarks p
-  pub characters : (k : ℕ) → k < length chars → IsCharacter p (place len_of chars k) (place len_of chars (k + 1))
-
--- these units, in the run at an index, have the next character of the pass
-pub record IsNext (p : Pass) (runs : List (ℕ × ℕ)) (run from to : ℕ) : Type 0 where
+-- these units of the run at an index have one class that is read, and where one separator counts they are one character
+pub record IsStretch (p : Pass) (w : Walk) (runs : List (ℕ × ℕ)) (run from to : ℕ) : Type 0 where
   pub runs_are : p.runs ≡ runs
-  pub marks_are : AreMarks p
-  pub character : IsCharacter p from to
+  pub some : from < to
+  pub inside : to ≤ length p.old
+  pub kept : is_kept_in_place (class_at p.old from) ≡ true
+  pub alike : (k : ℕ) → from ≤ k → k < to → class_at p.old k ≡ class_at p.old from
+  pub single : let next = next_before (strengthened w.strong (class_at p.old from)) w.before in still_to_come next (p.len from) ≡ still_to_come next (to - from)
   pub run_fits : run < length runs
   pub run_starts : (get_or runs run (0, 0)).0 ≤ from
   pub run_ends : to ≤ (get_or runs run (0, 0)).1
 
--- one character more takes each pass on
+-- the units from `from` up to `to` take each walk on
 abbrev pub Reads : List (ℕ × ℕ) → ℕ → ℕ → ℕ → Walk → Walk → List BidiClass → List BidiClass → Type 0
-Reads runs run from to before after old new = (p : Pass) → IsNext p runs run from to → IsUnderWay p old before from → IsUnderWay p new after to
+Reads runs run from to before after old new = (p : Pass) → IsStretch p before runs run from to → IsUnderWay p old before from → IsUnderWay p new after to
 
--- the characters of a text on these units take each pass over it on
-abbrev pub ReadsTo : (ℕ → ℕ) → List ℕ → List (ℕ × ℕ) → ℕ → ℕ → Walk → Walk → List BidiClass → List BidiClass → Type 0
-ReadsTo len_of chars runs from to before after old new = (p : Pass) → p.runs ≡ runs → IsPassOver len_of chars p → IsUnderWay p old before from → IsUnderWay p new after to
+abbrev pub ReadsTo : (ℕ → ℕ) → List (ℕ × ℕ) → ℕ → ℕ → Walk → Walk → List BidiClass → List BidiClass → Type 0
+ReadsTo len runs from to before after old new = (p : Pass) → p.runs ≡ runs → p.len ≡ len → IsUnderWay p old before from → IsUnderWay p new after to
 
--- what holds once all units are read and nothing waits
-pub record IsOver (p : Pass) (now : List BidiClass) : Type 0 where
-  pub answers : at_places L now (marks p 0 (length p.old)) ≡ weak_classes p.sos (at_places L p.old (marks p 0 (length p.old)))
-  pub unseen : (k : ℕ) → seen p k ≡ false → class_at now k ≡ class_at p.old k
-  pub even : (k : ℕ) → k + 1 < length p.old → seen p (k + 1) ≡ true → p.mark (k + 1) ≡ false → class_at now (k + 1) ≡ class_at now k
-  pub long : length now ≡ length p.old
+-- a character that begins at u ends at `end` or before, and its units have one class
+pub record IsWhole (len : ℕ → ℕ) (classes : List BidiClass) (end u : ℕ) : Type 0 where
+  pub some : 1 ≤ len u
+  pub within : u + len u ≤ end
+  pub alike : (k : ℕ) → u ≤ k → k < u + len u → class_at classes k ≡ class_at classes u
+
+-- W2, W4, W5 and W7 are done, but for what W3 and W6 make of what is left
+pub record IsWalked (len : ℕ → ℕ) (runs : List (ℕ × ℕ)) (sos : BidiClass) (old new : List BidiClass) : Type 0 where
+  pub answers : map left_over (at_places L new (seen_units runs old)) ≡ walked (class_at old) len sos Other 0 0 (seen_units runs old)
+  pub unseen : (k : ℕ) → is_seen runs old k ≡ false → class_at new k ≡ class_at old k
+  pub long : length new ≡ length old

@@ -1,13 +1,10 @@
-//! The rules W1 to W7 as steps of one walk that looks at each character once.
+//! The rules W2 to W7 as steps of one walk that looks at each unit once.
 
 ghost use Rattle.std.specs.Prelude.{◌≡◌};
-ghost use Rattle.bidi_base.specs.Classes.{is_al, is_l};
-ghost use Rattle.bidi_base.specs.Weak.{carried};
-ghost use Rattle.bidi_rules.specs.WeakPass.{marked, w2_w3, is_after_al, is_after_l, w7_by, waits, joins, next_before, settled, resolved};
+ghost use Rattle.bidi_base.specs.Classes.{is_l};
+ghost use Rattle.bidi_rules.specs.WeakPass.{strengthened, strong_up_to, w7_by, waits, is_separator, joins, next_before, settled, resolved};
 
-use bidi_base::char_data::BidiClass::{
-    self, AL, AN, CS, EN, ES, ET, FSI, L, LRI, NSM, ON, PDI, R, RLI,
-};
+use bidi_base::char_data::BidiClass::{self, AL, AN, CS, EN, ES, ET, L, ON, R};
 
 /// What stands directly before a character, as far as numbers, separators and terminators ask.
 #[derive(Clone, Copy, Debug)]
@@ -37,6 +34,13 @@ impl Before {
             self,
             Before::Terminators | Before::EuropeanSeparator | Before::ArabicSeparator
         )
+    }
+
+    /// Whether it is a separator that waits.
+    pub fn is_separator(self) -> bool
+        ensures { result ≡ is_separator self }
+    {
+        matches!(self, Before::EuropeanSeparator | Before::ArabicSeparator)
     }
 
     /// Whether a class after W3 joins what waits.
@@ -105,77 +109,33 @@ impl Before {
     }
 }
 
-/// What a nonspacing mark takes from the character before it (W1).
-pub fn carried(class: BidiClass) -> BidiClass
-    ensures { result ≡ carried class }
+/// A class after W3, behind this nearest strong class.
+pub fn strengthened(strong: BidiClass, class: BidiClass) -> BidiClass
+    ensures { result ≡ strengthened strong class }
 {
     match class {
-        LRI | RLI | FSI | PDI => ON,
-        other => other,
-    }
-}
-
-/// A class after W1, where a nonspacing mark takes `mark`.
-pub fn marked(mark: BidiClass, class: BidiClass) -> BidiClass
-    ensures { result ≡ marked mark class }
-{
-    match class {
-        NSM => mark,
-        other => other,
-    }
-}
-
-/// A class after W3, where the nearest strong class before is AL or is not.
-pub fn strengthened(after_al: bool, class: BidiClass) -> BidiClass
-    ensures { result ≡ w2_w3 after_al class }
-{
-    match class {
-        EN => if after_al { AN } else { EN },
+        EN => if matches!(strong, AL) { AN } else { EN },
         AL => R,
         other => other,
     }
 }
 
-/// Whether the nearest strong class up to this one is AL.
-pub fn comes_after_al(after_al: bool, class: BidiClass) -> bool
-    ensures { result ≡ is_after_al after_al class }
+/// The nearest strong class up to a class, where `strong` is the one before it.
+pub fn strong_up_to(strong: BidiClass, class: BidiClass) -> BidiClass
+    ensures { result ≡ strong_up_to strong class }
 {
     match class {
-        L | R | AL => is_arabic_letter(class),
-        _ => after_al,
+        L | R | AL => class,
+        _ => strong,
     }
 }
 
-/// Whether the nearest L or R up to this one is L.
-pub fn comes_after_l(after_l: bool, class: BidiClass) -> bool
-    ensures { result ≡ is_after_l after_l class }
+/// A class after W7, behind this nearest strong class.
+pub fn numbered(strong: BidiClass, class: BidiClass) -> BidiClass
+    ensures { result ≡ w7_by (is_l strong) class }
 {
     match class {
-        L | R => is_left(class),
-        _ => after_l,
-    }
-}
-
-/// A class after W7, where the nearest L or R before is L or is not.
-pub fn numbered(after_l: bool, class: BidiClass) -> BidiClass
-    ensures { result ≡ w7_by after_l class }
-{
-    match class {
-        EN => if after_l { L } else { EN },
+        EN => if matches!(strong, L) { L } else { EN },
         other => other,
     }
-}
-
-/// Whether a class is AL.
-pub fn is_arabic_letter(class: BidiClass) -> bool
-    ensures { result ≡ is_al class }
-{
-    matches!(class, AL)
-}
-
-/// Whether a class is L.
-pub fn is_left(class: BidiClass) -> bool
-    ensures { result ≡ is_l class }
-{
-    matches!(class, L)
 }

@@ -1,0 +1,176 @@
+-- W1 over units, one after another.
+use Rattle.std.proofs.Common.{◌≡◌, ℕ, zero, suc, ◌+◌, ◌-◌, ◌<◌, ◌≤◌, Bool, true, false, List, [], ◌∷◌, ◌++◌, length, map, get_or, set, take, drop, subst, refl, sym, ap, ◌∙◌, arith, inl, inr, append_assoc, append-nil, length-set, length-take, length-drop, get_or-set_same, get_or-set_other}
+use Rattle.std.specs.Prelude.{All, filter, min, slice_range}
+use Rattle.std.specs.List.{list_any, range_with_len}
+use Rattle.std.specs.declared.ops.Range.{Range}
+use Rattle.std.proofs.lemmas.List.{get_or-take, get_or-drop}
+use Rattle.std.proofs.lemmas.List.Elements.{All-nil, All-cons, All-head, All-tail}
+use Rattle.std.proofs.lemmas.List.Folds.{list_any_at}
+use Rattle.std.proofs.lemmas.Bool.{cases_eq, cases_Bool, both_ways, and_parts, and_left, or_cases, or_parts}
+use Rattle.bidi_base.specs.Units.{are_ordered, bounds, in_runs}
+use Rattle.bidi_base.specs.declared.char_data.BidiClass.{BidiClass}
+use Rattle.bidi_base.specs.declared.char_data.BidiClass.TheVariants.{L, NSM, LRI, RLI, FSI, PDI}
+use Rattle.bidi_base.specs.Classes.{is_kept_in_place, is_nsm}
+use Rattle.bidi_base.specs.Places.{at_places, class_at}
+use Rattle.bidi_base.specs.Weak.{carried}
+use Rattle.bidi_base.proofs.StoredLemmas.{at_places-append}
+use Rattle.bidi_rules.specs.WeakPass.{marked, after_w1}
+use Rattle.bidi_rules.specs.WeakWalk.{is_seen, part_of, is_any, seen_from, seen_units, AreMarked, IsMarked}
+use Rattle.bidi_rules.proofs.InRuns.{in_run, in_run-true, start_or, start_within, gap_before, gap_after, next_start}
+use Rattle.bidi_rules.proofs.Marks.{marked-none, marked-parts, marked-empty, marked-one, at_marked-same}
+
+carried-kept : (c : BidiClass) → is_kept_in_place c ≡ true → is_kept_in_place (carried c) ≡ true
+carried-kept LRI h = refl
+carried-kept RLI h = refl
+carried-kept FSI h = refl
+carried-kept PDI h = refl
+carried-kept _ h = h
+
+marked-kept : (m c : BidiClass) → is_kept_in_place m ≡ true → is_kept_in_place (marked m c) ≡ is_kept_in_place c
+marked-kept m NSM h = h
+marked-kept m _ h = refl
+
+module _ (runs : List (ℕ × ℕ)) (sos : BidiClass) (old : List BidiClass) where
+  pub AreMarked-start : is_kept_in_place sos ≡ true → AreMarked runs sos old old sos 0
+  AreMarked-start kept = record { answers = refl; unread = λ k from. refl; unseen = λ k none. refl; kept = λ k. refl; takes = kept; inside = omega arith; long = refl }
+
+  pub AreMarked-end : (now : List BidiClass) (mark : BidiClass) → AreMarked runs sos old now mark (length old) → IsMarked runs sos old now
+  AreMarked-end now mark h = record {
+    answers = sym (append-nil (at_places L now (seen_units runs old)))
+        ∙ ap (λ (us : List ℕ). at_places L now (seen_units runs old) ++ after_w1 mark (at_places L old us)) (sym (marked-none (is_seen runs old) (length old) (length old) (omega arith)))
+        ∙ h.answers;
+    unseen = h.unseen;
+    kept = h.kept;
+    long = h.long;
+  }
+
+  module _ (now : List BidiClass) (mark : BidiClass) (i : ℕ) (h : AreMarked runs sos old now mark i) where
+    abbrev us : ℕ → ℕ → List ℕ
+    us low high = seen_from runs old low high
+
+    -- units that are not seen
+    pub AreMarked-unseen : (j : ℕ) → i ≤ j → j ≤ length old → ((k : ℕ) → i ≤ k → k < j → is_seen runs old k ≡ false) → AreMarked runs sos old now mark j
+    AreMarked-unseen j order fits none =
+        let nothing : us i j ≡ [] = marked-empty (is_seen runs old) i j none in
+        let done : us 0 j ≡ us 0 i = marked-parts (is_seen runs old) 0 i j (omega arith) order ∙ ap (λ (ps : List ℕ). us 0 i ++ ps) nothing ∙ append-nil (us 0 i) in
+        let later : us i (length old) ≡ us j (length old) = marked-parts (is_seen runs old) i j (length old) order fits ∙ ap (λ (ps : List ℕ). ps ++ us j (length old)) nothing in
+        record {
+          answers = ap (λ (ps : List ℕ). at_places L now ps ++ after_w1 mark (at_places L old (us j (length old)))) done
+              ∙ ap (λ (ps : List ℕ). at_places L now (us 0 i) ++ after_w1 mark (at_places L old ps)) (sym later)
+              ∙ h.answers;
+          unread = λ k from. h.unread k (omega arith);
+          unseen = h.unseen;
+          kept = h.kept;
+          takes = h.takes;
+          inside = fits;
+          long = h.long;
+        }
+
+    -- a unit that is seen
+    pub AreMarked-more : i < length old → is_seen runs old i ≡ true → AreMarked runs sos old (set now i (marked mark (class_at now i))) (carried (marked mark (class_at now i))) (i + 1)
+    AreMarked-more fits is =
+        let x = class_at now i in
+        let own = marked mark x in
+        let new = set now i own in
+        let read : x ≡ class_at old i = h.unread i (omega arith) in
+        let within : i < length now = omega (arith, h.long) in
+        let one : us i (i + 1) ≡ i ∷ [] = marked-one (is_seen runs old) i (i + 1) (omega arith) is (λ k above below. absurd (omega arith)) in
+        let done : at_places L new (us 0 (i + 1)) ≡ at_places L now (us 0 i) ++ own ∷ [] =
+        ap (at_places L new) (marked-parts (is_seen runs old) 0 i (i + 1) (omega arith) (omega arith) ∙ ap (λ (ps : List ℕ). us 0 i ++ ps) one)
+        ∙ at_places-append L new (us 0 i) (i ∷ [])
+        ∙ ap (λ (cs : List BidiClass). cs ++ class_at new i ∷ []) (at_marked-same (is_seen runs old) new now 0 i (λ k from below seen. get_or-set_other now i k own L (omega arith)))
+        ∙ ap (λ (c : BidiClass). at_places L now (us 0 i) ++ c ∷ []) (get_or-set_same now i own L within)
+        in
+        let later : us i (length old) ≡ i ∷ us (i + 1) (length old) =
+        marked-parts (is_seen runs old) i (i + 1) (length old) (omega arith) (omega arith) ∙ ap (λ (ps : List ℕ). ps ++ us (i + 1) (length old)) one in
+        let rest = after_w1 (carried own) (at_places L old (us (i + 1) (length old))) in
+        record {
+          answers = ap (λ (cs : List BidiClass). cs ++ rest) done
+              ∙ append_assoc (at_places L now (us 0 i)) (own ∷ []) rest
+              ∙ ap (λ (c : BidiClass). at_places L now (us 0 i) ++ after_w1 mark (c ∷ at_places L old (us (i + 1) (length old)))) read
+              ∙ ap (λ (ps : List ℕ). at_places L now (us 0 i) ++ after_w1 mark (at_places L old ps)) (sym later)
+              ∙ h.answers;
+          unread = λ k from. get_or-set_other now i k own L (omega arith) ∙ h.unread k (omega arith);
+          unseen = λ k none. get_or-set_other now i k own L (λ same. both_ways (is_seen runs old i) (sym (ap (is_seen runs old) same) ∙ none) is) ∙ h.unseen k none;
+          kept = λ k. elim (cases_eq k i) [
+            | inl same ↦ ap (λ (u : ℕ). is_kept_in_place (class_at new u)) same ∙ ap is_kept_in_place (get_or-set_same now i own L within) ∙ marked-kept mark x h.takes ∙ ap is_kept_in_place read ∙ sym (ap (λ (u : ℕ). is_kept_in_place (class_at old u)) same)
+            | inr other ↦ ap is_kept_in_place (get_or-set_other now i k own L other) ∙ h.kept k
+          ];
+          takes = carried-kept own (marked-kept mark x h.takes ∙ ap is_kept_in_place read ∙ kept_here);
+          inside = omega arith;
+          long = length-set now i own ∙ h.long;
+        }
+      where
+        kept_here : is_kept_in_place (class_at old i) ≡ true
+        kept_here = (and_parts (in_runs runs i) (is_kept_in_place (class_at old i)) is).1
+
+  -- over the runs, one behind another
+  module _ (ordered : are_ordered runs ≡ true) (within : All (λ (r : ℕ × ℕ). r.1 ≤ length old) runs) where
+    pub AreMarked-first_run : is_kept_in_place sos ≡ true → AreMarked runs sos old old sos (start_or runs 0 (length old))
+    AreMarked-first_run kept =
+        AreMarked-unseen old sos 0 (AreMarked-start kept) (start_or runs 0 (length old)) (omega arith) (start_within runs 0 (length old) ordered within)
+        (λ k from below. and_left (in_runs runs k) (is_kept_in_place (class_at old k)) (gap_before 0 runs k (length old) ordered below))
+
+    pub AreMarked-next_run : (now : List BidiClass) (mark : BidiClass) (index : ℕ) → index < length runs → AreMarked runs sos old now mark (get_or runs index (0, 0)).1 → AreMarked runs sos old now mark (start_or runs (index + 1) (length old))
+    AreMarked-next_run now mark index fits h =
+        let next : suc index ≡ index + 1 = omega arith in
+        subst (λ (n : ℕ). AreMarked runs sos old now mark (start_or runs n (length old))) next
+        (AreMarked-unseen now mark (get_or runs index (0, 0)).1 h (start_or runs (suc index) (length old)) (next_start 0 index runs (length old) ordered fits (within index (0, 0) fits)) (start_within runs (suc index) (length old) ordered within)
+        (λ k from below. and_left (in_runs runs k) (is_kept_in_place (class_at old k)) (gap_after 0 index runs k (length old) ordered fits from below)))
+
+-- ---- where no class passes a test
+
+in_part : (test : BidiClass → Bool) (units : List BidiClass) (start end u : ℕ) → end ≤ length units → start ≤ u → u < end → list_any test (part_of units (start, end)) ≡ false → test (class_at units u) ≡ false
+in_part test units start end u fits from below none =
+    let top : min end (length units) ≡ end = omega arith in
+    let bottom : min start end ≡ start = omega arith in
+    let part = take (end - start) (drop start units) in
+    let is : part_of units (start, end) ≡ part = ap (λ e. slice_range units (min start e) e) top ∙ ap (λ s. slice_range units s end) bottom in
+    let at : start + (u - start) ≡ u = omega arith in
+    let read : get_or part (u - start) L ≡ class_at units u = get_or-take (end - start) (drop start units) (u - start) L (omega arith) ∙ get_or-drop start units (u - start) L ∙ ap (class_at units) at in
+    elim (cases_Bool (test (class_at units u))) [
+      | inl passes ↦
+          absurd (both_ways (list_any test part) (ap (list_any test) (sym is) ∙ none)
+          (list_any_at test part (u - start) L (omega (arith, length-take (end - start) (drop start units), length-drop start units)) (ap test read ∙ passes)))
+      | inr fails ↦ fails
+    ]
+
+pub is_any-none : (test : BidiClass → Bool) (runs : List (Range ℕ)) (units : List BidiClass) → All (λ r. r.1 ≤ length units) (map bounds runs) → is_any test runs units ≡ false → (u : ℕ) → in_runs (map bounds runs) u ≡ true → test (class_at units u) ≡ false
+is_any-none test [] units within none u inside = absurd (both_ways false refl inside)
+is_any-none test (r ∷ runs) units within none u inside =
+    let parts = or_parts (list_any test (part_of units (bounds r))) (is_any test runs units) none in
+    elim (or_cases (in_run (bounds r) u) (in_runs (map bounds runs) u) inside) [
+      | inl here ↦
+          let ends = in_run-true (bounds r) u here in
+          in_part test units r.start r.end u (All-head (λ (q : ℕ × ℕ). q.1 ≤ length units) (bounds r) (map bounds runs) within) ends.0 ends.1 parts.0
+      | inr later ↦ is_any-none test runs units (All-tail (λ (q : ℕ × ℕ). q.1 ≤ length units) (bounds r) (map bounds runs) within) parts.1 u later
+    ]
+
+-- so of the units that are seen
+pub All-seen : (P : ℕ → Type 0) (runs : List (ℕ × ℕ)) (units : List BidiClass) → ((u : ℕ) → in_runs runs u ≡ true → P u) → All P (seen_units runs units)
+All-seen P runs units each = over 0 (length units - 0)
+  where
+    over : (low n : ℕ) → All P (filter (is_seen runs units) (range_with_len low n))
+    over low zero = All-nil P
+    over low (suc n) = elim (cases_Bool (is_seen runs units low)) [
+      | inl yes' ↦ rw yes' (All-cons P low (filter (is_seen runs units) (range_with_len (low + 1) n)) (each low (and_parts (in_runs runs low) (is_kept_in_place (class_at units low)) yes').0) (over (low + 1) n))
+      | inr no' ↦ rw no' (over (low + 1) n)
+    ]
+
+after_w1-none : (units : List BidiClass) (us : List ℕ) (mark : BidiClass) → All (λ u. is_nsm (class_at units u) ≡ false) us → after_w1 mark (at_places L units us) ≡ at_places L units us
+after_w1-none units [] mark none = refl
+after_w1-none units (u ∷ us) mark none =
+    rw (own (class_at units u) (All-head (λ u. is_nsm (class_at units u) ≡ false) u us none))
+    (ap (λ (cs : List BidiClass). class_at units u ∷ cs) (after_w1-none units us (carried (class_at units u)) (All-tail (λ u. is_nsm (class_at units u) ≡ false) u us none)))
+  where
+    own : (c : BidiClass) → is_nsm c ≡ false → marked mark c ≡ c
+    own NSM h = absurd (cc h)
+    own _ h = refl
+
+pub IsMarked-none : (runs : List (Range ℕ)) (sos : BidiClass) (old : List BidiClass) → All (λ r. r.1 ≤ length old) (map bounds runs) → is_any is_nsm runs old ≡ false → IsMarked (map bounds runs) sos old old
+IsMarked-none runs sos old within none = record {
+  answers = sym (after_w1-none old (seen_units (map bounds runs) old) sos (All-seen (λ u. is_nsm (class_at old u) ≡ false) (map bounds runs) old (is_any-none is_nsm runs old within none)));
+  unseen = λ k h. refl;
+  kept = λ k. refl;
+  long = refl;
+}

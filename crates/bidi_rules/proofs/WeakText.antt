@@ -1,0 +1,192 @@
+-- The weak passes over the units of a text: what stands at the characters once all are done.
+use Rattle.std.proofs.Common.{◌≡◌, ℕ, zero, suc, ◌+◌, ◌-◌, ◌<◌, ◌≤◌, Bool, true, false, ◌&&◌, List, [], ◌∷◌, length, map, get_or, take, None, refl, sym, ap, subst, ◌∙◌, arith, inl, inr}
+use Rattle.std.specs.Prelude.{All, filter}
+use Rattle.std.specs.List.{range_with_len}
+use Rattle.std.specs.Option.{option_map_or}
+use Rattle.std.proofs.lemmas.Bool.{cases_Bool, cases_lt, cases_eq, and_parts, and_left, and_right, lt-ltb, le-ltb, ne_eqb}
+use Rattle.std.proofs.lemmas.List.{length-map}
+use Rattle.std.proofs.lemmas.List.Sums.{sum_by-cons}
+use Rattle.std.proofs.lemmas.List.Elements.{All-weaker}
+use Rattle.bidi_base.specs.declared.char_data.BidiClass.{BidiClass}
+use Rattle.bidi_base.specs.declared.char_data.BidiClass.TheVariants.{L, BN}
+use Rattle.bidi_base.specs.Classes.{is_kept_in_place, is_l}
+use Rattle.bidi_base.specs.Places.{at_places, class_at}
+use Rattle.bidi_base.specs.Weak.{carried, w1_rule, w2_rule, w3_rule, w4_rule, w5_rule, w6_rule, w7_rule, w1, w2, w3, w4, w5, w6, weak_classes}
+use Rattle.bidi_base.specs.Text.{is_per_char, char_at, place, char_index, per_unit, IsLine, IsPerChar}
+use Rattle.bidi_base.specs.Units.{are_ordered, in_runs, kept_in_place, units_in_runs, AreLines}
+use Rattle.bidi_base.proofs.PlaceLemmas.{char_at-place, line_places, place-more, place-mono, unit_of}
+use Rattle.bidi_base.proofs.TextLemmas.{HasUnits, is_boundary-le}
+use Rattle.bidi_base.proofs.UnitsLemmas.{length-from_IsPerChar, is_per_char-from_IsPerChar}
+use Rattle.bidi_base.proofs.ChainLemmas.{filter_range-agree}
+use Rattle.bidi_base.proofs.PerCharTests.{class_eq, class_test}
+use Rattle.bidi_base.proofs.PlacesLemmas.{length-in_context}
+use Rattle.bidi_base.proofs.RepeatedPlaces.{AreIndexes, units_of_chars, read_units-is, read_units-new, kept_in_place-AreIndexes}
+use Rattle.bidi_base.proofs.RepeatedRules.{w1-per_unit}
+use Rattle.bidi_base.proofs.StoredLemmas.{length-at_places}
+use Rattle.bidi_rules.specs.declared.implicit.weak.steps.Before.TheVariants.{Other}
+use Rattle.bidi_rules.specs.WeakPass.{after_w3, after_w7, left_over, walked}
+use Rattle.bidi_rules.specs.WeakWalk.{is_seen, seen_units, len_at, IsWhole, IsMarked, IsWalked}
+use Rattle.bidi_rules.proofs.PassOverText.{alike_class}
+use Rattle.bidi_rules.proofs.SeenUnits.{seen_units-is, ruled-places, ruled-IsPerChar, answered-IsPerChar}
+use Rattle.bidi_rules.proofs.WeakPassLemmas.{after_w1-is, weak_classes-pass}
+use Rattle.bidi_rules.proofs.WeakUnits.{walked-chars}
+
+-- ---- the character that begins at a unit
+
+char_at-inside : (len_of : ℕ → ℕ) → HasUnits len_of → (chars : List ℕ) (k j : ℕ) → k < length chars → 0 < j → j < len_of (get_or chars k 0) → char_at len_of chars (place len_of chars k + j) ≡ None
+char_at-inside len_of h [] k j fits some below = absurd (omega arith)
+char_at-inside len_of h (c ∷ chars) zero j fits some below =
+    let at : place len_of (c ∷ chars) 0 + j ≡ j = omega arith in
+    rw (at, ne_eqb j 0 (λ e. omega arith), lt-ltb j (len_of c) below) refl
+char_at-inside len_of h (c ∷ chars) (suc k) j fits some below =
+    let more : place len_of (c ∷ chars) (suc k) ≡ len_of c + place len_of chars k = sum_by-cons len_of c (take k chars) in
+    let units = h c in
+    let left : place len_of (c ∷ chars) (suc k) + j - len_of c ≡ place len_of chars k + j = omega arith in
+    rw (ne_eqb (place len_of (c ∷ chars) (suc k) + j) 0 (λ e. omega arith), le-ltb (place len_of (c ∷ chars) (suc k) + j) (len_of c) (omega arith), left) (char_at-inside len_of h chars k j (omega arith) some below)
+
+module _ (len_of : ℕ → ℕ) (h : HasUnits len_of) (chars : List ℕ) where
+  pub len_at-place : (k : ℕ) → k < length chars → len_at len_of chars (place len_of chars k) ≡ len_of (get_or chars k 0)
+  len_at-place k fits = ap (λ o. option_map_or (λ (e : ℕ × ℕ). e.1) o 1) (char_at-place len_of h chars k 0 fits)
+
+  -- in a line
+  pub IsWhole-line : (classes : List BidiClass) → IsPerChar len_of chars classes → (start end : ℕ) → IsLine len_of chars start end → (u : ℕ) → start ≤ u → u < end → IsWhole (len_at len_of chars) classes end u
+  IsWhole-line classes per start end line u from below =
+      let w = unit_of len_of chars u (omega (arith, is_boundary-le len_of chars end line.ends)) in
+      let k = w.index in
+      let at = w.at_place in
+      elim (cases_eq w.offset 0) [
+        | inl first ↦
+            let begins : u ≡ place len_of chars k = omega arith in
+            let size : len_at len_of chars u ≡ len_of (get_or chars k 0) = ap (len_at len_of chars) begins ∙ len_at-place k w.within in
+            let more = place-more len_of chars k 0 w.within in
+            let l = line_places len_of h chars start end line in
+            let ends = l.ends in
+            record {
+              some = omega (arith, h (get_or chars k 0));
+              within = elim (cases_lt k (char_index len_of chars end)) [
+                | inl inside ↦ omega (arith, place-mono len_of chars (k + 1) (char_index len_of chars end) (omega arith))
+                | inr past ↦ absurd (omega (arith, place-mono len_of chars (char_index len_of chars end) k past))
+              ];
+              alike = λ v a b. alike_class len_of h chars classes per k v w.within (omega arith) (omega arith) ∙ sym (ap (class_at classes) begins);
+            }
+        | inr later ↦
+            let size : len_at len_of chars u ≡ 1 =
+            ap (len_at len_of chars) at ∙ ap (λ o. option_map_or (λ (e : ℕ × ℕ). e.1) o 1) (char_at-inside len_of h chars k w.offset w.within (omega arith) w.below) in
+            record {
+              some = omega arith;
+              within = omega arith;
+              alike = λ v a b. let same : v ≡ u = omega arith in ap (class_at classes) same;
+            }
+      ]
+
+-- ---- the passes, one behind another
+
+-- what holds at the end
+pub record IsResolved (len_of : ℕ → ℕ) (chars : List ℕ) (runs : List (ℕ × ℕ)) (sos : BidiClass) (old new : List BidiClass) : Type 0 where
+  pub kept : let places = map (place len_of chars) (kept_in_place len_of chars old runs) in at_places L new places ≡ weak_classes sos (at_places L old places)
+  pub removed : (u : ℕ) → class_at old u ≡ BN → class_at new u ≡ BN
+  pub outside : (u : ℕ) → in_runs runs u ≡ false → class_at new u ≡ class_at old u
+  pub per_char : is_per_char class_eq len_of chars new ≡ true
+
+length-weak_classes : (sos : BidiClass) (xs : List BidiClass) → length (weak_classes sos xs) ≡ length xs
+unfolding weak_classes
+length-weak_classes sos xs =
+    let x1 = w1 sos xs in
+    let x3 = w3 (w2 sos x1) in
+    let x5 = w5 (w4 x3) in
+    length-in_context (w7_rule sos) [] (w6 x5) ∙ length-map x5 w6_rule ∙ length-in_context w5_rule [] (w4 x3) ∙ length-in_context w4_rule [] x3 ∙ length-map (w2 sos x1) w3_rule ∙ length-in_context (w2_rule sos) [] x1 ∙ length-in_context (w1_rule sos) [] xs
+
+-- a class that is changed by itself where a unit is marked
+at_marked-map : (f : BidiClass → BidiClass) (mark : ℕ → Bool) (xs ys : List BidiClass) (low n : ℕ) → ((k : ℕ) → mark k ≡ true → class_at xs k ≡ f (class_at ys k)) → at_places L xs (filter mark (range_with_len low n)) ≡ map f (at_places L ys (filter mark (range_with_len low n)))
+at_marked-map f mark xs ys low zero h = refl
+at_marked-map f mark xs ys low (suc n) h = elim (cases_Bool (mark low)) [
+  | inl yes' ↦ rw (yes', h low yes') (ap (λ (cs : List BidiClass). f (class_at ys low) ∷ cs) (at_marked-map f mark xs ys (low + 1) n h))
+  | inr no' ↦ rw no' (at_marked-map f mark xs ys (low + 1) n h)
+]
+
+module _ (len_of : ℕ → ℕ) (h : HasUnits len_of) (chars : List ℕ) (runs : List (ℕ × ℕ)) (lines : AreLines len_of chars runs) (ordered : are_ordered runs ≡ true) (sos : BidiClass) where
+  pub lines-within : (classes : List BidiClass) → IsPerChar len_of chars classes → All (λ r. r.1 ≤ length classes) runs
+  lines-within classes per =
+      let size = length-from_IsPerChar len_of chars classes per in
+      All-weaker (λ (r : ℕ × ℕ). IsLine len_of chars r.0 r.1) (λ (r : ℕ × ℕ). r.1 ≤ length classes) (λ r line. omega (arith, is_boundary-le len_of chars r.1 line.ends, size)) runs lines
+
+  module _ (old : List BidiClass) (per : IsPerChar len_of chars old) (c1 : List BidiClass) (marks : IsMarked runs (carried sos) old c1) where
+    w1-is : at_places L c1 (seen_units runs old) ≡ w1 sos (at_places L old (seen_units runs old))
+    w1-is = marks.answers ∙ sym (after_w1-is sos (carried sos) [] (at_places L old (seen_units runs old)) refl)
+
+    marked-places : (let places = map (place len_of chars) (kept_in_place len_of chars old runs) in at_places L c1 places ≡ w1 sos (at_places L old places))
+    marked-places =
+        ruled-places len_of h chars old per runs lines ordered (lines-within old per) (w1 sos) (length-in_context (w1_rule sos) []) (λ ds cs some long. w1-per_unit len_of ds cs some long sos) c1 w1-is
+
+    pub marked-IsPerChar : IsPerChar len_of chars c1
+    marked-IsPerChar =
+        ruled-IsPerChar len_of h chars old per runs lines ordered (lines-within old per) (w1 sos) (length-in_context (w1_rule sos) []) (λ ds cs some long. w1-per_unit len_of ds cs some long sos) c1 w1-is marks.long marks.unseen
+
+    module _ (c2 c3 : List BidiClass) (numbers : IsWalked (len_at len_of chars) runs sos c1 c2)
+        (changed : (u : ℕ) → in_runs runs u ≡ true → class_at c3 u ≡ left_over (class_at c2 u)) (same : (u : ℕ) → in_runs runs u ≡ false → class_at c3 u ≡ class_at c2 u) (long : length c3 ≡ length c2) where
+      abbrev ks : List ℕ
+      ks = kept_in_place len_of chars old runs
+
+      abbrev answers : List BidiClass
+      answers = weak_classes sos (at_places L old (map (place len_of chars) ks))
+
+      seen-same : seen_units runs c1 ≡ seen_units runs old
+      seen-same =
+          ap (λ n. filter (is_seen runs c1) (range_with_len 0 (n - 0))) marks.long
+          ∙ filter_range-agree (is_seen runs c1) (is_seen runs old) 0 (length old - 0) (λ k from below. ap (λ b. in_runs runs k && b) (marks.kept k))
+
+      -- nothing else is written
+      unseen : (u : ℕ) → is_seen runs old u ≡ false → class_at c3 u ≡ class_at old u
+      unseen u none =
+          let before : class_at c2 u ≡ class_at old u = numbers.unseen u (ap (λ b. in_runs runs u && b) (marks.kept u) ∙ none) ∙ marks.unseen u none in
+          elim (cases_Bool (in_runs runs u)) [
+            | inl inside ↦ changed u inside ∙ ap left_over before ∙ bn_stays (class_at old u) (by_parts (in_runs runs u) (is_kept_in_place (class_at old u)) inside none)
+            | inr out ↦ same u out ∙ before
+          ]
+        where
+          bn_stays : (c : BidiClass) → is_kept_in_place c ≡ false → left_over c ≡ c
+          bn_stays BN e = refl
+          bn_stays _ e = absurd (cc e)
+
+          by_parts : (a b : Bool) → a ≡ true → (a && b) ≡ false → b ≡ false
+          by_parts a b e f = grind arith
+
+      -- at the units stands what the characters get
+      at_units : at_places L c3 (filter (λ u. is_kept_in_place (class_at old u)) (units_in_runs runs)) ≡ per_unit len_of (at_places 0 chars ks) answers
+      at_units =
+          let us = filter (λ u. is_kept_in_place (class_at old u)) (units_in_runs runs) in
+          let is : seen_units runs old ≡ us = seen_units-is old runs ordered (lines-within old per) in
+          let cs = at_places L old (map (place len_of chars) ks) in
+          ap (at_places L c3) (sym is)
+          ∙ at_marked-map left_over (is_seen runs old) c3 c2 0 (length old - 0) (λ u seen. changed u (and_parts (in_runs runs u) (is_kept_in_place (class_at old u)) seen).0)
+          ∙ ap (λ (ps : List ℕ). map left_over (at_places L c2 ps)) (sym seen-same)
+          ∙ numbers.answers
+          ∙ ap (walked (class_at c1) (len_at len_of chars) sos Other 0 0) (seen-same ∙ is ∙ units_are)
+          ∙ walked-chars len_of h chars c1 (len_at len_of chars) alike (len_at-place len_of h chars) ks indexes [] sos Other
+          ∙ ap (λ (xs : List BidiClass). per_unit len_of (at_places 0 chars ks) (after_w7 (is_l sos) Other 0 (after_w3 sos xs))) marked-places
+          ∙ ap (per_unit len_of (at_places 0 chars ks)) (sym (weak_classes-pass sos cs))
+        where
+          units_are : filter (λ u. is_kept_in_place (class_at old u)) (units_in_runs runs) ≡ units_of_chars len_of chars ks
+          units_are =
+              subst (λ (us : List BidiClass). filter (λ u. is_kept_in_place (class_at us u)) (units_in_runs runs) ≡ units_of_chars len_of chars (kept_in_place len_of chars us runs)) (sym per.2)
+              (read_units-is len_of h chars per.0 per.1 runs lines)
+
+          indexes : AreIndexes chars ks
+          indexes = subst (λ (us : List BidiClass). AreIndexes chars (kept_in_place len_of chars us runs)) (sym per.2) (kept_in_place-AreIndexes len_of h chars per.0 per.1 runs lines)
+
+          alike : (k j : ℕ) → k < length chars → j < len_of (get_or chars k 0) → class_at c1 (place len_of chars k + j) ≡ class_at c1 (place len_of chars k)
+          alike k j fits below = let more = place-more len_of chars k 0 fits in alike_class len_of h chars c1 marked-IsPerChar k (place len_of chars k + j) fits (omega arith) (omega arith)
+
+      many : length answers ≡ length ks
+      many = length-weak_classes sos (at_places L old (map (place len_of chars) ks)) ∙ length-at_places L old (map (place len_of chars) ks) ∙ length-map ks (place len_of chars)
+
+      pub IsResolved-passes : IsResolved len_of chars runs sos old c3
+      IsResolved-passes = record {
+        kept = subst (λ (us : List BidiClass). at_places L c3 (filter (λ u. is_kept_in_place (class_at us u)) (units_in_runs runs)) ≡ per_unit len_of (at_places 0 chars (kept_in_place len_of chars us runs)) answers
+            → length answers ≡ length (kept_in_place len_of chars us runs) → at_places L c3 (map (place len_of chars) (kept_in_place len_of chars us runs)) ≡ answers) (sym per.2)
+            (λ e count. read_units-new len_of h chars per.0 per.1 runs lines c3 answers count e) at_units many;
+        removed = λ u is. unseen u (and_right (in_runs runs u) (is_kept_in_place (class_at old u)) (ap is_kept_in_place is)) ∙ is;
+        outside = λ u out. unseen u (and_left (in_runs runs u) (is_kept_in_place (class_at old u)) out);
+        per_char = is_per_char-from_IsPerChar class_eq class_test len_of chars c3
+            (answered-IsPerChar len_of h chars old per runs lines ordered (lines-within old per) c3 answers many at_units (long ∙ numbers.long ∙ marks.long) unseen);
+      }

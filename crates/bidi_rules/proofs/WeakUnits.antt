@@ -1,0 +1,262 @@
+-- The walk over units gives what W2 to W7 give the characters, repeated.
+use Rattle.std.proofs.Common.{◌≡◌, ℕ, zero, suc, ◌+◌, ◌-◌, ◌<◌, ◌≤◌, Bool, true, false, if◌then◌else◌, List, [], ◌∷◌, ◌++◌, length, map, get_or, replicate, refl, sym, ap, ◌∙◌, arith, inl, inr, append-nil, append_assoc, length-append}
+use Rattle.std.specs.Prelude.{All}
+use Rattle.std.specs.List.{range_with_len}
+use Rattle.std.proofs.lemmas.Bool.{cases_Bool}
+use Rattle.bidi_base.specs.declared.char_data.BidiClass.{BidiClass}
+use Rattle.bidi_base.specs.declared.char_data.BidiClass.TheVariants.{L, AL, EN, ES, ET, AN, CS, ON}
+use Rattle.std.proofs.lemmas.List.{replicate-append-replicate}
+use Rattle.std.proofs.lemmas.List.Sums.{sum_by-append, sum_by-cons}
+use Rattle.std.proofs.lemmas.List.Elements.{All-head, All-tail}
+use Rattle.bidi_base.specs.Classes.{is_l}
+use Rattle.bidi_base.specs.Places.{at_places, class_at}
+use Rattle.bidi_base.specs.Text.{place, per_unit, text_len}
+use Rattle.bidi_base.proofs.RepeatedPlaces.{AreIndexes, units_of_chars}
+use Rattle.bidi_base.proofs.TextLemmas.{HasUnits}
+use Rattle.bidi_rules.specs.declared.implicit.weak.steps.Before.{Before}
+use Rattle.bidi_rules.specs.declared.implicit.weak.steps.Before.TheVariants.{Other, European, EuropeanTerminators, Arabic, Terminators, EuropeanSeparator, ArabicSeparator}
+use Rattle.bidi_rules.specs.WeakPass.{strengthened, strong_up_to, after_w3, waits, joins, next_before, settled, resolved, w7_by, is_after_l, after_w7, left_over, is_number, still_to_come, walked}
+
+-- reading a second unit of a class that need not wait changes nothing
+record IsSteady (c strong : BidiClass) (before : Before) : Type 0 where
+  now : strong_up_to (strong_up_to strong c) c ≡ strong_up_to strong c
+  apart : joins (strengthened (strong_up_to strong c) c) (next_before (strengthened strong c) before) ≡ false
+  next : next_before (strengthened (strong_up_to strong c) c) (next_before (strengthened strong c) before) ≡ next_before (strengthened strong c) before
+  own : w7_by (is_l (strong_up_to strong c)) (resolved (strengthened (strong_up_to strong c) c) (next_before (strengthened strong c) before)) ≡ w7_by (is_l strong) (resolved (strengthened strong c) before)
+
+is_steady : (c strong : BidiClass) (before : Before) → waits (next_before (strengthened strong c) before) ≡ false → IsSteady c strong before
+is_steady EN AL before h = record { now = refl; apart = refl; next = refl; own = refl }
+is_steady EN _ before h = record { now = refl; apart = refl; next = refl; own = refl }
+is_steady ET strong European h = record { now = refl; apart = refl; next = refl; own = refl }
+is_steady ET strong EuropeanTerminators h = record { now = refl; apart = refl; next = refl; own = refl }
+is_steady ET strong _ h = absurd (cc h)
+is_steady ES strong European h = absurd (cc h)
+is_steady ES strong _ h = record { now = refl; apart = refl; next = refl; own = refl }
+is_steady CS strong European h = absurd (cc h)
+is_steady CS strong Arabic h = absurd (cc h)
+is_steady CS strong _ h = record { now = refl; apart = refl; next = refl; own = refl }
+is_steady _ strong before h = record { now = refl; apart = refl; next = refl; own = refl }
+
+-- what is a terminator
+joins-terminators : (c strong : BidiClass) (before : Before) → joins (strengthened strong c) before ≡ true → (c ≡ ET) × (before ≡ Terminators)
+joins-terminators ET strong Terminators h = (refl, refl)
+joins-terminators ET strong _ h = absurd (cc h)
+joins-terminators EN AL before h = absurd (cc h)
+joins-terminators EN _ before h = absurd (cc h)
+joins-terminators _ strong before h = absurd (cc h)
+
+terminators-next : (c strong : BidiClass) (before : Before) → next_before (strengthened strong c) before ≡ Terminators → c ≡ ET
+terminators-next ET strong before h = refl
+terminators-next EN AL before h = absurd (cc h)
+terminators-next EN _ before h = absurd (cc h)
+terminators-next ES strong European h = absurd (cc h)
+terminators-next ES strong _ h = absurd (cc h)
+terminators-next CS strong European h = absurd (cc h)
+terminators-next CS strong Arabic h = absurd (cc h)
+terminators-next CS strong _ h = absurd (cc h)
+terminators-next _ strong before h = absurd (cc h)
+
+module _ (class : ℕ → BidiClass) (len : ℕ → ℕ) where
+  -- the rest of a separator
+  skipped : (strong : BidiClass) (before : Before) (m n a : ℕ) (us : List ℕ) → walked class len strong before m n (range_with_len a m ++ us) ≡ walked class len strong before 0 (n + m) us
+  skipped strong before zero n a us = let none : n ≡ n + 0 = omega arith in ap (λ k. walked class len strong before 0 k us) none
+  skipped strong before (suc m) n a us =
+      skipped strong before m (suc n) (a + 1) us ∙ (let more : suc n + m ≡ n + suc m = omega arith in ap (λ k. walked class len strong before 0 k us) more)
+
+  -- terminators that join those that wait
+  joined : (strong : BidiClass) (m n a : ℕ) (us : List ℕ) → ((k : ℕ) → a ≤ k → k < a + m → class k ≡ ET) → walked class len strong Terminators 0 n (range_with_len a m ++ us) ≡ walked class len strong Terminators 0 (n + m) us
+  joined strong zero n a us each = let none : n ≡ n + 0 = omega arith in ap (λ k. walked class len strong Terminators 0 k us) none
+  joined strong (suc m) n a us each =
+      let here : class a ≡ ET = each a (omega arith) (omega arith) in
+      (rw here refl)
+      ∙ joined strong m (suc n) (a + 1) us (λ k from below. each k (omega arith) (omega arith))
+      ∙ (let more : suc n + m ≡ n + suc m = omega arith in ap (λ k. walked class len strong Terminators 0 k us) more)
+
+  held_rest : (strong : BidiClass) (next : Before) (m a : ℕ) (us : List ℕ) → waits next ≡ true → (next ≡ Terminators → (k : ℕ) → a ≤ k → k < a + m → class k ≡ ET)
+      → walked class len strong next (still_to_come next (suc m)) 1 (range_with_len a m ++ us) ≡ walked class len strong next 0 (suc m) us
+  held_rest strong Terminators m a us h each =
+      joined strong m 1 a us (each refl) ∙ (let more : 1 + m ≡ suc m = omega arith in ap (λ k. walked class len strong Terminators 0 k us) more)
+  held_rest strong EuropeanSeparator m a us h each =
+      let left : suc m - 1 ≡ m = omega arith in
+      let more : 1 + m ≡ suc m = omega arith in
+      ap (λ k. walked class len strong EuropeanSeparator k 1 (range_with_len a m ++ us)) left
+      ∙ skipped strong EuropeanSeparator m 1 a us
+      ∙ ap (λ k. walked class len strong EuropeanSeparator 0 k us) more
+  held_rest strong ArabicSeparator m a us h each =
+      let left : suc m - 1 ≡ m = omega arith in
+      let more : 1 + m ≡ suc m = omega arith in
+      ap (λ k. walked class len strong ArabicSeparator k 1 (range_with_len a m ++ us)) left
+      ∙ skipped strong ArabicSeparator m 1 a us
+      ∙ ap (λ k. walked class len strong ArabicSeparator 0 k us) more
+  held_rest strong _ m a us h each = absurd (cc h)
+
+  -- one unit, by what its class does
+  first : (strong c : BidiClass) (before : Before) (n a : ℕ) (us : List ℕ) → class a ≡ c → walked class len strong before 0 n (a ∷ us)
+      ≡ (let z = strengthened strong c in
+      let next = next_before z before in
+      let now = strong_up_to strong c in
+      if joins z before then walked class len now next 0 (suc n) us
+      else replicate n (w7_by (is_l strong) (settled z before))
+      ++ (if waits next then walked class len now next (still_to_come next (len a)) 1 us
+      else w7_by (is_l strong) (resolved z before) ∷ walked class len now next 0 0 us))
+  first strong c before n a us here = rw here refl
+
+  -- units of one class, one after another
+  module _ (strong c : BidiClass) (before : Before) where
+    abbrev z : BidiClass
+    z = strengthened strong c
+
+    abbrev next : Before
+    next = next_before z before
+
+    abbrev now : BidiClass
+    now = strong_up_to strong c
+
+    abbrev own : BidiClass
+    own = w7_by (is_l strong) (resolved z before)
+
+    pub row-joins : (m n a : ℕ) (us : List ℕ) → ((k : ℕ) → a ≤ k → k < a + m → class k ≡ c) → joins z before ≡ true → walked class len strong before 0 n (range_with_len a m ++ us) ≡ walked class len now next 0 (n + m) us
+    row-joins m n a us each h =
+        let parts = joins-terminators c strong before h in
+        rw (parts.0, parts.1) (joined strong m n a us (λ k from below. each k from below ∙ parts.0))
+
+    decided : IsSteady c strong before → waits next ≡ false → (m a : ℕ) (us : List ℕ) → ((k : ℕ) → a ≤ k → k < a + m → class k ≡ c) → walked class len now next 0 0 (range_with_len a m ++ us) ≡ replicate m own ++ walked class len now next 0 0 us
+    decided s free zero a us each = refl
+    decided s free (suc m) a us each =
+        let rest = range_with_len (a + 1) m ++ us in
+        first now c next 0 a rest (each a (omega arith) (omega arith))
+        ∙ rw (s.apart, s.next, free, s.now, s.own) (ap (λ (cs : List BidiClass). own ∷ cs) (decided s free m (a + 1) us (λ k from below. each k (omega arith) (omega arith))))
+
+    pub row-waits : (m n a : ℕ) (us : List ℕ) → ((k : ℕ) → a ≤ k → k < a + suc m → class k ≡ c) → joins z before ≡ false → waits next ≡ true → still_to_come next (len a) ≡ still_to_come next (suc m)
+        → walked class len strong before 0 n (range_with_len a (suc m) ++ us) ≡ replicate n (w7_by (is_l strong) (settled z before)) ++ walked class len now next 0 (suc m) us
+    row-waits m n a us each apart wait count =
+        first strong c before n a (range_with_len (a + 1) m ++ us) (each a (omega arith) (omega arith))
+        ∙ rw (apart, wait, count)
+        (ap (λ (cs : List BidiClass). replicate n (w7_by (is_l strong) (settled z before)) ++ cs)
+        (held_rest now next m (a + 1) us wait (λ e k from below. each k (omega arith) (omega arith) ∙ terminators-next c strong before e)))
+
+    pub row-decides : (m n a : ℕ) (us : List ℕ) → ((k : ℕ) → a ≤ k → k < a + suc m → class k ≡ c) → joins z before ≡ false → waits next ≡ false
+        → walked class len strong before 0 n (range_with_len a (suc m) ++ us) ≡ replicate n (w7_by (is_l strong) (settled z before)) ++ (replicate (suc m) own ++ walked class len now next 0 0 us)
+    row-decides m n a us each apart free =
+        first strong c before n a (range_with_len (a + 1) m ++ us) (each a (omega arith) (omega arith))
+        ∙ rw (apart, free)
+        (ap (λ (cs : List BidiClass). replicate n (w7_by (is_l strong) (settled z before)) ++ own ∷ cs)
+        (decided (is_steady c strong before free) free m (a + 1) us (λ k from below. each k (omega arith) (omega arith))))
+
+-- ---- where no number stands, each class changes by itself
+
+abbrev is_idle : Before → Bool
+is_idle Other = true
+is_idle Terminators = true
+is_idle _ = false
+
+record IsPlain (c strong : BidiClass) (before : Before) : Type 0 where
+  next : is_idle (next_before (strengthened strong c) before) ≡ true
+  none : (n : ℕ) → still_to_come (next_before (strengthened strong c) before) n ≡ 0
+  held : w7_by (is_l strong) (settled (strengthened strong c) before) ≡ ON
+  joined : joins (strengthened strong c) before ≡ true → left_over c ≡ ON
+  waiting : waits (next_before (strengthened strong c) before) ≡ true → left_over c ≡ ON
+  own : waits (next_before (strengthened strong c) before) ≡ false → w7_by (is_l strong) (resolved (strengthened strong c) before) ≡ left_over c
+
+is_plain : (c strong : BidiClass) (before : Before) → is_number c ≡ false → is_idle before ≡ true → IsPlain c strong before
+is_plain EN strong before h idle = absurd (cc h)
+is_plain AN strong before h idle = absurd (cc h)
+is_plain ET strong Other h idle = record { next = refl; none = λ n. refl; held = refl; joined = λ j. refl; waiting = λ w. refl; own = λ w. absurd (cc w) }
+is_plain ET strong Terminators h idle = record { next = refl; none = λ n. refl; held = refl; joined = λ j. refl; waiting = λ w. refl; own = λ w. absurd (cc w) }
+is_plain c strong Other h idle = record { next = refl; none = λ n. refl; held = refl; joined = λ j. absurd (cc j); waiting = λ w. absurd (cc w); own = λ w. refl }
+is_plain c strong Terminators h idle = record { next = refl; none = λ n. refl; held = refl; joined = λ j. absurd (cc j); waiting = λ w. absurd (cc w); own = λ w. refl }
+is_plain c strong _ h idle = absurd (cc idle)
+
+held_front : (n : ℕ) (xs : List BidiClass) → ON ∷ (replicate n ON ++ xs) ≡ replicate n ON ++ ON ∷ xs
+held_front zero xs = refl
+held_front (suc n) xs = ap (λ (cs : List BidiClass). ON ∷ cs) (held_front n xs)
+
+pub walked-plain : (classes : List BidiClass) (len : ℕ → ℕ) (us : List ℕ) → All (λ u. is_number (class_at classes u) ≡ false) us → (strong : BidiClass) (before : Before) (n : ℕ) → is_idle before ≡ true
+    → walked (class_at classes) len strong before 0 n us ≡ replicate n ON ++ map left_over (at_places L classes us)
+walked-plain classes len [] none strong before n idle = sym (append-nil (replicate n ON))
+walked-plain classes len (u ∷ us) none strong before n idle =
+    let c = class_at classes u in
+    let z = strengthened strong c in
+    let next = next_before z before in
+    let rest = map left_over (at_places L classes us) in
+    let p = is_plain c strong before (All-head (λ u. is_number (class_at classes u) ≡ false) u us none) idle in
+    let later = walked-plain classes len us (All-tail (λ u. is_number (class_at classes u) ≡ false) u us none) (strong_up_to strong c) next in
+    elim (cases_Bool (joins z before)) [
+      | inl joins' ↦ rw (joins', p.joined joins') (later (suc n) p.next ∙ held_front n rest)
+      | inr apart ↦ elim (cases_Bool (waits next)) [
+        | inl wait ↦ rw (apart, p.held, wait, p.none (len u), p.waiting wait) (ap (λ (cs : List BidiClass). replicate n ON ++ cs) (later 1 p.next))
+        | inr free ↦ rw (apart, p.held, free, p.own free) (ap (λ (cs : List BidiClass). replicate n ON ++ left_over c ∷ cs) (later 0 p.next))
+      ]
+    ]
+
+-- ---- over the characters
+
+left-next : (strong c : BidiClass) → is_after_l (is_l strong) (strengthened strong c) ≡ is_l (strong_up_to strong c)
+left-next AL EN = refl
+left-next strong EN = refl
+left-next strong _ = refl
+
+-- what waits in front of the others
+per_unit-held : (len_of : ℕ → ℕ) (held cs : List ℕ) (v : BidiClass) (xs : List BidiClass) → per_unit len_of (held ++ cs) (replicate (length held) v ++ xs) ≡ replicate (text_len len_of held) v ++ per_unit len_of cs xs
+per_unit-held len_of [] cs v xs = refl
+per_unit-held len_of (c ∷ held) cs v xs =
+    ap (λ (ys : List BidiClass). replicate (len_of c) v ++ ys) (per_unit-held len_of held cs v xs)
+    ∙ sym (append_assoc (replicate (len_of c) v) (replicate (text_len len_of held) v) (per_unit len_of cs xs))
+    ∙ ap (λ (ys : List BidiClass). ys ++ per_unit len_of cs xs) (replicate-append-replicate (len_of c) (text_len len_of held) v)
+    ∙ ap (λ (n : ℕ). replicate n v ++ per_unit len_of cs xs) (sym (sum_by-cons len_of c held))
+
+module _ (len_of : ℕ → ℕ) (h : HasUnits len_of) (chars : List ℕ) (classes : List BidiClass) (len : ℕ → ℕ)
+    (alike : (k j : ℕ) → k < length chars → j < len_of (get_or chars k 0) → class_at classes (place len_of chars k + j) ≡ class_at classes (place len_of chars k))
+    (long : (k : ℕ) → k < length chars → len (place len_of chars k) ≡ len_of (get_or chars k 0)) where
+  -- the characters in `held` wait
+  pub walked-chars : (ks : List ℕ) → AreIndexes chars ks → (held : List ℕ) (strong : BidiClass) (before : Before)
+      → walked (class_at classes) len strong before 0 (text_len len_of held) (units_of_chars len_of chars ks)
+      ≡ per_unit len_of (held ++ at_places 0 chars ks) (after_w7 (is_l strong) before (length held) (after_w3 strong (at_places L classes (map (place len_of chars) ks))))
+  walked-chars [] are held strong before =
+      let all = per_unit-held len_of held [] ON [] in
+      sym (append-nil (replicate (text_len len_of held) ON)) ∙ sym all ∙ ap (per_unit len_of (held ++ [])) (append-nil (replicate (length held) ON))
+  walked-chars (k ∷ ks) are held strong before =
+      let fits = All-head (λ (i : ℕ). i < length chars) k ks are in
+      let rest = All-tail (λ (i : ℕ). i < length chars) k ks are in
+      let a = place len_of chars k in
+      let char = get_or chars k 0 in
+      let m = len_of char - 1 in
+      let some = h char in
+      let size : len_of char ≡ suc m = omega arith in
+      let us = units_of_chars len_of chars ks in
+      let cs = at_places 0 chars ks in
+      let n = text_len len_of held in
+      let c = class_at classes a in
+      let z = strengthened strong c in
+      let next = next_before z before in
+      let now = strong_up_to strong c in
+      let own = w7_by (is_l strong) (resolved z before) in
+      let v = w7_by (is_l strong) (settled z before) in
+      let zs = after_w3 now (at_places L classes (map (place len_of chars) ks)) in
+      let left = left-next strong c in
+      let each : (u : ℕ) → a ≤ u → u < a + suc m → class_at classes u ≡ c =
+      λ u from below. (let at : u ≡ a + (u - a) = omega arith in ap (class_at classes) at) ∙ alike k (u - a) fits (omega arith) in
+      let start : walked (class_at classes) len strong before 0 n (range_with_len a (len_of char) ++ us) ≡ walked (class_at classes) len strong before 0 n (range_with_len a (suc m) ++ us) =
+      ap (λ (l : ℕ). walked (class_at classes) len strong before 0 n (range_with_len a l ++ us)) size in
+      let one : text_len len_of (char ∷ []) ≡ suc m = sum_by-cons len_of char [] ∙ (let none : len_of char + 0 ≡ suc m = omega arith in none) in
+      start ∙ elim (cases_Bool (joins z before)) [
+        | inl joins' ↦
+            let more : text_len len_of (held ++ char ∷ []) ≡ n + suc m = sum_by-append len_of held (char ∷ []) ∙ ap (λ (l : ℕ). n + l) one in
+            let many : length (held ++ char ∷ []) ≡ suc (length held) = omega (arith, length-append held (char ∷ [])) in
+            row-joins (class_at classes) len strong c before (suc m) n a us each joins'
+            ∙ ap (λ (l : ℕ). walked (class_at classes) len now next 0 l us) (sym more)
+            ∙ walked-chars ks rest (held ++ char ∷ []) now next
+            ∙ rw (joins', left, many) (ap (λ (ds : List ℕ). per_unit len_of ds (after_w7 (is_l now) next (suc (length held)) zs)) (append_assoc held (char ∷ []) cs))
+        | inr apart ↦ elim (cases_Bool (waits next)) [
+          | inl wait ↦
+              row-waits (class_at classes) len strong c before m n a us each apart wait (ap (still_to_come next) (long k fits ∙ size))
+              ∙ ap (λ (l : ℕ). replicate n v ++ walked (class_at classes) len now next 0 l us) (sym one)
+              ∙ ap (λ (xs : List BidiClass). replicate n v ++ xs) (walked-chars ks rest (char ∷ []) now next)
+              ∙ rw (apart, wait, left) (sym (per_unit-held len_of held (char ∷ cs) v (after_w7 (is_l now) next 1 zs)))
+          | inr free ↦
+              row-decides (class_at classes) len strong c before m n a us each apart free
+              ∙ ap (λ (l : ℕ). replicate n v ++ (replicate l own ++ walked (class_at classes) len now next 0 0 us)) (sym size)
+              ∙ ap (λ (xs : List BidiClass). replicate n v ++ (replicate (len_of char) own ++ xs)) (walked-chars ks rest [] now next)
+              ∙ rw (apart, free, left) (sym (per_unit-held len_of held (char ∷ cs) v (own ∷ after_w7 (is_l now) next 0 zs)))
+        ]
+      ]

@@ -1,0 +1,97 @@
+use Rattle.std.proofs.Common.{◌≡◌, ◌-◌, ◌≤◌, ℕ, Bool, true, false, not, List, length, map, drop, refl, sym, ap, subst, ◌∙◌, inl, inr, arith}
+use Rattle.std.specs.Prelude.{IsTrue}
+use Rattle.std.proofs.lemmas.Bool.{cases_Bool}
+use Rattle.bidi_base.specs.declared.char_data.BidiClass.{BidiClass}
+use Rattle.bidi_base.specs.Classes.{is_l}
+use Rattle.bidi_base.specs.Places.{class_at}
+use Rattle.bidi_base.specs.Units.{bounds, are_ordered}
+use Rattle.bidi_base.proofs.PerCharTests.{class_test}
+use Rattle.bidi_rules.specs.declared.implicit.weak.numbers.Walk.{Walk}
+use Rattle.bidi_rules.specs.ExplicitPass.{filled}
+use Rattle.bidi_rules.specs.WeakPass.{strengthened, strong_up_to, joins, waits, settled, resolved, next_before, w7_by, left_over}
+use Rattle.bidi_rules.specs.WeakWalk.{is_seen, seen, IsWrittenOver, Pass, IsUnderWay}
+use Rattle.bidi_rules.proofs.WeakWalkLemmas.{resolved-stays, IsWrittenOver-settled, IsUnderWay-same, IsUnderWay-joins, IsUnderWay-waits, IsUnderWay-decides}
+use Rattle.bidi_rules.proofs.WrittenOver.{IsWrittenOver-filled}
+use Rattle.bidi_rules.proofs.implicit.weak.numbers.Walk.read.Goals as goal
+use Rattle.bidi_rules.proofs.implicit.weak.numbers.Walk.read.Goals.{then-not-is_joined_by+then-waits, then-not-is_joined_by+else-waits+then-ne, then-not-is_joined_by+else-waits+else-ne, else-not-is_joined_by}
+
+equal : (b : Bool) → not b ≡ false → b ≡ true
+equal true h = refl
+equal false h = absurd (cc h)
+
+filled_over : (to : ℕ) (v : BidiClass) (from : ℕ) (now1 now2 : List BidiClass) → now2 ≡ filled from (to - from) v now1 → from ≤ to → to ≤ length now1 → IsWrittenOver (λ k. true) v from to now1 now2
+filled_over to v from now1 now2 is order fits = subst (IsWrittenOver (λ k. true) v from to now1) (sym is) (IsWrittenOver-filled v from to now1 order fits)
+
+-- what waited has its class
+settled_by : (p : Pass) (runs : List (ℕ × ℕ)) → p.runs ≡ runs → (i : ℕ) (w : Walk) (now now1 : List BidiClass) (h : IsUnderWay p now w i) (v held : BidiClass) → held ≡ v → IsTrue (are_ordered runs)
+    → (waits w.before ≡ true → IsWrittenOver (is_seen (drop w.first_run runs) now) held w.first i now now1) → (waits w.before ≡ false → now1 ≡ now) → IsWrittenOver (seen p) v h.from i now now1
+settled_by p runs same i w now now1 h v held is ordered some none =
+    subst (λ (d : BidiClass). IsWrittenOver (seen p) d h.from i now now1) is
+    (IsWrittenOver-settled p now w i h held now1 (subst (λ (rs : List (ℕ × ℕ)). are_ordered rs ≡ true) (sym same) ordered)
+    (λ t. subst (λ (rs : List (ℕ × ℕ)). IsWrittenOver (is_seen (drop w.first_run rs) now) held w.first i now now1) (sym same) (some t)) none)
+
+-- behind what is settled
+above_settled : (w : Walk) (runs : List (ℕ × ℕ)) (held : BidiClass) (i k : ℕ) (now now1 : List BidiClass) → i ≤ k → (waits w.before ≡ true → IsWrittenOver (is_seen (drop w.first_run runs) now) held w.first i now now1) → (waits w.before ≡ false → now1 ≡ now) → class_at now1 k ≡ class_at now k
+above_settled w runs held i k now now1 order some none = elim (cases_Bool (waits w.before)) [
+  | inl wait ↦ (some wait).above k order
+  | inr free ↦ ap (λ (cs : List BidiClass). class_at cs k) (none free)
+]
+
+pub returns-clause-rest : goal.returns-clause-rest
+returns-clause-rest c =
+    let w = c.args.self.now in
+    let i = c.args.start in
+    let now = c.args.classes.now in
+    let runs = map bounds c.args.runs.now in
+    λ k order. let past : i ≤ k = omega (arith, c.requires.some) in
+    elim c.if-not-is_joined_by.branch [
+      | then-not-is_joined_by+then-waits b ↦ ap (λ (cs : List BidiClass). class_at cs k) b.classes-is ∙ above_settled w runs _ i k now b.settle.new.classes past b.settle.ensures.held b.settle.ensures.idle
+      | then-not-is_joined_by+else-waits+then-ne b ↦ ap (λ (cs : List BidiClass). class_at cs k) b.classes-is ∙ (filled_over c.args.end b.numbered-own.result i b.settle.new.classes b.fill.new.classes b.fill.ensures (omega (arith, c.requires.some)) (omega (arith, c.requires.inside, b.settle.auto.classes))).above k order ∙ above_settled w runs _ i k now b.settle.new.classes past b.settle.ensures.held b.settle.ensures.idle
+      | then-not-is_joined_by+else-waits+else-ne b ↦ ap (λ (cs : List BidiClass). class_at cs k) b.classes-is ∙ above_settled w runs _ i k now b.settle.new.classes past b.settle.ensures.held b.settle.ensures.idle
+      | else-not-is_joined_by b ↦ ap (λ (cs : List BidiClass). class_at cs k) b.classes-is
+    ]
+
+pub returns-clause-reads : goal.returns-clause-reads
+returns-clause-reads c =
+    λ p s h.
+    let w = c.args.self.now in
+    let i = c.args.start in
+    let j = c.args.end in
+    let now = c.args.classes.now in
+    let runs = map bounds c.args.runs.now in
+    let x = class_at p.old i in
+    let z = strengthened w.strong x in
+    let read : class_at now i ≡ x = h.unwritten i h.order in
+    let z_is : c.strengthened-strong.result ≡ z = c.strengthened-strong.ensures ∙ ap (strengthened w.strong) read in
+    let n_is : c.after-next.result ≡ next_before z w.before = c.after-next.ensures ∙ ap (λ (d : BidiClass). next_before d w.before) z_is in
+    let j_is : c.is_joined_by.result ≡ joins z w.before = c.is_joined_by.ensures ∙ ap (λ (d : BidiClass). joins d w.before) z_is in
+    let strong_is : (t : Walk) → c.if-not-is_joined_by.self ≡ t → c.strong_up_to-self.result ≡ strong_up_to t.strong x =
+    λ t is. c.strong_up_to-self.ensures ∙ ap (λ (t : Walk). strong_up_to t.strong (class_at now i)) is ∙ ap (strong_up_to t.strong) read in
+    elim c.if-not-is_joined_by.branch [
+      | then-not-is_joined_by+then-waits b ↦
+          let held : b.numbered-held.result ≡ w7_by (is_l w.strong) (settled z w.before) = b.numbered-held.ensures ∙ ap (w7_by (is_l w.strong)) (b.settled.ensures ∙ ap (λ (d : BidiClass). settled d w.before) z_is) in
+          let written = settled_by p runs s.runs_are i w now b.settle.new.classes h _ b.numbered-held.result held c.requires.ordered b.settle.ensures.held b.settle.ensures.idle in
+          IsUnderWay-same p b.settle.new.classes _ _ _ j b.classes-is (strong_is _ b.self-is) n_is (ap (λ (t : Walk). t.first) b.self-is) (ap (λ (t : Walk). t.first_run) b.self-is)
+          (IsUnderWay-waits p now w i h runs c.args.run j s b.settle.new.classes written (sym j_is ∙ b.if-not-is_joined_by.true) (ap waits (sym n_is) ∙ sym b.waits.ensures ∙ b.if-waits.true))
+      | then-not-is_joined_by+else-waits+then-ne b ↦
+          let held : b.numbered-held.result ≡ w7_by (is_l w.strong) (settled z w.before) = b.numbered-held.ensures ∙ ap (w7_by (is_l w.strong)) (b.settled.ensures ∙ ap (λ (d : BidiClass). settled d w.before) z_is) in
+          let written = settled_by p runs s.runs_are i w now b.settle.new.classes h _ b.numbered-held.result held c.requires.ordered b.settle.ensures.held b.settle.ensures.idle in
+          let own : b.numbered-own.result ≡ w7_by (is_l w.strong) (resolved z w.before) = b.numbered-own.ensures ∙ ap (w7_by (is_l w.strong)) (b.resolved.ensures ∙ ap (λ (d : BidiClass). resolved d w.before) z_is) in
+          let fill = filled_over j b.numbered-own.result i b.settle.new.classes b.fill.new.classes b.fill.ensures (omega (arith, c.requires.some)) (omega (arith, c.requires.inside, b.settle.auto.classes)) in
+          IsUnderWay-same p b.fill.new.classes _ _ _ j b.classes-is (strong_is _ b.self-is) n_is (ap (λ (t : Walk). t.first) b.self-is) (ap (λ (t : Walk). t.first_run) b.self-is)
+          (IsUnderWay-decides p now w i h runs c.args.run j s b.settle.new.classes written (sym j_is ∙ b.if-not-is_joined_by.true) (ap waits (sym n_is) ∙ sym b.waits.ensures ∙ b.if-waits.false) b.fill.new.classes
+          (λ k from below. ap left_over (fill.inside k from below refl ∙ own) ∙ resolved-stays x w.strong (is_l w.strong) w.before)
+          fill.below fill.above fill.long w.first w.first_run)
+      | then-not-is_joined_by+else-waits+else-ne b ↦
+          let held : b.numbered-held.result ≡ w7_by (is_l w.strong) (settled z w.before) = b.numbered-held.ensures ∙ ap (w7_by (is_l w.strong)) (b.settled.ensures ∙ ap (λ (d : BidiClass). settled d w.before) z_is) in
+          let written = settled_by p runs s.runs_are i w now b.settle.new.classes h _ b.numbered-held.result held c.requires.ordered b.settle.ensures.held b.settle.ensures.idle in
+          let own : b.numbered-own.result ≡ w7_by (is_l w.strong) (resolved z w.before) = b.numbered-own.ensures ∙ ap (w7_by (is_l w.strong)) (b.resolved.ensures ∙ ap (λ (d : BidiClass). resolved d w.before) z_is) in
+          let same : left_over (class_at now i) ≡ b.numbered-own.result = sym b.left_over.ensures ∙ class_test.same b.left_over.result b.numbered-own.result (equal _ (sym b.ne.ensures ∙ b.if-ne.false)) in
+          IsUnderWay-same p b.settle.new.classes _ _ _ j b.classes-is (strong_is _ b.self-is) n_is (ap (λ (t : Walk). t.first) b.self-is) (ap (λ (t : Walk). t.first_run) b.self-is)
+          (IsUnderWay-decides p now w i h runs c.args.run j s b.settle.new.classes written (sym j_is ∙ b.if-not-is_joined_by.true) (ap waits (sym n_is) ∙ sym b.waits.ensures ∙ b.if-waits.false) b.settle.new.classes
+          (λ k from below. ap left_over (written.above k from ∙ h.unwritten k (omega (arith, h.order)) ∙ s.alike k from below ∙ sym read) ∙ same ∙ own)
+          (λ k below. refl) (λ k above. refl) refl w.first w.first_run)
+      | else-not-is_joined_by b ↦
+          IsUnderWay-same p now _ _ _ j b.classes-is (strong_is _ b.self-is) n_is (ap (λ (t : Walk). t.first) b.self-is) (ap (λ (t : Walk). t.first_run) b.self-is)
+          (IsUnderWay-joins p now w i h runs c.args.run j s (sym j_is ∙ b.if-not-is_joined_by.false))
+    ]

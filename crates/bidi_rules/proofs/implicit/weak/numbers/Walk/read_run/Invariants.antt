@@ -1,0 +1,22 @@
+-- The units of the run that came are read.
+use Rattle.std.proofs.Common.{◌≡◌, ℕ, ◌-◌, ◌≤◌, length, map, get_or}
+use Rattle.bidi_base.specs.Places.{class_at}
+use Rattle.bidi_base.specs.Units.{bounds}
+use Rattle.bidi_rules.specs.WeakWalk.{len_at, ReadsTo}
+use Rattle.bidi_rules.proofs.implicit.weak.numbers.Walk.read_run.Given as goal
+
+abbrev pub invariant-loop-at : goal.invariant-loop-at
+invariant-loop-at g l =
+    let r = get_or (map bounds l.runs) l.run (0, 0) in
+    record {
+      starts : r.0 ≤ l.at;
+      ends : l.at ≤ l.end;
+      end : l.end ≡ r.1;
+      long : length l.classes ≡ length l.fn.classes;
+      first_run : l.self.first_run ≤ length l.runs;
+      rest : (k : ℕ) → l.at ≤ k → class_at l.classes k ≡ class_at l.fn.classes k;
+      reads : ReadsTo (len_at g.T.TextSource.units (g.T.TextSource.characters l.fn.text)) (map bounds l.runs) r.0 l.at l.fn.self l.self l.fn.classes l.classes;
+    }
+
+abbrev pub decreases-loop-at : goal.decreases-loop-at
+decreases-loop-at g l = l.end - l.at

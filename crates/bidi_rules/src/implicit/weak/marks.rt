@@ -1,0 +1,92 @@
+//! W1: a nonspacing mark takes the class of the character before it.
+
+ghost use Rattle.std.specs.Prelude.{◌≡◌, ℕ, ◌<◌, ◌≤◌, true, List, length, map, All, IsTrue};
+ghost use Rattle.std.specs.List.{list_any};
+ghost use Rattle.bidi_base.specs.declared.char_data.BidiClass.{BidiClass};
+ghost use Rattle.bidi_base.specs.Classes.{is_kept_in_place, is_l_or_r, is_nsm};
+ghost use Rattle.bidi_base.specs.Places.{class_at};
+ghost use Rattle.bidi_base.specs.Units.{bounds, are_ordered, in_runs};
+ghost use Rattle.bidi_base.specs.Weak.{carried};
+ghost use Rattle.bidi_rules.specs.WeakPass.{marked};
+ghost use Rattle.bidi_rules.specs.WeakWalk.{is_seen, is_any, AreMarked, IsMarked};
+
+use super::part_of;
+use crate::implicit::is_kept_in_place;
+use crate::prepare::LevelRun;
+use bidi_base::char_data::BidiClass::{self, FSI, LRI, NSM, ON, PDI, RLI};
+
+/// W1 over the units of some runs that are not BN.
+pub fn resolve_marks(runs: &[LevelRun], sos: BidiClass, classes: &mut [BidiClass])
+    requires ordered { IsTrue (are_ordered (map bounds runs.now)) }
+    requires within { All (λ r. r.1 ≤ length classes.old) (map bounds runs.now) }
+    requires sos { IsTrue (is_l_or_r sos) }
+    ensures { IsMarked (map bounds runs.now) (carried sos) classes.old classes.new }
+{
+    if !has_marks(runs, classes) {
+        return;
+    }
+    let mut mark = carried(sos);
+    for run in runs {
+        mark = resolve_marks_in(run, mark, classes);
+    }
+}
+
+/// Whether a nonspacing mark stands in the runs.
+fn has_marks(runs: &[LevelRun], classes: &[BidiClass]) -> bool
+    ensures { result ≡ is_any is_nsm runs.now classes.now }
+{
+    runs.iter().any(|run| is_mark_in(part_of(classes, run)))
+}
+
+/// Whether one of the classes is NSM.
+fn is_mark_in(classes: &[BidiClass]) -> bool
+    ensures { result ≡ list_any is_nsm classes.now }
+{
+    classes.iter().any(|class| is_mark(*class))
+}
+
+/// Whether a class is NSM.
+fn is_mark(class: BidiClass) -> bool
+    ensures { result ≡ is_nsm class }
+{
+    matches!(class, NSM)
+}
+
+/// The same over one run, where a mark at its front takes `mark`. Answers what a mark behind it takes.
+fn resolve_marks_in(run: &LevelRun, mark: BidiClass, classes: &mut [BidiClass]) -> BidiClass
+    requires ordered { run.now.start ≤ run.now.end }
+    requires within { run.now.end ≤ length classes.old }
+    ensures { (runs : List (ℕ × ℕ)) (sos : BidiClass) (old : List BidiClass) → ((k : ℕ) → run.now.start ≤ k → k < run.now.end → in_runs runs k ≡ true)
+        → AreMarked runs sos old classes.old mark run.now.start → AreMarked runs sos old classes.new result run.now.end }
+{
+    let mut next = mark;
+    for unit in run.start..run.end {
+        let class = classes[unit];
+        if is_kept_in_place(class) {
+            let own = marked(next, class);
+            classes[unit] = own;
+            next = carried(own);
+        }
+    }
+    next
+}
+
+/// What a nonspacing mark takes from the character before it.
+fn carried(class: BidiClass) -> BidiClass
+    ensures { result ≡ carried class }
+{
+    match class {
+        LRI | RLI | FSI | PDI => ON,
+        other => other,
+    }
+}
+
+/// A class after W1, where a nonspacing mark takes `mark`.
+fn marked(mark: BidiClass, class: BidiClass) -> BidiClass
+    ensures { result ≡ marked mark class }
+{
+    match class {
+        NSM => mark,
+        other => other,
+    }
+}

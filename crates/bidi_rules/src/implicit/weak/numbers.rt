@@ -1,0 +1,225 @@
+//! W2, W4, W5 and W7 as one walk over the units of a sequence, by stretches of one class. Most of these
+//! rules give a class that stands on several units what they give it where it stands on one; only a
+//! separator between numbers has to be one character.
+
+ghost use Rattle.std.specs.Prelude.{◌≡◌, ℕ, ◌+◌, ◌-◌, ◌<◌, ◌≤◌, true, false, length, map, drop, get_or, IsTrue};
+ghost use Rattle.std.specs.List.{list_any};
+ghost use Rattle.bidi_base.specs.Places.{class_at};
+ghost use Rattle.bidi_base.specs.Text.{text_len, IsPerChar};
+ghost use Rattle.bidi_base.specs.Units.{bounds, are_ordered, AreLines};
+ghost use Rattle.bidi_rules.specs.ExplicitPass.{filled};
+ghost use Rattle.bidi_rules.specs.WeakPass.{is_number, next_before, still_to_come, strengthened, waits};
+ghost use Rattle.bidi_rules.specs.WeakWalk.{is_any, is_seen, len_at, IsWalked, IsWhole, IsWrittenOver, Reads, ReadsTo};
+
+use super::left_over::left_over;
+use super::steps::{Before, numbered, strengthened, strong_up_to};
+use super::{part_of, write_over_runs};
+use crate::implicit::is_kept_in_place;
+use crate::prepare::LevelRun;
+use bidi_base::char_data::BidiClass::{self, AN, EN, ON};
+use bidi_base::text::TextSource;
+
+/// What a walk over a sequence knows of the units that it has read.
+#[derive(Clone, Copy, Debug)]
+struct Walk {
+    /// The nearest L, R or AL before, or else sos.
+    strong: BidiClass,
+    /// What stands directly before.
+    before: Before,
+    /// The unit where those begin that wait, if some do.
+    first: usize,
+    /// The index of the run of that unit.
+    first_run: usize,
+}
+
+/// W2, W4, W5 and W7 over the units of some runs that are not BN, none of which has NSM. Separators and
+/// terminators that do not become numbers may stay or have ON, and AL stays.
+pub fn resolve_numbers<T: TextSource>(
+    text: T,
+    runs: &[LevelRun],
+    sos: BidiClass,
+    classes: &mut [BidiClass],
+)
+    requires ordered { IsTrue (are_ordered (map bounds runs.now)) }
+    requires lines { AreLines T.units (T.characters text) (map bounds runs.now) }
+    requires per_char { IsPerChar T.units (T.characters text) classes.old }
+    ensures { IsWalked (len_at T.units (T.characters text)) (map bounds runs.now) sos classes.old classes.new }
+{
+    if !has_numbers(runs, classes) {
+        return;
+    }
+    let mut walk = Walk {
+        strong: sos,
+        before: Before::Other,
+        first: 0,
+        first_run: 0,
+    };
+    for run in 0..runs.len() {
+        walk.read_run(text, runs, run, classes);
+    }
+    let end = classes.len();
+    walk.settle(runs, classes, end, ON);
+}
+
+/// Whether a number stands in the runs.
+fn has_numbers(runs: &[LevelRun], classes: &[BidiClass]) -> bool
+    ensures { result ≡ is_any is_number runs.now classes.now }
+{
+    runs.iter().any(|run| is_number_in(part_of(classes, run)))
+}
+
+/// Whether one of the classes is a number.
+fn is_number_in(classes: &[BidiClass]) -> bool
+    ensures { result ≡ list_any is_number classes.now }
+{
+    classes.iter().any(|class| is_number(*class))
+}
+
+/// Whether a class is a European or Arabic number.
+fn is_number(class: BidiClass) -> bool
+    ensures { result ≡ is_number class }
+{
+    matches!(class, EN | AN)
+}
+
+impl Walk {
+    /// Reads the units of the run at the index `run`.
+    fn read_run<T: TextSource>(
+        &mut self,
+        text: T,
+        runs: &[LevelRun],
+        run: usize,
+        classes: &mut [BidiClass],
+    )
+        requires ordered { IsTrue (are_ordered (map bounds runs.now)) }
+        requires first_run { self.old.first_run ≤ length runs.now }
+        requires run { run < length runs.now }
+        requires inside { (get_or (map bounds runs.now) run (0, 0)).1 ≤ length classes.old }
+        requires whole { let r = get_or (map bounds runs.now) run (0, 0) in (u : ℕ) → r.0 ≤ u → u < r.1 → IsWhole (len_at T.units (T.characters text)) classes.old r.1 u }
+        ensures first_run { self.new.first_run ≤ length runs.now }
+        ensures reads { let r = get_or (map bounds runs.now) run (0, 0) in ReadsTo (len_at T.units (T.characters text)) (map bounds runs.now) r.0 r.1 self.old self.new classes.old classes.new }
+    {
+        let end = runs[run].end;
+        let mut at = runs[run].start;
+        while at < end {
+            let next = self.stretch_end(text, classes, at, end);
+            if is_kept_in_place(classes[at]) {
+                self.read(runs, run, classes, at, next);
+            }
+            at = next;
+        }
+    }
+
+    /// The end of the stretch that begins at the unit `at`: units of one class, below `end`. Where one
+    /// separator may stand between numbers it is one character.
+    fn stretch_end<T: TextSource>(
+        &self,
+        text: T,
+        classes: &[BidiClass],
+        at: usize,
+        end: usize,
+    ) -> usize
+        requires some { at < end }
+        requires inside { end ≤ length classes.now }
+        requires whole { IsWhole (len_at T.units (T.characters text)) classes.now end at }
+        ensures some { at < result }
+        ensures within { result ≤ end }
+        ensures alike { (k : ℕ) → at ≤ k → k < result → class_at classes.now k ≡ class_at classes.now at }
+        ensures single { let next = next_before (strengthened self.now.strong (class_at classes.now at)) self.now.before in still_to_come next (len_at T.units (T.characters text) at) ≡ still_to_come next (result - at) }
+    {
+        let next = self.before.after(strengthened(self.strong, classes[at]));
+        if next.is_separator() {
+            at + len_at(text, at)
+        } else {
+            alike_end(classes, at, end)
+        }
+    }
+
+    /// Reads the units from `start` up to `end` in the run at the index `run`, a stretch that is not BN.
+    fn read(
+        &mut self,
+        runs: &[LevelRun],
+        run: usize,
+        classes: &mut [BidiClass],
+        start: usize,
+        end: usize,
+    )
+        requires ordered { IsTrue (are_ordered (map bounds runs.now)) }
+        requires first_run { self.old.first_run ≤ length runs.now }
+        requires run { run ≤ length runs.now }
+        requires some { start < end }
+        requires inside { end ≤ length classes.old }
+        ensures first_run { self.new.first_run ≤ length runs.now }
+        ensures rest { (k : ℕ) → end ≤ k → class_at classes.new k ≡ class_at classes.old k }
+        ensures long { length classes.new ≡ length classes.old }
+        ensures reads { Reads (map bounds runs.now) run start end self.old self.new classes.old classes.new }
+    {
+        let class = classes[start];
+        let strong = strengthened(self.strong, class);
+        let next = self.before.after(strong);
+        if !self.before.is_joined_by(strong) {
+            let held = numbered(self.strong, self.before.settled(strong));
+            self.settle(runs, classes, start, held);
+            if next.waits() {
+                self.first = start;
+                self.first_run = run;
+            } else {
+                let own = numbered(self.strong, self.before.resolved(strong));
+                if left_over(class) != own {
+                    fill(classes, start, end, own);
+                }
+            }
+        }
+        self.strong = strong_up_to(self.strong, class);
+        self.before = next;
+    }
+
+    /// Writes the class over the units that wait, if some do. They stand below the unit `to`.
+    fn settle(&self, runs: &[LevelRun], classes: &mut [BidiClass], to: usize, class: BidiClass)
+        requires ordered { IsTrue (are_ordered (map bounds runs.now)) }
+        requires run { self.now.first_run ≤ length runs.now }
+        requires inside { to ≤ length classes.old }
+        ensures held { waits self.now.before ≡ true → IsWrittenOver (is_seen (drop self.now.first_run (map bounds runs.now)) classes.old) class self.now.first to classes.old classes.new }
+        ensures idle { waits self.now.before ≡ false → classes.new ≡ classes.old }
+    {
+        if self.before.waits() {
+            write_over_runs(&runs[self.first_run..], classes, self.first, to, class);
+        }
+    }
+}
+
+/// Gives the units from `start` up to `end` the class.
+fn fill(classes: &mut [BidiClass], start: usize, end: usize, class: BidiClass)
+    requires begins { start ≤ end }
+    requires ends { end ≤ length classes.old }
+    ensures { classes.new ≡ filled start (end - start) class classes.old }
+{
+    classes[start..end].fill(class);
+}
+
+/// The end of the units from `at` on that have the class of the first, below `end`.
+fn alike_end(classes: &[BidiClass], at: usize, end: usize) -> usize
+    requires some { at < end }
+    requires inside { end ≤ length classes.now }
+    ensures some { at < result }
+    ensures within { result ≤ end }
+    ensures alike { (k : ℕ) → at ≤ k → k < result → class_at classes.now k ≡ class_at classes.now at }
+{
+    let class = classes[at];
+    for unit in at + 1..end {
+        if classes[unit] != class {
+            return unit;
+        }
+    }
+    end
+}
+
+/// The length of the character that begins at a unit; 1 where none begins.
+fn len_at<T: TextSource>(text: T, unit: usize) -> usize
+    ensures { result ≡ len_at T.units (T.characters text) unit }
+{
+    match text.char_at(unit) {
+        Some((_, len)) => len,
+        None => 1,
+    }
+}
