@@ -14,6 +14,8 @@ mod encoding_rows;
 #[cfg(test)]
 mod equality;
 #[cfg(test)]
+mod layout;
+#[cfg(test)]
 mod levels;
 #[cfg(test)]
 mod lines;
