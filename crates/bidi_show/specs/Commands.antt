@@ -1,12 +1,13 @@
 -- What words ask for.
 use Rattle.std.specs.Prelude.{ℕ, Bool, true, false, if◌then◌else◌, List, [], ◌∷◌, Option, Some, None, codes}
-use Rattle.std.specs.Option.{option_map}
+use Rattle.std.specs.Option.{option_map, option_and_then}
 use Rattle.std.specs.Str.{bytes_eq}
-use Rattle.bidi_show.specs.Numbers.{levels_of}
+use Rattle.bidi_show.specs.Numbers.{number_of, levels_of}
 use Rattle.bidi_show.specs.declared.command.Base.{Base}
 use Rattle.bidi_show.specs.declared.command.Base.TheVariants.{Auto, Ltr, Rtl}
 use Rattle.bidi_show.specs.declared.command.Command.{Command}
 use Rattle.bidi_show.specs.declared.command.Command.TheVariants.{Map, Show}
+use Rattle.bidi_show.specs.declared.command.View.TheVariants.{Whole, Lines}
 
 -- the base level that a word names
 abbrev pub base_named : List ℕ → Option Base
@@ -21,12 +22,18 @@ abbrev pub base_of : List (List ℕ) → Option Base
 base_of (word ∷ []) = base_named word
 base_of _ = None
 
--- the form that words have, where they have one: `map` and none or more levels, or `show` and a base level
+-- `lines` with a base level and a limit
+abbrev pub lines_named : List (List ℕ) → Option Command
+lines_named (base ∷ limit ∷ []) = option_and_then (λ b. option_map (λ n. Show b (Lines n)) (number_of limit)) (base_named base)
+lines_named _ = None
+
+-- the form that words have, where they have one: `map` and none or more levels, `show` and a base level, or `lines`, a base level and a limit
 abbrev pub command_of : List (List ℕ) → Option Command
 command_of [] = None
 command_of (form ∷ words) =
     if bytes_eq form (codes "map") then option_map Map (levels_of words)
-    else if bytes_eq form (codes "show") then option_map Show (base_of words)
+    else if bytes_eq form (codes "show") then option_map (λ b. Show b Whole) (base_of words)
+    else if bytes_eq form (codes "lines") then lines_named words
     else None
 
 -- the base level, where there is one
@@ -37,5 +44,5 @@ level_of_base Rtl = Some 1
 
 -- the form reads the input
 abbrev pub reads_input : Option Command → Bool
-reads_input (Some (Show base)) = true
+reads_input (Some (Show base view)) = true
 reads_input _ = false

@@ -6,8 +6,9 @@ use Rattle.std.specs.List.{join_with_byte}
 use Rattle.std.specs.Str.{byte, chars, IsUtf8}
 use Rattle.bidi_base.specs.declared.char_data.BidiClass.{BidiClass}
 use Rattle.bidi_base.specs.declared.sample.TheConstants.{RANGES, BRACKETS}
-use Rattle.bidi_base.specs.Display.{line_text}
+use Rattle.bidi_base.specs.Display.{Run, line_text}
 use Rattle.bidi_base.specs.Isolates.{paragraph_level, stored_classes}
+use Rattle.bidi_base.specs.Layout.{line_ranges}
 use Rattle.bidi_base.specs.Order.{visual_order}
 use Rattle.bidi_base.specs.Paragraphs.{paragraphs_of, each_separator, ends_with_separator}
 use Rattle.bidi_base.specs.Source.{Source, table_source}
@@ -16,6 +17,8 @@ use Rattle.bidi_base.specs.Text.{text_len}
 use Rattle.bidi_show.specs.Commands.{level_of_base}
 use Rattle.bidi_show.specs.declared.command.Command.{Command}
 use Rattle.bidi_show.specs.declared.command.Command.TheVariants.{Map, Show}
+use Rattle.bidi_show.specs.declared.command.View.{View}
+use Rattle.bidi_show.specs.declared.command.View.TheVariants.{Whole, Lines}
 
 -- a line of numbers in decimal, separated by one space
 abbrev pub line_of : List ℕ → List ℕ
@@ -50,17 +53,45 @@ paragraph_lines source start piece level classes levels =
     ++ (levels_line levels
     ++ text_line (line_text len_utf8 encode_utf8 piece (encode_utf8_all piece) level classes levels 0 (text_len len_utf8 (without_separator source piece))))
 
--- the same for each paragraph of a text, the first of which begins at the byte `start`
-abbrev pub lines_from : Source → Option ℕ → ℕ → List (List ℕ) → List ℕ
-lines_from source base start [] = []
-lines_from source base start (piece ∷ pieces) =
-    let classes = map source.class_of piece in
-    paragraph_lines source start piece (paragraph_level base classes) (stored_classes classes) (stored_levels source base piece)
-    ++ lines_from source base (start + text_len len_utf8 piece) pieces
+-- ---- what `lines` prints of a paragraph
 
--- what `show` prints of a text of UTF-8
-unfoldable pub shown_text : Source → Option ℕ → List ℕ → List ℕ
-shown_text source base text = lines_from source base 0 (paragraphs_of (each_separator source) (chars text))
+-- a line of it from left to right
+abbrev pub shown_line : List ℕ → List ℕ
+shown_line shown = shown ++ codes "\n"
+
+-- every character is one column wide
+abbrev pub one_column : ℕ → ℕ
+one_column c = 1
+
+-- the lines, and an empty one at `start` where there is none
+abbrev pub one_at_least : ℕ → List Run → List Run
+one_at_least start [] = (start, start) ∷ []
+one_at_least start (line ∷ lines) = line ∷ lines
+
+-- its lines of at most `limit` columns, without the separator that closes it, where the classes and levels are the stored ones
+abbrev pub layout_lines : Source → ℕ → List ℕ → ℕ → List BidiClass → List ℕ → List ℕ
+layout_lines source limit piece level classes levels =
+    flat_map (λ r. shown_line (line_text len_utf8 encode_utf8 piece (encode_utf8_all piece) level classes levels r.0 r.1))
+    (one_at_least 0 (line_ranges len_utf8 piece one_column limit 0 (text_len len_utf8 (without_separator source piece))))
+
+-- ---- what is printed of a text
+
+-- what is printed of a paragraph that begins at the byte `start`
+abbrev pub paragraph_text : View → Source → ℕ → List ℕ → ℕ → List BidiClass → List ℕ → List ℕ
+paragraph_text Whole source start piece level classes levels = paragraph_lines source start piece level classes levels
+paragraph_text (Lines limit) source start piece level classes levels = layout_lines source limit piece level classes levels
+
+-- the same for each paragraph of a text, the first of which begins at the byte `start`
+abbrev pub lines_from : View → Source → Option ℕ → ℕ → List (List ℕ) → List ℕ
+lines_from view source base start [] = []
+lines_from view source base start (piece ∷ pieces) =
+    let classes = map source.class_of piece in
+    paragraph_text view source start piece (paragraph_level base classes) (stored_classes classes) (stored_levels source base piece)
+    ++ lines_from view source base (start + text_len len_utf8 piece) pieces
+
+-- what `show` and `lines` print of a text of UTF-8
+unfoldable pub shown_text : View → Source → Option ℕ → List ℕ → List ℕ
+shown_text view source base text = lines_from view source base 0 (paragraphs_of (each_separator source) (chars text))
 
 -- ---- what the forms print
 
@@ -73,10 +104,10 @@ pub record ReadsAll (old new : Option (List ℕ)) (bytes : List ℕ) : Type 0 wh
   pub consumed : Consumes old new bytes
   pub to_end : IsAtEnd new
 
--- the text answers the command, whose input had `old` and then `new` left: for `map` it is the visual order of the levels, for `show` what the bytes that were read show
+-- the text answers the command, whose input had `old` and then `new` left: for `map` it is the visual order of the levels, for `show` and `lines` what the bytes that were read show
 abbrev pub IsAnswer : Command → Option (List ℕ) → Option (List ℕ) → List ℕ → Type 0
 IsAnswer (Map levels) old new text = text ≡ line_of (visual_order levels)
-IsAnswer (Show base) old new text = (bytes : List ℕ) × ReadsAll old new bytes × IsUtf8 bytes × (text ≡ shown_text sample_source (level_of_base base) bytes)
+IsAnswer (Show base view) old new text = (bytes : List ℕ) × ReadsAll old new bytes × IsUtf8 bytes × (text ≡ shown_text view sample_source (level_of_base base) bytes)
 
 -- the output has grown from `before` to `after` by a text that answers the command
 abbrev pub WritesAnswer : Command → Option (List ℕ) → Option (List ℕ) → Option (List ℕ) → Option (List ℕ) → Type 0

@@ -1,7 +1,7 @@
 //! What the words of a call ask for.
 ghost use Rattle.std.specs.Prelude.{◌≡◌, map, string_bytes};
 
-use crate::number::LevelWords;
+use crate::number::{LevelWords, parse_number};
 use unicode_bidi::{LTR_LEVEL, Level, RTL_LEVEL};
 
 /// A base level as a word names it.
@@ -42,13 +42,22 @@ impl Base {
     }
 }
 
+/// What is printed of each paragraph.
+#[derive(Clone, Copy)]
+pub enum View {
+    /// Where it stands, its levels, and its text from left to right.
+    Whole,
+    /// Its lines of at most so many characters, each from left to right.
+    Lines(u16),
+}
+
 /// A form of the program.
 #[derive(Drop)]
 pub enum Command<'w> {
     /// `map <level>..`: the visual order of these levels.
     Map(LevelWords<'w>),
-    /// `show auto|ltr|rtl`: the paragraphs of the input.
-    Show(Base),
+    /// `show auto|ltr|rtl` and `lines auto|ltr|rtl <limit>`: the paragraphs of the input.
+    Show(Base, View),
 }
 
 impl<'w> Command<'w> {
@@ -63,7 +72,12 @@ impl<'w> Command<'w> {
                 LevelWords::parse(levels).map(Command::Map)
             }
             [form, base] if form.as_str() == "show" => {
-                Some(Command::Show(Base::parse(base.as_str())?))
+                Some(Command::Show(Base::parse(base.as_str())?, View::Whole))
+            }
+            [form, base, limit] if form.as_str() == "lines" => {
+                let base = Base::parse(base.as_str())?;
+                let limit = parse_number(limit.as_str())?;
+                Some(Command::Show(base, View::Lines(limit)))
             }
             _ => None,
         }

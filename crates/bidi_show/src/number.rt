@@ -15,8 +15,8 @@ fn is_digits(word: &str) -> bool
     word.bytes().all(|byte| byte.is_ascii_digit())
 }
 
-// The number that a word of one to three digits writes, with or without leading zeros.
-fn parse_number(word: &str) -> Option<u16>
+/// The number that a word of one to three digits writes, with or without leading zeros.
+pub fn parse_number(word: &str) -> Option<u16>
     ensures { result ≡ number_of word.now }
 {
     if word.len() <= 3 && is_digits(word) {

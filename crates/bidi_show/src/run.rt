@@ -11,7 +11,7 @@ ghost use Rattle.bidi_show.specs.Texts.{line_of, sample_source, IsAnswer, Writes
 ghost use Rattle.bidi_show.specs.declared.command.Command.TheVariants.{Show};
 ghost use Rattle.bidi_show.specs.declared.fault.ShowFault.TheVariants.{Usage, NotUtf8, Device};
 
-use crate::command::{Base, Command};
+use crate::command::{Base, Command, View};
 use crate::ends::{ShowIn, ShowOut};
 use crate::fault::ShowFault;
 use crate::input::read_all;
@@ -60,9 +60,14 @@ fn sample_table() -> TableBidiData<'static>
     TableBidiData::new(&sample::RANGES, &sample::BRACKETS).unwrap()
 }
 
-// The text of `show`: the paragraphs of the input.
-fn answer_show<R: ShowIn>(alloc: Global, base: Base, input: &mut R) -> Result<String, ShowFault>
-    ensures text { IfOk result (λ text. IsAnswer (Show base) (R.left input.old) (R.left input.new) (string_bytes text)) }
+// The text of `show` and `lines`: the paragraphs of the input.
+fn answer_show<R: ShowIn>(
+    alloc: Global,
+    base: Base,
+    view: View,
+    input: &mut R,
+) -> Result<String, ShowFault>
+    ensures text { IfOk result (λ text. IsAnswer (Show base view) (R.left input.old) (R.left input.new) (string_bytes text)) }
     ensures usage { ¬ IsErrOf result Usage }
     ensures utf8 { IfSome (R.left input.old) (λ bytes.
         IsErrOf result NotUtf8 ↔ (R.ended_reads input.old < R.ended_reads input.new) × ¬ (IsUtf8 bytes)) }
@@ -73,7 +78,7 @@ fn answer_show<R: ShowIn>(alloc: Global, base: Base, input: &mut R) -> Result<St
     let Ok(text) = str::from_utf8(bytes.as_slice()) else {
         return Err(ShowFault::NotUtf8);
     };
-    Ok(show(alloc, &sample_table(), text, base.level())?)
+    Ok(show(alloc, &sample_table(), text, base.level(), view)?)
 }
 
 // The text that answers a command.
@@ -93,7 +98,7 @@ fn answer<R: ShowIn>(
 {
     match command {
         Command::Map(levels) => Ok(answer_map(alloc, levels)?),
-        Command::Show(base) => answer_show(alloc, *base, input),
+        Command::Show(base, view) => answer_show(alloc, *base, *view, input),
     }
 }
 
@@ -106,6 +111,9 @@ fn answer<R: ShowIn>(
 ///   its characters; its text from left to right, without the separator that closes it. The sample
 ///   table knows the Hebrew letters and the Arabic ones from U+0627 to U+064A: Hebrew points, the
 ///   letters that Persian adds, and Syriac count as left to right.
+/// - `lines`, one of the same words and a limit of one to three digits: of each such paragraph its
+///   lines of at most so many characters, from left to right, each ended by a line feed. A paragraph
+///   of a separator alone is one empty line.
 ///
 /// The words are looked at before any memory is taken, and the whole answer is made before any of
 /// it is written. `Usage` comes exactly where the words are none of the forms, `NotUtf8` exactly

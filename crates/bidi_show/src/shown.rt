@@ -1,18 +1,22 @@
-//! What `show` prints of a text.
-ghost use Rattle.std.specs.Prelude.{◌≡◌, ◌+◌, ◌≤◌, ◌++◌, length, slice_range, flat_map, decimal, All, IfOk, OnOk, IfSome, string_bytes};
+//! What `show` and `lines` print of a text.
+ghost use Rattle.std.specs.Prelude.{◌≡◌, ◌+◌, ◌≤◌, ◌++◌, length, slice_range, flat_map, decimal, map, All, IfOk, OnOk, IfSome, string_bytes};
 ghost use Rattle.std.specs.Char.{len_utf8};
 ghost use Rattle.std.specs.Str.{chars};
 ghost use Rattle.bidi_base.specs.Classes.{is_paragraph_separator};
 ghost use Rattle.bidi_base.specs.Text.{per_char, IsLine};
-ghost use Rattle.bidi_show.specs.Shown.{lines_in, own_end as own_end_of};
-ghost use Rattle.bidi_show.specs.Texts.{heading, levels_line, text_line, without_separator as without_separator_of, shown_text};
+ghost use Rattle.bidi_base.specs.Display.{run_of};
+ghost use Rattle.bidi_show.specs.Shown.{layout_in, layout_text, printed_in, own_end as own_end_of};
+ghost use Rattle.bidi_show.specs.Texts.{heading, levels_line, text_line, without_separator as without_separator_of, shown_line, one_column, shown_text};
+ghost use Rattle.bidi_show.specs.declared.command.View.TheVariants.{Whole};
 ghost use Rattle.unicode_bidi.specs.BidiInfo.{text as text_of, original_classes, levels as levels_of_info};
 ghost use Rattle.unicode_bidi.specs.ParagraphInfo.{level_of, range_of};
 
+use crate::command::View;
 use bidi_base::text::{StrText, TextSource};
 use itoa::Buffer;
 use std::alloc::{AllocError, Global};
-use unicode_bidi::{BidiClass, BidiDataSource, BidiInfo, Level, ParagraphInfo};
+use unicode_bidi::layout::{self, CharWidth};
+use unicode_bidi::{BidiClass, BidiDataSource, BidiInfo, Level, LevelRun, ParagraphInfo};
 
 // Appends a number in decimal.
 fn push_number(out: &mut String, number: usize) -> Result<(), AllocError>
@@ -105,7 +109,7 @@ fn push_text(out: &mut String, line: &str) -> Result<(), AllocError>
 }
 
 // Appends the three lines of a paragraph.
-fn push_paragraph<D: BidiDataSource>(
+fn push_whole<D: BidiDataSource>(
     alloc: Global,
     out: &mut String,
     data_source: &D,
@@ -114,7 +118,7 @@ fn push_paragraph<D: BidiDataSource>(
 ) -> Result<(), AllocError>
     requires { IsLine len_utf8 (chars (text_of info.now)) (range_of paragraph.now).start (range_of paragraph.now).end }
     ensures { OnOk result (string_bytes out.new ≡ string_bytes out.old
-        ++ lines_in (D.source data_source.now) (text_of info.now) (original_classes info.now) (levels_of_info info.now) paragraph.now) }
+        ++ printed_in Whole (D.source data_source.now) (text_of info.now) (original_classes info.now) (levels_of_info info.now) paragraph.now) }
 {
     let range = paragraph.range();
     let (start, end) = (range.start, range.end);
@@ -129,37 +133,124 @@ fn push_paragraph<D: BidiDataSource>(
     push_text(out, line.as_str())
 }
 
-// Appends the lines of some paragraphs.
+// Every character is one column wide.
+struct OneColumn;
+
+impl CharWidth for OneColumn {
+    ghost use Rattle.bidi_show.specs.Texts.{one_column};
+
+    ghost width_of = { λ _. one_column };
+
+    fn width(&self, _c: char) -> usize {
+        1
+    }
+}
+
+// The lines of a paragraph without the separator that closes it, and an empty one where there is none.
+fn layout_of<D: BidiDataSource>(
+    alloc: Global,
+    data_source: &D,
+    info: &BidiInfo<'_>,
+    paragraph: &ParagraphInfo,
+    limit: usize,
+) -> Result<Vec<LevelRun>, AllocError>
+    requires { IsLine len_utf8 (chars (text_of info.now)) (range_of paragraph.now).start (range_of paragraph.now).end }
+    ensures lines { IfOk result (λ v. map run_of v.items
+        ≡ layout_in (D.source data_source.now) limit (chars (text_of info.now)) (range_of paragraph.now).start (range_of paragraph.now).end) }
+    ensures each_is_line { IfOk result (λ v. All (λ r. IsLine len_utf8 (chars (text_of info.now)) r.start r.end) v.items) }
+{
+    let start = paragraph.range().start;
+    let end = own_end(data_source, info, paragraph);
+    let own = ParagraphInfo::new(start..end, paragraph.level()).unwrap();
+    let mut lines = layout::lines(alloc, info, &own, &OneColumn, limit)?;
+    if lines.is_empty() {
+        lines.push(start..start)?;
+    }
+    Ok(lines)
+}
+
+// Appends a line of text from left to right.
+fn push_line(out: &mut String, line: &str) -> Result<(), AllocError>
+    ensures { OnOk result (string_bytes out.new ≡ string_bytes out.old ++ shown_line line.now) }
+{
+    out.push_str(line)?;
+    out.push_str("\n")
+}
+
+// Appends lines of a paragraph, each from left to right.
+fn push_lines(
+    alloc: Global,
+    out: &mut String,
+    info: &BidiInfo<'_>,
+    paragraph: &ParagraphInfo,
+    lines: &[LevelRun],
+) -> Result<(), AllocError>
+    requires { All (λ r. IsLine len_utf8 (chars (text_of info.now)) r.start r.end) lines.now }
+    ensures { OnOk result (string_bytes out.new ≡ string_bytes out.old
+        ++ layout_text (text_of info.now) (level_of paragraph.now) (original_classes info.now) (levels_of_info info.now) (map run_of lines.now)) }
+{
+    for line in lines {
+        let shown = info.reorder_line(alloc, paragraph, line.start..line.end)?;
+        push_line(out, shown.as_str())?;
+    }
+    Ok(())
+}
+
+// Appends what is printed of a paragraph.
+fn push_paragraph<D: BidiDataSource>(
+    alloc: Global,
+    out: &mut String,
+    data_source: &D,
+    info: &BidiInfo<'_>,
+    paragraph: &ParagraphInfo,
+    view: View,
+) -> Result<(), AllocError>
+    requires { IsLine len_utf8 (chars (text_of info.now)) (range_of paragraph.now).start (range_of paragraph.now).end }
+    ensures { OnOk result (string_bytes out.new ≡ string_bytes out.old
+        ++ printed_in view (D.source data_source.now) (text_of info.now) (original_classes info.now) (levels_of_info info.now) paragraph.now) }
+{
+    match view {
+        View::Whole => push_whole(alloc, out, data_source, info, paragraph),
+        View::Lines(limit) => {
+            let lines = layout_of(alloc, data_source, info, paragraph, usize::from(limit))?;
+            push_lines(alloc, out, info, paragraph, lines.as_slice())
+        }
+    }
+}
+
+// Appends what is printed of some paragraphs.
 fn push_paragraphs<D: BidiDataSource>(
     alloc: Global,
     out: &mut String,
     data_source: &D,
     info: &BidiInfo<'_>,
     paragraphs: &[ParagraphInfo],
+    view: View,
 ) -> Result<(), AllocError>
     requires { All (λ p. IsLine len_utf8 (chars (text_of info.now)) (range_of p).start (range_of p).end) paragraphs.now }
     ensures { OnOk result (string_bytes out.new ≡ string_bytes out.old
-        ++ flat_map (lines_in (D.source data_source.now) (text_of info.now) (original_classes info.now) (levels_of_info info.now)) paragraphs.now) }
+        ++ flat_map (printed_in view (D.source data_source.now) (text_of info.now) (original_classes info.now) (levels_of_info info.now)) paragraphs.now) }
 {
     for paragraph in paragraphs {
-        push_paragraph(alloc, out, data_source, info, paragraph)?;
+        push_paragraph(alloc, out, data_source, info, paragraph, view)?;
     }
     Ok(())
 }
 
-/// Three lines for each paragraph of a text: where it stands and its level, the level of each of its
-/// characters, and its text from left to right.
+/// What is printed of each paragraph of a text: where it stands and its level, the level of each of
+/// its characters, and its text from left to right; or its lines of at most so many characters.
 pub fn show<D: BidiDataSource>(
     alloc: Global,
     data_source: &D,
     text: &str,
     base: Option<Level>,
+    view: View,
 ) -> Result<String, AllocError>
     requires { IfSome base (λ level. level ≤ 125) }
-    ensures { IfOk result (λ out. string_bytes out ≡ shown_text (D.source data_source.now) base text.now) }
+    ensures { IfOk result (λ out. string_bytes out ≡ shown_text view (D.source data_source.now) base text.now) }
 {
     let info = BidiInfo::new_with_data_source(alloc, data_source, text, base)?;
     let mut out = String::new(alloc);
-    push_paragraphs(alloc, &mut out, data_source, &info, info.paragraphs())?;
+    push_paragraphs(alloc, &mut out, data_source, &info, info.paragraphs(), view)?;
     Ok(out)
 }

@@ -71,6 +71,17 @@ fn answers_are_written(rt: HostRuntime) -> Result<(), Fail> {
             "\u{5D0}\u{5D1} 12\u{2029}",
             "paragraph 0..10 level 0\nlevels 1 1 1 2 2 0\ntext 12 \u{5D1}\u{5D0}\n",
         ),
+        ("lines ltr 2", "abc\n", "ab\nc\n"),
+        ("lines rtl 3", "ab cd\n", " ab\ncd\n"),
+        ("lines auto 2", "\n", "\n"),
+        ("lines auto 2", "", ""),
+        ("lines auto 0", "ab\n\nc", "a\nb\n\nc\n"),
+        ("lines auto 999", "a\nb", "a\nb\n"),
+        (
+            "lines auto 05",
+            "\u{5D0}\u{5D1} 12\u{5D2}\u{2029}a",
+            "12 \u{5D1}\u{5D0}\n\u{5D2}\na\n",
+        ),
     ] {
         assert_run(&rt, line, input.as_bytes(), Ok(()), output)?;
     }
@@ -102,6 +113,17 @@ fn other_words_are_refused(rt: HostRuntime) -> Result<(), Fail> {
         "map ٣",
         "map 1 2 127",
         "map 1 map",
+        "lines",
+        "lines auto",
+        "lines 2",
+        "lines auto 1000",
+        "lines auto 0002",
+        "lines auto two",
+        "lines auto -1",
+        "lines sideways 2",
+        "lines auto 2 3",
+        "lines 2 auto",
+        "show auto 2",
     ] {
         assert_run(&rt, line, b"\xff", Err(ShowFault::Usage), "")?;
     }
@@ -112,6 +134,7 @@ fn other_words_are_refused(rt: HostRuntime) -> Result<(), Fail> {
 fn other_bytes_are_refused(rt: HostRuntime) -> Result<(), Fail> {
     for input in [b"\xff".as_slice(), b"a\n\xd7", b"\xed\xa0\x80"] {
         assert_run(&rt, "show auto", input, Err(ShowFault::NotUtf8), "")?;
+        assert_run(&rt, "lines auto 2", input, Err(ShowFault::NotUtf8), "")?;
     }
     Ok(())
 }

@@ -8,6 +8,8 @@ mod constructors;
 #[cfg(test)]
 mod equality;
 #[cfg(test)]
+mod layout;
+#[cfg(test)]
 mod lines;
 #[cfg(test)]
 mod orders;

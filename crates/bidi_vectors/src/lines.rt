@@ -36,13 +36,16 @@ impl Shown {
         let units = info.reordered_levels(alloc, para, start..end)?;
         let characters = info.reordered_levels_per_char(alloc, para, start..end)?;
         let text = info.reorder_line(alloc, para, start..end)?;
-        let mut runs = Vec::new(alloc);
+        let runs = info.line_runs(alloc, para, start..end)?;
         if start < end {
             let (levels, of_line) = info.visual_runs(alloc, para, start..end)?;
-            if levels.as_slice() != units.as_slice() {
-                return Err(Fail::from("other levels"));
+            if levels.as_slice() != units.as_slice() || of_line.as_slice() != runs.as_slice() {
+                return Err(Fail::from("other levels or runs"));
             }
-            runs = of_line;
+        }
+        let levels = info.line_levels(alloc, para, start..end)?;
+        if units.get(start..end) != Some(levels.as_slice()) {
+            return Err(Fail::from("other levels of the line"));
         }
         Shown::new(alloc, units, characters, runs, text)
     }
@@ -60,13 +63,16 @@ impl Shown {
         let units = info.reordered_levels(alloc, start..end)?;
         let characters = info.reordered_levels_per_char(alloc, start..end)?;
         let text = info.reorder_line(alloc, start..end)?;
-        let mut runs = Vec::new(alloc);
+        let runs = info.line_runs(alloc, start..end)?;
         if start < end {
             let (levels, of_line) = info.visual_runs(alloc, start..end)?;
-            if levels.as_slice() != units.as_slice() {
-                return Err(Fail::from("other levels"));
+            if levels.as_slice() != units.as_slice() || of_line.as_slice() != runs.as_slice() {
+                return Err(Fail::from("other levels or runs"));
             }
-            runs = of_line;
+        }
+        let levels = info.line_levels(alloc, start..end)?;
+        if units.get(start..end) != Some(levels.as_slice()) {
+            return Err(Fail::from("other levels of the line"));
         }
         Shown::new(alloc, units, characters, runs, text)
     }

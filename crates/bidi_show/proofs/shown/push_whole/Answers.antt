@@ -5,7 +5,7 @@ use Rattle.bidi_base.specs.Text.{IsLine, IsPerChar}
 use Rattle.bidi_base.proofs.StrLemmas.{has_units}
 use Rattle.bidi_base.proofs.TextLemmas.{is_boundary-le}
 use Rattle.bidi_base.proofs.UnitsLemmas.{length-from_IsPerChar}
-use Rattle.bidi_show.proofs.shown.push_paragraph.Goals as goal
+use Rattle.bidi_show.proofs.shown.push_whole.Goals as goal
 use Rattle.unicode_bidi.specs.BidiInfo.{text as text_of}
 use Rattle.bidi_base.proofs.OrderLemmas.{length-slice_range}
 use Rattle.unicode_bidi.proofs.StoredLine.{levels_IsPerChar}
