@@ -1,8 +1,8 @@
 //! The base direction of a text, and the full one.
 
-use crate::rows::sample;
 use bidi_base::char_data::Direction::{self, Ltr, Mixed, Rtl};
 use bidi_base::text::StrText;
+use bidi_rows::sample;
 use std::test::Fail;
 use unicode_bidi::{get_base_direction_full_with_data_source, get_base_direction_with_data_source};
 

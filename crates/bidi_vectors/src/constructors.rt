@@ -1,15 +1,14 @@
 //! What the constructors find in a text: stored classes, paragraphs and stored levels.
 
-use crate::rows::{
-    self, OPENINGS, TextRow, base_of, deepest_embeddings, per_char, same, sample, with_openings,
-};
 use bidi_base::char_data::BidiClass::{self, B, FSI, L, LRI, R, RLI};
 use bidi_base::char_data::Direction;
 use bidi_base::data_source::{BidiDataSource, TableBidiData};
 use bidi_base::level::{Level, has_rtl};
 use bidi_base::text::StrText;
+use bidi_rows::{
+    OPENINGS, TextRow, base_of, deepest_embeddings, per_char, same, sample, with_openings,
+};
 use std::alloc::Global;
-use std::process::Abort;
 use std::test::Fail;
 use unicode_bidi::{BidiInfo, InitialInfo, ParagraphBidiInfo, ParagraphInfo};
 
@@ -84,42 +83,33 @@ fn of_paragraph<D: BidiDataSource>(alloc: Global, source: &D, row: TextRow) -> R
 }
 
 // Compares classes and paragraphs with those of a row.
-fn check_first(rt: &impl Abort, found: &Found, row: TextRow) {
+fn check_first(found: &Found, row: TextRow) -> Result<(), Fail> {
     let (name, _, _, classes, paragraphs, _) = row;
-    same(rt, name, found.classes.as_slice(), classes);
-    same(rt, name, found.paragraphs.as_slice(), paragraphs);
+    same(name, found.classes.as_slice(), classes)?;
+    same(name, found.paragraphs.as_slice(), paragraphs)
 }
 
 // Compares levels too.
-fn check(rt: &(impl AllocGlobal + Abort), found: &Found, row: TextRow) -> Result<(), Fail> {
-    check_first(rt, found, row);
+fn check(alloc: Global, found: &Found, row: TextRow) -> Result<(), Fail> {
+    check_first(found, row)?;
     let (name, _, _, _, _, levels) = row;
-    let levels = Level::vec(rt.alloc(), levels)?;
-    same(rt, name, found.levels.as_slice(), levels.as_slice());
-    same(rt, name, &[found.has_rtl], &[has_rtl(levels.as_slice())]);
-    Ok(())
+    let levels = Level::vec(alloc, levels)?;
+    same(name, found.levels.as_slice(), levels.as_slice())?;
+    same(name, &[found.has_rtl], &[has_rtl(levels.as_slice())])
 }
 
-fn check_all<D: BidiDataSource>(
-    rt: &(impl AllocGlobal + Abort),
-    source: &D,
-    row: TextRow,
-) -> Result<(), Fail> {
-    check_first(rt, &of_initial(rt.alloc(), source, row)?, row);
-    check(rt, &of_info(rt.alloc(), source, row)?, row)?;
+fn check_all<D: BidiDataSource>(alloc: Global, source: &D, row: TextRow) -> Result<(), Fail> {
+    check_first(&of_initial(alloc, source, row)?, row)?;
+    check(alloc, &of_info(alloc, source, row)?, row)?;
     if row.4.len() < 2 {
-        check(rt, &of_paragraph(rt.alloc(), source, row)?, row)?;
+        check(alloc, &of_paragraph(alloc, source, row)?, row)?;
     }
     Ok(())
 }
 
-fn check_table(
-    rt: &(impl AllocGlobal + Abort),
-    source: &TableBidiData,
-    table: &[TextRow],
-) -> Result<(), Fail> {
+fn check_table(alloc: Global, source: &TableBidiData, table: &[TextRow]) -> Result<(), Fail> {
     for row in table {
-        check_all(rt, source, *row)?;
+        check_all(alloc, source, *row)?;
     }
     Ok(())
 }
@@ -127,22 +117,22 @@ fn check_table(
 #[test]
 fn texts(rt: HostRuntime) -> Result<(), Fail> {
     let source = sample()?;
-    for table in rows::texts() {
-        check_table(&rt, &source, table)?;
+    for table in bidi_rows::texts() {
+        check_table(rt.alloc(), &source, table)?;
     }
-    for row in rows::one_paragraph() {
-        check(&rt, &of_paragraph(rt.alloc(), &source, *row)?, *row)?;
+    for row in bidi_rows::one_paragraph() {
+        check(rt.alloc(), &of_paragraph(rt.alloc(), &source, *row)?, *row)?;
     }
     Ok(())
 }
 
 #[test]
 fn sources(rt: HostRuntime) -> Result<(), Fail> {
-    for (ranges, brackets, row) in rows::sources() {
+    for (ranges, brackets, row) in bidi_rows::sources() {
         let Ok(source) = TableBidiData::new(*ranges, *brackets) else {
             return Err(Fail::from("the ranges ascend"));
         };
-        check_all(&rt, &source, *row)?;
+        check_all(rt.alloc(), &source, *row)?;
     }
     Ok(())
 }
@@ -206,22 +196,24 @@ fn with_soft_hyphen(alloc: Global, text: &str, index: usize) -> Result<String, F
 }
 
 // Sees that U+00AD changes no other level of a row, wherever it stands.
-fn check_soft_hyphens(rt: &(impl AllocGlobal + Abort), row: TextRow) -> Result<(), Fail> {
+fn check_soft_hyphens(alloc: Global, row: TextRow) -> Result<(), Fail> {
     let (name, text, base, _, _, wanted) = row;
-    let wanted = Level::vec(rt.alloc(), wanted)?;
+    let wanted = Level::vec(alloc, wanted)?;
     for index in 0..=wanted.len() {
-        let longer = with_soft_hyphen(rt.alloc(), text, index)?;
-        let mut others = levels(rt.alloc(), longer.as_str(), base)?;
-        assert!(rt; index < others.len());
+        let longer = with_soft_hyphen(alloc, text, index)?;
+        let mut others = levels(alloc, longer.as_str(), base)?;
+        if index >= others.len() {
+            return Err(Fail::from("a level for each character"));
+        }
         others.remove(index);
-        same(rt, name, others.as_slice(), wanted.as_slice());
+        same(name, others.as_slice(), wanted.as_slice())?;
     }
     Ok(())
 }
 
-fn check_all_soft_hyphens(rt: &(impl AllocGlobal + Abort), table: &[TextRow]) -> Result<(), Fail> {
+fn check_all_soft_hyphens(alloc: Global, table: &[TextRow]) -> Result<(), Fail> {
     for row in table {
-        check_soft_hyphens(rt, *row)?;
+        check_soft_hyphens(alloc, *row)?;
     }
     Ok(())
 }
@@ -229,8 +221,8 @@ fn check_all_soft_hyphens(rt: &(impl AllocGlobal + Abort), table: &[TextRow]) ->
 // A removed character changes no other character's level.
 #[test]
 fn soft_hyphen_anywhere(rt: HostRuntime) -> Result<(), Fail> {
-    for table in rows::texts() {
-        check_all_soft_hyphens(&rt, table)?;
+    for table in bidi_rows::texts() {
+        check_all_soft_hyphens(rt.alloc(), table)?;
     }
     Ok(())
 }

@@ -1,7 +1,7 @@
 //! What is found out about two texts is equal exactly where text, classes, levels and paragraphs are.
 
-use crate::rows::sample;
 use bidi_base::level::{LTR_LEVEL, RTL_LEVEL};
+use bidi_rows::sample;
 use std::test::Fail;
 use unicode_bidi::{BidiInfo, InitialInfo, ParagraphBidiInfo, utf16};
 

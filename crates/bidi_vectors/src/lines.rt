@@ -1,13 +1,12 @@
 //! Lines: levels after L1, visual runs, and the text from left to right (L2).
 
-use crate::rows::{self, LineRow, base_of, per_char, same, sample};
 use bidi_base::char_data::Direction;
 use bidi_base::level::Level;
 use bidi_base::text::{StrText, is_line};
+use bidi_rows::{LineRow, base_of, per_char, same, sample};
 use std::alloc::Global;
 use std::borrow::CowStr;
 use std::ops::Range;
-use std::process::Abort;
 use std::test::Fail;
 use unicode_bidi::{BidiInfo, Paragraph, ParagraphBidiInfo, ParagraphInfo};
 
@@ -89,19 +88,18 @@ impl Shown {
     }
 
     // Compares it with what a row says.
-    fn check(&self, rt: &(impl AllocGlobal + Abort), row: LineRow) -> Result<(), Fail> {
+    fn check(&self, alloc: Global, row: LineRow) -> Result<(), Fail> {
         let (name, text, _, _, _, levels, runs, shown, is_borrowed) = row;
-        let levels = Level::vec(rt.alloc(), levels)?;
-        let of_units = per_char(rt.alloc(), StrText::new(text), self.units.as_slice())?;
-        same(rt, name, of_units.as_slice(), levels.as_slice());
-        same(rt, name, self.characters.as_slice(), levels.as_slice());
-        same(rt, name, &[self.runs.len()], &[runs.len()]);
+        let levels = Level::vec(alloc, levels)?;
+        let of_units = per_char(alloc, StrText::new(text), self.units.as_slice())?;
+        same(name, of_units.as_slice(), levels.as_slice())?;
+        same(name, self.characters.as_slice(), levels.as_slice())?;
+        same(name, &[self.runs.len()], &[runs.len()])?;
         for (run, ends) in self.runs.iter().zip(runs) {
-            same(rt, name, &[(run.start, run.end)], &[*ends]);
+            same(name, &[(run.start, run.end)], &[*ends])?;
         }
-        assert_eq!(rt; self.text.as_str(), shown, "{name}");
-        same(rt, name, &[self.is_borrowed], &[is_borrowed]);
-        Ok(())
+        same(name, &[self.text.as_str()], &[shown])?;
+        same(name, &[self.is_borrowed], &[is_borrowed])
     }
 }
 
@@ -109,18 +107,17 @@ impl Shown {
 fn lines_of_texts(rt: HostRuntime) -> Result<(), Fail> {
     let alloc = rt.alloc();
     let source = sample()?;
-    for row in rows::lines() {
+    for row in bidi_rows::lines() {
         let (name, text, base, line, stored, _, _, _, _) = *row;
         let info = BidiInfo::new_with_data_source(alloc, &source, text, base_of(base)?)?;
         let levels = per_char(alloc, StrText::new(text), info.levels())?;
         same(
-            &rt,
             name,
             levels.as_slice(),
             Level::vec(alloc, stored)?.as_slice(),
-        );
+        )?;
         let para = info.paragraphs().first().ok_or("a paragraph")?;
-        Shown::of_info(alloc, &info, para, line)?.check(&rt, *row)?;
+        Shown::of_info(alloc, &info, para, line)?.check(alloc, *row)?;
     }
     Ok(())
 }
@@ -129,10 +126,10 @@ fn lines_of_texts(rt: HostRuntime) -> Result<(), Fail> {
 fn lines_of_paragraphs(rt: HostRuntime) -> Result<(), Fail> {
     let alloc = rt.alloc();
     let source = sample()?;
-    for row in rows::lines() {
+    for row in bidi_rows::lines() {
         let (_, text, base, line, _, _, _, _, _) = *row;
         let info = ParagraphBidiInfo::new_with_data_source(alloc, &source, text, base_of(base)?)?;
-        Shown::of_paragraph(alloc, &info, line)?.check(&rt, *row)?;
+        Shown::of_paragraph(alloc, &info, line)?.check(alloc, *row)?;
     }
     Ok(())
 }
@@ -155,7 +152,7 @@ fn any_paragraph(rt: HostRuntime) -> Result<(), Fail> {
         "a ",
         false,
     );
-    Shown::of_info(alloc, &info, &para, (0, 2))?.check(&rt, row)
+    Shown::of_info(alloc, &info, &para, (0, 2))?.check(alloc, row)
 }
 
 #[test]

@@ -4,15 +4,15 @@ ghost use Rattle.std.specs.Prelude.{◌≡◌};
 ghost use Rattle.std.specs.List.{list_all};
 ghost use Rattle.bidi_base.specs.Classes.{is_kept, is_l_or_r};
 
-use crate::rows::{
-    self, OPENINGS, TextRow, base_of, deepest_embeddings, per_char, same, sample, with_openings,
-};
 use bidi_base::char_data::BidiClass::{self, B, FSI, L, LRI, R, RLI};
 use bidi_base::classes::{is_initiator, is_pdi, is_removed, is_strong};
 use bidi_base::data_source::{BidiDataSource, BidiMatchedOpeningBracket, TableBidiData};
 use bidi_base::level::Level;
 use bidi_base::text::StrText;
 use bidi_plain::plain::{PlainSequence, explicit_levels, implicit, neutral, sequences, weak};
+use bidi_rows::{
+    OPENINGS, TextRow, base_of, deepest_embeddings, per_char, same, sample, with_openings,
+};
 use std::alloc::Global;
 use std::process::Abort;
 use std::test::Fail;
@@ -272,9 +272,9 @@ fn agree(
     wanted: (&[BidiClass], &[Level]),
 ) -> Result<(), Fail> {
     let classes = per_char(rt.alloc(), StrText::new(text), found.0)?;
-    same(rt, name, classes.as_slice(), wanted.0);
+    same(name, classes.as_slice(), wanted.0)?;
     let levels = per_char(rt.alloc(), StrText::new(text), found.1)?;
-    same(rt, name, levels.as_slice(), wanted.1);
+    same(name, levels.as_slice(), wanted.1)?;
     Ok(())
 }
 
@@ -342,16 +342,16 @@ fn check_table(
 #[test]
 fn texts(rt: HostRuntime) -> Result<(), Fail> {
     let source = sample()?;
-    for table in rows::texts() {
+    for table in bidi_rows::texts() {
         check_table(&rt, &source, table)?;
     }
-    check_table(&rt, &source, rows::one_paragraph())
+    check_table(&rt, &source, bidi_rows::one_paragraph())
 }
 
 #[test]
 fn lines(rt: HostRuntime) -> Result<(), Fail> {
     let source = sample()?;
-    for (name, text, base, _, _, _, _, _, _) in rows::lines() {
+    for (name, text, base, _, _, _, _, _, _) in bidi_rows::lines() {
         check(&rt, &source, *name, *text, *base)?;
     }
     Ok(())
@@ -376,7 +376,7 @@ fn limits(rt: HostRuntime) -> Result<(), Fail> {
 
 #[test]
 fn sources(rt: HostRuntime) -> Result<(), Fail> {
-    for (ranges, brackets, (name, text, base, _, _, _)) in rows::sources() {
+    for (ranges, brackets, (name, text, base, _, _, _)) in bidi_rows::sources() {
         let Ok(source) = TableBidiData::new(*ranges, *brackets) else {
             return Err(Fail::from("the ranges ascend"));
         };

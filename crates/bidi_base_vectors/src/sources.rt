@@ -1,7 +1,6 @@
 //! Data sources over tables: which tables are refused, what the sample answers, and the format
 //! characters.
 
-use crate::rows::sample;
 use bidi_base::char_data::BidiClass::{
     self, AL, AN, B, BN, CS, EN, ES, ET, FSI, L, LRE, LRI, LRO, NSM, ON, PDF, PDI, R, RLE, RLI,
     RLO, S, WS,
@@ -9,6 +8,7 @@ use bidi_base::char_data::BidiClass::{
 use bidi_base::data_source::TableError::{self, NotAscending, Reversed};
 use bidi_base::data_source::{BidiDataSource, TableBidiData};
 use bidi_base::{format_chars, sample};
+use bidi_rows::sample;
 use std::test::Fail;
 
 /// The classes of the sample over the whole of Unicode, as its characters follow one another. The

@@ -1,5 +1,6 @@
 //! The worked texts, over the sample table where a row names no other source. Numbers of a text's
 //! units are bytes, and lists have one entry a character.
+#![tactic(auto)]
 
 ghost use Rattle.std.specs.Prelude.{◌≤◌, IfOk, IfSome};
 
@@ -12,7 +13,6 @@ use bidi_base::sample;
 use bidi_base::text::{TextSource, is_per_char};
 use std::alloc::Global;
 use std::fmt::Debug;
-use std::process::Abort;
 use std::test::Fail;
 
 /// A name, a text, its base level, its stored classes, its paragraphs as start, end and level, and
@@ -285,7 +285,10 @@ pub fn per_char<T: TextSource, X: Copy + Eq>(
     Ok(entries)
 }
 
-/// Sees that a list is the wanted one, of the row with this name.
-pub fn same<X: PartialEq + Debug>(rt: &impl Abort, name: &str, found: &[X], wanted: &[X]) {
-    assert_eq!(rt; found, wanted, "{name}");
+/// Fails, with the name of the row, unless a list is the wanted one.
+pub fn same<X: PartialEq + Debug>(name: &str, found: &[X], wanted: &[X]) -> Result<(), Fail> {
+    if found == wanted {
+        return Ok(());
+    }
+    Err(Fail::new(format_args!("{name}: {found:?} is not {wanted:?}")))
 }
