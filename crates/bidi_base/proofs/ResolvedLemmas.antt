@@ -38,7 +38,7 @@ module _ (source : List BidiClass) (brackets : List (Option BidiMatchedOpeningBr
 
 -- ---- lengths
 
-length-weak_classes : (sos : BidiClass) (classes : List BidiClass) → length (weak_classes sos classes) ≡ length classes
+pub length-weak_classes : (sos : BidiClass) (classes : List BidiClass) → length (weak_classes sos classes) ≡ length classes
 unfolding weak_classes
 length-weak_classes sos classes =
     length-in_context _ [] (w6 (w5 (w4 (w3 (w2 sos (w1 sos classes))))))
