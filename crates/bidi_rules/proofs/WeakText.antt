@@ -11,7 +11,7 @@ use Rattle.bidi_base.specs.declared.char_data.BidiClass.{BidiClass}
 use Rattle.bidi_base.specs.declared.char_data.BidiClass.TheVariants.{L, BN}
 use Rattle.bidi_base.specs.Classes.{is_kept_in_place, is_l}
 use Rattle.bidi_base.specs.Places.{at_places, class_at}
-use Rattle.bidi_base.specs.Weak.{carried, w1_rule, w2_rule, w3_rule, w4_rule, w5_rule, w6_rule, w7_rule, w1, w2, w3, w4, w5, w6, weak_classes}
+use Rattle.bidi_base.specs.Weak.{carried, w1_rule, w1, weak_classes}
 use Rattle.bidi_base.specs.Text.{is_per_char, char_at, place, char_index, per_unit, IsLine, IsPerChar}
 use Rattle.bidi_base.specs.Units.{are_ordered, in_runs, kept_in_place, units_in_runs, AreLines}
 use Rattle.bidi_base.proofs.PlaceLemmas.{char_at-place, line_places, place-more, place-mono, unit_of}
@@ -22,6 +22,7 @@ use Rattle.bidi_base.proofs.PerCharTests.{class_eq, class_test}
 use Rattle.bidi_base.proofs.PlacesLemmas.{length-in_context}
 use Rattle.bidi_base.proofs.RepeatedPlaces.{AreIndexes, units_of_chars, read_units-is, read_units-new, kept_in_place-AreIndexes}
 use Rattle.bidi_base.proofs.RepeatedRules.{w1-per_unit}
+use Rattle.bidi_base.proofs.ResolvedLemmas.{length-weak_classes}
 use Rattle.bidi_base.proofs.StoredLemmas.{length-at_places}
 use Rattle.bidi_rules.specs.declared.implicit.weak.steps.Before.TheVariants.{Other}
 use Rattle.bidi_rules.specs.WeakPass.{after_w3, after_w7, left_over, walked}
@@ -87,14 +88,6 @@ pub record IsResolved (len_of : ℕ → ℕ) (chars : List ℕ) (runs : List (�
   pub removed : (u : ℕ) → class_at old u ≡ BN → class_at new u ≡ BN
   pub outside : (u : ℕ) → in_runs runs u ≡ false → class_at new u ≡ class_at old u
   pub per_char : is_per_char class_eq len_of chars new ≡ true
-
-length-weak_classes : (sos : BidiClass) (xs : List BidiClass) → length (weak_classes sos xs) ≡ length xs
-unfolding weak_classes
-length-weak_classes sos xs =
-    let x1 = w1 sos xs in
-    let x3 = w3 (w2 sos x1) in
-    let x5 = w5 (w4 x3) in
-    length-in_context (w7_rule sos) [] (w6 x5) ∙ length-map x5 w6_rule ∙ length-in_context w5_rule [] (w4 x3) ∙ length-in_context w4_rule [] x3 ∙ length-map (w2 sos x1) w3_rule ∙ length-in_context (w2_rule sos) [] x1 ∙ length-in_context (w1_rule sos) [] xs
 
 -- a class that is changed by itself where a unit is marked
 at_marked-map : (f : BidiClass → BidiClass) (mark : ℕ → Bool) (xs ys : List BidiClass) (low n : ℕ) → ((k : ℕ) → mark k ≡ true → class_at xs k ≡ f (class_at ys k)) → at_places L xs (filter mark (range_with_len low n)) ≡ map f (at_places L ys (filter mark (range_with_len low n)))

@@ -75,10 +75,9 @@ pub(super) fn write_over_runs(
 /// The weak types of a sequence, in place: W1 to W7 over its characters that are not BN.
 ///
 /// Each unit of `processing_classes` has the class of its character, and the sequence fits the
-/// text. BN stays, and so do the units outside the sequence. No memory is taken. Without numbers and
-/// nonspacing marks each class changes by itself; otherwise one walk looks at each character once, and
-/// goes over the units of terminators and separators that wait for the character behind them once
-/// more.
+/// text. BN stays, and so do the units outside the sequence. No memory is taken. It goes over the units
+/// at most once for nonspacing marks, once for numbers, and once for what is left; the units of
+/// terminators and separators that wait for the character behind them are gone over once more.
 pub fn resolve_weak<T: TextSource>(
     text: T,
     sequence: &IsolatingRunSequence,

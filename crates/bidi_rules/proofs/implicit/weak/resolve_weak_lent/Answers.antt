@@ -68,8 +68,8 @@ change-requires g c =
     let w = ready len_of h chars c.args.sequence read old c.runs-runs.ensures c.requires.fits c.requires.per_char in
     rw (c.resolve_numbers.ensures.long, c.resolve_marks.ensures.long) (lines-within len_of h chars (map bounds read) w.lines w.ordered c.sos-sos.result old w.per)
 
-pub returns-clause-kept : goal.returns-clause-kept
-returns-clause-kept g c =
+pub returns : goal.returns
+returns g c =
     let len_of = g.T.TextSource.units in
     let chars : List ℕ = g.T.TextSource.characters c.args.text in
     let h = g.met.T.TextSource.has_units in
@@ -77,41 +77,6 @@ returns-clause-kept g c =
     let read = c.runs-runs.result.now in
     let w = ready len_of h chars c.args.sequence read old c.runs-runs.ensures c.requires.fits c.requires.per_char in
     let e = c.change.ensures in
-    (resolved len_of h chars c.args.sequence read c.sos-sos.result c.runs-runs.ensures c.sos-sos.ensures old c.resolve_marks.new.classes c.resolve_numbers.new.classes c.change.new.classes w
-    c.resolve_marks.ensures c.resolve_numbers.ensures e.changed e.same e.long).kept
-
-pub returns-clause-removed : goal.returns-clause-removed
-returns-clause-removed g c =
-    let len_of = g.T.TextSource.units in
-    let chars : List ℕ = g.T.TextSource.characters c.args.text in
-    let h = g.met.T.TextSource.has_units in
-    let old = c.args.processing_classes.now in
-    let read = c.runs-runs.result.now in
-    let w = ready len_of h chars c.args.sequence read old c.runs-runs.ensures c.requires.fits c.requires.per_char in
-    let e = c.change.ensures in
-    (resolved len_of h chars c.args.sequence read c.sos-sos.result c.runs-runs.ensures c.sos-sos.ensures old c.resolve_marks.new.classes c.resolve_numbers.new.classes c.change.new.classes w
-    c.resolve_marks.ensures c.resolve_numbers.ensures e.changed e.same e.long).removed
-
-pub returns-clause-outside : goal.returns-clause-outside
-returns-clause-outside g c =
-    let len_of = g.T.TextSource.units in
-    let chars : List ℕ = g.T.TextSource.characters c.args.text in
-    let h = g.met.T.TextSource.has_units in
-    let old = c.args.processing_classes.now in
-    let read = c.runs-runs.result.now in
-    let w = ready len_of h chars c.args.sequence read old c.runs-runs.ensures c.requires.fits c.requires.per_char in
-    let e = c.change.ensures in
-    (resolved len_of h chars c.args.sequence read c.sos-sos.result c.runs-runs.ensures c.sos-sos.ensures old c.resolve_marks.new.classes c.resolve_numbers.new.classes c.change.new.classes w
-    c.resolve_marks.ensures c.resolve_numbers.ensures e.changed e.same e.long).outside
-
-pub returns-clause-per_char : goal.returns-clause-per_char
-returns-clause-per_char g c =
-    let len_of = g.T.TextSource.units in
-    let chars : List ℕ = g.T.TextSource.characters c.args.text in
-    let h = g.met.T.TextSource.has_units in
-    let old = c.args.processing_classes.now in
-    let read = c.runs-runs.result.now in
-    let w = ready len_of h chars c.args.sequence read old c.runs-runs.ensures c.requires.fits c.requires.per_char in
-    let e = c.change.ensures in
-    (resolved len_of h chars c.args.sequence read c.sos-sos.result c.runs-runs.ensures c.sos-sos.ensures old c.resolve_marks.new.classes c.resolve_numbers.new.classes c.change.new.classes w
-    c.resolve_marks.ensures c.resolve_numbers.ensures e.changed e.same e.long).per_char
+    let r = resolved len_of h chars c.args.sequence read c.sos-sos.result c.runs-runs.ensures c.sos-sos.ensures old c.resolve_marks.new.classes c.resolve_numbers.new.classes c.change.new.classes w
+    c.resolve_marks.ensures c.resolve_numbers.ensures e.changed e.same e.long in
+    record { kept = r.kept; removed = r.removed; outside = r.outside; per_char = r.per_char }
