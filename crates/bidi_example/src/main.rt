@@ -2,6 +2,7 @@
 #![tactic(auto)]
 
 mod callers;
+mod wrapped;
 
 use std::io;
 use std::ops::Range;

@@ -1,0 +1,57 @@
+//! Shows a text in lines of at most so many columns of a terminal.
+
+use std::alloc::Global;
+use std::io::{self, Write};
+use unicode_bidi::BidiInfo;
+use unicode_bidi::layout::{CharWidth, lines};
+use unicode_width::UnicodeWidthChar;
+
+/// The columns that characters take in a terminal. A control takes none.
+struct Columns;
+
+impl CharWidth for Columns {
+    ghost use Rattle.std.specs.Prelude.{unwrap_or, false};
+    ghost use Rattle.unicode_width.specs.Width.{char_width};
+
+    ghost width_of = { λ _ c. unwrap_or (char_width false c) 0 };
+
+    fn width(&self, c: char) -> usize {
+        c.width().unwrap_or(0)
+    }
+}
+
+/// Writes a text without line feeds in lines of at most `columns` columns, each from left to right.
+pub fn write_wrapped<W: Write>(
+    alloc: Global,
+    out: &mut W,
+    info: &BidiInfo<'_>,
+    columns: usize,
+) -> io::Result<()> {
+    for paragraph in info.paragraphs() {
+        for line in lines(alloc, info, paragraph, &Columns, columns)? {
+            let shown = info.reorder_line(alloc, paragraph, line)?;
+            writeln!(out, "{}", shown.as_str())?;
+        }
+    }
+    Ok(())
+}
+
+#[cfg(test)]
+mod tests {
+    use super::write_wrapped;
+    use crate::{BRACKETS, RANGES};
+    use std::test::Fail;
+    use unicode_bidi::BidiInfo;
+    use unicode_bidi::data_source::TableBidiData;
+
+    #[test]
+    fn lines_of_eight_columns(rt: HostRuntime) -> Result<(), Fail> {
+        let source = TableBidiData::new(&RANGES, &BRACKETS)?;
+        let text = "car (מכונית) 12 אבג";
+        let info = BidiInfo::new_with_data_source(rt.alloc(), &source, text, None)?;
+        let mut shown = Vec::new(rt.alloc());
+        write_wrapped(rt.alloc(), &mut shown, &info, 8)?;
+        assert_eq!(rt; shown.as_slice(), "car (וכמ\nתינ) 12 \nגבא\n".as_bytes());
+        Ok(())
+    }
+}
