@@ -1,6 +1,6 @@
 //! The calls over any text, and those over levels of one's own.
 
-use crate::texts::{CHARACTERS, TEXT, UNITS};
+use crate::texts::{CHARACTERS, LONG_TEXT, UNITS};
 use crate::trial::{Fault, tried};
 use bidi_base::data_source::TableBidiData;
 use bidi_base::level::Level;
@@ -57,10 +57,8 @@ fn try_levels(rt: &(impl Print + AllocGlobal)) -> Result<(), Fault> {
 
 /// Tries the engine in every encoding, and the calls over levels.
 pub fn run(rt: &(impl Print + AllocGlobal), source: &TableBidiData<'_>) -> Result<(), Fault> {
-    for split in [true, false] {
-        try_text(rt, source, StrText::new(TEXT), split)?;
-        try_text(rt, source, Utf16Text::new(&UNITS), split)?;
-        try_text(rt, source, CharsText::new(&CHARACTERS), split)?;
-    }
+    try_text(rt, source, StrText::new(LONG_TEXT), true)?;
+    try_text(rt, source, Utf16Text::new(&UNITS), true)?;
+    try_text(rt, source, CharsText::new(&CHARACTERS), false)?;
     try_levels(rt)
 }

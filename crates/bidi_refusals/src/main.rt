@@ -46,7 +46,9 @@ fn run(rt: &(impl Env + Print + AllocGlobal)) -> Result<(), Fault> {
     utf16::run(rt, &source)?;
     any_text::run(rt, &source)?;
     lists::run(rt, &source)?;
-    passes::run(rt, &source)
+    passes::run(rt, &source)?;
+    println!(rt; "behind {}", request(rt.alloc(), 1))?;
+    Ok(())
 }
 
 fn main(rt: HostRuntime) -> ExitCode {

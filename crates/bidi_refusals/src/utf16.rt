@@ -87,7 +87,7 @@ pub fn run(rt: &(impl Print + AllocGlobal), source: &TableBidiData<'_>) -> Resul
         "utf16::BidiInfo::new_with_data_source",
         BidiInfo::new_with_data_source(alloc, source, &UNITS, None)
     );
-    for para in info.paragraphs() {
+    if let Some(para) = info.paragraphs().last() {
         try_line(rt, &info, para)?;
     }
     tried!(

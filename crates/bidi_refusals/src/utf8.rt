@@ -86,7 +86,7 @@ pub fn run(rt: &(impl Print + AllocGlobal), source: &TableBidiData<'_>) -> Resul
         "BidiInfo::new_with_data_source",
         BidiInfo::new_with_data_source(alloc, source, TEXT, None)
     );
-    for para in info.paragraphs() {
+    if let Some(para) = info.paragraphs().last() {
         try_line(rt, &info, para)?;
     }
     tried!(
