@@ -1,0 +1,6 @@
+pub mod FindingsLemmas
+pub mod LinesLemmas
+pub mod ListsLemmas
+pub mod OpenersLemmas
+pub mod ClosedOpeners
+pub mod UnmatchedPass

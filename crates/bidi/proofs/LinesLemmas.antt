@@ -1,0 +1,62 @@
+-- The first line of a text, character by character.
+use Rattle.std.proofs.Common.{◌≡◌, ℕ, suc, ◌+◌, ◌<◌, true, false, List, [], ◌∷◌, ◌++◌, length, get_or, take, drop, refl, sym, ap, subst, ◌∙◌, arith, drop-cons, add-one}
+use Rattle.std.specs.List.{onto_first}
+use Rattle.std.proofs.lemmas.Bool.{cond-true, cond-false}
+use Rattle.std.proofs.lemmas.List.{take_more, take_all, drop_all}
+use Rattle.bidi_base.specs.Paragraphs.{SplitTest, cut_after}
+
+-- characters put before the first of some lines
+abbrev onto_front : List ℕ → List (List ℕ) → List (List ℕ)
+onto_front [] lines = lines
+onto_front (c ∷ cs) lines = onto_first c (onto_front cs lines)
+
+onto_front-line : (cs line : List ℕ) (lines : List (List ℕ)) → onto_front cs (line ∷ lines) ≡ (cs ++ line) ∷ lines
+onto_front-line [] line lines = refl
+onto_front-line (c ∷ cs) line lines = ap (onto_first c) (onto_front-line cs line lines)
+
+onto_front-none : (cs : List ℕ) → 0 < length cs → onto_front cs [] ≡ cs ∷ []
+onto_front-none [] some = absurd (omega arith)
+onto_front-none (c ∷ []) some = refl
+onto_front-none (c ∷ d ∷ cs) some = ap (onto_first c) (onto_front-none (d ∷ cs) (omega arith))
+
+onto_front-more : (cs : List ℕ) (c : ℕ) (lines : List (List ℕ)) → onto_front cs (onto_first c lines) ≡ onto_front (cs ++ c ∷ []) lines
+onto_front-more [] c lines = refl
+onto_front-more (d ∷ cs) c lines = ap (onto_first d) (onto_front-more cs c lines)
+
+-- none of the first n characters of a text ends a line
+pub record IsUnbroken (ends : SplitTest) (chars : List ℕ) (n : ℕ) : Type 0 where
+  pub whole : cut_after ends chars ≡ onto_front (take n chars) (cut_after ends (drop n chars))
+
+pub IsUnbroken-start : (ends : SplitTest) (chars : List ℕ) → IsUnbroken ends chars 0
+IsUnbroken-start ends chars = record { whole = refl }
+
+module _ (ends : SplitTest) (chars : List ℕ) (n c : ℕ) (fits : n < length chars) (here : c ≡ get_or chars n c) where
+  from_here : drop n chars ≡ c ∷ drop (n + 1) chars
+  from_here = rw (add-one, drop-cons chars n c) (ap (λ x. x ∷ drop (suc n) chars) (sym here))
+
+  with_it : take (n + 1) chars ≡ take n chars ++ c ∷ []
+  with_it = take_more chars n c fits ∙ ap (λ x. take n chars ++ x ∷ []) (sym here)
+
+  pub IsUnbroken-more : ends c (drop (n + 1) chars) ≡ false → IsUnbroken ends chars n → IsUnbroken ends chars (n + 1)
+  IsUnbroken-more goes h = record {
+    whole = h.whole ∙ ap (λ cs. onto_front (take n chars) (cut_after ends cs)) from_here
+        ∙ ap (onto_front (take n chars)) (cond-false (ends c (drop (n + 1) chars)) _ _ goes)
+        ∙ onto_front-more (take n chars) c (cut_after ends (drop (n + 1) chars))
+        ∙ ap (λ cs. onto_front cs (cut_after ends (drop (n + 1) chars))) (sym with_it);
+  }
+
+  -- the next one ends it
+  pub IsUnbroken-ended : ends c (drop (n + 1) chars) ≡ true → IsUnbroken ends chars n → cut_after ends chars ≡ take (n + 1) chars ∷ cut_after ends (drop (n + 1) chars)
+  IsUnbroken-ended stops h =
+      h.whole ∙ ap (λ cs. onto_front (take n chars) (cut_after ends cs)) from_here
+      ∙ ap (onto_front (take n chars)) (cond-true (ends c (drop (n + 1) chars)) _ _ stops)
+      ∙ onto_front-line (take n chars) (c ∷ []) (cut_after ends (drop (n + 1) chars))
+      ∙ ap (λ line. line ∷ cut_after ends (drop (n + 1) chars)) (sym with_it)
+
+-- the text's end does
+pub IsUnbroken-whole : (ends : SplitTest) (chars : List ℕ) (n : ℕ) → n ≡ length chars → 0 < n → IsUnbroken ends chars n → cut_after ends chars ≡ take n chars ∷ cut_after ends (drop n chars)
+IsUnbroken-whole ends chars n all some h =
+    let rest : drop n chars ≡ [] = drop_all n chars (omega arith) in
+    h.whole ∙ ap (λ cs. onto_front (take n chars) (cut_after ends cs)) rest
+    ∙ onto_front-none (take n chars) (subst (λ (cs : List ℕ). 0 < length cs) (sym (take_all n chars (omega arith))) (omega arith))
+    ∙ ap (λ cs. take n chars ∷ cut_after ends cs) (sym rest)

@@ -1,0 +1,7 @@
+pub mod Commands
+pub mod Controls
+pub mod Findings
+pub mod Inputs
+pub mod Matches
+pub mod OpenOpeners
+pub mod Statuses

@@ -1,0 +1,104 @@
+//! The files of a call: they are read, checked and told one after the other.
+use crate::input::{InputFault, check_input};
+use crate::status::Status;
+use std::fs;
+use std::io::{self, ErrorKind, Read, Write};
+use std::rt::Files;
+
+// What standard input is called in a report.
+const STANDARD_INPUT: &str = "<stdin>";
+
+// Writes a text to standard output. What fails ends the run, quietly where nobody reads on.
+fn write_out(rt: &(impl Print + Eprint), text: &str) -> Result<(), Status> {
+    let mut out = io::writer(rt);
+    let Err(error) = out.write_all(text.as_bytes()) else {
+        return Ok(());
+    };
+    if error.kind() == ErrorKind::BrokenPipe {
+        return Err(Status::Clean);
+    }
+    let _ = eprintln!(rt; "bidi: output failed");
+    Err(Status::Device)
+}
+
+// Tells that an input was not read, and goes on to the next; for want of memory the run ends.
+fn refuse(rt: &(impl Print + Eprint), name: &str, error: &io::Error) -> Result<Status, Status> {
+    if error.kind() == ErrorKind::OutOfMemory {
+        return out_of_memory(rt);
+    }
+    let _ = eprintln!(rt; "bidi: {name}: {error}");
+    Ok(Status::Device)
+}
+
+fn out_of_memory(rt: &impl Eprint) -> Result<Status, Status> {
+    let _ = eprintln!(rt; "bidi: out of memory");
+    Err(Status::Memory)
+}
+
+// Writes what is found in an input.
+fn check_bytes(
+    rt: &(impl Print + Eprint + AllocGlobal),
+    any: bool,
+    name: &str,
+    bytes: &[u8],
+) -> Result<Status, Status> {
+    match check_input(rt.alloc(), any, name, bytes) {
+        Ok(checked) => {
+            write_out(rt, checked.report.as_str())?;
+            Ok(checked.status())
+        }
+        Err(InputFault::NotUtf8(at)) => {
+            let _ = eprintln!(rt; "bidi: {name}: not UTF-8 from byte {at} on");
+            Ok(Status::Refused)
+        }
+        Err(InputFault::Memory) => out_of_memory(rt),
+    }
+}
+
+// The bytes of standard input.
+fn read_standard_input(rt: &(impl Input + AllocGlobal)) -> io::Result<Vec<u8>> {
+    let mut bytes = Vec::new(rt.alloc());
+    rt.reader().read_to_end(&mut bytes)?;
+    Ok(bytes)
+}
+
+fn check_standard_input(
+    rt: &(impl Input + Print + Eprint + AllocGlobal),
+    any: bool,
+) -> Result<Status, Status> {
+    match read_standard_input(rt) {
+        Ok(bytes) => check_bytes(rt, any, STANDARD_INPUT, bytes.as_slice()),
+        Err(error) => refuse(rt, STANDARD_INPUT, &error),
+    }
+}
+
+fn check_file(
+    rt: &(impl Files + Print + Eprint + AllocGlobal),
+    any: bool,
+    name: &str,
+) -> Result<Status, Status> {
+    match fs::read(rt, name) {
+        Ok(bytes) => check_bytes(rt, any, name, bytes.as_slice()),
+        Err(error) => refuse(rt, name, &error),
+    }
+}
+
+/// Writes what is found in the files of these names, or in standard input where there are none. A
+/// file that cannot be read or is not UTF-8 is told on standard error, and the next one is read.
+pub fn check_files(
+    rt: &(impl Files + Input + Print + Eprint + AllocGlobal),
+    any: bool,
+    names: &[String],
+) -> Status {
+    if names.is_empty() {
+        return check_standard_input(rt, any).unwrap_or_else(|ended| ended);
+    }
+    let mut status = Status::Clean;
+    for name in names {
+        match check_file(rt, any, name.as_str()) {
+            Ok(next) => status = status.worse(next),
+            Err(ended) => return status.worse(ended),
+        }
+    }
+    status
+}

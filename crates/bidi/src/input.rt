@@ -1,0 +1,100 @@
+//! What becomes of an input.
+ghost use Rattle.std.specs.Prelude.{◌≡◌, ◌==◌, not, length, IfOk, IfErr, IsErrOf, string_bytes};
+ghost use Rattle.std.specs.Str.{chars, IsUtf8};
+ghost use Rattle.bidi_unicode.specs.Unicode.{unicode_source};
+ghost use Rattle.bidi.specs.Findings.{findings_of, report_of};
+ghost use Rattle.bidi.specs.Inputs.{TellsInput};
+ghost use Rattle.bidi.specs.declared.input.InputFault.TheVariants.{Memory};
+
+use crate::check::findings_in;
+use crate::report::report;
+use crate::status::Status;
+use bidi_unicode::UnicodeData;
+use std::alloc::{AllocError, Global};
+
+/// Why an input has no answer.
+#[derive(Clone, Copy, Debug, PartialEq)]
+pub enum InputFault {
+    /// It is UTF-8 up to this byte, counted from 0, and no further.
+    NotUtf8(usize),
+    /// Memory was refused.
+    Memory,
+}
+
+impl From<AllocError> for InputFault {
+    ghost use Rattle.std.specs.Prelude.{◌≡◌};
+    ghost use Rattle.bidi.specs.declared.input.InputFault.TheVariants.{Memory};
+
+    ghost from_gives = { λ _ fault. fault ≡ Memory };
+
+    fn from(_error: AllocError) -> InputFault {
+        InputFault::Memory
+    }
+}
+
+/// What `check` says of an input.
+#[derive(Drop)]
+pub struct Checked {
+    /// A line for each finding.
+    pub report: String,
+    /// Whether there is one.
+    pub found: bool,
+}
+
+impl Checked {
+    ghost use Rattle.std.specs.Prelude.{if◌then◌else◌};
+    ghost use Rattle.bidi.specs.declared.status.Status.TheVariants.{Clean, Found};
+
+    /// What that means for the run.
+    pub fn status(&self) -> Status
+        ensures { result ≡ (if self.now.found then Found else Clean) }
+    {
+        if self.found {
+            Status::Found
+        } else {
+            Status::Clean
+        }
+    }
+}
+
+/// The text that an input is.
+fn text_of(bytes: &[u8]) -> Result<&str, InputFault>
+    ensures text { IfOk result (λ text. (text.now ≡ bytes.now) × IsUtf8 bytes.now) }
+    ensures fault { IfErr result (TellsInput bytes.now) }
+    ensures memory { ¬ IsErrOf result Memory }
+{
+    match str::from_utf8(bytes) {
+        Ok(text) => Ok(text),
+        Err(error) => Err(InputFault::NotUtf8(error.valid_up_to())),
+    }
+}
+
+/// The characters of a text.
+fn chars_of(alloc: Global, text: &str) -> Result<Vec<char>, AllocError>
+    ensures { IfOk result (λ v. v.items ≡ chars text.now) }
+{
+    text.chars().collect(alloc)
+}
+
+/// The direction controls in an input of this name that have no match on their line; with `any`
+/// every control and mark. Refused where the input is not UTF-8, and for want of memory.
+pub fn check_input(
+    alloc: Global,
+    any: bool,
+    name: &str,
+    bytes: &[u8],
+) -> Result<Checked, InputFault>
+    ensures text { IfOk result (λ checked. IsUtf8 bytes.now
+        × (string_bytes checked.report ≡ report_of name.now (findings_of unicode_source any (chars bytes.now)))
+        × (checked.found ≡ not (length (findings_of unicode_source any (chars bytes.now)) == 0))) }
+    ensures fault { IfErr result (TellsInput bytes.now) }
+{
+    let text = text_of(bytes)?;
+    let chars = chars_of(alloc, text)?;
+    let findings = findings_in(alloc, &UnicodeData, any, chars.as_slice())?;
+    let found = findings.as_slice();
+    Ok(Checked {
+        report: report(alloc, name, found)?,
+        found: !found.is_empty(),
+    })
+}

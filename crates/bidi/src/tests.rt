@@ -1,0 +1,189 @@
+//! Reports of hand-made texts, and what words ask for.
+use crate::command::Command;
+use crate::control::Control;
+use crate::input::{InputFault, check_input};
+use bidi_base::data_source::BidiDataSource;
+use bidi_unicode::UnicodeData;
+use std::test::Fail;
+
+// A text, and the report on it without `--any` and with it.
+struct Row {
+    name: &'static str,
+    text: &'static str,
+    unmatched: &'static str,
+    any: &'static str,
+}
+
+const ROWS: [Row; 10] = [
+    Row {
+        name: "an override and an isolate in a string, an isolate closed in a comment",
+        text: "let a = \"x\u{202E}\u{2066}y\u{2069}\u{2066}z\";\n// fine \u{2067}\u{5D0}\u{2069}\nlet b;\n",
+        unmatched: "f:1:11: U+202E RIGHT-TO-LEFT OVERRIDE is not closed on its line\n\
+            f:1:15: U+2066 LEFT-TO-RIGHT ISOLATE is not closed on its line\n",
+        any: "f:1:11: U+202E RIGHT-TO-LEFT OVERRIDE is not closed on its line\n\
+            f:1:12: U+2066 LEFT-TO-RIGHT ISOLATE is present\n\
+            f:1:14: U+2069 POP DIRECTIONAL ISOLATE is present\n\
+            f:1:15: U+2066 LEFT-TO-RIGHT ISOLATE is not closed on its line\n\
+            f:2:9: U+2067 RIGHT-TO-LEFT ISOLATE is present\n\
+            f:2:11: U+2069 POP DIRECTIONAL ISOLATE is present\n",
+    },
+    Row {
+        name: "an embedding that ends with the isolate around it",
+        text: "\u{2067}\u{202B}x\u{2069}\u{202C}\r\n",
+        unmatched: "f:1:2: U+202B RIGHT-TO-LEFT EMBEDDING is not closed on its line\n\
+            f:1:5: U+202C POP DIRECTIONAL FORMATTING closes nothing on its line\n",
+        any: "f:1:1: U+2067 RIGHT-TO-LEFT ISOLATE is present\n\
+            f:1:2: U+202B RIGHT-TO-LEFT EMBEDDING is not closed on its line\n\
+            f:1:4: U+2069 POP DIRECTIONAL ISOLATE is present\n\
+            f:1:5: U+202C POP DIRECTIONAL FORMATTING closes nothing on its line\n",
+    },
+    Row {
+        name: "a PDF inside an isolate does not close an override outside it",
+        text: "\u{202D}\u{2068}\u{202C}\u{2069}\u{202C}",
+        unmatched: "f:1:3: U+202C POP DIRECTIONAL FORMATTING closes nothing on its line\n",
+        any: "f:1:1: U+202D LEFT-TO-RIGHT OVERRIDE is present\n\
+            f:1:2: U+2068 FIRST STRONG ISOLATE is present\n\
+            f:1:3: U+202C POP DIRECTIONAL FORMATTING closes nothing on its line\n\
+            f:1:4: U+2069 POP DIRECTIONAL ISOLATE is present\n\
+            f:1:5: U+202C POP DIRECTIONAL FORMATTING is present\n",
+    },
+    Row {
+        name: "columns count characters, and the last line needs no end",
+        text: "\u{5D0}\u{1F600}\u{E9}\u{2069}",
+        unmatched: "f:1:4: U+2069 POP DIRECTIONAL ISOLATE closes nothing on its line\n",
+        any: "f:1:4: U+2069 POP DIRECTIONAL ISOLATE closes nothing on its line\n",
+    },
+    Row {
+        name: "every separator ends a line, CR LF as one",
+        text: "a\r\u{202A}\r\nb\u{202C}\n\u{2028}\u{200E}\u{85}\u{200F}\u{2029}\u{61C}",
+        unmatched: "f:2:1: U+202A LEFT-TO-RIGHT EMBEDDING is not closed on its line\n\
+            f:3:2: U+202C POP DIRECTIONAL FORMATTING closes nothing on its line\n",
+        any: "f:2:1: U+202A LEFT-TO-RIGHT EMBEDDING is not closed on its line\n\
+            f:3:2: U+202C POP DIRECTIONAL FORMATTING closes nothing on its line\n\
+            f:4:2: U+200E LEFT-TO-RIGHT MARK is present\n\
+            f:5:1: U+200F RIGHT-TO-LEFT MARK is present\n\
+            f:6:1: U+061C ARABIC LETTER MARK is present\n",
+    },
+    Row {
+        name: "a PDF closes the innermost",
+        text: "\u{202A}\u{202E}x\u{202C}\n\u{202C}",
+        unmatched: "f:1:1: U+202A LEFT-TO-RIGHT EMBEDDING is not closed on its line\n\
+            f:2:1: U+202C POP DIRECTIONAL FORMATTING closes nothing on its line\n",
+        any: "f:1:1: U+202A LEFT-TO-RIGHT EMBEDDING is not closed on its line\n\
+            f:1:2: U+202E RIGHT-TO-LEFT OVERRIDE is present\n\
+            f:1:4: U+202C POP DIRECTIONAL FORMATTING is present\n\
+            f:2:1: U+202C POP DIRECTIONAL FORMATTING closes nothing on its line\n",
+    },
+    Row {
+        name: "a PDI without an isolate closes no embedding",
+        text: "\u{2069}\u{202B}\u{2069}\u{202C}",
+        unmatched: "f:1:1: U+2069 POP DIRECTIONAL ISOLATE closes nothing on its line\n\
+            f:1:3: U+2069 POP DIRECTIONAL ISOLATE closes nothing on its line\n",
+        any: "f:1:1: U+2069 POP DIRECTIONAL ISOLATE closes nothing on its line\n\
+            f:1:2: U+202B RIGHT-TO-LEFT EMBEDDING is present\n\
+            f:1:3: U+2069 POP DIRECTIONAL ISOLATE closes nothing on its line\n\
+            f:1:4: U+202C POP DIRECTIONAL FORMATTING is present\n",
+    },
+    Row {
+        name: "a PDI closes the innermost isolate with its embeddings",
+        text: "\u{2066}\u{2067}\u{202A}a\u{2069}",
+        unmatched: "f:1:1: U+2066 LEFT-TO-RIGHT ISOLATE is not closed on its line\n\
+            f:1:3: U+202A LEFT-TO-RIGHT EMBEDDING is not closed on its line\n",
+        any: "f:1:1: U+2066 LEFT-TO-RIGHT ISOLATE is not closed on its line\n\
+            f:1:2: U+2067 RIGHT-TO-LEFT ISOLATE is present\n\
+            f:1:3: U+202A LEFT-TO-RIGHT EMBEDDING is not closed on its line\n\
+            f:1:5: U+2069 POP DIRECTIONAL ISOLATE is present\n",
+    },
+    Row {
+        name: "nothing",
+        text: "plain\n\nlines\t\u{5D0}",
+        unmatched: "",
+        any: "",
+    },
+    Row {
+        name: "an empty text",
+        text: "",
+        unmatched: "",
+        any: "",
+    },
+];
+
+#[test]
+fn reports(rt: HostRuntime) -> Result<(), Fail> {
+    for row in &ROWS {
+        for (any, wanted) in [(false, row.unmatched), (true, row.any)] {
+            match check_input(rt.alloc(), any, "f", row.text.as_bytes()) {
+                Ok(checked) => {
+                    assert_eq!(rt; checked.report.as_str(), wanted, "{}", row.name);
+                    assert_eq!(rt; checked.found, !wanted.is_empty(), "{}", row.name);
+                }
+                Err(fault) => panic!(rt; "{}: {fault:?}", row.name),
+            }
+        }
+    }
+    Ok(())
+}
+
+#[test]
+fn other_bytes_are_refused(rt: HostRuntime) {
+    for (bytes, at) in [
+        (b"ab\xffc".as_slice(), 2),
+        (b"\xd7", 0),
+        (b"a\n\xed\xa0\x80", 2),
+    ] {
+        match check_input(rt.alloc(), true, "f", bytes) {
+            Ok(_) => panic!(rt; "{bytes:?}"),
+            Err(fault) => assert_eq!(rt; fault, InputFault::NotUtf8(at), "{bytes:?}"),
+        }
+    }
+}
+
+// Of all characters the twelve are controls and marks, and each is called by its code point.
+#[test]
+fn controls_have_their_names(rt: HostRuntime) -> Result<(), Fail> {
+    let mut found = Vec::new(rt.alloc());
+    for code in 0..0x11_0000u32 {
+        if let Some(c) = char::from_u32(code)
+            && let Some(control) = Control::of(UnicodeData.bidi_class(c), c)
+        {
+            let name = format!(in rt.alloc(); "U+{code:04X} ")?;
+            assert!(rt; control.name().starts_with(name.as_str()), "{name}");
+            found.push(c)?;
+        }
+    }
+    assert_eq!(rt; found.len(), 12);
+    Ok(())
+}
+
+// The words of a line.
+fn words_of(rt: &impl AllocGlobal, line: &str) -> Result<Vec<String>, Fail> {
+    let mut words = Vec::new(rt.alloc());
+    for word in line.split(' ') {
+        words.push(String::from_str(rt.alloc(), word)?)?;
+    }
+    Ok(words)
+}
+
+#[test]
+fn words_ask_for_forms(rt: HostRuntime) -> Result<(), Fail> {
+    for (line, wanted) in [
+        ("check", Some((false, 0))),
+        ("check a", Some((false, 1))),
+        ("check --any", Some((true, 0))),
+        ("check --any a b", Some((true, 2))),
+        ("", None),
+        ("Check", None),
+        ("check a --any", None),
+        ("check --all", None),
+        ("check --any --any", None),
+        ("check --", None),
+    ] {
+        let words = words_of(&rt, line)?;
+        let found = match Command::parse(words.as_slice()) {
+            Some(Command::Check { any, files }) => Some((any, files.words().len())),
+            None => None,
+        };
+        assert_eq!(rt; found, wanted, "{line}");
+    }
+    Ok(())
+}
