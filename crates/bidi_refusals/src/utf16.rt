@@ -38,6 +38,16 @@ fn try_line(
         "utf16::BidiInfo::visual_runs",
         info.visual_runs(alloc, para, start..end)
     );
+    tried!(
+        rt,
+        "utf16::BidiInfo::line_levels",
+        info.line_levels(alloc, para, start..end)
+    );
+    tried!(
+        rt,
+        "utf16::BidiInfo::line_runs",
+        info.line_runs(alloc, para, start..end)
+    );
     Ok(())
 }
 
@@ -70,6 +80,16 @@ fn try_whole_line(
         rt,
         "utf16::ParagraphBidiInfo::visual_runs",
         info.visual_runs(alloc, 0..end)
+    );
+    tried!(
+        rt,
+        "utf16::ParagraphBidiInfo::line_levels",
+        info.line_levels(alloc, 0..end)
+    );
+    tried!(
+        rt,
+        "utf16::ParagraphBidiInfo::line_runs",
+        info.line_runs(alloc, 0..end)
     );
     Ok(())
 }

@@ -4,6 +4,7 @@ use crate::texts::TEXT;
 use crate::trial::{Fault, tried};
 use bidi_base::data_source::TableBidiData;
 use bidi_base::text::{StrText, is_line};
+use unicode_bidi::layout::{CharWidth, LineMap, lines};
 use unicode_bidi::{BidiInfo, InitialInfo, ParagraphBidiInfo, ParagraphInfo};
 
 // The line calls, of a paragraph as one line.
@@ -36,6 +37,49 @@ fn try_line(
         rt,
         "BidiInfo::visual_runs",
         info.visual_runs(alloc, para, start..end)
+    );
+    tried!(
+        rt,
+        "BidiInfo::line_levels",
+        info.line_levels(alloc, para, start..end)
+    );
+    tried!(
+        rt,
+        "BidiInfo::line_runs",
+        info.line_runs(alloc, para, start..end)
+    );
+    tried!(
+        rt,
+        "LineMap::new",
+        LineMap::new(alloc, info, para, start..end)
+    );
+    Ok(())
+}
+
+// Each character as wide as a column.
+struct Columns;
+
+impl CharWidth for Columns {
+    ghost width_of = { λ _ _. 1 };
+
+    fn width(&self, _c: char) -> usize {
+        1
+    }
+}
+
+// A paragraph in lines of eight characters.
+fn try_lines(
+    rt: &(impl Print + AllocGlobal),
+    info: &BidiInfo<'_>,
+    para: &ParagraphInfo,
+) -> Result<(), Fault> {
+    if !is_line(StrText::new(info.text()), &para.range()) {
+        return Err(Fault::NoTrial("a paragraph"));
+    }
+    tried!(
+        rt,
+        "layout::lines",
+        lines(rt.alloc(), info, para, &Columns, 8)
     );
     Ok(())
 }
@@ -70,6 +114,16 @@ fn try_whole_line(
         "ParagraphBidiInfo::visual_runs",
         info.visual_runs(alloc, 0..end)
     );
+    tried!(
+        rt,
+        "ParagraphBidiInfo::line_levels",
+        info.line_levels(alloc, 0..end)
+    );
+    tried!(
+        rt,
+        "ParagraphBidiInfo::line_runs",
+        info.line_runs(alloc, 0..end)
+    );
     Ok(())
 }
 
@@ -88,6 +142,7 @@ pub fn run(rt: &(impl Print + AllocGlobal), source: &TableBidiData<'_>) -> Resul
     );
     if let Some(para) = info.paragraphs().last() {
         try_line(rt, &info, para)?;
+        try_lines(rt, &info, para)?;
     }
     tried!(
         rt,
