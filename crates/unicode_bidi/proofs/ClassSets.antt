@@ -1,5 +1,5 @@
 -- Sets of classes: what is in them, and which tests of what is in them agree.
-use Rattle.std.proofs.Common.{◌≡◌, ℕ, zero, suc, ◌+◌, ◌^◌, ◌<◌, ◌≢◌, min, max, bit_and, Bool, true, false, not, ◌==◌, ◌&&◌, ◌||◌, List, [], ◌∷◌, get_or, refl, sym, ap, ◌∙◌, arith, inl, inr, eqb-true}
+use Rattle.std.proofs.Common.{◌≡◌, ℕ, zero, suc, ◌+◌, ◌^◌, ◌<◌, ◌≢◌, min, max, bit_and, bit_or, bit_xor, ◌%◌, Bool, true, false, not, ◌==◌, ◌&&◌, ◌||◌, List, [], ◌∷◌, get_or, refl, sym, ap, ◌∙◌, arith, inl, inr, eqb-true}
 use Rattle.std.specs.Int.{bit_at}
 use Rattle.std.specs.List.{list_any}
 use Rattle.std.proofs.Math.Bool.{or-true}
@@ -7,7 +7,7 @@ use Rattle.std.proofs.lemmas.Bool.{cases_Bool, cases_eq, cases_lt, both_ways, eq
 use Rattle.std.proofs.lemmas.List.{get_or-map}
 use Rattle.std.proofs.lemmas.List.FromFn.{get_or-range_with_len}
 use Rattle.std.proofs.lemmas.List.Folds.{list_any_none, list_any_at}
-use Rattle.std.proofs.lemmas.Nat.Bits.{bit_at_or, bit_at_and, bit_at-zero, bit_at-pow_same, bit_at-pow_other, bit_at_above, bit_at-lt, same_from_bits}
+use Rattle.std.proofs.lemmas.Nat.Bits.{bit_at_or, bit_at_and, bit_at_xor, bit_at-zero, bit_at-pow_same, bit_at-pow_other, bit_at_above, bit_at-lt, same_from_bits}
 use Rattle.bidi_base.specs.declared.char_data.BidiClass.{BidiClass}
 use Rattle.bidi_base.specs.declared.char_data.BidiClass.TheVariants.{L, R, AL, EN, ES, ET, AN, CS, NSM, BN, B, S, WS, ON, LRE, LRO, RLE, RLO, PDF, LRI, RLI, FSI, PDI}
 use Rattle.bidi_base.specs.Classes.{class_number, same_class}
@@ -25,7 +25,7 @@ has_bit (suc (suc x)) y h k = absurd (omega arith)
 has_bit zero (suc (suc y)) h k = absurd (omega arith)
 has_bit (suc zero) (suc (suc y)) h k = absurd (omega arith)
 
-apart_eqb : (k j : ℕ) → k ≢ j → (k == j) ≡ false
+pub apart_eqb : (k j : ℕ) → k ≢ j → (k == j) ≡ false
 apart_eqb k j apart = elim (cases_Bool (k == j)) [ inl same ↦ absurd (apart (eqb-true k j same)) | inr other ↦ other ]
 
 one_bit : (k j : ℕ) → (bit_at (2 ^ k) j == 1) ≡ (k == j)
@@ -155,3 +155,35 @@ module _ (a b : ClassSet) (small : b.bits < 2 ^ 23) where
         ap not other ∙ sym some
     | inr none ↦ ap not (eq-eqb (bit_and a.bits b.bits) 0 (same_from_bits (bit_and a.bits b.bits) 0 (no_bit none))) ∙ sym none
   ]
+
+-- ---- two sets
+
+pub union_has : (a b : ClassSet) (c : BidiClass) → (bit_at (bit_or a.bits b.bits) (class_number c) == 1) ≡ (has a c || has b c)
+union_has a b c =
+    ap (λ n. n == 1) (bit_at_or a.bits b.bits (class_number c))
+    ∙ has_bit (bit_at a.bits (class_number c)) (bit_at b.bits (class_number c)) (bit_at-lt _ _) (bit_at-lt _ _)
+
+pub without_has : (a b : ClassSet) (c : BidiClass) → (bit_at (bit_xor a.bits (bit_and a.bits b.bits)) (class_number c) == 1) ≡ (has a c && not (has b c))
+without_has a b c =
+    let k = class_number c in
+    ap (λ n. n == 1) (bit_at_xor a.bits (bit_and a.bits b.bits) k ∙ ap (λ n. (bit_at a.bits k + n) % 2) (bit_at_and a.bits b.bits k))
+    ∙ no_bits (bit_at a.bits k) (bit_at b.bits k) (bit_at-lt _ _) (bit_at-lt _ _)
+  where
+    no_bits : (x y : ℕ) → x < 2 → y < 2 → ((x + min x y) % 2 == 1) ≡ ((x == 1) && not (y == 1))
+    no_bits zero y h k = let none : 0 + min 0 y ≡ 0 = omega arith in ap (λ n. n % 2 == 1) none
+    no_bits (suc zero) zero h k = refl
+    no_bits (suc zero) (suc zero) h k = refl
+    no_bits (suc (suc x)) y h k = absurd (omega arith)
+    no_bits (suc zero) (suc (suc y)) h k = absurd (omega arith)
+
+-- a class that is there already
+pub with-same : (set : ClassSet) (c : BidiClass) → has set c ≡ true → with set c ≡ set
+with-same set c there = λ i. record { bits = same_from_bits (bit_or set.bits (2 ^ class_number c)) set.bits (λ k. bit_at_or set.bits (2 ^ class_number c) k ∙ each k) i }
+  where
+    each : (k : ℕ) → max (bit_at set.bits k) (bit_at (2 ^ class_number c) k) ≡ bit_at set.bits k
+    each k = elim (cases_eq k (class_number c)) [
+      | inl here ↦
+          let one : bit_at set.bits k ≡ 1 = ap (bit_at set.bits) here ∙ eqb-true (bit_at set.bits (class_number c)) 1 there in
+          omega (arith, bit_at-lt (2 ^ class_number c) k)
+      | inr other ↦ let none : bit_at (2 ^ class_number c) k ≡ 0 = bit_at-pow_other (class_number c) k other in omega arith
+    ]

@@ -5,6 +5,7 @@ pub mod FilledUnits
 pub mod FlagsLemmas
 pub mod FlatPasses
 pub mod FoundLaws
+pub mod IdleClasses
 pub mod LevelPasses
 pub mod LineUnits
 pub mod LineText
@@ -16,4 +17,5 @@ pub mod SequencesInPlace
 pub mod StoredLine
 pub mod TextOfLine
 pub mod TextRead
+pub mod Undecided
 pub mod WrittenRuns

@@ -1,44 +1,51 @@
 -- What the walk over a text holds once n characters were read.
-use Rattle.std.proofs.Common.{◌≡◌, ℕ, ◌+◌, ◌<◌, ◌≤◌, Bool, true, false, ◌&&◌, List, [], ◌∷◌, ◌++◌, length, get_or, take, map, Option, Some, None, option_map, unwrap_or, refl, sym, ap, subst, ◌∙◌, arith, ◌⊎◌, inl, inr, append_assoc, length-append, length-take, ◌-◌}
+use Rattle.std.proofs.Common.{◌≡◌, ℕ, ◌+◌, ◌<◌, ◌≤◌, Bool, true, false, cond, ◌&&◌, List, [], ◌∷◌, ◌++◌, length, get_or, take, map, Option, Some, None, option_map, unwrap_or, refl, sym, ap, subst, ◌∙◌, arith, ◌⊎◌, inl, inr, append_assoc, length-append, length-take, ◌-◌}
 use Rattle.std.specs.Prelude.{All, replicate}
 use Rattle.std.specs.Option.{option_or}
 use Rattle.std.specs.declared.ops.Range.{Range}
-use Rattle.std.proofs.lemmas.List.{append-nil, map-append, length-map, take_more, take_all}
+use Rattle.std.proofs.lemmas.List.{append-nil, map-append, length-map, take_more, take_all, get_or-append-add, length-take-le}
 use Rattle.std.proofs.lemmas.Bool.{cases_Bool, both_ways, and_left, cond-true, cond-false}
 use Rattle.std.proofs.lemmas.List.Sums.{sum_by-append, sum_by-cons}
 use Rattle.std.proofs.lemmas.List.Concat.{flat_map-append}
-use Rattle.std.proofs.lemmas.List.Elements.{All-map}
 use Rattle.bidi_base.specs.declared.char_data.BidiClass.{BidiClass}
-use Rattle.bidi_base.specs.Classes.{is_paragraph_separator}
-use Rattle.bidi_base.specs.Isolates.{deciding_class, level_by, paragraph_level, stored_classes}
+use Rattle.bidi_base.specs.declared.char_data.BidiClass.TheVariants.{L}
+use Rattle.bidi_base.specs.Classes.{is_strong, is_paragraph_separator}
+use Rattle.bidi_base.specs.Isolates.{deciding_class, level_by, paragraph_level, resolved_fsi, stored_classes}
+use Rattle.bidi_base.specs.Places.{class_at}
 use Rattle.bidi_base.specs.Paragraphs.{pieces_of, paragraphs_of, each_separator, ranges_from}
-use Rattle.bidi_base.specs.Reading.{innermost, opened_by, decided_by, met_units, filled}
+use Rattle.bidi_base.specs.Reading.{innermost, decided_by, is_fsi, met_units, filled}
 use Rattle.bidi_base.specs.Source.{Source}
 use Rattle.bidi_base.specs.Stored.{text_classes, paragraph_levels}
 use Rattle.bidi_base.specs.Text.{place, text_len, per_unit}
-use Rattle.bidi_base.proofs.TextLemmas.{HasUnits}
-use Rattle.bidi_base.proofs.PerUnit.{per_unit-push}
+use Rattle.bidi_base.proofs.TextLemmas.{HasUnits, length-le-text_len}
+use Rattle.bidi_base.proofs.PerUnit.{per_unit-push, get_or-per_unit-place}
 use Rattle.bidi_base.proofs.PlaceLemmas.{place-le, place-end, place-lt, place-mono, place-more}
 use Rattle.bidi_base.proofs.ParagraphsLemmas.{joined, length-text_classes, IsCut, IsCut-start, IsCut-more, IsCut-stop, IsCut-last, IsCut-none, ranges_from-push}
-use Rattle.bidi_base.proofs.ReadingLemmas.{char_units, char_units-take, met_units-char, innermost-All, opened_by-map, decided_by-map}
-use Rattle.bidi_base.proofs.StoredSteps.{open_initiators, open_initiators-push, met_by, innermost-map, stored_classes-push, stored_classes-nil, length-stored_classes, length-met_by, open_initiators-below, deciding_class-push, deciding_class-nil}
-use Rattle.unicode_bidi.specs.declared.first_walk.Found.{Found}
+use Rattle.bidi_base.proofs.ReadingLemmas.{char_units, char_units-take, met_units-char, innermost-All}
+use Rattle.bidi_base.proofs.StoredSteps.{open_initiators, open_initiators-push, met_by, stored_classes-push, stored_classes-nil, length-stored_classes, length-met_by, open_initiators-below, deciding_class-push, deciding_class-nil}
 use Rattle.unicode_bidi.specs.declared.paragraph_flags.ParagraphFlags.{ParagraphFlags}
 use Rattle.unicode_bidi.specs.declared.first_walk.Reading.{Reading}
+use Rattle.unicode_bidi.specs.declared.first_walk.TextReading.{TextReading}
+use Rattle.unicode_bidi.specs.declared.first_walk.Undecided.{Undecided}
+use Rattle.unicode_bidi.specs.declared.paragraph_info.ParagraphInfo.{ParagraphInfo}
+use Rattle.unicode_bidi.specs.FirstWalk.{waiting, depth_after, undecided_after, deciding_after, classes_after, IsFresh, IsReadBy, IsClosed}
 use Rattle.unicode_bidi.specs.ParagraphInfo.{ranges_of, levels_of}
 use Rattle.unicode_bidi.specs.ParagraphFlags.{flags_of, with_class, paragraph_flags}
 use Rattle.unicode_bidi.proofs.FlagsLemmas.{with_classes-push}
-use Rattle.unicode_bidi.proofs.PutUnits.{take-filled-end, take-met_units}
+use Rattle.unicode_bidi.proofs.PutUnits.{take-filled, filled-append}
+use Rattle.unicode_bidi.proofs.Undecided.{undecided_from, waits_of, fsi_at, waiting-is, undecided-more, deciding-more, length-opened_by, open_initiators-few, All-undecided}
 
 pub take-turn : (chars : List ℕ) (n c : ℕ) → n < length chars → get_or chars n 0 ≡ c → take (n + 1) chars ≡ take n chars ++ c ∷ []
 take-turn chars n c within is_char = take_more chars n 0 within ∙ ap (λ (x : ℕ). take n chars ++ x ∷ []) is_char
 
--- a paragraph of which nothing is read
-pub record IsFresh (reading : Reading) (start : ℕ) : Type 0 where
-  pub here : reading.start ≡ start
-  pub under : reading.initiators.items ≡ []
-  pub deciding : reading.deciding ≡ None
-  pub turns : reading.flags ≡ flags_of []
+-- what the walk has seen: the classes of the units, and the paragraphs that ended
+pub record Seen : Type 0 where
+  pub units : List BidiClass
+  pub paragraphs : List ParagraphInfo
+  pub flags : List ParagraphFlags
+
+abbrev pub seen : List BidiClass → TextReading → Seen
+seen units walk = record { units = units; paragraphs = walk.paragraphs.items; flags = walk.flags.items }
 
 -- a character ends its paragraph
 abbrev pub stops : Source → Bool → ℕ → Bool
@@ -53,26 +60,27 @@ module _ (source : Source) (len_of : ℕ → ℕ) (chars : List ℕ) where
   units_after done q = char_units len_of chars (length (joined done) + q)
 
   -- `done` are the paragraphs that have ended, and `current` is the one that is read
-  pub record IsTextRead (base : Option ℕ) (n : ℕ) (done : List (List ℕ)) (current : List ℕ) (found : Found) (reading : Reading) : Type 0 where
+  pub record IsTextRead (base : Option ℕ) (n : ℕ) (done : List (List ℕ)) (current : List ℕ) (found : Seen) (reading : Reading) : Type 0 where
     pub whole : joined done ++ current ≡ take n chars
-    pub sized : length found.original_classes.items ≡ text_len len_of chars
-    pub classes : take (place len_of chars n) found.original_classes.items ≡ per_unit len_of (take n chars) (text_classes source done ++ stored_classes (classes_of current))
-    pub ranges : ranges_of found.paragraphs.items ≡ ranges_from len_of 0 done
-    pub levels : levels_of found.paragraphs.items ≡ paragraph_levels source base done
-    pub flags : found.flags.items ≡ paragraph_flags source done
+    pub sized : length found.units ≡ text_len len_of chars
+    pub classes : take (place len_of chars n) found.units ≡ per_unit len_of (take n chars) (text_classes source done ++ stored_classes (classes_of current))
+    pub ranges : ranges_of found.paragraphs ≡ ranges_from len_of 0 done
+    pub levels : levels_of found.paragraphs ≡ paragraph_levels source base done
+    pub flags : found.flags ≡ paragraph_flags source done
     pub start : reading.start ≡ text_len len_of (joined done)
-    pub under : reading.initiators.items ≡ map (units_after done) (open_initiators (classes_of current))
+    pub depth : reading.depth ≡ length (open_initiators (classes_of current))
+    pub undecided : reading.undecided.items ≡ undecided_from (units_after done) 0 (stored_classes (classes_of current)) (open_initiators (classes_of current))
     pub deciding : reading.deciding ≡ deciding_class (classes_of current)
     pub turns : reading.flags ≡ flags_of (classes_of current)
 
   -- and once all of them have ended
-  pub record IsTextDone (base : Option ℕ) (n : ℕ) (done : List (List ℕ)) (found : Found) : Type 0 where
+  pub record IsTextDone (base : Option ℕ) (n : ℕ) (done : List (List ℕ)) (found : Seen) : Type 0 where
     pub whole : joined done ≡ take n chars
-    pub sized : length found.original_classes.items ≡ text_len len_of chars
-    pub classes : take (place len_of chars n) found.original_classes.items ≡ per_unit len_of (take n chars) (text_classes source done)
-    pub ranges : ranges_of found.paragraphs.items ≡ ranges_from len_of 0 done
-    pub levels : levels_of found.paragraphs.items ≡ paragraph_levels source base done
-    pub flags : found.flags.items ≡ paragraph_flags source done
+    pub sized : length found.units ≡ text_len len_of chars
+    pub classes : take (place len_of chars n) found.units ≡ per_unit len_of (take n chars) (text_classes source done)
+    pub ranges : ranges_of found.paragraphs ≡ ranges_from len_of 0 done
+    pub levels : levels_of found.paragraphs ≡ paragraph_levels source base done
+    pub flags : found.flags ≡ paragraph_flags source done
 
   -- ---- pieces
 
@@ -94,7 +102,7 @@ module _ (source : Source) (len_of : ℕ → ℕ) (chars : List ℕ) where
 
   -- ---- the start
 
-  pub IsTextRead-start : (base : Option ℕ) (found : Found) (reading : Reading) → length found.original_classes.items ≡ text_len len_of chars → found.paragraphs.items ≡ [] → found.flags.items ≡ [] → IsFresh reading 0 → IsTextRead base 0 [] [] found reading
+  pub IsTextRead-start : (base : Option ℕ) (found : Seen) (reading : Reading) → length found.units ≡ text_len len_of chars → found.paragraphs ≡ [] → found.flags ≡ [] → IsFresh reading 0 → IsTextRead base 0 [] [] found reading
   unfolding text_classes paragraph_levels paragraph_flags
   IsTextRead-start base found reading sized no_paragraphs no_flags fresh = record {
     whole = refl;
@@ -104,14 +112,15 @@ module _ (source : Source) (len_of : ℕ → ℕ) (chars : List ℕ) where
     levels = ap levels_of no_paragraphs;
     flags = no_flags;
     start = fresh.here;
-    under = fresh.under;
+    depth = fresh.depth;
+    undecided = fresh.undecided;
     deciding = fresh.deciding ∙ sym deciding_class-nil;
     turns = fresh.turns;
   }
 
   -- ---- the end of a paragraph
 
-  module _ (base : Option ℕ) (n : ℕ) (done : List (List ℕ)) (current : List ℕ) (found : Found) (reading : Reading) (h : IsTextRead base n done current found reading) where
+  module _ (base : Option ℕ) (n : ℕ) (done : List (List ℕ)) (current : List ℕ) (found : Seen) (reading : Reading) (h : IsTextRead base n done current found reading) where
     -- where it is read to
     read_to : place len_of chars n ≡ text_len len_of (joined done) + text_len len_of current
     read_to = ap (text_len len_of) (sym h.whole) ∙ sum_by-append len_of (joined done) current
@@ -134,27 +143,25 @@ module _ (source : Source) (len_of : ℕ → ℕ) (chars : List ℕ) where
         none [] e = refl
         none (c ∷ cs) e = absurd (omega (arith, h.start, sum_by-cons len_of c cs, units c))
 
-    pub IsTextDone-close : (closed : Found) (end : ℕ) → end ≡ place len_of chars n → closed.original_classes.items ≡ found.original_classes.items
-        → ranges_of closed.paragraphs.items ≡ ranges_of found.paragraphs.items ++ (reading.start, end) ∷ []
-        → levels_of closed.paragraphs.items ≡ levels_of found.paragraphs.items ++ unwrap_or base (level_by reading.deciding) ∷ []
-        → closed.flags.items ≡ found.flags.items ++ reading.flags ∷ [] → IsTextDone base n (done ++ current ∷ []) closed
-    IsTextDone-close closed end here same ranges levels flags = record {
+    pub IsTextDone-close : (closed : Seen) (end : ℕ) → end ≡ place len_of chars n → closed.units ≡ found.units
+        → IsClosed base reading end found.paragraphs found.flags closed.paragraphs closed.flags → IsTextDone base n (done ++ current ∷ []) closed
+    IsTextDone-close closed end here same ended = record {
       whole = joined-push done current ∙ h.whole;
       sized = ap length same ∙ h.sized;
       classes = ap (take (place len_of chars n)) same ∙ h.classes ∙ ap (per_unit len_of (take n chars)) (sym (text_classes-push done current));
       ranges =
           let front : 0 + text_len len_of (joined done) ≡ text_len len_of (joined done) = omega arith in
-          ranges ∙ ap (λ (rs : List (ℕ × ℕ)). rs ++ (reading.start, end) ∷ []) h.ranges
+          ended.ranges ∙ ap (λ (rs : List (ℕ × ℕ)). rs ++ (reading.start, end) ∷ []) h.ranges
           ∙ ap (λ (a : ℕ). ranges_from len_of 0 done ++ (a, end) ∷ []) (h.start ∙ sym front)
           ∙ ap (λ (b : ℕ). ranges_from len_of 0 done ++ (0 + text_len len_of (joined done), b) ∷ []) (here ∙ read_to ∙ ap (λ (a : ℕ). a + text_len len_of current) (sym front))
           ∙ sym (ranges_from-push len_of 0 done current);
       levels =
-          levels ∙ ap (λ (ls : List ℕ). ls ++ unwrap_or base (level_by reading.deciding) ∷ []) h.levels
+          ended.levels ∙ ap (λ (ls : List ℕ). ls ++ unwrap_or base (level_by reading.deciding) ∷ []) h.levels
           ∙ ap (λ (d : Option BidiClass). paragraph_levels source base done ++ unwrap_or base (level_by d) ∷ []) h.deciding ∙ sym (paragraph_levels-push base done current);
-      flags = flags ∙ ap (λ (fs : List ParagraphFlags). fs ++ reading.flags ∷ []) h.flags ∙ ap (λ (f : ParagraphFlags). paragraph_flags source done ++ f ∷ []) h.turns ∙ sym (paragraph_flags-push done current);
+      flags = ended.flags ∙ ap (λ (fs : List ParagraphFlags). fs ++ reading.flags ∷ []) h.flags ∙ ap (λ (f : ParagraphFlags). paragraph_flags source done ++ f ∷ []) h.turns ∙ sym (paragraph_flags-push done current);
     }
 
-  pub IsTextDone-none : (base : Option ℕ) (n : ℕ) (done : List (List ℕ)) (current : List ℕ) (found : Found) (reading : Reading) → current ≡ [] → IsTextRead base n done current found reading → IsTextDone base n done found
+  pub IsTextDone-none : (base : Option ℕ) (n : ℕ) (done : List (List ℕ)) (current : List ℕ) (found : Seen) (reading : Reading) → current ≡ [] → IsTextRead base n done current found reading → IsTextDone base n done found
   IsTextDone-none base n done current found reading none h = record {
     whole = sym (append-nil (joined done)) ∙ ap (λ (cs : List ℕ). joined done ++ cs) (sym none) ∙ h.whole;
     sized = h.sized;
@@ -167,7 +174,7 @@ module _ (source : Source) (len_of : ℕ → ℕ) (chars : List ℕ) where
   }
 
   -- the next paragraph begins
-  pub IsTextRead-next : (base : Option ℕ) (n : ℕ) (done : List (List ℕ)) (found : Found) (reading : Reading) → IsTextDone base n done found → IsFresh reading (place len_of chars n) → IsTextRead base n done [] found reading
+  pub IsTextRead-next : (base : Option ℕ) (n : ℕ) (done : List (List ℕ)) (found : Seen) (reading : Reading) → IsTextDone base n done found → IsFresh reading (place len_of chars n) → IsTextRead base n done [] found reading
   IsTextRead-next base n done found reading h fresh = record {
     whole = append-nil (joined done) ∙ h.whole;
     sized = h.sized;
@@ -176,28 +183,44 @@ module _ (source : Source) (len_of : ℕ → ℕ) (chars : List ℕ) where
     levels = h.levels;
     flags = h.flags;
     start = fresh.here ∙ ap (text_len len_of) (sym h.whole);
-    under = fresh.under;
+    depth = fresh.depth;
+    undecided = fresh.undecided;
     deciding = fresh.deciding ∙ sym deciding_class-nil;
     turns = fresh.turns;
   }
 
   -- ---- one more character
 
-  module _ (units : HasUnits len_of) (base : Option ℕ) (n : ℕ) (done : List (List ℕ)) (current : List ℕ) (found : Found) (reading : Reading) (within : n < length chars) (h : IsTextRead base n done current found reading) where
+  module _ (units : HasUnits len_of) (base : Option ℕ) (n : ℕ) (done : List (List ℕ)) (current : List ℕ) (found : Seen) (reading : Reading) (within : n < length chars) (h : IsTextRead base n done current found reading) where
     long : length (joined done) + length current ≡ n
     long = omega (arith, length-append (joined done) current, ap length h.whole, length-take n chars)
 
     -- the open initiators stand among the units read
-    pub open_within : All (λ (r : Range ℕ). (r.start < r.end) × (r.end ≤ length found.original_classes.items)) reading.initiators.items
+    units_within : (q : ℕ) → q < length (classes_of current) → ((units_after done q).start < (units_after done q).end) × ((units_after done q).end ≤ place len_of chars n)
+    units_within q below =
+        let index : length (joined done) + q < n = omega (arith, long, length-map current source.class_of) in
+        (place-lt len_of chars units (length (joined done) + q) (length (joined done) + q + 1) (omega arith) (omega arith), place-mono len_of chars (length (joined done) + q + 1) n (omega arith))
+
+    pub open_within : All (λ (u : Undecided). (u.units.start ≤ u.units.end) × (u.units.end ≤ length found.units)) reading.undecided.items
     open_within =
-        subst (All (λ (r : Range ℕ). (r.start < r.end) × (r.end ≤ length found.original_classes.items))) (sym h.under)
-        (All-map (λ (r : Range ℕ). (r.start < r.end) × (r.end ≤ length found.original_classes.items)) (units_after done) (open_initiators (classes_of current))
-        (λ k d inside. one (get_or (open_initiators (classes_of current)) k d) (open_initiators-below (classes_of current) k d inside)))
+        subst (All (λ (u : Undecided). (u.units.start ≤ u.units.end) × (u.units.end ≤ length found.units))) (sym h.undecided)
+        (All-undecided (λ (u : Undecided). (u.units.start ≤ u.units.end) × (u.units.end ≤ length found.units)) (units_after done) 0 (stored_classes (classes_of current)) (open_initiators (classes_of current))
+        (λ k d inside depth.
+        let w = units_within (get_or (open_initiators (classes_of current)) k d) (open_initiators-below (classes_of current) k d inside) in
+        (omega (arith, w.0), omega (arith, w.1, h.sized, place-le len_of chars n))))
+
+    -- where none is open, none is undecided
+    pub undecided-none : reading.depth ≡ 0 → reading.undecided.items ≡ []
+    undecided-none none = h.undecided ∙ ap (undecided_from (units_after done) 0 (stored_classes (classes_of current))) (nothing (open_initiators (classes_of current)) (sym h.depth ∙ none))
       where
-        one : (q : ℕ) → q < length (classes_of current) → (place len_of chars (length (joined done) + q) < place len_of chars (length (joined done) + q + 1)) × (place len_of chars (length (joined done) + q + 1) ≤ length found.original_classes.items)
-        one q below =
-            let index : length (joined done) + q < n = omega (arith, long, length-map current source.class_of) in
-            (place-lt len_of chars units (length (joined done) + q) (length (joined done) + q + 1) (omega arith) (omega arith), omega (arith, h.sized, place-le len_of chars (length (joined done) + q + 1)))
+        nothing : (qs : List ℕ) → length qs ≡ 0 → qs ≡ []
+        nothing [] e = refl
+        nothing (q ∷ qs) e = absurd (omega arith)
+
+    -- and there are no more of them than units
+    pub depth-le : reading.depth ≤ place len_of chars n
+    depth-le =
+        omega (arith, h.depth, open_initiators-few (classes_of current), length-map current source.class_of, long, length-take n chars, length-le-text_len len_of units (take n chars))
 
     module _ (c : ℕ) (is_char : get_or chars n 0 ≡ c) (class : BidiClass) (is_class : class ≡ source.class_of c) where
       read_more : take (n + 1) chars ≡ take n chars ++ c ∷ []
@@ -206,77 +229,153 @@ module _ (source : Source) (len_of : ℕ → ℕ) (chars : List ℕ) where
       classes_more : classes_of (current ++ c ∷ []) ≡ classes_of current ++ class ∷ []
       classes_more = map-append source.class_of current (c ∷ []) ∙ ap (λ (x : BidiClass). classes_of current ++ x ∷ []) (sym is_class)
 
-      -- what the innermost open isolate makes of the units before it
-      met : (o : Option ℕ) → innermost (open_initiators (classes_of current)) ≡ o
-          → take (place len_of chars n) (met_units class (option_map (units_after done) o) found.original_classes.items) ≡ per_unit len_of (take n chars) (text_classes source done ++ met_by class o (stored_classes (classes_of current)))
+      abbrev so_far : List BidiClass
+      so_far = classes_of current
+
+      abbrev values : List BidiClass
+      values = text_classes source done ++ stored_classes so_far
+
+      -- the units before it, which are read
+      abbrev read_units : List BidiClass
+      read_units = take (place len_of chars n) found.units
+
+      index-below : (q : ℕ) → innermost (open_initiators so_far) ≡ Some q → q < length so_far
+      index-below q e = innermost-All (λ (q : ℕ). q < length so_far) (open_initiators so_far) q (open_initiators-below so_far) e
+
+      units_taken : (q : ℕ) → q < length so_far → char_units len_of (take n chars) (length (text_classes source done) + q) ≡ units_after done q
+      units_taken q below =
+          let index : length (joined done) + q < n = omega (arith, long, length-map current source.class_of) in
+          ap (λ (m : ℕ). char_units len_of (take n chars) (m + q)) (length-text_classes source done) ∙ char_units-take len_of chars n (length (joined done) + q) index
+
+      stored_below : (q : ℕ) → q < length so_far → q < length (stored_classes so_far)
+      stored_below q below = omega (arith, below, length-stored_classes so_far)
+
+      whole_long : length (text_classes source done) + length (stored_classes so_far) ≡ length (take n chars)
+      whole_long = omega (arith, length-text_classes source done, length-stored_classes so_far, length-map current source.class_of, long, length-take n chars)
+
+      -- the class at an initiator
+      class-at : (q : ℕ) → q < length so_far → class_at read_units (units_after done q).start ≡ class_at (stored_classes so_far) q
+      class-at q below =
+          ap (λ (us : List BidiClass). class_at us (units_after done q).start) h.classes
+          ∙ ap (λ (r : Range ℕ). class_at (per_unit len_of (take n chars) values) r.start) (sym (units_taken q below))
+          ∙ get_or-per_unit-place len_of units (take n chars) values (length (text_classes source done) + q) L (omega (arith, length-append (text_classes source done) (stored_classes so_far), whole_long)) (omega (arith, stored_below q below, whole_long))
+          ∙ get_or-append-add (text_classes source done) (stored_classes so_far) q L
+
+      -- what the innermost open isolate makes of them
+      met : (o : Option ℕ) → innermost (open_initiators so_far) ≡ o
+          → met_units class (option_map (units_after done) o) read_units ≡ per_unit len_of (take n chars) (text_classes source done ++ met_by class o (stored_classes so_far))
       met None e = h.classes
       met (Some q) e =
-          let below : q < length (classes_of current) = innermost-All (λ (q : ℕ). q < length (classes_of current)) (open_initiators (classes_of current)) q (open_initiators-below (classes_of current)) e in
-          let index : length (joined done) + q < n = omega (arith, long, length-map current source.class_of) in
-          take-met_units class (units_after done q) found.original_classes.items (place len_of chars n)
-          (place-lt len_of chars units (length (joined done) + q) (length (joined done) + q + 1) (omega arith) (omega arith)) (place-mono len_of chars (length (joined done) + q + 1) n (omega arith)) (omega (arith, h.sized, place-le len_of chars n))
-          ∙ ap (met_units class (Some (units_after done q))) h.classes
-          ∙ ap (λ (r : Range ℕ). met_units class (Some r) (per_unit len_of (take n chars) (text_classes source done ++ stored_classes (classes_of current))))
-          (sym (char_units-take len_of chars n (length (joined done) + q) index) ∙ ap (λ (m : ℕ). char_units len_of (take n chars) (m + q)) (sym (length-text_classes source done)))
-          ∙ met_units-char len_of units (take n chars) (text_classes source done) (stored_classes (classes_of current)) class q
-          (omega (arith, length-text_classes source done, length-stored_classes (classes_of current), length-map current source.class_of, long, length-take n chars)) (omega (arith, below, length-stored_classes (classes_of current)))
+          let below : q < length so_far = index-below q e in
+          ap (met_units class (Some (units_after done q))) h.classes
+          ∙ ap (λ (r : Range ℕ). met_units class (Some r) (per_unit len_of (take n chars) values)) (sym (units_taken q below))
+          ∙ met_units-char len_of units (take n chars) (text_classes source done) (stored_classes so_far) class q whole_long (stored_below q below)
 
-      pub IsTextRead-more : (changed : List BidiClass) (range : Range ℕ) (longer : Found) (after : Reading) → range ≡ char_units len_of chars n → changed ≡ met_units class (innermost reading.initiators.items) found.original_classes.items
-          → longer.original_classes.items ≡ filled range class changed → length changed ≡ length found.original_classes.items → length longer.original_classes.items ≡ length changed → longer.paragraphs.items ≡ found.paragraphs.items → longer.flags.items ≡ found.flags.items
-          → after.start ≡ reading.start → after.initiators.items ≡ opened_by class range reading.initiators.items → after.deciding ≡ option_or reading.deciding (decided_by class reading.initiators.items)
-          → after.flags ≡ with_class reading.flags class
-          → IsTextRead base (n + 1) done (current ++ c ∷ []) longer after
-      IsTextRead-more changed range longer after is_range is_changed is_longer changed_length same_length same_paragraphs same_flags same_start is_open is_deciding is_flags = record {
-        whole = sym (append_assoc (joined done) current (c ∷ [])) ∙ ap (λ (cs : List ℕ). cs ++ c ∷ []) h.whole ∙ sym read_more;
-        sized = same_length ∙ changed_length ∙ h.sized;
-        classes =
-            written
-            ∙ ap (λ (us : List BidiClass). us ++ replicate (len_of c) class) (ap (λ (o : Option (Range ℕ)). take (place len_of chars n) (met_units class o found.original_classes.items)) (ap innermost h.under ∙ innermost-map (units_after done) (open_initiators (classes_of current))) ∙ met (innermost (open_initiators (classes_of current))) refl)
-            ∙ sym (per_unit-push len_of (take n chars) (text_classes source done ++ met_by class (innermost (open_initiators (classes_of current))) (stored_classes (classes_of current))) c class values_long)
-            ∙ ap (per_unit len_of (take n chars ++ c ∷ [])) (append_assoc (text_classes source done) (met_by class (innermost (open_initiators (classes_of current))) (stored_classes (classes_of current))) (class ∷ []) ∙ ap (λ (cs : List BidiClass). text_classes source done ++ cs) (sym (stored_classes-push (classes_of current) class) ∙ ap stored_classes (sym classes_more)))
-            ∙ ap (λ (cs : List ℕ). per_unit len_of cs (text_classes source done ++ stored_classes (classes_of (current ++ c ∷ [])))) (sym read_more);
-        ranges = ap ranges_of same_paragraphs ∙ h.ranges;
-        levels = ap levels_of same_paragraphs ∙ h.levels;
-        flags = same_flags ∙ h.flags;
-        start = same_start ∙ h.start;
-        under =
-            is_open ∙ ap (λ (rs : List (Range ℕ)). opened_by class range rs) h.under ∙ ap (λ (r : Range ℕ). opened_by class r (map (units_after done) (open_initiators (classes_of current)))) (is_range ∙ ap (char_units len_of chars) last)
-            ∙ opened_by-map (units_after done) class (length (classes_of current)) (open_initiators (classes_of current))
-            ∙ ap (map (units_after done)) (sym (open_initiators-push (classes_of current) class) ∙ ap open_initiators (sym classes_more));
-        deciding =
-            is_deciding ∙ ap (λ (rs : List (Range ℕ)). option_or reading.deciding (decided_by class rs)) h.under ∙ ap (option_or reading.deciding) (decided_by-map (units_after done) class (open_initiators (classes_of current)))
-            ∙ ap (λ (o : Option BidiClass). option_or o (decided_by class (open_initiators (classes_of current)))) h.deciding ∙ sym (deciding_class-push (classes_of current) class) ∙ ap deciding_class (sym classes_more);
-        turns =
-            is_flags ∙ ap (λ (f : ParagraphFlags). with_class f class) h.turns
-            ∙ sym (with_classes-push (flags_of []) (classes_of current) class) ∙ ap flags_of (sym classes_more);
-      }
-        where
-          -- the units up to those of the character
-          written : take (place len_of chars (n + 1)) longer.original_classes.items ≡ take (place len_of chars n) (met_units class (innermost reading.initiators.items) found.original_classes.items) ++ replicate (len_of c) class
-          written =
-              let wide : place len_of chars (n + 1) - place len_of chars n ≡ len_of c = omega (arith, place-more len_of chars n 0 within, ap len_of is_char) in
-              ap (take (place len_of chars (n + 1))) (is_longer ∙ ap (λ (r : Range ℕ). filled r class changed) is_range)
-              ∙ take-filled-end (char_units len_of chars n) class changed (place-mono len_of chars n (n + 1) (omega arith)) (omega (arith, changed_length, h.sized, place-le len_of chars (n + 1)))
-              ∙ ap (λ (m : ℕ). take (place len_of chars n) changed ++ replicate m class) wide
-              ∙ ap (λ (us : List BidiClass). take (place len_of chars n) us ++ replicate (len_of c) class) is_changed
+      -- its units, as they are written
+      pub drawn-is : (drawn : List BidiClass) (from to : ℕ) → from ≡ place len_of chars n → to ≡ place len_of chars (n + 1) → take to drawn ≡ take from found.units ++ replicate (to - from) class
+          → take (place len_of chars (n + 1)) drawn ≡ read_units ++ replicate (len_of c) class
+      drawn-is drawn from to from_is to_is written =
+          let wide : to - from ≡ len_of c = omega (arith, from_is, to_is, place-more len_of chars n 0 within, ap len_of is_char) in
+          ap (λ (m : ℕ). take m drawn) (sym to_is) ∙ written ∙ ap (λ (m : ℕ). take m found.units ++ replicate (to - from) class) from_is
+          ∙ ap (λ (m : ℕ). read_units ++ replicate m class) wide
 
-          values_long : length (text_classes source done ++ met_by class (innermost (open_initiators (classes_of current))) (stored_classes (classes_of current))) ≡ length (take n chars)
-          values_long =
-              omega (arith, length-append (text_classes source done) (met_by class (innermost (open_initiators (classes_of current))) (stored_classes (classes_of current))), length-text_classes source done, length-met_by class (innermost (open_initiators (classes_of current))) (stored_classes (classes_of current)), length-stored_classes (classes_of current), length-map current source.class_of, long, length-take n chars)
+      -- once the units of the character are written
+      module _ (drawn : List BidiClass) (drawn_is : take (place len_of chars (n + 1)) drawn ≡ read_units ++ replicate (len_of c) class) (drawn_long : length drawn ≡ length found.units) where
+        abbrev row : List BidiClass
+        row = replicate (len_of c) class
 
-          last : n ≡ length (joined done) + length (classes_of current)
-          last = omega (arith, long, length-map current source.class_of)
+        -- what the one that waits takes stays before them
+        take-after : (u : Undecided) → u.units.start < u.units.end → u.units.end ≤ place len_of chars n
+            → take (place len_of chars (n + 1)) (classes_after class (Some u) drawn) ≡ classes_after class (Some u) read_units ++ row
+        take-after u some fits = by_test (is_strong class)
+          where
+            by_test : (b : Bool) → take (place len_of chars (n + 1)) (cond b (filled u.units (resolved_fsi (Some class)) drawn) drawn) ≡ cond b (filled u.units (resolved_fsi (Some class)) read_units) read_units ++ row
+            by_test true =
+                take-filled u.units (resolved_fsi (Some class)) drawn (omega arith) (place len_of chars (n + 1)) (omega (arith, place-mono len_of chars n (n + 1) (omega arith))) (omega (arith, drawn_long, h.sized, place-le len_of chars (n + 1)))
+                ∙ ap (filled u.units (resolved_fsi (Some class))) drawn_is
+                ∙ filled-append u.units (resolved_fsi (Some class)) read_units row (omega arith) (omega (arith, fits, length-take-le (place len_of chars n) found.units (omega (arith, h.sized, place-le len_of chars n))))
+            by_test false = drawn_is
+
+        after : (o : Option ℕ) → innermost (open_initiators so_far) ≡ o
+            → take (place len_of chars (n + 1)) (classes_after class (waits_of (units_after done) so_far class o) drawn) ≡ per_unit len_of (take n chars) (text_classes source done ++ met_by class o (stored_classes so_far)) ++ row
+        after None e = drawn_is ∙ ap (λ (us : List BidiClass). us ++ row) (met None e)
+        after (Some q) e =
+            let below : q < length so_far = index-below q e in
+            let w = units_within q below in
+            let u : Undecided = fsi_at (units_after done) so_far class q in
+            let fsi_is : is_fsi (class_at read_units (units_after done q).start) ≡ is_fsi (class_at (stored_classes so_far) q) = ap is_fsi (class-at q below) in
+            elim (cases_Bool (is_fsi (class_at (stored_classes so_far) q))) [
+              | inl fsi ↦
+                  ap (λ (o : Option Undecided). take (place len_of chars (n + 1)) (classes_after class o drawn)) (cond-true (is_fsi (class_at (stored_classes so_far) q)) (Some u) None fsi)
+                  ∙ take-after u w.0 w.1
+                  ∙ ap (λ (us : List BidiClass). us ++ row)
+                  (ap (λ (us : List BidiClass). cond (is_strong class) us read_units) (sym (cond-true (is_fsi (class_at read_units (units_after done q).start)) (filled (units_after done q) (resolved_fsi (Some class)) read_units) read_units (fsi_is ∙ fsi)))
+                  ∙ met (Some q) e)
+              | inr other ↦
+                  ap (λ (o : Option Undecided). take (place len_of chars (n + 1)) (classes_after class o drawn)) (cond-false (is_fsi (class_at (stored_classes so_far) q)) (Some u) None other)
+                  ∙ drawn_is
+                  ∙ ap (λ (us : List BidiClass). us ++ row)
+                  (sym (ap (λ (us : List BidiClass). cond (is_strong class) us read_units) (cond-false (is_fsi (class_at read_units (units_after done q).start)) (filled (units_after done q) (resolved_fsi (Some class)) read_units) read_units (fsi_is ∙ other))
+                  ∙ cond_same (is_strong class))
+                  ∙ met (Some q) e)
+            ]
+          where
+            cond_same : (b : Bool) → cond b read_units read_units ≡ read_units
+            cond_same true = refl
+            cond_same false = refl
+
+        waits : waiting reading.depth reading.undecided.items ≡ waits_of (units_after done) so_far class (innermost (open_initiators so_far))
+        waits =
+            ap (λ d. waiting d reading.undecided.items) h.depth ∙ ap (waiting (length (open_initiators so_far))) h.undecided
+            ∙ waiting-is (units_after done) so_far class (innermost (open_initiators so_far)) refl
+
+        pub IsTextRead-more : (range : Range ℕ) (longer : Seen) (after : Reading) → range ≡ char_units len_of chars n → longer.units ≡ classes_after class (waiting reading.depth reading.undecided.items) drawn
+            → length longer.units ≡ length found.units → longer.paragraphs ≡ found.paragraphs → longer.flags ≡ found.flags → IsReadBy class range reading after → IsTextRead base (n + 1) done (current ++ c ∷ []) longer after
+        IsTextRead-more range longer new is_range is_longer same_length same_paragraphs same_flags read = record {
+          whole = sym (append_assoc (joined done) current (c ∷ [])) ∙ ap (λ (cs : List ℕ). cs ++ c ∷ []) h.whole ∙ sym read_more;
+          sized = same_length ∙ h.sized;
+          classes =
+              ap (take (place len_of chars (n + 1))) (is_longer ∙ ap (λ (o : Option Undecided). classes_after class o drawn) waits) ∙ after (innermost (open_initiators so_far)) refl
+              ∙ sym (per_unit-push len_of (take n chars) (text_classes source done ++ met_by class (innermost (open_initiators so_far)) (stored_classes so_far)) c class values_long)
+              ∙ ap (per_unit len_of (take n chars ++ c ∷ [])) (append_assoc (text_classes source done) (met_by class (innermost (open_initiators so_far)) (stored_classes so_far)) (class ∷ []) ∙ ap (λ (cs : List BidiClass). text_classes source done ++ cs) (sym (stored_classes-push so_far class) ∙ ap stored_classes (sym classes_more)))
+              ∙ ap (λ (cs : List ℕ). per_unit len_of cs (text_classes source done ++ stored_classes (classes_of (current ++ c ∷ [])))) (sym read_more);
+          ranges = ap ranges_of same_paragraphs ∙ h.ranges;
+          levels = ap levels_of same_paragraphs ∙ h.levels;
+          flags = same_flags ∙ h.flags;
+          start = read.start ∙ h.start;
+          depth =
+              read.depth ∙ ap (depth_after class) h.depth ∙ sym (length-opened_by class (length so_far) (open_initiators so_far))
+              ∙ ap length (sym (open_initiators-push so_far class) ∙ ap open_initiators (sym classes_more));
+          undecided =
+              read.undecided ∙ ap (λ d. undecided_after class range d reading.undecided.items) h.depth ∙ ap (undecided_after class range (length (open_initiators so_far))) h.undecided
+              ∙ ap (λ (r : Range ℕ). undecided_after class r (length (open_initiators so_far)) (undecided_from (units_after done) 0 (stored_classes so_far) (open_initiators so_far))) (is_range ∙ ap (char_units len_of chars) last)
+              ∙ sym (undecided-more (units_after done) so_far class)
+              ∙ ap (λ (cs : List BidiClass). undecided_from (units_after done) 0 (stored_classes cs) (open_initiators cs)) (sym classes_more);
+          deciding =
+              read.deciding ∙ ap (λ d. deciding_after class d reading.deciding) h.depth ∙ sym (deciding-more (units_after done) so_far class reading.deciding)
+              ∙ ap (λ (o : Option BidiClass). option_or o (decided_by class (open_initiators so_far))) h.deciding ∙ sym (deciding_class-push so_far class) ∙ ap deciding_class (sym classes_more);
+          turns =
+              read.turns ∙ ap (λ (f : ParagraphFlags). with_class f class) h.turns
+              ∙ sym (with_classes-push (flags_of []) so_far class) ∙ ap flags_of (sym classes_more);
+        }
+          where
+            values_long : length (text_classes source done ++ met_by class (innermost (open_initiators so_far)) (stored_classes so_far)) ≡ length (take n chars)
+            values_long =
+                omega (arith, length-append (text_classes source done) (met_by class (innermost (open_initiators so_far)) (stored_classes so_far)), length-met_by class (innermost (open_initiators so_far)) (stored_classes so_far), whole_long)
+
+            last : n ≡ length (joined done) + length so_far
+            last = omega (arith, long, length-map current source.class_of)
 
   -- ---- the whole walk
 
-  pub record IsRead (split : Bool) (base : Option ℕ) (n : ℕ) (found : Found) (reading : Reading) : Type 0 where
+  pub record IsRead (split : Bool) (base : Option ℕ) (n : ℕ) (found : Seen) (reading : Reading) : Type 0 where
     pub done : List (List ℕ)
     pub current : List ℕ
     pub cut : IsCut (stops source split) (take n chars) done current
     pub one : split ≡ false → done ≡ []
     pub read : IsTextRead base n done current found reading
 
-  pub IsRead-start : (split : Bool) (base : Option ℕ) (found : Found) (reading : Reading) → length found.original_classes.items ≡ text_len len_of chars → found.paragraphs.items ≡ [] → found.flags.items ≡ [] → IsFresh reading 0 → IsRead split base 0 found reading
+  pub IsRead-start : (split : Bool) (base : Option ℕ) (found : Seen) (reading : Reading) → length found.units ≡ text_len len_of chars → found.paragraphs ≡ [] → found.flags ≡ [] → IsFresh reading 0 → IsRead split base 0 found reading
   IsRead-start split base found reading sized no_paragraphs no_flags fresh = record {
     done = [];
     current = [];
@@ -286,7 +385,7 @@ module _ (source : Source) (len_of : ℕ → ℕ) (chars : List ℕ) where
   }
 
   -- the paragraph goes on
-  pub IsRead-on : (split : Bool) (base : Option ℕ) (n c : ℕ) (found : Found) (reading : Reading) (longer : Found) (after : Reading) (h : IsRead split base n found reading) → take (n + 1) chars ≡ take n chars ++ c ∷ []
+  pub IsRead-on : (split : Bool) (base : Option ℕ) (n c : ℕ) (found : Seen) (reading : Reading) (longer : Seen) (after : Reading) (h : IsRead split base n found reading) → take (n + 1) chars ≡ take n chars ++ c ∷ []
       → IsTextRead base (n + 1) h.done (h.current ++ c ∷ []) longer after → stops source split c ≡ false → IsRead split base (n + 1) longer after
   IsRead-on split base n c found reading longer after h more read on = record {
     done = h.done;
@@ -297,7 +396,7 @@ module _ (source : Source) (len_of : ℕ → ℕ) (chars : List ℕ) where
   }
 
   -- or it ends, and the next one begins
-  pub IsRead-stop : (split : Bool) (base : Option ℕ) (n c : ℕ) (found : Found) (reading : Reading) (closed : Found) (after : Reading) (h : IsRead split base n found reading) → take (n + 1) chars ≡ take n chars ++ c ∷ []
+  pub IsRead-stop : (split : Bool) (base : Option ℕ) (n c : ℕ) (found : Seen) (reading : Reading) (closed : Seen) (after : Reading) (h : IsRead split base n found reading) → take (n + 1) chars ≡ take n chars ++ c ∷ []
       → IsTextDone base (n + 1) (h.done ++ (h.current ++ c ∷ []) ∷ []) closed → IsFresh after (place len_of chars (n + 1)) → stops source split c ≡ true → IsRead split base (n + 1) closed after
   IsRead-stop split base n c found reading closed after h more ended fresh stop = record {
     done = h.done ++ (h.current ++ c ∷ []) ∷ [];
@@ -308,7 +407,7 @@ module _ (source : Source) (len_of : ℕ → ℕ) (chars : List ℕ) where
   }
 
   -- at the end of the text, what is left is the last paragraph
-  module _ (units : HasUnits len_of) (split : Bool) (base : Option ℕ) (n : ℕ) (found : Found) (reading : Reading) (all : n ≡ length chars) (h : IsRead split base n found reading) where
+  module _ (units : HasUnits len_of) (split : Bool) (base : Option ℕ) (n : ℕ) (found : Seen) (reading : Reading) (all : n ≡ length chars) (h : IsRead split base n found reading) where
     whole_text : take n chars ≡ chars
     whole_text = take_all n chars (omega arith)
 
@@ -339,18 +438,18 @@ module _ (source : Source) (len_of : ℕ → ℕ) (chars : List ℕ) where
 
   -- ---- what the walk answers
 
-  pub record IsAnswer (split : Bool) (base : Option ℕ) (found : Found) : Type 0 where
-    pub classes : found.original_classes.items ≡ per_unit len_of chars (text_classes source (pieces_of split source chars))
-    pub ranges : ranges_of found.paragraphs.items ≡ ranges_from len_of 0 (pieces_of split source chars)
-    pub levels : levels_of found.paragraphs.items ≡ paragraph_levels source base (pieces_of split source chars)
-    pub flags : found.flags.items ≡ paragraph_flags source (pieces_of split source chars)
+  pub record IsAnswer (split : Bool) (base : Option ℕ) (found : Seen) : Type 0 where
+    pub classes : found.units ≡ per_unit len_of chars (text_classes source (pieces_of split source chars))
+    pub ranges : ranges_of found.paragraphs ≡ ranges_from len_of 0 (pieces_of split source chars)
+    pub levels : levels_of found.paragraphs ≡ paragraph_levels source base (pieces_of split source chars)
+    pub flags : found.flags ≡ paragraph_flags source (pieces_of split source chars)
 
-  pub IsTextDone-answer : (split : Bool) (base : Option ℕ) (n : ℕ) (done : List (List ℕ)) (found : Found) → n ≡ length chars → done ≡ pieces_of split source chars → IsTextDone base n done found → IsAnswer split base found
+  pub IsTextDone-answer : (split : Bool) (base : Option ℕ) (n : ℕ) (done : List (List ℕ)) (found : Seen) → n ≡ length chars → done ≡ pieces_of split source chars → IsTextDone base n done found → IsAnswer split base found
   IsTextDone-answer split base n done found all is h =
       let last : IsTextDone base n (pieces_of split source chars) found = subst (λ (ps : List (List ℕ)). IsTextDone base n ps found) is h in
       record {
         classes =
-            sym (take_all (place len_of chars n) found.original_classes.items (omega (arith, last.sized, place-end len_of chars n (omega arith))))
+            sym (take_all (place len_of chars n) found.units (omega (arith, last.sized, place-end len_of chars n (omega arith))))
             ∙ last.classes ∙ ap (λ (cs : List ℕ). per_unit len_of cs (text_classes source (pieces_of split source chars))) (take_all n chars (omega arith));
         ranges = last.ranges;
         levels = last.levels;

@@ -2,6 +2,7 @@ pub mod Analysed
 pub mod BidiInfo
 pub mod ClassSet
 pub mod Engine
+pub mod FirstWalk
 pub mod InitialInfo
 pub mod LineMap
 pub mod Paragraph

@@ -1,5 +1,6 @@
 //! Sets of classes.
-ghost use Rattle.std.specs.Prelude.{◌≡◌, ◌<◌, ◌^◌};
+ghost use Rattle.std.specs.Prelude.{◌≡◌, ◌<◌, ◌^◌, not, ◌&&◌, ◌||◌, if◌then◌else◌};
+ghost use Rattle.bidi_base.specs.declared.char_data.BidiClass.{BidiClass};
 ghost use Rattle.unicode_bidi.specs.ClassSet.{has, with, any_of};
 
 use bidi_base::char_data::BidiClass;
@@ -26,6 +27,21 @@ impl ClassSet {
             | 1 << BidiClass::LRO as u32
             | 1 << BidiClass::RLE as u32
             | 1 << BidiClass::RLO as u32,
+    };
+
+    /// What closes an isolate.
+    pub(crate) const CLOSING: ClassSet = ClassSet {
+        bits: 1 << BidiClass::PDI as u32,
+    };
+
+    /// The strong classes.
+    pub(crate) const STRONG: ClassSet = ClassSet {
+        bits: 1 << BidiClass::L as u32 | 1 << BidiClass::R as u32 | 1 << BidiClass::AL as u32,
+    };
+
+    /// What ends a paragraph or opens an isolate.
+    pub(crate) const BOUNDS: ClassSet = ClassSet {
+        bits: ClassSet::INITIATORS.bits | 1 << BidiClass::B as u32,
     };
 
     /// What opens an embedding or an isolate.
@@ -78,6 +94,31 @@ impl ClassSet {
         ClassSet {
             bits: self.bits | 1 << class as u32,
         }
+    }
+
+    /// The classes of both sets.
+    pub(crate) fn union(self, other: ClassSet) -> ClassSet
+        ensures { (c : BidiClass) → has result c ≡ (has self c || has other c) }
+    {
+        ClassSet {
+            bits: self.bits | other.bits,
+        }
+    }
+
+    /// The classes of this set that are not in the other.
+    pub(crate) fn without(self, other: ClassSet) -> ClassSet
+        ensures { (c : BidiClass) → has result c ≡ (has self c && not (has other c)) }
+    {
+        ClassSet {
+            bits: self.bits ^ (self.bits & other.bits),
+        }
+    }
+
+    /// The set if the test holds, or else no class.
+    pub(crate) fn when(self, holds: bool) -> ClassSet
+        ensures { result ≡ (if holds then self else record { bits = 0 }) }
+    {
+        if holds { self } else { ClassSet::NONE }
     }
 
     /// Whether some class is in both sets.

@@ -1,16 +1,21 @@
 // One walk over a text: the class of each character, with each FSI resolved (X5c), and the
 // paragraphs (P1) with their levels (P2, P3).
-ghost use Rattle.std.specs.Prelude.{◌≡◌, ◌↔◌, IsTrue, ℕ, ◌+◌, ◌<◌, ◌≤◌, [], ◌∷◌, ◌++◌, length, map, replicate, unwrap_or, OnOk, IfOk, All, None, Some, Option, MatchOption};
-ghost use Rattle.std.specs.Option.{option_or, IsSome};
-ghost use Rattle.std.specs.declared.ops.Range.{Range};
+ghost use Rattle.std.specs.Prelude.{◌≡◌, ℕ, ◌-◌, ◌<◌, ◌≤◌, ◌&&◌, if◌then◌else◌, true, false, ◌++◌, length, take, replicate, OnOk, IfOk, All, Some};
+ghost use Rattle.std.specs.Option.{is_some};
+ghost use Rattle.bidi_base.specs.declared.char_data.BidiClass.{BidiClass};
+ghost use Rattle.bidi_base.specs.Classes.{is_paragraph_separator as is_paragraph_separator_class, is_strong as is_strong_class};
 ghost use Rattle.bidi_base.specs.Isolates.{level_by, resolved_fsi};
-ghost use Rattle.bidi_base.specs.Reading.{innermost, opened_by, decided_by, filled, resolved_units, met_units};
+ghost use Rattle.bidi_base.specs.Reading.{outer, filled};
 ghost use Rattle.bidi_base.specs.Paragraphs.{pieces_of, ranges_from};
 ghost use Rattle.bidi_base.specs.Stored.{text_classes, paragraph_levels};
 ghost use Rattle.bidi_base.specs.Text.{per_unit};
+ghost use Rattle.unicode_bidi.specs.ClassSet.{has};
+ghost use Rattle.unicode_bidi.specs.FirstWalk.{waiting, deciding_after, classes_after, wants_strong, minds, IsFresh, IsReadBy, IsClosed};
+ghost use Rattle.unicode_bidi.specs.declared.first_walk.Reading.{Reading};
 ghost use Rattle.unicode_bidi.specs.ParagraphInfo.{ranges_of, levels_of};
-ghost use Rattle.unicode_bidi.specs.ParagraphFlags.{flags_of, with_class, paragraph_flags};
+ghost use Rattle.unicode_bidi.specs.ParagraphFlags.{paragraph_flags};
 
+use crate::class_set::ClassSet;
 use crate::paragraph_flags::ParagraphFlags;
 use crate::paragraph_info::ParagraphInfo;
 use bidi_base::char_data::BidiClass;
@@ -42,18 +47,24 @@ fn level_of_class(deciding: Option<BidiClass>) -> Level
     }
 }
 
-// An open isolate whose initiator has these units has met a strong character. An FSI that met none
-// before takes its direction, on all its units.
+// An FSI with these units takes its direction from a strong character.
 fn resolve(classes: &mut [BidiClass], initiator: &Range<usize>, class: BidiClass)
-    requires begins { initiator.now.start < initiator.now.end }
+    requires begins { initiator.now.start ≤ initiator.now.end }
     requires ends { initiator.now.end ≤ length classes.old }
-    ensures { classes.new ≡ resolved_units class initiator.now classes.old }
+    ensures { classes.new ≡ filled initiator.now (resolved_fsi (Some class)) classes.old }
 {
     let start = initiator.start;
     let end = initiator.end;
-    if classes[start] == BidiClass::FSI {
-        classes[start..end].fill(resolved_by(class));
-    }
+    classes[start..end].fill(resolved_by(class));
+}
+
+// An open isolate of an FSI that no character decided yet.
+#[derive(Drop)]
+struct Undecided {
+    // The initiator's units.
+    units: Range<usize>,
+    // How many isolates are open up to it, itself among them.
+    depth: usize,
 }
 
 // The paragraph that is being read.
@@ -61,8 +72,10 @@ fn resolve(classes: &mut [BidiClass], initiator: &Range<usize>, class: BidiClass
 struct Reading {
     // The unit at which it begins.
     start: usize,
-    // The units of the initiators whose isolates are open, outermost first.
-    initiators: Vec<Range<usize>>,
+    // How many isolates are open.
+    depth: usize,
+    // Those of an FSI that no character decided yet, outermost first.
+    undecided: Vec<Undecided>,
     // The class of the character that decides its level, once there is one.
     deciding: Option<BidiClass>,
     flags: ParagraphFlags,
@@ -71,24 +84,53 @@ struct Reading {
 impl Reading {
     // Nothing is read of a text.
     fn new(alloc: Global) -> Reading
-        ensures start { result.start ≡ 0 }
-        ensures initiators { result.initiators.items ≡ [] }
-        ensures deciding { result.deciding ≡ None }
-        ensures flags { result.flags ≡ flags_of [] }
+        ensures { IsFresh result 0 }
     {
         Reading {
             start: 0,
-            initiators: Vec::new(alloc),
+            depth: 0,
+            undecided: Vec::new(alloc),
             deciding: None,
             flags: ParagraphFlags::NONE,
         }
     }
 
-    // Whether the level is decided and no isolate is open: then initiators alone are of interest.
-    fn is_settled(&self) -> bool
-        ensures { IsTrue result ↔ ((self.now.initiators.items ≡ []) × IsSome self.now.deciding) }
+    // Begins the next paragraph.
+    fn restart(&mut self, start: usize)
+        ensures { IsFresh self.new start }
     {
-        self.initiators.is_empty() && self.deciding.is_some()
+        self.start = start;
+        self.depth = 0;
+        self.undecided.clear();
+        self.deciding = None;
+        self.flags = ParagraphFlags::NONE;
+    }
+
+    // Whether the innermost open isolate is of an FSI that no character decided yet.
+    fn is_waiting(&self) -> bool
+        ensures { result ≡ is_some (waiting self.now.depth self.now.undecided.items) }
+    {
+        match self.undecided.last() {
+            Some(innermost) => innermost.depth == self.depth,
+            None => false,
+        }
+    }
+
+    // Whether a strong character, if it came next, would decide something.
+    fn wants_strong(&self) -> bool
+        ensures { result ≡ wants_strong self.now }
+    {
+        self.is_waiting() || (self.depth == 0 && self.deciding.is_none())
+    }
+
+    // The classes of those characters that would change something here if they came next.
+    fn minded(&self) -> ClassSet
+        ensures { (c : BidiClass) → has result c ≡ minds self.now c }
+    {
+        ClassSet::BOUNDS
+            .union(ClassSet::COUNTED.without(self.flags.met))
+            .union(ClassSet::STRONG.when(self.wants_strong()))
+            .union(ClassSet::CLOSING.when(self.depth > 0))
     }
 
     // Reads the next character, whose units are given. `classes` has those of the units before it.
@@ -98,45 +140,62 @@ impl Reading {
         class: BidiClass,
         units: Range<usize>,
     ) -> Result<(), AllocError>
-        requires { All (λ (r : Range ℕ). (r.start < r.end) × (r.end ≤ length classes.old)) self.old.initiators.items }
-        ensures classes { OnOk result (classes.new ≡ met_units class (innermost self.old.initiators.items) classes.old) }
-        ensures start { self.new.start ≡ self.old.start }
-        ensures initiators { OnOk result (self.new.initiators.items ≡ opened_by class units self.old.initiators.items) }
-        ensures deciding { OnOk result (self.new.deciding ≡ option_or self.old.deciding (decided_by class self.old.initiators.items)) }
-        ensures flags { OnOk result (self.new.flags ≡ with_class self.old.flags class) }
+        requires within { All (λ u. (u.units.start ≤ u.units.end) × (u.units.end ≤ length classes.old)) self.old.undecided.items }
+        requires few { self.old.depth < usize.MAX }
+        ensures classes { OnOk result (classes.new ≡ classes_after class (waiting self.old.depth self.old.undecided.items) classes.old) }
+        ensures reading { OnOk result (IsReadBy class units self.old self.new) }
     {
         self.flags = self.flags.with(class);
-        if self.is_settled() && !is_initiator(class) {
-            return Ok(());
-        }
         if is_strong(class) {
-            match self.initiators.last() {
-                Some(initiator) => resolve(classes, initiator, class),
-                None => {
-                    if self.deciding.is_none() {
-                        self.deciding = Some(class);
-                    }
-                }
-            }
+            self.decide(classes, class);
         } else if is_initiator(class) {
-            self.initiators.push(units)?;
+            self.depth += 1;
+            if class == BidiClass::FSI {
+                self.undecided.push(Undecided {
+                    units,
+                    depth: self.depth,
+                })?;
+            }
         } else if is_pdi(class) {
-            self.initiators.pop();
+            self.take_waiting();
+            self.depth = self.depth.saturating_sub(1);
         }
         Ok(())
     }
 
-    // Begins the next paragraph.
-    fn restart(&mut self, start: usize)
-        ensures start { self.new.start ≡ start }
-        ensures initiators { self.new.initiators.items ≡ [] }
-        ensures deciding { self.new.deciding ≡ None }
-        ensures flags { self.new.flags ≡ flags_of [] }
+    // Takes the innermost open isolate from the undecided ones, if it is one of them.
+    fn take_waiting(&mut self) -> Option<Undecided>
+        ensures taken { result ≡ waiting self.old.depth self.old.undecided.items }
+        ensures rest { self.new.undecided.items ≡ (if is_some (waiting self.old.depth self.old.undecided.items) then outer self.old.undecided.items else self.old.undecided.items) }
+        ensures start { self.new.start ≡ self.old.start }
+        ensures depth { self.new.depth ≡ self.old.depth }
+        ensures deciding { self.new.deciding ≡ self.old.deciding }
+        ensures flags { self.new.flags ≡ self.old.flags }
     {
-        self.start = start;
-        self.initiators.clear();
-        self.deciding = None;
-        self.flags = ParagraphFlags::NONE;
+        if self.is_waiting() {
+            self.undecided.pop()
+        } else {
+            None
+        }
+    }
+
+    // A strong character decides the paragraph's level, or what the innermost FSI stands for.
+    fn decide(&mut self, classes: &mut [BidiClass], class: BidiClass)
+        requires within { All (λ u. (u.units.start ≤ u.units.end) × (u.units.end ≤ length classes.old)) self.old.undecided.items }
+        requires strong { is_strong_class class ≡ true }
+        ensures classes { classes.new ≡ classes_after class (waiting self.old.depth self.old.undecided.items) classes.old }
+        ensures rest { self.new.undecided.items ≡ (if is_some (waiting self.old.depth self.old.undecided.items) then outer self.old.undecided.items else self.old.undecided.items) }
+        ensures start { self.new.start ≡ self.old.start }
+        ensures depth { self.new.depth ≡ self.old.depth }
+        ensures deciding { self.new.deciding ≡ deciding_after class self.old.depth self.old.deciding }
+        ensures flags { self.new.flags ≡ self.old.flags }
+    {
+        if let Some(initiator) = self.take_waiting() {
+            resolve(classes, &initiator.units, class);
+        }
+        if self.depth == 0 && self.deciding.is_none() {
+            self.deciding = Some(class);
+        }
     }
 }
 
@@ -151,46 +210,79 @@ pub(crate) struct Found {
     pub(crate) flags: Vec<ParagraphFlags>,
 }
 
-impl Found {
+// One paragraph after another, as they are read.
+#[derive(Drop)]
+struct TextReading {
+    base: Option<Level>,
+    split: bool,
+    reading: Reading,
+    paragraphs: Vec<ParagraphInfo>,
+    flags: Vec<ParagraphFlags>,
+}
+
+impl TextReading {
     // Ends the paragraph that was read at a unit.
-    fn close(
-        &mut self,
-        reading: &Reading,
-        end: usize,
-        base: Option<Level>,
-    ) -> Result<(), AllocError>
-        requires { reading.now.start ≤ end }
-        ensures classes { self.new.original_classes.items ≡ self.old.original_classes.items }
-        ensures ranges { OnOk result (ranges_of self.new.paragraphs.items ≡ ranges_of self.old.paragraphs.items ++ (reading.now.start, end) ∷ []) }
-        ensures levels { OnOk result (levels_of self.new.paragraphs.items ≡ levels_of self.old.paragraphs.items ++ unwrap_or base (level_by reading.now.deciding) ∷ []) }
-        ensures flags { OnOk result (self.new.flags.items ≡ self.old.flags.items ++ reading.now.flags ∷ []) }
+    fn close(&mut self, end: usize) -> Result<(), AllocError>
+        requires { self.old.reading.start ≤ end }
+        ensures closed { OnOk result (IsClosed self.old.base self.old.reading end self.old.paragraphs.items self.old.flags.items self.new.paragraphs.items self.new.flags.items) }
+        ensures reading { self.new.reading ≡ self.old.reading }
+        ensures base { self.new.base ≡ self.old.base }
+        ensures split { self.new.split ≡ self.old.split }
     {
-        let level = base.unwrap_or(level_of_class(reading.deciding));
+        let level = self.base.unwrap_or(level_of_class(self.reading.deciding));
         self.paragraphs
-            .push(ParagraphInfo::from_range(reading.start..end, level))?;
-        self.flags.push(reading.flags)?;
+            .push(ParagraphInfo::from_range(self.reading.start..end, level))?;
+        self.flags.push(self.reading.flags)?;
         Ok(())
+    }
+
+    // Reads a character of whose class something depends; it stands on the character's units. Answers
+    // on which classes something depends next.
+    #[inline(never)]
+    fn meet(
+        &mut self,
+        classes: &mut [BidiClass],
+        class: BidiClass,
+        units: Range<usize>,
+    ) -> Result<ClassSet, AllocError>
+        requires within { All (λ u. (u.units.start ≤ u.units.end) × (u.units.end ≤ length classes.old)) self.old.reading.undecided.items }
+        requires few { self.old.reading.depth < usize.MAX }
+        requires follows { self.old.reading.start ≤ units.end }
+        ensures classes { OnOk result (classes.new ≡ classes_after class (waiting self.old.reading.depth self.old.reading.undecided.items) classes.old) }
+        ensures on { OnOk result ((self.old.split && is_paragraph_separator_class class) ≡ false
+            → IsReadBy class units self.old.reading self.new.reading × (self.new.paragraphs.items ≡ self.old.paragraphs.items) × (self.new.flags.items ≡ self.old.flags.items)) }
+        ensures ended { OnOk result ((self.old.split && is_paragraph_separator_class class) ≡ true
+            → IsFresh self.new.reading units.end × ((r : Reading) × IsReadBy class units self.old.reading r × IsClosed self.old.base r units.end self.old.paragraphs.items self.old.flags.items self.new.paragraphs.items self.new.flags.items)) }
+        ensures minded { IfOk result (λ set. (c : BidiClass) → has set c ≡ minds self.new.reading c) }
+        ensures base { self.new.base ≡ self.old.base }
+        ensures split { self.new.split ≡ self.old.split }
+    {
+        let end = units.end;
+        self.reading.read(classes, class, units)?;
+        if self.split && is_paragraph_separator(class) {
+            self.close(end)?;
+            self.reading.restart(end);
+        }
+        Ok(self.reading.minded())
     }
 }
 
-// Writes a character's class to each of its units. Up to four are written from both ends, which
-// takes no loop.
+// Writes a character's class to each of its units. Up to four are written at once; units behind the
+// character may get the class too, since what comes next writes over them.
 fn write(classes: &mut [BidiClass], units: Range<usize>, class: BidiClass)
     requires begins { units.start < units.end }
     requires ends { units.end ≤ length classes.old }
-    ensures { classes.new ≡ filled units class classes.old }
+    ensures { take units.end classes.new ≡ take units.start classes.old ++ replicate (units.end - units.start) class }
 {
     let start = units.start;
     let end = units.end;
-    if end - start > 4 {
-        classes[start..end].fill(class);
-        return;
-    }
-    classes[start] = class;
-    classes[end - 1] = class;
-    if end - start > 2 {
+    if end - start <= 4 && classes.len() - start >= 4 {
+        classes[start] = class;
         classes[start + 1] = class;
-        classes[end - 2] = class;
+        classes[start + 2] = class;
+        classes[start + 3] = class;
+    } else {
+        classes[start..end].fill(class);
     }
 }
 
@@ -213,27 +305,32 @@ pub(crate) fn walk<D: BidiDataSource, T: TextSource>(
     ensures flags { let pieces = pieces_of split (D.source data_source.now) (T.characters text) in
         IfOk result (λ i. i.flags.items ≡ paragraph_flags (D.source data_source.now) pieces) }
 {
-    let mut found = Found {
-        original_classes: vec![in alloc; BidiClass::L; text.len()]?,
+    let mut original_classes = vec![in alloc; BidiClass::L; text.len()]?;
+    let classes = original_classes.as_mut_slice();
+    let mut walk = TextReading {
+        base,
+        split,
+        reading: Reading::new(alloc),
         paragraphs: Vec::new(alloc),
         flags: Vec::new(alloc),
     };
-    let mut reading = Reading::new(alloc);
+    let mut minded = walk.reading.minded();
     let mut end = 0;
     for c in text.chars() {
         let class = data_source.bidi_class(c);
         let start = end;
         end = start + T::char_len(c);
-        let classes = found.original_classes.as_mut_slice();
-        reading.read(classes, class, start..end)?;
         write(classes, start..end, class);
-        if split && is_paragraph_separator(class) {
-            found.close(&reading, end, base)?;
-            reading.restart(end);
+        if minded.has(class) {
+            minded = walk.meet(classes, class, start..end)?;
         }
     }
-    if !split || reading.start < end {
-        found.close(&reading, end, base)?;
+    if !split || walk.reading.start < end {
+        walk.close(end)?;
     }
-    Ok(found)
+    Ok(Found {
+        original_classes,
+        paragraphs: walk.paragraphs,
+        flags: walk.flags,
+    })
 }

@@ -1,17 +1,20 @@
-use Rattle.std.proofs.Common.{◌≡◌, ◌∙◌, ◌+◌, ◌∷◌, [], ◌++◌, ℕ, ◌<◌, List, true, false, ◌⊎◌, inl, inr, length, refl, sym, ap, subst, arith}
-use Rattle.std.specs.Vec.{with_items}
+use Rattle.std.proofs.Common.{◌≡◌, ◌∙◌, ◌+◌, ◌∷◌, [], ◌++◌, ℕ, ◌<◌, ◌≤◌, ◌&&◌, List, false, ◌⊎◌, inl, inr, length, refl, sym, ap, subst, arith}
 use Rattle.std.specs.Iterator.{IsFinite}
+use Rattle.std.specs.List.{All}
 use Rattle.std.specs.declared.ops.Range.{Range}
+use Rattle.std.proofs.lemmas.Bool.{cases_Bool, and_right}
 use Rattle.std.proofs.lemmas.List.{length_push, with_items_is}
-use Rattle.std.proofs.lemmas.Bool.{and_from, and_left, and_right}
+use Rattle.bidi_base.specs.declared.char_data.BidiClass.{BidiClass}
 use Rattle.bidi_base.specs.Classes.{is_paragraph_separator}
-use Rattle.bidi_base.specs.Reading.{innermost, met_units}
 use Rattle.bidi_base.specs.Text.{place}
 use Rattle.bidi_base.proofs.PlaceLemmas.{CharTurn, char_turn, char_end}
-use Rattle.unicode_bidi.specs.declared.first_walk.Found.{Found}
-use Rattle.unicode_bidi.proofs.TextRead.{take-turn, same_range, stops, open_within, start-le, IsFresh, IsTextRead, IsTextRead-more, IsTextDone-close, IsRead, IsRead-start, IsRead-on, IsRead-stop, IsRead-last, IsRead-none, IsTextDone-none, IsAnswer, IsTextDone-answer}
+use Rattle.unicode_bidi.specs.FirstWalk.{IsFresh, IsClosed}
+use Rattle.unicode_bidi.specs.declared.first_walk.TextReading.{TextReading}
+use Rattle.unicode_bidi.specs.declared.first_walk.Undecided.{Undecided}
+use Rattle.unicode_bidi.proofs.IdleClasses.{idle-IsReadBy, idle-classes, idle-separator}
+use Rattle.unicode_bidi.proofs.TextRead.{seen, take-turn, same_range, stops, open_within, depth-le, undecided-none, start-le, drawn-is, IsTextRead-more, IsTextDone-close, IsRead, IsRead-start, IsRead-on, IsRead-stop, IsRead-last, IsRead-none, IsTextDone-none, IsAnswer, IsTextDone-answer}
 use Rattle.unicode_bidi.proofs.first_walk.walk.Goals as goal
-use Rattle.unicode_bidi.proofs.first_walk.walk.Goals.{In-Some, After-write, else-split-via-then-split+else-is_paragraph_separator, else-split-via-else-split, then-not-split+in_ok-close-2, then-not-split-via-then-not-split, then-not-split-via-else-not-split+then-reading-end, else-not-split+else-reading-end}
+use Rattle.unicode_bidi.proofs.first_walk.walk.Goals.{In-Some, then-not-split+in_ok-close, then-not-split-via-then-not-split, then-not-split-via-else-not-split+then-walk-end, else-not-split+else-walk-end}
 use Rattle.unicode_bidi.proofs.first_walk.walk.Given.{Over}
 
 pub loop-c-init : goal.loop-c-init
@@ -19,8 +22,10 @@ loop-c-init g c = (
   subst g.T.CharIter.Iterator.can_next (sym c.into_iter-c-iterator.ensures.into_iter_gives) c.chars-c-items.ensures.can_next,
   subst (λ b. IsFinite (g.T.CharIter.Iterator.remaining b)) (sym c.into_iter-c-iterator.ensures.into_iter_gives) c.chars-c-items.ensures.finite,
   refl,
-  IsRead-start _ _ _ c.args.split c.args.base _ c.new-reading.result (sym c.in_ok-vec.field-0.ok.0 ∙ c.in_ok-vec.ensures.len ∙ c.len.ensures) c.new.ensures.items c.new-2.ensures.items
-      (record { here = c.new-reading.ensures.start; under = c.new-reading.ensures.initiators; deciding = c.new-reading.ensures.deciding; turns = c.new-reading.ensures.flags }),
+  IsRead-start _ _ _ c.args.split c.args.base _ c.new.result (ap length c.as_mut_slice-classes.ensures.value ∙ sym c.in_ok-original_classes.original_classes.ok.0 ∙ c.in_ok-original_classes.ensures.len ∙ c.len.ensures) c.new-2.ensures.items c.new-3.ensures.items c.new.ensures,
+  c.minded-minded.ensures,
+  refl,
+  refl,
 )
 
 -- the character that comes
@@ -33,110 +38,162 @@ overflow_add-end g c =
     let w = turn_of g (goal.at.overflow_add-end g c).In-Some in
     omega (arith, w.fits, c.len.ensures, c.char_len.ensures, c.loop-c.invariant.2)
 
-pub read-requires : goal.read-requires
-read-requires g c =
-    let h = c.loop-c.invariant.3 in
-    let w = turn_of g (goal.at.read-requires g c).In-Some in
-    rw c.as_mut_slice-classes.ensures.value
-    (open_within (g.D.BidiDataSource.source c.args.data_source.now) g.T.TextSource.units (g.T.TextSource.characters c.args.text) g.met.T.TextSource.has_units c.args.base (length c.loop-c.yielded) h.done h.current c.loop-c.found c.loop-c.reading w.within h.read)
-
 pub write-requires-clause-ends : goal.write-requires-clause-ends
 write-requires-clause-ends g c =
     let h = c.loop-c.invariant.3 in
     let w = turn_of g (goal.at.write-requires-clause-ends g c).In-Some in
-    omega (arith, w.fits, c.loop-c.invariant.2, c.char_len.ensures, c.read.auto.classes, ap length c.as_mut_slice-classes.ensures.value, h.read.sized)
+    omega (arith, w.fits, c.loop-c.invariant.2, c.char_len.ensures, h.read.sized)
 
--- what is found with that character
-found_with : (g : Over) → After-write g → Found
-found_with g c = record { original_classes = with_items c.loop-c.found.original_classes c.write.new.classes; paragraphs = c.loop-c.found.paragraphs; flags = c.loop-c.found.flags }
-
-read_with : (g : Over) (c : After-write g) → CharTurn g.T.TextSource.units (g.T.TextSource.characters c.args.text) (length c.loop-c.yielded) (place g.T.TextSource.units (g.T.TextSource.characters c.args.text) (length c.loop-c.yielded)) c.in-Some.c
-    → IsTextRead (g.D.BidiDataSource.source c.args.data_source.now) g.T.TextSource.units (g.T.TextSource.characters c.args.text) c.args.base (length c.loop-c.yielded + 1) c.loop-c.invariant.3.done (c.loop-c.invariant.3.current ++ c.in-Some.c ∷ []) (found_with g c) c.read.new.self
-unfolding found_with
-read_with g c w =
+pub meet-requires-clause-within : goal.meet-requires-clause-within
+meet-requires-clause-within g c =
+    let source = g.D.BidiDataSource.source c.args.data_source.now in
     let len = g.T.TextSource.units in
+    let units = g.met.T.TextSource.has_units in
     let cs : List ℕ = g.T.TextSource.characters c.args.text in
     let n : ℕ = length c.loop-c.yielded in
     let h = c.loop-c.invariant.3 in
+    let old = seen c.loop-c.classes c.loop-c.walk in
+    let reading = c.loop-c.walk.reading in
+    let base = c.args.base in
     let class = c.bidi_class-class.result in
+    let w = turn_of g (goal.at.meet-requires-clause-within g c).In-Some in
     let end : c.loop-c.end + c.char_len.result ≡ place len cs (n + 1) = omega (arith, w.after, c.loop-c.invariant.2, c.char_len.ensures) in
+    subst (λ m. All (λ (u : Undecided). (u.units.start ≤ u.units.end) × (u.units.end ≤ m)) reading.undecided.items) (sym c.write.auto.classes)
+    (open_within source len cs units base n h.done h.current old reading w.within h.read)
+
+pub meet-requires-clause-few : goal.meet-requires-clause-few
+meet-requires-clause-few g c =
+    let source = g.D.BidiDataSource.source c.args.data_source.now in
+    let len = g.T.TextSource.units in
+    let units = g.met.T.TextSource.has_units in
+    let cs : List ℕ = g.T.TextSource.characters c.args.text in
+    let n : ℕ = length c.loop-c.yielded in
+    let h = c.loop-c.invariant.3 in
+    let old = seen c.loop-c.classes c.loop-c.walk in
+    let reading = c.loop-c.walk.reading in
+    let base = c.args.base in
+    let class = c.bidi_class-class.result in
+    let w = turn_of g (goal.at.meet-requires-clause-few g c).In-Some in
+    let end : c.loop-c.end + c.char_len.result ≡ place len cs (n + 1) = omega (arith, w.after, c.loop-c.invariant.2, c.char_len.ensures) in
+    omega (arith, depth-le source len cs units base n h.done h.current old reading w.within h.read, w.after, w.fits, c.len.ensures, c.loop-c.invariant.2)
+
+pub meet-requires-clause-follows : goal.meet-requires-clause-follows
+meet-requires-clause-follows g c =
+    let source = g.D.BidiDataSource.source c.args.data_source.now in
+    let len = g.T.TextSource.units in
+    let units = g.met.T.TextSource.has_units in
+    let cs : List ℕ = g.T.TextSource.characters c.args.text in
+    let n : ℕ = length c.loop-c.yielded in
+    let h = c.loop-c.invariant.3 in
+    let old = seen c.loop-c.classes c.loop-c.walk in
+    let reading = c.loop-c.walk.reading in
+    let base = c.args.base in
+    let class = c.bidi_class-class.result in
+    let w = turn_of g (goal.at.meet-requires-clause-follows g c).In-Some in
+    let end : c.loop-c.end + c.char_len.result ≡ place len cs (n + 1) = omega (arith, w.after, c.loop-c.invariant.2, c.char_len.ensures) in
+    omega (arith, start-le source len cs base n h.done h.current old reading h.read, w.after, c.loop-c.invariant.2)
+
+pub loop-c-preserved-then-has : goal.loop-c-preserved-then-has
+loop-c-preserved-then-has g c =
+    let source = g.D.BidiDataSource.source c.args.data_source.now in
+    let len = g.T.TextSource.units in
+    let units = g.met.T.TextSource.has_units in
+    let cs : List ℕ = g.T.TextSource.characters c.args.text in
+    let n : ℕ = length c.loop-c.yielded in
+    let h = c.loop-c.invariant.3 in
+    let old = seen c.loop-c.classes c.loop-c.walk in
+    let reading = c.loop-c.walk.reading in
+    let base = c.args.base in
+    let class = c.bidi_class-class.result in
+    let w = turn_of g (goal.at.loop-c-preserved-then-has g c).In-Some in
+    let end : c.loop-c.end + c.char_len.result ≡ place len cs (n + 1) = omega (arith, w.after, c.loop-c.invariant.2, c.char_len.ensures) in
+    let drawn : List BidiClass = c.write.new.classes in
+    let drawn_is =
+    drawn-is source len cs units base n h.done h.current old reading w.within h.read c.in-Some.c w.is_char class c.bidi_class-class.ensures drawn c.loop-c.end (c.loop-c.end + c.char_len.result) c.loop-c.invariant.2 end c.write.ensures in
     let range : Range ℕ = record { start = c.loop-c.end; end = c.loop-c.end + c.char_len.result } in
-    let changed : c.read.new.classes ≡ met_units class (innermost c.loop-c.reading.initiators.items) c.loop-c.found.original_classes.items =
-    c.in_ok-read.ensures.classes ∙ ap (met_units class (innermost c.loop-c.reading.initiators.items)) c.as_mut_slice-classes.ensures.value in
-    let kept : length c.read.new.classes ≡ length c.loop-c.found.original_classes.items = c.read.auto.classes ∙ ap length c.as_mut_slice-classes.ensures.value in
-    let written : (with_items c.loop-c.found.original_classes c.write.new.classes).items ≡ c.write.new.classes = with_items_is c.loop-c.found.original_classes c.write.new.classes (c.write.auto.classes ∙ c.read.auto.classes ∙ c.as_mut_slice-classes.ensures.len) in
-    IsTextRead-more (g.D.BidiDataSource.source c.args.data_source.now) len cs g.met.T.TextSource.has_units c.args.base n h.done h.current c.loop-c.found c.loop-c.reading w.within h.read c.in-Some.c w.is_char class c.bidi_class-class.ensures c.read.new.classes range (found_with g c) c.read.new.self
-    (same_range c.loop-c.end (place len cs n) (c.loop-c.end + c.char_len.result) (place len cs (n + 1)) c.loop-c.invariant.2 end) changed (written ∙ c.write.ensures) kept (ap length written ∙ c.write.auto.classes) refl refl
-    c.read.ensures.start c.in_ok-read.ensures.initiators c.in_ok-read.ensures.deciding c.in_ok-read.ensures.flags
-
-pub close-requires : goal.close-requires
-close-requires g c =
-    let len = g.T.TextSource.units in
-    let cs : List ℕ = g.T.TextSource.characters c.args.text in
-    let n : ℕ = length c.loop-c.yielded in
-    let h = c.loop-c.invariant.3 in
-    let p = (goal.at.close-requires g c).After-write in
-    let w = turn_of g (goal.at.close-requires g c).In-Some in
-    let le = start-le (g.D.BidiDataSource.source c.args.data_source.now) len cs c.args.base (n + 1) h.done (h.current ++ c.in-Some.c ∷ []) (found_with g p) c.read.new.self (read_with g p w) in
-    omega (arith, le, w.after, c.loop-c.invariant.2, c.char_len.ensures)
-
-pub loop-c-preserved-then-is_paragraph_separator : goal.loop-c-preserved-then-is_paragraph_separator
-unfolding found_with
-loop-c-preserved-then-is_paragraph_separator g c =
-    let source = g.D.BidiDataSource.source c.args.data_source.now in
-    let len = g.T.TextSource.units in
-    let cs : List ℕ = g.T.TextSource.characters c.args.text in
-    let n : ℕ = length c.loop-c.yielded in
-    let h = c.loop-c.invariant.3 in
-    let p = (goal.at.loop-c-preserved-then-is_paragraph_separator g c).After-write in
-    let w = turn_of g (goal.at.loop-c-preserved-then-is_paragraph_separator g c).In-Some in
-    let end : c.loop-c.end + c.char_len.result ≡ place len cs (n + 1) = omega (arith, w.after, c.loop-c.invariant.2, c.char_len.ensures) in
-    let stop : stops source c.args.split c.in-Some.c ≡ true = and_from c.args.split (is_paragraph_separator (source.class_of c.in-Some.c)) c.if-split.true (ap is_paragraph_separator (sym c.bidi_class-class.ensures) ∙ sym c.is_paragraph_separator.ensures ∙ c.if-is_paragraph_separator.true) in
-    let ended =
-    IsTextDone-close source len cs c.args.base (n + 1) h.done (h.current ++ c.in-Some.c ∷ []) (found_with g p) c.read.new.self (read_with g p w) c.close.new.self (c.loop-c.end + c.char_len.result) end
-    c.close.ensures.classes c.in_ok-close.ensures.ranges c.in_ok-close.ensures.levels c.in_ok-close.ensures.flags in
-    let fresh : IsFresh c.restart.new.self (place len cs (n + 1)) = record { here = c.restart.ensures.start ∙ end; under = c.restart.ensures.initiators; deciding = c.restart.ensures.deciding; turns = c.restart.ensures.flags } in (
-      c.in-Some.ensures.goes.keeps,
-      (c.in-Some.ensures.goes.on c.loop-c.invariant.1).1,
-      end ∙ ap (place len cs) (sym (length_push c.loop-c.yielded c.in-Some.c)),
-      subst (λ m. IsRead source len cs c.args.split c.args.base m c.close.new.self c.restart.new.self) (sym (length_push c.loop-c.yielded c.in-Some.c))
-          (IsRead-stop source len cs c.args.split c.args.base n c.in-Some.c c.loop-c.found c.loop-c.reading c.close.new.self c.restart.new.self h (take-turn cs n c.in-Some.c w.within w.is_char) ended fresh stop),
-    )
-
-pub loop-c-preserved : goal.loop-c-preserved
-unfolding found_with
-loop-c-preserved g c =
-    let source = g.D.BidiDataSource.source c.args.data_source.now in
-    let len = g.T.TextSource.units in
-    let cs : List ℕ = g.T.TextSource.characters c.args.text in
-    let n : ℕ = length c.loop-c.yielded in
-    let h = c.loop-c.invariant.3 in
-    let p = (goal.at.loop-c-preserved g c).After-write in
-    let w = turn_of g (goal.at.loop-c-preserved g c).In-Some in
-    let end : c.loop-c.end + c.char_len.result ≡ place len cs (n + 1) = omega (arith, w.after, c.loop-c.invariant.2, c.char_len.ensures) in
-    let on : stops source c.args.split c.in-Some.c ≡ false =
-    elim c.else-split.branch [
-      | else-split-via-then-split+else-is_paragraph_separator w ↦ and_right c.args.split (is_paragraph_separator (source.class_of c.in-Some.c)) (ap is_paragraph_separator (sym c.bidi_class-class.ensures) ∙ sym w.is_paragraph_separator.ensures ∙ w.if-is_paragraph_separator.false)
-      | else-split-via-else-split w ↦ and_left c.args.split (is_paragraph_separator (source.class_of c.in-Some.c)) w.if-split.false
+    let range_is = same_range c.loop-c.end (place len cs n) (c.loop-c.end + c.char_len.result) (place len cs (n + 1)) c.loop-c.invariant.2 end in
+    let turned = take-turn cs n c.in-Some.c w.within w.is_char in
+    let split_is : (c.loop-c.walk.split && is_paragraph_separator class) ≡ stops source c.args.split c.in-Some.c =
+    ap (λ b. b && is_paragraph_separator class) c.loop-c.invariant.5 ∙ ap (λ x. c.args.split && is_paragraph_separator x) c.bidi_class-class.ensures in
+    let more =
+    IsTextRead-more source len cs units base n h.done h.current old reading w.within h.read c.in-Some.c w.is_char class c.bidi_class-class.ensures drawn drawn_is c.write.auto.classes range in
+    let longer = seen c.meet.new.classes c.loop-c.walk in
+    let long = c.meet.auto.classes ∙ c.write.auto.classes in
+    let new = seen c.meet.new.classes c.meet.new.self in
+    let read : IsRead source len cs c.args.split base (n + 1) new c.meet.new.self.reading = elim (cases_Bool (stops source c.args.split c.in-Some.c)) [
+      | inl stop ↦
+          let ended = c.in_ok-minded.ensures.ended (split_is ∙ stop) in
+          let r = ended.1.0 in
+          let done = more longer r range_is c.in_ok-minded.ensures.classes long refl refl ended.1.1 in
+          IsRead-stop source len cs c.args.split base n c.in-Some.c old reading new c.meet.new.self.reading h turned
+          (IsTextDone-close source len cs base (n + 1) h.done (h.current ++ c.in-Some.c ∷ []) longer r done new (c.loop-c.end + c.char_len.result) end refl
+          (subst (λ (b : _). IsClosed b r (c.loop-c.end + c.char_len.result) longer.paragraphs longer.flags new.paragraphs new.flags) c.loop-c.invariant.6 ended.1.2))
+          (subst (IsFresh c.meet.new.self.reading) end ended.0) stop
+      | inr on ↦
+          let kept = c.in_ok-minded.ensures.on (split_is ∙ on) in
+          IsRead-on source len cs c.args.split base n c.in-Some.c old reading new c.meet.new.self.reading h turned
+          (more new c.meet.new.self.reading range_is c.in_ok-minded.ensures.classes long kept.1 kept.2 kept.0) on
     ] in (
       c.in-Some.ensures.goes.keeps,
       (c.in-Some.ensures.goes.on c.loop-c.invariant.1).1,
       end ∙ ap (place len cs) (sym (length_push c.loop-c.yielded c.in-Some.c)),
-      subst (λ m. IsRead source len cs c.args.split c.args.base m (found_with g p) c.read.new.self) (sym (length_push c.loop-c.yielded c.in-Some.c))
-          (IsRead-on source len cs c.args.split c.args.base n c.in-Some.c c.loop-c.found c.loop-c.reading (found_with g p) c.read.new.self h (take-turn cs n c.in-Some.c w.within w.is_char) (read_with g p w) on),
+      subst (λ m. IsRead source len cs c.args.split base m new c.meet.new.self.reading) (sym (length_push c.loop-c.yielded c.in-Some.c)) read,
+      c.in_ok-minded.ensures.minded,
+      c.meet.ensures.split ∙ c.loop-c.invariant.5,
+      c.meet.ensures.base ∙ c.loop-c.invariant.6,
     )
 
-pub close-requires-then-not-split : goal.close-requires-then-not-split
-close-requires-then-not-split g c =
+pub loop-c-preserved : goal.loop-c-preserved
+loop-c-preserved g c =
     let source = g.D.BidiDataSource.source c.args.data_source.now in
     let len = g.T.TextSource.units in
+    let units = g.met.T.TextSource.has_units in
     let cs : List ℕ = g.T.TextSource.characters c.args.text in
     let n : ℕ = length c.loop-c.yielded in
     let h = c.loop-c.invariant.3 in
-    let le = start-le source len cs c.args.base n h.done h.current c.loop-c.found c.loop-c.reading h.read in
-    omega (arith, le, c.loop-c.invariant.2)
+    let old = seen c.loop-c.classes c.loop-c.walk in
+    let reading = c.loop-c.walk.reading in
+    let base = c.args.base in
+    let class = c.bidi_class-class.result in
+    let w = turn_of g (goal.at.loop-c-preserved g c).In-Some in
+    let end : c.loop-c.end + c.char_len.result ≡ place len cs (n + 1) = omega (arith, w.after, c.loop-c.invariant.2, c.char_len.ensures) in
+    let drawn : List BidiClass = c.write.new.classes in
+    let drawn_is =
+    drawn-is source len cs units base n h.done h.current old reading w.within h.read c.in-Some.c w.is_char class c.bidi_class-class.ensures drawn c.loop-c.end (c.loop-c.end + c.char_len.result) c.loop-c.invariant.2 end c.write.ensures in
+    let range : Range ℕ = record { start = c.loop-c.end; end = c.loop-c.end + c.char_len.result } in
+    let range_is = same_range c.loop-c.end (place len cs n) (c.loop-c.end + c.char_len.result) (place len cs (n + 1)) c.loop-c.invariant.2 end in
+    let turned = take-turn cs n c.in-Some.c w.within w.is_char in
+    let idle = sym (c.loop-c.invariant.4 class) ∙ sym c.has.ensures ∙ c.if-has.false in
+    let empty = undecided-none source len cs units base n h.done h.current old reading w.within h.read in
+    let on : stops source c.args.split c.in-Some.c ≡ false =
+    ap (λ x. c.args.split && is_paragraph_separator x) (sym c.bidi_class-class.ensures) ∙ and_right c.args.split (is_paragraph_separator class) (idle-separator reading class range idle empty) in
+    let new = seen drawn c.loop-c.walk in
+    let read =
+    IsTextRead-more source len cs units base n h.done h.current old reading w.within h.read c.in-Some.c w.is_char class c.bidi_class-class.ensures drawn drawn_is c.write.auto.classes range new reading
+    range_is (idle-classes reading class range idle empty drawn) c.write.auto.classes refl refl (idle-IsReadBy reading class range idle empty) in (
+      c.in-Some.ensures.goes.keeps,
+      (c.in-Some.ensures.goes.on c.loop-c.invariant.1).1,
+      end ∙ ap (place len cs) (sym (length_push c.loop-c.yielded c.in-Some.c)),
+      subst (λ m. IsRead source len cs c.args.split base m new reading) (sym (length_push c.loop-c.yielded c.in-Some.c))
+          (IsRead-on source len cs c.args.split base n c.in-Some.c old reading new reading h turned read on),
+      c.loop-c.invariant.4,
+      c.loop-c.invariant.5,
+      c.loop-c.invariant.6,
+    )
 
-answered : (g : Over) (c : goal.After-drop-reading-2 g) → IsAnswer (g.D.BidiDataSource.source c.args.data_source.now) g.T.TextSource.units (g.T.TextSource.characters c.args.text) c.args.split c.args.base c.if-not-split.found
+pub close-requires : goal.close-requires
+close-requires g c =
+    let source = g.D.BidiDataSource.source c.args.data_source.now in
+    let len = g.T.TextSource.units in
+    let units = g.met.T.TextSource.has_units in
+    let cs : List ℕ = g.T.TextSource.characters c.args.text in
+    let n : ℕ = length c.loop-c.yielded in
+    let h = c.loop-c.invariant.3 in
+    let old = seen c.loop-c.classes c.loop-c.walk in
+    let reading = c.loop-c.walk.reading in
+    omega (arith, start-le source len cs c.args.base n h.done h.current old reading h.read, c.loop-c.invariant.2)
+
+answered : (g : Over) (c : goal.After-drop-walk-2 g) → IsAnswer (g.D.BidiDataSource.source c.args.data_source.now) g.T.TextSource.units (g.T.TextSource.characters c.args.text) c.args.split c.args.base (seen c.loop-c.classes c.if-not-split.walk)
 answered g c =
     let source = g.D.BidiDataSource.source c.args.data_source.now in
     let len = g.T.TextSource.units in
@@ -144,27 +201,33 @@ answered g c =
     let cs : List ℕ = g.T.TextSource.characters c.args.text in
     let n : ℕ = length c.loop-c.yielded in
     let h = c.loop-c.invariant.3 in
+    let split = c.args.split in
+    let base = c.args.base in
+    let old = seen c.loop-c.classes c.loop-c.walk in
+    let reading = c.loop-c.walk.reading in
     let all : n ≡ length cs = char_end cs c.chars-c-items.ensures c.into_iter-c-iterator.ensures.into_iter_gives c.loop-c.yielded _ c.loop-c.yielded_by _ _ c.in-None.is c.next.ensures.steps in
     let end : c.loop-c.end ≡ place len cs n = c.loop-c.invariant.2 in
     elim c.if-not-split.branch [
-      | then-not-split+in_ok-close-2 w ↦
-          let rest : (c.args.split ≡ false) ⊎ (c.loop-c.reading.start < place len cs n) =
+      | then-not-split+in_ok-close w ↦
+          let rest : (split ≡ false) ⊎ (reading.start < place len cs n) =
           elim w.then-not-split.branch [
             | then-not-split-via-then-not-split v ↦ inl v.if-not-split.true
-            | then-not-split-via-else-not-split+then-reading-end v ↦ inr (omega (arith, v.if-reading-end.true, end))
+            | then-not-split-via-else-not-split+then-walk-end v ↦ inr (omega (arith, v.if-walk-end.true, end))
           ] in
-          subst (IsAnswer source len cs c.args.split c.args.base) (sym w.found-is)
-          (IsTextDone-answer source len cs c.args.split c.args.base n (h.done ++ h.current ∷ []) w.close-then-not-split.new.self all (IsRead-last source len cs units c.args.split c.args.base n c.loop-c.found c.loop-c.reading all h rest)
-          (IsTextDone-close source len cs c.args.base n h.done h.current c.loop-c.found c.loop-c.reading h.read w.close-then-not-split.new.self c.loop-c.end end
-          w.close-then-not-split.ensures.classes w.in_ok-close-2.ensures.ranges w.in_ok-close-2.ensures.levels w.in_ok-close-2.ensures.flags))
-      | else-not-split+else-reading-end w ↦
-          let none = IsRead-none source len cs units c.args.split c.args.base n c.loop-c.found c.loop-c.reading all h w.if-not-split.false (omega (arith, w.if-reading-end.false, end)) in
-          subst (IsAnswer source len cs c.args.split c.args.base) (sym w.found-is)
-          (IsTextDone-answer source len cs c.args.split c.args.base n h.done c.loop-c.found all none.1 (IsTextDone-none source len cs c.args.base n h.done h.current c.loop-c.found c.loop-c.reading none.0 h.read))
+          let new = seen c.loop-c.classes w.close.new.self in
+          subst (λ (walk : TextReading). IsAnswer source len cs split base (seen c.loop-c.classes walk)) (sym w.walk-is)
+          (IsTextDone-answer source len cs split base n (h.done ++ h.current ∷ []) new all (IsRead-last source len cs units split base n old reading all h rest)
+          (IsTextDone-close source len cs base n h.done h.current old reading h.read new c.loop-c.end end refl
+          (subst (λ (b : _). IsClosed b reading c.loop-c.end old.paragraphs old.flags new.paragraphs new.flags) c.loop-c.invariant.6 w.in_ok-close.ensures.closed)))
+      | else-not-split+else-walk-end w ↦
+          let none = IsRead-none source len cs units split base n old reading all h w.if-not-split.false (omega (arith, w.if-walk-end.false, end)) in
+          subst (λ (walk : TextReading). IsAnswer source len cs split base (seen c.loop-c.classes walk)) (sym w.walk-is)
+          (IsTextDone-answer source len cs split base n h.done old all none.1 (IsTextDone-none source len cs base n h.done h.current old reading none.0 h.read))
     ]
 
 pub returns-clause-classes : goal.returns-clause-classes
-returns-clause-classes g c = (answered g c).classes
+returns-clause-classes g c =
+    with_items_is c.in_ok-original_classes.original_classes c.loop-c.classes (c.loop-c.auto.classes ∙ c.as_mut_slice-classes.ensures.len) ∙ (answered g c).classes
 
 pub returns-clause-ranges : goal.returns-clause-ranges
 returns-clause-ranges g c = (answered g c).ranges
