@@ -2,12 +2,12 @@
 use Rattle.std.proofs.Common.{◌≡◌, ℕ, zero, suc, ◌+◌, ◌-◌, ◌<◌, ◌≤◌, Bool, true, false, ◌&&◌, List, [], ◌∷◌, ◌++◌, length, get_or, map, drop, replicate, refl, sym, ap, subst, ◌∙◌, arith, inl, inr, append-nil, append_assoc, length-append}
 use Rattle.std.specs.Prelude.{All}
 use Rattle.std.specs.List.{range_with_len}
-use Rattle.std.proofs.lemmas.Bool.{cases_Bool, cases_lt, both_ways, and_from, and_left}
+use Rattle.std.proofs.lemmas.Bool.{cases_Bool, cases_lt, both_ways, and_from, and_left, and_right}
 use Rattle.std.proofs.lemmas.List.{map-append}
 use Rattle.std.proofs.lemmas.List.FromFn.{length-range_with_len}
 use Rattle.std.specs.declared.ops.Range.{Range}
 use Rattle.bidi_base.specs.declared.char_data.BidiClass.{BidiClass}
-use Rattle.bidi_base.specs.declared.char_data.BidiClass.TheVariants.{L, AL, EN, ET, AN, ON}
+use Rattle.bidi_base.specs.declared.char_data.BidiClass.TheVariants.{L, AL, EN, ET, AN, BN, ON}
 use Rattle.bidi_base.specs.Classes.{is_l, is_kept_in_place}
 use Rattle.bidi_base.specs.Places.{at_places, class_at}
 use Rattle.bidi_base.specs.Units.{are_ordered, bounds, in_runs}
@@ -15,7 +15,7 @@ use Rattle.bidi_base.proofs.StoredLemmas.{at_places-append}
 use Rattle.bidi_rules.specs.declared.implicit.weak.numbers.Walk.{Walk}
 use Rattle.bidi_rules.specs.declared.implicit.weak.steps.Before.{Before}
 use Rattle.bidi_rules.specs.declared.implicit.weak.steps.Before.TheVariants.{European, EuropeanTerminators, Terminators, EuropeanSeparator, ArabicSeparator, Other}
-use Rattle.bidi_rules.specs.WeakPass.{strengthened, strong_up_to, waits, joins, next_before, settled, resolved, w7_by, left_over, is_number, still_to_come, walked}
+use Rattle.bidi_rules.specs.WeakPass.{is_asked, is_other, strengthened, strong_up_to, waits, joins, next_before, settled, resolved, w7_by, left_over, is_number, still_to_come, walked}
 use Rattle.bidi_rules.specs.WeakWalk.{is_seen, is_any, seen_units, IsWrittenOver, Pass, seen, units, IsUnderWay, IsStretch, IsWalked}
 use Rattle.bidi_rules.proofs.InRuns.{in_runs-at, in_runs-drop, start_or, start_within, gap_before, gap_after, next_start}
 use Rattle.bidi_rules.proofs.Marks.{marked-none, marked-parts, marked-empty, marked-full, at_marked-same, at_marked-all}
@@ -317,6 +317,62 @@ module _ (p : Pass) (now : List BidiClass) (w : Walk) (i : ℕ) (h : IsUnderWay 
           row_left : (l a : ℕ) → ((k : ℕ) → a ≤ k → k < a + l → left_over (class_at now2 k) ≡ own) → map left_over (at_places L now2 (range_with_len a l)) ≡ replicate l own
           row_left zero a each = refl
           row_left (suc l) a each = rw (each a (omega arith) (omega arith)) (ap (λ (cs : List BidiClass). own ∷ cs) (row_left l (a + 1) (λ k from below. each k (omega arith) (omega arith))))
+
+-- ---- a unit that is passed over
+
+record IsPassed (c strong : BidiClass) (before : Before) : Type 0 where
+  apart : joins (strengthened strong c) before ≡ false
+  next : next_before (strengthened strong c) before ≡ before
+  free : waits (next_before (strengthened strong c) before) ≡ false
+  own : left_over c ≡ w7_by (is_l strong) (resolved (strengthened strong c) before)
+  none : (n : ℕ) → still_to_come (next_before (strengthened strong c) before) n ≡ 0
+
+is_passed : (c strong : BidiClass) (before : Before) → is_asked c ≡ false → is_other before ≡ true → IsPassed c strong before
+is_passed EN strong before h other = absurd (cc h)
+is_passed AN strong before h other = absurd (cc h)
+is_passed ET strong before h other = absurd (cc h)
+is_passed _ strong Other h other = record { apart = refl; next = refl; free = refl; own = refl; none = λ n. refl }
+is_passed _ strong _ h other = absurd (cc other)
+
+other-free : (before : Before) → is_other before ≡ true → waits before ≡ false
+other-free Other h = refl
+other-free _ h = absurd (cc h)
+
+removed-weak : (strong c : BidiClass) → is_kept_in_place c ≡ false → strong_up_to strong c ≡ strong
+removed-weak strong BN h = refl
+removed-weak strong _ h = absurd (cc h)
+
+pub IsUnderWay-passes : (p : Pass) (now : List BidiClass) (w : Walk) (i run : ℕ) → IsUnderWay p now w i → run < length p.runs → (get_or p.runs run (0, 0)).0 ≤ i → i < (get_or p.runs run (0, 0)).1 → i < length p.old
+    → is_other w.before ≡ true → is_asked (class_at now i) ≡ false → IsUnderWay p now (record { strong = strong_up_to w.strong (class_at now i); before = w.before; first = w.first; first_run = w.first_run }) (i + 1)
+IsUnderWay-passes p now w i run h fits starts ends inside other asked =
+    let c = class_at p.old i in
+    let read : class_at now i ≡ c = h.unwritten i h.order in
+    let q = is_passed c w.strong w.before (ap is_asked (sym read) ∙ asked) other in
+    let at : h.from ≡ i = h.idle (other-free w.before other) in
+    elim (cases_Bool (is_kept_in_place c)) [
+      | inl kept ↦
+          let s : IsStretch p w p.runs run i (i + 1) = record {
+            runs_are = refl;
+            some = omega arith;
+            inside = omega arith;
+            kept = kept;
+            alike = λ k from below. let same : k ≡ i = omega arith in ap (class_at p.old) same;
+            single = q.none (p.len i) ∙ sym (q.none (i + 1 - i));
+            run_fits = fits;
+            run_starts = starts;
+            run_ends = omega arith;
+          } in
+          let v = w7_by (is_l w.strong) (settled (strengthened w.strong c) w.before) in
+          let none : IsWrittenOver (seen p) v h.from i now now = record { inside = λ k a b t. absurd (omega arith); failing = λ k t. refl; below = λ k a. refl; above = λ k a. refl; long = refl } in
+          IsUnderWay-same p now now _ _ (i + 1) refl (ap (strong_up_to w.strong) read) (sym q.next) refl refl
+          (IsUnderWay-decides p now w i h p.runs run (i + 1) s now none q.apart q.free now
+          (λ k from below. let same : k ≡ i = omega arith in ap left_over (ap (class_at now) same ∙ read) ∙ q.own)
+          (λ k below. refl) (λ k above. refl) refl w.first w.first_run)
+      | inr gone ↦
+          IsUnderWay-same p now now w _ (i + 1) refl (ap (strong_up_to w.strong) read ∙ removed-weak w.strong c gone) refl refl refl
+          (IsUnderWay-unseen p now w i h (i + 1) (omega arith) (omega arith)
+          (λ k from below. let same : k ≡ i = omega arith in and_right (in_runs p.runs k) (is_kept_in_place (class_at p.old k)) (ap (λ (u : ℕ). is_kept_in_place (class_at p.old u)) same ∙ gone)))
+    ]
 
 -- ---- over the runs, one behind another
 

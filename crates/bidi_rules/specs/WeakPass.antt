@@ -39,6 +39,11 @@ waits EuropeanSeparator = true
 waits ArabicSeparator = true
 waits _ = false
 
+-- nothing that is asked for
+abbrev pub is_other : Before → Bool
+is_other Other = true
+is_other _ = false
+
 -- it is a separator
 abbrev pub is_separator : Before → Bool
 is_separator EuropeanSeparator = true
@@ -134,6 +139,13 @@ abbrev pub is_number : BidiClass → Bool
 is_number EN = true
 is_number AN = true
 is_number _ = false
+
+-- a class that asks for what stands around it, or makes others ask, where nothing stands before
+abbrev pub is_asked : BidiClass → Bool
+is_asked EN = true
+is_asked AN = true
+is_asked ET = true
+is_asked _ = false
 
 -- how many units of a separator that waits come behind its first one, of n
 abbrev pub still_to_come : Before → ℕ → ℕ

@@ -109,6 +109,10 @@ pub record IsStretch (p : Pass) (w : Walk) (runs : List (ℕ × ℕ)) (run from 
 abbrev pub Reads : List (ℕ × ℕ) → ℕ → ℕ → ℕ → Walk → Walk → List BidiClass → List BidiClass → Type 0
 Reads runs run from to before after old new = (p : Pass) → IsStretch p before runs run from to → IsUnderWay p old before from → IsUnderWay p new after to
 
+-- the units of a run from `from` up to `to` do, where nothing is written
+abbrev pub Passes : ℕ → ℕ → ℕ → Walk → Walk → List BidiClass → Type 0
+Passes from to end before after now = (p : Pass) (run : ℕ) → run < length p.runs → (get_or p.runs run (0, 0)).0 ≤ from → end ≤ (get_or p.runs run (0, 0)).1 → IsUnderWay p now before from → IsUnderWay p now after to
+
 abbrev pub ReadsTo : (ℕ → ℕ) → List (ℕ × ℕ) → ℕ → ℕ → Walk → Walk → List BidiClass → List BidiClass → Type 0
 ReadsTo len runs from to before after old new = (p : Pass) → p.runs ≡ runs → p.len ≡ len → IsUnderWay p old before from → IsUnderWay p new after to
 

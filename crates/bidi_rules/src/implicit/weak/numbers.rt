@@ -2,21 +2,21 @@
 //! rules give a class that stands on several units what they give it where it stands on one; only a
 //! separator between numbers has to be one character.
 
-ghost use Rattle.std.specs.Prelude.{◌≡◌, ℕ, ◌+◌, ◌-◌, ◌<◌, ◌≤◌, true, false, length, map, drop, get_or, IsTrue};
+ghost use Rattle.std.specs.Prelude.{◌≡◌, ℕ, ◌+◌, ◌-◌, ◌<◌, ◌≤◌, true, false, not, ◌&&◌, length, map, drop, get_or, IsTrue};
 ghost use Rattle.std.specs.List.{list_any};
 ghost use Rattle.bidi_base.specs.Places.{class_at};
 ghost use Rattle.bidi_base.specs.Text.{text_len, IsPerChar};
 ghost use Rattle.bidi_base.specs.Units.{bounds, are_ordered, AreLines};
 ghost use Rattle.bidi_rules.specs.ExplicitPass.{filled};
-ghost use Rattle.bidi_rules.specs.WeakPass.{is_number, next_before, still_to_come, strengthened, waits};
-ghost use Rattle.bidi_rules.specs.WeakWalk.{is_any, is_seen, len_at, IsWalked, IsWhole, IsWrittenOver, Reads, ReadsTo};
+ghost use Rattle.bidi_rules.specs.WeakPass.{is_asked, is_number, is_other, next_before, still_to_come, strengthened, waits};
+ghost use Rattle.bidi_rules.specs.WeakWalk.{is_any, is_seen, len_at, IsWalked, IsWhole, IsWrittenOver, Passes, Reads, ReadsTo};
 
 use super::left_over::left_over;
 use super::steps::{Before, numbered, strengthened, strong_up_to};
 use super::{part_of, write_over_runs};
 use crate::implicit::is_kept_in_place;
 use crate::prepare::LevelRun;
-use bidi_base::char_data::BidiClass::{self, AN, EN, ON};
+use bidi_base::char_data::BidiClass::{self, AN, EN, ET, ON};
 use bidi_base::text::TextSource;
 
 /// What a walk over a sequence knows of the units that it has read.
@@ -102,12 +102,47 @@ impl Walk {
         let end = runs[run].end;
         let mut at = runs[run].start;
         while at < end {
+            if self.passes_over(classes[at]) {
+                at = self.pass_over(classes, at, end);
+                continue;
+            }
             let next = self.stretch_end(text, classes, at, end);
             if is_kept_in_place(classes[at]) {
                 self.read(runs, run, classes, at, next);
             }
             at = next;
         }
+    }
+
+    /// Whether a unit of this class is passed over: nothing that is asked for stands before it, and it
+    /// asks for nothing.
+    fn passes_over(&self, class: BidiClass) -> bool
+        ensures { result ≡ (is_other self.now.before && not (is_asked class)) }
+    {
+        matches!(self.before, Before::Other) && !is_asked(class)
+    }
+
+    /// Passes over the units from `at` on, the first one and those behind it that ask for nothing, below
+    /// `end`. Answers where they end.
+    fn pass_over(&mut self, classes: &[BidiClass], at: usize, end: usize) -> usize
+        requires other { is_other self.old.before ≡ true }
+        requires first { is_asked (class_at classes.now at) ≡ false }
+        requires some { at < end }
+        requires inside { end ≤ length classes.now }
+        ensures some { at < result }
+        ensures within { result ≤ end }
+        ensures first_run { self.new.first_run ≡ self.old.first_run }
+        ensures passes { Passes at result end self.old self.new classes.now }
+    {
+        self.strong = strong_up_to(self.strong, classes[at]);
+        for unit in at + 1..end {
+            let class = classes[unit];
+            if is_asked(class) {
+                return unit;
+            }
+            self.strong = strong_up_to(self.strong, class);
+        }
+        end
     }
 
     /// The end of the stretch that begins at the unit `at`: units of one class, below `end`. Where one
@@ -195,6 +230,13 @@ fn fill(classes: &mut [BidiClass], start: usize, end: usize, class: BidiClass)
     ensures { classes.new ≡ filled start (end - start) class classes.old }
 {
     classes[start..end].fill(class);
+}
+
+/// Whether a class asks for what stands around it, or makes others ask, where nothing stands before.
+fn is_asked(class: BidiClass) -> bool
+    ensures { result ≡ is_asked class }
+{
+    matches!(class, EN | AN | ET)
 }
 
 /// The end of the units from `at` on that have the class of the first, below `end`.
