@@ -16,7 +16,7 @@ use bidi_rules::explicit::compute;
 use bidi_rules::implicit::{NeutralResolver, resolve_levels, resolve_neutral, resolve_weak};
 use bidi_rules::prepare::{IsolatingRunSequence, LevelRunVec, isolating_run_sequences};
 use std::alloc::Global;
-use unicode_bidi::ParagraphBidiInfo;
+use unicode_bidi::InitialInfo;
 
 // The most units that a text here has.
 const ROOM: usize = 256;
@@ -303,8 +303,8 @@ pub fn run(rt: &(impl Print + AllocGlobal), source: &TableBidiData<'_>) -> Resul
     for (text, has_isolate_controls) in [(TEXT, true), (WITHOUT_ISOLATES, false)] {
         let info = tried!(
             rt,
-            "ParagraphBidiInfo::new_with_data_source",
-            ParagraphBidiInfo::new_with_data_source(rt.alloc(), source, text, None)
+            "InitialInfo::new_with_data_source",
+            InitialInfo::new_with_data_source(rt.alloc(), source, text, None)
         );
         let of = Classified {
             text: StrText::new(text),

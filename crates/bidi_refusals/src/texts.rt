@@ -1,4 +1,4 @@
-//! Texts of two paragraphs and more, with isolates, embeddings, overrides, brackets, numbers and marks.
+//! Texts with isolates, embeddings, brackets and numbers.
 
 /// A text whose second paragraph is from right to left.
 #[rattlefmt::skip]
@@ -15,11 +15,9 @@ pub const LENGTH: usize = 8;
 #[rattlefmt::skip]
 pub static CHARACTERS: [char; LENGTH] = ['\u{5D0}', '(', '\u{2067}', 'b', '\u{2069}', ')', '1', ' '];
 
-/// A text in which each list grows more than once.
+/// A text with more isolates than a list has room for at first.
 #[rattlefmt::skip]
-pub const LONG_TEXT: &str = "a(\u{5D0}[b]\u{5D1})1+2 \u{2067}\u{627}3,4{\u{5D2}\u{2066}c\u{2069}}\u{202B}d\u{202C}\u{2068}\u{5D3}\u{2069}\u{2069}\u{AD}\u{301}\n\
-    \u{5D0}\u{2066}(\u{2066}[\u{2066}{\u{2066}a\u{2067}\u{5D1}\u{2068}\u{5D2}\u{2069}\u{2069}\u{2069}}\u{2069}]\u{2069})\u{2069} \n\
-    car [1] \u{202E}ab\u{2067}c\u{2069}\u{202C}";
+pub const LONG_TEXT: &str = "\u{5D0}\u{2066}a\u{2067}(b)\u{2066}[\u{5D1}]\u{2068}c\u{2066}1\u{2069}\u{2069}\u{2069}\u{2069}\u{2069}";
 
 /// A text of one paragraph without isolates.
 pub const WITHOUT_ISOLATES: &str = "a \u{202B}(\u{5D0})\u{202C}";
