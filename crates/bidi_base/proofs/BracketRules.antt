@@ -96,7 +96,7 @@ with_bracket-filled source classes ys b m d long inside counted filled =
       ]
     ]
 
-length-with_bracket : (source classes : List BidiClass) (b : ℕ) (d : BidiClass) → length (with_bracket source b classes d) ≡ length classes
+pub length-with_bracket : (source classes : List BidiClass) (b : ℕ) (d : BidiClass) → length (with_bracket source b classes d) ≡ length classes
 length-with_bracket source classes b d = length-map-range_with_len (λ k. cond (eqb k b || is_mark_after source b k) d (class_at classes k)) 0 (length classes)
 
 twice : (a b s t : Bool) (d x : BidiClass) → cond (b || t) d (cond (a || s) d x) ≡ cond (((a || b) || s) || t) d x

@@ -1,5 +1,6 @@
 pub mod AgreeLemmas
 pub mod Blocks
+pub mod BracketPlaces
 pub mod BracketRules
 pub mod BracketSearch
 pub mod BracketsLemmas

@@ -45,7 +45,7 @@ pub direction_of-l_or_r : (level : ℕ) → is_l_or_r (direction_of level) ≡ t
 direction_of-l_or_r level = chosen is_l_or_r (is_odd level) R L refl refl
 
 -- what a pair takes is L or R
-pair_direction-l_or_r : (e sos : BidiClass) (classes : List BidiClass) (pair : ℕ × ℕ) (d : BidiClass) → is_l_or_r e ≡ true → is_l_or_r sos ≡ true → pair_direction e sos classes pair ≡ Some d → is_l_or_r d ≡ true
+pub pair_direction-l_or_r : (e sos : BidiClass) (classes : List BidiClass) (pair : ℕ × ℕ) (d : BidiClass) → is_l_or_r e ≡ true → is_l_or_r sos ≡ true → pair_direction e sos classes pair ≡ Some d → is_l_or_r d ≡ true
 unfolding pair_direction
 pair_direction-l_or_r e sos classes pair d h k is =
     by_test (list_any (same_class e) (directions_between classes pair)) (find (λ _. true) (directions_between classes pair)) is

@@ -12,12 +12,12 @@ use Rattle.bidi_base.specs.Brackets.{IsBehindOrWithin}
 use Rattle.bidi_base.specs.Neutral.{pair_direction, is_mark_after, goes_with_pair, with_pair, n0_pair}
 use Rattle.bidi_base.proofs.Lists.{cases_Option}
 
-is_mark_after-before : (source : List BidiClass) (b k : ℕ) → k ≤ b → is_mark_after source b k ≡ false
+pub is_mark_after-before : (source : List BidiClass) (b k : ℕ) → k ≤ b → is_mark_after source b k ≡ false
 unfolding is_mark_after
 is_mark_after-before source b k before = and_left (ltb b k) (list_all is_nsm (slice_range source (b + 1) (k + 1))) (le-ltb b k before)
 
 -- the marks end where a character is none
-is_mark_after-stopped : (source : List BidiClass) (b m k : ℕ) → b < m → m ≤ k → m < length source → is_nsm (class_at source m) ≡ false → is_mark_after source b k ≡ false
+pub is_mark_after-stopped : (source : List BidiClass) (b m k : ℕ) → b < m → m ≤ k → m < length source → is_nsm (class_at source m) ≡ false → is_mark_after source b k ≡ false
 unfolding is_mark_after
 is_mark_after-stopped source b m k after to fits none =
     let marks = slice_range source (b + 1) (k + 1) in

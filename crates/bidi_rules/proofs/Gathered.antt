@@ -1,62 +1,99 @@
--- What is gathered of a sequence's characters, one after another.
-use Rattle.std.proofs.Common.{◌≡◌, ℕ, List, [], ◌∷◌, ◌++◌, length, map, get_or, Option, refl, sym, ap, ◌∙◌}
-use Rattle.std.proofs.lemmas.List.{map-append, length-map}
+-- The brackets of a sequence by the units at which they begin: as they are gathered, and that they pair as the definitions say.
+use Rattle.std.proofs.Common.{◌≡◌, ℕ, suc, ◌+◌, ◌<◌, false, List, [], ◌∷◌, ◌++◌, length, map, get_or, Option, Some, None, refl, sym, ap, subst, ◌∙◌, arith, append-nil, append_assoc, inl, inr}
+use Rattle.std.proofs.lemmas.Bool.{cases_Bool, cond-true, cond-false}
+use Rattle.std.proofs.lemmas.Grind.{flat_map-append}
+use Rattle.std.proofs.lemmas.List.{length-map}
+use Rattle.bidi_base.specs.declared.brackets.Bracket.{Bracket}
 use Rattle.bidi_base.specs.declared.char_data.BidiClass.{BidiClass}
-use Rattle.bidi_base.specs.declared.char_data.BidiClass.TheVariants.{L}
+use Rattle.bidi_base.specs.declared.char_data.BidiClass.TheVariants.{L, BN}
 use Rattle.bidi_base.specs.declared.data_source.BidiMatchedOpeningBracket.{BidiMatchedOpeningBracket}
-use Rattle.bidi_base.specs.Brackets.{counted_bracket}
+use Rattle.bidi_base.specs.Brackets.{counted_bracket, counted_brackets, AreNestedPairs}
+use Rattle.bidi_base.specs.Classes.{is_kept_in_place}
+use Rattle.bidi_base.specs.FoundBrackets.{brackets_from, found_brackets, ArePairsOf}
 use Rattle.bidi_base.specs.Places.{at_places, class_at}
 use Rattle.bidi_base.specs.Source.{Source}
-use Rattle.bidi_base.specs.Text.{place}
-use Rattle.bidi_base.proofs.StoredLemmas.{at_places-append, length-at_places}
-use Rattle.bidi_base.specs.declared.brackets.Bracket.{Bracket}
-use Rattle.bidi_base.specs.FoundBrackets.{brackets_from, found_brackets}
-use Rattle.bidi_rules.specs.NeutralPass.{values_of, AreBracketsOf, AreGathered}
-use Rattle.bidi_base.proofs.FoundBracketsLemmas.{found_brackets-push}
-use Rattle.bidi_rules.proofs.KeptRuns.{values_of-append}
-
-found_brackets-none : found_brackets [] [] ≡ []
-unfolding found_brackets
-found_brackets-none = refl
-
-pub length-values_of : {X : Type 0} (len_of : ℕ → ℕ) (chars : List ℕ) (d : X) (values : List X) (ks : List ℕ) → length (values_of d len_of chars values ks) ≡ length ks
-length-values_of len_of chars d values ks = length-at_places d values (map (place len_of chars) ks) ∙ length-map ks (place len_of chars)
+use Rattle.bidi_base.specs.Text.{char_index, place}
+use Rattle.bidi_base.specs.Units.{bounds, kept_in_place}
+use Rattle.bidi_base.proofs.BracketPlaces.{moved, bracket_pairs-moved}
+use Rattle.bidi_base.proofs.NestedPairs.{bracket_pairs-nested}
+use Rattle.bidi_base.proofs.StoredLemmas.{length-at_places}
+use Rattle.bidi_base.proofs.TextLemmas.{HasUnits}
+use Rattle.bidi_rules.specs.NeutralPass.{kept_among, pairs_in, placed_bracket, placed_brackets, values_of, IsReady}
+use Rattle.bidi_rules.specs.PairWalk.{at_spots, spot}
+use Rattle.bidi_rules.proofs.KeptRuns.{kept_so_far, kept_so_far-step}
+use Rattle.bidi_rules.proofs.Spots.{length-values_of, spot-in, spot-rises}
+use Rattle.std.specs.declared.ops.Range.{Range}
 
 module _ (len_of : ℕ → ℕ) (chars : List ℕ) (source : Source) (units : List BidiClass) where
-  abbrev sources_of : List ℕ → List (Option BidiMatchedOpeningBracket)
-  sources_of ks = map source.bracket_of (at_places 0 chars ks)
+  abbrev placed : List ℕ → List Bracket
+  placed ks = placed_brackets len_of chars source units ks
 
-  length-sources_of : (ks : List ℕ) → length (sources_of ks) ≡ length ks
-  length-sources_of ks = length-map (at_places 0 chars ks) source.bracket_of ∙ length-at_places 0 chars ks
+  pub placed-append : (ks js : List ℕ) → placed (ks ++ js) ≡ placed ks ++ placed js
+  placed-append ks js = flat_map-append (placed_bracket len_of chars source units) ks js
 
-  pub AreGathered-none : (ks : List ℕ) (classes : List BidiClass) (brackets : List Bracket) → ks ≡ [] → classes ≡ [] → brackets ≡ [] → AreGathered len_of chars source units ks classes brackets
-  AreGathered-none ks classes brackets no_ks no_classes no_brackets = record {
-    classes_are = no_classes ∙ sym (ap (values_of L len_of chars units) no_ks);
-    brackets_are = no_brackets
-        ∙ sym found_brackets-none
-        ∙ sym (ap (λ (xs : List BidiClass). found_brackets xs (sources_of ks)) no_classes ∙ ap (λ (js : List ℕ). found_brackets [] (sources_of js)) no_ks);
-  }
+  -- what is removed is no bracket that counts
+  removed-none : (c : BidiClass) (o : Option BidiMatchedOpeningBracket) (u : ℕ) → is_kept_in_place c ≡ false → brackets_from u (counted_bracket c o ∷ []) ≡ []
+  removed-none BN o u h = refl
+  removed-none _ o u h = absurd (cc h)
 
-  pub AreGathered-more : (ks : List ℕ) (k c : ℕ) (class : BidiClass) (classes classes1 : List BidiClass) (brackets brackets1 : List Bracket)
-      → class_at units (place len_of chars k) ≡ class → get_or chars k 0 ≡ c → classes1 ≡ classes ++ class ∷ [] → brackets1 ≡ brackets ++ brackets_from (length classes) (counted_bracket class (source.bracket_of c) ∷ [])
-      → AreGathered len_of chars source units ks classes brackets → AreGathered len_of chars source units (ks ++ k ∷ []) classes1 brackets1
-  AreGathered-more ks k c class classes classes1 brackets brackets1 class_is char_is pushed found h = record {
-    classes_are = pushed
-        ∙ ap (λ (xs : List BidiClass). xs ++ class ∷ []) h.classes_are
-        ∙ ap (λ (x : BidiClass). values_of L len_of chars units ks ++ x ∷ []) (sym class_is)
-        ∙ sym (values_of-append len_of chars L units ks (k ∷ []));
-    brackets_are = found
-        ∙ ap (λ (bs : List Bracket). bs ++ brackets_from (length classes) (counted_bracket class (source.bracket_of c) ∷ [])) h.brackets_are
-        ∙ sym (found_brackets-push classes (sources_of ks) class (source.bracket_of c) (length-sources_of ks ∙ sym (ap length h.classes_are ∙ length-values_of len_of chars L units ks)))
-        ∙ ap (λ (xs : List BidiClass). found_brackets xs (sources_of ks ++ source.bracket_of c ∷ [])) (sym pushed)
-        ∙ ap (found_brackets classes1)
-        (ap (λ x. sources_of ks ++ source.bracket_of x ∷ []) (sym char_is)
-        ∙ sym (ap (map source.bracket_of) (at_places-append 0 chars ks (k ∷ [])) ∙ map-append source.bracket_of (at_places 0 chars ks) (get_or chars k 0 ∷ [])));
-  }
+  placed-one : (k : ℕ) → placed (kept_among len_of chars units (k ∷ [])) ≡ placed_bracket len_of chars source units k
+  placed-one k = elim (cases_Bool (is_kept_in_place (class_at units (place len_of chars k)))) [
+    | inl yes' ↦ ap placed (cond-true (is_kept_in_place (class_at units (place len_of chars k))) (k ∷ []) [] yes') ∙ append-nil (placed_bracket len_of chars source units k)
+    | inr no' ↦
+        ap placed (cond-false (is_kept_in_place (class_at units (place len_of chars k))) (k ∷ []) [] no')
+        ∙ sym (removed-none (class_at units (place len_of chars k)) (source.bracket_of (get_or chars k 0)) (place len_of chars k) no')
+  ]
 
-  -- the brackets are those of the classes
-  pub AreGathered-brackets : (ks : List ℕ) (classes : List BidiClass) (brackets : List Bracket) → AreGathered len_of chars source units ks classes brackets → AreBracketsOf classes brackets
-  AreGathered-brackets ks classes brackets h = (sources_of ks, length-sources_of ks ∙ sym (ap length h.classes_are ∙ length-values_of len_of chars L units ks), h.brackets_are)
+  -- one character more of a line
+  pub placed-more : (start n u c : ℕ) (before old new : List Bracket) → place len_of chars (char_index len_of chars start + n) ≡ u → get_or chars (char_index len_of chars start + n) 0 ≡ c
+      → old ≡ before ++ placed (kept_so_far len_of chars units start n) → new ≡ old ++ brackets_from u (counted_bracket (class_at units u) (source.bracket_of c) ∷ [])
+      → new ≡ before ++ placed (kept_so_far len_of chars units start (n + 1))
+  placed-more start n u c before old new here is_char held pushed =
+      let k = char_index len_of chars start + n in
+      let so_far = kept_so_far len_of chars units start n in
+      let one : brackets_from u (counted_bracket (class_at units u) (source.bracket_of c) ∷ []) ≡ placed_bracket len_of chars source units k =
+      ap (λ (d : ℕ). brackets_from u (counted_bracket (class_at units u) (source.bracket_of d) ∷ [])) (sym is_char)
+      ∙ ap (λ (v : ℕ). brackets_from v (counted_bracket (class_at units v) (source.bracket_of (get_or chars k 0)) ∷ [])) (sym here) in
+      pushed
+      ∙ ap (λ (bs : List Bracket). bs ++ brackets_from u (counted_bracket (class_at units u) (source.bracket_of c) ∷ [])) held
+      ∙ append_assoc before (placed so_far) (brackets_from u (counted_bracket (class_at units u) (source.bracket_of c) ∷ []))
+      ∙ ap (λ (bs : List Bracket). before ++ (placed so_far ++ bs)) (one ∙ sym (placed-one k))
+      ∙ ap (λ (bs : List Bracket). before ++ bs) (sym (ap placed (kept_so_far-step len_of chars units start n) ∙ placed-append so_far (kept_among len_of chars units (k ∷ []))))
 
-  pub AreGathered-length : (ks : List ℕ) (classes : List BidiClass) (brackets : List Bracket) → AreGathered len_of chars source units ks classes brackets → length classes ≡ length ks
-  AreGathered-length ks classes brackets h = ap length h.classes_are ∙ length-values_of len_of chars L units ks
+  -- ---- all of them
+
+  step : (f : ℕ → ℕ) (rises : (i j : ℕ) → i < j → f i < f j) (o : Option BidiMatchedOpeningBracket) (u j : ℕ) (rest : List (Option BidiMatchedOpeningBracket)) (tail : List Bracket) → f j ≡ u → tail ≡ map (moved f rises) (brackets_from (j + 1) rest)
+      → brackets_from u (o ∷ []) ++ tail ≡ map (moved f rises) (brackets_from j (o ∷ rest))
+  step f rises None u j rest tail at is = is
+  step f rises (Some b) u j rest tail at is =
+      ap (λ (v : ℕ). let x : Bracket = record { index = v; opening = b.opening; is_open = b.is_open } in x ∷ tail) (sym at)
+      ∙ ap (λ (bs : List Bracket). let x : Bracket = record { index = f j; opening = b.opening; is_open = b.is_open } in x ∷ bs) is
+
+  placed-moved : (f : ℕ → ℕ) (rises : (i j : ℕ) → i < j → f i < f j) (j : ℕ) (ks : List ℕ) → ((i : ℕ) → i < length ks → f (j + i) ≡ place len_of chars (get_or ks i 0))
+      → placed ks ≡ map (moved f rises) (brackets_from j (counted_brackets (values_of L len_of chars units ks) (map source.bracket_of (at_places 0 chars ks))))
+  placed-moved f rises j [] at = refl
+  placed-moved f rises j (k ∷ ks) at =
+      let same : j + 0 ≡ j = omega arith in
+      step f rises (counted_bracket (class_at units (place len_of chars k)) (source.bracket_of (get_or chars k 0))) (place len_of chars k) j
+      (counted_brackets (values_of L len_of chars units ks) (map source.bracket_of (at_places 0 chars ks))) (placed ks) (ap f (sym same) ∙ at 0 (omega arith))
+      (placed-moved f rises (j + 1) ks (λ i below. let next : j + 1 + i ≡ j + suc i = omega arith in ap f next ∙ at (suc i) (omega arith)))
+
+-- the pairs found are those of the definitions, by their places
+pub pairs-placed : (len_of : ℕ → ℕ) (h : HasUnits len_of) (chars : List ℕ) (source : Source) (runs : List (Range ℕ)) (sos : BidiClass) (old : List BidiClass) → IsReady len_of chars runs sos old
+    → (brackets : List Bracket) (pairs : List (ℕ × ℕ)) → brackets ≡ placed_brackets len_of chars source old (kept_in_place len_of chars old (map bounds runs)) → ArePairsOf brackets pairs
+    → pairs ≡ at_spots len_of chars (kept_in_place len_of chars old (map bounds runs)) (pairs_in len_of chars source old runs)
+unfolding found_brackets
+pairs-placed len_of h chars source runs sos old ready brackets pairs is search =
+    let ks = kept_in_place len_of chars old (map bounds runs) in
+    let f = spot len_of chars ks in
+    let rises = spot-rises len_of h chars old (map bounds runs) ready.lines ready.ordered in
+    bracket_pairs-moved f rises brackets pairs (values_of L len_of chars old ks) (map source.bracket_of (at_places 0 chars ks)) search
+    (is ∙ placed-moved len_of chars source old f rises 0 ks (λ i below. let same : 0 + i ≡ i = omega arith in ap f same ∙ spot-in len_of h chars old (map bounds runs) ready.lines ready.ordered i below))
+
+pub pairs-nested : (len_of : ℕ → ℕ) (chars : List ℕ) (source : Source) (runs : List (Range ℕ)) (old : List BidiClass) → AreNestedPairs (length (kept_in_place len_of chars old (map bounds runs))) (pairs_in len_of chars source old runs)
+pairs-nested len_of chars source runs old =
+    let ks = kept_in_place len_of chars old (map bounds runs) in
+    let sources = map source.bracket_of (at_places 0 chars ks) in
+    let long = length-values_of len_of chars L old ks in
+    subst (λ n. AreNestedPairs n (pairs_in len_of chars source old runs)) long
+    (bracket_pairs-nested (values_of L len_of chars old ks) sources (length-map (at_places 0 chars ks) source.bracket_of ∙ length-at_places 0 chars ks ∙ sym long))

@@ -1,3 +1,4 @@
+pub mod CharEnds
 pub mod ExplicitUnits
 pub mod FirstKept
 pub mod Gathered
@@ -6,13 +7,14 @@ pub mod KeptRangeLemmas
 pub mod KeptRuns
 pub mod LevelRunLemmas
 pub mod Marks
+pub mod NearestLemmas
 pub mod NeutralScan
 pub mod NeutralSteps
 pub mod NeutralUnits
 pub mod OneDirection
-pub mod PairWalkLemmas
+pub mod PairPlaces
+pub mod PairSteps
 pub mod PassOverText
-pub mod PutAt
 pub mod RunCutting
 pub mod RunJoined
 pub mod RunJoining
@@ -21,6 +23,7 @@ pub mod RunPass
 pub mod RunReading
 pub mod RunUnits
 pub mod SeenUnits
+pub mod Spots
 pub mod StackLemmas
 pub mod WalkLemmas
 pub mod WeakMarks
@@ -28,5 +31,4 @@ pub mod WeakPassLemmas
 pub mod WeakText
 pub mod WeakUnits
 pub mod WeakWalkLemmas
-pub mod WritingBack
 pub mod WrittenOver

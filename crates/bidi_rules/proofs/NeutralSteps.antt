@@ -1,10 +1,10 @@
 -- The steps of N0 to N2 over a sequence, one after the other.
-use Rattle.std.proofs.Common.{◌≡◌, Bool, ℕ, length-set, get_or-set_same, get_or-set_other, get_or, set, inl, inr, ◌+◌, ◌<◌, ◌≤◌, true, false, ◌&&◌, ltb, List, [], ◌∷◌, length, map, find, slice_get, Option, Some, None, refl, sym, ap, subst, ◌∙◌, arith}
+use Rattle.std.proofs.Common.{◌≡◌, ℕ, ◌+◌, ◌<◌, ◌≤◌, true, false, ◌&&◌, ltb, List, [], ◌∷◌, length, map, find, slice_get, Option, Some, None, refl, sym, ap, subst, ◌∙◌, arith}
 use Rattle.std.specs.Prelude.{All}
 use Rattle.std.specs.List.{list_all}
 use Rattle.std.specs.declared.ops.Range.{Range}
-use Rattle.std.proofs.lemmas.Bool.{cases_Bool, cases_lt, cases_eq, and_parts, and_from, and_cases, and_left, and_right}
-use Rattle.std.proofs.lemmas.List.{nil_from_length, get_or_past}
+use Rattle.std.proofs.lemmas.Bool.{and_parts, and_left, and_right}
+use Rattle.std.proofs.lemmas.List.{nil_from_length}
 use Rattle.std.proofs.lemmas.List.Elements.{All-weaker}
 use Rattle.bidi_base.specs.declared.char_data.BidiClass.{BidiClass}
 use Rattle.bidi_base.specs.declared.char_data.BidiClass.TheVariants.{L, BN}
@@ -16,7 +16,7 @@ use Rattle.bidi_base.specs.Neutral.{n0, n1_rule, n1_n2, neutral_classes}
 use Rattle.bidi_base.specs.Places.{at_places, class_at, first_or}
 use Rattle.bidi_base.specs.Sequences.{level_at}
 use Rattle.bidi_base.specs.Source.{Source}
-use Rattle.bidi_base.specs.Text.{place, text_len, is_per_char, per_char, per_unit, IsLine}
+use Rattle.bidi_base.specs.Text.{place, text_len, is_per_char, per_unit, IsLine}
 use Rattle.bidi_base.specs.Units.{bounds, are_ordered, in_runs, kept_in_place, units_in_runs, AreLines}
 use Rattle.bidi_base.proofs.NeutralLemmas.{direction_of-l_or_r, n0-resolved}
 use Rattle.bidi_base.proofs.PermutationLemmas.{Ascends}
@@ -29,18 +29,12 @@ use Rattle.bidi_base.proofs.ResolvedLemmas.{length-n0}
 use Rattle.bidi_base.proofs.TextLemmas.{HasUnits, is_boundary-le}
 use Rattle.bidi_base.proofs.UnitsLemmas.{IsPerChar-from_is_per_char, is_per_char-from_IsPerChar, length-from_IsPerChar}
 use Rattle.bidi_rules.specs.declared.prepare.lent.LentSequence.{LentSequence}
-use Rattle.bidi_rules.specs.NeutralPass.{put_at, seen_units, values_of, IsPaired, IsReady}
+use Rattle.bidi_rules.specs.NeutralPass.{seen_units, values_of, pairs_in, IsPaired, IsReady}
 use Rattle.bidi_rules.specs.RunSequence.{lent_runs, lent_sos, lent_eos}
 use Rattle.bidi_rules.specs.WeakWalk.{is_seen}
 use Rattle.bidi_rules.proofs.FirstKept.{first_kept-is, first-Some, first-None}
-use Rattle.bidi_rules.proofs.Gathered.{length-values_of}
-use Rattle.bidi_base.proofs.PerUnit.{length-per_unit, length-per_char, get_or-per_char, get_or-per_unit}
-use Rattle.bidi_base.proofs.PlaceLemmas.{place-more, unit_of}
-use Rattle.bidi_rules.proofs.NeutralUnits.{kept_units, removed_units, outside_units, IsPerChar-units}
-use Rattle.bidi_rules.proofs.PassOverText.{alike_class}
-use Rattle.bidi_rules.proofs.PutAt.{length-put_at}
 use Rattle.bidi_rules.proofs.SeenUnits.{kept_in_place-alike, ruled-places, ruled-IsPerChar, seen-every}
-use Rattle.bidi_rules.proofs.PutAt.{Ascends-within}
+use Rattle.bidi_rules.proofs.Spots.{Ascends-within}
 use Rattle.bidi_rules.proofs.KeptRuns.{kept_in_place-Ascends}
 use Rattle.bidi_rules.proofs.WalkLemmas.{is_run_sequence-ordered}
 
@@ -126,7 +120,7 @@ pub record IsResolved (len_of : ℕ → ℕ) (chars : List ℕ) (source : Source
   pub per_char : is_per_char class_eq len_of chars new ≡ true
 
 module _ (len_of : ℕ → ℕ) (h : HasUnits len_of) (chars : List ℕ) (source : Source) (original old mid : List BidiClass) (runs : List (Range ℕ)) (e sos : BidiClass) (ready : IsReady len_of chars runs sos old)
-    (p : IsPaired len_of chars source original old mid runs e sos) where
+    (p : IsPaired len_of chars original old mid runs e sos (pairs_in len_of chars source old runs)) where
   abbrev rs : List (ℕ × ℕ)
   rs = map bounds runs
 
@@ -208,76 +202,3 @@ pub IsResolved-sequence : (len_of : ℕ → ℕ) (chars : List ℕ) (source : So
 IsResolved-sequence len_of chars source levels original old new sequence runs sos eos runs_are sos_is eos_is r =
     subst (λ (rs : List (Range ℕ)). IsResolved len_of chars source levels original old new rs (lent_sos sequence) (lent_eos sequence)) runs_are
     (subst (λ (s : BidiClass). IsResolved len_of chars source levels original old new runs s (lent_eos sequence)) sos_is (subst (IsResolved len_of chars source levels original old new runs sos) eos_is r))
-
--- ---- N0 over what was gathered, written back
-
-kept-resolved : (c : BidiClass) → is_weak_resolved c ≡ true → is_kept_in_place c ≡ true
-kept-resolved BN h = absurd (cc h)
-kept-resolved _ h = refl
-
-removed-BN : (c : BidiClass) → is_kept_in_place c ≡ false → c ≡ BN
-removed-BN BN h = refl
-removed-BN _ h = absurd (cc h)
-
-put_at-every : (test : BidiClass → Bool) (ks : List ℕ) (vs xs : List BidiClass) (j : ℕ) → list_all test vs ≡ true → test (get_or xs j L) ≡ true → test (get_or (put_at ks vs xs) j L) ≡ true
-put_at-every test [] vs xs j each h = h
-put_at-every test (k ∷ ks) [] xs j each h = h
-put_at-every test (k ∷ ks) (v ∷ vs) xs j each h =
-    let parts = and_parts (test v) (list_all test vs) each in
-    put_at-every test ks vs (set xs k v) j parts.1
-    (elim (cases_eq j k) [
-      | inl same ↦ elim (cases_lt k (length xs)) [
-        | inl inside ↦ ap test (ap (λ i. get_or (set xs k v) i L) same ∙ get_or-set_same xs k v L inside) ∙ parts.0
-        | inr past ↦ ap test (get_or_past (set xs k v) j L (omega (arith, length-set xs k v)) ∙ sym (get_or_past xs j L (omega arith))) ∙ h
-      ]
-      | inr other ↦ ap test (get_or-set_other xs k j v L other) ∙ h
-    ])
-
-kept-all : (cs : List BidiClass) → list_all is_weak_resolved cs ≡ true → list_all is_kept_in_place cs ≡ true
-kept-all [] h = refl
-kept-all (c ∷ cs) h =
-    let parts = and_parts (is_weak_resolved c) (list_all is_weak_resolved cs) h in
-    and_from (is_kept_in_place c) (list_all is_kept_in_place cs) (kept-resolved c parts.0) (kept-all cs parts.1)
-
-pub IsPaired-written : (len_of : ℕ → ℕ) (h : HasUnits len_of) (chars : List ℕ) (source : Source) (original old : List BidiClass) (runs : List (Range ℕ)) (e sos : BidiClass) → IsReady len_of chars runs sos old → is_l_or_r e ≡ true
-    → (gathered paired mid : List BidiClass) → (let read = kept_in_place len_of chars old (map bounds runs) in gathered ≡ values_of L len_of chars old read)
-    → (let read = kept_in_place len_of chars old (map bounds runs) in paired ≡ n0 e sos (values_of L len_of chars original read) (bracket_pairs gathered (map source.bracket_of (at_places 0 chars read))) gathered)
-    → mid ≡ per_unit len_of chars (put_at (kept_in_place len_of chars old (map bounds runs)) paired (per_char L len_of chars old)) → IsPaired len_of chars source original old mid runs e sos
-IsPaired-written len_of h chars source original old runs e sos ready side gathered paired mid gathered_is paired_is mid_is =
-    let rs = map bounds runs in
-    let read = kept_in_place len_of chars old rs in
-    let sources = values_of L len_of chars original read in
-    let brackets = map source.bracket_of (at_places 0 chars read) in
-    let classes = values_of L len_of chars old read in
-    let values = put_at read paired (per_char L len_of chars old) in
-    let is : paired ≡ n0 e sos sources (bracket_pairs classes brackets) classes = paired_is ∙ ap (λ (cs : List BidiClass). n0 e sos sources (bracket_pairs cs brackets) cs) gathered_is in
-    let many : length paired ≡ length read = ap length is ∙ length-n0 e sos sources (bracket_pairs classes brackets) classes ∙ length-values_of len_of chars L old read in
-    let each : list_all is_weak_resolved paired ≡ true = ap (list_all is_weak_resolved) is ∙ n0-resolved e sos sources (bracket_pairs classes brackets) classes side ready.side ready.resolved in
-    let size : length values ≡ length chars = length-put_at read paired (per_char L len_of chars old) ∙ length-per_char L len_of chars old in
-    let gone : (u : ℕ) → is_kept_in_place (class_at old u) ≡ false → class_at mid u ≡ class_at old u =
-    λ u none. removed_units len_of h chars old ready.per_char rs ready.lines ready.ordered paired mid mid_is u (removed-BN (class_at old u) none) ∙ sym (removed-BN (class_at old u) none) in
-    let stays : (u : ℕ) → is_kept_in_place (class_at old u) ≡ true → is_kept_in_place (class_at mid u) ≡ true =
-    λ u some. elim (cases_lt u (text_len len_of chars)) [
-      | inl inside ↦
-          let w = unit_of len_of chars u inside in
-          let at = w.at_place in
-          let short = w.below in
-          let more = place-more len_of chars w.index 0 w.within in
-          let is_there : class_at mid u ≡ get_or values w.index L =
-          ap (λ (us : List BidiClass). class_at us u) mid_is ∙ ap (class_at (per_unit len_of chars values)) w.at_place ∙ get_or-per_unit len_of chars values w.index w.offset 0 L size w.within w.below in
-          let was : class_at old u ≡ get_or (per_char L len_of chars old) w.index L =
-          alike_class len_of h chars old ready.per_char w.index u w.within (omega arith) (omega arith) ∙ sym (get_or-per_char L len_of chars old w.index L w.within) in
-          ap is_kept_in_place is_there ∙ put_at-every is_kept_in_place read paired (per_char L len_of chars old) w.index (kept-all paired each) (ap is_kept_in_place (sym was) ∙ some)
-      | inr past ↦
-          ap is_kept_in_place (get_or_past mid u L (omega (arith, ap length mid_is, length-per_unit len_of chars values size)))
-    ]
-    in
-    record {
-      paired = kept_units len_of h chars old ready.per_char rs ready.lines ready.ordered paired mid mid_is many ∙ is;
-      kept = λ u. elim (cases_Bool (is_kept_in_place (class_at old u))) [ inl yes' ↦ stays u yes' ∙ sym yes' | inr no' ↦ ap is_kept_in_place (gone u no') ];
-      others = λ u plain. elim (and_cases (in_runs rs u) (is_kept_in_place (class_at old u)) plain) [
-        | inl out ↦ outside_units len_of h chars old ready.per_char rs ready.lines ready.ordered paired mid mid_is u out
-        | inr none ↦ gone u none
-      ];
-      per_char = IsPerChar-units len_of h chars old ready.per_char rs ready.lines ready.ordered paired mid mid_is;
-    }

@@ -23,7 +23,7 @@ use Rattle.bidi_base.proofs.TextLemmas.{HasUnits}
 use Rattle.bidi_base.proofs.UnitsLemmas.{is_per_char-from_IsPerChar, length-from_IsPerChar}
 use Rattle.bidi_rules.specs.NeutralPass.{turns_from, values_of, IsReady}
 use Rattle.bidi_rules.specs.WeakWalk.{is_seen, IsWrittenOver}
-use Rattle.bidi_rules.proofs.Gathered.{length-values_of}
+use Rattle.bidi_rules.proofs.Spots.{length-values_of}
 use Rattle.bidi_rules.proofs.NeutralSteps.{IsResolved, first-is, length-resolved, neutral_classes-is}
 use Rattle.bidi_rules.proofs.NeutralUnits.{places_in_runs}
 use Rattle.bidi_rules.proofs.PassOverText.{IsPerChar-alike, alike_class, in_runs-alike, in_runs-within}

@@ -1,32 +1,67 @@
--- N0 in one walk over the pairs: what it knows at an opening, and what follows for the pair.
-use Rattle.std.specs.Prelude.{ℕ, ◌+◌, nat_lt, Bool, not, if◌then◌else◌, List, drop, reverse, slice_range, Option, Some, None}
-use Rattle.std.specs.List.{list_any, prefix_len}
+-- N0 over the units of a sequence: what is found around a bracket, what is asked of a pair, and what it writes.
+use Rattle.std.specs.Prelude.{◌≡◌, ◌⊎◌, ◌<◌, ◌≤◌, true, false, ℕ, ◌+◌, nat_lt, Bool, if◌then◌else◌, List, length, map, get_or, Option, Some, None}
 use Rattle.bidi_base.specs.declared.char_data.BidiClass.{BidiClass}
-use Rattle.bidi_base.specs.Classes.{has_direction, stands_for}
-use Rattle.bidi_base.specs.Neutral.{nearest_direction}
-use Rattle.bidi_rules.specs.declared.implicit.brackets.Enclosed.{Enclosed}
-use Rattle.bidi_rules.specs.declared.implicit.brackets.PairWalk.{PairWalk}
+use Rattle.bidi_base.specs.declared.char_data.BidiClass.TheVariants.{L, R}
+use Rattle.bidi_base.specs.Classes.{as_direction, is_nsm, stands_for}
+use Rattle.bidi_base.specs.Text.{place, text_len}
+use Rattle.bidi_rules.specs.WeakWalk.{is_seen, IsWrittenOver}
+use Rattle.bidi_base.specs.Places.{class_at}
+use Rattle.bidi_base.specs.Units.{in_runs}
+use Rattle.bidi_rules.specs.declared.implicit.neutral.pairs.PairWalk.{PairWalk}
 
--- the first index from `from` on whose class passes, which `known` is already if it does not lie before
-abbrev pub next_from : (BidiClass → Bool) → List BidiClass → ℕ → ℕ → ℕ
-next_from test classes from known = if nat_lt known from then from + prefix_len (λ c. not (test c)) (drop from classes) else known
+-- the first unit of some ranges from `from` on and below `to` that stands for a direction, or else `to`
+pub record IsFirstFor (direction : BidiClass) (runs : List (ℕ × ℕ)) (units : List BidiClass) (from to u : ℕ) : Type 0 where
+  pub within : u ≤ to
+  pub before : (k : ℕ) → from ≤ k → k < u → in_runs runs k ≡ true → stands_for direction (class_at units k) ≡ false
+  pub at : u < to → (from ≤ u) × (in_runs runs u ≡ true) × (stands_for direction (class_at units u) ≡ true)
 
--- the walk before the first pair, and once it has come to an opening
-abbrev pub first_pair_walk : BidiClass → PairWalk
-first_pair_walk sos = record { at = 0; context = sos; next_embedding = 0; next_direction = 0 }
+-- no unit of the ranges from `from` on and below `to` has a direction
+abbrev pub HasNoDirection : List (ℕ × ℕ) → List BidiClass → ℕ → ℕ → Type 0
+HasNoDirection runs units from to = (k : ℕ) → from ≤ k → k < to → in_runs runs k ≡ true → as_direction (class_at units k) ≡ None
 
-abbrev pub come_to : BidiClass → List BidiClass → ℕ → PairWalk → PairWalk
-come_to e classes opening walk = record {
-  at = opening;
-  context = nearest_direction walk.context (reverse (slice_range classes walk.at opening));
-  next_embedding = next_from (stands_for e) classes (opening + 1) walk.next_embedding;
-  next_direction = next_from has_direction classes (opening + 1) walk.next_direction;
-}
+-- the nearest direction at a unit of the ranges below `to`, or else the one given
+abbrev pub IsNearestBefore : BidiClass → List (ℕ × ℕ) → List BidiClass → ℕ → BidiClass → Type 0
+IsNearestBefore before runs units to d =
+    ((u : ℕ) × (u < to) × (in_runs runs u ≡ true) × (as_direction (class_at units u) ≡ Some d) × HasNoDirection runs units (u + 1) to) ⊎ ((d ≡ before) × HasNoDirection runs units 0 to)
 
--- the directions among classes
-abbrev pub enclosed_in : BidiClass → List BidiClass → Enclosed
-enclosed_in e classes = record { embedding = list_any (stands_for e) classes; any = list_any has_direction classes }
+-- behind `from` marks by their original classes stand in the ranges up to `end`, and BN: then a character that is neither, or nothing
+pub record IsMarksEnd (len_of : ℕ → ℕ) (chars : List ℕ) (runs : List (ℕ × ℕ)) (original units : List BidiClass) (from end : ℕ) : Type 0 where
+  pub marks : (k : ℕ) → from ≤ place len_of chars k → place len_of chars k < end → is_seen runs units (place len_of chars k) ≡ true → is_nsm (class_at original (place len_of chars k)) ≡ true
+  pub stops : end < length units → (k : ℕ) × (end ≡ place len_of chars k) × (from ≤ end) × (is_seen runs units end ≡ true) × (is_nsm (class_at original end) ≡ false)
+  pub within : end ≤ length units
 
--- what a pair takes that encloses these directions (N0 b to d)
-abbrev pub taken : BidiClass → BidiClass → Enclosed → Option BidiClass
-taken e context enclosed = if enclosed.embedding then Some e else (if enclosed.any then Some context else None)
+-- the unit at which the k-th of some characters begins; numbers past them go on rising
+abbrev pub spot : (ℕ → ℕ) → List ℕ → List ℕ → ℕ → ℕ
+spot len_of chars ks k = if nat_lt k (length ks) then place len_of chars (get_or ks k 0) else text_len len_of chars + k
+
+-- pairs of them, by these units
+abbrev pub at_spots : (ℕ → ℕ) → List ℕ → List ℕ → List (ℕ × ℕ) → List (ℕ × ℕ)
+at_spots len_of chars ks pairs = map (λ p. (spot len_of chars ks p.0, spot len_of chars ks p.1)) pairs
+
+-- the direction other than this one
+abbrev pub opposite_of : BidiClass → BidiClass
+opposite_of L = R
+opposite_of _ = L
+
+-- whether a direction stands between an opening and a closing, of which the first unit inside is given: what was asked, and what is known of the next place where it stands
+pub record IsAsked (direction : BidiClass) (runs : List (ℕ × ℕ)) (units : List BidiClass) (marked : Bool) (opening inside closing known next : ℕ) (answer : Bool) : Type 0 where
+  pub looked : marked ≡ true → (next ≡ known) × ((u : ℕ) × IsFirstFor direction runs units inside closing u × (answer ≡ nat_lt u closing))
+  pub ahead : marked ≡ false → answer ≡ nat_lt next closing
+  pub kept : marked ≡ false → opening < known → next ≡ known
+  pub sought : marked ≡ false → known ≤ opening → IsFirstFor direction runs units inside (length units) next
+
+-- what a pair takes, by what was asked of it
+pub record IsTaken (before : BidiClass) (runs : List (ℕ × ℕ)) (units : List BidiClass) (marked : Bool) (opening inside closing : ℕ) (walk new : PairWalk) (taken : Option BidiClass) : Type 0 where
+  pub embedding : Bool
+  pub opposite : Bool
+  pub context : BidiClass
+  pub asked : IsAsked walk.embedding.direction runs units marked opening inside closing walk.embedding.unit new.embedding.unit embedding
+  pub asked_opposite : embedding ≡ false → IsAsked walk.opposite.direction runs units marked opening inside closing walk.opposite.unit new.opposite.unit opposite
+  pub idle : embedding ≡ true → new.opposite.unit ≡ walk.opposite.unit
+  pub nearest : embedding ≡ false → opposite ≡ true → IsNearestBefore before runs units opening context
+  pub is : taken ≡ (if embedding then Some walk.embedding.direction else (if opposite then Some context else None))
+
+-- a bracket and the marks behind it have a direction, where the k-th character comes behind the bracket
+abbrev pub IsSet : (ℕ → ℕ) → List ℕ → List (ℕ × ℕ) → List BidiClass → BidiClass → ℕ → ℕ → List BidiClass → List BidiClass → Type 0
+IsSet len_of chars runs original d bracket k old new =
+    (end : ℕ) × IsMarksEnd len_of chars runs original old (place len_of chars k) end × IsWrittenOver (is_seen runs old) d bracket end old new

@@ -4,7 +4,6 @@
 ghost use Rattle.std.specs.Prelude.{◌≡◌};
 ghost use Rattle.bidi_base.specs.Classes.{is_kept_in_place};
 
-mod brackets;
 mod levels;
 mod neutral;
 mod weak;

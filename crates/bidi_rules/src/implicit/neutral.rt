@@ -1,30 +1,29 @@
 //! The neutrals in place (N0 to N2).
 //!
-//! A sequence with one direction alone takes it as it stands. Of others the classes of the characters
-//! are gathered without what X9 removed, resolved as a list, and written back. So all memory is taken
-//! before the first class is written.
+//! A sequence with one direction alone takes it as it stands. Of others the brackets are found, and
+//! then all is resolved where it stands. So all memory is taken before the first class is written.
 
 ghost use Rattle.std.specs.Prelude.{◌≡◌, ℕ, List, [], ◌∷◌, ◌++◌, false, length, map, IsTrue, OnOk, OnErr, Option};
 ghost use Rattle.std.specs.List.{list_all};
 ghost use Rattle.bidi_base.specs.declared.char_data.BidiClass.TheVariants.{L, BN};
 ghost use Rattle.bidi_base.specs.declared.data_source.BidiMatchedOpeningBracket.{BidiMatchedOpeningBracket};
-ghost use Rattle.bidi_base.specs.Brackets.{bracket_pairs, counted_bracket};
+ghost use Rattle.bidi_base.specs.Brackets.{counted_bracket};
 ghost use Rattle.bidi_base.specs.Classes.{is_l_or_r, is_weak_resolved};
 ghost use Rattle.bidi_base.specs.Neutral.{n0, neutral_classes};
 ghost use Rattle.bidi_base.specs.Places.{at_places, class_at, first_or};
 ghost use Rattle.bidi_base.specs.Sequences.{level_at};
 ghost use Rattle.bidi_base.specs.Text.{is_per_char, place, text_len, IsLine};
 ghost use Rattle.bidi_base.specs.Units.{bounds, in_runs, kept_in_place, AreLines};
-ghost use Rattle.bidi_base.specs.FoundBrackets.{brackets_from, found_brackets};
-ghost use Rattle.bidi_rules.specs.NeutralPass.{values_of, AreBracketsOf, AreGathered, HasGatheredNothing, IsPaired, IsReady};
+ghost use Rattle.bidi_base.specs.FoundBrackets.{brackets_from};
+ghost use Rattle.bidi_rules.specs.NeutralPass.{pairs_in, placed_brackets, HasGatheredNothing, IsPaired, IsReady};
 ghost use Rattle.bidi_rules.specs.RunSequence.{lent_runs, lent_sos, lent_eos, runs as runs_of, sos as sos_of, eos as eos_of};
 
 mod directions;
+mod marks;
+mod nearest;
 mod one_direction;
-mod units;
+mod pairs;
 
-use super::brackets::resolve_pairs;
-use super::is_kept_in_place;
 use super::weak::write_over_runs;
 use crate::prepare::{IsolatingRunSequence, LentSequence, LevelRun};
 use bidi_base::brackets::{Bracket, find_pairs};
@@ -33,21 +32,18 @@ use bidi_base::data_source::BidiDataSource;
 use bidi_base::level::Level;
 use bidi_base::text::TextSource;
 use directions::{Directions, resolve_directions};
+use nearest::first_kept;
 use one_direction::stands_alone;
+use pairs::resolve_pairs;
 use std::alloc::{AllocError, Global};
-use units::{first_kept, gather_sources, write_back};
 
 /// Resolves the neutrals of one sequence after another, and keeps its memory from each to the next.
 #[derive(Debug, Drop)]
 pub struct NeutralResolver {
-    /// The classes of the sequence's characters that are not BN, as far as they are resolved.
-    classes: Vec<BidiClass>,
-    /// The brackets that count among these characters.
+    /// The brackets of the sequence that count, by the units at which they begin.
     brackets: Vec<Bracket>,
-    /// The bracket pairs, as indexes of these characters.
+    /// The bracket pairs, by these units.
     pairs: Vec<(usize, usize)>,
-    /// The classes of these characters before the weak types were resolved, where there are pairs.
-    original_classes: Vec<BidiClass>,
 }
 
 impl NeutralResolver {
@@ -56,10 +52,8 @@ impl NeutralResolver {
         ensures { HasGatheredNothing result }
     {
         NeutralResolver {
-            classes: Vec::new(alloc),
             brackets: Vec::new(alloc),
             pairs: Vec::new(alloc),
-            original_classes: Vec::new(alloc),
         }
     }
 
@@ -161,16 +155,24 @@ impl NeutralResolver {
         requires ready { IsReady T.units (T.characters text) runs.now directions.sos classes.old }
         requires side { IsTrue (is_l_or_r directions.embedding) }
         requires original { length original_classes.now ≡ length classes.old }
-        ensures paired { OnOk result (IsPaired T.units (T.characters text) (D.source data_source.now) original_classes.now classes.old classes.new runs.now directions.embedding directions.sos) }
+        ensures paired { OnOk result (IsPaired T.units (T.characters text) original_classes.now classes.old classes.new runs.now directions.embedding directions.sos
+            (pairs_in T.units (T.characters text) (D.source data_source.now) classes.old runs.now)) }
         ensures refused { OnErr result (classes.new ≡ classes.old) }
     {
         self.gather(text, data_source, runs, classes)?;
-        self.resolve_gathered(text, runs, original_classes, classes, directions)?;
-        write_back(text, runs, self.classes.as_slice(), classes);
+        find_pairs(self.brackets.as_slice(), &mut self.pairs)?;
+        resolve_pairs(
+            text,
+            directions,
+            runs,
+            original_classes,
+            self.pairs.as_slice(),
+            classes,
+        );
         Ok(())
     }
 
-    /// Gathers the classes of a sequence's characters that are not BN, and the brackets among them.
+    /// Gathers the brackets of a sequence that count, by the units at which they begin.
     fn gather<D: BidiDataSource, T: TextSource>(
         &mut self,
         text: T,
@@ -180,10 +182,9 @@ impl NeutralResolver {
     ) -> Result<(), AllocError>
         requires lines { AreLines T.units (T.characters text) (map bounds runs.now) }
         requires long { length classes.now ≡ text_len T.units (T.characters text) }
-        ensures { OnOk result (AreGathered T.units (T.characters text) (D.source data_source.now) classes.now
-            (kept_in_place T.units (T.characters text) classes.now (map bounds runs.now)) self.new.classes.items self.new.brackets.items) }
+        ensures { OnOk result (self.new.brackets.items ≡ placed_brackets T.units (T.characters text) (D.source data_source.now) classes.now
+            (kept_in_place T.units (T.characters text) classes.now (map bounds runs.now))) }
     {
-        self.classes.clear();
         self.brackets.clear();
         for run in runs {
             self.gather_run(text, data_source, run, classes)?;
@@ -201,80 +202,38 @@ impl NeutralResolver {
     ) -> Result<(), AllocError>
         requires line { IsLine T.units (T.characters text) run.now.start run.now.end }
         requires long { length classes.now ≡ text_len T.units (T.characters text) }
-        ensures { (before : List ℕ) → AreGathered T.units (T.characters text) (D.source data_source.now) classes.now before self.old.classes.items self.old.brackets.items
-            → OnOk result (AreGathered T.units (T.characters text) (D.source data_source.now) classes.now
-            (before ++ kept_in_place T.units (T.characters text) classes.now (bounds run.now ∷ [])) self.new.classes.items self.new.brackets.items) }
+        ensures { OnOk result (self.new.brackets.items ≡ self.old.brackets.items ++ placed_brackets T.units (T.characters text) (D.source data_source.now) classes.now
+            (kept_in_place T.units (T.characters text) classes.now (bounds run.now ∷ []))) }
     {
         let begin = run.start;
         for (offset, c) in text.subrange(begin..run.end).char_indices() {
-            let class = classes[begin + offset];
-            if is_kept_in_place(class) {
-                self.push(data_source, class, c)?;
-            }
+            let at = begin + offset;
+            self.push(data_source, classes[at], at, c)?;
         }
         Ok(())
     }
 
-    /// Takes the next character, which has this class.
+    /// Takes the next character, which has this class and begins at a unit, if it is a bracket that
+    /// counts.
     fn push<D: BidiDataSource>(
         &mut self,
         data_source: &D,
         class: BidiClass,
+        at: usize,
         c: char,
     ) -> Result<(), AllocError>
-        ensures classes { OnOk result (self.new.classes.items ≡ self.old.classes.items ++ class ∷ []) }
-        ensures brackets { OnOk result (self.new.brackets.items ≡ self.old.brackets.items
-            ++ brackets_from (length self.old.classes.items) (counted_bracket class ((D.source data_source.now).bracket_of c) ∷ [])) }
+        ensures { OnOk result (self.new.brackets.items ≡ self.old.brackets.items
+            ++ brackets_from at (counted_bracket class ((D.source data_source.now).bracket_of c) ∷ [])) }
     {
         if class == BidiClass::ON {
             if let Some(bracket) = data_source.bidi_matched_opening_bracket(c) {
                 self.brackets.push(Bracket {
-                    index: self.classes.len(),
+                    index: at,
                     opening: bracket.opening,
                     is_open: bracket.is_open,
                 })?;
             }
         }
-        self.classes.push(class)?;
-        Ok(())
-    }
-
-    /// N0 over what was gathered.
-    fn resolve_gathered<T: TextSource>(
-        &mut self,
-        text: T,
-        runs: &[LevelRun],
-        original_classes: &[BidiClass],
-        processing_classes: &[BidiClass],
-        directions: Directions,
-    ) -> Result<(), AllocError>
-        requires lines { AreLines T.units (T.characters text) (map bounds runs.now) }
-        requires long { length processing_classes.now ≡ text_len T.units (T.characters text) }
-        requires original { length original_classes.now ≡ text_len T.units (T.characters text) }
-        requires gathered { length self.old.classes.items ≡ length (kept_in_place T.units (T.characters text) processing_classes.now (map bounds runs.now)) }
-        requires brackets { AreBracketsOf self.old.classes.items self.old.brackets.items }
-        ensures { (brackets : List (Option BidiMatchedOpeningBracket)) → self.old.brackets.items ≡ found_brackets self.old.classes.items brackets
-            → OnOk result (self.new.classes.items ≡ n0 directions.embedding directions.sos (values_of L T.units (T.characters text) original_classes.now (kept_in_place T.units (T.characters text) processing_classes.now (map bounds runs.now)))
-            (bracket_pairs self.old.classes.items brackets) self.old.classes.items) }
-    {
-        find_pairs(self.brackets.as_slice(), &mut self.pairs)?;
-        if self.pairs.is_empty() {
-            return Ok(());
-        }
-        gather_sources(
-            text,
-            runs,
-            original_classes,
-            processing_classes,
-            &mut self.original_classes,
-        )?;
-        resolve_pairs(
-            directions.embedding,
-            directions.sos,
-            self.original_classes.as_slice(),
-            self.pairs.as_slice(),
-            self.classes.as_mut_slice(),
-        );
         Ok(())
     }
 }

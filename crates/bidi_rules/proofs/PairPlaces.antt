@@ -1,0 +1,199 @@
+-- N0 over the units of a sequence, pair by pair: what a search over units says of the characters between two brackets and before them, and what is written.
+use Rattle.std.proofs.Common.{◌≡◌, ℕ, zero, suc, ◌+◌, ◌-◌, ◌<◌, ◌≤◌, true, false, ltb, List, length, map, get_or, take, drop, reverse, slice_range, Option, Some, None, refl, sym, ap, ◌∙◌, arith, inl, inr, unwrap_or, lt-ltb, le-ltb, length-take, length-drop, get_or-take, get_or-drop}
+use Rattle.std.specs.List.{list_any}
+use Rattle.std.specs.declared.ops.Range.{Range}
+use Rattle.std.proofs.lemmas.Bool.{cases_lt, both_ways, and_parts, and_from}
+use Rattle.std.proofs.lemmas.List.Elements.{All-from_get_or}
+use Rattle.std.proofs.lemmas.List.Folds.{list_any_at, list_any_none}
+use Rattle.bidi_base.specs.declared.char_data.BidiClass.{BidiClass}
+use Rattle.bidi_base.specs.declared.char_data.BidiClass.TheVariants.{L, BN}
+use Rattle.bidi_base.specs.Classes.{as_direction, is_kept_in_place, stands_for}
+use Rattle.bidi_base.specs.Brackets.{IsBehindOrWithin, AreNestedPairs}
+use Rattle.bidi_base.specs.Neutral.{nearest_direction}
+use Rattle.bidi_base.specs.Places.{class_at}
+use Rattle.bidi_base.specs.Text.{text_len, IsPerChar}
+use Rattle.bidi_base.specs.Units.{bounds, in_runs, kept_in_place}
+use Rattle.bidi_base.proofs.NeutralLemmas.{nearest_direction-more}
+use Rattle.bidi_base.proofs.PlacesLemmas.{reverse-take_more}
+use Rattle.bidi_base.proofs.TextLemmas.{HasUnits}
+use Rattle.bidi_base.proofs.UnitsLemmas.{length-from_IsPerChar}
+use Rattle.bidi_rules.specs.NeutralPass.{values_of, IsReady}
+use Rattle.bidi_rules.specs.PairWalk.{spot, IsFirstFor, IsNearestBefore}
+use Rattle.bidi_rules.proofs.Spots.{length-values_of}
+use Rattle.bidi_rules.proofs.Spots.{behind, Owner, owner, spot-behind, behind-spot, spot-rises, spot-seen, class-at}
+
+-- a class that stands for a direction is kept
+stands-kept : (d c : BidiClass) → stands_for d c ≡ true → is_kept_in_place c ≡ true
+stands-kept d BN h = absurd (cc h)
+stands-kept d _ h = refl
+
+directed-kept : (c d : BidiClass) → as_direction c ≡ Some d → is_kept_in_place c ≡ true
+directed-kept BN d e = absurd (cc e)
+directed-kept _ d e = refl
+
+-- the nearest direction before an index, by its place
+nearest-none : (sos : BidiClass) (cs : List BidiClass) (i : ℕ) → i ≤ length cs → ((k : ℕ) → k < i → as_direction (class_at cs k) ≡ None) → nearest_direction sos (reverse (take i cs)) ≡ sos
+nearest-none sos cs zero fits none = refl
+nearest-none sos cs (suc i) fits none =
+    let same : suc i ≡ i + 1 = omega arith in
+    ap (λ n. nearest_direction sos (reverse (take n cs))) same
+    ∙ ap (nearest_direction sos) (reverse-take_more cs i L (omega arith))
+    ∙ nearest_direction-more sos (class_at cs i) (reverse (take i cs))
+    ∙ ap (λ (o : Option BidiClass). unwrap_or o (nearest_direction sos (reverse (take i cs)))) (none i (omega arith))
+    ∙ nearest-none sos cs i (omega arith) (λ k below. none k (omega arith))
+
+nearest-at : (sos d : BidiClass) (cs : List BidiClass) (i x : ℕ) → i ≤ length cs → x < i → as_direction (class_at cs x) ≡ Some d → ((k : ℕ) → x < k → k < i → as_direction (class_at cs k) ≡ None)
+    → nearest_direction sos (reverse (take i cs)) ≡ d
+nearest-at sos d cs zero x fits before is none = absurd (omega arith)
+nearest-at sos d cs (suc i) x fits before is none =
+    let same : suc i ≡ i + 1 = omega arith in
+    ap (λ n. nearest_direction sos (reverse (take n cs))) same
+    ∙ ap (nearest_direction sos) (reverse-take_more cs i L (omega arith))
+    ∙ nearest_direction-more sos (class_at cs i) (reverse (take i cs))
+    ∙ elim (cases_lt x i) [
+      | inl earlier ↦
+          ap (λ (o : Option BidiClass). unwrap_or o (nearest_direction sos (reverse (take i cs)))) (none i earlier (omega arith))
+          ∙ nearest-at sos d cs i x (omega arith) earlier is (λ k a b. none k a (omega arith))
+      | inr here ↦
+          let at : x ≡ i = omega arith in
+          ap (λ (o : Option BidiClass). unwrap_or o (nearest_direction sos (reverse (take i cs)))) (ap (λ n. as_direction (class_at cs n)) (sym at) ∙ is)
+    ]
+
+-- the pair at an index
+abbrev pub pair_at : List (ℕ × ℕ) → ℕ → ℕ × ℕ
+pair_at pairs k = get_or pairs k (0, 0)
+
+opens_before : (n : ℕ) (pairs : List (ℕ × ℕ)) (k m : ℕ) → AreNestedPairs n pairs → k < m → m < length pairs → (pair_at pairs k).0 < (pair_at pairs m).0
+opens_before n pairs k m nested order fits = by_place (nested.1 k m (0, 0) order fits) (nested.0 k (0, 0) (omega arith)).0
+  where
+    by_place : IsBehindOrWithin (pair_at pairs k) (pair_at pairs m) → (pair_at pairs k).0 < (pair_at pairs k).1 → (pair_at pairs k).0 < (pair_at pairs m).0
+    by_place (inl behind) first = omega arith
+    by_place (inr within) first = within.0
+
+pub opens_upto : (n : ℕ) (pairs : List (ℕ × ℕ)) (k m : ℕ) → AreNestedPairs n pairs → k ≤ m → m < length pairs → (pair_at pairs k).0 ≤ (pair_at pairs m).0
+opens_upto n pairs k m nested order fits = elim (cases_lt k m) [
+  | inl before ↦ let strict = opens_before n pairs k m nested before fits in omega arith
+  | inr past ↦ let same : k ≡ m = omega arith in let e = ap (λ (i : ℕ). (pair_at pairs i).0) same in omega arith
+]
+
+-- a class between two brackets
+between_at : (classes : List BidiClass) (i j k : ℕ) → j ≤ length classes → k < length (slice_range classes (i + 1) j) → (get_or (slice_range classes (i + 1) j) k L ≡ class_at classes (i + 1 + k)) × (i + 1 + k < j)
+between_at classes i j k fits inside =
+    let short : k < j - (i + 1) = omega (arith, length-take (j - (i + 1)) (drop (i + 1) classes)) in
+    (get_or-take (j - (i + 1)) (drop (i + 1) classes) k L short ∙ get_or-drop (i + 1) classes k L, omega arith)
+
+module _ (len_of : ℕ → ℕ) (h : HasUnits len_of) (chars : List ℕ) (runs : List (Range ℕ)) (sos : BidiClass) (old : List BidiClass) (ready : IsReady len_of chars runs sos old) (now : List BidiClass) (per : IsPerChar len_of chars now)
+    (kept : (u : ℕ) → is_kept_in_place (class_at now u) ≡ is_kept_in_place (class_at old u)) where
+  abbrev rs : List (ℕ × ℕ)
+  rs = map bounds runs
+
+  abbrev ks : List ℕ
+  ks = kept_in_place len_of chars old rs
+
+  abbrev at : ℕ → ℕ
+  at k = spot len_of chars ks k
+
+  abbrev ends : ℕ → ℕ
+  ends k = behind len_of h chars old rs ready.lines ready.ordered k
+
+  abbrev cs : List BidiClass
+  cs = values_of L len_of chars now ks
+
+  count : length cs ≡ length ks
+  count = length-values_of len_of chars L now ks
+
+  size : length now ≡ text_len len_of chars
+  size = length-from_IsPerChar len_of chars now per
+
+  class-is : (k : ℕ) → k < length ks → class_at cs k ≡ class_at now (at k)
+  class-is = class-at len_of h chars old rs ready.lines ready.ordered now
+
+  inside : (k : ℕ) → k < length ks → in_runs rs (at k) ≡ true
+  inside k fits = (and_parts (in_runs rs (at k)) (is_kept_in_place (class_at old (at k))) (spot-seen len_of h chars old rs ready.lines ready.ordered k fits)).0
+
+  own : (u : ℕ) → in_runs rs u ≡ true → is_kept_in_place (class_at now u) ≡ true → Owner len_of h chars old rs ready.lines ready.ordered now u
+  own u here is = owner len_of h chars old rs ready.lines ready.ordered now ready.per_char per u (and_from (in_runs rs u) (is_kept_in_place (class_at old u)) here (sym (kept u) ∙ is))
+
+  order : (i j : ℕ) → i < j → j < length ks → ends i ≤ at j
+  order = behind-spot len_of h chars old rs ready.lines ready.ordered
+
+  rising : (i j : ℕ) → i < j → at i < at j
+  rising = spot-rises len_of h chars old rs ready.lines ready.ordered
+
+  starts : (k : ℕ) → k < length ks → at k < ends k
+  starts = spot-behind len_of h chars old rs ready.lines ready.ordered
+
+  -- ---- what a search forwards finds
+
+  -- the first place behind the i-th character that stands for a direction is one at which a character begins
+  pub first-spot : (d : BidiClass) (i to r : ℕ) → i < length ks → IsFirstFor d rs now (ends i) to r → r < to → (x : ℕ) × (x < length ks) × (i < x) × (r ≡ at x)
+  first-spot d i to r fits f less =
+      let found = f.at less in
+      let w = own r found.1 (stands-kept d (class_at now r) found.2) in
+      let from = w.from in
+      let below = w.below in
+      let x = w.number in
+      let behind_i : i < x = elim (cases_lt i x) [
+        | inl later ↦ later
+        | inr upto ↦ elim (cases_lt x i) [
+          | inl earlier ↦ absurd (omega (arith, found.0, order x i earlier fits, starts i fits))
+          | inr same' ↦ let same : x ≡ i = omega arith in absurd (omega (arith, found.0, ap ends same))
+        ]
+      ] in
+      let here : r ≡ at x = elim (cases_lt (at x) r) [
+        | inl before ↦
+            absurd (both_ways (stands_for d (class_at now (at x))) (f.before (at x) (order i x behind_i w.fits) before (inside x w.fits)) (ap (stands_for d) (sym w.same) ∙ found.2))
+        | inr upto ↦ omega arith
+      ] in
+      (x, w.fits, behind_i, here)
+
+  -- so whether it lies before a closing says whether the direction stands between
+  pub between : (d : BidiClass) (i j r : ℕ) → j < length ks → ((x : ℕ) → i < x → x < j → at x < r → stands_for d (class_at cs x) ≡ false) → (r < at j → (x : ℕ) × (i < x) × (x < j) × (stands_for d (class_at cs x) ≡ true))
+      → ltb r (at j) ≡ list_any (stands_for d) (slice_range cs (i + 1) j)
+  between d i j r fits before found =
+      let part = slice_range cs (i + 1) j in
+      let long : length part ≡ j - (i + 1) = omega (arith, length-take (j - (i + 1)) (drop (i + 1) cs), length-drop (i + 1) cs, count) in
+      elim (cases_lt r (at j)) [
+        | inl less ↦
+            let w = found less in
+            let y = w.0 - (i + 1) in
+            let place : i + 1 + y ≡ w.0 = omega (arith, w.1) in
+            let there = between_at cs i j y (omega (arith, count)) (omega (arith, w.1, w.2)) in
+            lt-ltb r (at j) less ∙ sym (list_any_at (stands_for d) part y L (omega (arith, w.1, w.2)) (ap (stands_for d) (there.0 ∙ ap (class_at cs) place) ∙ w.3))
+        | inr past ↦
+            le-ltb r (at j) past
+            ∙ sym (list_any_none (stands_for d) part (All-from_get_or (λ c. stands_for d c ≡ false) part L (λ y below.
+            let there = between_at cs i j y (omega (arith, count)) below in
+            ap (stands_for d) there.0 ∙ before (i + 1 + y) (omega arith) there.1 (omega (arith, rising (i + 1 + y) j there.1)))))
+      ]
+
+  -- looked for between the two brackets alone
+  pub looked-between : (d : BidiClass) (i j r : ℕ) → i < j → j < length ks → IsFirstFor d rs now (ends i) (at j) r → ltb r (at j) ≡ list_any (stands_for d) (slice_range cs (i + 1) j)
+  looked-between d i j r less fits f =
+      between d i j r fits
+      (λ x after before lower. ap (stands_for d) (class-is x (omega arith)) ∙ f.before (at x) (order i x after (omega arith)) lower (inside x (omega arith)))
+      (λ found.
+      let w = first-spot d i (at j) r (omega arith) f found in
+      let here = w.3 in
+      let below : w.0 < j = elim (cases_lt w.0 j) [
+        | inl yes' ↦ yes'
+        | inr no' ↦ elim (cases_lt j w.0) [ inl more ↦ absurd (omega (arith, rising j w.0 more)) | inr same' ↦ let same : w.0 ≡ j = omega (arith) in absurd (omega (arith, ap at same)) ]
+      ] in
+      (w.0, w.2, below, ap (stands_for d) (class-is w.0 w.1 ∙ ap (class_at now) (sym here)) ∙ (f.at found).2))
+
+  -- ---- what a search backwards finds
+  pub context-is : (i : ℕ) (d : BidiClass) → i < length ks → IsNearestBefore sos rs now (at i) d → d ≡ nearest_direction sos (reverse (take i cs))
+  context-is i d fits (inl found) =
+      let u = found.0 in
+      let w = own u found.2 (directed-kept (class_at now u) d found.3) in
+      let x = w.number in
+      let from = w.from in
+      let below = w.below in
+      let early : x < i = elim (cases_lt x i) [
+        | inl yes' ↦ yes'
+        | inr no' ↦ elim (cases_lt i x) [ inl more ↦ absurd (omega (arith, rising i x more, found.1)) | inr same' ↦ let same : x ≡ i = omega arith in absurd (omega (arith, ap at same, found.1)) ]
+      ] in
+      sym (nearest-at sos d cs i x (omega (arith, count)) early (ap as_direction (class-is x w.fits ∙ sym w.same) ∙ found.3)
+      (λ k after before. ap as_direction (class-is k (omega arith)) ∙ found.4 (at k) (omega (arith, order x k after (omega arith))) (rising k i before) (inside k (omega arith))))
+  context-is i d fits (inr none) =
+      none.0 ∙ sym (nearest-none sos cs i (omega (arith, count)) (λ k before. ap as_direction (class-is k (omega arith)) ∙ none.1 (at k) (omega arith) (rising k i before) (inside k (omega arith))))

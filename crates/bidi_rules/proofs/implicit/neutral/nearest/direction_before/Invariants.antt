@@ -1,0 +1,13 @@
+-- No unit looked at has a direction.
+use Rattle.std.proofs.Common.{◌≡◌, ◌<◌, ◌≤◌, ℕ, true, None, map, drop, get_or}
+use Rattle.bidi_base.specs.Classes.{as_direction}
+use Rattle.bidi_base.specs.Places.{class_at}
+use Rattle.bidi_base.specs.Units.{bounds, in_runs}
+use Rattle.bidi_rules.proofs.KeptRuns.{no_range}
+use Rattle.bidi_rules.proofs.implicit.neutral.nearest.direction_before.Given as goal
+
+abbrev pub invariant-loop-run : goal.invariant-loop-run
+invariant-loop-run l = (k : ℕ) → in_runs (drop l.run (map bounds l.runs)) k ≡ true → k < l.to → as_direction (class_at l.classes k) ≡ None
+
+abbrev pub invariant-loop-unit : goal.invariant-loop-unit
+invariant-loop-unit l = (k : ℕ) → l.unit ≤ k → k < (get_or l.runs l.run no_range).end → k < l.to → as_direction (class_at l.classes k) ≡ None
