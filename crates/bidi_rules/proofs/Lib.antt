@@ -19,6 +19,7 @@ pub mod RunCutting
 pub mod RunJoined
 pub mod RunJoining
 pub mod RunLoop
+pub mod RunOf
 pub mod RunPass
 pub mod RunReading
 pub mod RunUnits

@@ -1,9 +1,9 @@
 //! What stands first in a sequence, and which directions stand next to a unit of it.
 
-ghost use Rattle.std.specs.Prelude.{◌≡◌, ◌≤◌, length, map, find, All, IsTrue};
+ghost use Rattle.std.specs.Prelude.{◌≡◌, ℕ, ◌+◌, ◌<◌, ◌≤◌, length, map, drop, take, find, All, IsTrue};
 ghost use Rattle.bidi_base.specs.Classes.{is_kept_in_place};
 ghost use Rattle.bidi_base.specs.Places.{class_at};
-ghost use Rattle.bidi_base.specs.Units.{bounds, are_ordered, units_in_runs};
+ghost use Rattle.bidi_base.specs.Units.{bounds, are_ordered, in_runs, units_in_runs};
 ghost use Rattle.bidi_rules.specs.PairWalk.{IsFirstFor, IsNearestBefore};
 
 use crate::implicit::is_kept_in_place;
@@ -24,6 +24,26 @@ pub fn first_kept(runs: &[LevelRun], classes: &[BidiClass]) -> Option<usize>
         }
     }
     None
+}
+
+/// The index of the first of some runs that does not end at or before a unit, or else their number.
+pub fn run_of(runs: &[LevelRun], unit: usize) -> usize
+    requires { IsTrue (are_ordered (map bounds runs.now)) }
+    ensures within { result ≤ length runs.now }
+    ensures later { (k : ℕ) → unit ≤ k → in_runs (drop result (map bounds runs.now)) k ≡ in_runs (map bounds runs.now) k }
+    ensures upto { (k : ℕ) → k < unit → in_runs (take (result + 1) (map bounds runs.now)) k ≡ in_runs (map bounds runs.now) k }
+{
+    let mut low = 0;
+    let mut high = runs.len();
+    while low < high {
+        let middle = low + (high - low) / 2;
+        if runs[middle].end <= unit {
+            low = middle + 1;
+        } else {
+            high = middle;
+        }
+    }
+    low
 }
 
 /// The first unit of some runs from `from` on and below `to` whose class stands for a direction, or

@@ -10,7 +10,7 @@ ghost use Rattle.bidi_rules.specs.PairWalk.{at_spots, opposite_of, IsAsked, IsSe
 
 use super::directions::Directions;
 use super::marks::{end_of, marks_end};
-use super::nearest::{direction_before, first_for};
+use super::nearest::{direction_before, first_for, run_of};
 use crate::implicit::weak::write_over_runs;
 use crate::prepare::LevelRun;
 use bidi_base::char_data::BidiClass::{self, L, NSM, R};
@@ -155,21 +155,25 @@ impl PairWalk {
         requires ordered { IsTrue (are_ordered (map bounds runs.now)) }
         requires runs { All (λ r. r.1 ≤ length classes.now) (map bounds runs.now) }
         requires closing { closing ≤ length classes.now }
+        requires inside { opening ≤ inside }
         ensures embedding { self.new.embedding.direction ≡ self.old.embedding.direction }
         ensures opposite { self.new.opposite.direction ≡ self.old.opposite.direction }
         ensures taken { IsTaken sos (map bounds runs.now) classes.now marked opening inside closing self.old self.new result }
     {
+        let run = run_of(runs, opening);
+        let later = &runs[run..];
         if self
             .embedding
-            .is_inside(runs, classes, marked, opening, inside, closing)
+            .is_inside(later, classes, marked, opening, inside, closing)
         {
             return Some(self.embedding.direction);
         }
         if self
             .opposite
-            .is_inside(runs, classes, marked, opening, inside, closing)
+            .is_inside(later, classes, marked, opening, inside, closing)
         {
-            return Some(direction_before(sos, runs, classes, opening));
+            let upto = runs.len().min(run + 1);
+            return Some(direction_before(sos, &runs[..upto], classes, opening));
         }
         None
     }
@@ -194,6 +198,7 @@ fn set_direction<T: TextSource>(
         → IsSet T.units (T.characters text) (map bounds runs.now) original_classes.now direction bracket (k + 1) classes.old classes.new }
 {
     let inside = end_of(text, bracket);
-    let end = marks_end(text, runs, original_classes, classes, inside);
-    write_over_runs(runs, classes, bracket, end, direction);
+    let later = &runs[run_of(runs, bracket)..];
+    let end = marks_end(text, later, original_classes, classes, inside);
+    write_over_runs(later, classes, bracket, end, direction);
 }

@@ -4,6 +4,7 @@ use Rattle.bidi_base.specs.Classes.{is_nsm}
 use Rattle.bidi_base.specs.Text.{place, text_len}
 use Rattle.bidi_base.specs.Units.{bounds, kept_in_place}
 use Rattle.std.specs.Prelude.{All}
+use Rattle.bidi_base.proofs.PlaceLemmas.{place-mono}
 use Rattle.bidi_base.proofs.UnitsLemmas.{length-from_IsPerChar}
 use Rattle.bidi_rules.specs.NeutralPass.{IsPaired}
 use Rattle.bidi_rules.specs.PairWalk.{spot, IsSet, IsTaken}
@@ -40,6 +41,11 @@ pub pair_direction-taken-requires-clause-runs : goal.pair_direction-taken-requir
 pair_direction-taken-requires-clause-runs g c =
     subst (λ n. All (λ (r : ℕ × ℕ). r.1 ≤ n) (map bounds c.args.runs.now)) (sym c.loop-pair.auto.classes)
     (runs-within g.T.TextSource.units g.met.T.TextSource.has_units (g.T.TextSource.characters c.args.text) c.args.runs.now c.args.directions.sos c.args.classes.now c.requires.ready)
+
+pub pair_direction-taken-requires-clause-inside : goal.pair_direction-taken-requires-clause-inside
+pair_direction-taken-requires-clause-inside g c =
+    let st = here g (goal.at.pair_direction-taken-requires-clause-inside g c).In-loop-pair in
+    omega (arith, st.first_place, c.end_of-inside.ensures _ st.first_within st.first_place, place-mono g.T.TextSource.units (g.T.TextSource.characters c.args.text) (get_or (kept_in_place g.T.TextSource.units (g.T.TextSource.characters c.args.text) c.args.classes.now (map bounds c.args.runs.now)) (pair_at c.requires.pairs.0 c.loop-pair.pair-index).0 0) (get_or (kept_in_place g.T.TextSource.units (g.T.TextSource.characters c.args.text) c.args.classes.now (map bounds c.args.runs.now)) (pair_at c.requires.pairs.0 c.loop-pair.pair-index).0 0 + 1) (omega arith))
 
 pub pair_direction-taken-requires-clause-closing : goal.pair_direction-taken-requires-clause-closing
 pair_direction-taken-requires-clause-closing g c =

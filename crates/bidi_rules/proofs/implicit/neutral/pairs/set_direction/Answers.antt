@@ -1,8 +1,21 @@
-use Rattle.std.proofs.Common.{◌+◌, List, ℕ, ap, ◌∙◌}
-use Rattle.bidi_base.specs.Text.{is_boundary}
-use Rattle.bidi_base.proofs.PlaceLemmas.{is_boundary-place}
+use Rattle.std.proofs.Common.{◌+◌, ◌-◌, ℕ, List, length, map, take, drop, refl, sym, ap, subst, ◌∙◌, arith}
+use Rattle.bidi_base.specs.Text.{is_boundary, place}
+use Rattle.bidi_base.specs.Units.{bounds, AreLines}
+use Rattle.bidi_base.proofs.PlaceLemmas.{is_boundary-place, place-mono}
+use Rattle.bidi_rules.specs.PairWalk.{IsMarksEnd}
+use Rattle.bidi_rules.specs.WeakWalk.{is_seen, IsWrittenOver}
 use Rattle.bidi_rules.proofs.CharEnds.{begins_at}
+use Rattle.bidi_rules.proofs.RunOf.{IsSet-later, lines-later}
+use Rattle.bidi_rules.proofs.WalkLemmas.{forwards-in_order, part_after}
 use Rattle.bidi_rules.proofs.implicit.neutral.pairs.set_direction.Goals as goal
+
+pub marks_end-end-requires-clause-lines : goal.marks_end-end-requires-clause-lines
+marks_end-end-requires-clause-lines g c =
+    subst (AreLines g.T.TextSource.units (g.T.TextSource.characters c.args.text)) (sym (part_after c.args.runs.now c.args.runs.now c.run_of.result refl))
+    (lines-later g.T.TextSource.units (g.T.TextSource.characters c.args.text) c.run_of.result (map bounds c.args.runs.now) c.requires.lines)
+
+pub marks_end-end-requires-clause-ordered : goal.marks_end-end-requires-clause-ordered
+marks_end-end-requires-clause-ordered g c = forwards-in_order c.args.runs.now c.args.runs.now c.run_of.result refl c.requires.ordered
 
 pub marks_end-end-requires-clause-begins : goal.marks_end-end-requires-clause-begins
 marks_end-end-requires-clause-begins g c =
@@ -10,3 +23,25 @@ marks_end-end-requires-clause-begins g c =
     let chars : List ℕ = g.T.TextSource.characters c.args.text in
     let b = begins_at len_of g.met.T.TextSource.has_units chars c.args.bracket c.requires.begins c.requires.inside in
     ap (is_boundary len_of chars) (c.end_of-inside.ensures b.index b.within b.there) ∙ is_boundary-place len_of chars (b.index + 1)
+
+pub write_over_runs-requires-clause-ordered : goal.write_over_runs-requires-clause-ordered
+write_over_runs-requires-clause-ordered g c = forwards-in_order c.args.runs.now c.args.runs.now c.run_of.result refl c.requires.ordered
+
+pub returns : goal.returns
+returns g c = λ k within there.
+    let len_of = g.T.TextSource.units in
+    let chars : List ℕ = g.T.TextSource.characters c.args.text in
+    let a = c.args in
+    let rs = map bounds a.runs.now in
+    let r = c.run_of.result in
+    let later = map bounds (take (length a.runs.now - r) (drop r a.runs.now)) in
+    let same = part_after a.runs.now a.runs.now r refl in
+    let inside = c.end_of-inside.ensures k within there in
+    let end = c.marks_end-end.result in
+    let set =
+    IsSet-later len_of chars (drop r rs) rs a.original_classes.now a.direction a.bracket (place len_of chars (k + 1)) end a.classes.now c.write_over_runs.new.classes c.run_of.ensures.later
+    (omega (arith, there, place-mono len_of chars k (k + 1) (omega arith)))
+    (subst (λ u. IsMarksEnd len_of chars (drop r rs) a.original_classes.now a.classes.now u end) inside
+    (subst (λ (qs : List (ℕ × ℕ)). IsMarksEnd len_of chars qs a.original_classes.now a.classes.now c.end_of-inside.result end) same c.marks_end-end.ensures))
+    (subst (λ (qs : List (ℕ × ℕ)). IsWrittenOver (is_seen qs a.classes.now) a.direction a.bracket end a.classes.now c.write_over_runs.new.classes) same c.write_over_runs.ensures) in
+    (end, set.0, set.1)

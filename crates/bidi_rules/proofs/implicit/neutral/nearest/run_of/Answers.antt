@@ -1,0 +1,46 @@
+use Rattle.std.proofs.Common.{◌+◌, ◌-◌, ◌/◌, ◌<◌, ℕ, map, ap, arith}
+use Rattle.std.proofs.lemmas.List.{get_or-map, length-map}
+use Rattle.bidi_base.specs.Units.{bounds}
+use Rattle.bidi_rules.proofs.KeptRuns.{no_range}
+use Rattle.bidi_rules.proofs.RunOf.{ends-rise, in_runs-later, in_runs-upto}
+use Rattle.bidi_rules.proofs.implicit.neutral.nearest.run_of.Goals as goal
+
+pub loop-low-preserved-then-runs-middle : goal.loop-low-preserved-then-runs-middle
+loop-low-preserved-then-runs-middle c =
+    let runs = c.args.runs.now in
+    let s = c.loop-low in
+    let m = s.low + (s.high - s.low) / 2 in
+    let long = length-map runs bounds in
+    let inside : m < s.high = omega (arith, c.loop-low-test.true) in
+    let here = ap (λ (r : ℕ × ℕ). r.1) (get_or-map bounds runs m no_range (0, 0) (omega (arith, s.invariant.within))) in
+    record {
+      below = λ i less. omega (arith, ends-rise 0 (map bounds runs) i m c.requires (omega arith) (omega (arith, s.invariant.within)), here, c.if-runs-middle.true);
+      above = s.invariant.above;
+      order = omega arith;
+      within = s.invariant.within;
+    }
+
+pub loop-low-preserved : goal.loop-low-preserved
+loop-low-preserved c =
+    let runs = c.args.runs.now in
+    let s = c.loop-low in
+    let m = s.low + (s.high - s.low) / 2 in
+    let long = length-map runs bounds in
+    let inside : m < s.high = omega (arith, c.loop-low-test.true) in
+    let here = ap (λ (r : ℕ × ℕ). r.1) (get_or-map bounds runs m no_range (0, 0) (omega (arith, s.invariant.within))) in
+    record {
+      below = s.invariant.below;
+      above = λ i from fits. omega (arith, ends-rise 0 (map bounds runs) m i c.requires from (omega arith), here, c.if-runs-middle.false);
+      order = omega arith;
+      within = omega (arith, s.invariant.within);
+    }
+
+pub returns-clause-later : goal.returns-clause-later
+returns-clause-later c = λ k from. in_runs-later c.loop-low.low (map bounds c.args.runs.now) k (λ i below. omega (arith, c.loop-low.invariant.below i below))
+
+pub returns-clause-upto : goal.returns-clause-upto
+returns-clause-upto c = λ k before.
+    let s = c.loop-low in
+    let long = length-map c.args.runs.now bounds in
+    in_runs-upto s.low (map bounds c.args.runs.now) k c.requires (omega (arith, s.invariant.order, s.invariant.within))
+    (λ less. omega (arith, s.invariant.above s.low (omega (arith, c.loop-low-test.false)) (omega arith)))
