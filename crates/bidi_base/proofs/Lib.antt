@@ -14,7 +14,6 @@ mod Examples
 pub mod ExplicitLemmas
 pub mod FoundBracketsLemmas
 pub mod FlatLemmas
-pub mod FlatUnits
 pub mod GivesLemmas
 pub mod InPlace
 pub mod IsolateWalk

@@ -1,17 +1,16 @@
 -- The steps of the pass that reads a paragraph, as its calls leave them.
-use Rattle.std.proofs.Common.{◌≡◌, ℕ, suc, ◌+◌, ◌-◌, ◌<◌, Bool, true, false, ◌&&◌, cond, List, [], ◌∷◌, ◌++◌, length, get_or, set, take, drop, Option, Some, map, refl, sym, ap, subst, ◌∙◌, arith, length-take, length-append}
-use Rattle.std.specs.Prelude.{All, slice_get, if◌then◌else◌, replicate}
+use Rattle.std.proofs.Common.{◌≡◌, ℕ, suc, ◌+◌, ◌-◌, ◌<◌, Bool, true, false, ◌&&◌, cond, List, [], ◌∷◌, ◌++◌, length, get_or, set, take, drop, Some, refl, sym, ap, subst, ◌∙◌, arith, length-take, length-append}
+use Rattle.std.specs.Prelude.{All, slice_get, replicate}
 use Rattle.std.specs.declared.ops.Range.{Range}
-use Rattle.std.proofs.lemmas.List.{take-append-drop, take-take, drop_more, set_split, get_or-append-add, set-append_right, map-append}
+use Rattle.std.proofs.lemmas.List.{take-append-drop, take-take, drop_more, set_split, get_or-append-add, set-append_right}
 use Rattle.std.proofs.lemmas.List.Elements.{All-head, All-tail}
-use Rattle.std.proofs.lemmas.Bool.{cond-true, cond-false}
 use Rattle.bidi_base.specs.declared.char_data.BidiClass.{BidiClass}
 use Rattle.bidi_base.specs.declared.char_data.BidiClass.TheVariants.{L}
-use Rattle.bidi_base.specs.Classes.{is_strong, is_initiator, is_pdi}
+use Rattle.bidi_base.specs.Classes.{is_strong}
 use Rattle.bidi_base.specs.Text.{place, text_len, per_unit}
 use Rattle.bidi_base.specs.Places.{class_at}
 use Rattle.bidi_base.specs.Isolates.{resolved_fsi}
-use Rattle.bidi_base.specs.Reading.{innermost, outer, opened_by, decided_by, is_fsi, filled, resolved_units, met_units}
+use Rattle.bidi_base.specs.Reading.{innermost, outer, is_fsi, filled, met_units}
 use Rattle.bidi_base.proofs.PlaceLemmas.{place-more}
 use Rattle.bidi_base.proofs.PerUnit.{per_unit-append, take-per_unit, drop-per_unit, get_or-per_unit-place}
 use Rattle.bidi_base.proofs.TextLemmas.{HasUnits}
@@ -32,40 +31,10 @@ outer-take {X} (x ∷ y ∷ xs) =
     let n : suc (suc (length xs)) - 1 ≡ suc (suc (length xs) - 1) = omega arith in
     ap (λ (k : ℕ). take k (x ∷ y ∷ xs)) n ∙ ap (λ (ys : List X). x ∷ ys) (outer-take (y ∷ xs))
 
--- the innermost open isolate meets a strong character
-pub met_units-strong : (class : BidiClass) (xs : List (Range ℕ)) (range : Range ℕ) (units : List BidiClass) → is_strong class ≡ true → Some range ≡ slice_get xs (length xs - 1)
-    → resolved_units class range units ≡ met_units class (innermost xs) units
-met_units-strong class xs range units strong last =
-    sym (ap (λ (o : Option (Range ℕ)). met_units class o units) (sym (innermost-last xs) ∙ sym last) ∙ cond-true (is_strong class) (resolved_units class range units) units strong)
-
--- a PDI closes the innermost one
-pub opened_by-pdi : {X : Type 0} (class : BidiClass) (x : X) (under : List X) → is_initiator class ≡ false → is_pdi class ≡ true → take (length under - 1) under ≡ opened_by class x under
-opened_by-pdi class x under other pdi =
-    outer-take under ∙ sym (cond-false (is_initiator class) (under ++ x ∷ []) (if is_pdi class then outer under else under) other ∙ cond-true (is_pdi class) (outer under) under pdi)
-
 pub innermost-All : {X : Type 0} (P : X → Type 0) (xs : List X) (x : X) → All P xs → innermost xs ≡ Some x → P x
 innermost-All P [] x h e = absurd (cc e)
 innermost-All {X} P (y ∷ []) x h e = let same : y ≡ x = cc e in subst P same (All-head P y [] h)
 innermost-All P (y ∷ z ∷ xs) x h e = innermost-All P (z ∷ xs) x (All-tail P y (z ∷ xs) h) e
-
--- ---- the same of other things that stand for the open isolates
-
-outer-map : {X Y : Type 0} (f : X → Y) (xs : List X) → outer (map f xs) ≡ map f (outer xs)
-outer-map f [] = refl
-outer-map f (x ∷ []) = refl
-outer-map {X} {Y} f (x ∷ y ∷ xs) = ap (λ (ys : List Y). f x ∷ ys) (outer-map f (y ∷ xs))
-
-pub opened_by-map : {X Y : Type 0} (f : X → Y) (class : BidiClass) (x : X) (under : List X) → opened_by class (f x) (map f under) ≡ map f (opened_by class x under)
-opened_by-map {X} {Y} f class x under = by_tests (is_initiator class) (is_pdi class)
-  where
-    by_tests : (b p : Bool) → cond b (map f under ++ f x ∷ []) (cond p (outer (map f under)) (map f under)) ≡ map f (cond b (under ++ x ∷ []) (cond p (outer under) under))
-    by_tests true p = sym (map-append f under (x ∷ []))
-    by_tests false true = outer-map f under
-    by_tests false false = refl
-
-pub decided_by-map : {X Y : Type 0} (f : X → Y) (class : BidiClass) (under : List X) → decided_by class (map f under) ≡ decided_by class under
-decided_by-map f class [] = refl
-decided_by-map f class (x ∷ under) = refl
 
 -- ---- one value a unit, where the value of one character changes
 

@@ -93,10 +93,6 @@ any_of-with set c test =
 
 -- ---- tests
 
--- tests that agree on every class
-pub any_of-alike : (set : ClassSet) (p q : BidiClass → Bool) → ((c : BidiClass) → p c ≡ q c) → any_of set p ≡ any_of set q
-any_of-alike set p q alike = ap (any_of set) (λ i c. alike c i)
-
 pub any_of-empty : (test : BidiClass → Bool) → any_of (record { bits = 0 }) test ≡ false
 unfolding any_of
 any_of-empty test = refl

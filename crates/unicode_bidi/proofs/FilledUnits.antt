@@ -1,6 +1,6 @@
 -- The levels of a paragraph's units: of what X9 removed, and of a paragraph that keeps to its level throughout.
-use Rattle.std.proofs.Common.{◌≡◌, ℕ, zero, suc, ◌+◌, ◌-◌, ◌<◌, ◌≤◌, ◌≢◌, Bool, true, false, not, List, [], ◌∷◌, ◌++◌, length, get_or, set, Option, Some, refl, sym, map, ap, subst, ◌∙◌, arith, inl, inr, get_or-set_same, get_or-set_other}
-use Rattle.std.specs.Prelude.{replicate, filter}
+use Rattle.std.proofs.Common.{◌≡◌, ℕ, zero, suc, ◌+◌, ◌-◌, ◌<◌, ◌≤◌, ◌≢◌, Bool, true, false, not, List, [], ◌∷◌, ◌++◌, length, get_or, set, Option, Some, refl, sym, map, ap, ◌∙◌, arith, inl, inr, get_or-set_same, get_or-set_other}
+use Rattle.std.specs.Prelude.{replicate}
 use Rattle.std.specs.List.{list_any}
 use Rattle.std.proofs.lemmas.Bool.{cases_Bool, cases_eq, cases_lt, both_ways, or_cases, or_left, or_right, cond-false, not-true}
 use Rattle.std.proofs.lemmas.List.{ext_get_or, replicate-append-replicate, get_or_default, get_or-map, length-map}
@@ -11,15 +11,13 @@ use Rattle.bidi_base.specs.declared.char_data.BidiClass.{BidiClass}
 use Rattle.bidi_base.specs.declared.char_data.BidiClass.TheVariants.{L, R, AL, BN, FSI}
 use Rattle.bidi_base.specs.declared.data_source.BidiMatchedOpeningBracket.{BidiMatchedOpeningBracket}
 use Rattle.bidi_base.specs.Classes.{is_initiator, is_kept, is_removed}
-use Rattle.bidi_base.specs.Flat.{hidden, is_flat, keeps_to, run_levels, kept_of}
+use Rattle.bidi_base.specs.Flat.{hidden, keeps_to}
 use Rattle.bidi_base.specs.Places.{class_at}
 use Rattle.bidi_base.specs.Isolates.{resolved_fsi, deciding_class, isolated_classes, stored_class, stored_classes}
 use Rattle.bidi_base.specs.Explicit.{explicit_levels, explicit_classes}
 use Rattle.bidi_base.specs.Sequences.{is_kept_at, level_at, sequences}
 use Rattle.bidi_base.specs.Stored.{AreResolved, levels_in}
 use Rattle.bidi_base.specs.Text.{text_len, place, is_per_char, per_unit, per_char}
-use Rattle.bidi_base.proofs.FlatLemmas.{kept_of-classes, length-run_levels, stored_classes-flat, AreResolved-flat_lists}
-use Rattle.bidi_base.proofs.FlatUnits.{length-kept_of, kept_of-from_units}
 use Rattle.bidi_base.proofs.LevelsInLemmas.{levels_in-written}
 use Rattle.bidi_base.proofs.PerCharTests.{level_eq, level_test}
 use Rattle.bidi_base.proofs.PerUnit.{length-per_char, length-per_unit, get_or-per_char, get_or-per_unit}
@@ -189,27 +187,6 @@ module _ (len_of : ℕ → ℕ) (h : HasUnits len_of) (chars : List ℕ) (stored
       filled-units
       ∙ ap (per_unit len_of chars) (levels_in-written paragraph source brackets stored (explicit_levels paragraph stored) (explicit_classes paragraph stored) (sequences paragraph stored (explicit_levels paragraph stored)) values filled stored_is refl refl
       (IsPermutation-refl _) resolved (omega (arith, length-per_char 0 len_of chars new, stored_long)) filled-kept filled-front filled-removed)
-
-  -- and of a paragraph in which nothing opens a level, if the levels of the kept characters are those of one run
-  pub filled-levels_in-flat : (source : List BidiClass) (brackets : List (Option BidiMatchedOpeningBracket)) → is_flat source ≡ true → stored ≡ source → length brackets ≡ length source
-      → kept_of source values ≡ run_levels paragraph (filter is_kept source) (kept_of source brackets) → new ≡ per_unit len_of chars (levels_in paragraph source brackets)
-  filled-levels_in-flat source brackets flat stored_is fits is =
-      filled-levels_in source brackets (stored_is ∙ sym (stored_classes-flat source flat))
-      (subst (λ (st : List BidiClass). AreResolved source brackets (explicit_levels paragraph st) (explicit_classes paragraph st) values (sequences paragraph st (explicit_levels paragraph st))) (sym stored_is)
-      (AreResolved-flat_lists source flat paragraph brackets values (length-per_char 0 len_of chars old ∙ sym stored_long ∙ ap length stored_is) fits is))
-
-  -- the same from the units of the kept characters
-  pub filled-levels_in-flat_units : (source : List BidiClass) (brackets : List (Option BidiMatchedOpeningBracket)) → is_flat source ≡ true → stored ≡ source → length brackets ≡ length source
-      → kept_of classes old ≡ per_unit len_of (kept_of source chars) (run_levels paragraph (filter is_kept source) (kept_of source brackets)) → new ≡ per_unit len_of chars (levels_in paragraph source brackets)
-  filled-levels_in-flat_units source brackets flat stored_is fits left =
-      let answers : List ℕ = run_levels paragraph (filter is_kept source) (kept_of source brackets) in
-      let source_long : length source ≡ length chars = sym (ap length stored_is) ∙ stored_long in
-      let answers_long : length answers ≡ length (kept_of source chars) =
-      length-run_levels paragraph (filter is_kept source) (kept_of source brackets) ∙ ap length (sym (kept_of-classes source)) ∙ length-kept_of source source chars refl (sym source_long) in
-      let units : kept_of classes old ≡ kept_of (per_unit len_of chars source) (per_unit len_of chars values) =
-      ap (λ (us : List BidiClass). kept_of us old) (is ∙ ap (per_unit len_of chars) stored_is) ∙ ap (kept_of (per_unit len_of chars source)) old_is in
-      filled-levels_in-flat source brackets flat stored_is fits
-      (kept_of-from_units len_of h 0 chars source values answers source_long (length-per_char 0 len_of chars old) answers_long (sym units ∙ left))
 
 -- ---- a paragraph that keeps to its level throughout
 

@@ -3,7 +3,7 @@ use Rattle.std.proofs.Common.{◌≡◌, ℕ, ◌+◌, ◌-◌, ◌≤◌, List,
 use Rattle.std.specs.Prelude.{replicate}
 use Rattle.std.specs.declared.ops.Range.{Range}
 use Rattle.std.proofs.Math.Seq.{take-append-add}
-use Rattle.std.proofs.lemmas.List.{take-append-le, drop-append-le, append-nil, take-take, drop-take, length-take-le, length-replicate}
+use Rattle.std.proofs.lemmas.List.{take-append-le, drop-append-le, take-take, drop-take, length-take-le, length-replicate}
 use Rattle.bidi_base.specs.Reading.{filled}
 
 -- ---- the units before some place
@@ -30,14 +30,6 @@ module _ {X : Type 0} (range : Range ℕ) (x : X) (xs : List X) (order : range.s
       ∙ take-written (range.end - range.start) more (drop range.end xs) (omega arith)
       ∙ ap (written (range.end - range.start)) (sym (drop-take range.end more xs) ∙ ap (λ n. drop range.end (take n xs)) cut)
       ∙ ap (λ (ys : List X). ys ++ (replicate (range.end - range.start) x ++ drop range.end (take place xs))) (sym (take-take range.start place xs (omega arith)))
-
-  -- those before its end
-  pub take-filled-end : range.end ≤ length xs → take range.end (filled range x xs) ≡ take range.start xs ++ replicate (range.end - range.start) x
-  take-filled-end fits =
-      let whole : range.end ≡ range.start + (range.end - range.start + 0) = omega arith in
-      ap (λ n. take n (filled range x xs)) whole
-      ∙ take-written (range.end - range.start) 0 (drop range.end xs) (omega arith)
-      ∙ ap (λ (ys : List X). take range.start xs ++ ys) (append-nil (replicate (range.end - range.start) x))
 
 -- units behind stay
 pub filled-append : {X : Type 0} (range : Range ℕ) (x : X) (xs ys : List X) → range.start ≤ range.end → range.end ≤ length xs → filled range x (xs ++ ys) ≡ filled range x xs ++ ys

@@ -288,7 +288,8 @@ fn write(classes: &mut [BidiClass], units: Range<usize>, class: BidiClass)
 
 /// The stored classes of a text, and its paragraphs with the levels that `base` or their characters
 /// give them. With `split` false the whole text is one paragraph, even an empty one. Any base level
-/// will do. One walk; memory is taken for the answer and for the isolates that are open at once.
+/// will do. One walk; memory is taken for the answer and for the FSI that are open at once and that
+/// nothing decided.
 pub(crate) fn walk<D: BidiDataSource, T: TextSource>(
     alloc: Global,
     data_source: &D,
