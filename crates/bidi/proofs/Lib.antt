@@ -3,4 +3,6 @@ pub mod LinesLemmas
 pub mod ListsLemmas
 pub mod OpenersLemmas
 pub mod ClosedOpeners
+pub mod ShownLemmas
+pub mod TurnedLemmas
 pub mod UnmatchedPass

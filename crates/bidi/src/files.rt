@@ -1,5 +1,6 @@
-//! The files of a call: they are read, checked and told one after the other.
-use crate::input::{InputFault, check_input};
+//! The files of a call: they are read and answered one after the other.
+use crate::base::Base;
+use crate::input::{InputFault, check_input, show_input};
 use crate::status::Status;
 use std::fs;
 use std::io::{self, ErrorKind, Read, Write};
@@ -35,23 +36,46 @@ fn out_of_memory(rt: &impl Eprint) -> Result<Status, Status> {
     Err(Status::Memory)
 }
 
-// Writes what is found in an input.
-fn check_bytes(
-    rt: &(impl Print + Eprint + AllocGlobal),
-    any: bool,
-    name: &str,
-    bytes: &[u8],
-) -> Result<Status, Status> {
-    match check_input(rt.alloc(), any, name, bytes) {
-        Ok(checked) => {
-            write_out(rt, checked.report.as_str())?;
-            Ok(checked.status())
-        }
-        Err(InputFault::NotUtf8(at)) => {
+// Tells why an input has no answer.
+fn refuse_bytes(rt: &impl Eprint, name: &str, fault: InputFault) -> Result<Status, Status> {
+    match fault {
+        InputFault::NotUtf8(at) => {
             let _ = eprintln!(rt; "bidi: {name}: not UTF-8 from byte {at} on");
             Ok(Status::Refused)
         }
-        Err(InputFault::Memory) => out_of_memory(rt),
+        InputFault::Memory => out_of_memory(rt),
+    }
+}
+
+/// What is done with each input.
+#[derive(Clone, Copy)]
+pub enum Task {
+    Check { any: bool },
+    Show { plain: bool, base: Base },
+}
+
+// Writes what is found in an input, or its lines.
+fn answer_bytes(
+    rt: &(impl Print + Eprint + AllocGlobal),
+    task: Task,
+    name: &str,
+    bytes: &[u8],
+) -> Result<Status, Status> {
+    match task {
+        Task::Check { any } => match check_input(rt.alloc(), any, name, bytes) {
+            Ok(checked) => {
+                write_out(rt, checked.report.as_str())?;
+                Ok(checked.status())
+            }
+            Err(fault) => refuse_bytes(rt, name, fault),
+        },
+        Task::Show { plain, base } => match show_input(rt.alloc(), plain, base, bytes) {
+            Ok(shown) => {
+                write_out(rt, shown.as_str())?;
+                Ok(Status::Clean)
+            }
+            Err(fault) => refuse_bytes(rt, name, fault),
+        },
     }
 }
 
@@ -62,40 +86,40 @@ fn read_standard_input(rt: &(impl Input + AllocGlobal)) -> io::Result<Vec<u8>> {
     Ok(bytes)
 }
 
-fn check_standard_input(
+fn answer_standard_input(
     rt: &(impl Input + Print + Eprint + AllocGlobal),
-    any: bool,
+    task: Task,
 ) -> Result<Status, Status> {
     match read_standard_input(rt) {
-        Ok(bytes) => check_bytes(rt, any, STANDARD_INPUT, bytes.as_slice()),
+        Ok(bytes) => answer_bytes(rt, task, STANDARD_INPUT, bytes.as_slice()),
         Err(error) => refuse(rt, STANDARD_INPUT, &error),
     }
 }
 
-fn check_file(
+fn answer_file(
     rt: &(impl Files + Print + Eprint + AllocGlobal),
-    any: bool,
+    task: Task,
     name: &str,
 ) -> Result<Status, Status> {
     match fs::read(rt, name) {
-        Ok(bytes) => check_bytes(rt, any, name, bytes.as_slice()),
+        Ok(bytes) => answer_bytes(rt, task, name, bytes.as_slice()),
         Err(error) => refuse(rt, name, &error),
     }
 }
 
-/// Writes what is found in the files of these names, or in standard input where there are none. A
+/// Answers the files of these names, or standard input where there are none. A
 /// file that cannot be read or is not UTF-8 is told on standard error, and the next one is read.
-pub fn check_files(
+pub fn answer_files(
     rt: &(impl Files + Input + Print + Eprint + AllocGlobal),
-    any: bool,
+    task: Task,
     names: &[String],
 ) -> Status {
     if names.is_empty() {
-        return check_standard_input(rt, any).unwrap_or_else(|ended| ended);
+        return answer_standard_input(rt, task).unwrap_or_else(|ended| ended);
     }
     let mut status = Status::Clean;
     for name in names {
-        match check_file(rt, any, name.as_str()) {
+        match answer_file(rt, task, name.as_str()) {
             Ok(next) => status = status.worse(next),
             Err(ended) => return status.worse(ended),
         }

@@ -3,11 +3,15 @@ ghost use Rattle.std.specs.Prelude.{◌≡◌, ◌==◌, not, length, IfOk, IfEr
 ghost use Rattle.std.specs.Str.{chars, IsUtf8};
 ghost use Rattle.bidi_unicode.specs.Unicode.{unicode_source};
 ghost use Rattle.bidi.specs.Findings.{findings_of, report_of};
+ghost use Rattle.bidi.specs.Bases.{level_of_base};
 ghost use Rattle.bidi.specs.Inputs.{TellsInput};
+ghost use Rattle.bidi.specs.Shown.{shown_text};
 ghost use Rattle.bidi.specs.declared.input.InputFault.TheVariants.{Memory};
 
+use crate::base::Base;
 use crate::check::findings_in;
 use crate::report::report;
+use crate::show::show;
 use crate::status::Status;
 use bidi_unicode::UnicodeData;
 use std::alloc::{AllocError, Global};
@@ -97,4 +101,22 @@ pub fn check_input(
         report: report(alloc, name, found)?,
         found: !found.is_empty(),
     })
+}
+
+/// The lines of an input from left to right. Refused where the input is not UTF-8, and for want of
+/// memory.
+pub fn show_input(
+    alloc: Global,
+    plain: bool,
+    base: Base,
+    bytes: &[u8],
+) -> Result<String, InputFault>
+    ensures text { IfOk result (λ out. IsUtf8 bytes.now
+        × (string_bytes out ≡ shown_text unicode_source plain (level_of_base base) (chars bytes.now))) }
+    ensures fault { IfErr result (TellsInput bytes.now) }
+{
+    let text = text_of(bytes)?;
+    let chars = chars_of(alloc, text)?;
+    let shown = show(alloc, &UnicodeData, plain, base, chars.as_slice())?;
+    Ok(shown)
 }

@@ -8,7 +8,7 @@ use bidi_base::char_data::BidiClass;
 use bidi_base::data_source::BidiDataSource;
 
 /// Whether a character separates paragraphs.
-fn is_separator<D: BidiDataSource>(data_source: &D, c: char) -> bool
+pub fn is_separator<D: BidiDataSource>(data_source: &D, c: char) -> bool
     ensures { result ≡ is_paragraph_separator ((D.source data_source.now).class_of c) }
 {
     matches!(data_source.bidi_class(c), BidiClass::B)

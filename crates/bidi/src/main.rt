@@ -1,7 +1,9 @@
 //! The bidirectional algorithm at a command line. `bidi check` finds direction controls that have no
-//! match on their line: they can make a text, also a program, read otherwise than it is.
+//! match on their line: they can make a text, also a program, read otherwise than it is. `bidi show`
+//! gives the lines of a text as a terminal that does not know the algorithm has to be given them.
 #![tactic(auto)]
 
+mod base;
 mod check;
 mod command;
 mod control;
@@ -11,19 +13,21 @@ mod input;
 mod lines;
 mod openers;
 mod report;
+mod show;
 mod status;
 #[cfg(test)]
 mod tests;
 mod unmatched;
 
 use command::Command;
-use files::check_files;
+use files::{Task, answer_files};
 use status::Status;
 use std::process::ExitCode;
 use std::rt::{Env, Files};
 use std::{env, io};
 
-const USAGE: &str = "usage: bidi check [--any] [FILE..]";
+const USAGE: &str =
+    "usage: bidi check [--any] [FILE..] or show [--base auto|ltr|rtl] [--plain] [FILE..]";
 
 // The words after the program's name.
 fn arguments(rt: &(impl Env + AllocGlobal)) -> io::Result<Vec<String>> {
@@ -36,7 +40,10 @@ fn serve(rt: &(impl Env + Files + Input + Print + Eprint + AllocGlobal)) -> Stat
         return Status::Device;
     };
     match Command::parse(words.as_slice()) {
-        Some(Command::Check { any, files }) => check_files(rt, any, files.words()),
+        Some(Command::Check { any, files }) => answer_files(rt, Task::Check { any }, files.words()),
+        Some(Command::Show { base, plain, files }) => {
+            answer_files(rt, Task::Show { plain, base }, files.words())
+        }
         None => {
             let _ = eprintln!(rt; "bidi: {USAGE}");
             Status::Refused

@@ -1,7 +1,8 @@
 //! Reports of hand-made texts, and what words ask for.
+use crate::base::Base;
 use crate::command::Command;
 use crate::control::Control;
-use crate::input::{InputFault, check_input};
+use crate::input::{InputFault, check_input, show_input};
 use bidi_base::data_source::BidiDataSource;
 use bidi_unicode::UnicodeData;
 use std::test::Fail;
@@ -171,6 +172,13 @@ fn words_ask_for_forms(rt: HostRuntime) -> Result<(), Fail> {
         ("check a", Some((false, 1))),
         ("check --any", Some((true, 0))),
         ("check --any a b", Some((true, 2))),
+        ("show", Some((false, 0))),
+        ("show --base rtl --plain a b", Some((true, 2))),
+        ("show --plain a", Some((true, 1))),
+        ("show --base ltr", Some((false, 0))),
+        ("show --base", None),
+        ("show --base sideways", None),
+        ("show --plain --base rtl", None),
         ("", None),
         ("Check", None),
         ("check a --any", None),
@@ -181,9 +189,56 @@ fn words_ask_for_forms(rt: HostRuntime) -> Result<(), Fail> {
         let words = words_of(&rt, line)?;
         let found = match Command::parse(words.as_slice()) {
             Some(Command::Check { any, files }) => Some((any, files.words().len())),
+            Some(Command::Show { plain, files, .. }) => Some((plain, files.words().len())),
             None => None,
         };
         assert_eq!(rt; found, wanted, "{line}");
     }
     Ok(())
+}
+
+// A text, and its lines as they are shown, and plainly.
+const SHOWN: [(Base, &str, &str, &str); 8] = [
+    (
+        Base::Auto,
+        "ab \u{5D0}\u{5D1}",
+        "ab \u{5D1}\u{5D0}\n",
+        "ab \u{5D1}\u{5D0}\n",
+    ),
+    // Hebrew points stay behind their letter.
+    (
+        Base::Auto,
+        "\u{5E9}\u{5C1}\u{5B8}\u{5DC}\n",
+        "\u{5DC}\u{5E9}\u{5C1}\u{5B8}\n",
+        "\u{5DC}\u{5B8}\u{5C1}\u{5E9}\n",
+    ),
+    // Arabic with brackets, which are mirrored, and digits, which are not turned.
+    (
+        Base::Auto,
+        "\u{627}(\u{628}) 12",
+        "12 (\u{628})\u{627}\n",
+        "12 )\u{628}(\u{627}\n",
+    ),
+    (Base::Rtl, "a!", "!a\n", "!a\n"),
+    (Base::Ltr, "\u{5D0}!", "\u{5D0}!\n", "\u{5D0}!\n"),
+    (Base::Auto, "a\r\nb\u{2029}\n", "a\nb\n\n", "a\nb\n\n"),
+    (
+        Base::Auto,
+        "\u{301}\u{5D0}",
+        "\u{5D0}\u{301}\n",
+        "\u{5D0}\u{301}\n",
+    ),
+    (Base::Auto, "", "", ""),
+];
+
+#[test]
+fn lines_are_shown(rt: HostRuntime) {
+    for (base, text, terminal, plainly) in SHOWN {
+        for (plain, wanted) in [(false, terminal), (true, plainly)] {
+            match show_input(rt.alloc(), plain, base, text.as_bytes()) {
+                Ok(shown) => assert_eq!(rt; shown.as_str(), wanted, "{text:?}"),
+                Err(fault) => panic!(rt; "{text:?}: {fault:?}"),
+            }
+        }
+    }
 }

@@ -1,0 +1,68 @@
+-- A line that is analysed as one paragraph, as a list of characters.
+use Rattle.std.proofs.Common.{◌≡◌, ℕ, ◌-◌, ◌≤◌, ◌++◌, false, List, [], ◌∷◌, length, take, map, flat_map, Option, refl, sym, ap, ap₂, subst, ◌∙◌, arith, append-nil, length-append}
+use Rattle.std.specs.Prelude.{slice_range, All}
+use Rattle.std.proofs.lemmas.List.{take_all, length-map, get_or-map}
+use Rattle.bidi_base.specs.declared.char_data.BidiClass.{BidiClass}
+use Rattle.bidi_base.specs.Analysed.{IsAnalysis}
+use Rattle.bidi_base.specs.Isolates.{paragraph_level, stored_classes}
+use Rattle.bidi_base.specs.Line.{levels_of_line, line_levels}
+use Rattle.bidi_base.specs.Places.{first_or}
+use Rattle.bidi_base.specs.Source.{Source}
+use Rattle.bidi_base.specs.Stored.{stored_levels, text_classes, text_levels, paragraph_levels}
+use Rattle.bidi_base.specs.Text.{one_unit}
+use Rattle.bidi_base.proofs.LevelLaws.{length-stored_levels}
+use Rattle.bidi_base.proofs.PerUnit.{per_unit-one_unit}
+use Rattle.bidi_base.proofs.StoredSteps.{length-stored_classes}
+use Rattle.bidi_lines.proofs.LineLevels.{length-line_levels_after}
+use Rattle.bidi.specs.Shown.{shown_levels}
+
+-- what holds of a list under a function, and what it is made into
+pub All-from_map : {X Y : Type 0} (P : Y → Type 0) (f : X → Y) (xs : List X) → All P (map f xs) → All (λ x. P (f x)) xs
+All-from_map P f xs h = λ k d within. subst P (get_or-map f xs k d (f d) within) (h k (f d) (omega (arith, length-map xs f)))
+
+pub flat_map-map : {X Y Z : Type 0} (g : Y → List Z) (f : X → Y) (xs : List X) → flat_map (λ x. g (f x)) xs ≡ flat_map g (map f xs)
+flat_map-map g f [] = refl
+flat_map-map g f (x ∷ xs) = ap (λ rest. g (f x) ++ rest) (flat_map-map g f xs)
+
+module _ (source : Source) (base : Option ℕ) (chars : List ℕ) (classes : List BidiClass) (levels own : List ℕ) (ranges : List (ℕ × ℕ))
+    (h : IsAnalysis source base false (record { len_of = one_unit; chars = chars; classes = classes; levels = levels }) ranges own) where
+  pub alone-classes : classes ≡ stored_classes (map source.class_of chars)
+  unfolding text_classes
+  alone-classes =
+      let long : length (stored_classes (map source.class_of chars) ++ []) ≡ length chars =
+      ap length (append-nil (stored_classes (map source.class_of chars))) ∙ length-stored_classes (map source.class_of chars) ∙ length-map chars source.class_of in
+      h.classes ∙ per_unit-one_unit chars (stored_classes (map source.class_of chars) ++ []) long ∙ append-nil (stored_classes (map source.class_of chars))
+
+  pub alone-levels : levels ≡ stored_levels source base chars
+  unfolding text_levels
+  alone-levels =
+      let long : length (stored_levels source base chars ++ []) ≡ length chars = ap length (append-nil (stored_levels source base chars)) ∙ length-stored_levels source base chars in
+      h.levels ∙ per_unit-one_unit chars (stored_levels source base chars ++ []) long ∙ append-nil (stored_levels source base chars)
+
+  pub alone-level : first_or 0 own ≡ paragraph_level base (map source.class_of chars)
+  unfolding paragraph_levels
+  alone-level = ap (first_or 0) h.paragraph_levels
+
+  pub length-alone_classes : length classes ≡ length chars
+  length-alone_classes = ap length alone-classes ∙ length-stored_classes (map source.class_of chars) ∙ length-map chars source.class_of
+
+  pub length-alone_levels : length levels ≡ length chars
+  length-alone_levels = ap length alone-levels ∙ length-stored_levels source base chars
+
+  whole : {X : Type 0} (xs : List X) → length xs ≡ length chars → slice_range xs 0 (length chars) ≡ xs
+  whole xs long = take_all (length chars - 0) xs (omega arith)
+
+  -- L1 along the whole of it
+  pub alone-shown : (level : ℕ) → level ≡ first_or 0 own → levels_of_line level classes levels 0 (length chars) ≡ shown_levels source base chars
+  unfolding shown_levels
+  alone-shown level e =
+      ap₂ (line_levels level) (whole classes length-alone_classes ∙ alone-classes) (whole levels length-alone_levels ∙ alone-levels)
+      ∙ ap (λ l. line_levels l (stored_classes (map source.class_of chars)) (stored_levels source base chars)) (e ∙ alone-level)
+
+pub length-shown_levels : (source : Source) (base : Option ℕ) (chars : List ℕ) → length (shown_levels source base chars) ≡ length chars
+unfolding shown_levels line_levels
+length-shown_levels source base chars =
+    let level : ℕ = paragraph_level base (map source.class_of chars) in
+    let classes : List BidiClass = stored_classes (map source.class_of chars) in
+    let long : length classes ≡ length chars = length-stored_classes (map source.class_of chars) ∙ length-map chars source.class_of in
+    length-line_levels_after level level classes (stored_levels source base chars) (length-stored_levels source base chars ∙ sym long) ∙ long
