@@ -38,11 +38,16 @@ fn has_marks(runs: &[LevelRun], classes: &[BidiClass]) -> bool
     runs.iter().any(|run| is_mark_in(part_of(classes, run)))
 }
 
-/// Whether one of the classes is NSM.
+/// Whether one of the classes is NSM. All are looked at, many at once.
+#[tactic(auto, using(std::proofs::lemmas::List::Folds::list_any_more))]
 fn is_mark_in(classes: &[BidiClass]) -> bool
     ensures { result ≡ list_any is_nsm classes.now }
 {
-    classes.iter().any(|class| is_mark(*class))
+    let mut found = false;
+    for class in classes {
+        found |= is_mark(*class);
+    }
+    found
 }
 
 /// Whether a class is NSM.

@@ -68,11 +68,16 @@ fn has_numbers(runs: &[LevelRun], classes: &[BidiClass]) -> bool
     runs.iter().any(|run| is_number_in(part_of(classes, run)))
 }
 
-/// Whether one of the classes is a number.
+/// Whether one of the classes is a number. All are looked at, many at once.
+#[tactic(auto, using(std::proofs::lemmas::List::Folds::list_any_more))]
 fn is_number_in(classes: &[BidiClass]) -> bool
     ensures { result ≡ list_any is_number classes.now }
 {
-    classes.iter().any(|class| is_number(*class))
+    let mut found = false;
+    for class in classes {
+        found |= is_number(*class);
+    }
+    found
 }
 
 /// Whether a class is a European or Arabic number.
