@@ -1,8 +1,8 @@
 //! Lines of given width, and the places of their characters on the screen.
 
-use bidi_rows::sample;
 use bidi_base::level::Level;
 use bidi_base::text::{StrText, is_line};
+use bidi_rows::sample;
 use std::alloc::Global;
 use std::ops::Range;
 use std::process::Abort;
