@@ -1,10 +1,10 @@
 -- The loop over the level runs of a text: the run that comes, what has been joined before it, and what then.
-use Rattle.std.proofs.Common.{◌≡◌, ℕ, zero, suc, ◌+◌, ◌-◌, ◌<◌, ◌≤◌, Bool, true, false, cond, eqb, max, List, [], ◌∷◌, ◌++◌, length, map, get_or, Option, Some, None, unwrap_or, refl, sym, ap, subst, ◌∙◌, arith, inl, inr, eq-eqb, ne_eqb, length-append}
+use Rattle.std.proofs.Common.{◌≡◌, ℕ, zero, suc, ◌+◌, ◌-◌, ◌<◌, ◌≤◌, Bool, true, false, cond, eqb, max, List, [], ◌∷◌, ◌++◌, length, map, get_or, take, Option, Some, None, unwrap_or, refl, sym, ap, subst, ◌∙◌, arith, inl, inr, eq-eqb, ne_eqb, length-append}
 use Rattle.std.specs.Prelude.{filter, flat_map, IfSome, All, IsPermutation}
 use Rattle.std.specs.List.{list_any}
 use Rattle.std.specs.declared.ops.Range.{Range}
 use Rattle.std.proofs.lemmas.Bool.{cases_Bool, cases_eq, cases_lt, both_ways, cond-true, cond-false}
-use Rattle.std.proofs.lemmas.List.{length-map, map-append, get_or-map, get_or_default, get_or_past, nil_from_length}
+use Rattle.std.proofs.lemmas.List.{length-map, length-take-le, map-append, get_or-map, get_or_default, get_or_past, nil_from_length, take_more}
 use Rattle.std.proofs.lemmas.List.Elements.{All-weaker, All-nil, All-cons}
 use Rattle.std.proofs.lemmas.List.Folds.{flat_map-map, list_any_at}
 use Rattle.std.proofs.lemmas.List.Sorted.{IsPermutation-refl}
@@ -117,6 +117,21 @@ module _ (len_of : ℕ → ℕ) (h : HasUnits len_of) (chars : List ℕ) (units 
       line_of at =
           subst (λ (u : ℕ). IsLine len_of chars u run.end) (sym at.start)
           (subst (λ (u : ℕ). IsLine len_of chars (place len_of chars (cut len_of chars units unit_levels n)) u) (sym at.end) (IsLine-places len_of chars (cut len_of chars units unit_levels n) (cut len_of chars units unit_levels (n + 1)) (omega (arith, at.range.not_empty))))
+
+  -- the run at k comes after those before it
+  pub record Comes (k : ℕ) (run : Range ℕ) : Type 0 where
+    pub within : length (take k runs) < length runs
+    pub is : run ≡ get_or runs (length (take k runs)) run
+    pub next : IsNext (length (take k runs)) run
+    pub more : take (k + 1) runs ≡ take k runs ++ run ∷ []
+
+  pub comes : (k : ℕ) (d : Range ℕ) → k < length runs → Comes k (get_or runs k d)
+  comes k d low =
+      let run = get_or runs k d in
+      let count : length (take k runs) ≡ k = length-take-le k runs (omega (arith, low)) in
+      let within : length (take k runs) < length runs = omega (arith, low, count) in
+      let is : run ≡ get_or runs (length (take k runs)) run = get_or_default runs k d run low ∙ ap (λ n. get_or runs n run) (sym count) in
+      record { within = within; is = is; next = next_run (length (take k runs)) run within is; more = take_more runs k d low }
 
   -- the last character that X9 keeps in it
   pub record IsLastKept (n kept_end : ℕ) : Type 0 where

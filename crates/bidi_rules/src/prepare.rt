@@ -9,7 +9,7 @@ mod sequence;
 
 use bidi_base::char_data::BidiClass;
 use bidi_base::classes::is_removed;
-pub use joining::isolating_run_sequences;
+pub use joining::{isolating_run_sequences, join_level_runs};
 pub use lent::LentSequence;
 pub use sequence::{BackwardsFrom, ForwardsFrom, IsolatingRunSequence};
 use std::ops::Range;

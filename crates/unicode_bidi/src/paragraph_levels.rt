@@ -20,7 +20,7 @@ use bidi_base::level::Level;
 use bidi_base::text::TextSource;
 use bidi_rules::explicit;
 use bidi_rules::implicit::{NeutralResolver, resolve_levels, resolve_weak, resolve_weak_lent};
-use bidi_rules::prepare::{IsolatingRunSequenceVec, LentSequence, isolating_run_sequences};
+use bidi_rules::prepare::{IsolatingRunSequenceVec, LentSequence, LevelRunVec, join_level_runs};
 use std::alloc::{AllocError, Global};
 
 /// A paragraph whose stored classes are known, and whose levels are sought.
@@ -44,6 +44,8 @@ pub(crate) struct ClassifiedParagraph<'a, D: BidiDataSource, T: TextSource> {
 pub(crate) struct LevelResolver {
     /// The class of each unit, as far as the passes have resolved it.
     classes: Vec<BidiClass>,
+    /// The level runs.
+    runs: LevelRunVec,
     /// The isolating run sequences. The runs of each take memory anew.
     sequences: IsolatingRunSequenceVec,
     neutrals: NeutralResolver,
@@ -54,6 +56,7 @@ impl LevelResolver {
     pub(crate) fn new(alloc: Global) -> LevelResolver {
         LevelResolver {
             classes: Vec::new(alloc),
+            runs: Vec::new(alloc),
             sequences: Vec::new(alloc),
             neutrals: NeutralResolver::new(alloc),
         }
@@ -78,8 +81,8 @@ impl LevelResolver {
         let original_classes = paragraph.original_classes;
         self.classes.clear();
         self.classes.extend_from_slice(original_classes)?;
+        self.runs.clear();
         self.sequences.clear();
-        let mut runs = Vec::new(alloc);
         explicit::compute(
             alloc,
             paragraph.text,
@@ -87,15 +90,15 @@ impl LevelResolver {
             original_classes,
             levels,
             self.classes.as_mut_slice(),
-            &mut runs,
+            &mut self.runs,
         )?;
-        isolating_run_sequences(
+        join_level_runs(
             alloc,
             paragraph.text,
             paragraph.level,
             original_classes,
             levels,
-            runs,
+            self.runs.as_slice(),
             paragraph.flags.has_isolates(),
             &mut self.sequences,
         )

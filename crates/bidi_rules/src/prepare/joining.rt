@@ -133,14 +133,48 @@ pub fn isolating_run_sequences<T: TextSource>(
     ensures runs { OnOk result (IsPermutation (map bounds runs.items) (flat_map run_bounds out.new.items)) }
     ensures fits { OnOk result (All (λ s. AreLines T.units (T.characters text) (run_bounds s)) out.new.items) }
 {
+    join_level_runs(
+        alloc,
+        text,
+        para_level,
+        original_classes,
+        levels,
+        runs.as_slice(),
+        has_isolate_controls,
+        out,
+    )
+}
+
+/// As [`isolating_run_sequences`], of level runs that the caller keeps.
+pub fn join_level_runs<T: TextSource>(
+    alloc: Global,
+    text: T,
+    para_level: Level,
+    original_classes: &[BidiClass],
+    levels: &[Level],
+    runs: &[LevelRun],
+    has_isolate_controls: bool,
+    out: &mut IsolatingRunSequenceVec,
+) -> Result<(), AllocError>
+    requires original { IsTrue (is_per_char ⟦<BidiClass as PartialEq>⟧.eq T.units (T.characters text) original_classes.now) }
+    requires levels { IsTrue (is_per_char ⟦<Level as PartialEq>⟧.eq T.units (T.characters text) levels.now) }
+    requires runs { let stored = per_char L T.units (T.characters text) original_classes.now in map bounds runs.now ≡ level_run_ranges T.units (T.characters text) stored (per_char 0 T.units (T.characters text) levels.now) }
+    requires isolates { IsTrue (list_any is_initiator original_classes.now) → IsTrue has_isolate_controls }
+    requires out { out.old.items ≡ [] }
+    ensures sequences { let stored = per_char L T.units (T.characters text) original_classes.now in OnOk result (sequences_in T.units (T.characters text) stored out.new.items ≡ sequences para_level stored (per_char 0 T.units (T.characters text) levels.now)) }
+    // Levels that are explicit ones where X9 keeps characters stand for all explicit levels.
+    ensures explicit { let stored = per_char L T.units (T.characters text) original_classes.now in OnOk result (HasExplicitLevels para_level stored (per_char 0 T.units (T.characters text) levels.now) → sequences_in T.units (T.characters text) stored out.new.items ≡ sequences para_level stored (explicit_levels para_level stored)) }
+    ensures runs { OnOk result (IsPermutation (map bounds runs.now) (flat_map run_bounds out.new.items)) }
+    ensures fits { OnOk result (All (λ s. AreLines T.units (T.characters text) (run_bounds s)) out.new.items) }
+{
     let mut waiting: WaitingSequences = Vec::new(alloc);
     let mut level_before = para_level;
     for run in runs {
-        let kept_end = kept_end(original_classes, &run);
+        let kept_end = kept_end(original_classes, run);
         if kept_end == run.start {
             // X9 removes the whole paragraph.
             let side = para_level.bidi_class();
-            out.push(IsolatingRunSequence::single(alloc, run, side, side)?)?;
+            out.push(IsolatingRunSequence::single(alloc, run.start..run.end, side, side)?)?;
             return Ok(());
         }
         let level = levels[kept_end - 1];
@@ -150,9 +184,9 @@ pub fn isolating_run_sequences<T: TextSource>(
         let waits = waiting_for(&waiting, original_classes[run.start]);
         if has_isolate_controls {
             let s = waits.unwrap_or(out.len());
-            read_run(&mut waiting, text, original_classes, &run, kept_end, s)?;
+            read_run(&mut waiting, text, original_classes, run, kept_end, s)?;
         }
-        put_run(alloc, out, waits, run, sos, eos)?;
+        put_run(alloc, out, waits, run.start..run.end, sos, eos)?;
         level_before = level;
     }
     Ok(())

@@ -3,7 +3,7 @@ use Rattle.bidi_base.specs.declared.char_data.BidiClass.TheVariants.{L}
 use Rattle.bidi_base.specs.Explicit.{explicit_levels}
 use Rattle.bidi_base.specs.Sequences.{sequences}
 use Rattle.bidi_base.specs.Text.{is_per_char, per_char}
-use Rattle.bidi_base.specs.Units.{level_run_ranges}
+use Rattle.bidi_base.specs.Units.{bounds, level_run_ranges}
 use Rattle.bidi_base.proofs.ExplicitLemmas.{length-explicit_levels}
 use Rattle.bidi_base.proofs.PerCharTests.{level_eq, level_test}
 use Rattle.bidi_base.proofs.PerUnit.{length-per_char, per_char-per_unit}
@@ -19,34 +19,34 @@ compute-requires-clause-original g c =
     let class_of = (g.D.BidiDataSource.source c.args.paragraph.now.data_source.now).class_of in
     stored-is_per_char g.T.TextSource.units (g.T.TextSource.characters c.args.paragraph.now.text) class_of c.args.paragraph.now.original_classes.now c.args.paragraph.now.stored
 
-pub isolating_run_sequences-requires-clause-original : goal.isolating_run_sequences-requires-clause-original
-isolating_run_sequences-requires-clause-original g c =
+pub join_level_runs-requires-clause-original : goal.join_level_runs-requires-clause-original
+join_level_runs-requires-clause-original g c =
     let class_of = (g.D.BidiDataSource.source c.args.paragraph.now.data_source.now).class_of in
     stored-is_per_char g.T.TextSource.units (g.T.TextSource.characters c.args.paragraph.now.text) class_of c.args.paragraph.now.original_classes.now c.args.paragraph.now.stored
 
-pub isolating_run_sequences-requires-clause-isolates : goal.isolating_run_sequences-requires-clause-isolates
-isolating_run_sequences-requires-clause-isolates g c = λ some.
+pub join_level_runs-requires-clause-isolates : goal.join_level_runs-requires-clause-isolates
+join_level_runs-requires-clause-isolates g c = λ some.
     let class_of = (g.D.BidiDataSource.source c.args.paragraph.now.data_source.now).class_of in
     let cs : List ℕ = g.T.TextSource.characters c.args.paragraph.now.text in
     c.has_isolates.ensures ∙ has_isolates-flags c.args.paragraph.now.flags (map class_of cs) c.args.paragraph.now.own_flags ∙ initiators-stored g.T.TextSource.units cs (map class_of cs) c.args.paragraph.now.original_classes.now c.args.paragraph.now.stored some
 
-pub isolating_run_sequences-requires-clause-levels : goal.isolating_run_sequences-requires-clause-levels
-isolating_run_sequences-requires-clause-levels g c =
+pub join_level_runs-requires-clause-levels : goal.join_level_runs-requires-clause-levels
+join_level_runs-requires-clause-levels g c =
     let len = g.T.TextSource.units in
     let cs : List ℕ = g.T.TextSource.characters c.args.paragraph.now.text in
     let stored = per_char L len cs c.args.paragraph.now.original_classes.now in
     let levels = explicit_levels c.args.paragraph.now.level stored in
     ap (is_per_char level_eq len cs) c.in_ok-compute.ensures.levels ∙ is_per_char-per_unit level_eq level_test len cs levels (length-explicit_levels c.args.paragraph.now.level stored ∙ length-per_char L len cs c.args.paragraph.now.original_classes.now)
 
-pub isolating_run_sequences-requires-clause-runs : goal.isolating_run_sequences-requires-clause-runs
-isolating_run_sequences-requires-clause-runs g c =
+pub join_level_runs-requires-clause-runs : goal.join_level_runs-requires-clause-runs
+join_level_runs-requires-clause-runs g c =
     let len = g.T.TextSource.units in
     let cs : List ℕ = g.T.TextSource.characters c.args.paragraph.now.text in
     let stored = per_char L len cs c.args.paragraph.now.original_classes.now in
     let levels = explicit_levels c.args.paragraph.now.level stored in
     let read : per_char 0 len cs c.compute.new.levels ≡ levels =
     ap (per_char 0 len cs) c.in_ok-compute.ensures.levels ∙ per_char-per_unit len g.met.T.TextSource.has_units 0 cs levels (length-explicit_levels c.args.paragraph.now.level stored ∙ length-per_char L len cs c.args.paragraph.now.original_classes.now) in
-    c.in_ok-compute.ensures.runs ∙ ap (level_run_ranges len cs stored) (sym read)
+    ap (map bounds) c.as_slice.ensures.value ∙ c.in_ok-compute.ensures.runs ∙ ap (level_run_ranges len cs stored) (sym read)
 
 pub returns-clause-sequences : goal.returns-clause-sequences
 returns-clause-sequences g c =
@@ -56,4 +56,4 @@ returns-clause-sequences g c =
     let levels = explicit_levels c.args.paragraph.now.level stored in
     let read : per_char 0 len cs c.compute.new.levels ≡ levels =
     ap (per_char 0 len cs) c.in_ok-compute.ensures.levels ∙ per_char-per_unit len g.met.T.TextSource.has_units 0 cs levels (length-explicit_levels c.args.paragraph.now.level stored ∙ length-per_char L len cs c.args.paragraph.now.original_classes.now) in
-    subst (λ (ls : List ℕ). OnOk c.isolating_run_sequences.result (sequences_in len cs stored c.isolating_run_sequences.new.out.items ≡ sequences c.args.paragraph.now.level stored ls)) read c.isolating_run_sequences.ensures.sequences
+    subst (λ (ls : List ℕ). OnOk c.join_level_runs.result (sequences_in len cs stored c.join_level_runs.new.out.items ≡ sequences c.args.paragraph.now.level stored ls)) read c.join_level_runs.ensures.sequences
