@@ -8,6 +8,7 @@ pub mod ChainLemmas
 pub mod CharsLemmas
 pub mod ClassesLemmas
 pub mod ContextLemmas
+pub mod CrLfLemmas
 pub mod DirectionWalk
 pub mod EmbeddingsLemmas
 mod Examples

@@ -12,11 +12,11 @@ use Rattle.bidi_base.specs.Isolates.{stored_classes}
 use Rattle.bidi_base.specs.Source.{Source}
 use Rattle.bidi_base.specs.Stored.{text_classes}
 use Rattle.bidi_base.specs.Text.{text_len, is_boundary, subrange, IsLine}
-use Rattle.bidi_base.specs.Paragraphs.{cut_after, each_separator, paragraphs_of, pieces_of, ranges_from, IsPartition, AllButLast, ends_with_separator, has_inner_separator, AreParagraphRanges}
+use Rattle.bidi_base.specs.Paragraphs.{SplitTest, cut_after, each_separator, paragraphs_of, pieces_of, ranges_from, IsPartition, AllButLast, ends_with_separator, has_inner_separator, AreParagraphRanges}
 use Rattle.bidi_base.proofs.TextLemmas.{HasUnits, subrange-middle, is_boundary-append, length-le-text_len}
 use Rattle.bidi_base.proofs.StoredSteps.{length-stored_classes}
 
--- ---- a text that is read from the front and cut after each character that stops
+-- ---- a text that is read from the front and cut where a test passes
 
 -- all that some pieces hold
 abbrev pub joined : List (List ℕ) → List ℕ
@@ -28,105 +28,99 @@ length-text_classes source [] = refl
 length-text_classes source (p ∷ pieces) =
     omega (arith, length-append (stored_classes (map source.class_of p)) (text_classes source pieces), length-append p (joined pieces), length-text_classes source pieces, length-stored_classes (map source.class_of p), length-map p source.class_of)
 
-module _ (stops : ℕ → Bool) where
-  abbrev pub pieces_by : List ℕ → List (List ℕ)
-  pieces_by chars = cut_after (λ c after. stops c) chars
+module _ (ends : SplitTest) where
+  -- no piece ends among these characters, before `rest`
+  abbrev pub GoesOn : List ℕ → List ℕ → Type 0
+  GoesOn [] rest = ⊤
+  GoesOn (c ∷ cs) rest = (ends c (cs ++ rest) ≡ false) × GoesOn cs rest
 
-  -- no character stops
-  abbrev pub GoesOn : List ℕ → Type 0
-  GoesOn [] = ⊤
-  GoesOn (c ∷ cs) = (stops c ≡ false) × GoesOn cs
+  GoesOn-push : (cs : List ℕ) (c : ℕ) (rest : List ℕ) → GoesOn cs (c ∷ rest) → ends c rest ≡ false → GoesOn (cs ++ c ∷ []) rest
+  GoesOn-push [] c rest h on = (on, tt)
+  GoesOn-push (x ∷ cs) c rest h on = (ap (ends x) (append_assoc cs (c ∷ []) rest) ∙ h.0, GoesOn-push cs c rest h.1 on)
 
-  GoesOn-push : (cs : List ℕ) (c : ℕ) → GoesOn cs → stops c ≡ false → GoesOn (cs ++ c ∷ [])
-  GoesOn-push [] c h on = (on, tt)
-  GoesOn-push (x ∷ cs) c h on = (h.0, GoesOn-push cs c h.1 on)
-
-  -- a piece ends at the first character that stops
-  pieces_by-stop : (cs : List ℕ) (c : ℕ) (rest : List ℕ) → GoesOn cs → stops c ≡ true → pieces_by (cs ++ c ∷ rest) ≡ (cs ++ c ∷ []) ∷ pieces_by rest
-  pieces_by-stop [] c rest h stop = rw stop refl
-  pieces_by-stop (x ∷ cs) c rest h stop = rw (h.0, pieces_by-stop cs c rest h.1 stop) refl
+  -- a piece ends where the test first passes
+  cut_after-stop : (cs : List ℕ) (c : ℕ) (rest : List ℕ) → GoesOn cs (c ∷ rest) → ends c rest ≡ true → cut_after ends (cs ++ c ∷ rest) ≡ (cs ++ c ∷ []) ∷ cut_after ends rest
+  cut_after-stop [] c rest h stop = rw stop refl
+  cut_after-stop (x ∷ cs) c rest h stop = rw (h.0, cut_after-stop cs c rest h.1 stop) refl
 
   -- what is left is a piece, if it is not empty
-  pieces_by-end : (x : ℕ) (cs : List ℕ) → GoesOn (x ∷ cs) → pieces_by (x ∷ cs) ≡ (x ∷ cs) ∷ []
-  pieces_by-end x [] h = rw h.0 refl
-  pieces_by-end x (y ∷ cs) h = rw (h.0, pieces_by-end y cs h.1) refl
+  cut_after-end : (x : ℕ) (cs : List ℕ) → GoesOn (x ∷ cs) [] → cut_after ends (x ∷ cs) ≡ (x ∷ cs) ∷ []
+  cut_after-end x [] h = rw h.0 refl
+  cut_after-end x (y ∷ cs) h =
+      let on : ends x (y ∷ cs) ≡ false = ap (λ (ds : List ℕ). ends x (y ∷ ds)) (sym (append-nil cs)) ∙ h.0 in
+      rw (on, cut_after-end y cs h.1) refl
 
-  -- of the characters read, `done` are the pieces that have ended, and `current` is the one that has not
-  pub record IsCut (read : List ℕ) (done : List (List ℕ)) (current : List ℕ) : Type 0 where
-    pub whole : joined done ++ current ≡ read
-    pub cut : (rest : List ℕ) → pieces_by (read ++ rest) ≡ done ++ pieces_by (current ++ rest)
-    pub goes_on : GoesOn current
+  -- of the characters read, `done` are the pieces that have ended, and `current` is the one that has not; `rest` is still to come
+  pub record IsCut (chars : List ℕ) (done : List (List ℕ)) (current rest : List ℕ) : Type 0 where
+    pub cut : cut_after ends chars ≡ done ++ cut_after ends (current ++ rest)
+    pub goes_on : GoesOn current rest
 
-  pub IsCut-start : IsCut [] [] []
-  IsCut-start = record { whole = refl; cut = λ rest. refl; goes_on = tt }
+  pub IsCut-start : (chars : List ℕ) → IsCut chars [] [] chars
+  IsCut-start chars = record { cut = refl; goes_on = tt }
 
   -- one more character of the same piece
-  pub IsCut-more : (read : List ℕ) (done : List (List ℕ)) (current : List ℕ) (c : ℕ) → stops c ≡ false → IsCut read done current → IsCut (read ++ c ∷ []) done (current ++ c ∷ [])
-  IsCut-more read done current c on h = record {
-    whole = sym (append_assoc (joined done) current (c ∷ [])) ∙ ap (λ (cs : List ℕ). cs ++ c ∷ []) h.whole;
-    cut = λ rest. ap pieces_by (append_assoc read (c ∷ []) rest) ∙ h.cut (c ∷ rest) ∙ ap (λ (cs : List ℕ). done ++ pieces_by cs) (sym (append_assoc current (c ∷ []) rest));
-    goes_on = GoesOn-push current c h.goes_on on;
+  pub IsCut-more : (chars : List ℕ) (done : List (List ℕ)) (current : List ℕ) (c : ℕ) (rest : List ℕ) → ends c rest ≡ false → IsCut chars done current (c ∷ rest) → IsCut chars done (current ++ c ∷ []) rest
+  IsCut-more chars done current c rest on h = record {
+    cut = h.cut ∙ ap (λ (cs : List ℕ). done ++ cut_after ends cs) (sym (append_assoc current (c ∷ []) rest));
+    goes_on = GoesOn-push current c rest h.goes_on on;
   }
 
   -- one that ends it
-  pub IsCut-stop : (read : List ℕ) (done : List (List ℕ)) (current : List ℕ) (c : ℕ) → stops c ≡ true → IsCut read done current → IsCut (read ++ c ∷ []) (done ++ (current ++ c ∷ []) ∷ []) []
-  IsCut-stop read done current c stop h = record {
-    whole =
-        append-nil (joined (done ++ (current ++ c ∷ []) ∷ [])) ∙ flat_map-append (λ (piece : List ℕ). piece) done ((current ++ c ∷ []) ∷ [])
-        ∙ ap (λ (cs : List ℕ). joined done ++ cs) (append-nil (current ++ c ∷ [])) ∙ sym (append_assoc (joined done) current (c ∷ [])) ∙ ap (λ (cs : List ℕ). cs ++ c ∷ []) h.whole;
-    cut = λ rest. ap pieces_by (append_assoc read (c ∷ []) rest) ∙ h.cut (c ∷ rest) ∙ ap (λ (ps : List (List ℕ)). done ++ ps) (pieces_by-stop current c rest h.goes_on stop)
-        ∙ sym (append_assoc done ((current ++ c ∷ []) ∷ []) (pieces_by rest));
+  pub IsCut-stop : (chars : List ℕ) (done : List (List ℕ)) (current : List ℕ) (c : ℕ) (rest : List ℕ) → ends c rest ≡ true → IsCut chars done current (c ∷ rest) → IsCut chars (done ++ (current ++ c ∷ []) ∷ []) [] rest
+  IsCut-stop chars done current c rest stop h = record {
+    cut = h.cut ∙ ap (λ (ps : List (List ℕ)). done ++ ps) (cut_after-stop current c rest h.goes_on stop)
+        ∙ sym (append_assoc done ((current ++ c ∷ []) ∷ []) (cut_after ends rest));
     goes_on = tt;
   }
 
   -- at the end the last piece is the one that has not ended, if it is not empty
-  pub IsCut-last : (read : List ℕ) (done : List (List ℕ)) (current : List ℕ) → 0 < length current → IsCut read done current → pieces_by read ≡ done ++ current ∷ []
-  IsCut-last read done [] some h = absurd (omega arith)
-  IsCut-last read done (x ∷ cs) some h =
-      ap pieces_by (sym (append-nil read)) ∙ h.cut [] ∙ ap (λ (rest : List ℕ). done ++ pieces_by rest) (append-nil (x ∷ cs)) ∙ ap (λ (ps : List (List ℕ)). done ++ ps) (pieces_by-end x cs h.goes_on)
+  pub IsCut-last : (chars : List ℕ) (done : List (List ℕ)) (current : List ℕ) → 0 < length current → IsCut chars done current [] → cut_after ends chars ≡ done ++ current ∷ []
+  IsCut-last chars done [] some h = absurd (omega arith)
+  IsCut-last chars done (x ∷ cs) some h =
+      h.cut ∙ ap (λ (ds : List ℕ). done ++ cut_after ends ds) (append-nil (x ∷ cs)) ∙ ap (λ (ps : List (List ℕ)). done ++ ps) (cut_after-end x cs h.goes_on)
 
-  pub IsCut-none : (read : List ℕ) (done : List (List ℕ)) → IsCut read done [] → pieces_by read ≡ done
-  IsCut-none read done h = ap pieces_by (sym (append-nil read)) ∙ h.cut [] ∙ append-nil done
+  pub IsCut-none : (chars : List ℕ) (done : List (List ℕ)) → IsCut chars done [] [] → cut_after ends chars ≡ done
+  IsCut-none chars done h = h.cut ∙ append-nil done
 
   -- ---- what the pieces are
 
-  pub pieces_by-joined : (chars : List ℕ) → joined (pieces_by chars) ≡ chars
-  pieces_by-joined [] = refl
-  pieces_by-joined (c ∷ cs) = elim (cases_Bool (stops c)) [
-    | inl stop ↦ rw (stop, pieces_by-joined cs) refl
-    | inr on ↦ rw on (onto (pieces_by cs) ∙ ap (λ (ds : List ℕ). c ∷ ds) (pieces_by-joined cs))
+  pub cut_after-joined : (chars : List ℕ) → joined (cut_after ends chars) ≡ chars
+  cut_after-joined [] = refl
+  cut_after-joined (c ∷ cs) = elim (cases_Bool (ends c cs)) [
+    | inl stop ↦ rw (stop, cut_after-joined cs) refl
+    | inr on ↦ rw on (onto (cut_after ends cs) ∙ ap (λ (ds : List ℕ). c ∷ ds) (cut_after-joined cs))
   ]
     where
       onto : (ps : List (List ℕ)) → joined (onto_first c ps) ≡ c ∷ joined ps
       onto [] = refl
       onto (p ∷ ps) = refl
 
-  pub pieces_by-some : (chars : List ℕ) → All (λ (p : List ℕ). 0 < length p) (pieces_by chars)
-  pieces_by-some [] = All-nil (λ (p : List ℕ). 0 < length p)
-  pieces_by-some (c ∷ cs) = elim (cases_Bool (stops c)) [
-    | inl stop ↦ rw stop (All-cons (λ (p : List ℕ). 0 < length p) (c ∷ []) (pieces_by cs) (omega arith) (pieces_by-some cs))
-    | inr on ↦ rw on (onto (pieces_by cs) (pieces_by-some cs))
+  pub cut_after-some : (chars : List ℕ) → All (λ (p : List ℕ). 0 < length p) (cut_after ends chars)
+  cut_after-some [] = All-nil (λ (p : List ℕ). 0 < length p)
+  cut_after-some (c ∷ cs) = elim (cases_Bool (ends c cs)) [
+    | inl stop ↦ rw stop (All-cons (λ (p : List ℕ). 0 < length p) (c ∷ []) (cut_after ends cs) (omega arith) (cut_after-some cs))
+    | inr on ↦ rw on (onto (cut_after ends cs) (cut_after-some cs))
   ]
     where
       onto : (ps : List (List ℕ)) → All (λ (p : List ℕ). 0 < length p) ps → All (λ (p : List ℕ). 0 < length p) (onto_first c ps)
       onto [] h = All-cons (λ (p : List ℕ). 0 < length p) (c ∷ []) [] (omega arith) (All-nil (λ (p : List ℕ). 0 < length p))
       onto (p ∷ ps) h = All-cons (λ (p : List ℕ). 0 < length p) (c ∷ p) ps (omega arith) (All-tail (λ (p : List ℕ). 0 < length p) p ps h)
 
+-- ---- where separators stand
+
 module _ (source : Source) where
-  abbrev is_stop : ℕ → Bool
+  abbrev pub is_stop : ℕ → Bool
   is_stop c = is_paragraph_separator (source.class_of c)
 
-  abbrev Ends : List ℕ → Type 0
+  abbrev pub Ends : List ℕ → Type 0
   Ends p = IsTrue (ends_with_separator source p)
 
-  abbrev Holds : List ℕ → Type 0
-  Holds p = has_inner_separator source p ≡ false
-
-  paragraphs-ended : (chars : List ℕ) → AllButLast Ends (pieces_by is_stop chars)
-  paragraphs-ended [] = tt
-  paragraphs-ended (c ∷ cs) = elim (cases_Bool (is_stop c)) [
-    | inl stop ↦ rw stop (before stop (pieces_by is_stop cs) (paragraphs-ended cs))
-    | inr on ↦ rw on (onto (pieces_by is_stop cs) (paragraphs-ended cs))
+  -- pieces that end at separators alone
+  pub cut_after-ended : (ends : SplitTest) → ((c : ℕ) (after : List ℕ) → ends c after ≡ true → is_stop c ≡ true) → (chars : List ℕ) → AllButLast Ends (cut_after ends chars)
+  cut_after-ended ends stops [] = tt
+  cut_after-ended ends stops (c ∷ cs) = elim (cases_Bool (ends c cs)) [
+    | inl stop ↦ rw stop (before (stops c cs stop) (cut_after ends cs) (cut_after-ended ends stops cs))
+    | inr on ↦ rw on (onto (cut_after ends cs) (cut_after-ended ends stops cs))
   ]
     where
       before : is_stop c ≡ true → (ps : List (List ℕ)) → AllButLast Ends ps → AllButLast Ends ((c ∷ []) ∷ ps)
@@ -142,11 +136,14 @@ module _ (source : Source) where
       onto (p ∷ []) h = tt
       onto (p ∷ q ∷ ps) h = (longer p h.0, h.1)
 
-  paragraphs-undivided : (chars : List ℕ) → All Holds (pieces_by is_stop chars)
+  abbrev Holds : List ℕ → Type 0
+  Holds p = has_inner_separator source p ≡ false
+
+  paragraphs-undivided : (chars : List ℕ) → All Holds (cut_after (each_separator source) chars)
   paragraphs-undivided [] = All-nil Holds
   paragraphs-undivided (c ∷ cs) = elim (cases_Bool (is_stop c)) [
-    | inl stop ↦ rw stop (All-cons Holds (c ∷ []) (pieces_by is_stop cs) refl (paragraphs-undivided cs))
-    | inr on ↦ rw on (onto on (pieces_by is_stop cs) (paragraphs-undivided cs))
+    | inl stop ↦ rw stop (All-cons Holds (c ∷ []) (cut_after (each_separator source) cs) refl (paragraphs-undivided cs))
+    | inr on ↦ rw on (onto on (cut_after (each_separator source) cs) (paragraphs-undivided cs))
   ]
     where
       longer : is_stop c ≡ false → (p : List ℕ) → Holds p → Holds (c ∷ p)
@@ -220,25 +217,46 @@ module _ (len_of : ℕ → ℕ) where
         (subst (λ (cs : List ℕ). All (λ (r : ℕ × ℕ). IsLine len_of cs r.0 r.1) (ranges_from len_of (text_len len_of front + text_len len_of p) ps)) (append_assoc front p (joined ps))
         (subst (λ (n : ℕ). All (λ (r : ℕ × ℕ). IsLine len_of ((front ++ p) ++ joined ps) r.0 r.1) (ranges_from len_of n ps)) sum (ranges-lines (front ++ p) ps)))
 
+-- the ranges of the pieces of a text
+module _ (ends : SplitTest) (len_of : ℕ → ℕ) (units : HasUnits len_of) (chars : List ℕ) where
+  abbrev pieces : List (List ℕ)
+  pieces = cut_after ends chars
+
+  pub cut_after-partition : IsPartition 0 (text_len len_of chars) (ranges_from len_of 0 pieces)
+  cut_after-partition =
+      subst (λ (n : ℕ). IsPartition 0 n (ranges_from len_of 0 pieces)) (zero_plus (text_len len_of (joined pieces)) ∙ ap (text_len len_of) (cut_after-joined ends chars))
+      (ranges_from-IsPartition len_of units 0 pieces (cut_after-some ends chars))
+    where
+      zero_plus : (n : ℕ) → 0 + n ≡ n
+      zero_plus n = omega arith
+
+  pub cut_after-lines : All (λ r. IsLine len_of chars r.0 r.1) (ranges_from len_of 0 pieces)
+  cut_after-lines =
+      subst (λ (cs : List ℕ). All (λ (r : ℕ × ℕ). IsLine len_of cs r.0 r.1) (ranges_from len_of 0 pieces)) (cut_after-joined ends chars) (ranges-lines len_of units [] pieces)
+
+  pub cut_after-AllButLast : (P : List ℕ → Type 0) → AllButLast P pieces → AllButLast (λ r. P (subrange len_of chars r.0 r.1)) (ranges_from len_of 0 pieces)
+  cut_after-AllButLast P h =
+      subst (λ (cs : List ℕ). AllButLast (λ (r : ℕ × ℕ). P (subrange len_of cs r.0 r.1)) (ranges_from len_of 0 pieces)) (cut_after-joined ends chars)
+      (ranges-AllButLast len_of units P [] pieces h)
+
+  pub cut_after-All : (P : List ℕ → Type 0) → All P pieces → All (λ r. P (subrange len_of chars r.0 r.1)) (ranges_from len_of 0 pieces)
+  cut_after-All P h =
+      subst (λ (cs : List ℕ). All (λ (r : ℕ × ℕ). P (subrange len_of cs r.0 r.1)) (ranges_from len_of 0 pieces)) (cut_after-joined ends chars)
+      (ranges-All len_of units P [] pieces h)
+
 -- the ranges of the paragraphs of a text
 pub paragraphs-AreParagraphRanges : (source : Source) (len_of : ℕ → ℕ) → HasUnits len_of → (chars : List ℕ) → AreParagraphRanges source len_of chars (ranges_from len_of 0 (paragraphs_of (each_separator source) chars))
 paragraphs-AreParagraphRanges source len_of units chars =
-    let pieces : List (List ℕ) = paragraphs_of (each_separator source) chars in
-    let all : joined pieces ≡ chars = pieces_by-joined (λ (c : ℕ). is_paragraph_separator (source.class_of c)) chars in
+    let ends : SplitTest = each_separator source in
     record {
-      partition = subst (λ (n : ℕ). IsPartition 0 n (ranges_from len_of 0 pieces)) (zero_plus (text_len len_of (joined pieces)) ∙ ap (text_len len_of) all) (ranges_from-IsPartition len_of units 0 pieces (pieces_by-some (λ (c : ℕ). is_paragraph_separator (source.class_of c)) chars));
-      lines = subst (λ (cs : List ℕ). All (λ (r : ℕ × ℕ). IsLine len_of cs r.0 r.1) (ranges_from len_of 0 pieces)) all (ranges-lines len_of units [] pieces);
-      ended = subst (λ (cs : List ℕ). AllButLast (λ (r : ℕ × ℕ). IsTrue (ends_with_separator source (subrange len_of cs r.0 r.1))) (ranges_from len_of 0 pieces)) all
-          (ranges-AllButLast len_of units (λ (p : List ℕ). IsTrue (ends_with_separator source p)) [] pieces (paragraphs-ended source chars));
-      undivided = subst (λ (cs : List ℕ). All (λ (r : ℕ × ℕ). has_inner_separator source (subrange len_of cs r.0 r.1) ≡ false) (ranges_from len_of 0 pieces)) all
-          (ranges-All len_of units (λ (p : List ℕ). has_inner_separator source p ≡ false) [] pieces (paragraphs-undivided source chars));
+      partition = cut_after-partition ends len_of units chars;
+      lines = cut_after-lines ends len_of units chars;
+      ended = cut_after-AllButLast ends len_of units chars (Ends source) (cut_after-ended source ends (λ c after stop. stop) chars);
+      undivided = cut_after-All ends len_of units chars (Holds source) (paragraphs-undivided source chars);
     }
-  where
-    zero_plus : (n : ℕ) → 0 + n ≡ n
-    zero_plus n = omega arith
 
 pub paragraphs-joined : (source : Source) (chars : List ℕ) → joined (paragraphs_of (each_separator source) chars) ≡ chars
-paragraphs-joined source chars = pieces_by-joined (λ (c : ℕ). is_paragraph_separator (source.class_of c)) chars
+paragraphs-joined source chars = cut_after-joined (each_separator source) chars
 
 pub pieces-joined : (split : Bool) (source : Source) (chars : List ℕ) → joined (pieces_of split source chars) ≡ chars
 pieces-joined true source chars = paragraphs-joined source chars

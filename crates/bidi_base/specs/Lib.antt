@@ -1,6 +1,7 @@
 pub mod Analysed
 pub mod Brackets
 pub mod Classes
+pub mod CrLf
 pub mod Direction
 pub mod Display
 pub mod Embeddings

@@ -11,7 +11,7 @@ use Rattle.std.proofs.lemmas.Simd.{map-map}
 use Rattle.bidi_base.specs.declared.char_data.BidiClass.{BidiClass}
 use Rattle.bidi_base.specs.Isolates.{paragraph_level, stored_classes}
 use Rattle.bidi_base.specs.Laws.{HasOwnUnits, AreLevelsFrom}
-use Rattle.bidi_base.specs.Paragraphs.{ranges_from, AreParagraphRanges}
+use Rattle.bidi_base.specs.Paragraphs.{ranges_from}
 use Rattle.bidi_base.specs.Places.{first_or}
 use Rattle.bidi_base.specs.Source.{Source}
 use Rattle.bidi_base.specs.Stored.{levels_in, stored_levels, text_classes, text_levels, paragraph_levels}
@@ -265,9 +265,9 @@ flags-one source piece = refl
 
 -- ---- the paragraphs that are found
 
-pub paragraphs-are_lines : (source : Source) (len_of : ℕ → ℕ) (chars : List ℕ) (ps : List ParagraphInfo) → AreParagraphRanges source len_of chars (ranges_of ps) → All (λ p. IsLine len_of chars (range_of p).start (range_of p).end) ps
-paragraphs-are_lines source len_of chars ps are k d within =
+pub paragraphs-are_lines : (len_of : ℕ → ℕ) (chars : List ℕ) (ps : List ParagraphInfo) → All (λ r. IsLine len_of chars r.0 r.1) (ranges_of ps) → All (λ p. IsLine len_of chars (range_of p).start (range_of p).end) ps
+paragraphs-are_lines len_of chars ps lines k d within =
     let ends : ParagraphInfo → ℕ × ℕ = λ p. (p.range.start, p.range.end) in
     let fits : k < length (ranges_of ps) = subst (λ n. k < n) (sym (length-map ps ends)) within in
     subst (λ (r : ℕ × ℕ). IsLine len_of chars r.0 r.1) (get_or-map ends ps k d (ends d) within)
-    (All-get_or (λ (r : ℕ × ℕ). IsLine len_of chars r.0 r.1) (ranges_of ps) k (ends d) fits are.lines)
+    (All-get_or (λ (r : ℕ × ℕ). IsLine len_of chars r.0 r.1) (ranges_of ps) k (ends d) fits lines)

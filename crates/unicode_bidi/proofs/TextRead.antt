@@ -1,10 +1,10 @@
 -- What the walk over a text holds once n characters were read.
-use Rattle.std.proofs.Common.{◌≡◌, ℕ, ◌+◌, ◌<◌, ◌≤◌, Bool, true, false, cond, ◌&&◌, List, [], ◌∷◌, ◌++◌, length, get_or, take, map, Option, Some, None, option_map, unwrap_or, refl, sym, ap, subst, ◌∙◌, arith, ◌⊎◌, inl, inr, append_assoc, length-append, length-take, ◌-◌}
+use Rattle.std.proofs.Common.{◌≡◌, ℕ, ◌+◌, ◌<◌, ◌≤◌, Bool, true, false, cond, ◌&&◌, ◌==◌, List, [], ◌∷◌, ◌++◌, length, get_or, take, drop, map, Option, Some, None, option_map, unwrap_or, refl, sym, ap, subst, ◌∙◌, arith, ◌⊎◌, inl, inr, append_assoc, length-append, length-take, ◌-◌}
 use Rattle.std.specs.Prelude.{All, replicate}
-use Rattle.std.specs.Option.{option_or}
+use Rattle.std.specs.Option.{option_or, is_none}
 use Rattle.std.specs.declared.ops.Range.{Range}
-use Rattle.std.proofs.lemmas.List.{append-nil, map-append, length-map, take_more, take_all, get_or-append-add, length-take-le}
-use Rattle.std.proofs.lemmas.Bool.{cases_Bool, both_ways, and_left, cond-true, cond-false}
+use Rattle.std.proofs.lemmas.List.{append-nil, map-append, length-map, take_more, take_all, drop_all, get_or-append-add, length-take-le, take-append-drop}
+use Rattle.std.proofs.lemmas.Bool.{cases_Bool, both_ways, cond-true, cond-false}
 use Rattle.std.proofs.lemmas.List.Sums.{sum_by-append, sum_by-cons}
 use Rattle.std.proofs.lemmas.List.Concat.{flat_map-append}
 use Rattle.bidi_base.specs.declared.char_data.BidiClass.{BidiClass}
@@ -12,12 +12,12 @@ use Rattle.bidi_base.specs.declared.char_data.BidiClass.TheVariants.{L}
 use Rattle.bidi_base.specs.Classes.{is_strong, is_paragraph_separator}
 use Rattle.bidi_base.specs.Isolates.{deciding_class, level_by, paragraph_level, resolved_fsi, stored_classes}
 use Rattle.bidi_base.specs.Places.{class_at}
-use Rattle.bidi_base.specs.Paragraphs.{pieces_of, paragraphs_of, each_separator, ranges_from}
+use Rattle.bidi_base.specs.Paragraphs.{begins_with_line_feed, ranges_from}
 use Rattle.bidi_base.specs.Reading.{innermost, decided_by, is_fsi, met_units, filled}
 use Rattle.bidi_base.specs.Source.{Source}
 use Rattle.bidi_base.specs.Stored.{text_classes, paragraph_levels}
-use Rattle.bidi_base.specs.Text.{place, text_len, per_unit}
-use Rattle.bidi_base.proofs.TextLemmas.{HasUnits, length-le-text_len}
+use Rattle.bidi_base.specs.Text.{char_at, place, text_len, per_unit}
+use Rattle.bidi_base.proofs.TextLemmas.{HasUnits, char_at-append, length-le-text_len}
 use Rattle.bidi_base.proofs.PerUnit.{per_unit-push, get_or-per_unit-place}
 use Rattle.bidi_base.proofs.PlaceLemmas.{place-le, place-end, place-lt, place-mono, place-more}
 use Rattle.bidi_base.proofs.ParagraphsLemmas.{joined, length-text_classes, IsCut, IsCut-start, IsCut-more, IsCut-stop, IsCut-last, IsCut-none, ranges_from-push}
@@ -31,6 +31,9 @@ use Rattle.unicode_bidi.specs.declared.paragraph_info.ParagraphInfo.{ParagraphIn
 use Rattle.unicode_bidi.specs.FirstWalk.{waiting, depth_after, undecided_after, deciding_after, classes_after, IsFresh, IsReadBy, IsClosed}
 use Rattle.unicode_bidi.specs.ParagraphInfo.{ranges_of, levels_of}
 use Rattle.unicode_bidi.specs.ParagraphFlags.{flags_of, with_class, paragraph_flags}
+use Rattle.unicode_bidi.specs.SplitRule.{ends_by, ends_after, pieces_by}
+use Rattle.unicode_bidi.specs.declared.split_rule.SplitRule.{SplitRule}
+use Rattle.unicode_bidi.specs.declared.split_rule.SplitRule.TheVariants.{EachSeparator, CrLfTogether}
 use Rattle.unicode_bidi.proofs.FlagsLemmas.{with_classes-push}
 use Rattle.unicode_bidi.proofs.PutUnits.{take-filled, filled-append}
 use Rattle.unicode_bidi.proofs.Undecided.{undecided_from, waits_of, fsi_at, waiting-is, undecided-more, deciding-more, length-opened_by, open_initiators-few, All-undecided}
@@ -46,10 +49,6 @@ pub record Seen : Type 0 where
 
 abbrev pub seen : List BidiClass → TextReading → Seen
 seen units walk = record { units = units; paragraphs = walk.paragraphs.items; flags = walk.flags.items }
-
--- a character ends its paragraph
-abbrev pub stops : Source → Bool → ℕ → Bool
-stops source split c = split && is_paragraph_separator (source.class_of c)
 
 module _ (source : Source) (len_of : ℕ → ℕ) (chars : List ℕ) where
   abbrev classes_of : List ℕ → List BidiClass
@@ -368,93 +367,112 @@ module _ (source : Source) (len_of : ℕ → ℕ) (chars : List ℕ) where
 
   -- ---- the whole walk
 
-  pub record IsRead (split : Bool) (base : Option ℕ) (n : ℕ) (found : Seen) (reading : Reading) : Type 0 where
+  pub record IsRead (split : Option SplitRule) (base : Option ℕ) (n : ℕ) (found : Seen) (reading : Reading) : Type 0 where
     pub done : List (List ℕ)
     pub current : List ℕ
-    pub cut : IsCut (stops source split) (take n chars) done current
-    pub one : split ≡ false → done ≡ []
+    pub cut : IsCut (ends_after split source) chars done current (drop n chars)
+    pub one : split ≡ None → done ≡ []
     pub read : IsTextRead base n done current found reading
 
-  pub IsRead-start : (split : Bool) (base : Option ℕ) (found : Seen) (reading : Reading) → length found.units ≡ text_len len_of chars → found.paragraphs ≡ [] → found.flags ≡ [] → IsFresh reading 0 → IsRead split base 0 found reading
+  pub IsRead-start : (split : Option SplitRule) (base : Option ℕ) (found : Seen) (reading : Reading) → length found.units ≡ text_len len_of chars → found.paragraphs ≡ [] → found.flags ≡ [] → IsFresh reading 0 → IsRead split base 0 found reading
   IsRead-start split base found reading sized no_paragraphs no_flags fresh = record {
     done = [];
     current = [];
-    cut = IsCut-start (stops source split);
+    cut = IsCut-start (ends_after split source) chars;
     one = λ e. refl;
     read = IsTextRead-start base found reading sized no_paragraphs no_flags fresh;
   }
 
   -- the paragraph goes on
-  pub IsRead-on : (split : Bool) (base : Option ℕ) (n c : ℕ) (found : Seen) (reading : Reading) (longer : Seen) (after : Reading) (h : IsRead split base n found reading) → take (n + 1) chars ≡ take n chars ++ c ∷ []
-      → IsTextRead base (n + 1) h.done (h.current ++ c ∷ []) longer after → stops source split c ≡ false → IsRead split base (n + 1) longer after
-  IsRead-on split base n c found reading longer after h more read on = record {
+  pub IsRead-on : (split : Option SplitRule) (base : Option ℕ) (n c : ℕ) (found : Seen) (reading : Reading) (longer : Seen) (after : Reading) (h : IsRead split base n found reading) → drop n chars ≡ c ∷ drop (n + 1) chars
+      → IsTextRead base (n + 1) h.done (h.current ++ c ∷ []) longer after → ends_after split source c (drop (n + 1) chars) ≡ false → IsRead split base (n + 1) longer after
+  IsRead-on split base n c found reading longer after h next read on = record {
     done = h.done;
     current = h.current ++ c ∷ [];
-    cut = subst (λ (cs : List ℕ). IsCut (stops source split) cs h.done (h.current ++ c ∷ [])) (sym more) (IsCut-more (stops source split) (take n chars) h.done h.current c on h.cut);
+    cut = IsCut-more (ends_after split source) chars h.done h.current c (drop (n + 1) chars) on (subst (IsCut (ends_after split source) chars h.done h.current) next h.cut);
     one = h.one;
     read = read;
   }
 
   -- or it ends, and the next one begins
-  pub IsRead-stop : (split : Bool) (base : Option ℕ) (n c : ℕ) (found : Seen) (reading : Reading) (closed : Seen) (after : Reading) (h : IsRead split base n found reading) → take (n + 1) chars ≡ take n chars ++ c ∷ []
-      → IsTextDone base (n + 1) (h.done ++ (h.current ++ c ∷ []) ∷ []) closed → IsFresh after (place len_of chars (n + 1)) → stops source split c ≡ true → IsRead split base (n + 1) closed after
-  IsRead-stop split base n c found reading closed after h more ended fresh stop = record {
+  pub IsRead-stop : (split : Option SplitRule) (base : Option ℕ) (n c : ℕ) (found : Seen) (reading : Reading) (closed : Seen) (after : Reading) (h : IsRead split base n found reading) → drop n chars ≡ c ∷ drop (n + 1) chars
+      → IsTextDone base (n + 1) (h.done ++ (h.current ++ c ∷ []) ∷ []) closed → IsFresh after (place len_of chars (n + 1)) → ends_after split source c (drop (n + 1) chars) ≡ true → IsRead split base (n + 1) closed after
+  IsRead-stop split base n c found reading closed after h next ended fresh stop = record {
     done = h.done ++ (h.current ++ c ∷ []) ∷ [];
     current = [];
-    cut = subst (λ (cs : List ℕ). IsCut (stops source split) cs (h.done ++ (h.current ++ c ∷ []) ∷ []) []) (sym more) (IsCut-stop (stops source split) (take n chars) h.done h.current c stop h.cut);
-    one = λ e. absurd (both_ways (split && is_paragraph_separator (source.class_of c)) (and_left split (is_paragraph_separator (source.class_of c)) e) stop);
+    cut = IsCut-stop (ends_after split source) chars h.done h.current c (drop (n + 1) chars) stop (subst (IsCut (ends_after split source) chars h.done h.current) next h.cut);
+    one = λ e. absurd (both_ways (ends_after split source c (drop (n + 1) chars)) (ap (λ (s : Option SplitRule). ends_after s source c (drop (n + 1) chars)) e) stop);
     read = IsTextRead-next base (n + 1) (h.done ++ (h.current ++ c ∷ []) ∷ []) closed after ended fresh;
   }
 
   -- at the end of the text, what is left is the last paragraph
-  module _ (units : HasUnits len_of) (split : Bool) (base : Option ℕ) (n : ℕ) (found : Seen) (reading : Reading) (all : n ≡ length chars) (h : IsRead split base n found reading) where
-    whole_text : take n chars ≡ chars
-    whole_text = take_all n chars (omega arith)
+  module _ (units : HasUnits len_of) (base : Option ℕ) (n : ℕ) (found : Seen) (reading : Reading) (all : n ≡ length chars) where
+    module _ (split : Option SplitRule) (h : IsRead split base n found reading) where
+      ended : IsCut (ends_after split source) chars h.done h.current []
+      ended = subst (IsCut (ends_after split source) chars h.done h.current) (drop_all n chars (omega arith)) h.cut
 
-    pieces_split : split ≡ true → pieces_of split source chars ≡ paragraphs_of (each_separator source) chars
-    pieces_split e = cond-true split (paragraphs_of (each_separator source) chars) (chars ∷ []) e
-
-    cut_split : split ≡ true → IsCut (stops source true) chars h.done h.current
-    cut_split e = subst (λ (b : Bool). IsCut (stops source b) chars h.done h.current) e (subst (λ (cs : List ℕ). IsCut (stops source split) cs h.done h.current) whole_text h.cut)
-
-    pieces_one : split ≡ false → pieces_of split source chars ≡ h.done ++ h.current ∷ []
-    pieces_one e =
-        let none : h.done ≡ [] = h.one e in
-        let single : h.current ≡ chars = ap (λ (ps : List (List ℕ)). joined ps ++ h.current) (sym none) ∙ h.cut.whole ∙ whole_text in
-        cond-false split (paragraphs_of (each_separator source) chars) (chars ∷ []) e ∙ ap (λ (cs : List ℕ). cs ∷ []) (sym single) ∙ ap (λ (ps : List (List ℕ)). ps ++ h.current ∷ []) (sym none)
+      whole_text : joined h.done ++ h.current ≡ chars
+      whole_text = h.read.whole ∙ take_all n chars (omega arith)
 
     -- it is not empty, or the only one
-    pub IsRead-last : (split ≡ false) ⊎ (reading.start < place len_of chars n) → h.done ++ h.current ∷ [] ≡ pieces_of split source chars
-    IsRead-last (inl e) = sym (pieces_one e)
-    IsRead-last (inr order) = elim (cases_Bool split) [
-      | inl e ↦ sym (pieces_split e ∙ IsCut-last (stops source true) chars h.done h.current (current-some base n h.done h.current found reading h.read units order) (cut_split e))
-      | inr e ↦ sym (pieces_one e)
-    ]
+    pub IsRead-last : (split : Option SplitRule) (h : IsRead split base n found reading) → (is_none split ≡ true) ⊎ (reading.start < place len_of chars n) → h.done ++ h.current ∷ [] ≡ pieces_by split source chars
+    IsRead-last None h last =
+        let none : h.done ≡ [] = h.one refl in
+        let single : h.current ≡ chars = ap (λ (ps : List (List ℕ)). joined ps ++ h.current) (sym none) ∙ whole_text None h in
+        ap (λ (ps : List (List ℕ)). ps ++ h.current ∷ []) none ∙ ap (λ (cs : List ℕ). cs ∷ []) single
+    IsRead-last (Some rule) h (inl e) = absurd (cc e)
+    IsRead-last (Some rule) h (inr order) =
+        sym (IsCut-last (ends_by rule source) chars h.done h.current (current-some base n h.done h.current found reading h.read units order) (ended (Some rule) h))
 
-    pub IsRead-none : split ≡ true → place len_of chars n ≤ reading.start → (h.current ≡ []) × (h.done ≡ pieces_of split source chars)
-    IsRead-none e order =
+    pub IsRead-none : (split : Option SplitRule) (h : IsRead split base n found reading) → is_none split ≡ false → place len_of chars n ≤ reading.start → (h.current ≡ []) × (h.done ≡ pieces_by split source chars)
+    IsRead-none None h some order = absurd (cc some)
+    IsRead-none (Some rule) h some order =
         let none : h.current ≡ [] = current-none base n h.done h.current found reading h.read units order in
-        (none, sym (pieces_split e ∙ IsCut-none (stops source true) chars h.done (subst (IsCut (stops source true) chars h.done) none (cut_split e))))
+        (none, sym (IsCut-none (ends_by rule source) chars h.done (subst (λ (cs : List ℕ). IsCut (ends_by rule source) chars h.done cs []) none (ended (Some rule) h))))
 
   -- ---- what the walk answers
 
-  pub record IsAnswer (split : Bool) (base : Option ℕ) (found : Seen) : Type 0 where
-    pub classes : found.units ≡ per_unit len_of chars (text_classes source (pieces_of split source chars))
-    pub ranges : ranges_of found.paragraphs ≡ ranges_from len_of 0 (pieces_of split source chars)
-    pub levels : levels_of found.paragraphs ≡ paragraph_levels source base (pieces_of split source chars)
-    pub flags : found.flags ≡ paragraph_flags source (pieces_of split source chars)
+  pub record IsAnswer (split : Option SplitRule) (base : Option ℕ) (found : Seen) : Type 0 where
+    pub classes : found.units ≡ per_unit len_of chars (text_classes source (pieces_by split source chars))
+    pub ranges : ranges_of found.paragraphs ≡ ranges_from len_of 0 (pieces_by split source chars)
+    pub levels : levels_of found.paragraphs ≡ paragraph_levels source base (pieces_by split source chars)
+    pub flags : found.flags ≡ paragraph_flags source (pieces_by split source chars)
 
-  pub IsTextDone-answer : (split : Bool) (base : Option ℕ) (n : ℕ) (done : List (List ℕ)) (found : Seen) → n ≡ length chars → done ≡ pieces_of split source chars → IsTextDone base n done found → IsAnswer split base found
+  pub IsTextDone-answer : (split : Option SplitRule) (base : Option ℕ) (n : ℕ) (done : List (List ℕ)) (found : Seen) → n ≡ length chars → done ≡ pieces_by split source chars → IsTextDone base n done found → IsAnswer split base found
   IsTextDone-answer split base n done found all is h =
-      let last : IsTextDone base n (pieces_of split source chars) found = subst (λ (ps : List (List ℕ)). IsTextDone base n ps found) is h in
+      let last : IsTextDone base n (pieces_by split source chars) found = subst (λ (ps : List (List ℕ)). IsTextDone base n ps found) is h in
       record {
         classes =
             sym (take_all (place len_of chars n) found.units (omega (arith, last.sized, place-end len_of chars n (omega arith))))
-            ∙ last.classes ∙ ap (λ (cs : List ℕ). per_unit len_of cs (text_classes source (pieces_of split source chars))) (take_all n chars (omega arith));
+            ∙ last.classes ∙ ap (λ (cs : List ℕ). per_unit len_of cs (text_classes source (pieces_by split source chars))) (take_all n chars (omega arith));
         ranges = last.ranges;
         levels = last.levels;
         flags = last.flags;
       }
+
+-- what is no separator ends no paragraph
+pub ends_after-other : (split : Option SplitRule) (source : Source) (c : ℕ) (after : List ℕ) → is_paragraph_separator (source.class_of c) ≡ false → ends_after split source c after ≡ false
+ends_after-other None source c after other = refl
+ends_after-other (Some EachSeparator) source c after other = other
+ends_after-other (Some CrLfTogether) source c after other = rw other refl
+
+-- the character that begins at a place is the first of those that follow
+pub next-at : (len_of : ℕ → ℕ) → HasUnits len_of → (chars : List ℕ) (n : ℕ) → char_at len_of chars (place len_of chars n) ≡ char_at len_of (drop n chars) 0
+next-at len_of units chars n =
+    subst (λ (cs : List ℕ). char_at len_of cs (place len_of chars n) ≡ char_at len_of (drop n chars) 0) (take-append-drop n chars) (char_at-append len_of units (take n chars) (drop n chars))
+
+-- so whether a line feed comes next is seen in it
+pub line_feed-next : (source : Source) (len_of : ℕ → ℕ) (after : List ℕ) (c len : ℕ) → char_at len_of after 0 ≡ Some (c, len) → begins_with_line_feed source after ≡ (c == 0x0A && is_paragraph_separator (source.class_of c))
+line_feed-next source len_of [] c len e = absurd (cc e)
+line_feed-next source len_of (d ∷ ds) c len e = ap (λ (x : ℕ). x == 0x0A && is_paragraph_separator (source.class_of x)) (ap char_of e)
+  where
+    char_of : Option (ℕ × ℕ) → ℕ
+    char_of None = c
+    char_of (Some p) = p.0
+
+pub line_feed-none : (source : Source) (len_of : ℕ → ℕ) (after : List ℕ) → char_at len_of after 0 ≡ None → begins_with_line_feed source after ≡ false
+line_feed-none source len_of [] e = refl
+line_feed-none source len_of (d ∷ ds) e = absurd (cc e)
 
 pub same_range : (a b c d : ℕ) → a ≡ b → c ≡ d → ◌≡◌ {A = Range ℕ} (record { start = a; end = c }) (record { start = b; end = d })
 same_range a b c d e f = λ i. record { start = e i; end = f i }

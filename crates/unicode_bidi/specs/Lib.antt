@@ -9,3 +9,4 @@ pub mod Paragraph
 pub mod ParagraphBidiInfo
 pub mod ParagraphFlags
 pub mod ParagraphInfo
+pub mod SplitRule

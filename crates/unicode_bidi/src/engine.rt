@@ -4,16 +4,18 @@ ghost use Rattle.std.specs.Prelude.{◌≡◌, [], ◌∷◌, true, false, IsTru
 ghost use Rattle.bidi_base.specs.Analysed.{IsAnalysis, IsPerCharText, HasCharValues, AreLevelsWithLine, classes_of_chars, levels_of_chars};
 ghost use Rattle.bidi_base.specs.Line.{levels_with_line as levels_with_line_of};
 ghost use Rattle.bidi_base.specs.declared.char_data.BidiClass.TheVariants.{L};
-ghost use Rattle.bidi_base.specs.Paragraphs.{pieces_of, AreParagraphRanges};
+ghost use Rattle.bidi_base.specs.Paragraphs.{AreParagraphRanges};
 ghost use Rattle.bidi_base.specs.Text.{text_len, is_per_char, per_char, char_index, IsLine};
 ghost use Rattle.unicode_bidi.specs.Engine.{with_analysis, original_classes as original_classes_of, levels as stored_levels_of, paragraphs as paragraphs_of_analysis, flags as flags_of_analysis, unit_levels, own_flags, CanWrite, Follow};
 ghost use Rattle.unicode_bidi.specs.ParagraphFlags.{paragraph_flags};
 ghost use Rattle.unicode_bidi.specs.ParagraphInfo.{ranges_of, levels_of};
+ghost use Rattle.unicode_bidi.specs.SplitRule.{pieces_by, IsAnalysisBy};
 
 use crate::first_walk;
 use crate::paragraph_flags::ParagraphFlags;
 use crate::paragraph_info::ParagraphInfo;
 use crate::paragraph_levels::{ClassifiedParagraph, LevelResolver};
+use crate::split_rule::SplitRule;
 use bidi_base::char_data::BidiClass;
 use bidi_base::data_source::BidiDataSource;
 use bidi_base::level::{LTR_LEVEL, Level};
@@ -115,6 +117,43 @@ fn write_paragraphs<D: BidiDataSource, T: TextSource>(
     Ok(())
 }
 
+// What `analyse` finds of a text that a rule cuts into paragraphs. Without one the whole text is one
+// paragraph, even an empty one.
+pub(crate) fn analyse_by<D: BidiDataSource, T: TextSource>(
+    alloc: Global,
+    data_source: &D,
+    text: T,
+    base: Option<Level>,
+    split: Option<SplitRule>,
+) -> Result<Analysis, AllocError>
+    requires { IfSome base (λ level. level ≤ 125) }
+    ensures analysis { IfOk result (λ a. IsAnalysisBy (D.source data_source.now) base split (with_analysis T.units (T.characters text) a) (ranges_of (paragraphs_of_analysis a)) (levels_of (paragraphs_of_analysis a))) }
+    ensures per_char { IfOk result (λ a. IsPerCharText (with_analysis T.units (T.characters text) a)) }
+    ensures flags { let pieces = pieces_by split (D.source data_source.now) (T.characters text) in
+        IfOk result (λ a. flags_of_analysis a ≡ paragraph_flags (D.source data_source.now) pieces) }
+{
+    let found = first_walk::walk(alloc, data_source, text, base, split)?;
+    let mut levels = vec![in alloc; LTR_LEVEL; text.len()]?;
+    let classified = ClassifiedText {
+        data_source,
+        text,
+        original_classes: found.original_classes.as_slice(),
+    };
+    write_paragraphs(
+        alloc,
+        &classified,
+        found.paragraphs.as_slice(),
+        found.flags.as_slice(),
+        levels.as_mut_slice(),
+    )?;
+    Ok(Analysis {
+        original_classes: found.original_classes,
+        levels,
+        paragraphs: found.paragraphs,
+        flags: found.flags,
+    })
+}
+
 /// Finds the paragraphs of a text (P1) with their levels (P2, P3), the class of each character, with
 /// each FSI resolved (X5c), and its level (X1 to I2). A base level that is given is the level of
 /// every paragraph. It must be at most 125. With `split` false the whole text is one paragraph, even
@@ -142,31 +181,9 @@ pub fn analyse<D: BidiDataSource, T: TextSource>(
 
     // Not split, there is one paragraph, the whole text.
     ensures whole { split ≡ false → IfOk result (λ a. ranges_of (paragraphs_of_analysis a) ≡ (0, text_len T.units (T.characters text)) ∷ []) }
-
-    // What this crate's own types read of each paragraph.
-    ensures flags { let pieces = pieces_of split (D.source data_source.now) (T.characters text) in
-        IfOk result (λ a. flags_of_analysis a ≡ paragraph_flags (D.source data_source.now) pieces) }
 {
-    let found = first_walk::walk(alloc, data_source, text, base, split)?;
-    let mut levels = vec![in alloc; LTR_LEVEL; text.len()]?;
-    let classified = ClassifiedText {
-        data_source,
-        text,
-        original_classes: found.original_classes.as_slice(),
-    };
-    write_paragraphs(
-        alloc,
-        &classified,
-        found.paragraphs.as_slice(),
-        found.flags.as_slice(),
-        levels.as_mut_slice(),
-    )?;
-    Ok(Analysis {
-        original_classes: found.original_classes,
-        levels,
-        paragraphs: found.paragraphs,
-        flags: found.flags,
-    })
+    let split = split.then_some(SplitRule::EachSeparator);
+    analyse_by(alloc, data_source, text, base, split)
 }
 
 /// The levels of a text's units, those of the line as L1 leaves them and all others as they are in

@@ -1,23 +1,25 @@
 // One walk over a text: the class of each character, with each FSI resolved (X5c), and the
 // paragraphs (P1) with their levels (P2, P3).
-ghost use Rattle.std.specs.Prelude.{◌≡◌, ℕ, ◌-◌, ◌<◌, ◌≤◌, ◌&&◌, if◌then◌else◌, true, false, ◌++◌, length, take, replicate, OnOk, IfOk, All, Some};
+ghost use Rattle.std.specs.Prelude.{◌≡◌, ℕ, ◌-◌, ◌<◌, ◌≤◌, ◌&&◌, if◌then◌else◌, true, false, ◌++◌, length, take, drop, replicate, OnOk, IfOk, All, Some};
 ghost use Rattle.std.specs.Option.{is_some};
 ghost use Rattle.bidi_base.specs.declared.char_data.BidiClass.{BidiClass};
-ghost use Rattle.bidi_base.specs.Classes.{is_paragraph_separator as is_paragraph_separator_class, is_strong as is_strong_class};
+ghost use Rattle.bidi_base.specs.Classes.{is_strong as is_strong_class};
 ghost use Rattle.bidi_base.specs.Isolates.{level_by, resolved_fsi};
 ghost use Rattle.bidi_base.specs.Reading.{outer, filled};
-ghost use Rattle.bidi_base.specs.Paragraphs.{pieces_of, ranges_from};
+ghost use Rattle.bidi_base.specs.Paragraphs.{begins_with_line_feed, ranges_from};
 ghost use Rattle.bidi_base.specs.Stored.{text_classes, paragraph_levels};
-ghost use Rattle.bidi_base.specs.Text.{per_unit};
+ghost use Rattle.bidi_base.specs.Text.{place as place_of, per_unit};
 ghost use Rattle.unicode_bidi.specs.ClassSet.{has};
 ghost use Rattle.unicode_bidi.specs.FirstWalk.{waiting, deciding_after, classes_after, wants_strong, minds, IsFresh, IsReadBy, IsClosed};
 ghost use Rattle.unicode_bidi.specs.declared.first_walk.Reading.{Reading};
 ghost use Rattle.unicode_bidi.specs.ParagraphInfo.{ranges_of, levels_of};
 ghost use Rattle.unicode_bidi.specs.ParagraphFlags.{paragraph_flags};
+ghost use Rattle.unicode_bidi.specs.SplitRule.{ends_after, pieces_by};
 
 use crate::class_set::ClassSet;
 use crate::paragraph_flags::ParagraphFlags;
 use crate::paragraph_info::ParagraphInfo;
+use crate::split_rule::SplitRule;
 use bidi_base::char_data::BidiClass;
 use bidi_base::classes::{is_initiator, is_paragraph_separator, is_pdi, is_strong};
 use bidi_base::data_source::BidiDataSource;
@@ -214,7 +216,6 @@ pub(crate) struct Found {
 #[derive(Drop)]
 struct TextReading {
     base: Option<Level>,
-    split: bool,
     reading: Reading,
     paragraphs: Vec<ParagraphInfo>,
     flags: Vec<ParagraphFlags>,
@@ -227,7 +228,6 @@ impl TextReading {
         ensures closed { OnOk result (IsClosed self.old.base self.old.reading end self.old.paragraphs.items self.old.flags.items self.new.paragraphs.items self.new.flags.items) }
         ensures reading { self.new.reading ≡ self.old.reading }
         ensures base { self.new.base ≡ self.old.base }
-        ensures split { self.new.split ≡ self.old.split }
     {
         let level = self.base.unwrap_or(level_of_class(self.reading.deciding));
         self.paragraphs
@@ -236,30 +236,30 @@ impl TextReading {
         Ok(())
     }
 
-    // Reads a character of whose class something depends; it stands on the character's units. Answers
-    // on which classes something depends next.
+    // Reads a character of whose class something depends; it stands on the character's units. The
+    // paragraph may end with it. Answers on which classes something depends next.
     #[inline(never)]
     fn meet(
         &mut self,
         classes: &mut [BidiClass],
         class: BidiClass,
         units: Range<usize>,
+        ends: bool,
     ) -> Result<ClassSet, AllocError>
         requires within { All (λ u. (u.units.start ≤ u.units.end) × (u.units.end ≤ length classes.old)) self.old.reading.undecided.items }
         requires few { self.old.reading.depth < usize.MAX }
         requires follows { self.old.reading.start ≤ units.end }
         ensures classes { OnOk result (classes.new ≡ classes_after class (waiting self.old.reading.depth self.old.reading.undecided.items) classes.old) }
-        ensures on { OnOk result ((self.old.split && is_paragraph_separator_class class) ≡ false
+        ensures on { OnOk result (ends ≡ false
             → IsReadBy class units self.old.reading self.new.reading × (self.new.paragraphs.items ≡ self.old.paragraphs.items) × (self.new.flags.items ≡ self.old.flags.items)) }
-        ensures ended { OnOk result ((self.old.split && is_paragraph_separator_class class) ≡ true
+        ensures ended { OnOk result (ends ≡ true
             → IsFresh self.new.reading units.end × ((r : Reading) × IsReadBy class units self.old.reading r × IsClosed self.old.base r units.end self.old.paragraphs.items self.old.flags.items self.new.paragraphs.items self.new.flags.items)) }
         ensures minded { IfOk result (λ set. (c : BidiClass) → has set c ≡ minds self.new.reading c) }
         ensures base { self.new.base ≡ self.old.base }
-        ensures split { self.new.split ≡ self.old.split }
     {
         let end = units.end;
         self.reading.read(classes, class, units)?;
-        if self.split && is_paragraph_separator(class) {
+        if ends {
             self.close(end)?;
             self.reading.restart(end);
         }
@@ -286,31 +286,69 @@ fn write(classes: &mut [BidiClass], units: Range<usize>, class: BidiClass)
     }
 }
 
+// Whether a text goes on, at a character's place or at its end, with a line feed that separates
+// paragraphs.
+fn goes_on_with_line_feed<D: BidiDataSource, T: TextSource>(
+    data_source: &D,
+    text: T,
+    place: usize,
+) -> bool
+    ensures { (n : ℕ) → place ≡ place_of T.units (T.characters text) n
+        → result ≡ begins_with_line_feed (D.source data_source.now) (drop n (T.characters text)) }
+{
+    match text.char_at(place) {
+        Some((c, _)) => c == '\n' && is_paragraph_separator(data_source.bidi_class(c)),
+        None => false,
+    }
+}
+
+// Whether a paragraph ends after a character, whose class and whose end in the text are given.
+fn ends_paragraph<D: BidiDataSource, T: TextSource>(
+    data_source: &D,
+    text: T,
+    split: Option<SplitRule>,
+    c: char,
+    class: BidiClass,
+    end: usize,
+) -> bool
+    requires { class ≡ (D.source data_source.now).class_of c }
+    ensures { (n : ℕ) → end ≡ place_of T.units (T.characters text) n
+        → result ≡ ends_after split (D.source data_source.now) c (drop n (T.characters text)) }
+{
+    match split {
+        None => false,
+        Some(SplitRule::EachSeparator) => is_paragraph_separator(class),
+        Some(SplitRule::CrLfTogether) => {
+            is_paragraph_separator(class)
+                && !(c == '\r' && goes_on_with_line_feed(data_source, text, end))
+        }
+    }
+}
+
 /// The stored classes of a text, and its paragraphs with the levels that `base` or their characters
-/// give them. With `split` false the whole text is one paragraph, even an empty one. Any base level
-/// will do. One walk; memory is taken for the answer and for the FSI that are open at once and that
-/// nothing decided.
+/// give them. Without a rule the whole text is one paragraph, even an empty one. Any base level will
+/// do. One walk; memory is taken for the answer and for the FSI that are open at once and that nothing
+/// decided.
 pub(crate) fn walk<D: BidiDataSource, T: TextSource>(
     alloc: Global,
     data_source: &D,
     text: T,
     base: Option<Level>,
-    split: bool,
+    split: Option<SplitRule>,
 ) -> Result<Found, AllocError>
-    ensures classes { let pieces = pieces_of split (D.source data_source.now) (T.characters text) in
+    ensures classes { let pieces = pieces_by split (D.source data_source.now) (T.characters text) in
         IfOk result (λ i. i.original_classes.items ≡ per_unit T.units (T.characters text) (text_classes (D.source data_source.now) pieces)) }
-    ensures ranges { let pieces = pieces_of split (D.source data_source.now) (T.characters text) in
+    ensures ranges { let pieces = pieces_by split (D.source data_source.now) (T.characters text) in
         IfOk result (λ i. ranges_of i.paragraphs.items ≡ ranges_from T.units 0 pieces) }
-    ensures levels { let pieces = pieces_of split (D.source data_source.now) (T.characters text) in
+    ensures levels { let pieces = pieces_by split (D.source data_source.now) (T.characters text) in
         IfOk result (λ i. levels_of i.paragraphs.items ≡ paragraph_levels (D.source data_source.now) base pieces) }
-    ensures flags { let pieces = pieces_of split (D.source data_source.now) (T.characters text) in
+    ensures flags { let pieces = pieces_by split (D.source data_source.now) (T.characters text) in
         IfOk result (λ i. i.flags.items ≡ paragraph_flags (D.source data_source.now) pieces) }
 {
     let mut original_classes = vec![in alloc; BidiClass::L; text.len()]?;
     let classes = original_classes.as_mut_slice();
     let mut walk = TextReading {
         base,
-        split,
         reading: Reading::new(alloc),
         paragraphs: Vec::new(alloc),
         flags: Vec::new(alloc),
@@ -323,10 +361,11 @@ pub(crate) fn walk<D: BidiDataSource, T: TextSource>(
         end = start + T::char_len(c);
         write(classes, start..end, class);
         if minded.has(class) {
-            minded = walk.meet(classes, class, start..end)?;
+            let ends = ends_paragraph(data_source, text, split, c, class, end);
+            minded = walk.meet(classes, class, start..end, ends)?;
         }
     }
-    if !split || walk.reading.start < end {
+    if split.is_none() || walk.reading.start < end {
         walk.close(end)?;
     }
     Ok(Found {

@@ -1,19 +1,20 @@
 // What the algorithm finds out about a text.
-ghost use Rattle.std.specs.Prelude.{◌≡◌, ◌<◌, ◌≤◌, IsTrue, IfOk, IfSome, All, map, slice_range, true, false};
-ghost use Rattle.bidi_base.specs.Analysed.{IsLineOf, IsPerCharText, IsAnalysis, AreLevelsWithLine, AreLevelsOfLine, AreRunsOfLine, levels_with_line_per_char};
+ghost use Rattle.std.specs.Prelude.{◌≡◌, ◌<◌, ◌≤◌, IsTrue, IfOk, IfSome, All, Some, map, slice_range, false};
+ghost use Rattle.bidi_base.specs.Analysed.{IsLineOf, IsPerCharText, AreLevelsWithLine, AreLevelsOfLine, AreRunsOfLine, levels_with_line_per_char};
 ghost use Rattle.bidi_base.specs.Display.{run_of};
 ghost use Rattle.bidi_base.specs.Laws.{HasOwnUnits, AreLevelsFrom, BoundaryNeutralsAreAlike, StaysLeftToRight};
 ghost use Rattle.bidi_base.specs.Levels.{has_rtl as has_rtl_of};
 ghost use Rattle.bidi_base.specs.Order.{visual_order, IsVisualOrder, order_by_reversals};
-ghost use Rattle.bidi_base.specs.Paragraphs.{AreParagraphRanges};
 ghost use Rattle.bidi_base.specs.Places.{indexes};
 ghost use Rattle.bidi_base.specs.Stored.{stored_levels};
 ghost use Rattle.bidi_base.specs.Text.{is_per_char, IsLine};
 ghost use Rattle.unicode_bidi.specs.ParagraphInfo.{level_of, range_of, ranges_of, levels_of};
+ghost use Rattle.unicode_bidi.specs.SplitRule.{AreParagraphRangesBy, IsAnalysisBy};
 
 use crate::analysed::Analysed;
 use crate::engine;
 use crate::paragraph_info::ParagraphInfo;
+use crate::split_rule::SplitRule;
 use bidi_base::char_data::BidiClass;
 use bidi_base::data_source::BidiDataSource;
 use bidi_base::level::Level;
@@ -37,17 +38,18 @@ pub struct BidiInfo<T: TextSource> {
 impl<T: TextSource> BidiInfo<T> {
     ghost use Rattle.unicode_bidi.specs.BidiInfo.{analysed as analysed_of, paragraphs, original_classes, levels as levels_of_info};
 
-    // What `new_with_data_source` finds at each encoding, of any text.
+    // What `new_with_rule` finds at each encoding, of any text.
     pub(crate) fn of_text<D: BidiDataSource>(
         alloc: Global,
         data_source: &D,
         text: T,
         default_para_level: Option<Level>,
+        rule: SplitRule,
     ) -> Result<BidiInfo<T>, AllocError>
         requires { IfSome default_para_level (λ level. level ≤ 125) }
         ensures text { IfOk result (λ i. i.analysed.text ≡ text) }
-        ensures analysis { IfOk result (λ i. IsAnalysis (D.source data_source.now) default_para_level true (analysed_of i) (ranges_of (paragraphs i)) (levels_of (paragraphs i))) }
-        ensures parted { IfOk result (λ i. let a = analysed_of i in AreParagraphRanges (D.source data_source.now) a.len_of a.chars (ranges_of (paragraphs i))) }
+        ensures analysis { IfOk result (λ i. IsAnalysisBy (D.source data_source.now) default_para_level (Some rule) (analysed_of i) (ranges_of (paragraphs i)) (levels_of (paragraphs i))) }
+        ensures parted { IfOk result (λ i. let a = analysed_of i in AreParagraphRangesBy rule (D.source data_source.now) a.len_of a.chars (ranges_of (paragraphs i))) }
         ensures per_char { IfOk result (λ i. IsPerCharText (analysed_of i)) }
         ensures bounded { IfOk result (λ i. All (λ p. AreLevelsFrom (level_of p) (slice_range (analysed_of i).levels (range_of p).start (range_of p).end)) (paragraphs i)) }
         ensures each_by_itself { IfOk result (λ i. let a = analysed_of i in
@@ -55,7 +57,7 @@ impl<T: TextSource> BidiInfo<T> {
         ensures boundary_neutrals_alike { BoundaryNeutralsAreAlike (D.source data_source.now) default_para_level }
         ensures stays_left_to_right { StaysLeftToRight (D.source data_source.now) default_para_level }
     {
-        let found = engine::analyse(alloc, data_source, text, default_para_level, true)?;
+        let found = engine::analyse_by(alloc, data_source, text, default_para_level, Some(rule))?;
         Ok(BidiInfo {
             analysed: Analysed::new(text, found.original_classes, found.levels),
             paragraphs: found.paragraphs,

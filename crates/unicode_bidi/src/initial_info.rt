@@ -7,6 +7,7 @@ ghost use Rattle.unicode_bidi.specs.ParagraphInfo.{ranges_of, levels_of};
 
 use crate::first_walk;
 use crate::paragraph_info::ParagraphInfo;
+use crate::split_rule::SplitRule;
 use bidi_base::char_data::BidiClass;
 use bidi_base::data_source::BidiDataSource;
 use bidi_base::level::Level;
@@ -43,7 +44,8 @@ impl<T: TextSource> InitialInfo<T> {
         ensures parted { IfOk result (λ i. AreParagraphRanges (D.source data_source.now) (len_of i) (chars_of i) (ranges_of (paragraphs i))) }
         ensures per_char { IfOk result (λ i. IsTrue (is_per_char ⟦<BidiClass as PartialEq>⟧.eq (len_of i) (chars_of i) (original_classes i))) }
     {
-        let found = first_walk::walk(alloc, data_source, text, default_para_level, true)?;
+        let split = Some(SplitRule::EachSeparator);
+        let found = first_walk::walk(alloc, data_source, text, default_para_level, split)?;
         Ok(InitialInfo {
             text,
             original_classes: found.original_classes,

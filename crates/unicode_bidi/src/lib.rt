@@ -31,6 +31,7 @@ mod paragraph_bidi_info;
 mod paragraph_flags;
 mod paragraph_info;
 mod paragraph_levels;
+mod split_rule;
 pub mod utf16;
 mod utf8;
 
@@ -45,4 +46,5 @@ pub use bidi_base::{char_data, data_source, format_chars, level, sample, text};
 pub use bidi_rules::prepare::{LevelRun, LevelRunVec};
 pub use bidi_rules::{explicit, implicit, prepare};
 pub use paragraph_info::ParagraphInfo;
+pub use split_rule::SplitRule;
 pub use utf8::{BidiInfo, InitialInfo, Paragraph, ParagraphBidiInfo};

@@ -48,7 +48,7 @@ impl<T: TextSource> ParagraphBidiInfo<T> {
         ensures boundary_neutrals_alike { BoundaryNeutralsAreAlike (D.source data_source.now) default_para_level }
         ensures stays_left_to_right { StaysLeftToRight (D.source data_source.now) default_para_level }
     {
-        let found = engine::analyse(alloc, data_source, text, default_para_level, false)?;
+        let found = engine::analyse_by(alloc, data_source, text, default_para_level, None)?;
         Ok(ParagraphBidiInfo {
             paragraph: Analysed::new(text, found.original_classes, found.levels),
             paragraph_level: found.paragraphs[0].level(),

@@ -3,7 +3,7 @@
 //! A high surrogate directly followed by a low one is one character, two units long. Any other
 //! surrogate is a character of its own: U+FFFD, one unit long.
 
-ghost use Rattle.std.specs.Prelude.{◌≡◌, ◌≤◌, ◌↔◌, IsTrue, IfOk, IfSome, All, slice_range, true};
+ghost use Rattle.std.specs.Prelude.{◌≡◌, ◌≤◌, ◌↔◌, IsTrue, IfOk, IfSome, All, Some, slice_range, true};
 ghost use Rattle.std.specs.Char.Escape.{encode_utf16};
 ghost use Rattle.std.specs.Cow.{cow_slice_items, IsBorrowedSlice};
 ghost use Rattle.bidi_base.specs.Analysed.{IsLineOf, IsPerCharText, IsAnalysis, IsParagraphAnalysis, IsTextOfLine, StaysInOrder};
@@ -12,8 +12,10 @@ ghost use Rattle.bidi_base.specs.Paragraphs.{pieces_of, ranges_from, AreParagrap
 ghost use Rattle.bidi_base.specs.Stored.{text_classes, stored_levels, paragraph_levels};
 ghost use Rattle.bidi_base.specs.Text.{per_unit, is_per_char};
 ghost use Rattle.unicode_bidi.specs.ParagraphInfo.{level_of, range_of, ranges_of, levels_of};
+ghost use Rattle.unicode_bidi.specs.SplitRule.{AreParagraphRangesBy, IsAnalysisBy};
 
 use crate::paragraph_info::ParagraphInfo;
+use crate::split_rule::SplitRule;
 use crate::{info, initial_info, paragraph, paragraph_bidi_info};
 use bidi_base::char_data::BidiClass;
 use bidi_base::data_source::BidiDataSource;
@@ -71,7 +73,46 @@ impl<'t> info::BidiInfo<Utf16Text<'t>> {
         // A paragraph of level 0 in which nothing can turn the direction has level 0 throughout.
         ensures stays_left_to_right { StaysLeftToRight (D.source data_source.now) default_para_level }
     {
-        info::BidiInfo::of_text(alloc, data_source, Utf16Text::new(text), default_para_level)
+        let rule = SplitRule::EachSeparator;
+        BidiInfo::new_with_rule(alloc, data_source, text, default_para_level, rule)
+    }
+
+    /// The same as `new_with_data_source`, but where paragraphs end is for a rule to say. With
+    /// `CrLfTogether` a U+000D of class B directly before a U+000A of class B stays with it: the
+    /// U+000D has the paragraph level, and closes nothing.
+    pub fn new_with_rule<D: BidiDataSource>(
+        alloc: Global,
+        data_source: &D,
+        text: &'t [u16],
+        default_para_level: Option<Level>,
+        rule: SplitRule,
+    ) -> Result<BidiInfo<'t>, AllocError>
+        requires { IfSome default_para_level (λ level. level ≤ 125) }
+        ensures text { IfOk result (λ i. text_of i ≡ text.now) }
+        ensures analysis { IfOk result (λ i. IsAnalysisBy (D.source data_source.now) default_para_level (Some rule) (analysed_of i) (ranges_of (paragraphs i)) (levels_of (paragraphs i))) }
+
+        // Every unit is in one paragraph, and separators stand at the paragraphs' ends alone. With
+        // `CrLfTogether` one also stands directly before a U+000A that ends its paragraph: a U+000D.
+        ensures parted { IfOk result (λ i. let a = analysed_of i in AreParagraphRangesBy rule (D.source data_source.now) a.len_of a.chars (ranges_of (paragraphs i))) }
+
+        // All units of a character have one class and one level.
+        ensures per_char { IfOk result (λ i. IsPerCharText (analysed_of i)) }
+
+        // No level is below that of its paragraph or above the greatest.
+        ensures bounded { IfOk result (λ i. All (λ p. AreLevelsFrom (level_of p) (slice_range (analysed_of i).levels (range_of p).start (range_of p).end)) (paragraphs i)) }
+
+        // Each paragraph has the levels that its characters would have as the whole text.
+        ensures each_by_itself { IfOk result (λ i. let a = analysed_of i in
+            All (HasOwnUnits a.len_of (stored_levels (D.source data_source.now) default_para_level) a.chars a.levels) (ranges_of (paragraphs i))) }
+
+        // Which character of class BN stands at a place changes no level of its paragraph.
+        ensures boundary_neutrals_alike { BoundaryNeutralsAreAlike (D.source data_source.now) default_para_level }
+
+        // A paragraph of level 0 in which nothing can turn the direction has level 0 throughout.
+        ensures stays_left_to_right { StaysLeftToRight (D.source data_source.now) default_para_level }
+    {
+        let text = Utf16Text::new(text);
+        info::BidiInfo::of_text(alloc, data_source, text, default_para_level, rule)
     }
 
     /// The text.

@@ -1,88 +1,46 @@
-use Rattle.std.proofs.Common.{◌≡◌, ◌∙◌, Bool, List, ℕ, length, map, take, drop, ◌++◌, ap, sym, subst, arith, rules}
-use Rattle.std.proofs.Math.Seq.{take-append_seam}
-use Rattle.std.specs.Prelude.{All, flat_map}
+use Rattle.std.proofs.Common.{◌≡◌, ◌∙◌, ◌+◌, ◌∷◌, [], Bool, List, ℕ, ap, subst, sym, arith}
+use Rattle.std.proofs.lemmas.Result.{IfOk-weaker}
 use Rattle.bidi_base.specs.Paragraphs.{pieces_of, ranges_from, AreParagraphRanges}
-use Rattle.bidi_base.specs.Stored.{text_classes}
 use Rattle.bidi_base.specs.Text.{text_len}
-use Rattle.bidi_base.proofs.ParagraphsLemmas.{pieces-joined, length-text_classes, paragraphs-AreParagraphRanges}
-use Rattle.bidi_base.proofs.PerUnit.{length-per_unit}
-use Rattle.unicode_bidi.specs.declared.paragraph_info.ParagraphInfo.{ParagraphInfo}
-use Rattle.unicode_bidi.specs.Engine.{unit_levels, own_flags, CanWrite, Follow}
-use Rattle.unicode_bidi.proofs.FoundLaws.{analysis-IsPerCharText, analysis-HasCharValues}
-use Rattle.unicode_bidi.proofs.ParagraphUnits.{paragraphs-Follow, paragraphs-flags, paragraphs-CanWrite, paragraphs-levels}
+use Rattle.bidi_base.proofs.ParagraphsLemmas.{pieces-joined, paragraphs-AreParagraphRanges}
+use Rattle.unicode_bidi.specs.Engine.{with_analysis}
+use Rattle.unicode_bidi.proofs.FoundLaws.{analysis-pieces, analysis-split, analysis-HasCharValues}
 use Rattle.unicode_bidi.proofs.engine.analyse.Goals as goal
-
-pub write_paragraphs-requires-clause-paragraphs : goal.write_paragraphs-requires-clause-paragraphs
-write_paragraphs-requires-clause-paragraphs g c =
-    let source = g.D.BidiDataSource.source c.args.data_source.now in
-    let len = g.T.TextSource.units in
-    let cs : List ℕ = g.T.TextSource.characters c.args.text in
-    subst (λ (ps : List ParagraphInfo). All (CanWrite source len cs c.as_slice.result.now) ps) (sym c.as_slice-2.ensures.value)
-    (paragraphs-CanWrite source c.args.base len g.met.T.TextSource.has_units cs (pieces_of c.args.split source cs) (pieces-joined c.args.split source cs) c.in_ok-found.found.paragraphs.items
-    c.in_ok-found.ensures.ranges c.in_ok-found.ensures.levels c.as_slice.result.now (c.as_slice.ensures.value ∙ c.in_ok-found.ensures.classes) c.requires)
-
-pub write_paragraphs-requires-clause-flags : goal.write_paragraphs-requires-clause-flags
-write_paragraphs-requires-clause-flags g c =
-    let source = g.D.BidiDataSource.source c.args.data_source.now in
-    let len = g.T.TextSource.units in
-    let cs : List ℕ = g.T.TextSource.characters c.args.text in
-    c.as_slice-3.ensures.value ∙ c.in_ok-found.ensures.flags
-    ∙ paragraphs-flags source c.args.base len g.met.T.TextSource.has_units cs (pieces_of c.args.split source cs) (pieces-joined c.args.split source cs) c.in_ok-found.found.paragraphs.items
-    c.in_ok-found.ensures.ranges c.in_ok-found.ensures.levels
-    ∙ ap (map (own_flags source len cs)) (sym c.as_slice-2.ensures.value)
-
-pub write_paragraphs-requires-clause-follow : goal.write_paragraphs-requires-clause-follow
-write_paragraphs-requires-clause-follow g c =
-    let source = g.D.BidiDataSource.source c.args.data_source.now in
-    let len = g.T.TextSource.units in
-    let cs : List ℕ = g.T.TextSource.characters c.args.text in
-    subst (Follow 0 (text_len len cs)) (sym c.as_slice-2.ensures.value)
-    (paragraphs-Follow source c.args.base len g.met.T.TextSource.has_units cs (pieces_of c.args.split source cs) (pieces-joined c.args.split source cs) c.in_ok-found.found.paragraphs.items
-    c.in_ok-found.ensures.ranges c.in_ok-found.ensures.levels)
-
-pub invariant_of-classified : goal.invariant_of-classified
-invariant_of-classified g c =
-    let source = g.D.BidiDataSource.source c.args.data_source.now in
-    let len = g.T.TextSource.units in
-    let cs : List ℕ = g.T.TextSource.characters c.args.text in
-    let pieces : List (List ℕ) = pieces_of c.args.split source cs in
-    record {
-      long =
-          ap length (c.as_slice.ensures.value ∙ c.in_ok-found.ensures.classes)
-          ∙ length-per_unit len cs (text_classes source pieces) (length-text_classes source pieces ∙ ap length (pieces-joined c.args.split source cs));
-    }
 
 pub returns-clause-analysis : goal.returns-clause-analysis
 returns-clause-analysis g c =
     let source = g.D.BidiDataSource.source c.args.data_source.now in
-    let len = g.T.TextSource.units in
     let cs : List ℕ = g.T.TextSource.characters c.args.text in
-    let now : List ℕ = c.write_paragraphs.new.levels in
-    let long : c.in_ok-levels.levels.len ≡ length now = omega (arith, c.write_paragraphs.auto.levels, c.as_mut_slice.ensures.len) in
-    record {
-      classes = search rules;
-      levels =
-          ap (λ (n : ℕ). take n (now ++ drop (length now) c.in_ok-levels.levels.items)) long
-          ∙ take-append_seam now (drop (length now) c.in_ok-levels.levels.items)
-          ∙ c.in_ok-write_paragraphs.ensures
-          ∙ ap (flat_map (unit_levels source len cs)) c.as_slice-2.ensures.value
-          ∙ paragraphs-levels source c.args.base len g.met.T.TextSource.has_units cs (pieces_of c.args.split source cs) (pieces-joined c.args.split source cs) c.in_ok-found.found.paragraphs.items
-          c.in_ok-found.ensures.ranges c.in_ok-found.ensures.levels;
-      ranges = c.in_ok-found.ensures.ranges;
-      paragraph_levels = c.in_ok-found.ensures.levels;
-    }
-
-pub returns-clause-per_char : goal.returns-clause-per_char
-returns-clause-per_char g c = analysis-IsPerCharText (g.D.BidiDataSource.source c.args.data_source.now) c.args.base c.args.split _ _ _ (returns-clause-analysis g c)
+    IfOk-weaker c.analyse_by.result _ _
+    (λ a found. analysis-split source c.args.base c.args.split (with_analysis g.T.TextSource.units cs a) _ _ c.then_some-split.result c.then_some-split.ensures found)
+    c.analyse_by.ensures.analysis
 
 pub returns-clause-by_characters : goal.returns-clause-by_characters
 returns-clause-by_characters g c =
-    analysis-HasCharValues (g.D.BidiDataSource.source c.args.data_source.now) c.args.base c.args.split _ _ _ (returns-clause-analysis g c) g.met.T.TextSource.has_units
+    let source = g.D.BidiDataSource.source c.args.data_source.now in
+    let cs : List ℕ = g.T.TextSource.characters c.args.text in
+    IfOk-weaker c.analyse_by.result _ _
+    (λ a found. analysis-HasCharValues source c.args.base (pieces_of c.args.split source cs) (with_analysis g.T.TextSource.units cs a) (pieces-joined c.args.split source cs) _ _
+    (analysis-pieces source c.args.base c.args.split (with_analysis g.T.TextSource.units cs a) _ _ c.then_some-split.result c.then_some-split.ensures found) g.met.T.TextSource.has_units)
+    c.analyse_by.ensures.analysis
 
 pub returns-clause-parted : goal.returns-clause-parted
 returns-clause-parted g c = λ all.
     let source = g.D.BidiDataSource.source c.args.data_source.now in
     let cs : List ℕ = g.T.TextSource.characters c.args.text in
-    subst (AreParagraphRanges source g.T.TextSource.units cs)
-    (sym (c.in_ok-found.ensures.ranges ∙ ap (λ (split : Bool). ranges_from g.T.TextSource.units 0 (pieces_of split source cs)) all))
-    (paragraphs-AreParagraphRanges source g.T.TextSource.units g.met.T.TextSource.has_units cs)
+    IfOk-weaker c.analyse_by.result _ _
+    (λ a found. subst (AreParagraphRanges source g.T.TextSource.units cs)
+    (sym ((analysis-pieces source c.args.base c.args.split (with_analysis g.T.TextSource.units cs a) _ _ c.then_some-split.result c.then_some-split.ensures found).ranges
+    ∙ ap (λ (split : Bool). ranges_from g.T.TextSource.units 0 (pieces_of split source cs)) all))
+    (paragraphs-AreParagraphRanges source g.T.TextSource.units g.met.T.TextSource.has_units cs))
+    c.analyse_by.ensures.analysis
+
+pub returns-clause-whole : goal.returns-clause-whole
+returns-clause-whole g c = λ one.
+    let source = g.D.BidiDataSource.source c.args.data_source.now in
+    let cs : List ℕ = g.T.TextSource.characters c.args.text in
+    let long : 0 + text_len g.T.TextSource.units cs ≡ text_len g.T.TextSource.units cs = omega arith in
+    IfOk-weaker c.analyse_by.result _ _
+    (λ a found. (analysis-pieces source c.args.base c.args.split (with_analysis g.T.TextSource.units cs a) _ _ c.then_some-split.result c.then_some-split.ensures found).ranges
+    ∙ ap (λ (split : Bool). ranges_from g.T.TextSource.units 0 (pieces_of split source cs)) one ∙ ap (λ (end : ℕ). (0, end) ∷ []) long)
+    c.analyse_by.ensures.analysis

@@ -1,20 +1,22 @@
-use Rattle.std.proofs.Common.{◌≡◌, ◌∙◌, ◌+◌, ◌∷◌, [], ◌++◌, ℕ, ◌<◌, ◌≤◌, ◌&&◌, List, false, ◌⊎◌, inl, inr, length, refl, sym, ap, subst, arith}
+use Rattle.std.proofs.Common.{not, ◌≡◌, ◌∙◌, ◌+◌, ◌∷◌, [], ◌++◌, ℕ, ◌<◌, ◌≤◌, List, false, ◌⊎◌, inl, inr, length, drop, true, refl, sym, ap, subst, arith}
 use Rattle.std.specs.Iterator.{IsFinite}
 use Rattle.std.specs.List.{All}
+use Rattle.std.specs.Option.{is_none}
 use Rattle.std.specs.declared.ops.Range.{Range}
-use Rattle.std.proofs.lemmas.Bool.{cases_Bool, and_right}
+use Rattle.std.proofs.lemmas.Bool.{cases_Bool}
 use Rattle.std.proofs.lemmas.List.{length_push, with_items_is}
 use Rattle.bidi_base.specs.declared.char_data.BidiClass.{BidiClass}
 use Rattle.bidi_base.specs.Classes.{is_paragraph_separator}
 use Rattle.bidi_base.specs.Text.{place}
 use Rattle.bidi_base.proofs.PlaceLemmas.{CharTurn, char_turn, char_end}
 use Rattle.unicode_bidi.specs.FirstWalk.{IsFresh, IsClosed}
+use Rattle.unicode_bidi.specs.SplitRule.{ends_after}
 use Rattle.unicode_bidi.specs.declared.first_walk.TextReading.{TextReading}
 use Rattle.unicode_bidi.specs.declared.first_walk.Undecided.{Undecided}
 use Rattle.unicode_bidi.proofs.IdleClasses.{idle-IsReadBy, idle-classes, idle-separator}
-use Rattle.unicode_bidi.proofs.TextRead.{seen, take-turn, same_range, stops, open_within, depth-le, undecided-none, start-le, drawn-is, IsTextRead-more, IsTextDone-close, IsRead, IsRead-start, IsRead-on, IsRead-stop, IsRead-last, IsRead-none, IsTextDone-none, IsAnswer, IsTextDone-answer}
+use Rattle.unicode_bidi.proofs.TextRead.{seen, same_range, ends_after-other, open_within, depth-le, undecided-none, start-le, drawn-is, IsTextRead-more, IsTextDone-close, IsRead, IsRead-start, IsRead-on, IsRead-stop, IsRead-last, IsRead-none, IsTextDone-none, IsAnswer, IsTextDone-answer}
 use Rattle.unicode_bidi.proofs.first_walk.walk.Goals as goal
-use Rattle.unicode_bidi.proofs.first_walk.walk.Goals.{In-Some, then-not-split+in_ok-close, then-not-split-via-then-not-split, then-not-split-via-else-not-split+then-walk-end, else-not-split+else-walk-end}
+use Rattle.unicode_bidi.proofs.first_walk.walk.Goals.{In-Some, then-is_none+in_ok-close, then-is_none-via-then-is_none, then-is_none-via-else-is_none+then-walk-end, else-is_none+else-walk-end}
 use Rattle.unicode_bidi.proofs.first_walk.walk.Given.{Over}
 
 pub loop-c-init : goal.loop-c-init
@@ -24,7 +26,6 @@ loop-c-init g c = (
   refl,
   IsRead-start _ _ _ c.args.split c.args.base _ c.new.result (ap length c.as_mut_slice-classes.ensures.value ∙ sym c.in_ok-original_classes.original_classes.ok.0 ∙ c.in_ok-original_classes.ensures.len ∙ c.len.ensures) c.new-2.ensures.items c.new-3.ensures.items c.new.ensures,
   c.minded-minded.ensures,
-  refl,
   refl,
 )
 
@@ -112,26 +113,25 @@ loop-c-preserved-then-has g c =
     drawn-is source len cs units base n h.done h.current old reading w.within h.read c.in-Some.c w.is_char class c.bidi_class-class.ensures drawn c.loop-c.end (c.loop-c.end + c.char_len.result) c.loop-c.invariant.2 end c.write.ensures in
     let range : Range ℕ = record { start = c.loop-c.end; end = c.loop-c.end + c.char_len.result } in
     let range_is = same_range c.loop-c.end (place len cs n) (c.loop-c.end + c.char_len.result) (place len cs (n + 1)) c.loop-c.invariant.2 end in
-    let turned = take-turn cs n c.in-Some.c w.within w.is_char in
-    let split_is : (c.loop-c.walk.split && is_paragraph_separator class) ≡ stops source c.args.split c.in-Some.c =
-    ap (λ b. b && is_paragraph_separator class) c.loop-c.invariant.5 ∙ ap (λ x. c.args.split && is_paragraph_separator x) c.bidi_class-class.ensures in
+    let after : List ℕ = drop (n + 1) cs in
+    let ends_is : c.ends_paragraph-ends.result ≡ ends_after c.args.split source c.in-Some.c after = c.ends_paragraph-ends.ensures (n + 1) end in
     let more =
     IsTextRead-more source len cs units base n h.done h.current old reading w.within h.read c.in-Some.c w.is_char class c.bidi_class-class.ensures drawn drawn_is c.write.auto.classes range in
     let longer = seen c.meet.new.classes c.loop-c.walk in
     let long = c.meet.auto.classes ∙ c.write.auto.classes in
     let new = seen c.meet.new.classes c.meet.new.self in
-    let read : IsRead source len cs c.args.split base (n + 1) new c.meet.new.self.reading = elim (cases_Bool (stops source c.args.split c.in-Some.c)) [
+    let read : IsRead source len cs c.args.split base (n + 1) new c.meet.new.self.reading = elim (cases_Bool (ends_after c.args.split source c.in-Some.c after)) [
       | inl stop ↦
-          let ended = c.in_ok-minded.ensures.ended (split_is ∙ stop) in
+          let ended = c.in_ok-minded.ensures.ended (ends_is ∙ stop) in
           let r = ended.1.0 in
           let done = more longer r range_is c.in_ok-minded.ensures.classes long refl refl ended.1.1 in
-          IsRead-stop source len cs c.args.split base n c.in-Some.c old reading new c.meet.new.self.reading h turned
+          IsRead-stop source len cs c.args.split base n c.in-Some.c old reading new c.meet.new.self.reading h w.next
           (IsTextDone-close source len cs base (n + 1) h.done (h.current ++ c.in-Some.c ∷ []) longer r done new (c.loop-c.end + c.char_len.result) end refl
-          (subst (λ (b : _). IsClosed b r (c.loop-c.end + c.char_len.result) longer.paragraphs longer.flags new.paragraphs new.flags) c.loop-c.invariant.6 ended.1.2))
+          (subst (λ (b : _). IsClosed b r (c.loop-c.end + c.char_len.result) longer.paragraphs longer.flags new.paragraphs new.flags) c.loop-c.invariant.5 ended.1.2))
           (subst (IsFresh c.meet.new.self.reading) end ended.0) stop
       | inr on ↦
-          let kept = c.in_ok-minded.ensures.on (split_is ∙ on) in
-          IsRead-on source len cs c.args.split base n c.in-Some.c old reading new c.meet.new.self.reading h turned
+          let kept = c.in_ok-minded.ensures.on (ends_is ∙ on) in
+          IsRead-on source len cs c.args.split base n c.in-Some.c old reading new c.meet.new.self.reading h w.next
           (more new c.meet.new.self.reading range_is c.in_ok-minded.ensures.classes long kept.1 kept.2 kept.0) on
     ] in (
       c.in-Some.ensures.goes.keeps,
@@ -139,8 +139,7 @@ loop-c-preserved-then-has g c =
       end ∙ ap (place len cs) (sym (length_push c.loop-c.yielded c.in-Some.c)),
       subst (λ m. IsRead source len cs c.args.split base m new c.meet.new.self.reading) (sym (length_push c.loop-c.yielded c.in-Some.c)) read,
       c.in_ok-minded.ensures.minded,
-      c.meet.ensures.split ∙ c.loop-c.invariant.5,
-      c.meet.ensures.base ∙ c.loop-c.invariant.6,
+      c.meet.ensures.base ∙ c.loop-c.invariant.5,
     )
 
 pub loop-c-preserved : goal.loop-c-preserved
@@ -162,11 +161,10 @@ loop-c-preserved g c =
     drawn-is source len cs units base n h.done h.current old reading w.within h.read c.in-Some.c w.is_char class c.bidi_class-class.ensures drawn c.loop-c.end (c.loop-c.end + c.char_len.result) c.loop-c.invariant.2 end c.write.ensures in
     let range : Range ℕ = record { start = c.loop-c.end; end = c.loop-c.end + c.char_len.result } in
     let range_is = same_range c.loop-c.end (place len cs n) (c.loop-c.end + c.char_len.result) (place len cs (n + 1)) c.loop-c.invariant.2 end in
-    let turned = take-turn cs n c.in-Some.c w.within w.is_char in
     let idle = sym (c.loop-c.invariant.4 class) ∙ sym c.has.ensures ∙ c.if-has.false in
     let empty = undecided-none source len cs units base n h.done h.current old reading w.within h.read in
-    let on : stops source c.args.split c.in-Some.c ≡ false =
-    ap (λ x. c.args.split && is_paragraph_separator x) (sym c.bidi_class-class.ensures) ∙ and_right c.args.split (is_paragraph_separator class) (idle-separator reading class range idle empty) in
+    let on : ends_after c.args.split source c.in-Some.c (drop (n + 1) cs) ≡ false =
+    ends_after-other c.args.split source c.in-Some.c (drop (n + 1) cs) (ap is_paragraph_separator (sym c.bidi_class-class.ensures) ∙ idle-separator reading class range idle empty) in
     let new = seen drawn c.loop-c.walk in
     let read =
     IsTextRead-more source len cs units base n h.done h.current old reading w.within h.read c.in-Some.c w.is_char class c.bidi_class-class.ensures drawn drawn_is c.write.auto.classes range new reading
@@ -175,10 +173,9 @@ loop-c-preserved g c =
       (c.in-Some.ensures.goes.on c.loop-c.invariant.1).1,
       end ∙ ap (place len cs) (sym (length_push c.loop-c.yielded c.in-Some.c)),
       subst (λ m. IsRead source len cs c.args.split base m new reading) (sym (length_push c.loop-c.yielded c.in-Some.c))
-          (IsRead-on source len cs c.args.split base n c.in-Some.c old reading new reading h turned read on),
+          (IsRead-on source len cs c.args.split base n c.in-Some.c old reading new reading h w.next read on),
       c.loop-c.invariant.4,
       c.loop-c.invariant.5,
-      c.loop-c.invariant.6,
     )
 
 pub close-requires : goal.close-requires
@@ -193,7 +190,7 @@ close-requires g c =
     let reading = c.loop-c.walk.reading in
     omega (arith, start-le source len cs c.args.base n h.done h.current old reading h.read, c.loop-c.invariant.2)
 
-answered : (g : Over) (c : goal.After-drop-walk-2 g) → IsAnswer (g.D.BidiDataSource.source c.args.data_source.now) g.T.TextSource.units (g.T.TextSource.characters c.args.text) c.args.split c.args.base (seen c.loop-c.classes c.if-not-split.walk)
+answered : (g : Over) (c : goal.After-drop-walk-2 g) → IsAnswer (g.D.BidiDataSource.source c.args.data_source.now) g.T.TextSource.units (g.T.TextSource.characters c.args.text) c.args.split c.args.base (seen c.loop-c.classes c.if-is_none.walk)
 answered g c =
     let source = g.D.BidiDataSource.source c.args.data_source.now in
     let len = g.T.TextSource.units in
@@ -207,20 +204,20 @@ answered g c =
     let reading = c.loop-c.walk.reading in
     let all : n ≡ length cs = char_end cs c.chars-c-items.ensures c.into_iter-c-iterator.ensures.into_iter_gives c.loop-c.yielded _ c.loop-c.yielded_by _ _ c.in-None.is c.next.ensures.steps in
     let end : c.loop-c.end ≡ place len cs n = c.loop-c.invariant.2 in
-    elim c.if-not-split.branch [
-      | then-not-split+in_ok-close w ↦
-          let rest : (split ≡ false) ⊎ (reading.start < place len cs n) =
-          elim w.then-not-split.branch [
-            | then-not-split-via-then-not-split v ↦ inl v.if-not-split.true
-            | then-not-split-via-else-not-split+then-walk-end v ↦ inr (omega (arith, v.if-walk-end.true, end))
+    elim c.if-is_none.branch [
+      | then-is_none+in_ok-close w ↦
+          let rest : (is_none split ≡ true) ⊎ (reading.start < place len cs n) =
+          elim w.then-is_none.branch [
+            | then-is_none-via-then-is_none v ↦ inl (ap not (c.is_none.ensures ∙ ap not v.if-is_none.true))
+            | then-is_none-via-else-is_none+then-walk-end v ↦ inr (omega (arith, v.if-walk-end.true, end))
           ] in
           let new = seen c.loop-c.classes w.close.new.self in
           subst (λ (walk : TextReading). IsAnswer source len cs split base (seen c.loop-c.classes walk)) (sym w.walk-is)
-          (IsTextDone-answer source len cs split base n (h.done ++ h.current ∷ []) new all (IsRead-last source len cs units split base n old reading all h rest)
+          (IsTextDone-answer source len cs split base n (h.done ++ h.current ∷ []) new all (IsRead-last source len cs units base n old reading all split h rest)
           (IsTextDone-close source len cs base n h.done h.current old reading h.read new c.loop-c.end end refl
-          (subst (λ (b : _). IsClosed b reading c.loop-c.end old.paragraphs old.flags new.paragraphs new.flags) c.loop-c.invariant.6 w.in_ok-close.ensures.closed)))
-      | else-not-split+else-walk-end w ↦
-          let none = IsRead-none source len cs units split base n old reading all h w.if-not-split.false (omega (arith, w.if-walk-end.false, end)) in
+          (subst (λ (b : _). IsClosed b reading c.loop-c.end old.paragraphs old.flags new.paragraphs new.flags) c.loop-c.invariant.5 w.in_ok-close.ensures.closed)))
+      | else-is_none+else-walk-end w ↦
+          let none = IsRead-none source len cs units base n old reading all split h (ap not (c.is_none.ensures ∙ ap not w.if-is_none.false)) (omega (arith, w.if-walk-end.false, end)) in
           subst (λ (walk : TextReading). IsAnswer source len cs split base (seen c.loop-c.classes walk)) (sym w.walk-is)
           (IsTextDone-answer source len cs split base n h.done old all none.1 (IsTextDone-none source len cs base n h.done h.current old reading none.0 h.read))
     ]

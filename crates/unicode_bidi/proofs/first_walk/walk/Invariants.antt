@@ -12,4 +12,4 @@ invariant-loop-c g l =
     × IsRead (g.D.BidiDataSource.source l.data_source) g.T.TextSource.units (g.T.TextSource.characters l.fn.text) l.split l.fn.base (length l.yielded)
     (seen l.classes l.walk) l.walk.reading
     × ((c : BidiClass) → has l.minded c ≡ minds l.walk.reading c)
-    × (l.walk.split ≡ l.split) × (l.walk.base ≡ l.fn.base)
+    × (l.walk.base ≡ l.fn.base)

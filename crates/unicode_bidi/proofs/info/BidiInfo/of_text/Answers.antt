@@ -1,6 +1,8 @@
+use Rattle.std.proofs.Common.{Some, subst, sym}
 use Rattle.bidi_base.proofs.LevelLaws.{BoundaryNeutralsAreAlike-all, StaysLeftToRight-all}
 use Rattle.unicode_bidi.specs.Analysed.{analysed}
-use Rattle.unicode_bidi.proofs.FoundLaws.{parted-found, lines-found, bounded-found, own_units-found}
+use Rattle.unicode_bidi.specs.SplitRule.{pieces_by, AreParagraphRangesBy}
+use Rattle.unicode_bidi.proofs.FoundLaws.{pieces_by-joined, rule-AreParagraphRanges, lines-found, bounded-found, own_units-found}
 use Rattle.unicode_bidi.proofs.info.BidiInfo.of_text.Goals as goal
 
 pub returns-in_err-found-clause-boundary_neutrals_alike : goal.returns-in_err-found-clause-boundary_neutrals_alike
@@ -18,21 +20,28 @@ returns-clause-stays_left_to_right g c = StaysLeftToRight-all (g.D.BidiDataSourc
 pub invariant_of-result : goal.invariant_of-result
 invariant_of-result g c = record {
   paragraphs_are_lines =
-      lines-found (g.D.BidiDataSource.source c.args.data_source.now) c.args.default_para_level (analysed c.new.result) g.met.T.TextSource.has_units c.in_ok-found.found.paragraphs.items
-      (rw (c.new.ensures.text, c.new.ensures.classes, c.new.ensures.levels) c.in_ok-found.ensures.analysis);
+      rw c.new.ensures.text
+      (lines-found (g.D.BidiDataSource.source c.args.data_source.now) g.T.TextSource.units g.met.T.TextSource.has_units (g.T.TextSource.characters c.args.text) c.args.rule c.in_ok-found.found.paragraphs.items
+      c.in_ok-found.ensures.analysis.ranges);
 }
 
 pub returns-clause-parted : goal.returns-clause-parted
 returns-clause-parted g c =
-    parted-found (g.D.BidiDataSource.source c.args.data_source.now) c.args.default_para_level (analysed c.new.result) g.met.T.TextSource.has_units c.in_ok-found.found.paragraphs.items
-    (rw (c.new.ensures.text, c.new.ensures.classes, c.new.ensures.levels) c.in_ok-found.ensures.analysis)
+    let source = g.D.BidiDataSource.source c.args.data_source.now in
+    rw c.new.ensures.text
+    (subst (AreParagraphRangesBy c.args.rule source g.T.TextSource.units (g.T.TextSource.characters c.args.text)) (sym c.in_ok-found.ensures.analysis.ranges)
+    (rule-AreParagraphRanges source g.T.TextSource.units g.met.T.TextSource.has_units (g.T.TextSource.characters c.args.text) c.args.rule))
 
 pub returns-clause-bounded : goal.returns-clause-bounded
 returns-clause-bounded g c =
-    bounded-found (g.D.BidiDataSource.source c.args.data_source.now) c.args.default_para_level (analysed c.new.result) g.met.T.TextSource.has_units c.in_ok-found.found.paragraphs.items
+    let source = g.D.BidiDataSource.source c.args.data_source.now in
+    let a = analysed c.new.result in
+    bounded-found source c.args.default_para_level (pieces_by (Some c.args.rule) source a.chars) a (pieces_by-joined (Some c.args.rule) source a.chars) g.met.T.TextSource.has_units c.in_ok-found.found.paragraphs.items
     (rw (c.new.ensures.text, c.new.ensures.classes, c.new.ensures.levels) c.in_ok-found.ensures.analysis) c.requires
 
 pub returns-clause-each_by_itself : goal.returns-clause-each_by_itself
 returns-clause-each_by_itself g c =
-    own_units-found (g.D.BidiDataSource.source c.args.data_source.now) c.args.default_para_level (analysed c.new.result) g.met.T.TextSource.has_units c.in_ok-found.found.paragraphs.items
+    let source = g.D.BidiDataSource.source c.args.data_source.now in
+    let a = analysed c.new.result in
+    own_units-found source c.args.default_para_level (pieces_by (Some c.args.rule) source a.chars) a (pieces_by-joined (Some c.args.rule) source a.chars) g.met.T.TextSource.has_units c.in_ok-found.found.paragraphs.items
     (rw (c.new.ensures.text, c.new.ensures.classes, c.new.ensures.levels) c.in_ok-found.ensures.analysis)

@@ -1,0 +1,92 @@
+-- What the paragraphs of a text are where a carriage return and the line feed after it stay together.
+use Rattle.std.proofs.Common.{◌≡◌, ℕ, Bool, true, false, not, ◌&&◌, ◌||◌, ◌==◌, List, [], ◌∷◌, length, refl, sym, ap, subst, ◌∙◌, inl, inr, arith}
+use Rattle.std.specs.Prelude.{All}
+use Rattle.std.specs.List.{onto_first}
+use Rattle.std.proofs.lemmas.List.Elements.{All-nil, All-cons, All-head, All-tail}
+use Rattle.std.proofs.lemmas.Bool.{cases_Bool, and_parts}
+use Rattle.std.proofs.lemmas.Bool.Decides.{nat_tests}
+use Rattle.bidi_base.specs.Classes.{is_paragraph_separator}
+use Rattle.bidi_base.specs.CrLf.{is_line_feed_alone, has_unpaired_separator, AreCrLfParagraphRanges}
+use Rattle.bidi_base.specs.Paragraphs.{SplitTest, cut_after, begins_with_line_feed, cr_lf_together, paragraphs_of, ranges_from}
+use Rattle.bidi_base.specs.Source.{Source}
+use Rattle.bidi_base.proofs.ParagraphsLemmas.{is_stop, Ends, cut_after-ended, cut_after-partition, cut_after-lines, cut_after-AllButLast, cut_after-All}
+use Rattle.bidi_base.proofs.TextLemmas.{HasUnits}
+
+module _ (source : Source) where
+  abbrev ends : SplitTest
+  ends = cr_lf_together source
+
+  abbrev Holds : List ℕ → Type 0
+  Holds p = has_unpaired_separator source p ≡ false
+
+  stops : (c : ℕ) (after : List ℕ) → ends c after ≡ true → is_stop source c ≡ true
+  stops c after e = (and_parts (is_stop source c) (not (c == 0x0D && begins_with_line_feed source after)) e).0
+
+  -- a character that is no separator
+  longer : (c : ℕ) (p : List ℕ) → is_stop source c ≡ false → Holds p → Holds (c ∷ p)
+  longer c [] on h = refl
+  longer c (d ∷ p) on h =
+      ap (λ (b : Bool). (b && not (c == 0x0D && is_line_feed_alone source (d ∷ p))) || has_unpaired_separator source (d ∷ p)) on ∙ h
+
+  onto : (c : ℕ) (ps : List (List ℕ)) → is_stop source c ≡ false → All Holds ps → All Holds (onto_first c ps)
+  onto c [] on h = All-cons Holds (c ∷ []) [] refl (All-nil Holds)
+  onto c (p ∷ ps) on h = All-cons Holds (c ∷ p) ps (longer c p on (All-head Holds p ps h)) (All-tail Holds p ps h)
+
+  -- a line feed that is a separator ends its paragraph
+  line_feed-ends : (d : ℕ) (cs : List ℕ) → begins_with_line_feed source (d ∷ cs) ≡ true → ends d cs ≡ true
+  line_feed-ends d cs e =
+      let parts = and_parts (d == 0x0A) (is_stop source d) e in
+      let other : (d == 0x0D) ≡ false = no_return d parts.0 in
+      rw (parts.1, other) refl
+    where
+      no_return : (d : ℕ) → (d == 0x0A) ≡ true → (d == 0x0D) ≡ false
+      no_return d is = grind (arith, nat_tests)
+
+  -- a separator that ends none is a carriage return before such a line feed
+  pair-of : (c : ℕ) (after : List ℕ) → is_stop source c ≡ true → ends c after ≡ false → ((c == 0x0D) ≡ true) × (begins_with_line_feed source after ≡ true)
+  pair-of c after stop on = both (is_stop source c) (c == 0x0D) (begins_with_line_feed source after) stop on
+    where
+      both : (a x y : Bool) → a ≡ true → (a && not (x && y)) ≡ false → (x ≡ true) × (y ≡ true)
+      both true true true e f = (refl, refl)
+      both true true false e f = absurd (cc f)
+      both true false y e f = absurd (cc f)
+      both false x y e f = absurd (cc e)
+
+  pair-Holds : (c d : ℕ) → (c == 0x0D) ≡ true → begins_with_line_feed source (d ∷ []) ≡ true → Holds (c ∷ d ∷ [])
+  pair-Holds c d e f = none (is_stop source c) (c == 0x0D) (begins_with_line_feed source (d ∷ [])) e f
+    where
+      none : (b x y : Bool) → x ≡ true → y ≡ true → ((b && not (x && (y && true))) || false) ≡ false
+      none true true true e f = refl
+      none true true false e f = absurd (cc f)
+      none true false y e f = absurd (cc e)
+      none false x y e f = refl
+
+  together-undivided : (chars : List ℕ) → All Holds (cut_after ends chars)
+  together-undivided [] = All-nil Holds
+  together-undivided (c ∷ cs) = elim (cases_Bool (ends c cs)) [
+    | inl stop ↦ rw stop (All-cons Holds (c ∷ []) (cut_after ends cs) refl (together-undivided cs))
+    | inr on ↦ rw on (elim (cases_Bool (is_stop source c)) [
+      | inl pair ↦ paired cs (pair-of c cs pair on) (together-undivided cs)
+      | inr other ↦ onto c (cut_after ends cs) other (together-undivided cs)
+    ])
+  ]
+    where
+      paired : (ds : List ℕ) → ((c == 0x0D) ≡ true) × (begins_with_line_feed source ds ≡ true) → All Holds (cut_after ends ds) → All Holds (onto_first c (cut_after ends ds))
+      paired [] p h = absurd (cc p.1)
+      paired (d ∷ ds) p h =
+          let stop : ends d ds ≡ true = line_feed-ends d ds p.1 in
+          let pieces : cut_after ends (d ∷ ds) ≡ (d ∷ []) ∷ cut_after ends ds = rw stop refl in
+          let rest : All Holds ((d ∷ []) ∷ cut_after ends ds) = subst (All Holds) pieces h in
+          subst (λ (ps : List (List ℕ)). All Holds (onto_first c ps)) (sym pieces)
+          (All-cons Holds (c ∷ d ∷ []) (cut_after ends ds) (pair-Holds c d p.0 p.1) (All-tail Holds (d ∷ []) (cut_after ends ds) rest))
+
+-- the ranges of the paragraphs of a text
+pub together-AreCrLfParagraphRanges : (source : Source) (len_of : ℕ → ℕ) → HasUnits len_of → (chars : List ℕ) → AreCrLfParagraphRanges source len_of chars (ranges_from len_of 0 (paragraphs_of (cr_lf_together source) chars))
+together-AreCrLfParagraphRanges source len_of units chars =
+    let ends : SplitTest = cr_lf_together source in
+    record {
+      partition = cut_after-partition ends len_of units chars;
+      lines = cut_after-lines ends len_of units chars;
+      ended = cut_after-AllButLast ends len_of units chars (Ends source) (cut_after-ended source ends (stops source) chars);
+      undivided = cut_after-All ends len_of units chars (Holds source) (together-undivided source chars);
+    }
