@@ -1,5 +1,5 @@
 -- A line of a text whose stored classes and levels pass the test `is_per_char`, as those of the info types do.
-use Rattle.std.proofs.Common.{◌≡◌, ◌∙◌, ℕ, ◌+◌, ◌≤◌, List, length, ap, sym, subst, false, arith}
+use Rattle.std.proofs.Common.{◌≡◌, ◌∙◌, ℕ, ◌≤◌, List, length, ap, sym, subst, false, arith}
 use Rattle.std.specs.Prelude.{IsTrue, slice_range}
 use Rattle.std.specs.declared.ops.Range.{Range}
 use Rattle.bidi_base.specs.Analysed.{AnalysedText, line_levels_per_char, AreLevelsWithLine, AreLevelsOfLine, AreRunsOfLine, IsTextOfLine, levels_with_line_per_char}
