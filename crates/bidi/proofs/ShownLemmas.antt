@@ -1,5 +1,5 @@
 -- A line that is analysed as one paragraph, as a list of characters.
-use Rattle.std.proofs.Common.{◌≡◌, ℕ, ◌-◌, ◌≤◌, ◌++◌, false, List, [], ◌∷◌, length, take, map, flat_map, Option, refl, sym, ap, ap₂, subst, ◌∙◌, arith, append-nil, length-append}
+use Rattle.std.proofs.Common.{◌≡◌, ℕ, ◌-◌, ◌++◌, false, List, [], ◌∷◌, length, map, flat_map, Option, refl, sym, ap, ap₂, subst, ◌∙◌, arith, append-nil}
 use Rattle.std.specs.Prelude.{slice_range, All}
 use Rattle.std.proofs.lemmas.List.{take_all, length-map, get_or-map}
 use Rattle.bidi_base.specs.declared.char_data.BidiClass.{BidiClass}

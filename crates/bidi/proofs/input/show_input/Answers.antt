@@ -1,4 +1,4 @@
-use Rattle.std.proofs.Common.{◌≡◌, ◌∙◌, ap, List, ℕ}
+use Rattle.std.proofs.Common.{◌∙◌, ap}
 use Rattle.std.specs.Str.{chars}
 use Rattle.bidi_unicode.specs.Unicode.{unicode_source}
 use Rattle.bidi.specs.Bases.{level_of_base}

@@ -1,6 +1,4 @@
 use Rattle.std.proofs.Common.{◌≡◌, ◌++◌, take, drop}
-use Rattle.std.specs.Prelude.{not, take_while}
-use Rattle.bidi_base.specs.Classes.{is_paragraph_separator}
 use Rattle.bidi.specs.Shown.{own_chars}
 use Rattle.bidi.proofs.show.own_chars.Given as goal
 

@@ -1,7 +1,7 @@
-use Rattle.std.proofs.Common.{◌≡◌, ◌++◌, List, ℕ, map, flat_map, string_bytes, subst, ap, sym, ◌∙◌}
+use Rattle.std.proofs.Common.{◌++◌, List, ℕ, flat_map, string_bytes, subst, ap, sym, ◌∙◌}
 use Rattle.std.specs.Prelude.{All}
 use Rattle.std.specs.declared.ops.Range.{Range}
-use Rattle.bidi_base.specs.Display.{Run, run_of, visual_runs, IsLevelRun}
+use Rattle.bidi_base.specs.Display.{Run, run_of, IsLevelRun}
 use Rattle.bidi.specs.Shown.{run_at, shown_line}
 use Rattle.bidi.proofs.ShownLemmas.{All-from_map, flat_map-map}
 use Rattle.bidi.proofs.show.push_line.Goals as goal

@@ -1,4 +1,4 @@
-use Rattle.std.proofs.Common.{◌≡◌, ◌++◌, List, ℕ, flat_map, ap}
+use Rattle.std.proofs.Common.{◌++◌, List, ℕ, flat_map, ap}
 use Rattle.bidi.specs.Bases.{level_of_base}
 use Rattle.bidi.specs.Findings.{lines_of}
 use Rattle.bidi.specs.Shown.{shown_text, shown_text_line}
