@@ -4,8 +4,8 @@ use crate::texts::UNITS;
 use crate::trial::{Fault, tried};
 use bidi_base::data_source::TableBidiData;
 use bidi_base::text::{Utf16Text, is_line};
-use unicode_bidi::ParagraphInfo;
 use unicode_bidi::utf16::{BidiInfo, InitialInfo, ParagraphBidiInfo};
+use unicode_bidi::{ParagraphInfo, SplitRule};
 
 // The line calls, of a paragraph as one line.
 fn try_line(
@@ -101,6 +101,11 @@ pub fn run(rt: &(impl Print + AllocGlobal), source: &TableBidiData<'_>) -> Resul
         rt,
         "utf16::InitialInfo::new_with_data_source",
         InitialInfo::new_with_data_source(alloc, source, &UNITS, None)
+    );
+    tried!(
+        rt,
+        "utf16::BidiInfo::new_with_rule",
+        BidiInfo::new_with_rule(alloc, source, &UNITS, None, SplitRule::CrLfTogether)
     );
     let info = tried!(
         rt,

@@ -5,7 +5,7 @@ use crate::trial::{Fault, tried};
 use bidi_base::data_source::TableBidiData;
 use bidi_base::text::{StrText, is_line};
 use unicode_bidi::layout::{CharWidth, LineMap, lines};
-use unicode_bidi::{BidiInfo, InitialInfo, ParagraphBidiInfo, ParagraphInfo};
+use unicode_bidi::{BidiInfo, InitialInfo, ParagraphBidiInfo, ParagraphInfo, SplitRule};
 
 // The line calls, of a paragraph as one line.
 fn try_line(
@@ -134,6 +134,11 @@ pub fn run(rt: &(impl Print + AllocGlobal), source: &TableBidiData<'_>) -> Resul
         rt,
         "InitialInfo::new_with_data_source",
         InitialInfo::new_with_data_source(alloc, source, TEXT, None)
+    );
+    tried!(
+        rt,
+        "BidiInfo::new_with_rule",
+        BidiInfo::new_with_rule(alloc, source, TEXT, None, SplitRule::CrLfTogether)
     );
     let info = tried!(
         rt,
