@@ -4,4 +4,6 @@
 #[cfg(test)]
 mod by_rules;
 #[cfg(test)]
+mod split_rows;
+#[cfg(test)]
 mod utf16_rows;

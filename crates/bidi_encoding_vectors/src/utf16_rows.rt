@@ -36,7 +36,7 @@ const UNITS: [UnitsRow; 6] = [
 ];
 
 // Whether levels have these numbers.
-fn are_numbered(levels: &[Level], numbers: &[u8]) -> bool {
+pub fn are_numbered(levels: &[Level], numbers: &[u8]) -> bool {
     levels
         .iter()
         .map(|level| level.number())
@@ -205,7 +205,7 @@ fn levels_of_one_paragraph(rt: HostRuntime) -> Result<(), Fail> {
 }
 
 // A text of characters in UTF-16.
-fn units_of(alloc: Global, text: &str) -> Result<Vec<u16>, Fail> {
+pub fn units_of(alloc: Global, text: &str) -> Result<Vec<u16>, Fail> {
     let mut units = Vec::new(alloc);
     for c in text.chars() {
         units.extend_from_slice(c.encode_utf16(&mut [0; 2]))?;
