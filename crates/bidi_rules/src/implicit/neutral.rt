@@ -248,6 +248,9 @@ impl NeutralResolver {
 /// BN stays, and so do the units outside the sequence. After a refusal, which comes for want of
 /// memory alone, all classes are as they were. [`NeutralResolver`] does the same for many sequences
 /// with the same memory.
+///
+/// The cost is linear in the sequence, but where the data source calls brackets themselves nonspacing
+/// marks: then a row of marks is gone over once for each bracket of a pair before it or in it.
 pub fn resolve_neutral<D: BidiDataSource, T: TextSource>(
     alloc: Global,
     text: T,
