@@ -27,9 +27,6 @@ onto_front-more (d ∷ cs) c lines = ap (onto_first d) (onto_front-more cs c lin
 pub record IsUnbroken (ends : SplitTest) (chars : List ℕ) (n : ℕ) : Type 0 where
   pub whole : cut_after ends chars ≡ onto_front (take n chars) (cut_after ends (drop n chars))
 
-pub IsUnbroken-start : (ends : SplitTest) (chars : List ℕ) → IsUnbroken ends chars 0
-IsUnbroken-start ends chars = record { whole = refl }
-
 module _ (ends : SplitTest) (chars : List ℕ) (n c : ℕ) (fits : n < length chars) (here : c ≡ get_or chars n c) where
   from_here : drop n chars ≡ c ∷ drop (n + 1) chars
   from_here = rw (add-one, drop-cons chars n c) (ap (λ x. x ∷ drop (suc n) chars) (sym here))

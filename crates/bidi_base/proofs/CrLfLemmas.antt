@@ -1,11 +1,10 @@
 -- What the paragraphs of a text are where a carriage return and the line feed after it stay together.
-use Rattle.std.proofs.Common.{◌≡◌, ℕ, Bool, true, false, not, ◌&&◌, ◌||◌, ◌==◌, List, [], ◌∷◌, length, refl, sym, ap, subst, ◌∙◌, inl, inr, arith}
+use Rattle.std.proofs.Common.{◌≡◌, ℕ, Bool, true, false, not, ◌&&◌, ◌||◌, ◌==◌, List, [], ◌∷◌, refl, sym, ap, subst, ◌∙◌, inl, inr, arith}
 use Rattle.std.specs.Prelude.{All}
 use Rattle.std.specs.List.{onto_first}
 use Rattle.std.proofs.lemmas.List.Elements.{All-nil, All-cons, All-head, All-tail}
 use Rattle.std.proofs.lemmas.Bool.{cases_Bool, and_parts}
 use Rattle.std.proofs.lemmas.Bool.Decides.{nat_tests}
-use Rattle.bidi_base.specs.Classes.{is_paragraph_separator}
 use Rattle.bidi_base.specs.CrLf.{is_line_feed_alone, has_unpaired_separator, AreCrLfParagraphRanges}
 use Rattle.bidi_base.specs.Paragraphs.{SplitTest, cut_after, begins_with_line_feed, cr_lf_together, paragraphs_of, ranges_from}
 use Rattle.bidi_base.specs.Source.{Source}

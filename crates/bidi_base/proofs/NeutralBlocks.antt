@@ -11,7 +11,7 @@ use Rattle.bidi_base.specs.Classes.{as_direction, has_direction, is_neutral, is_
 use Rattle.bidi_base.specs.Neutral.{nearest_direction, n1_rule}
 use Rattle.bidi_base.proofs.PlacesLemmas.{reverse-take_more}
 use Rattle.bidi_base.proofs.NeutralLemmas.{nearest_direction-more}
-use Rattle.bidi_base.proofs.InPlace.{IsRewritten, IsRewritten-start, IsRewritten-keep}
+use Rattle.bidi_base.proofs.InPlace.{IsRewritten, IsRewritten-keep}
 use Rattle.bidi_base.proofs.Blocks.{IsBlock, read_later, look-drop, look-take, answer, IsRewritten-filled, IsRewritten-past}
 
 passes : (d c : BidiClass) (cs : List BidiClass) → is_neutral c ≡ true → nearest_direction d (c ∷ cs) ≡ nearest_direction d cs
@@ -49,9 +49,6 @@ module _ (e sos eos : BidiClass) where
   pub record IsAtNeutrals (old now : List BidiClass) (left : BidiClass) (start : ℕ) : Type 0 where
     pub rewritten : IsRewritten (n1_rule e sos eos) old now start
     pub is_left : start ≤ length old → left ≡ nearest_direction sos (reverse (take start old))
-
-  pub IsAtNeutrals-start : (old : List BidiClass) → IsAtNeutrals old old sos 0
-  IsAtNeutrals-start old = record { rewritten = IsRewritten-start (n1_rule e sos eos) old; is_left = λ fits. refl }
 
   module _ (old now : List BidiClass) (left right : BidiClass) (start n : ℕ) (resolved : list_all is_weak_resolved old ≡ true) (h : IsAtNeutrals old now left start) (fits : start ≤ length old)
       (block : IsBlock is_neutral old start n) (next : right ≡ unwrap_or (as_direction (get_or now (start + n) ON)) eos) where

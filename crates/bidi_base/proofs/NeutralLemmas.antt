@@ -1,5 +1,5 @@
 -- The classes that N0 to N2 leave: N0 keeps those that W7 leaves, and after N2 each has a direction.
-use Rattle.std.proofs.Common.{◌≡◌, ℕ, zero, suc, ◌+◌, ◌<◌, ◌≤◌, Bool, true, false, cond, List, [], ◌∷◌, ◌++◌, map, length, take, reverse, filter_map, find, fold, Option, Some, None, option_map, unwrap_or, refl, sym, ap, subst, ◌∙◌, inl, inr, arith}
+use Rattle.std.proofs.Common.{◌≡◌, ℕ, zero, suc, ◌+◌, ◌<◌, ◌≤◌, Bool, true, false, cond, List, [], ◌∷◌, map, length, take, reverse, filter_map, find, fold, Option, Some, None, option_map, unwrap_or, refl, subst, inl, inr, arith}
 use Rattle.std.specs.List.{list_all, list_any, range_with_len, cons_option}
 use Rattle.std.proofs.lemmas.Bool.{cases_Bool, and_from, or_cases, or_left, both_ways}
 use Rattle.bidi_base.specs.declared.char_data.BidiClass.{BidiClass}
@@ -22,12 +22,6 @@ directed _ h = absurd (cc h)
 pub nearest_direction-more : (d c : BidiClass) (cs : List BidiClass) → nearest_direction d (c ∷ cs) ≡ unwrap_or (as_direction c) (nearest_direction d cs)
 nearest_direction-more d L cs = refl
 nearest_direction-more d _ cs = refl
-
--- and where further classes follow
-pub nearest_direction-append : (d : BidiClass) (cs ds : List BidiClass) → nearest_direction d (cs ++ ds) ≡ nearest_direction (nearest_direction d ds) cs
-nearest_direction-append d [] ds = refl
-nearest_direction-append d (c ∷ cs) ds =
-    nearest_direction-more d c (cs ++ ds) ∙ ap (unwrap_or (as_direction c)) (nearest_direction-append d cs ds) ∙ sym (nearest_direction-more (nearest_direction d ds) c cs)
 
 one_option : (d c : BidiClass) (ds : List BidiClass) → is_l_or_r d ≡ true → is_l_or_r (first_or d ds) ≡ true → is_l_or_r (first_or d (cons_option (as_direction c) ds)) ≡ true
 one_option d L ds h k = refl

@@ -32,11 +32,6 @@ goes_with_none : (source : List BidiClass) (pair : ℕ × ℕ) (k : ℕ) → (k 
 unfolding goes_with_pair
 goes_with_none source pair k no_opening no_closing first last = rw (ne_eqb k pair.0 no_opening, ne_eqb k pair.1 no_closing, first, last) refl
 
--- nothing before the opening goes with the pair
-pub goes_with_pair-before : (source : List BidiClass) (pair : ℕ × ℕ) (k : ℕ) → pair.0 < pair.1 → k < pair.0 → goes_with_pair source pair k ≡ false
-goes_with_pair-before source pair k order before =
-    goes_with_none source pair k (λ e. omega arith) (λ e. omega arith) (is_mark_after-before source pair.0 k (omega arith)) (is_mark_after-before source pair.1 k (omega arith))
-
 -- nor does anything within a later pair, if that does not open among the marks of this one
 pub goes_with_pair-within : (source : List BidiClass) (q p : ℕ × ℕ) (k : ℕ) → q.0 < q.1 → IsBehindOrWithin q p → p.0 < length source → is_nsm (class_at source p.0) ≡ false → p.0 < k → k < p.1 → goes_with_pair source q k ≡ false
 goes_with_pair-within source q p k order (inl behind) fits none from to =

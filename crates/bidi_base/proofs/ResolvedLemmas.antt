@@ -19,22 +19,13 @@ use Rattle.bidi_base.specs.Weak.{w1, w2, w3, w4, w5, w6, weak_classes}
 use Rattle.bidi_base.specs.Brackets.{bracket_pairs}
 use Rattle.bidi_base.specs.Neutral.{n0_pair, n0, n1_n2, neutral_classes}
 use Rattle.bidi_base.specs.Implicit.{added_at_even, added_at_odd, implicit_level, implicit_levels}
-use Rattle.bidi_base.specs.Stored.{resolved_levels, sequence_levels, AreResolved, level_in, filled_levels, levels_in, stored_levels}
+use Rattle.bidi_base.specs.Stored.{resolved_levels, sequence_levels, level_in, filled_levels, levels_in, stored_levels}
 use Rattle.bidi_base.proofs.PlacesLemmas.{length-in_context}
 use Rattle.bidi_base.proofs.StoredSteps.{length-stored_classes}
 use Rattle.bidi_base.proofs.SequencePlaces.{times_in, places_of, sequences-kept, sequences-all, sequence-kept, sequence-not_empty}
 use Rattle.bidi_base.proofs.StoredLemmas.{IsExplicitIn, explicit_levels-IsExplicitIn, length-at_places, at_places-agree, times_in-at, is_kept_at-stored_classes}
 use Rattle.bidi_base.proofs.PairChanges.{length-n0_pair}
 use Rattle.std.proofs.lemmas.List.Elements.{All-from_recursion}
-
--- ---- the sequences are resolved
-
-module _ (source : List BidiClass) (brackets : List (Option BidiMatchedOpeningBracket)) (levels : List ℕ) (classes : List BidiClass) where
-  -- all of them, one by one
-  pub AreResolved-each : (new : List ℕ) (seqs : List RunSequence) → ((k : ℕ) (d : RunSequence) → k < length seqs → at_places 0 new (get_or seqs k d).places ≡ resolved_levels source brackets levels classes (get_or seqs k d))
-      → AreResolved source brackets levels classes new seqs
-  AreResolved-each new [] each = tt
-  AreResolved-each new (s ∷ seqs) each = (each 0 s (omega arith), AreResolved-each new seqs (λ k d within. each (suc k) d (omega arith)))
 
 -- ---- lengths
 

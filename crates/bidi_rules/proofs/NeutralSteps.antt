@@ -18,7 +18,7 @@ use Rattle.bidi_base.specs.Sequences.{level_at}
 use Rattle.bidi_base.specs.Source.{Source}
 use Rattle.bidi_base.specs.Text.{place, text_len, is_per_char, per_unit, IsLine}
 use Rattle.bidi_base.specs.Units.{bounds, are_ordered, in_runs, kept_in_place, units_in_runs, AreLines}
-use Rattle.bidi_base.proofs.NeutralLemmas.{direction_of-l_or_r, n0-resolved}
+use Rattle.bidi_base.proofs.NeutralLemmas.{n0-resolved}
 use Rattle.bidi_base.proofs.PermutationLemmas.{Ascends}
 use Rattle.bidi_base.proofs.PerCharTests.{class_eq, class_test}
 use Rattle.bidi_base.proofs.PlaceLemmas.{place-lt, place-end}
@@ -87,11 +87,6 @@ module _ (len_of : ℕ → ℕ) (h : HasUnits len_of) (chars : List ℕ) (runs :
       no_places : (ks : List ℕ) → map (place len_of chars) ks ≡ [] → ks ≡ []
       no_places [] e = refl
       no_places (k ∷ ks) e = absurd (cc e)
-
--- N0 over the classes of the characters
-pub paired-resolved : (e sos : BidiClass) (level : ℕ) (source classes : List BidiClass) (pairs : List (ℕ × ℕ)) → e ≡ direction_of level → is_l_or_r sos ≡ true → list_all is_weak_resolved classes ≡ true
-    → list_all is_weak_resolved (n0 e sos source pairs classes) ≡ true
-paired-resolved e sos level source classes pairs is side resolved = n0-resolved e sos source pairs classes (ap is_l_or_r is ∙ direction_of-l_or_r level) side resolved
 
 -- and then N1 and N2
 pub length-resolved : (e sos eos : BidiClass) (source classes : List BidiClass) (pairs : List (ℕ × ℕ)) → length (n1_n2 e sos eos (n0 e sos source pairs classes)) ≡ length classes

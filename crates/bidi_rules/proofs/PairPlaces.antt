@@ -11,12 +11,11 @@ use Rattle.bidi_base.specs.Classes.{as_direction, is_kept_in_place, stands_for}
 use Rattle.bidi_base.specs.Brackets.{IsBehindOrWithin, AreNestedPairs}
 use Rattle.bidi_base.specs.Neutral.{nearest_direction}
 use Rattle.bidi_base.specs.Places.{class_at}
-use Rattle.bidi_base.specs.Text.{text_len, IsPerChar}
+use Rattle.bidi_base.specs.Text.{IsPerChar}
 use Rattle.bidi_base.specs.Units.{bounds, in_runs, kept_in_place}
 use Rattle.bidi_base.proofs.NeutralLemmas.{nearest_direction-more}
 use Rattle.bidi_base.proofs.PlacesLemmas.{reverse-take_more}
 use Rattle.bidi_base.proofs.TextLemmas.{HasUnits}
-use Rattle.bidi_base.proofs.UnitsLemmas.{length-from_IsPerChar}
 use Rattle.bidi_rules.specs.NeutralPass.{values_of, IsReady}
 use Rattle.bidi_rules.specs.PairWalk.{spot, IsFirstFor, IsNearestBefore}
 use Rattle.bidi_rules.proofs.Spots.{length-values_of}
@@ -101,9 +100,6 @@ module _ (len_of : ℕ → ℕ) (h : HasUnits len_of) (chars : List ℕ) (runs :
 
   count : length cs ≡ length ks
   count = length-values_of len_of chars L now ks
-
-  size : length now ≡ text_len len_of chars
-  size = length-from_IsPerChar len_of chars now per
 
   class-is : (k : ℕ) → k < length ks → class_at cs k ≡ class_at now (at k)
   class-is = class-at len_of h chars old rs ready.lines ready.ordered now

@@ -1,5 +1,5 @@
 -- One run after another comes to its sequence.
-use Rattle.std.proofs.Common.{◌≡◌, ℕ, length, get_or, take, unwrap_or, sym, ap, ◌∙◌, arith}
+use Rattle.std.proofs.Common.{ℕ, length, get_or, take, unwrap_or, ap, ◌∙◌, arith}
 use Rattle.std.proofs.lemmas.List.{take_all}
 use Rattle.bidi_base.specs.declared.char_data.BidiClass.TheVariants.{L}
 use Rattle.bidi_base.specs.Places.{class_at}
