@@ -97,6 +97,61 @@ pub any_of-empty : (test : BidiClass → Bool) → any_of (record { bits = 0 }) 
 unfolding any_of
 any_of-empty test = refl
 
+-- ---- what two sets share
+
+class_of_number : (k : ℕ) → k < 23 → class_number (get_or every_class k L) ≡ k
+class_of_number k below = sym (get_or-map class_number every_class k L 0 below) ∙ get_or-range_with_len 0 23 k 0 below ∙ (let same : 0 + k ≡ k = omega arith in same)
+
+module _ (a b : ClassSet) (small : b.bits < 2 ^ 23) where
+  both_bits : (x y : ℕ) → x < 2 → y < 2 → (min x y == 1) ≡ ((x == 1) && (y == 1))
+  both_bits zero y h k = let none : min 0 y ≡ 0 = omega arith in ap (λ n. n == 1) none
+  both_bits (suc zero) zero h k = refl
+  both_bits (suc zero) (suc zero) h k = refl
+  both_bits (suc (suc x)) y h k = absurd (omega arith)
+  both_bits (suc zero) (suc (suc y)) h k = absurd (omega arith)
+
+  bit_of_both : (c : BidiClass) → (bit_at (bit_and a.bits b.bits) (class_number c) == 1) ≡ (has a c && has b c)
+  bit_of_both c =
+      ap (λ n. n == 1) (bit_at_and a.bits b.bits (class_number c))
+      ∙ both_bits (bit_at a.bits (class_number c)) (bit_at b.bits (class_number c)) (bit_at-lt _ _) (bit_at-lt _ _)
+
+  none_of : bit_and a.bits b.bits ≡ 0 → (c : BidiClass) → (has a c && has b c) ≡ false
+  none_of none c = sym (bit_of_both c) ∙ ap (λ n. bit_at n (class_number c) == 1) none ∙ ap (λ n. n == 1) (bit_at-zero (class_number c))
+
+  not_one : (x : ℕ) → x < 2 → (x == 1) ≡ false → x ≡ 0
+  not_one zero h e = refl
+  not_one (suc zero) h e = absurd (both_ways true e refl)
+  not_one (suc (suc x)) h e = absurd (omega arith)
+
+  -- a bit of both is that of a class
+  no_bit : list_any (λ c. has a c && has b c) every_class ≡ false → (k : ℕ) → bit_at (bit_and a.bits b.bits) k ≡ bit_at 0 k
+  no_bit none k = elim (cases_lt k 23) [
+    | inl below ↦
+        let c = get_or every_class k L in
+        let at : class_number c ≡ k = class_of_number k below in
+        let here : (has a c && has b c) ≡ false = elim (cases_Bool (has a c && has b c)) [
+          | inl some ↦ absurd (both_ways (list_any (λ d. has a d && has b d) every_class) none (list_any_at (λ d. has a d && has b d) every_class k L below some))
+          | inr other ↦ other
+        ] in
+        ap (bit_at (bit_and a.bits b.bits)) (sym at) ∙ not_one (bit_at (bit_and a.bits b.bits) (class_number c)) (bit_at-lt _ _) (bit_of_both c ∙ here) ∙ sym (bit_at-zero k)
+    | inr past ↦
+        bit_at_and a.bits b.bits k ∙ ap (min (bit_at a.bits k)) (bit_at_above b.bits 23 k small past) ∙ none_more (bit_at a.bits k) ∙ sym (bit_at-zero k)
+  ]
+    where
+      none_more : (x : ℕ) → min x 0 ≡ 0
+      none_more x = omega arith
+
+  -- the bits of both are none exactly if no class is in both
+  pub meets_any : not (bit_and a.bits b.bits == 0) ≡ any_of a (has b)
+  unfolding any_of
+  meets_any = elim (cases_Bool (list_any (λ c. has a c && has b c) every_class)) [
+    | inl some ↦
+        let other : (bit_and a.bits b.bits == 0) ≡ false =
+        apart_eqb (bit_and a.bits b.bits) 0 (λ none. both_ways (list_any (λ c. has a c && has b c) every_class) (list_any_none (λ c. has a c && has b c) every_class (λ k d within. none_of none (get_or every_class k d))) some) in
+        ap not other ∙ sym some
+    | inr none ↦ ap not (eq-eqb (bit_and a.bits b.bits) 0 (same_from_bits (bit_and a.bits b.bits) 0 (no_bit none))) ∙ sym none
+  ]
+
 -- ---- two sets
 
 pub union_has : (a b : ClassSet) (c : BidiClass) → (bit_at (bit_or a.bits b.bits) (class_number c) == 1) ≡ (has a c || has b c)
