@@ -15,6 +15,7 @@ pub mod OneDirection
 pub mod PairPlaces
 pub mod PairSteps
 pub mod PassOverText
+pub mod RowLemmas
 pub mod RunCutting
 pub mod RunJoined
 pub mod RunJoining

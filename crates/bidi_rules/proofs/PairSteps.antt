@@ -509,21 +509,21 @@ module _ (len_of : ℕ → ℕ) (h : HasUnits len_of) (chars : List ℕ) (origin
         let d_side : is_l_or_r d ≡ true = pair_direction-l_or_r e sos (cs_of now) (pair_at pairs k) d side ready.side takes in
         let i_fits : i < number = (let x = within in omega (arith, x.0, x.1)) in
         let long_now : length original ≡ length now = long ∙ length-from_IsPerChar len_of chars old ready.per_char ∙ sym now-size in
-        let mid_classes = bracket-classes len_of h chars original runs sos old ready now mid p.per_char p.kept d d_side i i_fits (spots i) first.0 refl long_now first.1 first.2 in
-        let mid_others = bracket-others len_of h chars original runs sos old ready now mid p.per_char p.kept d d_side i i_fits (spots i) first.0 refl long_now first.1 first.2 in
-        let mid_kept = bracket-kept len_of h chars original runs sos old ready now mid p.per_char p.kept d d_side i i_fits (spots i) first.0 refl long_now first.1 first.2 in
-        let mid_per = bracket-IsPerChar len_of h chars original runs sos old ready now mid p.per_char p.kept d d_side i i_fits (spots i) first.0 refl long_now first.1 first.2 in
+        let mid_classes = bracket-classes len_of h chars original runs sos old ready now mid p.per_char p.kept d d_side i i_fits (spots i) first.0 refl long_now first.1.0 first.1.1 in
+        let mid_others = bracket-others len_of h chars original runs sos old ready now mid p.per_char p.kept d d_side i i_fits (spots i) first.0 refl long_now first.1.0 first.1.1 in
+        let mid_kept = bracket-kept len_of h chars original runs sos old ready now mid p.per_char p.kept d d_side i i_fits (spots i) first.0 refl long_now first.1.0 first.1.1 in
+        let mid_per = bracket-IsPerChar len_of h chars original runs sos old ready now mid p.per_char p.kept d d_side i i_fits (spots i) first.0 refl long_now first.1.0 first.1.1 in
         let long_mid : length original ≡ length mid = long ∙ length-from_IsPerChar len_of chars old ready.per_char ∙ sym (length-from_IsPerChar len_of chars mid mid_per) in
-        let new_classes = bracket-classes len_of h chars original runs sos old ready mid new mid_per mid_kept d d_side j within.1 (spots j) last.0 refl long_mid last.1 last.2 in
+        let new_classes = bracket-classes len_of h chars original runs sos old ready mid new mid_per mid_kept d d_side j within.1 (spots j) last.0 refl long_mid last.1.0 last.1.1 in
         let both : cs_of new ≡ n0_pair e sos from_sources (cs_of now) (pair_at pairs k) =
         new_classes ∙ ap (λ (cs : List BidiClass). with_bracket from_sources j cs d) mid_classes ∙ sym (n0_pair-Some e sos from_sources (cs_of now) (pair_at pairs k) d takes) in
         let count = length-values_of len_of chars L now (kept_in_place len_of chars old (map bounds runs)) in
         record {
           done = record {
             paired = both ∙ ap (λ (cs : List BidiClass). n0_pair e sos from_sources cs (pair_at pairs k)) p.paired ∙ sym (n0-more e sos from_sources (cs_of old) pairs k (0, 0) fits);
-            kept = bracket-kept len_of h chars original runs sos old ready mid new mid_per mid_kept d d_side j within.1 (spots j) last.0 refl long_mid last.1 last.2;
-            others = λ u plain. bracket-others len_of h chars original runs sos old ready mid new mid_per mid_kept d d_side j within.1 (spots j) last.0 refl long_mid last.1 last.2 u plain ∙ mid_others u plain ∙ p.others u plain;
-            per_char = bracket-IsPerChar len_of h chars original runs sos old ready mid new mid_per mid_kept d d_side j within.1 (spots j) last.0 refl long_mid last.1 last.2;
+            kept = bracket-kept len_of h chars original runs sos old ready mid new mid_per mid_kept d d_side j within.1 (spots j) last.0 refl long_mid last.1.0 last.1.1;
+            others = λ u plain. bracket-others len_of h chars original runs sos old ready mid new mid_per mid_kept d d_side j within.1 (spots j) last.0 refl long_mid last.1.0 last.1.1 u plain ∙ mid_others u plain ∙ p.others u plain;
+            per_char = bracket-IsPerChar len_of h chars original runs sos old ready mid new mid_per mid_kept d d_side j within.1 (spots j) last.0 refl long_mid last.1.0 last.1.1;
           };
           embedding_is = e_is;
           opposite_is = o_is;

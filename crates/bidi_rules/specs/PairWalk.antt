@@ -8,6 +8,7 @@ use Rattle.bidi_rules.specs.WeakWalk.{is_seen, IsWrittenOver}
 use Rattle.bidi_base.specs.Places.{class_at}
 use Rattle.bidi_base.specs.Units.{in_runs}
 use Rattle.bidi_rules.specs.declared.implicit.neutral.pairs.PairWalk.{PairWalk}
+use Rattle.bidi_rules.specs.declared.implicit.neutral.pairs.Row.{Row}
 
 -- the first unit of some ranges from `from` on and below `to` that stands for a direction, or else `to`
 pub record IsFirstFor (direction : BidiClass) (runs : List (ℕ × ℕ)) (units : List BidiClass) (from to u : ℕ) : Type 0 where
@@ -61,7 +62,17 @@ pub record IsTaken (before : BidiClass) (runs : List (ℕ × ℕ)) (units : List
   pub nearest : embedding ≡ false → opposite ≡ true → IsNearestBefore before runs units opening context
   pub is : taken ≡ (if embedding then Some walk.embedding.direction else (if opposite then Some context else None))
 
--- a bracket and the marks behind it have a direction, where the k-th character comes behind the bracket
+-- a bracket and the marks behind it have a direction, where the k-th character comes behind the bracket, and the marks end at `end`
+abbrev pub IsSetUpTo : (ℕ → ℕ) → List ℕ → List (ℕ × ℕ) → List BidiClass → BidiClass → ℕ → ℕ → ℕ → List BidiClass → List BidiClass → Type 0
+IsSetUpTo len_of chars runs original d bracket k end old new = IsMarksEnd len_of chars runs original old (place len_of chars k) end × IsWrittenOver (is_seen runs old) d bracket end old new
+
+-- and they end somewhere
 abbrev pub IsSet : (ℕ → ℕ) → List ℕ → List (ℕ × ℕ) → List BidiClass → BidiClass → ℕ → ℕ → List BidiClass → List BidiClass → Type 0
-IsSet len_of chars runs original d bracket k old new =
-    (end : ℕ) × IsMarksEnd len_of chars runs original old (place len_of chars k) end × IsWrittenOver (is_seen runs old) d bracket end old new
+IsSet len_of chars runs original d bracket k old new = (end : ℕ) × IsSetUpTo len_of chars runs original d bracket k end old new
+
+-- where a row was written last: all of it has its direction, and behind its first unit only marks stand
+pub record IsRow (len_of : ℕ → ℕ) (chars : List ℕ) (runs : List (ℕ × ℕ)) (original units : List BidiClass) (row : Row) : Type 0 where
+  pub written : (u : ℕ) → row.from ≤ u → u < row.end → is_seen runs units u ≡ true → class_at units u ≡ row.direction
+  pub marks : (k : ℕ) → row.from < place len_of chars k → place len_of chars k < row.end → is_seen runs units (place len_of chars k) ≡ true → is_nsm (class_at original (place len_of chars k)) ≡ true
+  pub stops : row.from < row.end → row.end < length units → (k : ℕ) × (row.end ≡ place len_of chars k) × (is_seen runs units row.end ≡ true) × (is_nsm (class_at original row.end) ≡ false)
+  pub within : row.end ≤ length units

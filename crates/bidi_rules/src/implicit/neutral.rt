@@ -249,8 +249,8 @@ impl NeutralResolver {
 /// memory alone, all classes are as they were. [`NeutralResolver`] does the same for many sequences
 /// with the same memory.
 ///
-/// The cost is linear in the sequence, but where the data source calls brackets themselves nonspacing
-/// marks: then a row of marks is gone over once for each bracket of a pair before it or in it.
+/// The cost is linear in the sequence. Where the data source calls brackets themselves nonspacing
+/// marks, a row of marks is gone over a few times for each of the 63 pairs that can be open at once.
 pub fn resolve_neutral<D: BidiDataSource, T: TextSource>(
     alloc: Global,
     text: T,

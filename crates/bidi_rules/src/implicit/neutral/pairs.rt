@@ -6,7 +6,7 @@ ghost use Rattle.bidi_base.specs.Classes.{is_l_or_r, is_nsm};
 ghost use Rattle.bidi_base.specs.Text.{is_boundary, place, text_len};
 ghost use Rattle.bidi_base.specs.Units.{bounds, are_ordered, kept_in_place, AreLines};
 ghost use Rattle.bidi_rules.specs.NeutralPass.{IsPaired, IsReady};
-ghost use Rattle.bidi_rules.specs.PairWalk.{at_spots, opposite_of, IsAsked, IsSet, IsTaken};
+ghost use Rattle.bidi_rules.specs.PairWalk.{at_spots, opposite_of, IsAsked, IsRow, IsSet, IsSetUpTo, IsTaken};
 
 use super::directions::Directions;
 use super::marks::{end_of, marks_end};
@@ -23,7 +23,8 @@ use bidi_base::text::TextSource;
 /// direction stands inside: then the opening takes a direction, and no later search goes past it.
 /// What stands inside is known from two places that only go forwards. Only a pair whose opening is a
 /// nonspacing mark by its original class is looked through by itself, since it may stand among the
-/// marks that another pair changed.
+/// marks that another pair changed. Brackets among marks that have their direction already are not
+/// written again, so a row of marks is not gone over for each bracket in it.
 pub fn resolve_pairs<T: TextSource>(
     text: T,
     directions: Directions,
@@ -43,6 +44,7 @@ pub fn resolve_pairs<T: TextSource>(
         → IsPaired T.units (T.characters text) original_classes.now classes.old classes.new runs.now directions.embedding directions.sos found }
 {
     let mut walk = PairWalk::new(directions.embedding);
+    let mut row = Row::new(directions.embedding);
     for pair in pairs {
         let (opening, closing) = *pair;
         let inside = end_of(text, opening);
@@ -57,8 +59,8 @@ pub fn resolve_pairs<T: TextSource>(
             closing,
         );
         if let Some(direction) = taken {
-            set_direction(text, runs, original_classes, classes, opening, direction);
-            set_direction(text, runs, original_classes, classes, closing, direction);
+            row.set_direction(text, runs, original_classes, classes, opening, direction);
+            row.set_direction(text, runs, original_classes, classes, closing, direction);
         }
     }
 }
@@ -179,7 +181,63 @@ impl PairWalk {
     }
 }
 
+/// A bracket and the nonspacing marks directly behind it, as they were written last.
+#[derive(Clone, Copy, Debug)]
+struct Row {
+    from: usize,
+    /// Where the marks end.
+    end: usize,
+    direction: BidiClass,
+}
+
+impl Row {
+    /// No row yet.
+    fn new(direction: BidiClass) -> Row
+        ensures { result ≡ record { from = 0; end = 0; direction = direction } }
+    {
+        Row {
+            from: 0,
+            end: 0,
+            direction,
+        }
+    }
+
+    /// Gives a bracket a direction, and the nonspacing marks directly behind it by their original
+    /// classes. They are the row from then on.
+    fn set_direction<T: TextSource>(
+        &mut self,
+        text: T,
+        runs: &[LevelRun],
+        original_classes: &[BidiClass],
+        classes: &mut [BidiClass],
+        bracket: usize,
+        direction: BidiClass,
+    )
+        requires lines { AreLines T.units (T.characters text) (map bounds runs.now) }
+        requires ordered { IsTrue (are_ordered (map bounds runs.now)) }
+        requires long { length classes.old ≡ text_len T.units (T.characters text) }
+        requires original { length original_classes.now ≡ length classes.old }
+        requires begins { IsTrue (is_boundary T.units (T.characters text) bracket) }
+        requires inside { bracket < text_len T.units (T.characters text) }
+        requires row { IsRow T.units (T.characters text) (map bounds runs.now) original_classes.now classes.old self.old }
+        ensures set { (k : ℕ) → k < length (T.characters text) → bracket ≡ place T.units (T.characters text) k
+            → IsSet T.units (T.characters text) (map bounds runs.now) original_classes.now direction bracket (k + 1) classes.old classes.new }
+        ensures row { IsRow T.units (T.characters text) (map bounds runs.now) original_classes.now classes.new self.new }
+    {
+        if self.from <= bracket && bracket < self.end && self.direction == direction {
+            return;
+        }
+        let end = set_direction(text, runs, original_classes, classes, bracket, direction);
+        *self = Row {
+            from: bracket,
+            end,
+            direction,
+        };
+    }
+}
+
 /// Gives a bracket a direction, and the nonspacing marks directly behind it by their original classes.
+/// Answers where the marks end.
 fn set_direction<T: TextSource>(
     text: T,
     runs: &[LevelRun],
@@ -187,7 +245,7 @@ fn set_direction<T: TextSource>(
     classes: &mut [BidiClass],
     bracket: usize,
     direction: BidiClass,
-)
+) -> usize
     requires lines { AreLines T.units (T.characters text) (map bounds runs.now) }
     requires ordered { IsTrue (are_ordered (map bounds runs.now)) }
     requires long { length classes.old ≡ text_len T.units (T.characters text) }
@@ -195,10 +253,11 @@ fn set_direction<T: TextSource>(
     requires begins { IsTrue (is_boundary T.units (T.characters text) bracket) }
     requires inside { bracket < text_len T.units (T.characters text) }
     ensures { (k : ℕ) → k < length (T.characters text) → bracket ≡ place T.units (T.characters text) k
-        → IsSet T.units (T.characters text) (map bounds runs.now) original_classes.now direction bracket (k + 1) classes.old classes.new }
+        → IsSetUpTo T.units (T.characters text) (map bounds runs.now) original_classes.now direction bracket (k + 1) result classes.old classes.new }
 {
     let inside = end_of(text, bracket);
     let later = &runs[run_of(runs, bracket)..];
     let end = marks_end(text, later, original_classes, classes, inside);
     write_over_runs(later, classes, bracket, end, direction);
+    end
 }

@@ -44,4 +44,4 @@ returns g c = λ k within there.
     (subst (λ u. IsMarksEnd len_of chars (drop r rs) a.original_classes.now a.classes.now u end) inside
     (subst (λ (qs : List (ℕ × ℕ)). IsMarksEnd len_of chars qs a.original_classes.now a.classes.now c.end_of-inside.result end) same c.marks_end-end.ensures))
     (subst (λ (qs : List (ℕ × ℕ)). IsWrittenOver (is_seen qs a.classes.now) a.direction a.bracket end a.classes.now c.write_over_runs.new.classes) same c.write_over_runs.ensures) in
-    (end, set.0, set.1)
+    set
