@@ -1,6 +1,8 @@
 pub mod CharEnds
+pub mod CountBelow
 pub mod ExplicitUnits
 pub mod FirstKept
+pub mod FoldAny
 pub mod Gathered
 pub mod InRuns
 pub mod KeptRangeLemmas

@@ -7,12 +7,12 @@ use Rattle.std.proofs.lemmas.List.{reverse-append, length-reverse, length-map}
 use Rattle.bidi_base.specs.declared.char_data.BidiClass.{BidiClass}
 use Rattle.bidi_base.specs.declared.char_data.BidiClass.TheVariants.{LRE, LRO, RLE, RLO, PDF, LRI, RLI, FSI}
 use Rattle.bidi_base.specs.Classes.{is_initiator, is_opener, is_pdi, is_pdf}
-use Rattle.bidi_base.specs.StatusMachine.{State, entry_of, taken, refused, entered, fits_in, with_stack, drop_isolate, close_isolate, close_embedding, closed, opened, IsPoppable, IsWithinDepth}
+use Rattle.bidi_base.specs.StatusMachine.{Entry, State, entry_of, taken, refused, entered, fits_in, with_stack, drop_isolate, close_isolate, close_embedding, closed, opened, IsPoppable, IsWithinDepth}
 use Rattle.bidi_base.specs.Explicit.{asked_level, override_of}
 use Rattle.bidi_base.proofs.StatusBounds.{IsTaken-room}
 use Rattle.bidi_base.proofs.StatusMachine.{refused-initiator, refused-embedding, refused-inside}
 use Rattle.bidi_rules.specs.declared.explicit.status.StatusEntry.{StatusEntry}
-use Rattle.bidi_rules.specs.Status.{seen, empty_state, state_by}
+use Rattle.bidi_rules.specs.Status.{entry_count, seen, empty_state, state_by}
 
 -- the counts of a state do not turn on its stack
 pub state_by-counts : (xs : List StatusEntry) (i e v : ℕ) → ((state_by xs i e v).overflow_isolates ≡ i) × ((state_by xs i e v).overflow_embeddings ≡ e) × ((state_by xs i e v).valid_isolates ≡ v)
@@ -135,6 +135,57 @@ pub entered_inside : (c : BidiClass) (s : State) (xs : List StatusEntry) (i e v 
 entered_inside c s xs i e v is fails other some =
     let count : s.overflow_isolates ≡ i = ap (λ (t : State). t.overflow_isolates) (sym is) ∙ (state_by-counts xs i e v).0 in
     sym (entered_refused c s fails ∙ refused-inside c s other (omega arith))
+
+-- how many entries there are
+entry_count-cond : (b : Bool) (s t : State) (n : ℕ) → entry_count s ≤ n → entry_count t ≤ n → entry_count (cond b s t) ≤ n
+entry_count-cond true s t n h k = h
+entry_count-cond false s t n h k = k
+
+entry_count-with_stack : (s : State) (es : List Entry) (n : ℕ) → entry_count s ≤ n → length es ≤ n → entry_count (with_stack s es) ≤ n
+entry_count-with_stack s [] n h k = h
+entry_count-with_stack s (e ∷ es) n h k = omega arith
+
+length-either : (b : Bool) (xs ys : List Entry) (n : ℕ) → length xs ≤ n → length ys ≤ n → length (cond b xs ys) ≤ n
+length-either true xs ys n h k = h
+length-either false xs ys n h k = k
+
+length-drop_isolate : (es : List Entry) → length (drop_isolate es) ≤ length es
+length-drop_isolate [] = omega arith
+length-drop_isolate (e ∷ es) = length-either e.is_isolate es (drop_isolate es) (suc (length es)) (omega arith) (omega (arith, length-drop_isolate es))
+
+pub entry_count-close_isolate : (s : State) → entry_count (close_isolate s) ≤ entry_count s
+unfolding close_isolate
+entry_count-close_isolate s =
+    let n = entry_count s in
+    let same : entry_count s ≤ n = omega arith in
+    entry_count-cond (ltb 0 s.overflow_isolates) _ _ n same
+    (entry_count-cond (eqb s.valid_isolates 0) s _ n same
+    (entry_count-with_stack (record s { overflow_embeddings = 0; valid_isolates = s.valid_isolates - 1 }) (drop_isolate (s.top ∷ s.below)) n same (omega (arith, length-drop_isolate (s.top ∷ s.below)))))
+
+pub entry_count-close_embedding : (s : State) → entry_count (close_embedding s) ≤ entry_count s
+unfolding close_embedding
+entry_count-close_embedding s =
+    let n = entry_count s in
+    let same : entry_count s ≤ n = omega arith in
+    entry_count-cond (ltb 0 s.overflow_isolates) s _ n same
+    (entry_count-cond (ltb 0 s.overflow_embeddings) _ _ n same
+    (entry_count-cond s.top.is_isolate s _ n same
+    (entry_count-with_stack s s.below n same (omega arith))))
+
+pub entry_count-opened : (c : BidiClass) (s : State) → entry_count (opened c s) ≤ entry_count s + 1
+unfolding opened entered
+entry_count-opened c s =
+    let n = entry_count s + 1 in
+    let same : entry_count s ≤ n = omega arith in
+    entry_count-cond (is_opener c) _ s n
+    (entry_count-cond (fits_in c s) (taken c s) (refused c s) n (omega arith)
+    (entry_count-cond (is_initiator c) _ _ n same
+    (entry_count-cond (eqb s.overflow_isolates 0) _ s n same same))) same
+
+pub entry_count-state_by : (xs : List StatusEntry) (i e v : ℕ) → 0 < length xs → entry_count (state_by xs i e v) ≡ length xs
+entry_count-state_by xs i e v some = omega (arith, state_by-length xs i e v some)
+
+pub ruleset entry_counts = (entry_count-close_embedding, entry_count-opened)
 
 -- by class
 pub closed-pdi : (c : BidiClass) (s : State) → is_pdi c ≡ true → closed c s ≡ close_isolate s

@@ -15,7 +15,8 @@ use Rattle.bidi_base.specs.Places.{at_places, class_at}
 use Rattle.bidi_base.specs.Weak.{carried}
 use Rattle.bidi_base.proofs.StoredLemmas.{at_places-append}
 use Rattle.bidi_rules.specs.WeakPass.{marked, after_w1}
-use Rattle.bidi_rules.specs.WeakWalk.{is_seen, part_of, is_any, seen_from, seen_units, AreMarked, IsMarked}
+use Rattle.bidi_rules.specs.WeakWalk.{is_seen, part_of, is_any, is_any_of, seen_from, seen_units, AreMarked, IsMarked}
+use Rattle.bidi_rules.proofs.FoldAny.{fold_any}
 use Rattle.bidi_rules.proofs.InRuns.{in_run, in_run-true, start_or, start_within, gap_before, gap_after, next_start}
 use Rattle.bidi_rules.proofs.Marks.{marked-none, marked-parts, marked-empty, marked-one, at_marked-same}
 
@@ -138,11 +139,11 @@ in_part test units start end u fits from below none =
 pub is_any-none : (test : BidiClass → Bool) (runs : List (Range ℕ)) (units : List BidiClass) → All (λ r. r.1 ≤ length units) (map bounds runs) → is_any test runs units ≡ false → (u : ℕ) → in_runs (map bounds runs) u ≡ true → test (class_at units u) ≡ false
 is_any-none test [] units within none u inside = absurd (both_ways false refl inside)
 is_any-none test (r ∷ runs) units within none u inside =
-    let parts = or_parts (list_any test (part_of units (bounds r))) (is_any test runs units) none in
+    let parts = or_parts (is_any_of test (part_of units (bounds r))) (is_any test runs units) none in
     elim (or_cases (in_run (bounds r) u) (in_runs (map bounds runs) u) inside) [
       | inl here ↦
           let ends = in_run-true (bounds r) u here in
-          in_part test units r.start r.end u (All-head (λ (q : ℕ × ℕ). q.1 ≤ length units) (bounds r) (map bounds runs) within) ends.0 ends.1 parts.0
+          in_part test units r.start r.end u (All-head (λ (q : ℕ × ℕ). q.1 ≤ length units) (bounds r) (map bounds runs) within) ends.0 ends.1 (sym (fold_any test (part_of units (bounds r))) ∙ parts.0)
       | inr later ↦ is_any-none test runs units (All-tail (λ (q : ℕ × ℕ). q.1 ≤ length units) (bounds r) (map bounds runs) within) parts.1 u later
     ]
 

@@ -51,7 +51,7 @@ stays-row : (n : ℕ) (v : BidiClass) → left_over v ≡ v → map left_over (r
 stays-row zero v h = refl
 stays-row (suc n) v h = rw h (ap (λ (cs : List BidiClass). v ∷ cs) (stays-row n v h))
 
-joins-waits : (z : BidiClass) (before : Before) → joins z before ≡ true → (waits before ≡ true) × (waits (next_before z before) ≡ true)
+pub joins-waits : (z : BidiClass) (before : Before) → joins z before ≡ true → (waits before ≡ true) × (waits (next_before z before) ≡ true)
 joins-waits ET Terminators h = (refl, refl)
 joins-waits ET _ h = absurd (cc h)
 joins-waits _ before h = absurd (cc h)
@@ -334,7 +334,7 @@ is_passed ET strong before h other = absurd (cc h)
 is_passed _ strong Other h other = record { apart = refl; next = refl; free = refl; own = refl; none = λ n. refl }
 is_passed _ strong _ h other = absurd (cc other)
 
-other-free : (before : Before) → is_other before ≡ true → waits before ≡ false
+pub other-free : (before : Before) → is_other before ≡ true → waits before ≡ false
 other-free Other h = refl
 other-free _ h = absurd (cc h)
 

@@ -1,5 +1,5 @@
 -- The status stack in code as the state of the machine.
-use Rattle.std.specs.Prelude.{ℕ, false, List, [], map, None}
+use Rattle.std.specs.Prelude.{ℕ, ◌+◌, false, List, [], length, map, None}
 use Rattle.bidi_base.specs.StatusMachine.{Entry, State, with_stack}
 use Rattle.bidi_rules.specs.declared.explicit.status.StatusEntry.{StatusEntry}
 
@@ -19,3 +19,7 @@ empty_state isolates embeddings valid = record {
 -- entries, innermost first, and the counts
 abbrev pub state_by : List StatusEntry → ℕ → ℕ → ℕ → State
 state_by entries isolates embeddings valid = with_stack (empty_state isolates embeddings valid) (map seen entries)
+
+-- how many entries the stack has
+abbrev pub entry_count : State → ℕ
+entry_count s = length s.below + 1

@@ -1,6 +1,6 @@
 -- The weak passes over units in place: what each has done once it read some units of a slice.
-use Rattle.std.specs.Prelude.{◌≡◌, ℕ, ◌+◌, ◌-◌, ◌<◌, ◌≤◌, Bool, true, false, ◌&&◌, List, ◌++◌, length, map, filter, get_or, min, slice_range}
-use Rattle.std.specs.List.{list_any}
+use Rattle.std.specs.Prelude.{◌≡◌, ℕ, ◌+◌, ◌-◌, ◌<◌, ◌≤◌, Bool, true, false, ◌&&◌, ◌||◌, if◌then◌else◌, List, ◌++◌, length, map, filter, get_or, min, slice_range, sum_by}
+use Rattle.std.specs.List.{fold, list_any}
 use Rattle.std.specs.Option.{option_map_or}
 use Rattle.std.specs.declared.ops.Range.{Range}
 use Rattle.bidi_base.specs.declared.char_data.BidiClass.{BidiClass}
@@ -29,9 +29,13 @@ pub record IsWrittenOver (test : ℕ → Bool) (class : BidiClass) (from to : �
 abbrev pub part_of : List BidiClass → ℕ × ℕ → List BidiClass
 part_of units r = let end = min r.1 (length units) in slice_range units (min r.0 end) end
 
+-- one of some classes passes the test
+abbrev pub is_any_of : (BidiClass → Bool) → List BidiClass → Bool
+is_any_of test classes = fold (λ found class. found || test class) false classes
+
 -- one in some ranges passes the test
 abbrev pub is_any : (BidiClass → Bool) → List (Range ℕ) → List BidiClass → Bool
-is_any test runs units = list_any (λ run. list_any test (part_of units (bounds run))) runs
+is_any test runs units = list_any (λ run. is_any_of test (part_of units (bounds run))) runs
 
 -- the seen units from `low` up to `high`, and all of them
 abbrev pub seen_from : List (ℕ × ℕ) → List BidiClass → ℕ → ℕ → List ℕ
@@ -121,6 +125,20 @@ pub record IsWhole (len : ℕ → ℕ) (classes : List BidiClass) (end u : ℕ) 
   pub some : 1 ≤ len u
   pub within : u + len u ≤ end
   pub alike : (k : ℕ) → u ≤ k → k < u + len u → class_at classes k ≡ class_at classes u
+
+-- how many units of some ranges lie below u
+unfoldable pub count_below : List (ℕ × ℕ) → ℕ → ℕ
+count_below runs u = sum_by (λ r. min r.1 u - min r.0 u) runs
+
+-- what waits, if something does, begins below u, in the run that the walk names or before
+pub record WaitsBelow (runs : List (ℕ × ℕ)) (w : Walk) (u : ℕ) : Type 0 where
+  pub first_run : w.first_run ≤ length runs
+  pub first : waits w.before ≡ true → w.first < u
+  pub run : waits w.before ≡ true → w.first < (get_or runs w.first_run (0, 0)).1
+
+-- the units below this one are settled, where those below u are read
+abbrev pub settled_to : Walk → ℕ → ℕ
+settled_to w u = if waits w.before then w.first else u
 
 -- W2, W4, W5 and W7 are done, but for what W3 and W6 make of what is left
 pub record IsWalked (len : ℕ → ℕ) (runs : List (ℕ × ℕ)) (sos : BidiClass) (old new : List BidiClass) : Type 0 where

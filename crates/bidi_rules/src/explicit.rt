@@ -1,7 +1,7 @@
 //! Explicit levels and directions (X1 to X8), and level runs (BD7), in place over the units of one
 //! paragraph.
 
-ghost use Rattle.std.specs.Prelude.{◌≡◌, ℕ, ◌+◌, ◌≤◌, ◌||◌, [], if◌then◌else◌, length, map, unwrap_or, IsTrue, OnOk, IfOk};
+ghost use Rattle.std.specs.Prelude.{◌≡◌, ℕ, ◌+◌, ◌*◌, ◌≤◌, ◌||◌, [], if◌then◌else◌, length, map, unwrap_or, IsTrue, OnOk, IfOk};
 ghost use Rattle.bidi_base.specs.declared.char_data.BidiClass.TheVariants.{L, BN};
 ghost use Rattle.bidi_base.specs.Classes.{is_paragraph_separator, is_removed};
 ghost use Rattle.bidi_base.specs.Explicit.{explicit_levels, processing_classes as processing_classes_of};
@@ -11,12 +11,14 @@ ghost use Rattle.bidi_rules.specs.ExplicitPass.{filled, runs_before, run_start a
 
 mod status;
 
-use crate::prepare::{LevelRunVec, not_removed_by_x9};
+use crate::prepare::{LevelRunVec, Steps, not_removed_by_x9};
 use bidi_base::char_data::BidiClass;
 use bidi_base::level::Level;
 use bidi_base::text::TextSource;
 use status::StatusStack;
 use std::alloc::{AllocError, Global};
+use std::marker::Brand;
+use std::sync::ledger::{Blank, Ledger};
 
 // The level of a character, where `level` holds at its place (X8).
 fn own_level(para_level: Level, class: BidiClass, level: Level) -> Level
@@ -47,9 +49,10 @@ fn own_class(class: BidiClass, override_class: Option<BidiClass>) -> BidiClass
     }
 }
 
-// Writes a value to `len` units from `start` on. A character has few, so they are written one by one.
-fn fill<X: Copy>(units: &mut [X], start: usize, len: usize, value: X)
-    requires { start + len ≤ length units.old }
+// Writes a value to `len` units from `start` on, three at most.
+fn fill_few<X: Copy>(units: &mut [X], start: usize, len: usize, value: X)
+    requires few { len ≤ 3 }
+    requires within { start + len ≤ length units.old }
     ensures { units.new ≡ filled start len value units.old }
 {
     match len {
@@ -63,15 +66,12 @@ fn fill<X: Copy>(units: &mut [X], start: usize, len: usize, value: X)
             units[start + 1] = value;
             units[start + 2] = value;
         }
-        _ => {
-            for unit in 0..len {
-                units[start + unit] = value;
-            }
-        }
+        _ => {}
     }
 }
 
-// Writes the level and the class of a character to each of its units.
+// Writes the level and the class of a character to each of its units. Most characters have few, which
+// are written one by one.
 fn write(
     levels: &mut [Level],
     classes: &mut [BidiClass],
@@ -85,8 +85,13 @@ fn write(
     ensures levels { levels.new ≡ filled start len level levels.old }
     ensures classes { classes.new ≡ filled start len class classes.old }
 {
-    fill(levels, start, len, level);
-    fill(classes, start, len, class);
+    if len <= 3 {
+        fill_few(levels, start, len, level);
+        fill_few(classes, start, len, class);
+    } else {
+        levels[start..start + len].fill(level);
+        classes[start..start + len].fill(class);
+    }
 }
 
 // Ends the level run that began at `run_start`, where the kept character at `start` has another
@@ -118,7 +123,7 @@ fn cut_run(
 /// from that of the kept character before it; the runs cover the text. After a refusal the slices
 /// and the runs hold any values.
 pub fn compute<T: TextSource>(
-    _alloc: Global,
+    alloc: Global,
     text: T,
     para_level: Level,
     original_classes: &[BidiClass],
@@ -135,13 +140,87 @@ pub fn compute<T: TextSource>(
     ensures classes { let stored = per_char L T.units (T.characters text) original_classes.now in OnOk result (processing_classes.new ≡ per_unit T.units (T.characters text) (processing_classes_of para_level stored)) }
     ensures runs { let stored = per_char L T.units (T.characters text) original_classes.now in OnOk result (map bounds runs.new.items ≡ level_run_ranges T.units (T.characters text) stored (explicit_levels para_level stored)) }
 {
+    compute_fresh::<T, Brand>(
+        alloc,
+        text,
+        para_level,
+        original_classes,
+        levels,
+        processing_classes,
+        runs,
+        Blank::new(1),
+    )
+}
+
+// The same by a new count of steps.
+fn compute_fresh<T: TextSource, S: Ledger>(
+    alloc: Global,
+    text: T,
+    para_level: Level,
+    original_classes: &[BidiClass],
+    levels: &mut [Level],
+    processing_classes: &mut [BidiClass],
+    runs: &mut LevelRunVec,
+    blank: Blank,
+) -> Result<(), AllocError>
+    requires explicit { para_level ≤ 125 }
+    requires original { IsTrue (is_per_char ⟦<BidiClass as PartialEq>⟧.eq T.units (T.characters text) original_classes.now) }
+    requires levels { length levels.old ≡ length original_classes.now }
+    requires processing { processing_classes.old ≡ original_classes.now }
+    requires runs { runs.old.items ≡ [] }
+    requires name { blank.name ≡ S.name }
+    requires parts { blank.parts ≡ S.parts }
+    requires one { blank.parts ≡ 1 }
+    ensures levels { let stored = per_char L T.units (T.characters text) original_classes.now in OnOk result (levels.new ≡ per_unit T.units (T.characters text) (explicit_levels para_level stored)) }
+    ensures classes { let stored = per_char L T.units (T.characters text) original_classes.now in OnOk result (processing_classes.new ≡ per_unit T.units (T.characters text) (processing_classes_of para_level stored)) }
+    ensures runs { let stored = per_char L T.units (T.characters text) original_classes.now in OnOk result (map bounds runs.new.items ≡ level_run_ranges T.units (T.characters text) stored (explicit_levels para_level stored)) }
+{
+    let mut steps = Steps::<S>::new(blank);
+    compute_counted(
+        alloc,
+        text,
+        para_level,
+        original_classes,
+        levels,
+        processing_classes,
+        runs,
+        &mut steps,
+    )
+}
+
+/// The same as [`compute`], where each turn of a loop, here and in what is called, counts in `steps`: at
+/// least one for each character of the paragraph, and at most four. The turns that empty the status
+/// stack at a PDI are paid by the openers that filled it. Calls of the text and of the library have no
+/// turns.
+pub fn compute_counted<T: TextSource, S: Ledger>(
+    _alloc: Global,
+    text: T,
+    para_level: Level,
+    original_classes: &[BidiClass],
+    levels: &mut [Level],
+    processing_classes: &mut [BidiClass],
+    runs: &mut LevelRunVec,
+    steps: &mut Steps<S>,
+) -> Result<(), AllocError>
+    requires explicit { para_level ≤ 125 }
+    requires original { IsTrue (is_per_char ⟦<BidiClass as PartialEq>⟧.eq T.units (T.characters text) original_classes.now) }
+    requires levels { length levels.old ≡ length original_classes.now }
+    requires processing { processing_classes.old ≡ original_classes.now }
+    requires runs { runs.old.items ≡ [] }
+    ensures levels { let stored = per_char L T.units (T.characters text) original_classes.now in OnOk result (levels.new ≡ per_unit T.units (T.characters text) (explicit_levels para_level stored)) }
+    ensures classes { let stored = per_char L T.units (T.characters text) original_classes.now in OnOk result (processing_classes.new ≡ per_unit T.units (T.characters text) (processing_classes_of para_level stored)) }
+    ensures runs { let stored = per_char L T.units (T.characters text) original_classes.now in OnOk result (map bounds runs.new.items ≡ level_run_ranges T.units (T.characters text) stored (explicit_levels para_level stored)) }
+    ensures at_least { OnOk result (steps.old + length (T.characters text) ≤ steps.new) }
+    ensures at_most { OnOk result (steps.new ≤ steps.old + 4 * length (T.characters text)) }
+{
     let units = text.len();
     let mut stack = StatusStack::new(para_level);
     let mut run_start = 0;
     let mut last_level = None;
     for (start, len) in text.indices_lengths() {
+        steps.tick();
         let class = original_classes[start];
-        let status = stack.read(class);
+        let status = stack.read(class, steps);
         let level = own_level(para_level, class, status.level);
         write(
             levels,

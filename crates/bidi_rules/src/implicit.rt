@@ -11,7 +11,7 @@ mod weak;
 use bidi_base::char_data::BidiClass::{self, BN};
 pub use levels::resolve_levels;
 pub use neutral::{NeutralResolver, resolve_neutral};
-pub use weak::{resolve_weak, resolve_weak_lent};
+pub use weak::{resolve_weak, resolve_weak_counted, resolve_weak_lent};
 
 /// Whether the passes in place take characters of this class as kept: all but BN, which stands for
 /// what X9 removed.

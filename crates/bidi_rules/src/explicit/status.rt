@@ -5,12 +5,14 @@ ghost use Rattle.std.specs.Result.{OkIff};
 ghost use Rattle.bidi_base.specs.Classes.{is_initiator};
 ghost use Rattle.bidi_base.specs.Explicit.{asked_level, override_of};
 ghost use Rattle.bidi_base.specs.StatusMachine.{State, start, entered, closed, opened, step, fits_in, close_isolate, close_embedding, drop_isolate, counted, IsWithinDepth, IsPoppable};
-ghost use Rattle.bidi_rules.specs.Status.{seen, state_by};
+ghost use Rattle.bidi_rules.specs.Status.{entry_count, seen, state_by};
 
+use crate::prepare::Steps;
 use arrayvec::ArrayVec;
 use bidi_base::char_data::{BidiClass, is_rtl};
 use bidi_base::level::{Error, LTR_LEVEL, Level};
 use std::marker::Model;
+use std::sync::ledger::Ledger;
 
 /// What holds inside an opener that was taken.
 #[derive(Clone, Copy)]
@@ -70,11 +72,14 @@ fn asked(class: BidiClass, level: Level) -> Result<Level, Error>
     }
 }
 
-// Pops down to the innermost isolate, and that.
-fn pop_isolate(stack: &mut ArrayVec<StatusEntry, 126>)
-    ensures { map seen (reverse stack.new.items) ≡ drop_isolate (map seen (reverse stack.old.items)) }
+// Pops down to the innermost isolate, and that. Each entry that is popped is a step.
+fn pop_isolate<S: Ledger>(stack: &mut ArrayVec<StatusEntry, 126>, steps: &mut Steps<S>)
+    ensures stack { map seen (reverse stack.new.items) ≡ drop_isolate (map seen (reverse stack.old.items)) }
+    ensures at_least { steps.old ≤ steps.new }
+    ensures popped { steps.new + length stack.new.items ≡ steps.old + length stack.old.items }
 {
     while let Some(entry) = stack.pop() {
+        steps.tick();
         if entry.is_isolate {
             break;
         }
@@ -100,15 +105,19 @@ impl StatusStack {
         }
     }
 
-    /// Reads a character: closes what it closes, answers the status at it, and opens what it opens.
-    pub fn read(&mut self, class: BidiClass) -> StatusEntry
+    /// Reads a character: closes what it closes, answers the status at it, and opens what it opens. The
+    /// steps that empty the stack are paid by the entries that they take away.
+    #[tactic(auto, using(crate::proofs::StackLemmas::entry_counts))]
+    pub fn read<S: Ledger>(&mut self, class: BidiClass, steps: &mut Steps<S>) -> StatusEntry
         requires poppable { IsPoppable self.old }
         requires depth { (paragraph : ℕ) × IsWithinDepth paragraph (closed class self.old) }
         requires counts { counted (closed class self.old) + 1 < 2 ^ 64 }
         ensures status { seen result ≡ (closed class self.old).top }
         ensures state { self.new ≡ step class self.old }
+        ensures at_least { steps.old ≤ steps.new }
+        ensures at_most { steps.new + entry_count self.new ≤ steps.old + entry_count self.old + 1 }
     {
-        self.close(class);
+        self.close(class, steps);
         let status = self.top();
         self.open(class);
         status
@@ -123,16 +132,18 @@ impl StatusStack {
     }
 
     // What a PDI closes (X6a).
-    fn close_isolate(&mut self)
+    fn close_isolate<S: Ledger>(&mut self, steps: &mut Steps<S>)
         requires { IsPoppable self.old }
-        ensures { self.new ≡ close_isolate self.old }
+        ensures state { self.new ≡ close_isolate self.old }
+        ensures at_least { steps.old ≤ steps.new }
+        ensures at_most { steps.new + entry_count self.new ≤ steps.old + entry_count self.old }
     {
         if self.overflow_isolates > 0 {
             self.overflow_isolates -= 1;
         } else if self.valid_isolates > 0 {
             self.overflow_embeddings = 0;
             self.valid_isolates -= 1;
-            pop_isolate(&mut self.stack);
+            pop_isolate(&mut self.stack, steps);
         }
     }
 
@@ -156,12 +167,15 @@ impl StatusStack {
     }
 
     // What a character closes.
-    fn close(&mut self, class: BidiClass)
+    #[tactic(auto, using(crate::proofs::StackLemmas::entry_counts))]
+    fn close<S: Ledger>(&mut self, class: BidiClass, steps: &mut Steps<S>)
         requires { IsPoppable self.old }
-        ensures { self.new ≡ closed class self.old }
+        ensures state { self.new ≡ closed class self.old }
+        ensures at_least { steps.old ≤ steps.new }
+        ensures at_most { steps.new + entry_count self.new ≤ steps.old + entry_count self.old }
     {
         match class {
-            BidiClass::PDI => self.close_isolate(),
+            BidiClass::PDI => self.close_isolate(steps),
             BidiClass::PDF => self.close_embedding(),
             _ => {}
         }

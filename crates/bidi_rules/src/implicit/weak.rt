@@ -1,14 +1,14 @@
 //! The weak types in place (W1 to W7).
 
-ghost use Rattle.std.specs.Prelude.{◌≡◌, ℕ, ◌+◌, ◌<◌, ◌≤◌, true, false, length, map, drop, get_or, if◌then◌else◌, IsTrue};
+ghost use Rattle.std.specs.Prelude.{◌≡◌, ℕ, ◌+◌, ◌-◌, ◌*◌, ◌<◌, ◌≤◌, true, false, ◌&&◌, nat_lt, length, map, drop, get_or, if◌then◌else◌, IsTrue};
 ghost use Rattle.bidi_base.specs.Classes.{is_kept_in_place};
 ghost use Rattle.bidi_base.specs.Places.{at_places, class_at};
 ghost use Rattle.bidi_base.specs.Text.{IsLine, is_per_char, place, text_len};
-ghost use Rattle.bidi_base.specs.Units.{bounds, are_ordered, in_runs, kept_in_place, AreLines};
+ghost use Rattle.bidi_base.specs.Units.{bounds, are_ordered, chars_in_runs, in_runs, kept_in_place, units_in_runs, AreLines};
 ghost use Rattle.bidi_base.specs.Weak.{weak_classes};
 ghost use Rattle.bidi_base.specs.declared.char_data.BidiClass.TheVariants.{L, BN};
 ghost use Rattle.bidi_rules.specs.RunSequence.{lent_runs, lent_sos, runs as runs_of, sos as sos_of};
-ghost use Rattle.bidi_rules.specs.WeakWalk.{is_seen, part_of, IsWrittenOver};
+ghost use Rattle.bidi_rules.specs.WeakWalk.{count_below, is_seen, part_of, IsWrittenOver};
 
 mod left_over;
 mod marks;
@@ -16,12 +16,14 @@ mod numbers;
 mod steps;
 
 use super::is_kept_in_place;
-use crate::prepare::{IsolatingRunSequence, LentSequence, LevelRun};
+use crate::prepare::{IsolatingRunSequence, LentSequence, LevelRun, Steps};
 use bidi_base::char_data::BidiClass;
 use bidi_base::text::TextSource;
 use left_over::change;
 use marks::resolve_marks;
 use numbers::resolve_numbers;
+use std::marker::Brand;
+use std::sync::ledger::{Blank, Ledger};
 
 /// The classes of a run's units, as far as there are any.
 fn part_of<'c>(classes: &'c [BidiClass], run: &LevelRun) -> &'c [BidiClass]
@@ -43,13 +45,28 @@ fn written_over(before: BidiClass, class: BidiClass) -> BidiClass
 }
 
 /// Writes the class over those units from `from` up to `to` that are not BN.
-fn write_over(classes: &mut [BidiClass], from: usize, to: usize, class: BidiClass)
+fn write_over<S: Ledger>(
+    classes: &mut [BidiClass],
+    from: usize,
+    to: usize,
+    class: BidiClass,
+    steps: &mut Steps<S>,
+)
     requires { to ≤ length classes.old }
-    ensures { IsWrittenOver (λ k. is_kept_in_place (class_at classes.old k)) class from to classes.old classes.new }
+    ensures written { IsWrittenOver (λ k. is_kept_in_place (class_at classes.old k)) class from to classes.old classes.new }
+    ensures steps { steps.new ≡ steps.old + (to - from) }
 {
     for unit in from..to {
+        steps.tick();
         classes[unit] = written_over(classes[unit], class);
     }
+}
+
+/// Whether there is a run at an index, and it begins below a unit.
+fn begins_below(runs: &[LevelRun], index: usize, unit: usize) -> bool
+    ensures { result ≡ (nat_lt index (length runs.now) && nat_lt (get_or (map bounds runs.now) index (0, 0)).0 unit) }
+{
+    index < runs.len() && runs[index].start < unit
 }
 
 /// The same, of the units of some runs.
@@ -64,11 +81,51 @@ pub(super) fn write_over_runs(
     requires inside { to ≤ length classes.old }
     ensures { IsWrittenOver (is_seen (map bounds runs.now) classes.old) class from to classes.old classes.new }
 {
-    for run in runs {
-        if run.start >= to {
-            break;
-        }
-        write_over(classes, run.start.max(from), run.end.min(to), class);
+    write_over_runs_fresh::<Brand>(runs, classes, from, to, class, Blank::new(1));
+}
+
+/// The same by a new count of steps.
+fn write_over_runs_fresh<S: Ledger>(
+    runs: &[LevelRun],
+    classes: &mut [BidiClass],
+    from: usize,
+    to: usize,
+    class: BidiClass,
+    blank: Blank,
+)
+    requires ordered { IsTrue (are_ordered (map bounds runs.now)) }
+    requires inside { to ≤ length classes.old }
+    requires name { blank.name ≡ S.name }
+    requires parts { blank.parts ≡ S.parts }
+    requires one { blank.parts ≡ 1 }
+    ensures { IsWrittenOver (is_seen (map bounds runs.now) classes.old) class from to classes.old classes.new }
+{
+    let mut steps = Steps::<S>::new(blank);
+    write_over_runs_counted(runs, classes, from, to, class, &mut steps);
+}
+
+/// The same with each turn counted. Where each run ends behind `from`, those that begin below `to` have
+/// a unit to write over, so there are no more turns than two for each of these units.
+fn write_over_runs_counted<S: Ledger>(
+    runs: &[LevelRun],
+    classes: &mut [BidiClass],
+    from: usize,
+    to: usize,
+    class: BidiClass,
+    steps: &mut Steps<S>,
+)
+    requires ordered { IsTrue (are_ordered (map bounds runs.now)) }
+    requires inside { to ≤ length classes.old }
+    ensures written { IsWrittenOver (is_seen (map bounds runs.now) classes.old) class from to classes.old classes.new }
+    ensures at_least { steps.old ≤ steps.new }
+    ensures at_most { from < to → from < (get_or (map bounds runs.now) 0 (0, 0)).1 → steps.new + 2 * count_below (map bounds runs.now) from ≤ steps.old + 2 * count_below (map bounds runs.now) to }
+{
+    let mut index = 0;
+    while begins_below(runs, index, to) {
+        steps.tick();
+        let run = &runs[index];
+        write_over(classes, run.start.max(from), run.end.min(to), class, steps);
+        index += 1;
     }
 }
 
@@ -93,6 +150,28 @@ pub fn resolve_weak<T: TextSource>(
     resolve_weak_lent(text, sequence.lend(), processing_classes)
 }
 
+/// The same as [`resolve_weak`], where each turn of a loop, here and in what is called, counts in
+/// `steps`: at least one for each character in the runs, and at most eight for each unit in them. Where
+/// separators and terminators wait, nothing is sought ahead: a stretch of BN behind them is gone over
+/// once. Calls of the text and of the library have no turns.
+pub fn resolve_weak_counted<T: TextSource, S: Ledger>(
+    text: T,
+    sequence: &IsolatingRunSequence,
+    processing_classes: &mut [BidiClass],
+    steps: &mut Steps<S>,
+)
+    requires per_char { IsTrue (is_per_char ⟦<BidiClass as PartialEq>⟧.eq T.units (T.characters text) processing_classes.old) }
+    requires fits { AreLines T.units (T.characters text) (map bounds (runs_of sequence.now)) }
+    ensures kept { let places = map (place T.units (T.characters text)) (kept_in_place T.units (T.characters text) processing_classes.old (map bounds (runs_of sequence.now))) in at_places L processing_classes.new places ≡ weak_classes (sos_of sequence.now) (at_places L processing_classes.old places) }
+    ensures removed { (u : ℕ) → class_at processing_classes.old u ≡ BN → class_at processing_classes.new u ≡ BN }
+    ensures outside { (u : ℕ) → in_runs (map bounds (runs_of sequence.now)) u ≡ false → class_at processing_classes.new u ≡ class_at processing_classes.old u }
+    ensures per_char { IsTrue (is_per_char ⟦<BidiClass as PartialEq>⟧.eq T.units (T.characters text) processing_classes.new) }
+    ensures at_least { steps.old + length (chars_in_runs T.units (T.characters text) (map bounds (runs_of sequence.now))) ≤ steps.new }
+    ensures at_most { steps.new ≤ steps.old + 8 * length (units_in_runs (map bounds (runs_of sequence.now))) }
+{
+    resolve_weak_lent_counted(text, sequence.lend(), processing_classes, steps)
+}
+
 /// The same of a sequence whose runs are lent.
 pub fn resolve_weak_lent<T: TextSource>(
     text: T,
@@ -106,9 +185,49 @@ pub fn resolve_weak_lent<T: TextSource>(
     ensures outside { (u : ℕ) → in_runs (map bounds (lent_runs sequence.entry)) u ≡ false → class_at processing_classes.new u ≡ class_at processing_classes.old u }
     ensures per_char { IsTrue (is_per_char ⟦<BidiClass as PartialEq>⟧.eq T.units (T.characters text) processing_classes.new) }
 {
+    resolve_weak_fresh::<T, Brand>(text, sequence, processing_classes, Blank::new(1))
+}
+
+// The same by a new count of steps.
+fn resolve_weak_fresh<T: TextSource, S: Ledger>(
+    text: T,
+    sequence: LentSequence<'_>,
+    processing_classes: &mut [BidiClass],
+    blank: Blank,
+)
+    requires per_char { IsTrue (is_per_char ⟦<BidiClass as PartialEq>⟧.eq T.units (T.characters text) processing_classes.old) }
+    requires fits { AreLines T.units (T.characters text) (map bounds (lent_runs sequence)) }
+    requires name { blank.name ≡ S.name }
+    requires parts { blank.parts ≡ S.parts }
+    requires one { blank.parts ≡ 1 }
+    ensures kept { let places = map (place T.units (T.characters text)) (kept_in_place T.units (T.characters text) processing_classes.old (map bounds (lent_runs sequence.entry))) in at_places L processing_classes.new places ≡ weak_classes (lent_sos sequence.entry) (at_places L processing_classes.old places) }
+    ensures removed { (u : ℕ) → class_at processing_classes.old u ≡ BN → class_at processing_classes.new u ≡ BN }
+    ensures outside { (u : ℕ) → in_runs (map bounds (lent_runs sequence.entry)) u ≡ false → class_at processing_classes.new u ≡ class_at processing_classes.old u }
+    ensures per_char { IsTrue (is_per_char ⟦<BidiClass as PartialEq>⟧.eq T.units (T.characters text) processing_classes.new) }
+{
+    let mut steps = Steps::<S>::new(blank);
+    resolve_weak_lent_counted(text, sequence, processing_classes, &mut steps)
+}
+
+// The same with each turn counted.
+fn resolve_weak_lent_counted<T: TextSource, S: Ledger>(
+    text: T,
+    sequence: LentSequence<'_>,
+    processing_classes: &mut [BidiClass],
+    steps: &mut Steps<S>,
+)
+    requires per_char { IsTrue (is_per_char ⟦<BidiClass as PartialEq>⟧.eq T.units (T.characters text) processing_classes.old) }
+    requires fits { AreLines T.units (T.characters text) (map bounds (lent_runs sequence)) }
+    ensures kept { let places = map (place T.units (T.characters text)) (kept_in_place T.units (T.characters text) processing_classes.old (map bounds (lent_runs sequence.entry))) in at_places L processing_classes.new places ≡ weak_classes (lent_sos sequence.entry) (at_places L processing_classes.old places) }
+    ensures removed { (u : ℕ) → class_at processing_classes.old u ≡ BN → class_at processing_classes.new u ≡ BN }
+    ensures outside { (u : ℕ) → in_runs (map bounds (lent_runs sequence.entry)) u ≡ false → class_at processing_classes.new u ≡ class_at processing_classes.old u }
+    ensures per_char { IsTrue (is_per_char ⟦<BidiClass as PartialEq>⟧.eq T.units (T.characters text) processing_classes.new) }
+    ensures at_least { steps.old + length (chars_in_runs T.units (T.characters text) (map bounds (lent_runs sequence.entry))) ≤ steps.new }
+    ensures at_most { steps.new ≤ steps.old + 8 * length (units_in_runs (map bounds (lent_runs sequence.entry))) }
+{
     let runs = sequence.runs();
     let sos = sequence.sos();
-    resolve_marks(runs, sos, processing_classes);
-    resolve_numbers(text, runs, sos, processing_classes);
-    change(runs, processing_classes);
+    resolve_marks(runs, sos, processing_classes, steps);
+    resolve_numbers(text, runs, sos, processing_classes, steps);
+    change(runs, processing_classes, steps);
 }

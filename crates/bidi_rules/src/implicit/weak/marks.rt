@@ -1,33 +1,41 @@
 //! W1: a nonspacing mark takes the class of the character before it.
 
-ghost use Rattle.std.specs.Prelude.{◌≡◌, ℕ, ◌<◌, ◌≤◌, true, List, length, map, All, IsTrue};
-ghost use Rattle.std.specs.List.{list_any};
+ghost use Rattle.std.specs.Prelude.{◌≡◌, ℕ, ◌+◌, ◌-◌, ◌*◌, ◌<◌, ◌≤◌, true, List, length, map, All, IsTrue};
 ghost use Rattle.bidi_base.specs.declared.char_data.BidiClass.{BidiClass};
 ghost use Rattle.bidi_base.specs.Classes.{is_kept_in_place, is_l_or_r, is_nsm};
 ghost use Rattle.bidi_base.specs.Places.{class_at};
-ghost use Rattle.bidi_base.specs.Units.{bounds, are_ordered, in_runs};
+ghost use Rattle.bidi_base.specs.Units.{bounds, are_ordered, in_runs, units_in_runs};
 ghost use Rattle.bidi_base.specs.Weak.{carried};
 ghost use Rattle.bidi_rules.specs.WeakPass.{marked};
-ghost use Rattle.bidi_rules.specs.WeakWalk.{is_seen, is_any, AreMarked, IsMarked};
+ghost use Rattle.bidi_rules.specs.WeakWalk.{is_seen, is_any, is_any_of, AreMarked, IsMarked};
 
 use super::part_of;
 use crate::implicit::is_kept_in_place;
-use crate::prepare::LevelRun;
+use crate::prepare::{LevelRun, Steps};
 use bidi_base::char_data::BidiClass::{self, FSI, LRI, NSM, ON, PDI, RLI};
+use std::sync::ledger::Ledger;
 
 /// W1 over the units of some runs that are not BN.
-pub fn resolve_marks(runs: &[LevelRun], sos: BidiClass, classes: &mut [BidiClass])
+pub fn resolve_marks<S: Ledger>(
+    runs: &[LevelRun],
+    sos: BidiClass,
+    classes: &mut [BidiClass],
+    steps: &mut Steps<S>,
+)
     requires ordered { IsTrue (are_ordered (map bounds runs.now)) }
     requires within { All (λ r. r.1 ≤ length classes.old) (map bounds runs.now) }
     requires sos { IsTrue (is_l_or_r sos) }
-    ensures { IsMarked (map bounds runs.now) (carried sos) classes.old classes.new }
+    ensures marked { IsMarked (map bounds runs.now) (carried sos) classes.old classes.new }
+    ensures at_least { steps.old ≤ steps.new }
+    ensures at_most { steps.new ≤ steps.old + 2 * length (units_in_runs (map bounds runs.now)) }
 {
     if !has_marks(runs, classes) {
         return;
     }
     let mut mark = carried(sos);
     for run in runs {
-        mark = resolve_marks_in(run, mark, classes);
+        steps.tick();
+        mark = resolve_marks_in(run, mark, classes, steps);
     }
 }
 
@@ -39,15 +47,12 @@ fn has_marks(runs: &[LevelRun], classes: &[BidiClass]) -> bool
 }
 
 /// Whether one of the classes is NSM. All are looked at, many at once.
-#[tactic(auto, using(std::proofs::lemmas::List::Folds::list_any_more))]
 fn is_mark_in(classes: &[BidiClass]) -> bool
-    ensures { result ≡ list_any is_nsm classes.now }
+    ensures { result ≡ is_any_of is_nsm classes.now }
 {
-    let mut found = false;
-    for class in classes {
-        found |= is_mark(*class);
-    }
-    found
+    classes
+        .iter()
+        .fold(false, |found, class| found | is_mark(*class))
 }
 
 /// Whether a class is NSM.
@@ -58,14 +63,21 @@ fn is_mark(class: BidiClass) -> bool
 }
 
 /// The same over one run, where a mark at its front takes `mark`. Answers what a mark behind it takes.
-fn resolve_marks_in(run: &LevelRun, mark: BidiClass, classes: &mut [BidiClass]) -> BidiClass
+fn resolve_marks_in<S: Ledger>(
+    run: &LevelRun,
+    mark: BidiClass,
+    classes: &mut [BidiClass],
+    steps: &mut Steps<S>,
+) -> BidiClass
     requires ordered { run.now.start ≤ run.now.end }
     requires within { run.now.end ≤ length classes.old }
-    ensures { (runs : List (ℕ × ℕ)) (sos : BidiClass) (old : List BidiClass) → ((k : ℕ) → run.now.start ≤ k → k < run.now.end → in_runs runs k ≡ true)
+    ensures marked { (runs : List (ℕ × ℕ)) (sos : BidiClass) (old : List BidiClass) → ((k : ℕ) → run.now.start ≤ k → k < run.now.end → in_runs runs k ≡ true)
         → AreMarked runs sos old classes.old mark run.now.start → AreMarked runs sos old classes.new result run.now.end }
+    ensures steps { steps.new ≡ steps.old + (run.now.end - run.now.start) }
 {
     let mut next = mark;
     for unit in run.start..run.end {
+        steps.tick();
         let class = classes[unit];
         if is_kept_in_place(class) {
             let own = marked(next, class);

@@ -2,22 +2,22 @@
 //! rules give a class that stands on several units what they give it where it stands on one; only a
 //! separator between numbers has to be one character.
 
-ghost use Rattle.std.specs.Prelude.{◌≡◌, ℕ, ◌+◌, ◌-◌, ◌<◌, ◌≤◌, true, false, not, ◌&&◌, length, map, drop, get_or, IsTrue};
-ghost use Rattle.std.specs.List.{list_any};
+ghost use Rattle.std.specs.Prelude.{◌≡◌, ℕ, ◌+◌, ◌-◌, ◌*◌, ◌<◌, ◌≤◌, true, false, not, ◌&&◌, length, map, min, drop, get_or, IsTrue};
 ghost use Rattle.bidi_base.specs.Places.{class_at};
 ghost use Rattle.bidi_base.specs.Text.{text_len, IsPerChar};
-ghost use Rattle.bidi_base.specs.Units.{bounds, are_ordered, AreLines};
+ghost use Rattle.bidi_base.specs.Units.{bounds, are_ordered, units_in_runs, AreLines};
 ghost use Rattle.bidi_rules.specs.ExplicitPass.{filled};
 ghost use Rattle.bidi_rules.specs.WeakPass.{is_asked, is_number, is_other, next_before, still_to_come, strengthened, waits};
-ghost use Rattle.bidi_rules.specs.WeakWalk.{is_any, is_seen, len_at, IsWalked, IsWhole, IsWrittenOver, Passes, Reads, ReadsTo};
+ghost use Rattle.bidi_rules.specs.WeakWalk.{count_below, is_any, is_any_of, is_seen, len_at, settled_to, IsWalked, IsWhole, IsWrittenOver, Passes, Reads, ReadsTo, WaitsBelow};
 
 use super::left_over::left_over;
 use super::steps::{Before, numbered, strengthened, strong_up_to};
-use super::{part_of, write_over_runs};
+use super::{part_of, write_over_runs_counted};
 use crate::implicit::is_kept_in_place;
-use crate::prepare::LevelRun;
+use crate::prepare::{LevelRun, Steps};
 use bidi_base::char_data::BidiClass::{self, AN, EN, ET, ON};
 use bidi_base::text::TextSource;
+use std::sync::ledger::Ledger;
 
 /// What a walk over a sequence knows of the units that it has read.
 #[derive(Clone, Copy, Debug)]
@@ -34,16 +34,19 @@ struct Walk {
 
 /// W2, W4, W5 and W7 over the units of some runs that are not BN, none of which has NSM. Separators and
 /// terminators that do not become numbers may stay or have ON, and AL stays.
-pub fn resolve_numbers<T: TextSource>(
+pub fn resolve_numbers<T: TextSource, S: Ledger>(
     text: T,
     runs: &[LevelRun],
     sos: BidiClass,
     classes: &mut [BidiClass],
+    steps: &mut Steps<S>,
 )
     requires ordered { IsTrue (are_ordered (map bounds runs.now)) }
     requires lines { AreLines T.units (T.characters text) (map bounds runs.now) }
     requires per_char { IsPerChar T.units (T.characters text) classes.old }
-    ensures { IsWalked (len_at T.units (T.characters text)) (map bounds runs.now) sos classes.old classes.new }
+    ensures walked { IsWalked (len_at T.units (T.characters text)) (map bounds runs.now) sos classes.old classes.new }
+    ensures at_least { steps.old ≤ steps.new }
+    ensures at_most { steps.new ≤ steps.old + 4 * length (units_in_runs (map bounds runs.now)) }
 {
     if !has_numbers(runs, classes) {
         return;
@@ -55,10 +58,11 @@ pub fn resolve_numbers<T: TextSource>(
         first_run: 0,
     };
     for run in 0..runs.len() {
-        walk.read_run(text, runs, run, classes);
+        steps.tick();
+        walk.read_run(text, runs, run, classes, steps);
     }
     let end = classes.len();
-    walk.settle(runs, classes, end, ON);
+    walk.settle(runs, classes, end, ON, steps);
 }
 
 /// Whether a number stands in the runs.
@@ -69,15 +73,12 @@ fn has_numbers(runs: &[LevelRun], classes: &[BidiClass]) -> bool
 }
 
 /// Whether one of the classes is a number. All are looked at, many at once.
-#[tactic(auto, using(std::proofs::lemmas::List::Folds::list_any_more))]
 fn is_number_in(classes: &[BidiClass]) -> bool
-    ensures { result ≡ list_any is_number classes.now }
+    ensures { result ≡ is_any_of is_number classes.now }
 {
-    let mut found = false;
-    for class in classes {
-        found |= is_number(*class);
-    }
-    found
+    classes
+        .iter()
+        .fold(false, |found, class| found | is_number(*class))
 }
 
 /// Whether a class is a European or Arabic number.
@@ -89,31 +90,35 @@ fn is_number(class: BidiClass) -> bool
 
 impl Walk {
     /// Reads the units of the run at the index `run`.
-    fn read_run<T: TextSource>(
+    fn read_run<T: TextSource, S: Ledger>(
         &mut self,
         text: T,
         runs: &[LevelRun],
         run: usize,
         classes: &mut [BidiClass],
+        steps: &mut Steps<S>,
     )
         requires ordered { IsTrue (are_ordered (map bounds runs.now)) }
-        requires first_run { self.old.first_run ≤ length runs.now }
+        requires waiting { WaitsBelow (map bounds runs.now) self.old (get_or (map bounds runs.now) run (0, 0)).0 }
         requires run { run < length runs.now }
         requires inside { (get_or (map bounds runs.now) run (0, 0)).1 ≤ length classes.old }
         requires whole { let r = get_or (map bounds runs.now) run (0, 0) in (u : ℕ) → r.0 ≤ u → u < r.1 → IsWhole (len_at T.units (T.characters text)) classes.old r.1 u }
-        ensures first_run { self.new.first_run ≤ length runs.now }
+        ensures waiting { WaitsBelow (map bounds runs.now) self.new (get_or (map bounds runs.now) run (0, 0)).1 }
         ensures reads { let r = get_or (map bounds runs.now) run (0, 0) in ReadsTo (len_at T.units (T.characters text)) (map bounds runs.now) r.0 r.1 self.old self.new classes.old classes.new }
+        ensures at_least { steps.old ≤ steps.new }
+        ensures at_most { let r = get_or (map bounds runs.now) run (0, 0) in steps.new + 1 + 2 * count_below (map bounds runs.now) (settled_to self.old r.0) ≤ steps.old + 2 * (r.1 - r.0) + 2 * count_below (map bounds runs.now) (settled_to self.new r.1) }
     {
         let end = runs[run].end;
         let mut at = runs[run].start;
         while at < end {
+            steps.tick();
             if self.passes_over(classes[at]) {
-                at = self.pass_over(classes, at, end);
+                at = self.pass_over(classes, at, end, steps);
                 continue;
             }
-            let next = self.stretch_end(text, classes, at, end);
+            let next = self.stretch_end(text, classes, at, end, steps);
             if is_kept_in_place(classes[at]) {
-                self.read(runs, run, classes, at, next);
+                self.read(runs, run, classes, at, next, steps);
             }
             at = next;
         }
@@ -129,18 +134,27 @@ impl Walk {
 
     /// Passes over the units from `at` on, the first one and those behind it that ask for nothing, below
     /// `end`. Answers where they end.
-    fn pass_over(&mut self, classes: &[BidiClass], at: usize, end: usize) -> usize
+    fn pass_over<S: Ledger>(
+        &mut self,
+        classes: &[BidiClass],
+        at: usize,
+        end: usize,
+        steps: &mut Steps<S>,
+    ) -> usize
         requires other { is_other self.old.before ≡ true }
         requires first { is_asked (class_at classes.now at) ≡ false }
         requires some { at < end }
         requires inside { end ≤ length classes.now }
         ensures some { at < result }
         ensures within { result ≤ end }
+        ensures other { is_other self.new.before ≡ true }
         ensures first_run { self.new.first_run ≡ self.old.first_run }
         ensures passes { Passes at result end self.old self.new classes.now }
+        ensures steps { steps.new ≡ steps.old + min (result - at) (end - (at + 1)) }
     {
         self.strong = strong_up_to(self.strong, classes[at]);
         for unit in at + 1..end {
+            steps.tick();
             let class = classes[unit];
             if is_asked(class) {
                 return unit;
@@ -152,12 +166,13 @@ impl Walk {
 
     /// The end of the stretch that begins at the unit `at`: units of one class, below `end`. Where one
     /// separator may stand between numbers it is one character.
-    fn stretch_end<T: TextSource>(
+    fn stretch_end<T: TextSource, S: Ledger>(
         &self,
         text: T,
         classes: &[BidiClass],
         at: usize,
         end: usize,
+        steps: &mut Steps<S>,
     ) -> usize
         requires some { at < end }
         requires inside { end ≤ length classes.now }
@@ -166,40 +181,45 @@ impl Walk {
         ensures within { result ≤ end }
         ensures alike { (k : ℕ) → at ≤ k → k < result → class_at classes.now k ≡ class_at classes.now at }
         ensures single { let next = next_before (strengthened self.now.strong (class_at classes.now at)) self.now.before in still_to_come next (len_at T.units (T.characters text) at) ≡ still_to_come next (result - at) }
+        ensures at_least { steps.old ≤ steps.new }
+        ensures at_most { steps.new ≤ steps.old + min (result - at) (end - (at + 1)) }
     {
         let next = self.before.after(strengthened(self.strong, classes[at]));
         if next.is_separator() {
             at + len_at(text, at)
         } else {
-            alike_end(classes, at, end)
+            alike_end(classes, at, end, steps)
         }
     }
 
     /// Reads the units from `start` up to `end` in the run at the index `run`, a stretch that is not BN.
-    fn read(
+    fn read<S: Ledger>(
         &mut self,
         runs: &[LevelRun],
         run: usize,
         classes: &mut [BidiClass],
         start: usize,
         end: usize,
+        steps: &mut Steps<S>,
     )
         requires ordered { IsTrue (are_ordered (map bounds runs.now)) }
-        requires first_run { self.old.first_run ≤ length runs.now }
-        requires run { run ≤ length runs.now }
+        requires waiting { WaitsBelow (map bounds runs.now) self.old start }
+        requires run { start < (get_or (map bounds runs.now) run (0, 0)).1 }
         requires some { start < end }
         requires inside { end ≤ length classes.old }
-        ensures first_run { self.new.first_run ≤ length runs.now }
+        ensures waiting { WaitsBelow (map bounds runs.now) self.new end }
         ensures rest { (k : ℕ) → end ≤ k → class_at classes.new k ≡ class_at classes.old k }
         ensures long { length classes.new ≡ length classes.old }
         ensures reads { Reads (map bounds runs.now) run start end self.old self.new classes.old classes.new }
+        ensures at_least { steps.old ≤ steps.new }
+        ensures at_most { steps.new + 2 * count_below (map bounds runs.now) (settled_to self.old start) ≤ steps.old + 2 * count_below (map bounds runs.now) (settled_to self.new end) }
     {
         let class = classes[start];
         let strong = strengthened(self.strong, class);
         let next = self.before.after(strong);
         if !self.before.is_joined_by(strong) {
             let held = numbered(self.strong, self.before.settled(strong));
-            self.settle(runs, classes, start, held);
+            self.settle(runs, classes, start, held, steps);
             if next.waits() {
                 self.first = start;
                 self.first_run = run;
@@ -215,15 +235,31 @@ impl Walk {
     }
 
     /// Writes the class over the units that wait, if some do. They stand below the unit `to`.
-    fn settle(&self, runs: &[LevelRun], classes: &mut [BidiClass], to: usize, class: BidiClass)
+    fn settle<S: Ledger>(
+        &self,
+        runs: &[LevelRun],
+        classes: &mut [BidiClass],
+        to: usize,
+        class: BidiClass,
+        steps: &mut Steps<S>,
+    )
         requires ordered { IsTrue (are_ordered (map bounds runs.now)) }
-        requires run { self.now.first_run ≤ length runs.now }
+        requires waiting { WaitsBelow (map bounds runs.now) self.now to }
         requires inside { to ≤ length classes.old }
         ensures held { waits self.now.before ≡ true → IsWrittenOver (is_seen (drop self.now.first_run (map bounds runs.now)) classes.old) class self.now.first to classes.old classes.new }
         ensures idle { waits self.now.before ≡ false → classes.new ≡ classes.old }
+        ensures at_least { steps.old ≤ steps.new }
+        ensures at_most { steps.new + 2 * count_below (map bounds runs.now) (settled_to self.now to) ≤ steps.old + 2 * count_below (map bounds runs.now) to }
     {
         if self.before.waits() {
-            write_over_runs(&runs[self.first_run..], classes, self.first, to, class);
+            write_over_runs_counted(
+                &runs[self.first_run..],
+                classes,
+                self.first,
+                to,
+                class,
+                steps,
+            );
         }
     }
 }
@@ -245,15 +281,17 @@ fn is_asked(class: BidiClass) -> bool
 }
 
 /// The end of the units from `at` on that have the class of the first, below `end`.
-fn alike_end(classes: &[BidiClass], at: usize, end: usize) -> usize
+fn alike_end<S: Ledger>(classes: &[BidiClass], at: usize, end: usize, steps: &mut Steps<S>) -> usize
     requires some { at < end }
     requires inside { end ≤ length classes.now }
     ensures some { at < result }
     ensures within { result ≤ end }
     ensures alike { (k : ℕ) → at ≤ k → k < result → class_at classes.now k ≡ class_at classes.now at }
+    ensures steps { steps.new ≡ steps.old + min (result - at) (end - (at + 1)) }
 {
     let class = classes[at];
     for unit in at + 1..end {
+        steps.tick();
         if classes[unit] != class {
             return unit;
         }

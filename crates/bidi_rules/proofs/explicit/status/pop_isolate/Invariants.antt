@@ -1,10 +1,14 @@
-use Rattle.std.proofs.Common.{◌≡◌, length, map, reverse}
+use Rattle.std.proofs.Common.{◌≡◌, ◌+◌, ◌≤◌, length, map, reverse}
 use Rattle.bidi_base.specs.StatusMachine.{drop_isolate}
 use Rattle.bidi_rules.specs.Status.{seen}
 use Rattle.bidi_rules.proofs.explicit.status.pop_isolate.Given as goal
 
 abbrev pub invariant-loop-entry : goal.invariant-loop-entry
-invariant-loop-entry l = drop_isolate (map seen (reverse l.stack.items)) ≡ drop_isolate (map seen (reverse l.fn.stack.items))
+invariant-loop-entry g l = record {
+  stack : drop_isolate (map seen (reverse l.stack.items)) ≡ drop_isolate (map seen (reverse l.fn.stack.items));
+  at_least : l.fn.steps ≤ l.steps;
+  popped : l.steps + length l.stack.items ≡ l.fn.steps + length l.fn.stack.items;
+}
 
 abbrev pub decreases-loop-entry : goal.decreases-loop-entry
-decreases-loop-entry l = length l.stack.items
+decreases-loop-entry g l = length l.stack.items

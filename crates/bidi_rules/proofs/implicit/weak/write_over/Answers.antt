@@ -1,5 +1,5 @@
 use Rattle.std.proofs.Common.{◌≡◌, ◌+◌, ℕ, Bool, List, get_or, set, sym, ◌∙◌, ap, subst, inl, inr, arith}
-use Rattle.std.proofs.lemmas.Bool.{cases_Bool, cond-true, cond-false}
+use Rattle.std.proofs.lemmas.Bool.{cases_Bool, cases_lt, cond-true, cond-false}
 use Rattle.std.proofs.lemmas.List.{set-get_or}
 use Rattle.bidi_base.specs.declared.char_data.BidiClass.{BidiClass}
 use Rattle.bidi_base.specs.declared.char_data.BidiClass.TheVariants.{L}
@@ -9,7 +9,7 @@ use Rattle.bidi_rules.proofs.WrittenOver.{IsWrittenOver-skip, IsWrittenOver-set,
 use Rattle.bidi_rules.proofs.implicit.weak.write_over.Goals as goal
 
 pub loop-unit-preserved : goal.loop-unit-preserved
-loop-unit-preserved c =
+loop-unit-preserved g c =
     let old = c.args.classes.now in
     let now = c.loop-unit.classes in
     let class = c.args.class in
@@ -28,9 +28,16 @@ loop-unit-preserved c =
             subst (λ (xs : List BidiClass). IsWrittenOver test class from (i + 1) old xs) (sym (ap (set now i) is ∙ set-get_or now i L)) (IsWrittenOver-skip test class from old i now (sym answer ∙ gone) h)
       ],
       λ none. absurd (omega arith),
+      omega arith,
     )
 
-pub returns : goal.returns
-returns c =
+pub returns-clause-written : goal.returns-clause-written
+returns-clause-written g c =
     let old = c.args.classes.now in
-    IsWrittenOver-end (λ k. is_kept_in_place (get_or old k L)) c.args.class c.args.from old c.loop-unit.unit c.args.to c.loop-unit.classes (λ h. omega arith) (omega arith) c.loop-unit.invariant.1 c.loop-unit.invariant.0
+    IsWrittenOver-end (λ k. is_kept_in_place (get_or old k L)) c.args.class c.args.from old c.loop-unit.unit c.args.to c.loop-unit.classes (λ h. omega arith) (omega arith) (λ none. (c.loop-unit.invariant.1 none).0) c.loop-unit.invariant.0
+
+pub returns-clause-steps : goal.returns-clause-steps
+returns-clause-steps g c = elim (cases_lt c.args.from c.args.to) [
+  | inl some ↦ omega (arith, c.loop-unit.invariant.2)
+  | inr none ↦ omega (arith, (c.loop-unit.invariant.1 none).1)
+]

@@ -1,12 +1,13 @@
-use Rattle.std.proofs.Common.{◌≡◌, ◌||◌, ◌+◌, ℕ, List, true, false, map, take, get_or, refl, sym, ap, subst, ◌∙◌, inl, inr, arith}
+use Rattle.std.proofs.Common.{◌≡◌, ◌||◌, ◌+◌, ◌-◌, ◌<◌, ◌≤◌, ℕ, List, true, false, length, map, take, get_or, refl, sym, ap, subst, ◌∙◌, inl, inr, arith}
 use Rattle.std.proofs.lemmas.Bool.{cases_Bool, cases_lt, or_cases, or_parts, both_ways}
 use Rattle.std.proofs.lemmas.List.{get_or-map, length-map, take_all}
 use Rattle.bidi_base.specs.declared.char_data.BidiClass.{BidiClass}
 use Rattle.bidi_base.specs.declared.char_data.BidiClass.TheVariants.{AL, ES, ET, CS}
 use Rattle.bidi_base.specs.Places.{class_at}
-use Rattle.bidi_base.specs.Units.{bounds, in_runs}
+use Rattle.bidi_base.specs.Units.{bounds, are_ordered, in_runs, units_in_runs}
 use Rattle.bidi_rules.specs.WeakPass.{left_over}
-use Rattle.bidi_rules.proofs.InRuns.{in_run, in_run-inside, in_run-true, in_runs-more}
+use Rattle.bidi_rules.proofs.CountBelow.{length-units_in_runs-more}
+use Rattle.bidi_rules.proofs.InRuns.{run_some, in_run, in_run-inside, in_run-true, in_runs-more}
 use Rattle.bidi_rules.proofs.KeptRuns.{no_range}
 use Rattle.bidi_rules.proofs.implicit.weak.left_over.change.Goals as goal
 
@@ -18,17 +19,22 @@ left_over-twice ET = refl
 left_over-twice CS = refl
 left_over-twice _ = refl
 
+-- the turns of the run that came
+units_more : (runs : List (ℕ × ℕ)) (i start end : ℕ) → are_ordered runs ≡ true → i < length runs → (get_or runs i (0, 0)).0 ≡ start → (get_or runs i (0, 0)).1 ≡ end
+    → (length (units_in_runs (take (i + 1) runs)) ≡ length (units_in_runs (take i runs)) + (end - start)) × (start < end)
+units_more runs i start end ordered fits starts ends = (omega (arith, length-units_in_runs-more i runs fits), omega (arith, run_some 0 i runs ordered fits))
+
 pub change_run-requires : goal.change_run-requires
-change_run-requires c =
+change_run-requires g c =
     let runs = c.args.runs.now in
     let i = c.loop-run.run-index in
     let long = length-map runs bounds in
     let end_is = ap (λ (r : ℕ × ℕ). r.1) (get_or-map bounds runs i no_range (0, 0) c.loop-run-test.true) in
-    omega (arith, end_is, c.requires i (0, 0) (omega arith), c.loop-run.auto.classes)
+    omega (arith, end_is, c.requires.within i (0, 0) (omega arith), c.loop-run.auto.classes)
 
 -- a unit of the run that came
 pub loop-run-preserved : goal.loop-run-preserved
-loop-run-preserved c =
+loop-run-preserved g c =
     let runs = c.args.runs.now in
     let i = c.loop-run.run-index in
     let long = length-map runs bounds in
@@ -36,6 +42,7 @@ loop-run-preserved c =
     let from_is = ap (λ (r : ℕ × ℕ). r.0) here in
     let to_is = ap (λ (r : ℕ × ℕ). r.1) here in
     let r = get_or (map bounds runs) i (0, 0) in
+    let turns = units_more (map bounds runs) i _ _ c.requires.ordered (omega arith) from_is to_is in
     let old = c.args.classes.now in
     let now = c.loop-run.classes in
     let more : (u : ℕ) → in_runs (take (i + 1) (map bounds runs)) u ≡ (in_runs (take i (map bounds runs)) u || in_run r u) = λ u. in_runs-more i (map bounds runs) u (omega arith) in
@@ -65,16 +72,34 @@ loop-run-preserved c =
       same = λ u none.
           let parts = or_parts (in_runs (take i (map bounds runs)) u) (in_run r u) (sym (more u) ∙ none) in
           outside u parts.1 ∙ c.loop-run.invariant.same u parts.0;
+      at_least = omega (arith, c.loop-run.invariant.at_least, turns.0, c.change_run.ensures.steps);
+      at_most = omega (arith, c.loop-run.invariant.at_most, turns.0, turns.1, c.change_run.ensures.steps);
     }
 
 pub returns-clause-changed : goal.returns-clause-changed
-returns-clause-changed c =
+returns-clause-changed g c =
     let runs = c.args.runs.now in
     let long = length-map runs bounds in
     λ u inside. c.loop-run.invariant.changed u (subst (λ (rs : List (ℕ × ℕ)). in_runs rs u ≡ true) (sym (take_all c.loop-run.run-index (map bounds runs) (omega arith))) inside)
 
 pub returns-clause-same : goal.returns-clause-same
-returns-clause-same c =
+returns-clause-same g c =
     let runs = c.args.runs.now in
     let long = length-map runs bounds in
     λ u out. c.loop-run.invariant.same u (subst (λ (rs : List (ℕ × ℕ)). in_runs rs u ≡ false) (sym (take_all c.loop-run.run-index (map bounds runs) (omega arith))) out)
+
+-- all runs came
+all_runs : (i : ℕ) (runs : List (ℕ × ℕ)) → length runs ≤ i → length (units_in_runs (take i runs)) ≡ length (units_in_runs runs)
+all_runs i runs past = ap (λ (rs : List (ℕ × ℕ)). length (units_in_runs rs)) (take_all i runs past)
+
+pub returns-clause-at_least : goal.returns-clause-at_least
+returns-clause-at_least g c =
+    let runs = c.args.runs.now in
+    let long = length-map runs bounds in
+    omega (arith, c.loop-run.invariant.at_least, all_runs c.loop-run.run-index (map bounds runs) (omega arith))
+
+pub returns-clause-at_most : goal.returns-clause-at_most
+returns-clause-at_most g c =
+    let runs = c.args.runs.now in
+    let long = length-map runs bounds in
+    omega (arith, c.loop-run.invariant.at_most, all_runs c.loop-run.run-index (map bounds runs) (omega arith))

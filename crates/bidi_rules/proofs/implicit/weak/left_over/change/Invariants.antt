@@ -1,12 +1,14 @@
 -- The runs so far are changed.
-use Rattle.std.proofs.Common.{◌≡◌, ℕ, true, false, map, take}
+use Rattle.std.proofs.Common.{◌≡◌, ℕ, ◌+◌, ◌*◌, ◌≤◌, true, false, length, map, take}
 use Rattle.bidi_base.specs.Places.{class_at}
-use Rattle.bidi_base.specs.Units.{bounds, in_runs}
+use Rattle.bidi_base.specs.Units.{bounds, in_runs, units_in_runs}
 use Rattle.bidi_rules.specs.WeakPass.{left_over}
 use Rattle.bidi_rules.proofs.implicit.weak.left_over.change.Given as goal
 
 abbrev pub invariant-loop-run : goal.invariant-loop-run
-invariant-loop-run l = record {
+invariant-loop-run g l = record {
   changed : (u : ℕ) → in_runs (take l.run-index (map bounds l.runs)) u ≡ true → class_at l.classes u ≡ left_over (class_at l.fn.classes u);
   same : (u : ℕ) → in_runs (take l.run-index (map bounds l.runs)) u ≡ false → class_at l.classes u ≡ class_at l.fn.classes u;
+  at_least : l.fn.steps + length (units_in_runs (take l.run-index (map bounds l.runs))) ≤ l.steps;
+  at_most : l.steps ≤ l.fn.steps + 2 * length (units_in_runs (take l.run-index (map bounds l.runs)));
 }

@@ -1,12 +1,12 @@
 use Rattle.std.proofs.Common.{◌≢◌, ◌<◌, length, set, ap, ◌∙◌, sym, inl, inr, arith, get_or-set_same, get_or-set_other}
-use Rattle.std.proofs.lemmas.Bool.{cases_eq}
+use Rattle.std.proofs.lemmas.Bool.{cases_eq, cases_lt}
 use Rattle.bidi_base.specs.declared.char_data.BidiClass.TheVariants.{L}
 use Rattle.bidi_base.specs.Places.{class_at}
 use Rattle.bidi_rules.specs.WeakPass.{left_over}
 use Rattle.bidi_rules.proofs.implicit.weak.left_over.change_run.Goals as goal
 
 pub loop-unit-preserved : goal.loop-unit-preserved
-loop-unit-preserved c =
+loop-unit-preserved g c =
     let i = c.loop-unit.unit in
     let now = c.loop-unit.classes in
     let new = c.left_over.result in
@@ -21,5 +21,13 @@ loop-unit-preserved c =
       ];
       below = λ u low. let other : u ≢ i = omega arith in get_or-set_other now i u new L other ∙ s.below u low;
       rest = λ u high. let other : u ≢ i = omega arith in get_or-set_other now i u new L other ∙ s.rest u (omega arith);
+      steps = omega arith;
+      none = λ empty. absurd (omega arith);
       past = λ u high. let other : u ≢ i = omega arith in get_or-set_other now i u new L other ∙ s.past u high;
     }
+
+pub returns-clause-steps : goal.returns-clause-steps
+returns-clause-steps g c = elim (cases_lt c.args.run.now.start c.args.run.now.end) [
+  | inl some ↦ omega (arith, c.loop-unit.invariant.steps)
+  | inr empty ↦ omega (arith, c.loop-unit.invariant.none empty)
+]

@@ -9,9 +9,12 @@ equal true h = refl
 equal false h = absurd (cc h)
 
 pub loop-unit-preserved : goal.loop-unit-preserved
-loop-unit-preserved c =
+loop-unit-preserved g c =
     let classes = c.args.classes.now in
-    λ k from below. elim (cases_eq k c.loop-unit.unit) [
-      | inl here ↦ ap (class_at classes) here ∙ class_test.same (class_at classes c.loop-unit.unit) (class_at classes c.args.at) (equal _ (sym c.ne.ensures ∙ c.if-ne.false))
-      | inr other ↦ c.loop-unit.invariant k from (omega arith)
-    ]
+    record {
+      alike = λ k from below. elim (cases_eq k c.loop-unit.unit) [
+        | inl here ↦ ap (class_at classes) here ∙ class_test.same (class_at classes c.loop-unit.unit) (class_at classes c.args.at) (equal _ (sym c.ne.ensures ∙ c.if-ne.false))
+        | inr other ↦ c.loop-unit.invariant.alike k from (omega arith)
+      ];
+      steps = omega arith;
+    }

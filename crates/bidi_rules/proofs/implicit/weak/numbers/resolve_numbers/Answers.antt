@@ -1,4 +1,4 @@
-use Rattle.std.proofs.Common.{◌≡◌, ◌<◌, ◌≤◌, ℕ, List, length, map, get_or, drop, refl, sym, subst, ◌∙◌, arith}
+use Rattle.std.proofs.Common.{◌≡◌, ◌+◌, ◌*◌, ◌<◌, ◌≤◌, ℕ, suc, List, length, map, get_or, drop, refl, sym, subst, ◌∙◌, arith}
 use Rattle.std.specs.Prelude.{All}
 use Rattle.std.proofs.lemmas.List.{length-map}
 use Rattle.std.proofs.lemmas.List.Elements.{All-weaker}
@@ -9,8 +9,10 @@ use Rattle.bidi_base.specs.Text.{IsLine, IsPerChar}
 use Rattle.bidi_base.specs.Units.{bounds, AreLines}
 use Rattle.bidi_base.proofs.TextLemmas.{is_boundary-le}
 use Rattle.bidi_base.proofs.UnitsLemmas.{length-from_IsPerChar}
-use Rattle.bidi_rules.specs.WeakWalk.{is_seen, len_at, IsWrittenOver, Pass, IsUnderWay}
-use Rattle.bidi_rules.proofs.InRuns.{start_or, start_or-at, start_or-past}
+use Rattle.bidi_rules.specs.WeakWalk.{count_below, is_seen, len_at, settled_to, IsWrittenOver, Pass, IsUnderWay, WaitsBelow}
+use Rattle.bidi_rules.specs.declared.implicit.weak.numbers.Walk.{Walk}
+use Rattle.bidi_rules.proofs.CountBelow.{count_below-all, count_below-monotone, count_below-within, count_settled-monotone, WaitsBelow-idle, WaitsBelow-later}
+use Rattle.bidi_rules.proofs.InRuns.{next_start, run_some, start_or, start_or-at, start_or-past}
 use Rattle.bidi_rules.proofs.WeakText.{IsWhole-line}
 use Rattle.bidi_rules.proofs.WeakWalkLemmas.{IsUnderWay-first_run, IsUnderWay-next_run, IsWrittenOver-settled, IsWalked-settled, IsWalked-none}
 use Rattle.bidi_rules.proofs.implicit.weak.numbers.resolve_numbers.Goals as goal
@@ -28,7 +30,12 @@ loop-run-init g c =
     let runs = map bounds c.args.runs.now in
     let old = c.args.classes.now in
     let p : Pass = record { runs = runs; sos = c.args.sos; old = old; len = len_at len_of chars } in
-    record { first_run = omega arith; under_way = IsUnderWay-first_run p c.requires.ordered (within len_of chars runs old c.requires.lines c.requires.per_char) }
+    record {
+      waiting = WaitsBelow-idle runs _ _ (omega arith) refl;
+      under_way = IsUnderWay-first_run p c.requires.ordered (within len_of chars runs old c.requires.lines c.requires.per_char);
+      at_least = omega arith;
+      at_most = omega arith;
+    }
 
 pub read_run-requires-clause-inside : goal.read_run-requires-clause-inside
 read_run-requires-clause-inside g c =
@@ -64,14 +71,34 @@ loop-run-preserved g c =
     let index = c.loop-run.run in
     let fits : index < length runs = omega (arith, c.loop-run-test.true, length-map c.args.runs.now bounds) in
     let p : Pass = record { runs = runs; sos = c.args.sos; old = old; len = len_at len_of chars } in
-    let begin = subst (λ (u : ℕ). IsUnderWay p c.loop-run.classes c.loop-run.walk u) (start_or-at runs index (length old) fits) c.loop-run.invariant.under_way in
+    let start = start_or-at runs index (length old) fits in
+    let begin = subst (λ (u : ℕ). IsUnderWay p c.loop-run.classes c.loop-run.walk u) start c.loop-run.invariant.under_way in
+    let inside = within len_of chars runs old c.requires.lines c.requires.per_char in
+    let next = next_start 0 index runs (length old) c.requires.ordered fits (inside index (0, 0) fits) in
+    let end = (get_or runs index (0, 0)).1 in
+    let some = run_some 0 index runs c.requires.ordered fits in
+    let one : suc index ≡ index + 1 = omega arith in
+    let later : end ≤ start_or runs (index + 1) (length old) = subst (λ (n : ℕ). end ≤ start_or runs n (length old)) one next in
+    let settled = count_settled-monotone runs c.read_run.new.self end (start_or runs (index + 1) (length old)) c.requires.ordered later in
+    let read = count_below-within 0 index runs (get_or runs index (0, 0)).0 end c.requires.ordered fits (omega arith) (omega (arith, some)) (omega arith) in
+    let behind = count_below-monotone 0 runs end (start_or runs (index + 1) (length old)) c.requires.ordered later in
     record {
-      first_run = c.read_run.ensures.first_run;
+      waiting = WaitsBelow-later runs c.read_run.new.self end (start_or runs (index + 1) (length old)) later c.read_run.ensures.waiting;
       under_way = IsUnderWay-next_run p c.requires.ordered (within len_of chars runs old c.requires.lines c.requires.per_char) c.read_run.new.classes c.read_run.new.self index fits (c.read_run.ensures.reads p refl refl begin);
+      at_least = omega (arith, c.loop-run.invariant.at_least, c.tick.ensures, c.read_run.ensures.at_least);
+      at_most = omega (
+        arith,
+        subst (λ (u : ℕ). c.loop-run.steps ≤ c.args.steps.now + 2 * count_below runs u + 2 * count_below runs (settled_to c.loop-run.walk u)) start c.loop-run.invariant.at_most,
+        c.tick.ensures,
+        c.read_run.ensures.at_most,
+        settled,
+        read,
+        behind,
+      );
     }
 
-pub returns : goal.returns
-returns g c =
+pub returns-clause-walked : goal.returns-clause-walked
+returns-clause-walked g c =
     let len_of = g.T.TextSource.units in
     let chars : List ℕ = g.T.TextSource.characters c.args.text in
     let runs = map bounds c.args.runs.now in
@@ -85,9 +112,44 @@ returns g c =
     (IsWrittenOver-settled p now w (length old) h ON c.settle.new.classes c.requires.ordered
     (λ t. subst (λ (u : ℕ). IsWrittenOver (is_seen (drop w.first_run runs) now) ON w.first u now c.settle.new.classes) h.long (c.settle.ensures.held t)) c.settle.ensures.idle)
 
-pub returns-then-not-has_numbers : goal.returns-then-not-has_numbers
-returns-then-not-has_numbers g c =
+pub returns-then-not-has_numbers-clause-walked : goal.returns-then-not-has_numbers-clause-walked
+returns-then-not-has_numbers-clause-walked g c =
     let len_of = g.T.TextSource.units in
     let chars : List ℕ = g.T.TextSource.characters c.args.text in
     let old = c.args.classes.now in
     IsWalked-none (len_at len_of chars) c.args.runs.now c.args.sos old (within len_of chars (map bounds c.args.runs.now) old c.requires.lines c.requires.per_char) (sym c.has_numbers.ensures ∙ c.if-not-has_numbers.true)
+
+-- all runs are read
+record AreRead (runs : List (ℕ × ℕ)) (w : Walk) (n steps first : ℕ) : Type 0 where
+  waiting : WaitsBelow runs w n
+  at_most : steps ≤ first + 2 * count_below runs n + 2 * count_below runs (settled_to w n)
+
+read : (runs : List (ℕ × ℕ)) (w : Walk) (index n steps first : ℕ) → length runs ≤ index → WaitsBelow runs w (start_or runs index n) → steps ≤ first + 2 * count_below runs (start_or runs index n) + 2 * count_below runs (settled_to w (start_or runs index n)) → AreRead runs w n steps first
+read runs w index n steps first past waiting at_most =
+    subst (λ (u : ℕ). AreRead runs w u steps first) (start_or-past runs index n past) (record { waiting = waiting; at_most = at_most })
+
+pub read_run-requires-clause-waiting : goal.read_run-requires-clause-waiting
+read_run-requires-clause-waiting g c =
+    let runs = map bounds c.args.runs.now in
+    subst (λ (u : ℕ). WaitsBelow runs c.loop-run.walk u) (start_or-at runs c.loop-run.run (length c.args.classes.now) (omega (arith, c.loop-run-test.true, length-map c.args.runs.now bounds))) c.loop-run.invariant.waiting
+
+pub settle-requires-clause-waiting : goal.settle-requires-clause-waiting
+settle-requires-clause-waiting g c =
+    let runs = map bounds c.args.runs.now in
+    let w = c.loop-run.walk in
+    let long : length c.args.classes.now ≡ length c.loop-run.classes = omega (arith, c.loop-run.auto.classes) in
+    let all = read runs w c.loop-run.run (length c.args.classes.now) c.loop-run.steps c.args.steps.now (omega (arith, c.loop-run-test.false, length-map c.args.runs.now bounds)) c.loop-run.invariant.waiting c.loop-run.invariant.at_most in
+    subst (λ (u : ℕ). WaitsBelow runs w u) long all.waiting
+
+pub returns-clause-at_most : goal.returns-clause-at_most
+returns-clause-at_most g c =
+    let runs = map bounds c.args.runs.now in
+    let w = c.loop-run.walk in
+    let old = c.args.classes.now in
+    let long : length c.loop-run.classes ≡ length old = omega (arith, c.loop-run.auto.classes) in
+    let len_of = g.T.TextSource.units in
+    let chars : List ℕ = g.T.TextSource.characters c.args.text in
+    let all = read runs w c.loop-run.run (length old) c.loop-run.steps c.args.steps.now (omega (arith, c.loop-run-test.false, length-map c.args.runs.now bounds)) c.loop-run.invariant.waiting c.loop-run.invariant.at_most in
+    let new : ℕ = c.settle.new.steps in
+    let settled = subst (λ (u : ℕ). new + 2 * count_below runs (settled_to w u) ≤ c.loop-run.steps + 2 * count_below runs u) long c.settle.ensures.at_most in
+    omega (arith, all.at_most, settled, count_below-all 0 runs (length old) c.requires.ordered (within len_of chars runs old c.requires.lines c.requires.per_char))

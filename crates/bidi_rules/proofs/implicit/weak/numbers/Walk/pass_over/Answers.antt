@@ -3,7 +3,7 @@ use Rattle.bidi_rules.proofs.WeakWalkLemmas.{IsUnderWay-passes}
 use Rattle.bidi_rules.proofs.implicit.weak.numbers.Walk.pass_over.Goals as goal
 
 pub loop-unit-init : goal.loop-unit-init
-loop-unit-init c =
+loop-unit-init g c =
     let i = c.args.at in
     record {
       other = c.requires.other;
@@ -11,10 +11,11 @@ loop-unit-init c =
       passes = λ p run fits starts ends h.
           rw c.strong_up_to-self.ensures
           (IsUnderWay-passes p c.args.classes.now c.args.self.now i run h fits starts (omega (arith, c.requires.some)) (omega (arith, c.requires.some, c.requires.inside, h.long)) c.requires.other c.requires.first);
+      steps = omega arith;
     }
 
 pub loop-unit-preserved : goal.loop-unit-preserved
-loop-unit-preserved c =
+loop-unit-preserved g c =
     let i = c.loop-unit.unit in
     let inv = c.loop-unit.invariant in
     record {
@@ -25,4 +26,5 @@ loop-unit-preserved c =
           rw c.strong_up_to-self-in-loop-unit.ensures
           (IsUnderWay-passes p c.args.classes.now c.loop-unit.self i run so_far fits (omega (arith, c.loop-unit.auto.unit)) (omega (arith, c.loop-unit-test.true)) (omega (arith, c.loop-unit-test.true, c.requires.inside, so_far.long)) inv.other
           (sym c.is_asked.ensures ∙ c.if-is_asked.false));
+      steps = omega arith;
     }

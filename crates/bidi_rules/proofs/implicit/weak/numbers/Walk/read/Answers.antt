@@ -1,16 +1,19 @@
-use Rattle.std.proofs.Common.{◌≡◌, ◌-◌, ◌≤◌, ℕ, Bool, true, false, not, List, length, map, drop, refl, sym, ap, subst, ◌∙◌, inl, inr, arith}
+use Rattle.std.proofs.Common.{◌≡◌, ◌+◌, ◌-◌, ◌*◌, ◌<◌, ◌≤◌, ℕ, Bool, true, false, not, cond, List, length, map, get_or, drop, refl, sym, ap, subst, ◌∙◌, inl, inr, arith}
 use Rattle.std.specs.Prelude.{IsTrue}
-use Rattle.std.proofs.lemmas.Bool.{cases_Bool}
+use Rattle.std.proofs.lemmas.Bool.{cases_Bool, cases_lt, both_ways, cond-true, cond-false}
+use Rattle.std.proofs.lemmas.List.{get_or_past}
 use Rattle.bidi_base.specs.declared.char_data.BidiClass.{BidiClass}
 use Rattle.bidi_base.specs.Classes.{is_l}
 use Rattle.bidi_base.specs.Places.{class_at}
 use Rattle.bidi_base.specs.Units.{bounds, are_ordered}
 use Rattle.bidi_base.proofs.PerCharTests.{class_test}
 use Rattle.bidi_rules.specs.declared.implicit.weak.numbers.Walk.{Walk}
+use Rattle.bidi_rules.specs.declared.implicit.weak.steps.Before.{Before}
 use Rattle.bidi_rules.specs.ExplicitPass.{filled}
 use Rattle.bidi_rules.specs.WeakPass.{strengthened, strong_up_to, joins, waits, settled, resolved, next_before, w7_by, left_over}
-use Rattle.bidi_rules.specs.WeakWalk.{is_seen, seen, IsWrittenOver, Pass, IsUnderWay}
-use Rattle.bidi_rules.proofs.WeakWalkLemmas.{resolved-stays, IsWrittenOver-settled, IsUnderWay-same, IsUnderWay-joins, IsUnderWay-waits, IsUnderWay-decides}
+use Rattle.bidi_rules.specs.WeakWalk.{count_below, is_seen, seen, settled_to, IsWrittenOver, Pass, IsUnderWay, WaitsBelow}
+use Rattle.bidi_rules.proofs.CountBelow.{count_below-monotone, settled_to-waits}
+use Rattle.bidi_rules.proofs.WeakWalkLemmas.{joins-waits, resolved-stays, IsWrittenOver-settled, IsUnderWay-same, IsUnderWay-joins, IsUnderWay-waits, IsUnderWay-decides}
 use Rattle.bidi_rules.proofs.WrittenOver.{IsWrittenOver-filled}
 use Rattle.bidi_rules.proofs.implicit.weak.numbers.Walk.read.Goals as goal
 use Rattle.bidi_rules.proofs.implicit.weak.numbers.Walk.read.Goals.{then-not-is_joined_by+then-waits, then-not-is_joined_by+else-waits+then-ne, then-not-is_joined_by+else-waits+else-ne, else-not-is_joined_by}
@@ -38,7 +41,7 @@ above_settled w runs held i k now now1 order some none = elim (cases_Bool (waits
 ]
 
 pub returns-clause-rest : goal.returns-clause-rest
-returns-clause-rest c =
+returns-clause-rest g c =
     let w = c.args.self.now in
     let i = c.args.start in
     let now = c.args.classes.now in
@@ -52,7 +55,7 @@ returns-clause-rest c =
     ]
 
 pub returns-clause-reads : goal.returns-clause-reads
-returns-clause-reads c =
+returns-clause-reads g c =
     λ p s h.
     let w = c.args.self.now in
     let i = c.args.start in
@@ -94,4 +97,77 @@ returns-clause-reads c =
       | else-not-is_joined_by b ↦
           IsUnderWay-same p now _ _ _ j b.classes-is (strong_is _ b.self-is) n_is (ap (λ (t : Walk). t.first) b.self-is) (ap (λ (t : Walk). t.first_run) b.self-is)
           (IsUnderWay-joins p now w i h runs c.args.run j s (sym j_is ∙ b.if-not-is_joined_by.false))
+    ]
+
+-- what waits behind the stretch
+waits_behind : (runs : List (ℕ × ℕ)) (strong : BidiClass) (before : Before) (first first_run end : ℕ) → first_run ≤ length runs → (waits before ≡ true → first < end) → (waits before ≡ true → first < (get_or runs first_run (0, 0)).1)
+    → WaitsBelow runs (record { strong = strong; before = before; first = first; first_run = first_run }) end
+waits_behind runs strong before first first_run end fits below within = record { first_run = fits; first = below; run = within }
+
+run_fits : (runs : List (ℕ × ℕ)) (run start : ℕ) → start < (get_or runs run (0, 0)).1 → run < length runs
+run_fits runs run start within = elim (cases_lt run (length runs)) [
+  | inl fits ↦ fits
+  | inr past ↦ absurd (let none = ap (λ (r : ℕ × ℕ). r.1) (get_or_past runs run (0, 0) past) in omega (arith, none, within))
+]
+
+pub returns-clause-waiting : goal.returns-clause-waiting
+returns-clause-waiting g c =
+    let w = c.args.self.now in
+    let start = c.args.start in
+    let runs = map bounds c.args.runs.now in
+    let before = c.requires.waiting in
+    let fits = run_fits runs c.args.run start c.requires.run in
+    elim c.if-not-is_joined_by.branch [
+      | then-not-is_joined_by+then-waits b ↦
+          let first : c.if-not-is_joined_by.self.first ≡ start = ap (λ (t : Walk). t.first) b.self-is in
+          let first_run : c.if-not-is_joined_by.self.first_run ≡ c.args.run = ap (λ (t : Walk). t.first_run) b.self-is in
+          let within : c.if-not-is_joined_by.self.first < (get_or runs c.if-not-is_joined_by.self.first_run (0, 0)).1 = rw (first, first_run) c.requires.run in
+          waits_behind runs _ _ _ _ c.args.end (omega (arith, fits)) (λ t. omega (arith, c.requires.some)) (λ t. within)
+      | then-not-is_joined_by+else-waits+then-ne b ↦
+          let idle : waits c.after-next.result ≡ false = sym b.waits.ensures ∙ b.if-waits.false in
+          waits_behind runs _ _ _ _ c.args.end (omega (arith, before.first_run, ap (λ (t : Walk). t.first_run) b.self-is)) (λ t. absurd (both_ways _ idle t)) (λ t. absurd (both_ways _ idle t))
+      | then-not-is_joined_by+else-waits+else-ne b ↦
+          let idle : waits c.after-next.result ≡ false = sym b.waits.ensures ∙ b.if-waits.false in
+          waits_behind runs _ _ _ _ c.args.end (omega (arith, before.first_run, ap (λ (t : Walk). t.first_run) b.self-is)) (λ t. absurd (both_ways _ idle t)) (λ t. absurd (both_ways _ idle t))
+      | else-not-is_joined_by b ↦
+          let both = joins-waits c.strengthened-strong.result w.before (sym c.is_joined_by.ensures ∙ b.if-not-is_joined_by.false) in
+          let first : c.if-not-is_joined_by.self.first ≡ w.first = ap (λ (t : Walk). t.first) b.self-is in
+          let first_run : c.if-not-is_joined_by.self.first_run ≡ w.first_run = ap (λ (t : Walk). t.first_run) b.self-is in
+          let below = before.first both.0 in
+          let within : c.if-not-is_joined_by.self.first < (get_or runs c.if-not-is_joined_by.self.first_run (0, 0)).1 = rw (first, first_run) (before.run both.0) in
+          waits_behind runs _ _ _ _ c.args.end (omega (arith, before.first_run)) (λ t. omega (arith, below, c.requires.some)) (λ t. within)
+    ]
+
+-- the turns so far, where the stretch waits
+paid_waiting : (runs : List (ℕ × ℕ)) (t : Bool) (first start end a b : ℕ) → t ≡ true → first ≡ start → a ≤ b + 2 * count_below runs start → a ≤ b + 2 * count_below runs (cond t first end)
+paid_waiting runs t first start end a b waits same paid = omega (arith, paid, ap (count_below runs) (cond-true t first end waits ∙ same))
+
+-- and where it does not
+paid_idle : (runs : List (ℕ × ℕ)) (t : Bool) (first start end a b : ℕ) → are_ordered runs ≡ true → t ≡ false → start < end → a ≤ b + 2 * count_below runs start → a ≤ b + 2 * count_below runs (cond t first end)
+paid_idle runs t first start end a b ordered idle order paid = omega (arith, paid, ap (count_below runs) (cond-false t first end idle), count_below-monotone 0 runs start end ordered (omega arith))
+
+pub returns-clause-at_most : goal.returns-clause-at_most
+returns-clause-at_most g c =
+    let w = c.args.self.now in
+    let start = c.args.start in
+    let end = c.args.end in
+    let runs = map bounds c.args.runs.now in
+    let first = c.if-not-is_joined_by.self.first in
+    let next = waits c.after-next.result in
+    let old : ℕ = c.args.steps.now in
+    let new : ℕ = c.if-not-is_joined_by.steps in
+    let a = new + 2 * count_below runs (settled_to w start) in
+    elim c.if-not-is_joined_by.branch [
+      | then-not-is_joined_by+then-waits b ↦
+          paid_waiting runs next first start end a old (sym b.waits.ensures ∙ b.if-waits.true) (ap (λ (t : Walk). t.first) b.self-is) (rw b.steps-is b.settle.ensures.at_most)
+      | then-not-is_joined_by+else-waits+then-ne b ↦
+          paid_idle runs next first start end a old c.requires.ordered (sym b.waits.ensures ∙ b.if-waits.false) c.requires.some (rw b.steps-is b.settle.ensures.at_most)
+      | then-not-is_joined_by+else-waits+else-ne b ↦
+          paid_idle runs next first start end a old c.requires.ordered (sym b.waits.ensures ∙ b.if-waits.false) c.requires.some (rw b.steps-is b.settle.ensures.at_most)
+      | else-not-is_joined_by b ↦
+          let both = joins-waits c.strengthened-strong.result w.before (sym c.is_joined_by.ensures ∙ b.if-not-is_joined_by.false) in
+          let same : first ≡ w.first = ap (λ (t : Walk). t.first) b.self-is in
+          let steps : new ≡ old = b.steps-is in
+          let after : waits c.after-next.result ≡ true = ap waits c.after-next.ensures ∙ both.1 in
+          omega (arith, steps, ap (count_below runs) (settled_to-waits w start both.0), ap (count_below runs) (cond-true next first end after ∙ same))
     ]

@@ -1,13 +1,44 @@
-use Rattle.std.proofs.Common.{ℕ, List, refl, subst}
-use Rattle.bidi_rules.specs.WeakWalk.{is_seen, IsWrittenOver}
+use Rattle.std.proofs.Common.{◌≡◌, ℕ, ◌+◌, ◌*◌, ◌<◌, ◌≤◌, true, List, map, get_or, drop, refl, sym, ap, subst, ◌∙◌, arith}
+use Rattle.std.proofs.lemmas.List.{get_or-drop}
+use Rattle.bidi_base.specs.Units.{bounds, are_ordered}
+use Rattle.bidi_rules.specs.declared.implicit.weak.numbers.Walk.{Walk}
+use Rattle.bidi_rules.specs.WeakPass.{waits}
+use Rattle.bidi_rules.specs.WeakWalk.{count_below, is_seen, settled_to, IsWrittenOver, WaitsBelow}
+use Rattle.bidi_rules.proofs.CountBelow.{paid-by-part, settled_to-waits, settled_to-idle}
 use Rattle.bidi_rules.proofs.WalkLemmas.{forwards-in_order, part_after}
 use Rattle.bidi_rules.proofs.implicit.weak.numbers.Walk.settle.Goals as goal
 
-pub write_over_runs-requires-clause-ordered : goal.write_over_runs-requires-clause-ordered
-write_over_runs-requires-clause-ordered c = forwards-in_order c.args.runs.now c.args.runs.now c.args.self.now.first_run refl c.requires.ordered
+pub write_over_runs_counted-requires-clause-ordered : goal.write_over_runs_counted-requires-clause-ordered
+write_over_runs_counted-requires-clause-ordered g c = forwards-in_order c.args.runs.now c.args.runs.now c.args.self.now.first_run refl c.requires.ordered
 
 pub returns-then-waits-clause-held : goal.returns-then-waits-clause-held
-returns-then-waits-clause-held c =
+returns-then-waits-clause-held g c =
     let old = c.args.classes.now in
-    λ waiting. subst (λ (runs : List (ℕ × ℕ)). IsWrittenOver (is_seen runs old) c.args.class c.args.self.now.first c.args.to old c.write_over_runs.new.classes)
-    (part_after c.args.runs.now c.args.runs.now c.args.self.now.first_run refl) c.write_over_runs.ensures
+    λ waiting. subst (λ (runs : List (ℕ × ℕ)). IsWrittenOver (is_seen runs old) c.args.class c.args.self.now.first c.args.to old c.write_over_runs_counted.new.classes)
+    (part_after c.args.runs.now c.args.runs.now c.args.self.now.first_run refl) c.write_over_runs_counted.ensures.written
+
+-- the turns over the runs from the one where what waits begins
+paid : (runs : List (ℕ × ℕ)) (w : Walk) (to old new : ℕ) → are_ordered runs ≡ true → WaitsBelow runs w to → waits w.before ≡ true
+    → (w.first < to → w.first < (get_or (drop w.first_run runs) 0 (0, 0)).1 → new + 2 * count_below (drop w.first_run runs) w.first ≤ old + 2 * count_below (drop w.first_run runs) to)
+    → new + 2 * count_below runs (settled_to w to) ≤ old + 2 * count_below runs to
+paid runs w to old new ordered waiting t turns =
+    let before = waiting.first t in
+    let same : w.first_run + 0 ≡ w.first_run = omega arith in
+    let front : get_or (drop w.first_run runs) 0 (0, 0) ≡ get_or runs w.first_run (0, 0) = get_or-drop w.first_run runs 0 (0, 0) ∙ ap (λ (n : ℕ). get_or runs n (0, 0)) same in
+    let within : w.first < (get_or (drop w.first_run runs) 0 (0, 0)).1 = subst (λ (r : ℕ × ℕ). w.first < r.1) (sym front) (waiting.run t) in
+    let all : new + 2 * count_below runs w.first ≤ old + 2 * count_below runs to = paid-by-part w.first_run runs w.first to new old ordered (omega (arith, before)) (turns before within) in
+    omega (arith, all, ap (count_below runs) (settled_to-waits w to t))
+
+pub returns-then-waits-clause-at_most : goal.returns-then-waits-clause-at_most
+returns-then-waits-clause-at_most g c =
+    let w = c.args.self.now in
+    let to = c.args.to in
+    let new : ℕ = c.write_over_runs_counted.new.steps in
+    let old : ℕ = c.args.steps.now in
+    paid (map bounds c.args.runs.now) w to old new c.requires.ordered c.requires.waiting (sym c.waits.ensures ∙ c.if-waits.true)
+    (subst (λ (runs : List (ℕ × ℕ)). w.first < to → w.first < (get_or runs 0 (0, 0)).1 → new + 2 * count_below runs w.first ≤ old + 2 * count_below runs to)
+    (part_after c.args.runs.now c.args.runs.now w.first_run refl) c.write_over_runs_counted.ensures.at_most)
+
+pub returns-else-waits-clause-at_most : goal.returns-else-waits-clause-at_most
+returns-else-waits-clause-at_most g c =
+    omega (arith, ap (count_below (map bounds c.args.runs.now)) (settled_to-idle c.args.self.now c.args.to (sym c.waits.ensures ∙ c.if-waits.false)))

@@ -13,11 +13,12 @@ use Rattle.bidi_base.proofs.PerUnit.{length-per_char}
 use Rattle.bidi_base.specs.contracts.char_data.BidiClassPartialEq.TheImpl.{ghosts}
 use Rattle.bidi_base.proofs.PerCharTests.{class_test}
 use Rattle.bidi_base.proofs.UnitsLemmas.{length-from_is_per_char}
+use Rattle.bidi_rules.specs.Status.{entry_count}
 use Rattle.bidi_rules.proofs.RunCutting.{IsCutTo-end, IsCutTo-none}
 use Rattle.bidi_rules.proofs.ExplicitUnits.{IsTurn, IsRead-start, IsRead-can, IsRead-kept, IsRead-removed, IsRead-levels, IsRead-classes, turn_of, few_characters, text_len-some}
-use Rattle.bidi_rules.proofs.explicit.compute.Given.{Over}
-use Rattle.bidi_rules.proofs.explicit.compute.Goals as goal
-use Rattle.bidi_rules.proofs.explicit.compute.Goals.{In-Some, In-None}
+use Rattle.bidi_rules.proofs.explicit.compute_counted.Given.{Over}
+use Rattle.bidi_rules.proofs.explicit.compute_counted.Goals as goal
+use Rattle.bidi_rules.proofs.explicit.compute_counted.Goals.{In-Some, In-None}
 
 -- the character that comes
 record Comes (g : Over) (c : In-Some g) : Type 0 where
@@ -39,6 +40,8 @@ loop-start-init g c =
       rw c.into_iter-start-iterator.ensures.into_iter_gives c.indices_lengths-start-items.ensures.can_next,
       rw c.into_iter-start-iterator.ensures.into_iter_gives c.indices_lengths-start-items.ensures.finite,
       IsRead-start len_of chars c.args.para_level stored c.new-stack.result c.args.levels.now c.args.processing_classes.now (map bounds c.args.runs.now.items) c.new-stack.ensures (omega (arith, c.requires.levels, long)) (ap length c.requires.processing ∙ long) (ap (map bounds) c.requires.runs),
+      omega arith,
+      omega (arith, ap entry_count c.new-stack.ensures),
     )
 
 pub bounds-original_classes-start : goal.bounds-original_classes-start
@@ -74,6 +77,8 @@ loop-start-preserved-then-not_removed_by_x9 g c =
           c.loop-start.stack c.read-status.new.self _ c.own_level-level.result c.own_class.result
           c.read-status.ensures.state c.read-status.ensures.status c.own_level-level.ensures c.own_class.ensures
           c.loop-start.levels c.loop-start.processing_classes (map bounds c.loop-start.runs.items) c.loop-start.run_start c.loop-start.last_level kept c.loop-start.invariant.2),
+      omega (arith, length_push c.loop-start.yielded (c.in-Some.start, c.in-Some.len), c.read-status.ensures.at_least),
+      omega (arith, length_push c.loop-start.yielded (c.in-Some.start, c.in-Some.len), c.read-status.ensures.at_most),
     )
 
 pub loop-start-preserved : goal.loop-start-preserved
@@ -87,6 +92,8 @@ loop-start-preserved g c =
           c.loop-start.stack c.read-status.new.self _ c.own_level-level.result c.own_class.result
           c.read-status.ensures.state c.read-status.ensures.status c.own_level-level.ensures c.own_class.ensures
           c.loop-start.levels c.loop-start.processing_classes (map bounds c.loop-start.runs.items) c.loop-start.run_start c.loop-start.last_level gone c.loop-start.invariant.2),
+      omega (arith, length_push c.loop-start.yielded (c.in-Some.start, c.in-Some.len), c.read-status.ensures.at_least),
+      omega (arith, length_push c.loop-start.yielded (c.in-Some.start, c.in-Some.len), c.read-status.ensures.at_most),
     )
 
 -- what is written once all characters came
@@ -116,6 +123,8 @@ returns-in_ok-push g c =
           ∙ map-append bounds c.loop-start.runs.items (record { start = c.loop-start.run_start; end = c.len-units.result } ∷ [])
           ∙ ap (λ (n : ℕ). map bounds c.loop-start.runs.items ++ (c.loop-start.run_start, n) ∷ []) c.len-units.ensures
           ∙ IsCutTo-end g.T.TextSource.units (g.T.TextSource.characters c.args.text) (per_char L g.T.TextSource.units (g.T.TextSource.characters c.args.text) c.args.original_classes.now) (explicit_levels c.args.para_level (per_char L g.T.TextSource.units (g.T.TextSource.characters c.args.text) c.args.original_classes.now)) (length c.loop-start.yielded) (map bounds c.loop-start.runs.items) c.loop-start.run_start c.loop-start.last_level end.all (omega (arith, some, length-per_char L g.T.TextSource.units (g.T.TextSource.characters c.args.text) c.args.original_classes.now)) c.loop-start.invariant.2.cut;
+      at_least = omega (arith, end.all, length-per_char L g.T.TextSource.units (g.T.TextSource.characters c.args.text) c.args.original_classes.now);
+      at_most = omega (arith, end.all, length-per_char L g.T.TextSource.units (g.T.TextSource.characters c.args.text) c.args.original_classes.now);
     }
 
 pub returns-else-units-gt0 : goal.returns-else-units-gt0
@@ -126,4 +135,6 @@ returns-else-units-gt0 g c =
       levels = end.levels;
       classes = end.classes;
       runs = IsCutTo-none g.T.TextSource.units (g.T.TextSource.characters c.args.text) (per_char L g.T.TextSource.units (g.T.TextSource.characters c.args.text) c.args.original_classes.now) (explicit_levels c.args.para_level (per_char L g.T.TextSource.units (g.T.TextSource.characters c.args.text) c.args.original_classes.now)) (length c.loop-start.yielded) (map bounds c.loop-start.runs.items) c.loop-start.run_start c.loop-start.last_level end.all (omega (arith, few, c.len-units.ensures, end.all, length-per_char L g.T.TextSource.units (g.T.TextSource.characters c.args.text) c.args.original_classes.now)) c.loop-start.invariant.2.cut;
+      at_least = omega (arith, end.all, length-per_char L g.T.TextSource.units (g.T.TextSource.characters c.args.text) c.args.original_classes.now);
+      at_most = omega (arith, end.all, length-per_char L g.T.TextSource.units (g.T.TextSource.characters c.args.text) c.args.original_classes.now);
     }

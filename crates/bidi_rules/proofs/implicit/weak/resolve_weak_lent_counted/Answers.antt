@@ -1,5 +1,5 @@
 -- The three steps, one behind another.
-use Rattle.std.proofs.Common.{◌≡◌, ℕ, true, false, List, length, map, sym, subst}
+use Rattle.std.proofs.Common.{◌≡◌, ℕ, true, false, List, length, map, sym, subst, arith}
 use Rattle.std.specs.declared.ops.Range.{Range}
 use Rattle.bidi_base.specs.declared.char_data.BidiClass.{BidiClass}
 use Rattle.bidi_base.specs.Places.{class_at}
@@ -13,9 +13,10 @@ use Rattle.bidi_rules.specs.declared.prepare.lent.LentSequence.{LentSequence}
 use Rattle.bidi_rules.specs.RunSequence.{lent_runs, lent_sos}
 use Rattle.bidi_rules.specs.WeakPass.{left_over}
 use Rattle.bidi_rules.specs.WeakWalk.{len_at, IsMarked, IsWalked}
+use Rattle.bidi_rules.proofs.CountBelow.{characters-at_most}
 use Rattle.bidi_rules.proofs.WalkLemmas.{is_run_sequence-ordered}
 use Rattle.bidi_rules.proofs.WeakText.{IsResolved, IsResolved-passes, lines-within, marked-IsPerChar}
-use Rattle.bidi_rules.proofs.implicit.weak.resolve_weak_lent.Goals as goal
+use Rattle.bidi_rules.proofs.implicit.weak.resolve_weak_lent_counted.Goals as goal
 
 -- what the steps over the runs `read` of a sequence stand on
 record IsReady (len_of : ℕ → ℕ) (chars : List ℕ) (read : List (Range ℕ)) (old : List BidiClass) : Type 0 where
@@ -56,17 +57,17 @@ resolve_numbers-requires-clause-per_char g c =
     let old = c.args.processing_classes.now in
     let read = c.runs-runs.result.now in
     let w = ready len_of h chars c.args.sequence read old c.runs-runs.ensures c.requires.fits c.requires.per_char in
-    marked-IsPerChar len_of h chars (map bounds read) w.lines w.ordered c.sos-sos.result old w.per c.resolve_marks.new.classes c.resolve_marks.ensures
+    marked-IsPerChar len_of h chars (map bounds read) w.lines w.ordered c.sos-sos.result old w.per c.resolve_marks.new.classes c.resolve_marks.ensures.marked
 
-pub change-requires : goal.change-requires
-change-requires g c =
+pub change-requires-clause-within : goal.change-requires-clause-within
+change-requires-clause-within g c =
     let len_of = g.T.TextSource.units in
     let chars : List ℕ = g.T.TextSource.characters c.args.text in
     let h = g.met.T.TextSource.has_units in
     let old = c.args.processing_classes.now in
     let read = c.runs-runs.result.now in
     let w = ready len_of h chars c.args.sequence read old c.runs-runs.ensures c.requires.fits c.requires.per_char in
-    rw (c.resolve_numbers.ensures.long, c.resolve_marks.ensures.long) (lines-within len_of h chars (map bounds read) w.lines w.ordered c.sos-sos.result old w.per)
+    rw (c.resolve_numbers.ensures.walked.long, c.resolve_marks.ensures.marked.long) (lines-within len_of h chars (map bounds read) w.lines w.ordered c.sos-sos.result old w.per)
 
 pub returns : goal.returns
 returns g c =
@@ -78,5 +79,13 @@ returns g c =
     let w = ready len_of h chars c.args.sequence read old c.runs-runs.ensures c.requires.fits c.requires.per_char in
     let e = c.change.ensures in
     let r = resolved len_of h chars c.args.sequence read c.sos-sos.result c.runs-runs.ensures c.sos-sos.ensures old c.resolve_marks.new.classes c.resolve_numbers.new.classes c.change.new.classes w
-    c.resolve_marks.ensures c.resolve_numbers.ensures e.changed e.same e.long in
-    record { kept = r.kept; removed = r.removed; outside = r.outside; per_char = r.per_char }
+    c.resolve_marks.ensures.marked c.resolve_numbers.ensures.walked e.changed e.same e.long in
+    let few = characters-at_most len_of h chars (map bounds read) w.lines in
+    record {
+      kept = r.kept;
+      removed = r.removed;
+      outside = r.outside;
+      per_char = r.per_char;
+      at_least = rw (← c.runs-runs.ensures) (omega (arith, few, c.resolve_marks.ensures.at_least, c.resolve_numbers.ensures.at_least, e.at_least));
+      at_most = rw (← c.runs-runs.ensures) (omega (arith, c.resolve_marks.ensures.at_most, c.resolve_numbers.ensures.at_most, e.at_most));
+    }

@@ -1,0 +1,18 @@
+-- A fold that looks at every element is the test whether one of them passes.
+use Rattle.std.proofs.Common.{◌≡◌, Bool, true, false, ◌||◌, List, [], ◌∷◌, refl, ◌∙◌}
+use Rattle.std.specs.List.{fold, list_any}
+
+or_assoc : (a b c : Bool) → ((a || b) || c) ≡ (a || (b || c))
+or_assoc true b c = refl
+or_assoc false b c = refl
+
+or_false : (a : Bool) → a ≡ (a || false)
+or_false true = refl
+or_false false = refl
+
+fold_or : {X : Type 0} (p : X → Bool) (b : Bool) (xs : List X) → fold (λ (found : Bool) (x : X). found || p x) b xs ≡ (b || list_any p xs)
+fold_or p b [] = or_false b
+fold_or p b (x ∷ xs) = fold_or p (b || p x) xs ∙ or_assoc b (p x) (list_any p xs)
+
+pub fold_any : {X : Type 0} (p : X → Bool) (xs : List X) → fold (λ (found : Bool) (x : X). found || p x) false xs ≡ list_any p xs
+fold_any p xs = fold_or p false xs
