@@ -3,6 +3,8 @@ pub mod ExplicitUnits
 pub mod FirstKept
 pub mod Gathered
 pub mod InRuns
+pub mod JoinScan
+pub mod JoinWalk
 pub mod KeptRangeLemmas
 pub mod KeptRuns
 pub mod LevelRunLemmas
@@ -26,6 +28,7 @@ pub mod RunUnits
 pub mod SeenUnits
 pub mod Spots
 pub mod StackLemmas
+pub mod UnitBrackets
 pub mod WalkLemmas
 pub mod WeakMarks
 pub mod WeakPassLemmas
