@@ -56,6 +56,7 @@ pub mod RepeatedPlaces
 pub mod RepeatedRules
 pub mod ResolvedLemmas
 pub mod RunsLemmas
+pub mod SearchLanes
 pub mod SequencePlaces
 pub mod SequencesLemmas
 pub mod StatusBounds

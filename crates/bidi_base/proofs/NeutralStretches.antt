@@ -65,7 +65,7 @@ n1_n2-neutrals e left eos (c ∷ cs) after h =
     ∙ ap (λ (xs : List BidiClass). taken ∷ xs) (behind_alike e left left eos (c ∷ []) [] (cs ++ after) (past_neutral left c [] parts.0) ∙ n1_n2-neutrals e left eos cs after parts.1)
 
 -- a class with a direction stays, and what is behind it sees that direction
-n1_n2-directed : (e left right eos c : BidiClass) (after : List BidiClass) → as_direction c ≡ Some right → n1_n2 e left eos (c ∷ after) ≡ c ∷ n1_n2 e right eos after
+pub n1_n2-directed : (e left right eos c : BidiClass) (after : List BidiClass) → as_direction c ≡ Some right → n1_n2 e left eos (c ∷ after) ≡ c ∷ n1_n2 e right eos after
 n1_n2-directed e left right eos c after is =
     ap (λ (x : BidiClass). x ∷ in_context (n1_rule e left eos) (c ∷ []) after) (cond-false (is_neutral c) (common e left (nearest_direction eos after)) c (directed-other c right is))
     ∙ ap (λ (xs : List BidiClass). c ∷ xs) (behind_alike e left right eos (c ∷ []) [] after (nearest_direction-more left c [] ∙ ap (λ (o : Option BidiClass). unwrap_or o left) is))

@@ -21,6 +21,7 @@ pub mod Order
 pub mod Paragraphs
 pub mod Places
 pub mod Reading
+pub mod Search
 pub mod SequencePass
 pub mod Sequences
 pub mod Source

@@ -75,21 +75,19 @@ pub fn is_blank(class: BidiClass) -> bool
     ) || is_removed(class)
 }
 
-/// NI: the neutrals and isolate formatting characters of N1.
+/// NI: the neutrals and isolate formatting characters of N1. The test has no branch, so that a loop
+/// tests many units at once.
 pub fn is_neutral(class: BidiClass) -> bool
     ensures { result ≡ is_neutral class }
 {
-    matches!(
-        class,
-        BidiClass::B
-            | BidiClass::S
-            | BidiClass::WS
-            | BidiClass::ON
-            | BidiClass::LRI
-            | BidiClass::RLI
-            | BidiClass::FSI
-            | BidiClass::PDI
-    )
+    (class == BidiClass::B)
+        | (class == BidiClass::S)
+        | (class == BidiClass::WS)
+        | (class == BidiClass::ON)
+        | (class == BidiClass::LRI)
+        | (class == BidiClass::RLI)
+        | (class == BidiClass::FSI)
+        | (class == BidiClass::PDI)
 }
 
 /// What can make a paragraph of level 0 other than left to right throughout.

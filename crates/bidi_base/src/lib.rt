@@ -12,4 +12,5 @@ pub mod isolates;
 pub mod level;
 pub mod neutrals;
 pub mod sample;
+pub mod search;
 pub mod text;

@@ -8,6 +8,8 @@ mod encoding_rows;
 #[cfg(test)]
 mod levels;
 #[cfg(test)]
+mod searches;
+#[cfg(test)]
 mod sources;
 #[cfg(test)]
 mod texts;

@@ -36,7 +36,7 @@ module _ (len_of : ℕ → ℕ) (chars : List ℕ) (source : Source) (units : Li
   removed-none BN o u h = refl
   removed-none _ o u h = absurd (cc h)
 
-  placed-one : (k : ℕ) → placed (kept_among len_of chars units (k ∷ [])) ≡ placed_bracket len_of chars source units k
+  pub placed-one : (k : ℕ) → placed (kept_among len_of chars units (k ∷ [])) ≡ placed_bracket len_of chars source units k
   placed-one k = elim (cases_Bool (is_kept_in_place (class_at units (place len_of chars k)))) [
     | inl yes' ↦ ap placed (cond-true (is_kept_in_place (class_at units (place len_of chars k))) (k ∷ []) [] yes') ∙ append-nil (placed_bracket len_of chars source units k)
     | inr no' ↦

@@ -5,6 +5,8 @@ pub mod FirstKept
 pub mod FoldAny
 pub mod Gathered
 pub mod InRuns
+pub mod JoinScan
+pub mod JoinWalk
 pub mod KeptRangeLemmas
 pub mod KeptRuns
 pub mod LevelRunLemmas
@@ -29,6 +31,7 @@ pub mod RunUnits
 pub mod SeenUnits
 pub mod Spots
 pub mod StackLemmas
+pub mod UnitBrackets
 pub mod WalkLemmas
 pub mod WeakMarks
 pub mod WeakPassLemmas

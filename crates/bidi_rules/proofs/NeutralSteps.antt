@@ -55,6 +55,13 @@ IsReady-sequence len_of h chars sequence runs sos old runs_is sos_is per lines r
       resolved = resolved;
     }))
 
+pub eos-side : (sequence : LentSequence) (eos : BidiClass) → eos ≡ lent_eos sequence → is_l_or_r eos ≡ true
+eos-side sequence eos is =
+    let all = map bounds sequence.runs.now in
+    let sides = is_l_or_r sequence.sos && is_l_or_r sequence.eos in
+    let last = and_parts (are_ordered all) sides (and_parts (ltb 0 (length all)) (are_ordered all && sides) sequence.well_formed).1 in
+    ap is_l_or_r is ∙ (and_parts (is_l_or_r sequence.sos) (is_l_or_r sequence.eos) last.1).1
+
 module _ (len_of : ℕ → ℕ) (h : HasUnits len_of) (chars : List ℕ) (runs : List (Range ℕ)) (sos : BidiClass) (old : List BidiClass) (ready : IsReady len_of chars runs sos old) where
   abbrev read : List ℕ
   read = kept_in_place len_of chars old (map bounds runs)

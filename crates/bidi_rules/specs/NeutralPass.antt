@@ -1,13 +1,14 @@
 -- The neutrals of a sequence over the list of its characters: what is gathered from the units, and what is written back to them.
 use Rattle.std.specs.Prelude.{◌≡◌, ℕ, Bool, true, false, List, [], ◌∷◌, get_or, map, flat_map, length, filter}
 use Rattle.std.specs.List.{list_all}
+use Rattle.std.specs.Option.{option_map_or}
 use Rattle.std.specs.declared.ops.Range.{Range}
 use Rattle.bidi_base.specs.declared.char_data.BidiClass.{BidiClass}
 use Rattle.bidi_base.specs.declared.char_data.BidiClass.TheVariants.{L, R, EN, AN}
 use Rattle.bidi_base.specs.Classes.{is_l_or_r, is_kept_in_place, is_weak_resolved}
 use Rattle.bidi_base.specs.Places.{at_places, between, class_at}
 use Rattle.bidi_base.specs.Source.{Source}
-use Rattle.bidi_base.specs.Text.{place, IsPerChar}
+use Rattle.bidi_base.specs.Text.{char_at, place, IsPerChar}
 use Rattle.bidi_base.specs.Units.{bounds, are_ordered, kept_in_place, AreLines}
 use Rattle.bidi_base.specs.Brackets.{bracket_pairs, counted_bracket}
 use Rattle.bidi_base.specs.Neutral.{n0}
@@ -35,6 +36,14 @@ placed_bracket len_of chars source units k = brackets_from (place len_of chars k
 -- those of the characters with these indexes
 abbrev pub placed_brackets : (ℕ → ℕ) → List ℕ → Source → List BidiClass → List ℕ → List Bracket
 placed_brackets len_of chars source units indexes = flat_map (placed_bracket len_of chars source units) indexes
+
+-- the bracket that begins at a unit, if one does and it counts
+abbrev pub unit_bracket : (ℕ → ℕ) → List ℕ → Source → List BidiClass → ℕ → List Bracket
+unit_bracket len_of chars source units u = option_map_or (λ e. brackets_from u (counted_bracket (class_at units u) (source.bracket_of e.0) ∷ [])) (char_at len_of chars u) []
+
+-- those at the units from `low` up to `high`
+abbrev pub unit_brackets : (ℕ → ℕ) → List ℕ → Source → List BidiClass → ℕ → ℕ → List Bracket
+unit_brackets len_of chars source units low high = flat_map (unit_bracket len_of chars source units) (between low high)
 
 -- a resolver that has gathered nothing
 pub record HasGatheredNothing (r : NeutralResolver) : Type 0 where

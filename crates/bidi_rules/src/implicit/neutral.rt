@@ -7,7 +7,6 @@ ghost use Rattle.std.specs.Prelude.{◌≡◌, ℕ, List, [], ◌∷◌, ◌++�
 ghost use Rattle.std.specs.List.{list_all};
 ghost use Rattle.bidi_base.specs.declared.char_data.BidiClass.TheVariants.{L, BN};
 ghost use Rattle.bidi_base.specs.declared.data_source.BidiMatchedOpeningBracket.{BidiMatchedOpeningBracket};
-ghost use Rattle.bidi_base.specs.Brackets.{counted_bracket};
 ghost use Rattle.bidi_base.specs.Classes.{is_l_or_r, is_weak_resolved};
 ghost use Rattle.bidi_base.specs.Neutral.{n0, neutral_classes};
 ghost use Rattle.bidi_base.specs.Places.{at_places, class_at, first_or};
@@ -18,6 +17,7 @@ ghost use Rattle.bidi_base.specs.FoundBrackets.{brackets_from};
 ghost use Rattle.bidi_rules.specs.NeutralPass.{pairs_in, placed_brackets, HasGatheredNothing, IsPaired, IsReady};
 ghost use Rattle.bidi_rules.specs.RunSequence.{lent_runs, lent_sos, lent_eos, runs as runs_of, sos as sos_of, eos as eos_of};
 
+mod class_tests;
 mod directions;
 mod marks;
 mod nearest;
@@ -30,7 +30,9 @@ use bidi_base::brackets::{Bracket, find_pairs};
 use bidi_base::char_data::BidiClass;
 use bidi_base::data_source::BidiDataSource;
 use bidi_base::level::Level;
+use bidi_base::search::first_passing;
 use bidi_base::text::TextSource;
+use class_tests::OtherNeutral;
 use directions::{Directions, resolve_directions};
 use nearest::first_kept;
 use one_direction::stands_alone;
@@ -205,34 +207,33 @@ impl NeutralResolver {
         ensures { OnOk result (self.new.brackets.items ≡ self.old.brackets.items ++ placed_brackets T.units (T.characters text) (D.source data_source.now) classes.now
             (kept_in_place T.units (T.characters text) classes.now (bounds run.now ∷ []))) }
     {
-        let begin = run.start;
-        for (offset, c) in text.subrange(begin..run.end).char_indices() {
-            let at = begin + offset;
-            self.push(data_source, classes[at], at, c)?;
+        let end = run.end;
+        let mut at = first_passing(OtherNeutral, classes, run.start, end);
+        while at < end {
+            if let Some((c, _)) = text.char_at(at) {
+                self.push(data_source, at, c)?;
+            }
+            at = first_passing(OtherNeutral, classes, at + 1, end);
         }
         Ok(())
     }
 
-    /// Takes the next character, which has this class and begins at a unit, if it is a bracket that
-    /// counts.
+    /// Takes a character that begins at a unit, of class ON, if it is a bracket.
     fn push<D: BidiDataSource>(
         &mut self,
         data_source: &D,
-        class: BidiClass,
         at: usize,
         c: char,
     ) -> Result<(), AllocError>
         ensures { OnOk result (self.new.brackets.items ≡ self.old.brackets.items
-            ++ brackets_from at (counted_bracket class ((D.source data_source.now).bracket_of c) ∷ [])) }
+            ++ brackets_from at ((D.source data_source.now).bracket_of c ∷ [])) }
     {
-        if class == BidiClass::ON {
-            if let Some(bracket) = data_source.bidi_matched_opening_bracket(c) {
-                self.brackets.push(Bracket {
-                    index: at,
-                    opening: bracket.opening,
-                    is_open: bracket.is_open,
-                })?;
-            }
+        if let Some(bracket) = data_source.bidi_matched_opening_bracket(c) {
+            self.brackets.push(Bracket {
+                index: at,
+                opening: bracket.opening,
+                is_open: bracket.is_open,
+            })?;
         }
         Ok(())
     }

@@ -6,10 +6,12 @@ ghost use Rattle.bidi_base.specs.Places.{class_at};
 ghost use Rattle.bidi_base.specs.Units.{bounds, are_ordered, in_runs, units_in_runs};
 ghost use Rattle.bidi_rules.specs.PairWalk.{IsFirstFor, IsNearestBefore};
 
+use super::class_tests::For;
 use crate::implicit::is_kept_in_place;
 use crate::prepare::LevelRun;
 use bidi_base::char_data::BidiClass;
-use bidi_base::classes::{as_direction, stands_for};
+use bidi_base::classes::as_direction;
+use bidi_base::search::first_passing;
 
 /// The first unit of a sequence that is not BN.
 pub fn first_kept(runs: &[LevelRun], classes: &[BidiClass]) -> Option<usize>
@@ -60,10 +62,11 @@ pub fn first_for(
     ensures { IsFirstFor direction (map bounds runs.now) classes.now from to result }
 {
     for run in runs {
-        for unit in run.start.max(from)..run.end.min(to) {
-            if stands_for(classes[unit], direction) {
-                return unit;
-            }
+        let end = run.end.min(to);
+        let start = run.start.max(from).min(end);
+        let unit = first_passing(For(direction), classes, start, end);
+        if unit < end {
+            return unit;
         }
     }
     to

@@ -8,12 +8,12 @@ ghost use Rattle.bidi_base.specs.Units.{bounds, are_ordered, kept_in_place, AreL
 ghost use Rattle.bidi_rules.specs.NeutralPass.{IsPaired, IsReady};
 ghost use Rattle.bidi_rules.specs.PairWalk.{at_spots, opposite_of, IsAsked, IsRow, IsSet, IsSetUpTo, IsTaken};
 
-use super::directions::Directions;
+use super::directions::{Directions, opposite_of};
 use super::marks::{end_of, marks_end};
 use super::nearest::{direction_before, first_for, run_of};
 use crate::implicit::weak::write_over_runs;
 use crate::prepare::LevelRun;
-use bidi_base::char_data::BidiClass::{self, L, NSM, R};
+use bidi_base::char_data::BidiClass::{self, NSM};
 use bidi_base::text::TextSource;
 
 /// N0: the pairs one by one, in the order of their openings, each by the units at which its brackets
@@ -70,16 +70,6 @@ fn is_mark(class: BidiClass) -> bool
     ensures { result ≡ is_nsm class }
 {
     matches!(class, NSM)
-}
-
-/// The direction other than this one.
-fn opposite_of(direction: BidiClass) -> BidiClass
-    ensures { result ≡ opposite_of direction }
-{
-    match direction {
-        L => R,
-        _ => L,
-    }
 }
 
 /// Where a direction stands next.

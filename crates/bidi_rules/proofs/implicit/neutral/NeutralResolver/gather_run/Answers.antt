@@ -1,65 +1,85 @@
-use Rattle.std.proofs.Common.{◌≡◌, ℕ, ◌+◌, List, ◌++◌, length, ap, ◌∙◌, arith}
-use Rattle.std.proofs.lemmas.List.{length_push}
+use Rattle.std.proofs.Common.{◌≡◌, ℕ, ◌+◌, ◌≤◌, ◌<◌, List, [], ◌∷◌, ◌++◌, length, Option, Some, None, refl, sym, ap, ◌∙◌, arith, append-nil, append_assoc, true}
+use Rattle.std.specs.Option.{option_map_or}
+use Rattle.bidi_base.specs.declared.brackets.Bracket.{Bracket}
+use Rattle.bidi_base.specs.declared.char_data.BidiClass.{BidiClass}
+use Rattle.bidi_base.specs.declared.char_data.BidiClass.TheVariants.{ON}
+use Rattle.bidi_base.specs.declared.data_source.BidiMatchedOpeningBracket.{BidiMatchedOpeningBracket}
+use Rattle.bidi_base.specs.Brackets.{counted_bracket}
+use Rattle.bidi_base.specs.Classes.{same_class}
+use Rattle.bidi_base.specs.FoundBrackets.{brackets_from}
+use Rattle.bidi_base.specs.Places.{class_at}
 use Rattle.bidi_base.specs.Source.{Source}
+use Rattle.bidi_base.specs.Text.{char_at, text_len}
 use Rattle.bidi_base.proofs.TextLemmas.{is_boundary-le}
-use Rattle.bidi_base.proofs.PlaceLemmas.{index_turn, index_end}
-use Rattle.bidi_rules.specs.NeutralPass.{placed_brackets}
-use Rattle.bidi_rules.proofs.Gathered.{placed-more}
-use Rattle.bidi_rules.proofs.KeptRuns.{line_turn, line_end, kept_so_far-end}
+use Rattle.bidi_rules.specs.NeutralPass.{unit_bracket, unit_brackets}
+use Rattle.bidi_rules.proofs.UnitBrackets.{unit_brackets-none, unit_brackets-more, unit_brackets-line}
 use Rattle.bidi_rules.proofs.implicit.neutral.NeutralResolver.gather_run.Goals as goal
+use Rattle.bidi_rules.proofs.implicit.neutral.NeutralResolver.gather_run.Goals.{in-Some+in_ok-push, in_default}
 
-pub overflow_add-at : goal.overflow_add-at
-overflow_add-at g c =
-    let len_of = g.T.TextSource.units in
-    let h = g.met.T.TextSource.has_units in
+pub first_passing-at-requires-clause-inside : goal.first_passing-at-requires-clause-inside
+first_passing-at-requires-clause-inside g c =
     let chars : List ℕ = g.T.TextSource.characters c.args.text in
-    let part : List ℕ = g.T.TextSource.characters c.subrange.result in
-    let run = c.args.run.now in
-    let n = length c.loop-offset.yielded in
-    let turn = index_turn len_of part c.char_indices-offset-items.ensures c.into_iter-offset-iterator.ensures.into_iter_gives c.loop-offset.yielded _ c.loop-offset.yielded_by _ _ c.in-Some.offset c.in-Some.c c.in-Some.is c.next.ensures.steps in
-    let t = line_turn len_of h chars run.start run.end c.requires.line part c.subrange.ensures n c.in-Some.offset c.in-Some.c turn in
-    omega (arith, t.some, t.below, c.fits-run)
+    omega (arith, is_boundary-le g.T.TextSource.units chars c.args.run.now.end c.requires.line.ends, c.requires.long)
 
-pub bounds-classes-at : goal.bounds-classes-at
-bounds-classes-at g c =
-    let len_of = g.T.TextSource.units in
-    let h = g.met.T.TextSource.has_units in
+pub first_passing-at-requires-in-loop-at-clause-inside : goal.first_passing-at-requires-in-loop-at-clause-inside
+first_passing-at-requires-in-loop-at-clause-inside g c =
     let chars : List ℕ = g.T.TextSource.characters c.args.text in
-    let part : List ℕ = g.T.TextSource.characters c.subrange.result in
-    let run = c.args.run.now in
-    let n = length c.loop-offset.yielded in
-    let turn = index_turn len_of part c.char_indices-offset-items.ensures c.into_iter-offset-iterator.ensures.into_iter_gives c.loop-offset.yielded _ c.loop-offset.yielded_by _ _ c.in-Some.offset c.in-Some.c c.in-Some.is c.next.ensures.steps in
-    let t = line_turn len_of h chars run.start run.end c.requires.line part c.subrange.ensures n c.in-Some.offset c.in-Some.c turn in
-    omega (arith, t.some, t.below, is_boundary-le len_of chars run.end c.requires.line.ends, c.requires.long)
+    omega (arith, is_boundary-le g.T.TextSource.units chars c.args.run.now.end c.requires.line.ends, c.requires.long)
 
-pub loop-offset-preserved : goal.loop-offset-preserved
-loop-offset-preserved g c =
-    let len_of = g.T.TextSource.units in
-    let h = g.met.T.TextSource.has_units in
+pub loop-at-init : goal.loop-at-init
+loop-at-init g c =
     let chars : List ℕ = g.T.TextSource.characters c.args.text in
-    let part : List ℕ = g.T.TextSource.characters c.subrange.result in
-    let run = c.args.run.now in
-    let n = length c.loop-offset.yielded in
-    let turn = index_turn len_of part c.char_indices-offset-items.ensures c.into_iter-offset-iterator.ensures.into_iter_gives c.loop-offset.yielded _ c.loop-offset.yielded_by _ _ c.in-Some.offset c.in-Some.c c.in-Some.is c.next.ensures.steps in
-    let t = line_turn len_of h chars run.start run.end c.requires.line part c.subrange.ensures n c.in-Some.offset c.in-Some.c turn in
-    let source : Source = g.D.BidiDataSource.source c.args.data_source.now in (
-      c.in-Some.ensures.goes.keeps,
-      (c.in-Some.ensures.goes.on c.loop-offset.invariant.1).1,
-      rw length_push
-          (placed-more len_of chars source c.args.classes.now run.start n (run.start + c.in-Some.offset) c.in-Some.c c.args.self.now.brackets.items c.loop-offset.self.brackets.items c.push.new.self.brackets.items t.here t.is_char
-          c.loop-offset.invariant.2 c.in_ok-push.ensures),
-    )
+    let source : Source = g.D.BidiDataSource.source c.args.data_source.now in
+    let f = c.first_passing-at.ensures in
+    let items = c.args.self.now.brackets.items in
+    record {
+      begins = f.begins;
+      ends = f.ends;
+      here = f.at;
+      held = sym (ap (λ (bs : List Bracket). items ++ bs) (unit_brackets-none g.T.TextSource.units chars source c.args.classes.now c.args.run.now.start c.first_passing-at.result f.before) ∙ append-nil items);
+    }
+
+-- a character of class ON
+counted : (c : BidiClass) (o : Option BidiMatchedOpeningBracket) (u : ℕ) → same_class ON c ≡ true → brackets_from u (o ∷ []) ≡ brackets_from u (counted_bracket c o ∷ [])
+counted ON o u is = refl
+counted _ o u is = absurd (cc is)
+
+pub loop-at-preserved : goal.loop-at-preserved
+loop-at-preserved g c =
+    let len_of = g.T.TextSource.units in
+    let chars : List ℕ = g.T.TextSource.characters c.args.text in
+    let source : Source = g.D.BidiDataSource.source c.args.data_source.now in
+    let units = c.args.classes.now in
+    let at = c.loop-at.at in
+    let i = c.loop-at.invariant in
+    let f = c.first_passing-at-in-loop-at.ensures in
+    let more = unit_brackets-more len_of chars source units c.args.run.now.start at c.first_passing-at-in-loop-at.result i.begins (omega (arith, f.begins)) f.before in
+    let items = c.args.self.now.brackets.items in
+    let so_far = unit_brackets len_of chars source units c.args.run.now.start at in
+    let one : List Bracket → List Bracket = λ bs. c.loop-at.self.brackets.items ++ bs in
+    let from : Option (ℕ × ℕ) → List Bracket = λ o. option_map_or (λ e. brackets_from at (counted_bracket (class_at units at) (source.bracket_of e.0) ∷ [])) o [] in
+    let gathered : c.match-char_at.self.brackets.items ≡ c.loop-at.self.brackets.items ++ unit_bracket len_of chars source units at =
+    elim c.match-char_at.branch [
+      | in-Some+in_ok-push w ↦
+          ap (λ r. r.brackets.items) w.self-is
+          ∙ w.in_ok-push.ensures
+          ∙ ap one (counted (class_at units at) (source.bracket_of w.in-Some.c) at (i.here c.loop-at-test.true) ∙ ap from (sym w.in-Some.is ∙ c.char_at.ensures))
+      | in_default w ↦ ap (λ r. r.brackets.items) w.self-is ∙ sym (append-nil c.loop-at.self.brackets.items) ∙ ap (λ o. one (from o)) w.in_default.ensures
+    ] in
+    record {
+      begins = omega (arith, f.begins, i.begins);
+      ends = f.ends;
+      here = f.at;
+      held = gathered ∙ ap (λ (bs : List Bracket). bs ++ unit_bracket len_of chars source units at) i.held ∙ append_assoc items so_far (unit_bracket len_of chars source units at) ∙ ap (λ (bs : List Bracket). items ++ bs) (sym more);
+    }
 
 pub returns : goal.returns
 returns g c =
     let len_of = g.T.TextSource.units in
     let h = g.met.T.TextSource.has_units in
     let chars : List ℕ = g.T.TextSource.characters c.args.text in
-    let part : List ℕ = g.T.TextSource.characters c.subrange.result in
     let source : Source = g.D.BidiDataSource.source c.args.data_source.now in
     let run = c.args.run.now in
-    let n = length c.loop-offset.yielded in
-    let all : n ≡ length part = index_end len_of part c.char_indices-offset-items.ensures c.into_iter-offset-iterator.ensures.into_iter_gives c.loop-offset.yielded _ c.loop-offset.yielded_by _ _ c.in-None.is c.next.ensures.steps in
-    c.loop-offset.invariant.2
-    ∙ ap (λ (ks : List ℕ). c.args.self.now.brackets.items ++ placed_brackets len_of chars source c.args.classes.now ks)
-    (kept_so_far-end len_of chars c.args.classes.now run.start run.end n (line_end len_of h chars run.start run.end c.requires.line part c.subrange.ensures n all))
+    let i = c.loop-at.invariant in
+    let end : c.loop-at.at ≡ run.end = omega (arith, i.ends, c.loop-at-test.false) in
+    i.held ∙ ap (λ (bs : List Bracket). c.args.self.now.brackets.items ++ bs) (ap (unit_brackets len_of chars source c.args.classes.now run.start) end ∙ unit_brackets-line len_of chars source c.args.classes.now h run.start run.end c.requires.line)

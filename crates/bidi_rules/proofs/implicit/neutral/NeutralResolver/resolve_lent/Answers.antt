@@ -6,7 +6,7 @@ use Rattle.bidi_base.specs.Sequences.{level_at}
 use Rattle.bidi_rules.proofs.OneDirection.{IsResolved-one}
 use Rattle.bidi_base.proofs.NeutralLemmas.{direction_of-l_or_r}
 use Rattle.bidi_rules.specs.RunSequence.{lent_runs, lent_sos, lent_eos}
-use Rattle.bidi_rules.proofs.NeutralSteps.{IsResolved, IsReady-sequence, runs-within, first-within, mid-within, mid-resolved, IsResolved-none, IsResolved-paired, IsResolved-sequence}
+use Rattle.bidi_rules.proofs.NeutralSteps.{eos-side, IsResolved, IsReady-sequence, runs-within, first-within, mid-within, mid-resolved, IsResolved-none, IsResolved-paired, IsResolved-sequence}
 use Rattle.bidi_rules.specs.NeutralPass.{IsReady}
 use Rattle.bidi_rules.proofs.implicit.neutral.NeutralResolver.resolve_lent.Given.{Over}
 use Rattle.bidi_rules.proofs.implicit.neutral.NeutralResolver.resolve_lent.Goals as goal
@@ -94,6 +94,9 @@ pub resolve_directions-requires-clause-resolved : goal.resolve_directions-requir
 resolve_directions-requires-clause-resolved g c =
     mid-resolved g.T.TextSource.units g.met.T.TextSource.has_units (g.T.TextSource.characters c.args.text) (g.D.BidiDataSource.source c.args.data_source.now) c.args.original_classes.now c.args.processing_classes.now c.resolve_brackets.new.classes c.runs-runs.result.now c.bidi_class-embedding.result c.sos-sos.result
     (ready g (goal.at.resolve_directions-requires-clause-resolved g c).After-sos-sos) c.in_ok-resolve_brackets.ensures.paired (side g (goal.at.resolve_directions-requires-clause-resolved g c).After-eos-eos (ready g (goal.at.resolve_directions-requires-clause-resolved g c).After-sos-sos))
+
+pub resolve_directions-requires-clause-eos : goal.resolve_directions-requires-clause-eos
+resolve_directions-requires-clause-eos g c = eos-side c.args.sequence c.eos-eos.result c.eos-eos.ensures
 
 -- the steps, one after the other
 resolved : (g : Over) (c : After-resolve_directions g) → (c.bidi_class-embedding.result ≡ direction_of (level_at c.args.levels.now c.in-Some.first)) → IsReady g.T.TextSource.units (g.T.TextSource.characters c.args.text) c.runs-runs.result.now c.sos-sos.result c.args.processing_classes.now

@@ -1,113 +1,112 @@
-use Rattle.std.proofs.Common.{◌≡◌, ◌<◌, ◌≤◌, ◌-◌, ℕ, List, length, map, get_or, take, drop, refl, sym, ap, subst, ◌∙◌, arith}
+use Rattle.std.proofs.Common.{◌≡◌, ◌≤◌, ◌<◌, ◌+◌, ℕ, List, length, map, get_or, drop, true, false, Bool, if◌then◌else◌, refl, sym, ap, subst, ◌∙◌, arith}
 use Rattle.std.specs.Prelude.{All}
-use Rattle.std.proofs.lemmas.List.{get_or-map, length-map}
-use Rattle.std.specs.declared.ops.Range.{Range}
+use Rattle.std.proofs.lemmas.List.{length-map}
 use Rattle.bidi_base.specs.declared.char_data.BidiClass.{BidiClass}
+use Rattle.bidi_base.specs.declared.char_data.BidiClass.TheVariants.{L, R}
+use Rattle.bidi_base.specs.Classes.{is_l_or_r, stands_for}
+use Rattle.bidi_base.specs.Places.{class_at}
 use Rattle.bidi_base.specs.Units.{bounds}
-use Rattle.bidi_base.proofs.NeutralBlocks.{common}
+use Rattle.bidi_rules.specs.JoinPass.{Unjoined, IsUnderWay}
+use Rattle.bidi_rules.specs.PairWalk.{opposite_of}
+use Rattle.bidi_rules.specs.declared.implicit.neutral.directions.Join.{Join}
 use Rattle.bidi_rules.specs.WeakWalk.{is_seen, IsWrittenOver}
-use Rattle.bidi_rules.proofs.InRuns.{run_some, start_or, start_or-at}
-use Rattle.bidi_rules.proofs.KeptRuns.{no_range}
-use Rattle.bidi_rules.proofs.NeutralScan.{IsScannedTo, IsScannedTo-start, IsScannedTo-neutral, IsScannedTo-direction, IsScannedTo-gap, IsScannedTo-end, IsScannedTo-others}
-use Rattle.bidi_rules.proofs.WalkLemmas.{forwards-in_order, part_after}
+use Rattle.bidi_rules.proofs.InRuns.{start_or, start_or-at, start_or-past}
+use Rattle.bidi_rules.proofs.JoinWalk.{IsUnderWay-start, IsUnderWay-gap, IsFinished, IsFinished-embedding, IsFinished-opposite, IsFinished-settled, IsFinished-others}
 use Rattle.bidi_rules.proofs.implicit.neutral.directions.resolve_directions.Goals as goal
-use Rattle.bidi_rules.proofs.implicit.neutral.directions.resolve_directions.Goals.{After-write_between-2, in-Some, in_default}
+use Rattle.bidi_rules.proofs.implicit.neutral.directions.resolve_directions.Goals.{After-settle_rest, then-stands_for, else-stands_for}
 
--- the run at hand
-run_is : (runs : List (Range ℕ)) (run : ℕ) → run < length runs → get_or (map bounds runs) run (0, 0) ≡ bounds (get_or runs run no_range)
-run_is runs run here = get_or-map bounds runs run no_range (0, 0) here
-
-end_within : (old : List BidiClass) (runs : List (Range ℕ)) (i : ℕ) → i < length runs → All (λ r. r.1 ≤ length old) (map bounds runs) → (get_or runs i no_range).end ≤ length old
-end_within old runs i here inside = omega (arith, ap (λ (r : ℕ × ℕ). r.1) (run_is runs i here), inside i (0, 0) (omega (arith, length-map runs bounds)))
-
--- a class is written over some units of the runs from an index on
-over : (runs : List (Range ℕ)) (k : ℕ) (class : BidiClass) (from to : ℕ) (old new : List BidiClass)
-    → IsWrittenOver (is_seen (map bounds (take (length runs - k) (drop k runs))) old) class from to old new → IsWrittenOver (is_seen (drop k (map bounds runs)) old) class from to old new
-over runs k class from to old new w = subst (λ (rs : List (ℕ × ℕ)). IsWrittenOver (is_seen rs old) class from to old new) (part_after runs runs k refl) w
+-- the direction that stands before the first unit
+before_first : (e sos : BidiClass) → is_l_or_r e ≡ true → is_l_or_r sos ≡ true → (if stands_for (opposite_of e) sos then opposite_of e else e) ≡ sos
+before_first L L a b = refl
+before_first L R a b = refl
+before_first R L a b = refl
+before_first R R a b = refl
+before_first L _ a b = absurd (cc b)
+before_first R _ a b = absurd (cc b)
+before_first _ sos a b = absurd (cc a)
 
 pub loop-run-init : goal.loop-run-init
 loop-run-init c =
     let d = c.args.directions in
-    IsScannedTo-start d.embedding d.sos d.eos c.args.runs.now c.args.classes.now c.requires.ordered
-
-pub loop-unit-init : goal.loop-unit-init
-loop-unit-init c =
-    let d = c.args.directions in
-    let runs = c.args.runs.now in
-    let start : start_or (map bounds runs) c.loop-run.run (length c.args.classes.now) ≡ (get_or runs c.loop-run.run no_range).start =
-    start_or-at (map bounds runs) c.loop-run.run (length c.args.classes.now) (omega (arith, c.loop-run-test.true, length-map runs bounds)) ∙ ap (λ (r : ℕ × ℕ). r.0) (run_is runs c.loop-run.run c.loop-run-test.true) in
-    subst (IsScannedTo d.embedding d.sos d.eos runs c.args.classes.now c.loop-run.classes c.loop-run.left c.loop-run.first c.loop-run.first_run) start c.loop-run.invariant
-
--- units of the run lie within
-pub slice_copy_out-as_direction : goal.slice_copy_out-as_direction
-slice_copy_out-as_direction c =
-    let runs = c.args.runs.now in
-    let i = c.loop-run.run in
-    omega (arith, end_within c.args.classes.now runs i c.loop-run-test.true c.requires.inside, c.loop-unit-test.true, c.loop-unit.invariant.scanned.long)
-
-pub write_between-requires-clause-ordered : goal.write_between-requires-clause-ordered
-write_between-requires-clause-ordered c = forwards-in_order c.args.runs.now c.args.runs.now c.loop-unit.first_run refl c.requires.ordered
-
-pub write_between-requires-clause-inside : goal.write_between-requires-clause-inside
-write_between-requires-clause-inside c =
-    let runs = c.args.runs.now in
-    let i = c.loop-run.run in
-    omega (arith, end_within c.args.classes.now runs i c.loop-run-test.true c.requires.inside, c.loop-unit-test.true, c.loop-unit.invariant.scanned.long)
-
-pub loop-unit-preserved : goal.loop-unit-preserved
-loop-unit-preserved c =
-    let d = c.args.directions in
-    let runs = c.args.runs.now in
-    let s = c.loop-unit in
-    let i = c.loop-run.run in
-    elim c.match-as_direction.branch [
-      | in-Some w ↦
-          rw (w.classes-is, w.left-is, w.first-is, w.first_run-is)
-          (IsScannedTo-direction d.embedding d.sos d.eos runs c.args.classes.now c.requires.ordered i c.loop-run-test.true s.classes s.left s.first s.first_run s.unit s.invariant w.write_between.new.classes w.in-Some.right
-          (omega (arith, ap (λ (r : ℕ × ℕ). r.0) (run_is runs i c.loop-run-test.true), s.auto.unit))
-          (omega (arith, ap (λ (r : ℕ × ℕ). r.1) (run_is runs i c.loop-run-test.true), c.loop-unit-test.true))
-          (omega (arith, end_within c.args.classes.now runs i c.loop-run-test.true c.requires.inside, c.loop-unit-test.true))
-          (sym c.as_direction.ensures ∙ w.in-Some.is)
-          (over runs s.first_run (common d.embedding s.left w.in-Some.right) s.first s.unit s.classes w.write_between.new.classes
-          (subst (λ (x : BidiClass). IsWrittenOver (is_seen (map bounds (take (length runs - s.first_run) (drop s.first_run runs))) s.classes) x s.first s.unit s.classes w.write_between.new.classes) w.common_direction-common.ensures w.write_between.ensures)))
-      | in_default w ↦
-          rw (w.classes-is, w.left-is, w.first-is, w.first_run-is)
-          (IsScannedTo-neutral d.embedding d.sos d.eos runs c.args.classes.now c.requires.ordered i c.loop-run-test.true s.classes s.left s.first s.first_run s.unit s.invariant c.requires.resolved (sym c.as_direction.ensures ∙ w.in_default.is))
-    ]
+    let waits = c.stands_for.ensures ∙ ap (λ (x : BidiClass). stands_for x d.sos) c.opposite_of-opposite.ensures in
+    record {
+      first_run = omega arith;
+      opposite = c.opposite_of-opposite.ensures;
+      long = refl;
+      reads = λ s runs_are e_is sos_is old_is.
+          let w : Join = record { opposite = c.opposite_of-opposite.result; waits = c.stands_for.result; first = 0; first_run = 0 } in
+          let start = IsUnderWay-start s w
+              (ap (λ (b : Bool). if b then opposite_of s.e else s.e) waits
+              ∙ ap (λ (x : BidiClass). if stands_for (opposite_of d.embedding) d.sos then opposite_of x else x) e_is
+              ∙ before_first d.embedding d.sos c.requires.side c.requires.sos ∙ sym sos_is) refl refl in
+          subst (λ (old : List BidiClass). IsUnderWay s old w (start_or (map bounds c.args.runs.now) 0 (length old))) old_is
+          (subst (λ (rs : List (ℕ × ℕ)). IsUnderWay s s.old w (start_or rs 0 (length s.old))) runs_are start);
+    }
 
 pub loop-run-preserved : goal.loop-run-preserved
 loop-run-preserved c =
-    let d = c.args.directions in
-    let runs = c.args.runs.now in
-    let s = c.loop-unit in
     let i = c.loop-run.run in
-    let is = run_is runs i c.loop-run-test.true in
-    let end = ap (λ (r : ℕ × ℕ). r.1) is in
-    let some = run_some 0 i (map bounds runs) c.requires.ordered (omega (arith, c.loop-run-test.true, length-map runs bounds)) in
-    IsScannedTo-gap d.embedding d.sos d.eos runs c.args.classes.now c.requires.ordered i c.loop-run-test.true s.classes s.left s.first s.first_run s.unit s.invariant
-    (omega (arith, end, c.loop-unit-test.false)) (omega (arith, end, end_within c.args.classes.now runs i c.loop-run-test.true c.requires.inside))
-    (omega (arith, end, ap (λ (r : ℕ × ℕ). r.0) is, some, s.auto.unit-end))
+    let inv = c.loop-run.invariant in
+    let runs = map bounds c.args.runs.now in
+    let here : i < length runs = omega (arith, c.loop-run-test.true, length-map c.args.runs.now bounds) in
+    record {
+      first_run = c.read_run.ensures.first_run;
+      opposite = c.read_run.ensures.opposite ∙ inv.opposite;
+      long = omega (arith, inv.long, c.read_run.auto.classes);
+      reads = λ s runs_are e_is sos_is old_is.
+          let u = inv.reads s runs_are e_is sos_is old_is in
+          let old = c.args.classes.now in
+          let at : IsUnderWay s c.loop-run.classes c.loop-run.join (get_or runs i (0, 0)).0 = subst (IsUnderWay s c.loop-run.classes c.loop-run.join) (start_or-at runs i (length old) here) u in
+          let read : IsUnderWay s c.read_run.new.classes c.read_run.new.self (get_or runs i (0, 0)).1 =
+          c.read_run.ensures.reads s runs_are (ap opposite_of e_is ∙ sym inv.opposite) at in
+          let gap = IsUnderWay-gap s c.read_run.new.classes c.read_run.new.self i (subst (λ (rs : List (ℕ × ℕ)). i < length rs) (sym runs_are) here)
+              (subst (λ (rs : List (ℕ × ℕ)). (get_or rs i (0, 0)).1 ≤ length s.old) (sym runs_are) (subst (λ (xs : List BidiClass). (get_or runs i (0, 0)).1 ≤ length xs) (sym old_is) (c.requires.inside i (0, 0) here)))
+              (subst (λ (rs : List (ℕ × ℕ)). IsUnderWay s c.read_run.new.classes c.read_run.new.self (get_or rs i (0, 0)).1) (sym runs_are) read) in
+          subst (λ (xs : List BidiClass). IsUnderWay s c.read_run.new.classes c.read_run.new.self (start_or runs (i + 1) (length xs))) old_is
+          (subst (λ (rs : List (ℕ × ℕ)). IsUnderWay s c.read_run.new.classes c.read_run.new.self (start_or rs (i + 1) (length s.old))) runs_are gap);
+    }
 
-pub write_between-requires-2-clause-ordered : goal.write_between-requires-2-clause-ordered
-write_between-requires-2-clause-ordered c = forwards-in_order c.args.runs.now c.args.runs.now c.loop-run.first_run refl c.requires.ordered
+abbrev sequence : After-settle_rest → Unjoined
+sequence c = record {
+  runs = map bounds c.args.runs.now;
+  e = c.args.directions.embedding;
+  sos = c.args.directions.sos;
+  eos = c.args.directions.eos;
+  old = c.args.classes.now;
+  ordered = c.requires.ordered;
+  side = c.requires.side;
+  resolved = c.requires.resolved;
+}
 
-last : (c : After-write_between-2) → (let s = c.loop-run in IsWrittenOver (is_seen (drop s.first_run (map bounds c.args.runs.now)) s.classes) (common c.args.directions.embedding s.left c.args.directions.eos) s.first (length s.classes) s.classes c.write_between-2.new.classes)
-last c =
-    let s = c.loop-run in
-    let runs = c.args.runs.now in
-    over runs s.first_run (common c.args.directions.embedding s.left c.args.directions.eos) s.first (length s.classes) s.classes c.write_between-2.new.classes
-    (subst (λ (x : BidiClass). IsWrittenOver (is_seen (map bounds (take (length runs - s.first_run) (drop s.first_run runs))) s.classes) x s.first (length s.classes) s.classes c.write_between-2.new.classes) c.common_direction-common-2.ensures c.write_between-2.ensures)
+finished : (c : After-settle_rest) → IsFinished (sequence c) c.if-stands_for.classes
+finished c =
+    let s = sequence c in
+    let d = c.args.directions in
+    let runs = map bounds c.args.runs.now in
+    let mid = c.loop-run.classes in
+    let w = c.loop-run.join in
+    let inv = c.loop-run.invariant in
+    let size = length c.args.classes.now in
+    let u : IsUnderWay s mid w size =
+    subst (IsUnderWay s mid w) (start_or-past runs c.loop-run.run size (omega (arith, c.loop-run-test.false, length-map c.args.runs.now bounds))) (inv.reads s refl refl refl refl) in
+    let asked : c.stands_for-2.result ≡ stands_for (opposite_of d.embedding) d.eos = c.stands_for-2.ensures ∙ ap (λ (x : BidiClass). stands_for x d.eos) c.opposite_of-opposite.ensures in
+    elim c.if-stands_for.branch [
+      | then-stands_for b ↦
+          let new = b.settle.new.classes in
+          subst (IsFinished s) (sym b.classes-is)
+          (IsFinished-opposite s mid new w c.requires.eos (sym asked ∙ b.if-stands_for.true)
+          (λ waiting. subst (λ (n : ℕ). IsWrittenOver (is_seen (drop w.first_run runs) mid) (opposite_of d.embedding) w.first n mid new) inv.long
+          (subst (λ (x : BidiClass). IsWrittenOver (is_seen (drop w.first_run runs) mid) x w.first (length mid) mid new) inv.opposite (b.settle.ensures.held waiting)))
+          b.settle.ensures.idle u)
+      | else-stands_for b ↦ subst (IsFinished s) (sym b.classes-is) (IsFinished-embedding s mid w c.requires.eos (sym asked ∙ b.if-stands_for.false) u)
+    ]
 
 pub returns-clause-kept : goal.returns-clause-kept
 returns-clause-kept c =
-    let d = c.args.directions in
-    let s = c.loop-run in
-    let runs = c.args.runs.now in
-    IsScannedTo-end d.embedding d.sos d.eos runs c.args.classes.now c.requires.ordered s.run s.classes c.write_between-2.new.classes s.left s.first s.first_run (length s.classes) c.loop-run-test.false refl s.invariant (last (goal.at.returns-clause-kept c).After-write_between-2)
+    let after = (goal.at.returns-clause-kept c).After-settle_rest in
+    IsFinished-settled (sequence after) after.if-stands_for.classes after.settle_rest.new.classes (finished after) after.settle_rest.ensures.changed
 
 pub returns-clause-others : goal.returns-clause-others
 returns-clause-others c =
-    let d = c.args.directions in
-    let s = c.loop-run in
-    IsScannedTo-others d.embedding d.sos d.eos c.args.runs.now c.args.classes.now c.requires.ordered s.classes c.write_between-2.new.classes s.left (common d.embedding s.left d.eos) s.first s.first_run
-    (start_or (map bounds c.args.runs.now) s.run (length c.args.classes.now)) (length s.classes) s.invariant (last (goal.at.returns-clause-others c).After-write_between-2)
+    let after = (goal.at.returns-clause-others c).After-settle_rest in
+    IsFinished-others (sequence after) after.if-stands_for.classes after.settle_rest.new.classes (finished after) after.settle_rest.ensures.changed after.settle_rest.ensures.same

@@ -1,16 +1,17 @@
--- The units before the one at hand are read.
-use Rattle.std.proofs.Common.{length, map}
+-- The runs that came are read.
+use Rattle.std.proofs.Common.{◌≡◌, ◌≤◌, length, map}
 use Rattle.bidi_base.specs.Units.{bounds}
+use Rattle.bidi_rules.specs.JoinPass.{IsUnderWay, Unjoined}
+use Rattle.bidi_rules.specs.PairWalk.{opposite_of}
 use Rattle.bidi_rules.proofs.InRuns.{start_or}
-use Rattle.bidi_rules.proofs.NeutralScan.{IsScannedTo}
 use Rattle.bidi_rules.proofs.implicit.neutral.directions.resolve_directions.Given as goal
 
 abbrev pub invariant-loop-run : goal.invariant-loop-run
 invariant-loop-run l =
     let d = l.fn.directions in
-    IsScannedTo d.embedding d.sos d.eos l.runs l.fn.classes l.classes l.left l.first l.first_run (start_or (map bounds l.runs) l.run (length l.fn.classes))
-
-abbrev pub invariant-loop-unit : goal.invariant-loop-unit
-invariant-loop-unit l =
-    let d = l.fn.directions in
-    IsScannedTo d.embedding d.sos d.eos l.runs l.fn.classes l.classes l.left l.first l.first_run l.unit
+    record {
+      first_run : l.join.first_run ≤ length l.runs;
+      opposite : l.join.opposite ≡ opposite_of d.embedding;
+      long : length l.classes ≡ length l.fn.classes;
+      reads : (s : Unjoined) → s.runs ≡ map bounds l.runs → s.e ≡ d.embedding → s.sos ≡ d.sos → s.old ≡ l.fn.classes → IsUnderWay s l.classes l.join (start_or (map bounds l.runs) l.run (length l.fn.classes));
+    }

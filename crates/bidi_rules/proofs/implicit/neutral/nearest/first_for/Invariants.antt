@@ -1,13 +1,9 @@
 -- No unit so far stands for the direction.
-use Rattle.std.proofs.Common.{◌≡◌, ◌<◌, ◌≤◌, ℕ, true, false, map, take, get_or}
+use Rattle.std.proofs.Common.{◌≡◌, ◌<◌, ◌≤◌, ℕ, true, false, map, take}
 use Rattle.bidi_base.specs.Classes.{stands_for}
 use Rattle.bidi_base.specs.Places.{class_at}
 use Rattle.bidi_base.specs.Units.{bounds, in_runs}
-use Rattle.bidi_rules.proofs.KeptRuns.{no_range}
 use Rattle.bidi_rules.proofs.implicit.neutral.nearest.first_for.Given as goal
 
 abbrev pub invariant-loop-run : goal.invariant-loop-run
 invariant-loop-run l = (k : ℕ) → in_runs (take l.run-index (map bounds l.runs)) k ≡ true → l.from ≤ k → k < l.to → stands_for l.direction (class_at l.classes k) ≡ false
-
-abbrev pub invariant-loop-unit : goal.invariant-loop-unit
-invariant-loop-unit l = (k : ℕ) → l.from ≤ k → (get_or l.runs l.run-index no_range).start ≤ k → k < l.unit → stands_for l.direction (class_at l.classes k) ≡ false

@@ -1,0 +1,24 @@
+-- What came does not pass.
+use Rattle.std.proofs.Common.{◌-◌, ◌≡◌, ℕ, ◌<◌, ◌≤◌, false}
+use Rattle.bidi_base.specs.Places.{class_at}
+use Rattle.bidi_base.proofs.search.first_passing.Given as goal
+
+abbrev pub invariant-loop-at : goal.invariant-loop-at
+invariant-loop-at g l = record {
+  begins : l.from ≤ l.at;
+  ends : l.at ≤ l.to;
+  before : (k : ℕ) → l.from ≤ k → k < l.at → g.T.ClassTest.test l.test (class_at l.classes k) ≡ false;
+}
+
+abbrev pub decreases-loop-at : goal.decreases-loop-at
+decreases-loop-at g l = l.to - l.at
+
+abbrev pub invariant-loop-at-2 : goal.invariant-loop-at-2
+invariant-loop-at-2 g l = record {
+  begins : l.from ≤ l.at;
+  ends : l.at ≤ l.to;
+  before : (k : ℕ) → l.from ≤ k → k < l.at → g.T.ClassTest.test l.test (class_at l.classes k) ≡ false;
+}
+
+abbrev pub decreases-loop-at-2 : goal.decreases-loop-at-2
+decreases-loop-at-2 g l = l.to - l.at

@@ -1,0 +1,384 @@
+-- N1 for the direction against the embedding one, in one walk: neutrals wait from a class of that direction to the next class with one.
+use Rattle.std.proofs.Common.{◌≡◌, ℕ, zero, suc, ◌+◌, ◌-◌, ◌<◌, ◌≤◌, Bool, true, false, not, ◌&&◌, if◌then◌else◌, cond, List, [], ◌∷◌, ◌++◌, length, map, replicate, unwrap_or, Option, Some, None, refl, sym, ap, subst, ◌∙◌, arith, append_assoc, append-nil, inl, inr, ◌⊎◌}
+use Rattle.std.specs.Prelude.{filter}
+use Rattle.std.specs.List.{list_all, range_with_len}
+use Rattle.std.proofs.lemmas.Bool.{cases_Bool, cases_lt, both_ways, and_parts, and_from, and_right, cond-true, cond-false}
+use Rattle.std.proofs.lemmas.List.{map-append}
+use Rattle.bidi_base.specs.declared.char_data.BidiClass.{BidiClass}
+use Rattle.bidi_base.specs.declared.char_data.BidiClass.TheVariants.{L, R, EN, AN, BN}
+use Rattle.bidi_base.specs.Classes.{as_direction, is_kept_in_place, is_l_or_r, is_neutral, is_weak_resolved, same_class, stands_for}
+use Rattle.bidi_base.specs.Neutral.{nearest_direction, n1_n2}
+use Rattle.bidi_base.specs.Places.{at_places, class_at}
+use Rattle.bidi_base.specs.Units.{in_runs}
+use Rattle.bidi_base.proofs.NeutralBlocks.{common}
+use Rattle.bidi_base.proofs.NeutralLemmas.{nearest_direction-more}
+use Rattle.bidi_base.proofs.NeutralStretches.{undirected-neutral, n1_n2-neutrals, n1_n2-directed, n1_n2-last}
+use Rattle.bidi_base.proofs.StoredLemmas.{at_places-append}
+use Rattle.bidi_rules.specs.JoinPass.{settled, side_before, units_of, Unjoined, IsJoined}
+use Rattle.bidi_rules.specs.PairWalk.{opposite_of}
+use Rattle.bidi_rules.specs.WeakWalk.{is_seen, IsWrittenOver}
+use Rattle.bidi_rules.proofs.Marks.{marked, marked-parts, at_marked-same, at_marked-all}
+
+-- ---- classes
+
+-- what does not stand for the opposite direction stands for the embedding one, or is a neutral
+quiet : (e c : BidiClass) → is_l_or_r e ≡ true → is_weak_resolved c ≡ true → stands_for (opposite_of e) c ≡ false → (as_direction c ≡ Some e) ⊎ (is_neutral c ≡ true)
+quiet L L s h n = inl refl
+quiet L R s h n = absurd (cc n)
+quiet L EN s h n = absurd (cc n)
+quiet L AN s h n = absurd (cc n)
+quiet L _ s h n = inr h
+quiet R L s h n = absurd (cc n)
+quiet R R s h n = inl refl
+quiet R EN s h n = inl refl
+quiet R AN s h n = inl refl
+quiet R _ s h n = inr h
+quiet _ c s h n = absurd (cc s)
+
+pub opposite-directed : (e c : BidiClass) → stands_for (opposite_of e) c ≡ true → as_direction c ≡ Some (opposite_of e)
+opposite-directed L R n = refl
+opposite-directed L EN n = refl
+opposite-directed L AN n = refl
+opposite-directed L _ n = absurd (cc n)
+opposite-directed _ L n = refl
+opposite-directed _ _ n = absurd (cc n)
+
+sides_apart : (e : BidiClass) → same_class (opposite_of e) e ≡ false
+sides_apart L = refl
+sides_apart R = refl
+sides_apart _ = refl
+
+settled-neutral : (e c : BidiClass) → is_neutral c ≡ true → settled e c ≡ e
+settled-neutral e c h = cond-true (is_neutral c) e c h
+
+settled-directed : (e c d : BidiClass) → as_direction c ≡ Some d → settled e c ≡ c
+settled-directed e L d h = refl
+settled-directed e R d h = refl
+settled-directed e EN d h = refl
+settled-directed e AN d h = refl
+settled-directed e _ d h = absurd (cc h)
+
+settled-opposite : (e : BidiClass) → settled e (opposite_of e) ≡ opposite_of e
+settled-opposite L = refl
+settled-opposite _ = refl
+
+same_opposite : (e : BidiClass) → same_class (opposite_of e) (opposite_of e) ≡ true
+same_opposite L = refl
+same_opposite _ = refl
+
+-- ---- lists of classes
+
+module _ (e eos : BidiClass) (side : is_l_or_r e ≡ true) where
+  abbrev o : BidiClass
+  o = opposite_of e
+
+  abbrev is_quiet : BidiClass → Bool
+  is_quiet c = is_weak_resolved c && not (stands_for o c)
+
+  same_e : (x : BidiClass) → common e e x ≡ e
+  same_e x = elim (cases_Bool (same_class e x)) [ inl yes' ↦ cond-true (same_class e x) e e yes' | inr no' ↦ cond-false (same_class e x) e e no' ]
+
+  common_apart : common e o e ≡ e
+  common_apart = cond-false (same_class o e) o e (sides_apart e)
+
+  common_opposite : common e o o ≡ o
+  common_opposite = cond-true (same_class o o) o e (same_opposite e)
+
+  map-settled : (cs : List BidiClass) → list_all is_neutral cs ≡ true → map (settled e) cs ≡ replicate (length cs) e
+  map-settled [] h = refl
+  map-settled (c ∷ cs) h =
+      let parts = and_parts (is_neutral c) (list_all is_neutral cs) h in
+      ap (λ (x : BidiClass). x ∷ map (settled e) cs) (settled-neutral e c parts.0) ∙ ap (λ (xs : List BidiClass). e ∷ xs) (map-settled cs parts.1)
+
+  map-opposite : (n : ℕ) → map (settled e) (replicate n o) ≡ replicate n o
+  map-opposite zero = refl
+  map-opposite (suc n) = ap (λ (x : BidiClass). x ∷ map (settled e) (replicate n o)) (settled-opposite e) ∙ ap (λ (xs : List BidiClass). o ∷ xs) (map-opposite n)
+
+  twice : (b : Bool) → not b ≡ true → b ≡ false
+  twice true h = cc
+  twice false h = refl
+
+  -- behind the embedding direction, up to the next class for the opposite one
+  quiet-rest : (cs rest : List BidiClass) → list_all is_quiet cs ≡ true → n1_n2 e e eos (cs ++ rest) ≡ map (settled e) cs ++ n1_n2 e e eos rest
+  quiet-rest [] rest h = refl
+  quiet-rest (c ∷ cs) rest h =
+      let parts = and_parts (is_quiet c) (list_all is_quiet cs) h in
+      let own = and_parts (is_weak_resolved c) (not (stands_for o c)) parts.0 in
+      let more = quiet-rest cs rest parts.1 in
+      let tail = n1_n2 e e eos (cs ++ rest) in
+      elim (quiet e c side own.0 (twice (stands_for o c) own.1)) [
+        | inl directed ↦
+            n1_n2-directed e e e eos c (cs ++ rest) directed
+            ∙ ap (λ (x : BidiClass). x ∷ tail) (sym (settled-directed e c e directed))
+            ∙ ap (λ (xs : List BidiClass). settled e c ∷ xs) more
+        | inr neutral ↦
+            n1_n2-neutrals e e eos (c ∷ []) (cs ++ rest) (and_from (is_neutral c) true neutral refl)
+            ∙ ap (λ (x : BidiClass). x ∷ tail) (same_e (nearest_direction eos (cs ++ rest)) ∙ sym (settled-neutral e c neutral))
+            ∙ ap (λ (xs : List BidiClass). settled e c ∷ xs) more
+      ]
+
+  near : (d c : BidiClass) (rest : List BidiClass) → as_direction c ≡ Some d → nearest_direction eos (c ∷ rest) ≡ d
+  near d c rest is = nearest_direction-more eos c rest ∙ ap (λ (p : Option BidiClass). unwrap_or p (nearest_direction eos rest)) is
+
+  -- neutrals that waited, before the embedding direction
+  turned : (cs rest : List BidiClass) (c : BidiClass) → list_all is_neutral cs ≡ true → as_direction c ≡ Some e → n1_n2 e o eos (cs ++ c ∷ rest) ≡ map (settled e) cs ++ n1_n2 e e eos (c ∷ rest)
+  turned cs rest c h is =
+      n1_n2-neutrals e o eos cs (c ∷ rest) h
+      ∙ ap (λ (x : BidiClass). replicate (length cs) (common e o x) ++ n1_n2 e o eos (c ∷ rest)) (near e c rest is)
+      ∙ ap (λ (x : BidiClass). replicate (length cs) x ++ n1_n2 e o eos (c ∷ rest)) common_apart
+      ∙ ap (λ (xs : List BidiClass). xs ++ n1_n2 e o eos (c ∷ rest)) (sym (map-settled cs h))
+      ∙ ap (λ (xs : List BidiClass). map (settled e) cs ++ xs) (n1_n2-directed e o e eos c rest is ∙ sym (n1_n2-directed e e e eos c rest is))
+
+  -- neutrals between two of the opposite direction
+  between_two : (cs rest : List BidiClass) (c : BidiClass) → list_all is_neutral cs ≡ true → as_direction c ≡ Some o → n1_n2 e o eos (cs ++ c ∷ rest) ≡ replicate (length cs) o ++ n1_n2 e o eos (c ∷ rest)
+  between_two cs rest c h is =
+      n1_n2-neutrals e o eos cs (c ∷ rest) h
+      ∙ ap (λ (x : BidiClass). replicate (length cs) (common e o x) ++ n1_n2 e o eos (c ∷ rest)) (near o c rest is)
+      ∙ ap (λ (x : BidiClass). replicate (length cs) x ++ n1_n2 e o eos (c ∷ rest)) common_opposite
+
+  -- a stretch of the opposite direction, whatever stands before it
+  stretch : (left : BidiClass) (c : BidiClass) (cs rest : List BidiClass) → list_all (stands_for o) (c ∷ cs) ≡ true → n1_n2 e left eos (c ∷ cs ++ rest) ≡ map (settled e) (c ∷ cs) ++ n1_n2 e o eos rest
+  stretch left c [] rest h =
+      let is = opposite-directed e c (and_parts (stands_for o c) true h).0 in
+      n1_n2-directed e left o eos c rest is ∙ ap (λ (x : BidiClass). x ∷ n1_n2 e o eos rest) (sym (settled-directed e c o is))
+  stretch left c (d ∷ cs) rest h =
+      let parts = and_parts (stands_for o c) (list_all (stands_for o) (d ∷ cs)) h in
+      let is = opposite-directed e c parts.0 in
+      n1_n2-directed e left o eos c (d ∷ cs ++ rest) is
+      ∙ ap (λ (x : BidiClass). x ∷ n1_n2 e o eos (d ∷ cs ++ rest)) (sym (settled-directed e c o is))
+      ∙ ap (λ (xs : List BidiClass). settled e c ∷ xs) (stretch o d cs rest parts.1)
+
+  -- what waits at the end
+  last-waiting : (cs : List BidiClass) → list_all is_neutral cs ≡ true → n1_n2 e o eos cs ≡ replicate (length cs) (common e o eos)
+  last-waiting cs h = n1_n2-last e o eos cs h
+
+-- ---- the same at units
+
+module _ (mark : ℕ → Bool) (p : BidiClass → Bool) (old : List BidiClass) where
+  each : (low n : ℕ) → ((k : ℕ) → low ≤ k → k < low + n → mark k ≡ true → p (class_at old k) ≡ true) → list_all p (at_places L old (filter mark (range_with_len low n))) ≡ true
+  each low zero h = refl
+  each low (suc n) h =
+      let more = filter mark (range_with_len (low + 1) n) in
+      let rest : list_all p (at_places L old more) ≡ true = each (low + 1) n (λ k from below is. h k (omega arith) (omega arith) is) in
+      elim (cases_Bool (mark low)) [
+        | inl yes' ↦
+            ap (λ (us : List ℕ). list_all p (at_places L old us)) (cond-true (mark low) (low ∷ more) more yes')
+            ∙ and_from (p (class_at old low)) (list_all p (at_places L old more)) (h low (omega arith) (omega arith) yes') rest
+        | inr no' ↦ ap (λ (us : List ℕ). list_all p (at_places L old us)) (cond-false (mark low) (low ∷ more) more no') ∙ rest
+      ]
+
+  pub at_marked-each : (low high : ℕ) → ((k : ℕ) → low ≤ k → k < high → mark k ≡ true → p (class_at old k) ≡ true) → list_all p (at_places L old (marked mark low high)) ≡ true
+  at_marked-each low high h = each low (high - low) (λ k from below is. h k from (omega arith) is)
+
+directed-kept : (c d : BidiClass) → as_direction c ≡ Some d → is_kept_in_place c ≡ true
+directed-kept BN d e = absurd (cc e)
+directed-kept _ d e = refl
+
+length-at : (xs : List BidiClass) (us : List ℕ) → length (at_places L xs us) ≡ length us
+length-at xs [] = refl
+length-at xs (u ∷ us) = ap suc (length-at xs us)
+
+-- ---- the steps of the walk
+
+module _ (s : Unjoined) where
+  abbrev e : BidiClass
+  e = s.e
+
+  abbrev against : BidiClass
+  against = opposite_of s.e
+
+  abbrev mark : ℕ → Bool
+  mark k = is_seen s.runs s.old k
+
+  abbrev at_old : ℕ → ℕ → List BidiClass
+  at_old low high = at_places L s.old (marked mark low high)
+
+  abbrev size : ℕ
+  size = length s.old
+
+  abbrev rest_of : Bool → ℕ → List BidiClass
+  rest_of waits low = n1_n2 e (side_before s waits) s.eos (at_old low size)
+
+  abbrev done_with : List BidiClass → ℕ → List BidiClass
+  done_with now high = map (settled e) (at_places L now (marked mark 0 high))
+
+  abbrev goal : List BidiClass
+  goal = n1_n2 e s.sos s.eos (at_old 0 size)
+
+  split : (xs : List BidiClass) (low mid high : ℕ) → low ≤ mid → mid ≤ high → at_places L xs (marked mark low high) ≡ at_places L xs (marked mark low mid) ++ at_places L xs (marked mark mid high)
+  split xs low mid high a b = ap (at_places L xs) (marked-parts mark low mid high a b) ∙ at_places-append L xs (marked mark low mid) (marked mark mid high)
+
+  done-more : (now : List BidiClass) (done to : ℕ) → done ≤ to → done_with now to ≡ done_with now done ++ map (settled e) (at_places L now (marked mark done to))
+  done-more now done to a = ap (map (settled e)) (split now 0 done to (omega arith) a) ∙ map-append (settled e) (at_places L now (marked mark 0 done)) (at_places L now (marked mark done to))
+
+  -- ---- a step that leaves the units of `now` from `done` on as they are, and reads those up to `to`
+  read : (now : List BidiClass) (waits after : Bool) (done at to : ℕ) → done ≤ to → to ≤ size → IsJoined s now waits done at
+      → rest_of waits done ≡ map (settled e) (at_old done to) ++ rest_of after to → IsJoined s now after to to
+  read now waits after done at to a b j step = record {
+    written =
+        ap (λ (xs : List BidiClass). xs ++ rest_of after to) (done-more now done to a)
+        ∙ append_assoc (done_with now done) (map (settled e) (at_places L now (marked mark done to))) (rest_of after to)
+        ∙ ap (λ (xs : List BidiClass). done_with now done ++ (map (settled e) xs ++ rest_of after to)) (at_marked-same mark now s.old done to (λ k from below is. j.unwritten k from))
+        ∙ ap (λ (xs : List BidiClass). done_with now done ++ xs) (sym step)
+        ∙ j.written;
+    waiting = λ k from below seen. absurd (omega arith);
+    unwritten = λ k from. j.unwritten k (omega arith);
+    unseen = j.unseen;
+    order = omega arith;
+    long = j.long;
+  }
+
+  -- more neutrals, or units that are none of the sequence
+  pub IsJoined-more : (now : List BidiClass) (waits : Bool) (done at to : ℕ) → at ≤ to → ((k : ℕ) → at ≤ k → k < to → mark k ≡ true → is_neutral (class_at s.old k) ≡ true) → IsJoined s now waits done at → IsJoined s now waits done to
+  IsJoined-more now waits done at to upto more j =
+      let order = j.order in
+      record {
+        written = j.written;
+        waiting = λ k from below is. elim (cases_lt k at) [ inl earlier ↦ j.waiting k from earlier is | inr later ↦ more k later below is ];
+        unwritten = j.unwritten;
+        unseen = j.unseen;
+        order = omega arith;
+        long = j.long;
+      }
+
+  waited : (now : List BidiClass) (waits : Bool) (done at : ℕ) → IsJoined s now waits done at → list_all is_neutral (at_old done at) ≡ true
+  waited now waits done at j = at_marked-each mark is_neutral s.old done at j.waiting
+
+  not_for : (c : BidiClass) → is_neutral c ≡ true → stands_for against c ≡ false
+  not_for L h = absurd (cc h)
+  not_for R h = absurd (cc h)
+  not_for EN h = absurd (cc h)
+  not_for AN h = absurd (cc h)
+  not_for _ h = refl
+
+  -- behind the embedding direction: units that don't stand for the opposite one
+  pub IsJoined-quiet : (now : List BidiClass) (done at to : ℕ) → at ≤ to → to ≤ size → ((k : ℕ) → at ≤ k → k < to → stands_for against (class_at s.old k) ≡ false) → IsJoined s now false done at → IsJoined s now false to to
+  IsJoined-quiet now done at to upto fits none j =
+      let order = j.order in
+      read now false false done at to (omega arith) fits j
+      (ap (n1_n2 e e s.eos) (split s.old done to size (omega arith) fits)
+      ∙ quiet-rest e s.eos s.side (at_old done to) (at_old to size)
+      (at_marked-each mark (λ c. is_weak_resolved c && not (stands_for against c)) s.old done to
+      (λ k from below is.
+      and_from (is_weak_resolved (class_at s.old k)) (not (stands_for against (class_at s.old k))) (s.resolved k is)
+      (ap not (elim (cases_lt k at) [ inl earlier ↦ not_for (class_at s.old k) (j.waiting k from earlier is) | inr later ↦ none k later below ])))))
+
+  -- the class at hand, and those behind it
+  first_at : (at : ℕ) → at < size → mark at ≡ true → at_old at size ≡ class_at s.old at ∷ at_old (at + 1) size
+  first_at at fits is =
+      let count : size - at ≡ suc (size - (at + 1)) = omega arith in
+      ap (at_places L s.old) (ap (λ n. filter mark (range_with_len at n)) count ∙ cond-true (mark at) (at ∷ marked mark (at + 1) size) (marked mark (at + 1) size) is)
+
+  seen-directed : (at : ℕ) (d : BidiClass) → in_runs s.runs at ≡ true → as_direction (class_at s.old at) ≡ Some d → mark at ≡ true
+  seen-directed at d inside is = and_from (in_runs s.runs at) (is_kept_in_place (class_at s.old at)) inside (directed-kept (class_at s.old at) d is)
+
+  -- the embedding direction comes
+  pub IsJoined-turned : (now : List BidiClass) (done at : ℕ) → at < size → in_runs s.runs at ≡ true → as_direction (class_at s.old at) ≡ Some e → IsJoined s now true done at → IsJoined s now false at at
+  IsJoined-turned now done at fits inside is j =
+      let first = first_at at fits (seen-directed at e inside is) in
+      read now true false done at at j.order (omega arith) j
+      (ap (n1_n2 e against s.eos) (split s.old done at size j.order (omega arith) ∙ ap (λ (xs : List BidiClass). at_old done at ++ xs) first)
+      ∙ turned e s.eos s.side (at_old done at) (at_old (at + 1) size) (class_at s.old at) (waited now true done at j) is
+      ∙ ap (λ (xs : List BidiClass). map (settled e) (at_old done at) ++ n1_n2 e e s.eos xs) (sym first))
+
+  -- the opposite direction comes, and is written to what waits
+  pub IsJoined-settled : (now new : List BidiClass) (done at : ℕ) → at < size → in_runs s.runs at ≡ true → as_direction (class_at s.old at) ≡ Some against → IsWrittenOver mark against done at now new → IsJoined s now true done at
+      → IsJoined s new true at at
+  IsJoined-settled now new done at fits inside is w j =
+      let first = first_at at fits (seen-directed at against inside is) in
+      let cs = at_old done at in
+      let row = replicate (length cs) against in
+      let tail = rest_of true at in
+      let there : at_places L new (marked mark done at) ≡ row = at_marked-all mark new against done at (λ k from below seen. w.inside k from below seen) ∙ ap (λ n. replicate n against) (sym (length-at s.old (marked mark done at))) in
+      record {
+        written =
+            ap (λ (xs : List BidiClass). xs ++ tail) (done-more new done at j.order)
+            ∙ append_assoc (done_with new done) (map (settled e) (at_places L new (marked mark done at))) tail
+            ∙ ap (λ (xs : List BidiClass). map (settled e) xs ++ (map (settled e) (at_places L new (marked mark done at)) ++ tail)) (at_marked-same mark new now 0 done (λ k from below seen. w.below k below))
+            ∙ ap (λ (xs : List BidiClass). done_with now done ++ (map (settled e) xs ++ tail)) there
+            ∙ ap (λ (xs : List BidiClass). done_with now done ++ (xs ++ tail)) (map-opposite e s.eos s.side (length cs))
+            ∙ ap (λ (xs : List BidiClass). done_with now done ++ xs)
+            (ap (λ (xs : List BidiClass). row ++ n1_n2 e against s.eos xs) first
+            ∙ sym (between_two e s.eos s.side cs (at_old (at + 1) size) (class_at s.old at) (waited now true done at j) is)
+            ∙ ap (λ (xs : List BidiClass). n1_n2 e against s.eos (cs ++ xs)) (sym first)
+            ∙ ap (n1_n2 e against s.eos) (sym (split s.old done at size j.order (omega arith))))
+            ∙ j.written;
+        waiting = λ k from below seen. absurd (omega arith);
+        unwritten = λ k from. w.above k from ∙ j.unwritten k (let order = j.order in omega arith);
+        unseen = λ k plain. w.failing k plain ∙ j.unseen k plain;
+        order = omega arith;
+        long = w.long ∙ j.long;
+      }
+
+  -- a stretch of the opposite direction
+  pub IsJoined-stretch : (now : List BidiClass) (waits : Bool) (at to : ℕ) → at < to → to ≤ size → in_runs s.runs at ≡ true → ((k : ℕ) → at ≤ k → k < to → stands_for against (class_at s.old k) ≡ true)
+      → IsJoined s now waits at at → IsJoined s now true to to
+  IsJoined-stretch now waits at to some fits inside all j =
+      let is = opposite-directed e (class_at s.old at) (all at (omega arith) some) in
+      let seen = seen-directed at against inside is in
+      let parts : at_old at to ≡ class_at s.old at ∷ at_old (at + 1) to =
+      ap (at_places L s.old) (ap (λ n. filter mark (range_with_len at n)) (let count : to - at ≡ suc (to - (at + 1)) = omega arith in count) ∙ cond-true (mark at) (at ∷ marked mark (at + 1) to) (marked mark (at + 1) to) seen) in
+      read now waits true at at to (omega arith) fits j
+      (ap (n1_n2 e (side_before s waits) s.eos) (split s.old at to size (omega arith) fits ∙ ap (λ (xs : List BidiClass). xs ++ at_old to size) parts)
+      ∙ stretch e s.eos s.side (side_before s waits) (class_at s.old at) (at_old (at + 1) to) (at_old to size)
+      (ap (list_all (stands_for against)) (sym parts) ∙ at_marked-each mark (stands_for against) s.old at to (λ k from below is'. all k from below))
+      ∙ ap (λ (xs : List BidiClass). map (settled e) xs ++ rest_of true to) (sym parts))
+
+  -- ---- the end
+
+  none-left : at_old size size ≡ []
+  none-left = let none : size - size ≡ 0 = omega arith in ap (λ n. at_places L s.old (filter mark (range_with_len size n))) none
+
+  -- nothing waits
+  pub finished-quiet : (now : List BidiClass) (done : ℕ) → IsJoined s now false done size → done_with now size ≡ goal
+  finished-quiet now done j =
+      let q = IsJoined-quiet now done size size (omega arith) (omega arith) (λ k a b. absurd (omega arith)) j in
+      sym (append-nil (done_with now size)) ∙ ap (λ (xs : List BidiClass). done_with now size ++ n1_n2 e e s.eos xs) (sym none-left) ∙ q.written
+
+  -- the embedding direction stands behind what waits
+  pub finished-embedding : (now : List BidiClass) (done : ℕ) → s.eos ≡ e → IsJoined s now true done size → done_with now size ≡ goal
+  finished-embedding now done is j =
+      let cs = at_old done size in
+      done-more now done size j.order
+      ∙ ap (λ (xs : List BidiClass). done_with now done ++ map (settled e) xs) (at_marked-same mark now s.old done size (λ k from below seen. j.unwritten k from))
+      ∙ ap (λ (xs : List BidiClass). done_with now done ++ xs)
+      (map-settled e s.eos s.side cs (waited now true done size j)
+      ∙ sym (last-waiting e s.eos s.side cs (waited now true done size j) ∙ ap (λ (x : BidiClass). replicate (length cs) (common e against x)) is ∙ ap (replicate (length cs)) (common_apart e s.eos s.side)))
+      ∙ j.written
+
+  -- the opposite one does, and is written to it
+  pub finished-opposite : (now new : List BidiClass) (done : ℕ) → s.eos ≡ against → IsWrittenOver mark against done size now new → IsJoined s now true done size → done_with new size ≡ goal
+  finished-opposite now new done is w j =
+      let cs = at_old done size in
+      let row = replicate (length cs) against in
+      done-more new done size j.order
+      ∙ ap (λ (xs : List BidiClass). map (settled e) xs ++ map (settled e) (at_places L new (marked mark done size))) (at_marked-same mark new now 0 done (λ k from below seen. w.below k below))
+      ∙ ap (λ (xs : List BidiClass). done_with now done ++ map (settled e) xs)
+      (at_marked-all mark new against done size (λ k from below seen. w.inside k from below seen) ∙ ap (λ n. replicate n against) (sym (length-at s.old (marked mark done size))))
+      ∙ ap (λ (xs : List BidiClass). done_with now done ++ xs)
+      (map-opposite e s.eos s.side (length cs)
+      ∙ sym (last-waiting e s.eos s.side cs (waited now true done size j) ∙ ap (λ (x : BidiClass). replicate (length cs) (common e against x)) is ∙ ap (replicate (length cs)) (common_opposite e s.eos s.side)))
+      ∙ j.written
+
+-- classes that are changed one by one
+at_changed : (mark : ℕ → Bool) (f : BidiClass → BidiClass) (xs ys : List BidiClass) (low n : ℕ) → ((k : ℕ) → low ≤ k → k < low + n → mark k ≡ true → class_at xs k ≡ f (class_at ys k))
+    → at_places L xs (filter mark (range_with_len low n)) ≡ map f (at_places L ys (filter mark (range_with_len low n)))
+at_changed mark f xs ys low zero h = refl
+at_changed mark f xs ys low (suc n) h =
+    let more = filter mark (range_with_len (low + 1) n) in
+    let rest = at_changed mark f xs ys (low + 1) n (λ k a b is. h k (omega arith) (omega arith) is) in
+    elim (cases_Bool (mark low)) [
+      | inl yes' ↦
+          let is = cond-true (mark low) (low ∷ more) more yes' in
+          ap (at_places L xs) is
+          ∙ ap (λ (c : BidiClass). c ∷ at_places L xs more) (h low (omega arith) (omega arith) yes')
+          ∙ ap (λ (cs : List BidiClass). f (class_at ys low) ∷ cs) rest
+          ∙ ap (λ (us : List ℕ). map f (at_places L ys us)) (sym is)
+      | inr no' ↦
+          let is = cond-false (mark low) (low ∷ more) more no' in
+          ap (at_places L xs) is ∙ rest ∙ ap (λ (us : List ℕ). map f (at_places L ys us)) (sym is)
+    ]
+
+pub at_marked-changed : (mark : ℕ → Bool) (f : BidiClass → BidiClass) (xs ys : List BidiClass) (low high : ℕ) → ((k : ℕ) → low ≤ k → k < high → mark k ≡ true → class_at xs k ≡ f (class_at ys k))
+    → at_places L xs (marked mark low high) ≡ map f (at_places L ys (marked mark low high))
+at_marked-changed mark f xs ys low high h = at_changed mark f xs ys low (high - low) (λ k a b is. h k a (omega arith) is)
