@@ -4,19 +4,19 @@ use bidi_base::level::{LTR_LEVEL, Level, RTL_LEVEL};
 /// A base level as a word names it.
 #[derive(Clone, Copy, Debug, PartialEq)]
 pub enum Base {
-    /// None: each line finds its own level.
+    /// None: each paragraph finds its own level (P2, P3).
     Auto,
-    /// Left to right.
+    /// Left to right, level 0.
     Ltr,
-    /// Right to left.
+    /// Right to left, level 1.
     Rtl,
 }
 
 impl Base {
     ghost use Rattle.std.specs.Prelude.{◌≡◌};
-    ghost use Rattle.bidi.specs.Bases.{base_named, level_of_base};
+    ghost use Rattle.bidi_terminal.specs.Bases.{base_named, level_of_base};
 
-    /// The base level that a word names.
+    /// The base level that a word names: `auto`, `ltr` or `rtl`. `None` for every other word.
     pub fn parse(word: &str) -> Option<Base>
         ensures { result ≡ base_named word.now }
     {

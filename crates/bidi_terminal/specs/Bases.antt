@@ -1,8 +1,8 @@
 -- The base levels that words name.
 use Rattle.std.specs.Prelude.{ℕ, if◌then◌else◌, List, Option, Some, None, codes}
 use Rattle.std.specs.Str.{bytes_eq}
-use Rattle.bidi.specs.declared.base.Base.{Base}
-use Rattle.bidi.specs.declared.base.Base.TheVariants.{Auto, Ltr, Rtl}
+use Rattle.bidi_terminal.specs.declared.base.Base.{Base}
+use Rattle.bidi_terminal.specs.declared.base.Base.TheVariants.{Auto, Ltr, Rtl}
 
 -- the base level that a word names
 abbrev pub base_named : List ℕ → Option Base
