@@ -1,8 +1,11 @@
+pub mod CharactersLemmas
 pub mod FindingsLemmas
 pub mod LinesLemmas
 pub mod ListsLemmas
 pub mod OpenersLemmas
 pub mod ClosedOpeners
+pub mod OptionsLemmas
+pub mod ParagraphLemmas
 pub mod ShownLemmas
 pub mod TurnedLemmas
 pub mod UnmatchedPass

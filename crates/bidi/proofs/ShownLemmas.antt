@@ -1,11 +1,10 @@
 -- A line that is analysed as one paragraph, as a list of characters.
-use Rattle.std.proofs.Common.{◌≡◌, ℕ, ◌-◌, ◌++◌, false, List, [], ◌∷◌, length, map, flat_map, Option, refl, sym, ap, ap₂, subst, ◌∙◌, arith, append-nil}
+use Rattle.std.proofs.Common.{◌≡◌, ℕ, ◌-◌, ◌++◌, false, List, [], ◌∷◌, length, map, flat_map, Option, refl, ap, subst, ◌∙◌, arith, append-nil}
 use Rattle.std.specs.Prelude.{slice_range, All}
 use Rattle.std.proofs.lemmas.List.{take_all, length-map, get_or-map}
 use Rattle.bidi_base.specs.declared.char_data.BidiClass.{BidiClass}
 use Rattle.bidi_base.specs.Analysed.{IsAnalysis}
 use Rattle.bidi_base.specs.Isolates.{paragraph_level, stored_classes}
-use Rattle.bidi_base.specs.Line.{levels_of_line, line_levels}
 use Rattle.bidi_base.specs.Places.{first_or}
 use Rattle.bidi_base.specs.Source.{Source}
 use Rattle.bidi_base.specs.Stored.{stored_levels, text_classes, text_levels, paragraph_levels}
@@ -13,8 +12,6 @@ use Rattle.bidi_base.specs.Text.{one_unit}
 use Rattle.bidi_base.proofs.LevelLaws.{length-stored_levels}
 use Rattle.bidi_base.proofs.PerUnit.{per_unit-one_unit}
 use Rattle.bidi_base.proofs.StoredSteps.{length-stored_classes}
-use Rattle.bidi_lines.proofs.LineLevels.{length-line_levels_after}
-use Rattle.bidi.specs.Shown.{shown_levels}
 
 -- what holds of a list under a function, and what it is made into
 pub All-from_map : {X Y : Type 0} (P : Y → Type 0) (f : X → Y) (xs : List X) → All P (map f xs) → All (λ x. P (f x)) xs
@@ -51,18 +48,3 @@ module _ (source : Source) (base : Option ℕ) (chars : List ℕ) (classes : Lis
 
   whole : {X : Type 0} (xs : List X) → length xs ≡ length chars → slice_range xs 0 (length chars) ≡ xs
   whole xs long = take_all (length chars - 0) xs (omega arith)
-
-  -- L1 along the whole of it
-  pub alone-shown : (level : ℕ) → level ≡ first_or 0 own → levels_of_line level classes levels 0 (length chars) ≡ shown_levels source base chars
-  unfolding shown_levels
-  alone-shown level e =
-      ap₂ (line_levels level) (whole classes length-alone_classes ∙ alone-classes) (whole levels length-alone_levels ∙ alone-levels)
-      ∙ ap (λ l. line_levels l (stored_classes (map source.class_of chars)) (stored_levels source base chars)) (e ∙ alone-level)
-
-pub length-shown_levels : (source : Source) (base : Option ℕ) (chars : List ℕ) → length (shown_levels source base chars) ≡ length chars
-unfolding shown_levels line_levels
-length-shown_levels source base chars =
-    let level : ℕ = paragraph_level base (map source.class_of chars) in
-    let classes : List BidiClass = stored_classes (map source.class_of chars) in
-    let long : length classes ≡ length chars = length-stored_classes (map source.class_of chars) ∙ length-map chars source.class_of in
-    length-line_levels_after level level classes (stored_levels source base chars) (length-stored_levels source base chars ∙ sym long) ∙ long

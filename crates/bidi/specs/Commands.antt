@@ -3,11 +3,12 @@ use Rattle.std.specs.Prelude.{ℕ, Bool, true, false, if◌then◌else◌, List,
 use Rattle.std.specs.List.{list_any, starts_with}
 use Rattle.std.specs.Str.{bytes_eq}
 use Rattle.std.specs.Option.{option_and_then}
-use Rattle.bidi.specs.Bases.{base_named}
-use Rattle.bidi.specs.declared.base.Base.{Base}
-use Rattle.bidi.specs.declared.base.Base.TheVariants.{Auto}
+use Rattle.bidi_terminal.specs.Bases.{base_named}
+use Rattle.bidi_terminal.specs.Numbers.{number_of}
+use Rattle.bidi_terminal.specs.declared.base.Base.TheVariants.{Auto}
 use Rattle.bidi.specs.declared.command.Command.{Command}
 use Rattle.bidi.specs.declared.command.Command.TheVariants.{Check, Show}
+use Rattle.bidi.specs.declared.view.View.{View}
 
 -- a word that begins as an option does
 abbrev pub is_option : List ℕ → Bool
@@ -23,20 +24,22 @@ check_of [] = option_map (Check false) (file_words [])
 check_of (word ∷ words) =
     if bytes_eq word (codes "--any") then option_map (Check true) (file_words words) else option_map (Check false) (file_words (word ∷ words))
 
--- behind `show` and the base level: `--plain` or not, and files
-abbrev pub plain_of : Base → List (List ℕ) → Option Command
-plain_of base [] = option_map (Show base false) (file_words [])
-plain_of base (word ∷ words) =
-    if bytes_eq word (codes "--plain") then option_map (Show base true) (file_words words) else option_map (Show base false) (file_words (word ∷ words))
+-- what `show` does without options
+abbrev pub first_view : View
+first_view = record { base = Auto; width = None; plain = false }
 
--- behind `show`: `--base` with a base level, or none, and the rest
-abbrev pub show_of : List (List ℕ) → Option Command
-show_of [] = plain_of Auto []
-show_of (word ∷ []) = plain_of Auto (word ∷ [])
-show_of (word ∷ base ∷ words) =
-    if bytes_eq word (codes "--base") then option_and_then (λ b. plain_of b words) (base_named base) else plain_of Auto (word ∷ base ∷ words)
+-- behind `show` and options that ask for this view: further options, in any order, and files
+abbrev pub show_of : View → List (List ℕ) → Option Command
+show_of view [] = option_map (Show view) (file_words [])
+show_of view (word ∷ []) =
+    if bytes_eq word (codes "--plain") then show_of (record view { plain = true }) [] else option_map (Show view) (file_words (word ∷ []))
+show_of view (word ∷ value ∷ words) =
+    if bytes_eq word (codes "--plain") then show_of (record view { plain = true }) (value ∷ words)
+    else if bytes_eq word (codes "--base") then option_and_then (λ base. show_of (record view { base = base }) words) (base_named value)
+    else if bytes_eq word (codes "--width") then option_and_then (λ width. show_of (record view { width = Some width }) words) (number_of value)
+    else option_map (Show view) (file_words (word ∷ value ∷ words))
 
 -- the form that words have, where they have one
 abbrev pub command_of : List (List ℕ) → Option Command
 command_of [] = None
-command_of (form ∷ words) = if bytes_eq form (codes "check") then check_of words else if bytes_eq form (codes "show") then show_of words else None
+command_of (form ∷ words) = if bytes_eq form (codes "check") then check_of words else if bytes_eq form (codes "show") then show_of first_view words else None

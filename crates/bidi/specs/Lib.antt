@@ -1,4 +1,3 @@
-pub mod Bases
 pub mod Commands
 pub mod Controls
 pub mod Findings

@@ -3,7 +3,8 @@ ghost use Rattle.std.specs.Prelude.{◌≡◌, map, string_bytes};
 ghost use Rattle.std.specs.List.{list_any};
 ghost use Rattle.bidi.specs.Commands.{is_option};
 
-use crate::base::Base;
+use crate::view::View;
+use bidi_terminal::{Base, parse_number};
 use std::marker::Model;
 
 /// Words that name files, none of them an option. In clauses they are their bytes.
@@ -59,20 +60,13 @@ impl<'w> FileWords<'w> {
 #[derive(Drop)]
 pub enum Command<'w> {
     /// `check [--any] [FILE..]`: the direction controls without a match on their line, or all.
-    Check {
-        any: bool,
-        files: FileWords<'w>,
-    },
-    /// `show [--base auto|ltr|rtl] [--plain] [FILE..]`: the lines from left to right.
-    Show {
-        base: Base,
-        plain: bool,
-        files: FileWords<'w>,
-    },
+    Check { any: bool, files: FileWords<'w> },
+    /// `show [--base auto|ltr|rtl] [--width N] [--plain] [FILE..]`: the lines from left to right.
+    Show { view: View, files: FileWords<'w> },
 }
 
 impl<'w> Command<'w> {
-    ghost use Rattle.bidi.specs.Commands.{command_of, check_of, plain_of, show_of};
+    ghost use Rattle.bidi.specs.Commands.{command_of, check_of, show_of};
 
     /// What the words behind `check` ask for.
     fn parse_check(words: &'w [String]) -> Option<Command<'w>>
@@ -86,37 +80,43 @@ impl<'w> Command<'w> {
         Some(Command::Check { any, files })
     }
 
-    /// What the words behind `show` and the base level ask for.
-    fn parse_plain(base: Base, words: &'w [String]) -> Option<Command<'w>>
-        ensures { result ≡ plain_of base (map string_bytes words.now) }
-    {
-        let (plain, words) = match words {
-            [option, rest @ ..] if option.as_str() == "--plain" => (true, rest),
-            _ => (false, words),
-        };
-        let files = FileWords::parse(words)?;
-        Some(Command::Show { base, plain, files })
-    }
-
-    /// What the words behind `show` ask for.
-    fn parse_show(words: &'w [String]) -> Option<Command<'w>>
-        ensures { result ≡ show_of (map string_bytes words.now) }
+    /// What words behind `show` ask for, where the options before them ask for this view.
+    fn parse_show(view: View, words: &'w [String]) -> Option<Command<'w>>
+        ensures { result ≡ show_of view (map string_bytes words.now) }
     {
         match words {
-            [option, base, rest @ ..] if option.as_str() == "--base" => {
-                Command::parse_plain(Base::parse(base.as_str())?, rest)
+            [option, rest @ ..] if option.as_str() == "--plain" => {
+                let view = View {
+                    plain: true,
+                    ..view
+                };
+                Command::parse_show(view, rest)
             }
-            _ => Command::parse_plain(Base::Auto, words),
+            [option, base, rest @ ..] if option.as_str() == "--base" => {
+                let base = Base::parse(base.as_str())?;
+                Command::parse_show(View { base, ..view }, rest)
+            }
+            [option, width, rest @ ..] if option.as_str() == "--width" => {
+                let width = Some(parse_number(width.as_str())?);
+                Command::parse_show(View { width, ..view }, rest)
+            }
+            _ => {
+                let files = FileWords::parse(words)?;
+                Some(Command::Show { view, files })
+            }
         }
     }
 
-    /// The form that the words have, where they have one. It takes no memory.
+    /// The form that the words have, where they have one. Options stand before the files, in any
+    /// order, and of one that is repeated the last counts. It takes no memory.
     pub fn parse(words: &'w [String]) -> Option<Command<'w>>
         ensures { result ≡ command_of (map string_bytes words.now) }
     {
         match words {
             [form, rest @ ..] if form.as_str() == "check" => Command::parse_check(rest),
-            [form, rest @ ..] if form.as_str() == "show" => Command::parse_show(rest),
+            [form, rest @ ..] if form.as_str() == "show" => {
+                Command::parse_show(View::default(), rest)
+            }
             _ => None,
         }
     }

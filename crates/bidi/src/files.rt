@@ -1,7 +1,7 @@
 //! The files of a call: they are read and answered one after the other.
-use crate::base::Base;
 use crate::input::{InputFault, check_input, show_input};
 use crate::status::Status;
+use crate::view::View;
 use std::fs;
 use std::io::{self, ErrorKind, Read, Write};
 use std::rt::Files;
@@ -51,7 +51,7 @@ fn refuse_bytes(rt: &impl Eprint, name: &str, fault: InputFault) -> Result<Statu
 #[derive(Clone, Copy)]
 pub enum Task {
     Check { any: bool },
-    Show { plain: bool, base: Base },
+    Show(View),
 }
 
 // Writes what is found in an input, or its lines.
@@ -69,7 +69,7 @@ fn answer_bytes(
             }
             Err(fault) => refuse_bytes(rt, name, fault),
         },
-        Task::Show { plain, base } => match show_input(rt.alloc(), plain, base, bytes) {
+        Task::Show(view) => match show_input(rt.alloc(), view, bytes) {
             Ok(shown) => {
                 write_out(rt, shown.as_str())?;
                 Ok(Status::Clean)

@@ -3,16 +3,16 @@ ghost use Rattle.std.specs.Prelude.{◌≡◌, ◌==◌, not, length, IfOk, IfEr
 ghost use Rattle.std.specs.Str.{chars, IsUtf8};
 ghost use Rattle.bidi_unicode.specs.Unicode.{unicode_source};
 ghost use Rattle.bidi.specs.Findings.{findings_of, report_of};
-ghost use Rattle.bidi.specs.Bases.{level_of_base};
 ghost use Rattle.bidi.specs.Inputs.{TellsInput};
 ghost use Rattle.bidi.specs.Shown.{shown_text};
 ghost use Rattle.bidi.specs.declared.input.InputFault.TheVariants.{Memory};
 
-use crate::base::Base;
+use crate::characters::chars_of;
 use crate::check::findings_in;
+use crate::paragraphs::show;
 use crate::report::report;
-use crate::show::show;
 use crate::status::Status;
+use crate::view::View;
 use bidi_unicode::UnicodeData;
 use std::alloc::{AllocError, Global};
 
@@ -73,13 +73,6 @@ fn text_of(bytes: &[u8]) -> Result<&str, InputFault>
     }
 }
 
-/// The characters of a text.
-fn chars_of(alloc: Global, text: &str) -> Result<Vec<char>, AllocError>
-    ensures { IfOk result (λ v. v.items ≡ chars text.now) }
-{
-    text.chars().collect(alloc)
-}
-
 /// The direction controls in an input of this name that have no match on their line; with `any`
 /// every control and mark. Refused where the input is not UTF-8, and for want of memory.
 pub fn check_input(
@@ -105,18 +98,13 @@ pub fn check_input(
 
 /// The lines of an input from left to right. Refused where the input is not UTF-8, and for want of
 /// memory.
-pub fn show_input(
-    alloc: Global,
-    plain: bool,
-    base: Base,
-    bytes: &[u8],
-) -> Result<String, InputFault>
+pub fn show_input(alloc: Global, view: View, bytes: &[u8]) -> Result<String, InputFault>
     ensures text { IfOk result (λ out. IsUtf8 bytes.now
-        × (string_bytes out ≡ shown_text unicode_source plain (level_of_base base) (chars bytes.now))) }
+        × (string_bytes out ≡ shown_text unicode_source view (chars bytes.now))) }
     ensures fault { IfErr result (TellsInput bytes.now) }
 {
     let text = text_of(bytes)?;
     let chars = chars_of(alloc, text)?;
-    let shown = show(alloc, &UnicodeData, plain, base, chars.as_slice())?;
+    let shown = show(alloc, &UnicodeData, view, chars.as_slice())?;
     Ok(shown)
 }

@@ -3,6 +3,7 @@ ghost use Rattle.std.specs.Prelude.{◌≡◌, ◌<◌, ◌≤◌, ◌∷◌, le
 ghost use Rattle.bidi_base.specs.Classes.{is_paragraph_separator};
 ghost use Rattle.bidi_base.specs.Paragraphs.{begins_with_line_feed, cr_lf_together};
 ghost use Rattle.bidi.specs.Findings.{lines_of};
+ghost use Rattle.bidi.specs.Shown.{own_chars as own_chars_of};
 
 use bidi_base::char_data::BidiClass;
 use bidi_base::data_source::BidiDataSource;
@@ -45,4 +46,16 @@ pub fn first_line_len<D: BidiDataSource>(data_source: &D, chars: &[char]) -> usi
         }
     }
     chars.len()
+}
+
+/// The characters of a line before what ends it.
+pub fn own_chars<'t, D: BidiDataSource>(data_source: &D, line: &'t [char]) -> &'t [char]
+    ensures { result.now ≡ own_chars_of (D.source data_source.now) line.now }
+{
+    for (at, c) in line.iter().enumerate() {
+        if is_separator(data_source, *c) {
+            return &line[..at];
+        }
+    }
+    line
 }

@@ -3,7 +3,7 @@
 //! gives the lines of a text as a terminal that does not know the algorithm has to be given them.
 #![tactic(auto)]
 
-mod base;
+mod characters;
 mod check;
 mod command;
 mod control;
@@ -12,12 +12,14 @@ mod finding;
 mod input;
 mod lines;
 mod openers;
+mod paragraphs;
 mod report;
 mod show;
 mod status;
 #[cfg(test)]
 mod tests;
 mod unmatched;
+mod view;
 
 use command::Command;
 use files::{Task, answer_files};
@@ -27,7 +29,7 @@ use std::rt::{Env, Files};
 use std::{env, io};
 
 const USAGE: &str =
-    "usage: bidi check [--any] [FILE..] or show [--base auto|ltr|rtl] [--plain] [FILE..]";
+    "usage: bidi check [--any] [FILE..]\n       bidi show [--base auto|ltr|rtl] [--width N] [--plain] [FILE..]";
 
 // The words after the program's name.
 fn arguments(rt: &(impl Env + AllocGlobal)) -> io::Result<Vec<String>> {
@@ -41,9 +43,7 @@ fn serve(rt: &(impl Env + Files + Input + Print + Eprint + AllocGlobal)) -> Stat
     };
     match Command::parse(words.as_slice()) {
         Some(Command::Check { any, files }) => answer_files(rt, Task::Check { any }, files.words()),
-        Some(Command::Show { base, plain, files }) => {
-            answer_files(rt, Task::Show { plain, base }, files.words())
-        }
+        Some(Command::Show { view, files }) => answer_files(rt, Task::Show(view), files.words()),
         None => {
             let _ = eprintln!(rt; "bidi: {USAGE}");
             Status::Refused

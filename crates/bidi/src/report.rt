@@ -3,16 +3,8 @@ ghost use Rattle.std.specs.Prelude.{◌≡◌, ◌++◌, decimal, IfOk, OnOk, st
 ghost use Rattle.bidi.specs.Findings.{finding_line, place_text, report_of};
 
 use crate::finding::Finding;
-use itoa::Buffer;
+use bidi_terminal::push_number;
 use std::alloc::{AllocError, Global};
-
-/// Appends a number in decimal.
-fn push_number(out: &mut String, number: usize) -> Result<(), AllocError>
-    ensures { OnOk result (string_bytes out.new ≡ string_bytes out.old ++ decimal number) }
-{
-    let mut digits = Buffer::new();
-    out.push_str(digits.format(number))
-}
 
 /// Appends where a finding stands: its file, its line and its column.
 fn push_place(out: &mut String, name: &str, finding: &Finding) -> Result<(), AllocError>

@@ -1,40 +1,23 @@
-//! The lines of a text as a terminal that does not know the algorithm has to be given them.
-ghost use Rattle.std.specs.Prelude.{◌≡◌, ◌≤◌, ◌++◌, flat_map, reverse, encode_utf8, length, map, All, IfOk, OnOk, IfSome, string_bytes};
-ghost use Rattle.bidi.specs.Shown.{mirror as mirror_of, turned, shown_run, run_at, shown_line, shown_levels, shown_text_line, shown_text, own_chars as own_chars_of};
+//! A line as a terminal that does not know the algorithm has to be given it.
+ghost use Rattle.std.specs.Prelude.{◌≡◌, ◌++◌, flat_map, reverse, encode_utf8, length, All, OnOk, string_bytes};
+ghost use Rattle.bidi.specs.Shown.{mirror as mirror_of, turned, shown_run, run_at, shown_line};
 ghost use Rattle.bidi_base.specs.Classes.{is_nsm};
-ghost use Rattle.bidi.specs.Bases.{level_of_base};
 ghost use Rattle.bidi_base.specs.Display.{IsLevelRun, run_of};
-ghost use Rattle.bidi_base.specs.Places.{first_or};
-ghost use Rattle.unicode_bidi.specs.ParagraphInfo.{levels_of};
 
-use crate::base::Base;
-use crate::lines::{first_line_len, is_separator};
+use crate::characters::push_chars;
 use bidi_base::char_data::BidiClass;
 use bidi_base::data_source::BidiDataSource;
-use bidi_base::level::{LTR_LEVEL, Level};
-use bidi_base::text::CharsText;
-use bidi_lines::line_levels::levels_of_line;
+use bidi_base::level::Level;
 use bidi_lines::visual_runs::visual_runs_of;
 use bidi_unicode::mirrored;
 use std::alloc::{AllocError, Global};
 use std::ops::Range;
-use unicode_bidi::{ParagraphInfo, engine};
 
 /// The character that is shown at an odd level (L4).
 fn mirror(c: char) -> char
     ensures { result ≡ mirror_of c }
 {
     mirrored(c).unwrap_or(c)
-}
-
-/// Appends characters as they stand.
-fn push_chars(out: &mut String, chars: &[char]) -> Result<(), AllocError>
-    ensures { OnOk result (string_bytes out.new ≡ string_bytes out.old ++ flat_map encode_utf8 chars.now) }
-{
-    for c in chars {
-        out.push(*c)?;
-    }
-    Ok(())
 }
 
 /// Appends the mirrored partners of characters, or the characters that have none.
@@ -110,34 +93,6 @@ fn push_run<D: BidiDataSource>(
     }
 }
 
-/// The level of the first paragraph.
-fn first_level(paragraphs: &[ParagraphInfo]) -> Level
-    ensures { result ≡ first_or 0 (levels_of paragraphs.now) }
-{
-    match paragraphs {
-        [first, ..] => first.level(),
-        [] => LTR_LEVEL,
-    }
-}
-
-/// The levels of a line's characters after L1, where the line is a paragraph by itself.
-fn levels_in_line<D: BidiDataSource>(
-    alloc: Global,
-    data_source: &D,
-    base: Option<Level>,
-    chars: &[char],
-) -> Result<Vec<Level>, AllocError>
-    requires { IfSome base (λ level. level ≤ 125) }
-    ensures levels { IfOk result (λ v. v.items ≡ shown_levels (D.source data_source.now) base chars.now) }
-    ensures long { IfOk result (λ v. length v.items ≡ length chars.now) }
-{
-    let analysis = engine::analyse(alloc, data_source, CharsText::new(chars), base, false)?;
-    let level = first_level(analysis.paragraphs());
-    let classes = analysis.original_classes();
-    let levels = levels_of_line(alloc, level, classes, analysis.levels(), 0..chars.len())?;
-    Ok(levels)
-}
-
 /// Appends a run of a line that is a range of its characters.
 fn push_range<D: BidiDataSource>(
     out: &mut String,
@@ -176,8 +131,9 @@ fn push_runs<D: BidiDataSource>(
     Ok(())
 }
 
-/// Appends a line, from its characters and their levels.
-fn push_line<D: BidiDataSource>(
+/// Appends a line, from its characters and their levels after L1. At odd levels characters are
+/// mirrored (L4), and nonspacing marks stand behind their letters (L3), unless it is to be `plain`.
+pub fn push_line<D: BidiDataSource>(
     alloc: Global,
     out: &mut String,
     data_source: &D,
@@ -192,42 +148,4 @@ fn push_line<D: BidiDataSource>(
     let runs = visual_runs_of(alloc, levels, 0)?;
     push_runs(out, data_source, plain, chars, levels, runs.as_slice())?;
     Ok(())
-}
-
-/// The characters of a line before what ends it.
-fn own_chars<'t, D: BidiDataSource>(data_source: &D, line: &'t [char]) -> &'t [char]
-    ensures { result.now ≡ own_chars_of (D.source data_source.now) line.now }
-{
-    for (at, c) in line.iter().enumerate() {
-        if is_separator(data_source, *c) {
-            return &line[..at];
-        }
-    }
-    line
-}
-
-/// The lines of a text, each from left to right as it is shown, and ended by a line feed. Each is a
-/// paragraph by itself. At odd levels characters are mirrored (L4), and nonspacing marks stand behind
-/// their letters (L3), unless it is to be `plain`.
-pub fn show<D: BidiDataSource>(
-    alloc: Global,
-    data_source: &D,
-    plain: bool,
-    base: Base,
-    chars: &[char],
-) -> Result<String, AllocError>
-    ensures { IfOk result (λ out. string_bytes out
-        ≡ shown_text (D.source data_source.now) plain (level_of_base base) chars.now) }
-{
-    let mut out = String::new(alloc);
-    let mut rest = chars;
-    while !rest.is_empty() {
-        let (line, after) = rest.split_at(first_line_len(data_source, rest));
-        let own = own_chars(data_source, line);
-        let levels = levels_in_line(alloc, data_source, base.level(), own)?;
-        push_line(alloc, &mut out, data_source, plain, own, levels.as_slice())?;
-        out.push('\n')?;
-        rest = after;
-    }
-    Ok(out)
 }

@@ -1,9 +1,10 @@
 //! Reports of hand-made texts, and what words ask for.
-use crate::base::Base;
 use crate::command::Command;
 use crate::control::Control;
 use crate::input::{InputFault, check_input, show_input};
+use crate::view::View;
 use bidi_base::data_source::BidiDataSource;
+use bidi_terminal::Base;
 use bidi_unicode::UnicodeData;
 use std::test::Fail;
 
@@ -176,9 +177,14 @@ fn words_ask_for_forms(rt: HostRuntime) -> Result<(), Fail> {
         ("show --base rtl --plain a b", Some((true, 2))),
         ("show --plain a", Some((true, 1))),
         ("show --base ltr", Some((false, 0))),
+        ("show --width 40 a", Some((false, 1))),
+        ("show --plain --width 8 --base ltr a b", Some((true, 2))),
+        ("show --width", None),
+        ("show --width 1000", None),
+        ("show --width -1", None),
         ("show --base", None),
         ("show --base sideways", None),
-        ("show --plain --base rtl", None),
+        ("show --plain --base rtl", Some((true, 0))),
         ("", None),
         ("Check", None),
         ("check a --any", None),
@@ -189,7 +195,7 @@ fn words_ask_for_forms(rt: HostRuntime) -> Result<(), Fail> {
         let words = words_of(&rt, line)?;
         let found = match Command::parse(words.as_slice()) {
             Some(Command::Check { any, files }) => Some((any, files.words().len())),
-            Some(Command::Show { plain, files, .. }) => Some((plain, files.words().len())),
+            Some(Command::Show { view, files }) => Some((view.plain, files.words().len())),
             None => None,
         };
         assert_eq!(rt; found, wanted, "{line}");
@@ -235,10 +241,54 @@ const SHOWN: [(Base, &str, &str, &str); 8] = [
 fn lines_are_shown(rt: HostRuntime) {
     for (base, text, terminal, plainly) in SHOWN {
         for (plain, wanted) in [(false, terminal), (true, plainly)] {
-            match show_input(rt.alloc(), plain, base, text.as_bytes()) {
+            let view = View {
+                base,
+                width: None,
+                plain,
+            };
+            match show_input(rt.alloc(), view, text.as_bytes()) {
                 Ok(shown) => assert_eq!(rt; shown.as_str(), wanted, "{text:?}"),
                 Err(fault) => panic!(rt; "{text:?}: {fault:?}"),
             }
+        }
+    }
+}
+
+// A width, a text, and its lines as they are shown.
+const CUT: [(Option<u16>, &str, &str); 7] = [
+    // As the README has it.
+    (Some(8), "car (מכונית) 12 אבג", "car (וכמ\nתינ) 12 \nגבא\n"),
+    // Uncut the number counts as R for the space behind it (N1), and stands left of the letters.
+    (None, "car (מכונית) 12 אבג", "car (תינוכמ) גבא 12\n"),
+    // Wide characters take two columns, and Hebrew points none.
+    (Some(3), "\u{3042}\u{3044}a", "\u{3042}\n\u{3044}a\n"),
+    (
+        Some(1),
+        "\u{5E9}\u{5C1}\u{5B8}\u{5DC}",
+        "\u{5E9}\u{5C1}\u{5B8}\n\u{5DC}\n",
+    ),
+    // A line has one character where none fits, and what is empty is one line.
+    (Some(0), "ab\n\nc", "a\nb\n\nc\n"),
+    (Some(2), "\r\n", "\n"),
+    // The end of each line is by itself (L1): the spaces stand at its left end.
+    (
+        Some(4),
+        "\u{5D0}\u{5D1}  \u{5D2}",
+        "  \u{5D1}\u{5D0}\n\u{5D2}\n",
+    ),
+];
+
+#[test]
+fn lines_are_cut(rt: HostRuntime) {
+    for (width, text, wanted) in CUT {
+        let view = View {
+            base: Base::Auto,
+            width,
+            plain: false,
+        };
+        match show_input(rt.alloc(), view, text.as_bytes()) {
+            Ok(shown) => assert_eq!(rt; shown.as_str(), wanted, "{text:?}"),
+            Err(fault) => panic!(rt; "{text:?}: {fault:?}"),
         }
     }
 }

@@ -1,5 +1,4 @@
 mod ListsLemmas
-mod NumbersLemmas
 mod PieceLines
 mod ShownLemmas
 mod TextsLemmas

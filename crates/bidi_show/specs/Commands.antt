@@ -2,22 +2,15 @@
 use Rattle.std.specs.Prelude.{ℕ, Bool, true, false, if◌then◌else◌, List, [], ◌∷◌, Option, Some, None, codes}
 use Rattle.std.specs.Option.{option_map, option_and_then}
 use Rattle.std.specs.Str.{bytes_eq}
-use Rattle.bidi_show.specs.Numbers.{number_of, levels_of}
-use Rattle.bidi_show.specs.declared.command.Base.{Base}
-use Rattle.bidi_show.specs.declared.command.Base.TheVariants.{Auto, Ltr, Rtl}
+use Rattle.bidi_terminal.specs.Bases.{base_named}
+use Rattle.bidi_terminal.specs.Numbers.{number_of}
+use Rattle.bidi_terminal.specs.declared.base.Base.{Base}
+use Rattle.bidi_show.specs.Numbers.{levels_of}
 use Rattle.bidi_show.specs.declared.command.Command.{Command}
 use Rattle.bidi_show.specs.declared.command.Command.TheVariants.{Map, Show}
 use Rattle.bidi_show.specs.declared.command.View.TheVariants.{Whole, Lines}
 
--- the base level that a word names
-abbrev pub base_named : List ℕ → Option Base
-base_named word =
-    if bytes_eq word (codes "auto") then Some Auto
-    else if bytes_eq word (codes "ltr") then Some Ltr
-    else if bytes_eq word (codes "rtl") then Some Rtl
-    else None
-
--- the same of a single word
+-- the base level that a single word names
 abbrev pub base_of : List (List ℕ) → Option Base
 base_of (word ∷ []) = base_named word
 base_of _ = None
@@ -36,11 +29,6 @@ command_of (form ∷ words) =
     else if bytes_eq form (codes "lines") then lines_named words
     else None
 
--- the base level, where there is one
-abbrev pub level_of_base : Base → Option ℕ
-level_of_base Auto = None
-level_of_base Ltr = Some 0
-level_of_base Rtl = Some 1
 
 -- the form reads the input
 abbrev pub reads_input : Option Command → Bool

@@ -1,14 +1,8 @@
 -- The numbers that words write.
-use Rattle.std.specs.Prelude.{ℕ, nat_le, ◌&&◌, if◌then◌else◌, List, length, Option, Some, None, is_some, filter_map}
+use Rattle.std.specs.Prelude.{ℕ, nat_le, if◌then◌else◌, List, Option, Some, None, is_some, filter_map}
 use Rattle.std.specs.List.{list_all}
 use Rattle.std.specs.Option.{option_and_then}
-use Rattle.std.specs.Char.{is_ascii_digit}
-use Rattle.std.specs.Str.Parse.{digits_value}
-
--- the number that a word of one to three digits writes
-abbrev pub number_of : List ℕ → Option ℕ
-number_of word =
-    if nat_le 1 (length word) && nat_le (length word) 3 && list_all is_ascii_digit word then Some (digits_value 10 word) else None
+use Rattle.bidi_terminal.specs.Numbers.{number_of}
 
 -- the level that a word writes: a number of at most 126
 abbrev pub level_of : List ℕ → Option ℕ

@@ -14,7 +14,7 @@ use Rattle.bidi_base.specs.Paragraphs.{paragraphs_of, each_separator, ends_with_
 use Rattle.bidi_base.specs.Source.{Source, table_source}
 use Rattle.bidi_base.specs.Stored.{stored_levels}
 use Rattle.bidi_base.specs.Text.{text_len}
-use Rattle.bidi_show.specs.Commands.{level_of_base}
+use Rattle.bidi_terminal.specs.Bases.{level_of_base}
 use Rattle.bidi_show.specs.declared.command.Command.{Command}
 use Rattle.bidi_show.specs.declared.command.Command.TheVariants.{Map, Show}
 use Rattle.bidi_show.specs.declared.command.View.{View}

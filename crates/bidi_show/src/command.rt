@@ -1,46 +1,8 @@
 //! What the words of a call ask for.
 ghost use Rattle.std.specs.Prelude.{◌≡◌, map, string_bytes};
 
-use crate::number::{LevelWords, parse_number};
-use unicode_bidi::{LTR_LEVEL, Level, RTL_LEVEL};
-
-/// A base level as a word names it.
-#[derive(Clone, Copy)]
-pub enum Base {
-    /// None: each paragraph finds its own level.
-    Auto,
-    /// Left to right.
-    Ltr,
-    /// Right to left.
-    Rtl,
-}
-
-impl Base {
-    ghost use Rattle.bidi_show.specs.Commands.{base_named, level_of_base};
-
-    // The base level that a word names.
-    fn parse(word: &str) -> Option<Base>
-        ensures { result ≡ base_named word.now }
-    {
-        match word {
-            "auto" => Some(Base::Auto),
-            "ltr" => Some(Base::Ltr),
-            "rtl" => Some(Base::Rtl),
-            _ => None,
-        }
-    }
-
-    /// The base level, where there is one.
-    pub fn level(self) -> Option<Level>
-        ensures { result ≡ level_of_base self }
-    {
-        match self {
-            Base::Auto => None,
-            Base::Ltr => Some(LTR_LEVEL),
-            Base::Rtl => Some(RTL_LEVEL),
-        }
-    }
-}
+use crate::number::LevelWords;
+use bidi_terminal::{Base, parse_number};
 
 /// What is printed of each paragraph.
 #[derive(Clone, Copy)]

@@ -1,30 +1,12 @@
 //! Numbers as words write them.
 ghost use Rattle.std.specs.Prelude.{◌≡◌, map, filter_map, is_some, IfOk, string_bytes};
-ghost use Rattle.std.specs.Char.{is_ascii_digit};
 ghost use Rattle.std.specs.List.{list_all};
-ghost use Rattle.bidi_show.specs.Numbers.{number_of, level_of, levels_of};
+ghost use Rattle.bidi_show.specs.Numbers.{level_of, levels_of};
 
+use bidi_terminal::parse_number;
 use std::alloc::{AllocError, Global};
 use std::marker::Model;
 use unicode_bidi::Level;
-
-// Whether a word has digits alone.
-fn is_digits(word: &str) -> bool
-    ensures { result ≡ list_all is_ascii_digit word.now }
-{
-    word.bytes().all(|byte| byte.is_ascii_digit())
-}
-
-/// The number that a word of one to three digits writes, with or without leading zeros.
-pub fn parse_number(word: &str) -> Option<u16>
-    ensures { result ≡ number_of word.now }
-{
-    if word.len() <= 3 && is_digits(word) {
-        word.parse().ok()
-    } else {
-        None
-    }
-}
 
 /// The level that a word writes: a number of at most 126.
 pub fn parse_level(word: &str) -> Option<Level>

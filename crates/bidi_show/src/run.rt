@@ -11,7 +11,7 @@ ghost use Rattle.bidi_show.specs.Texts.{line_of, sample_source, IsAnswer, Writes
 ghost use Rattle.bidi_show.specs.declared.command.Command.TheVariants.{Show};
 ghost use Rattle.bidi_show.specs.declared.fault.ShowFault.TheVariants.{Usage, NotUtf8, Device};
 
-use crate::command::{Base, Command, View};
+use crate::command::{Command, View};
 use crate::ends::{ShowIn, ShowOut};
 use crate::fault::ShowFault;
 use crate::input::read_all;
@@ -21,6 +21,7 @@ use crate::streams::{StreamIn, StreamOut};
 use crate::tally::Tally;
 use bidi_base::data_source::TableBidiData;
 use bidi_base::sample;
+use bidi_terminal::Base;
 use itoa::Buffer;
 use std::alloc::{AllocError, Global};
 use std::io::{Read, Write};

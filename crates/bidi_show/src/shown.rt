@@ -1,5 +1,5 @@
 //! What `show` and `lines` print of a text.
-ghost use Rattle.std.specs.Prelude.{◌≡◌, ◌+◌, ◌≤◌, ◌++◌, length, slice_range, flat_map, decimal, map, All, IfOk, OnOk, IfSome, string_bytes};
+ghost use Rattle.std.specs.Prelude.{◌≡◌, ◌+◌, ◌≤◌, ◌++◌, length, slice_range, flat_map, map, All, IfOk, OnOk, IfSome, string_bytes};
 ghost use Rattle.std.specs.Char.{len_utf8};
 ghost use Rattle.std.specs.Str.{chars};
 ghost use Rattle.bidi_base.specs.Classes.{is_paragraph_separator};
@@ -13,18 +13,10 @@ ghost use Rattle.unicode_bidi.specs.ParagraphInfo.{level_of, range_of};
 
 use crate::command::View;
 use bidi_base::text::{StrText, TextSource};
-use itoa::Buffer;
+use bidi_terminal::push_number;
 use std::alloc::{AllocError, Global};
 use unicode_bidi::layout::{self, CharWidth};
 use unicode_bidi::{BidiClass, BidiDataSource, BidiInfo, Level, LevelRun, ParagraphInfo};
-
-// Appends a number in decimal.
-fn push_number(out: &mut String, number: usize) -> Result<(), AllocError>
-    ensures { OnOk result (string_bytes out.new ≡ string_bytes out.old ++ decimal number) }
-{
-    let mut digits = Buffer::new();
-    out.push_str(digits.format(number))
-}
 
 // Appends where a paragraph stands, and its level.
 fn push_heading(out: &mut String, paragraph: &ParagraphInfo) -> Result<(), AllocError>

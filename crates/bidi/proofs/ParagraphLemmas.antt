@@ -1,0 +1,210 @@
+-- The lines of a paragraph, read in a text of UTF-8 whose classes and levels are known, are those of its characters.
+use Rattle.std.proofs.Common.{◌≡◌, ℕ, suc, ◌+◌, ◌<◌, ◌≤◌, Bool, true, false, not, ◌&&◌, List, [], ◌∷◌, ◌++◌, Option, Some, None, length, get_or, map, flat_map, refl, sym, ap, ap₂, ◌∙◌, arith, append_assoc, append-nil, length-append}
+use Rattle.std.specs.Prelude.{slice_range, codes}
+use Rattle.std.specs.List.{list_all, onto_first, prefix_len}
+use Rattle.std.specs.Char.{len_utf8}
+use Rattle.std.proofs.lemmas.Bool.{cond-false}
+use Rattle.std.proofs.lemmas.List.{length-map}
+use Rattle.std.proofs.lemmas.List.Sums.{sum_by-append}
+use Rattle.bidi_base.specs.declared.char_data.BidiClass.{BidiClass}
+use Rattle.bidi_base.specs.declared.char_data.BidiClass.TheVariants.{L}
+use Rattle.bidi_base.specs.Analysed.{AnalysedText, IsAnalysis}
+use Rattle.bidi_base.specs.Classes.{is_paragraph_separator}
+use Rattle.bidi_base.specs.Display.{visual_runs}
+use Rattle.bidi_base.specs.Isolates.{paragraph_level, stored_classes}
+use Rattle.bidi_base.specs.Layout.{lines_of}
+use Rattle.bidi_base.specs.Line.{levels_of_line, line_levels, line_levels_after}
+use Rattle.bidi_base.specs.Order.{visual_order}
+use Rattle.bidi_base.specs.Paragraphs.{paragraphs_of, each_separator, ranges_from}
+use Rattle.bidi_base.specs.Source.{Source}
+use Rattle.bidi_base.specs.Stored.{stored_levels, text_classes, text_levels, paragraph_levels}
+use Rattle.bidi_base.specs.Text.{text_len, char_index, subrange, per_unit, per_char, one_unit}
+use Rattle.bidi_base.proofs.LayoutLemmas.{lines_of-joined}
+use Rattle.bidi_base.proofs.LevelLaws.{length-stored_levels}
+use Rattle.bidi_base.proofs.ParagraphsLemmas.{joined}
+use Rattle.bidi_base.proofs.PerUnit.{per_char-per_unit}
+use Rattle.bidi_base.proofs.PlaceLemmas.{text_len-one_unit}
+use Rattle.bidi_base.proofs.StoredSteps.{length-stored_classes}
+use Rattle.bidi_base.proofs.StrLemmas.{has_units}
+use Rattle.bidi_base.proofs.TextLemmas.{char_index-append, subrange-middle}
+use Rattle.bidi_terminal.specs.Bases.{level_of_base}
+use Rattle.bidi_terminal.specs.Columns.{columns}
+use Rattle.bidi.specs.Shown.{own_chars, shown_line, shown_levels, shown_ranges, shown_range, shown_paragraph, line_ranges_of, shown_in}
+use Rattle.bidi.specs.declared.view.View.{View}
+use Rattle.unicode_bidi.specs.ParagraphInfo.{level_of, range_of, ranges_of, levels_of}
+use Rattle.unicode_bidi.specs.declared.paragraph_info.ParagraphInfo.{ParagraphInfo}
+
+-- ---- one paragraph
+
+-- no character is a separator
+abbrev pub has_none : Source → List ℕ → Bool
+has_none source chars = list_all (λ c. not (is_paragraph_separator (source.class_of c))) chars
+
+pub own_chars-none : (source : Source) (chars : List ℕ) → has_none source (own_chars source chars) ≡ true
+own_chars-none source [] = refl
+own_chars-none source (c ∷ chars) = by_test (not (is_paragraph_separator (source.class_of c))) refl (own_chars-none source chars)
+  where
+    by_test : (b : Bool) → not (is_paragraph_separator (source.class_of c)) ≡ b → has_none source (own_chars source chars) ≡ true → has_none source (own_chars source (c ∷ chars)) ≡ true
+    by_test true e rest =
+        let next : 1 + prefix_len (λ x. not (is_paragraph_separator (source.class_of x))) chars ≡ suc (prefix_len (λ x. not (is_paragraph_separator (source.class_of x))) chars) = omega arith in
+        rw (e, next) (rw e rest)
+    by_test false e rest = rw e
+
+first_test : (a b : Bool) → (not a && b) ≡ true → a ≡ false
+first_test true b e = absurd (cc e)
+first_test false b e = refl
+
+rest_test : (a b : Bool) → (a && b) ≡ true → b ≡ true
+rest_test true b e = e
+rest_test false b e = absurd (cc e)
+
+-- so it is one piece
+pub one_piece : (source : Source) (c : ℕ) (chars : List ℕ) → has_none source (c ∷ chars) ≡ true → paragraphs_of (each_separator source) (c ∷ chars) ≡ (c ∷ chars) ∷ []
+one_piece source c [] none = cond-false (is_paragraph_separator (source.class_of c)) _ _ (first_test (is_paragraph_separator (source.class_of c)) true none)
+one_piece source c (d ∷ chars) none =
+    let rest : has_none source (d ∷ chars) ≡ true = rest_test (not (is_paragraph_separator (source.class_of c))) (has_none source (d ∷ chars)) none in
+    cond-false (is_paragraph_separator (source.class_of c)) _ _ (first_test (is_paragraph_separator (source.class_of c)) (has_none source (d ∷ chars)) none)
+    ∙ ap (onto_first c) (one_piece source d chars rest)
+
+-- ---- its lines
+
+module _ (source : Source) (view : View) (own : List ℕ) (classes : List BidiClass) (levels : List ℕ)
+    (is_classes : classes ≡ per_unit len_utf8 own (stored_classes (map source.class_of own))) (is_levels : levels ≡ per_unit len_utf8 own (stored_levels source (level_of_base view.base) own)) where
+  abbrev base : Option ℕ
+  base = level_of_base view.base
+
+  abbrev level : ℕ
+  level = paragraph_level base (map source.class_of own)
+
+  abbrev text : AnalysedText
+  text = record { len_of = len_utf8; chars = own; classes = classes; levels = levels }
+
+  char_classes : per_char L len_utf8 own classes ≡ stored_classes (map source.class_of own)
+  char_classes =
+      ap (per_char L len_utf8 own) is_classes
+      ∙ per_char-per_unit len_utf8 has_units L own (stored_classes (map source.class_of own)) (length-stored_classes (map source.class_of own) ∙ length-map own source.class_of)
+
+  char_levels : per_char 0 len_utf8 own levels ≡ stored_levels source base own
+  char_levels = ap (per_char 0 len_utf8 own) is_levels ∙ per_char-per_unit len_utf8 has_units 0 own (stored_levels source base own) (length-stored_levels source base own)
+
+  -- the line that goes from one character up to another
+  abbrev line_at : List BidiClass → List ℕ → ℕ → ℕ → List ℕ
+  line_at ks ls i j = shown_line source view.plain (slice_range own i j) (levels_of_line level ks ls i j) ++ codes "\n"
+
+  one_line : (start end i j : ℕ) → char_index len_utf8 own start ≡ i → char_index len_utf8 own end ≡ j → shown_in source view.plain text level (start, end) ≡ shown_range source view own (i, j)
+  unfolding shown_levels
+  one_line start end i j first last = ap₂ (line_at (per_char L len_utf8 own classes) (per_char 0 len_utf8 own levels)) first last ∙ ap₂ (λ ks ls. line_at ks ls i j) char_classes char_levels
+
+  lines_from : (front : List ℕ) (pieces : List (List ℕ)) → own ≡ front ++ joined pieces
+      → flat_map (shown_in source view.plain text level) (ranges_from len_utf8 (text_len len_utf8 front) pieces) ≡ flat_map (shown_range source view own) (ranges_from one_unit (length front) pieces)
+  lines_from front [] whole = refl
+  lines_from front (piece ∷ pieces) whole =
+      let next : own ≡ (front ++ piece) ++ joined pieces = whole ∙ sym (append_assoc front piece (joined pieces)) in
+      let sum : text_len len_utf8 (front ++ piece) ≡ text_len len_utf8 front + text_len len_utf8 piece = sum_by-append len_utf8 front piece in
+      let many : length (front ++ piece) ≡ length front + text_len one_unit piece = omega (arith, length-append front piece, text_len-one_unit piece) in
+      let first : char_index len_utf8 own (text_len len_utf8 front) ≡ length front = ap (λ cs. char_index len_utf8 cs (text_len len_utf8 front)) whole ∙ char_index-append len_utf8 has_units front (piece ++ joined pieces) in
+      let last : char_index len_utf8 own (text_len len_utf8 front + text_len len_utf8 piece) ≡ length front + text_len one_unit piece =
+      ap (char_index len_utf8 own) (sym sum) ∙ ap (λ cs. char_index len_utf8 cs (text_len len_utf8 (front ++ piece))) next ∙ char_index-append len_utf8 has_units (front ++ piece) (joined pieces) ∙ many in
+      ap₂ (λ (xs ys : List ℕ). xs ++ ys) (one_line (text_len len_utf8 front) (text_len len_utf8 front + text_len len_utf8 piece) (length front) (length front + text_len one_unit piece) first last)
+      (ap (λ (n : ℕ). flat_map (shown_in source view.plain text level) (ranges_from len_utf8 n pieces)) (sym sum)
+      ∙ lines_from (front ++ piece) pieces next
+      ∙ ap (λ (n : ℕ). flat_map (shown_range source view own) (ranges_from one_unit n pieces)) many)
+
+  pub lines-shown : (start end : ℕ) → 0 < length own → start ≡ 0 → end ≡ text_len len_utf8 own
+      → flat_map (shown_in source view.plain text level) (line_ranges_of view.width text (record { start = start; end = end })) ≡ shown_paragraph source view own
+  unfolding shown_paragraph
+  lines-shown start end some first last =
+      ap₂ (λ (s e : ℕ). flat_map (shown_in source view.plain text level) (line_ranges_of view.width text (record { start = s; end = e }))) first last
+      ∙ by_width view.width refl own refl some
+    where
+      by_width : (width : Option ℕ) → view.width ≡ width → (cs : List ℕ) → own ≡ cs → 0 < length cs
+          → flat_map (shown_in source view.plain text level) (line_ranges_of width text (record { start = 0; end = text_len len_utf8 own })) ≡ flat_map (shown_range source view own) (shown_ranges width cs)
+      by_width None w cs e some =
+          let long : 0 + text_len one_unit own ≡ length cs = omega (arith, text_len-one_unit own, ap length e) in
+          let units : text_len len_utf8 own ≡ 0 + text_len len_utf8 own = omega arith in
+          ap (λ (n : ℕ). flat_map (shown_in source view.plain text level) ((0, n) ∷ [])) units
+          ∙ lines_from [] (own ∷ []) (sym (append-nil own))
+          ∙ ap (λ (n : ℕ). flat_map (shown_range source view own) ((0, n) ∷ [])) long
+      by_width (Some width) w [] e some = absurd (omega arith)
+      by_width (Some width) w (c ∷ cs) e some =
+          let all : subrange len_utf8 own 0 (text_len len_utf8 own) ≡ own =
+          let units : text_len len_utf8 own ≡ 0 + text_len len_utf8 own = omega arith in
+          ap₂ (λ (l : List ℕ) (n : ℕ). subrange len_utf8 l 0 n) (sym (append-nil own)) units ∙ subrange-middle len_utf8 has_units [] own [] in
+          ap (λ l. flat_map (shown_in source view.plain text level) (ranges_from len_utf8 0 (lines_of columns width l))) all
+          ∙ lines_from [] (lines_of columns width own) (sym (lines_of-joined columns width own))
+          ∙ ap (λ l. flat_map (shown_range source view own) (ranges_from one_unit 0 (lines_of columns width l))) e
+
+-- an empty paragraph is an empty line
+empty-line : (source : Source) (view : View) → shown_range source view [] (0, 0) ≡ codes "\n"
+unfolding shown_line shown_levels line_levels line_levels_after visual_runs visual_order
+empty-line source view = refl
+
+pub nothing-shown : (source : Source) (view : View) (own : List ℕ) → own ≡ [] → codes "\n" ≡ shown_paragraph source view own
+unfolding shown_paragraph
+nothing-shown source view own e = by_width view.width ∙ ap (shown_paragraph source view) (sym e)
+  where
+    by_width : (width : Option ℕ) → codes "\n" ≡ flat_map (shown_range source view []) (shown_ranges width [])
+    by_width None = sym (append-nil (shown_range source view [] (0, 0)) ∙ empty-line source view)
+    by_width (Some width) = sym (append-nil (shown_range source view [] (0, 0)) ∙ empty-line source view)
+
+-- ---- what is known of the paragraphs of a text without separators
+
+module _ (source : Source) (base : Option ℕ) (own : List ℕ) (none : has_none source own ≡ true) (classes : List BidiClass) (levels : List ℕ) (ps : List ParagraphInfo)
+    (h : IsAnalysis source base true (record { len_of = len_utf8; chars = own; classes = classes; levels = levels }) (ranges_of ps) (levels_of ps)) where
+  pieces-one : 0 < length own → paragraphs_of (each_separator source) own ≡ own ∷ []
+  pieces-one some = by_chars own refl none some
+    where
+      by_chars : (cs : List ℕ) → own ≡ cs → has_none source cs ≡ true → 0 < length cs → paragraphs_of (each_separator source) own ≡ own ∷ []
+      by_chars [] e none some = absurd (omega arith)
+      by_chars (c ∷ cs) e none some = ap (paragraphs_of (each_separator source)) e ∙ one_piece source c cs none ∙ ap (λ l. l ∷ []) (sym e)
+
+  pub own-classes : 0 < length own → classes ≡ per_unit len_utf8 own (stored_classes (map source.class_of own))
+  unfolding text_classes
+  own-classes some = h.classes ∙ ap (λ pieces. per_unit len_utf8 own (text_classes source pieces)) (pieces-one some) ∙ ap (per_unit len_utf8 own) (append-nil (stored_classes (map source.class_of own)))
+
+  pub own-levels : 0 < length own → levels ≡ per_unit len_utf8 own (stored_levels source base own)
+  unfolding text_levels
+  own-levels some = h.levels ∙ ap (λ pieces. per_unit len_utf8 own (text_levels source base pieces)) (pieces-one some) ∙ ap (per_unit len_utf8 own) (append-nil (stored_levels source base own))
+
+  -- the first of them
+  pub record IsWhole (p : ParagraphInfo) : Type 0 where
+    pub some : 0 < length own
+    pub first : (range_of p).start ≡ 0
+    pub last : (range_of p).end ≡ text_len len_utf8 own
+    pub own_level : level_of p ≡ paragraph_level base (map source.class_of own)
+
+  pub whole : (p : ParagraphInfo) → 1 ≤ length ps → p ≡ get_or ps 0 p → IsWhole p
+  unfolding paragraph_levels
+  whole p is_some is = by_chars own refl
+    where
+      found : (qs : List ParagraphInfo) → 1 ≤ length qs → p ≡ get_or qs 0 p → (r : ℕ × ℕ) (l : ℕ) → ranges_of qs ≡ r ∷ [] → levels_of qs ≡ l ∷ [] → (◌≡◌ {A = ℕ × ℕ} ((range_of p).start, (range_of p).end) r) × (level_of p ≡ l)
+      found [] some is r l e f = absurd (omega arith)
+      found (q ∷ qs) some is r l e f =
+          let at : p ≡ q = is in
+          let e' : ◌≡◌ {A = ℕ × ℕ} (q.range.start, q.range.end) r = cc in
+          let f' : level_of q ≡ l = cc in (
+            ap (λ (x : ParagraphInfo). (x.range.start, x.range.end)) at ∙ e',
+            ap level_of at ∙ f',
+          )
+
+      by_chars : (cs : List ℕ) → own ≡ cs → IsWhole p
+      by_chars [] e =
+          let no_ranges : ranges_of ps ≡ [] = h.ranges ∙ ap (λ l. ranges_from len_utf8 0 (paragraphs_of (each_separator source) l)) e in
+          absurd (omega (arith, ap length no_ranges, length-map {B = ℕ × ℕ} ps (λ (p : ParagraphInfo). (p.range.start, p.range.end))))
+      by_chars (c ∷ cs) e =
+          let some : 0 < length own = omega (arith, ap length e) in
+          let is_range : ranges_of ps ≡ (0, text_len len_utf8 own) ∷ [] = h.ranges ∙ ap (ranges_from len_utf8 0) (pieces-one some) ∙ ap (λ (n : ℕ). (0, n) ∷ []) (omega arith) in
+          let is_level : levels_of ps ≡ paragraph_level base (map source.class_of own) ∷ [] = h.paragraph_levels ∙ ap (paragraph_levels source base) (pieces-one some) in
+          let w = found ps is_some is (0, text_len len_utf8 own) (paragraph_level base (map source.class_of own)) is_range is_level in
+          record { some = some; first = ap (λ (r : ℕ × ℕ). r.0) w.0; last = ap (λ (r : ℕ × ℕ). r.1) w.0; own_level = w.1 }
+
+  -- where there is none the text is empty
+  pub nothing : length ps ≡ 0 → own ≡ []
+  nothing few = by_chars own refl
+    where
+      by_chars : (cs : List ℕ) → own ≡ cs → own ≡ []
+      by_chars [] e = e
+      by_chars (c ∷ cs) e =
+          let some : 0 < length own = omega (arith, ap length e) in
+          let is_range : ranges_of ps ≡ (0, 0 + text_len len_utf8 own) ∷ [] = h.ranges ∙ ap (ranges_from len_utf8 0) (pieces-one some) in
+          absurd (omega (arith, few, ap length is_range, length-map {B = ℕ × ℕ} ps (λ (p : ParagraphInfo). (p.range.start, p.range.end))))

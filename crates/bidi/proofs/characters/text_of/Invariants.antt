@@ -1,0 +1,6 @@
+use Rattle.std.proofs.Common.{◌≡◌, take, string_bytes}
+use Rattle.std.specs.Str.{chars}
+use Rattle.bidi.proofs.characters.text_of.Given as goal
+
+abbrev pub invariant-loop-c : goal.invariant-loop-c
+invariant-loop-c l = chars (string_bytes l.text) ≡ take l.c-index l.characters

@@ -1,0 +1,35 @@
+//! Numbers as words write them.
+ghost use Rattle.std.specs.Prelude.{◌≡◌, ◌++◌, decimal, OnOk, string_bytes};
+ghost use Rattle.std.specs.Char.{is_ascii_digit};
+ghost use Rattle.std.specs.List.{list_all};
+ghost use Rattle.bidi_terminal.specs.Numbers.{number_of};
+
+use itoa::Buffer;
+use std::alloc::AllocError;
+
+// Whether a word has digits alone.
+fn is_digits(word: &str) -> bool
+    ensures { result ≡ list_all is_ascii_digit word.now }
+{
+    word.bytes().all(|byte| byte.is_ascii_digit())
+}
+
+/// The number that a word of one to three digits writes, with or without leading zeros. `None` for
+/// every other word.
+pub fn parse_number(word: &str) -> Option<u16>
+    ensures { result ≡ number_of word.now }
+{
+    if word.len() <= 3 && is_digits(word) {
+        word.parse().ok()
+    } else {
+        None
+    }
+}
+
+/// Appends a number in decimal.
+pub fn push_number(out: &mut String, number: usize) -> Result<(), AllocError>
+    ensures { OnOk result (string_bytes out.new ≡ string_bytes out.old ++ decimal number) }
+{
+    let mut digits = Buffer::new();
+    out.push_str(digits.format(number))
+}
