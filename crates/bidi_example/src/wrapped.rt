@@ -1,10 +1,24 @@
 //! Shows a text in lines of at most so many columns of a terminal.
 
-use bidi_terminal::Columns;
 use std::alloc::Global;
 use std::io::{self, Write};
 use unicode_bidi::BidiInfo;
-use unicode_bidi::layout::lines;
+use unicode_bidi::layout::{CharWidth, lines};
+use unicode_width::UnicodeWidthChar;
+
+/// The columns that characters take in a terminal. A control takes none.
+struct Columns;
+
+impl CharWidth for Columns {
+    ghost use Rattle.std.specs.Prelude.{unwrap_or, false};
+    ghost use Rattle.unicode_width.specs.Width.{char_width};
+
+    ghost width_of = { λ _ c. unwrap_or (char_width false c) 0 };
+
+    fn width(&self, c: char) -> usize {
+        c.width().unwrap_or(0)
+    }
+}
 
 /// Writes a text without line feeds in lines of at most `columns` columns, each from left to right.
 pub fn write_wrapped<W: Write>(
