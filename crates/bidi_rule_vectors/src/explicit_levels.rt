@@ -20,7 +20,7 @@ use std::process::Abort;
 use std::test::Fail;
 
 /// A name, the paragraph level, classes, the explicit levels, and the classes under overrides.
-type LevelRow = (
+pub type LevelRow = (
     &'static str,
     u8,
     &'static [BidiClass],
@@ -29,7 +29,7 @@ type LevelRow = (
 );
 
 #[rattlefmt::skip]
-const LEVELS: [LevelRow; 12] = [
+pub const LEVELS: [LevelRow; 12] = [
     ("X5a, X6a: an override stops at an isolate", 0, &[RLO, L, LRI, L, PDI, L, PDF], &[0, 1, 1, 2, 1, 1, 0], &[RLO, R, R, L, R, R, PDF]),
     ("X7: a PDF closes nothing outside its isolate", 0, &[RLE, LRI, PDF, PDI, L, PDF], &[0, 1, 2, 1, 1, 0], &[RLE, LRI, PDF, PDI, L, PDF]),
     ("X6a: a PDI closes the embeddings inside", 0, &[RLI, LRE, L, PDI, L], &[0, 1, 2, 0, 0], &[RLI, LRE, L, PDI, L]),
@@ -66,7 +66,7 @@ const SEQUENCES: [SequenceRow; 5] = [
 
 /// A name, the paragraph level, a text and its classes, one a character; then the levels and the
 /// classes in place, one a character, the level runs, and the sequences.
-type UnitRow = (
+pub type UnitRow = (
     &'static str,
     u8,
     &'static str,
@@ -78,7 +78,7 @@ type UnitRow = (
 );
 
 #[rattlefmt::skip]
-const UNITS: [UnitRow; 12] = [
+pub const UNITS: [UnitRow; 12] = [
     ("X5a, X6a: an override stops at an isolate", 0, "abcdefg", &[RLO, L, LRI, L, PDI, L, PDF], &[0, 1, 1, 2, 1, 1, 0], &[BN, R, R, L, R, R, BN],
         &[(0, 3), (3, 4), (4, 7)], &[(&[(0, 3), (4, 7)], R, R), (&[(3, 4)], L, L)]),
     ("X9: a removed character begins no run", 0, "\u{202B}\u{5D0}\u{202C}a", &[RLE, R, PDF, L], &[0, 1, 0, 0], &[BN, R, BN, L],
@@ -142,18 +142,18 @@ fn prepare(
     Ok((found, sequences))
 }
 
-// What the passes in place leave on the units of a text: levels, classes, level runs and sequences.
+/// What the passes in place leave on the units of a text: levels, classes, level runs and sequences.
 #[derive(Drop)]
-struct Prepared {
-    levels: Vec<Level>,
-    classes: Vec<BidiClass>,
-    runs: Vec<(usize, usize)>,
-    sequences: Vec<IsolatingRunSequence>,
+pub struct Prepared {
+    pub levels: Vec<Level>,
+    pub classes: Vec<BidiClass>,
+    pub runs: Vec<(usize, usize)>,
+    pub sequences: Vec<IsolatingRunSequence>,
 }
 
 impl Prepared {
-    // Of a text with these classes, one a character. What the levels held before is of no effect.
-    fn new(
+    /// Of a text with these classes, one a character. What the levels held before is of no effect.
+    pub fn new(
         rt: &(impl AllocGlobal + Abort),
         para_level: u8,
         text: &str,
@@ -199,8 +199,8 @@ impl Prepared {
     }
 }
 
-// A text of characters of one and two units by turns, one for each class.
-fn letters(alloc: Global, classes: &[BidiClass]) -> Result<String, Fail> {
+/// A text of characters of one and two units by turns, one for each class.
+pub fn letters(alloc: Global, classes: &[BidiClass]) -> Result<String, Fail> {
     let mut text = String::new(alloc);
     for index in 0..classes.len() {
         text.push(if index % 2 == 0 { 'x' } else { '\u{E9}' })?;

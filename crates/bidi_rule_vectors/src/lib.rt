@@ -4,6 +4,8 @@
 #[cfg(test)]
 mod conditions;
 #[cfg(test)]
+mod counted;
+#[cfg(test)]
 mod explicit_levels;
 #[cfg(test)]
 mod implicit_levels;

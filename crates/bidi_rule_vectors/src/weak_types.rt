@@ -32,7 +32,7 @@ const LISTS: [ListRow; 7] = [
 
 /// A name, a text, the runs of a sequence in it, and the classes before and after, one a character.
 /// sos is R.
-type UnitRow = (
+pub type UnitRow = (
     &'static str,
     &'static str,
     &'static [(usize, usize)],
@@ -41,7 +41,7 @@ type UnitRow = (
 );
 
 #[rattlefmt::skip]
-const UNITS: [UnitRow; 9] = [
+pub const UNITS: [UnitRow; 9] = [
     ("W4, W5: separators and terminators", "\u{5D0}$1+2%,3", &[(0, 9)], &[R, ET, EN, ES, EN, ET, CS, EN], &[R, EN, EN, EN, EN, EN, ON, EN]),
     ("W4: a removed character behind a separator", "1+\u{AD}2", &[(0, 5)], &[EN, ES, BN, EN], &[EN, EN, BN, EN]),
     ("W5: a removed character behind a terminator", "$\u{AD}1", &[(0, 4)], &[ET, BN, EN], &[EN, BN, EN]),
@@ -53,8 +53,8 @@ const UNITS: [UnitRow; 9] = [
     ("W5: a terminator goes on in the next run", "$x1", &[(0, 1), (2, 3)], &[ET, L, EN], &[EN, L, EN]),
 ];
 
-// Resolves a sequence in place.
-fn resolve_units(
+/// Resolves a sequence in place.
+pub fn resolve_units(
     rt: &impl Abort,
     text: StrText,
     sequence: &IsolatingRunSequence,

@@ -1,4 +1,5 @@
-//! What X9 removes, level runs, and isolating run sequences (BD7, BD13, X9, X10).
+//! What X9 removes, level runs, and isolating run sequences (BD7, BD13, X9, X10); and the count of
+//! loop turns that passes take.
 
 ghost use Rattle.std.specs.Prelude.{◌≡◌};
 ghost use Rattle.bidi_base.specs.Classes.{is_removed, is_kept};
