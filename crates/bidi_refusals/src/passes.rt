@@ -12,10 +12,12 @@ use bidi_base::classes::is_initiator;
 use bidi_base::data_source::TableBidiData;
 use bidi_base::level::{LTR_LEVEL, Level, RTL_LEVEL};
 use bidi_base::text::{StrText, is_per_char};
-use bidi_rules::explicit::compute;
+use bidi_rules::explicit::{compute, compute_counted};
 use bidi_rules::implicit::{NeutralResolver, resolve_levels, resolve_neutral, resolve_weak};
-use bidi_rules::prepare::{IsolatingRunSequence, LevelRunVec, isolating_run_sequences};
+use bidi_rules::prepare::{IsolatingRunSequence, LevelRunVec, Steps, isolating_run_sequences};
 use std::alloc::Global;
+use std::marker::Brand;
+use std::sync::ledger::{Blank, Ledger};
 use unicode_bidi::InitialInfo;
 
 // The most units that a text here has.
@@ -152,6 +154,46 @@ fn computed(alloc: Global, of: Classified<'_>) -> Result<(Units, LevelRunVec), N
     Ok((units, runs))
 }
 
+// The same, with its steps counted in a ledger that this blank opens.
+fn computed_by<S: Ledger>(
+    alloc: Global,
+    of: Classified<'_>,
+    blank: Blank,
+) -> Result<(Units, LevelRunVec), NoAnswer>
+    requires name { blank.name ≡ S.name }
+    requires parts { blank.parts ≡ S.parts }
+    requires one { blank.parts ≡ 1 }
+{
+    let count = of.classes.len();
+    if count > ROOM || !is_per_char(of.text, of.classes) {
+        return Err(NoAnswer::Wrong);
+    }
+    let mut units = Units {
+        levels: [LTR_LEVEL; ROOM],
+        classes: [L; ROOM],
+    };
+    let classes = &mut units.classes[..count];
+    classes.copy_from_slice(of.classes);
+    let mut runs = Vec::new(alloc);
+    let mut steps = Steps::<S>::new(blank);
+    compute_counted(
+        alloc,
+        of.text,
+        RTL_LEVEL,
+        of.classes,
+        &mut units.levels[..count],
+        classes,
+        &mut runs,
+        &mut steps,
+    )?;
+    Ok((units, runs))
+}
+
+// The same, with its steps counted.
+fn computed_counted(alloc: Global, of: Classified<'_>) -> Result<(Units, LevelRunVec), NoAnswer> {
+    computed_by::<Brand>(alloc, of, Blank::new(1))
+}
+
 // The units with the weak types of a sequence resolved, which takes no memory.
 fn with_weak(
     of: Classified<'_>,
@@ -282,6 +324,11 @@ fn try_passes(
     of: Classified<'_>,
 ) -> Result<(), Fault> {
     tried!(rt, "explicit::compute", computed(rt.alloc(), of));
+    tried!(
+        rt,
+        "explicit::compute_counted",
+        computed_counted(rt.alloc(), of)
+    );
     let (mut units, sequences) = tried!(
         rt,
         "explicit::compute and prepare::isolating_run_sequences",
