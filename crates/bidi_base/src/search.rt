@@ -57,12 +57,7 @@ fn first_of_sixteen<T: ClassTest>(test: T, classes: &[BidiClass], at: usize) -> 
 }
 
 /// The first unit from `from` on and below `to` whose class passes a test, or else `to`.
-pub fn first_passing<T: ClassTest>(
-    test: T,
-    classes: &[BidiClass],
-    from: usize,
-    to: usize,
-) -> usize
+pub fn first_passing<T: ClassTest>(test: T, classes: &[BidiClass], from: usize, to: usize) -> usize
     requires ordered { from ≤ to }
     requires inside { to ≤ length classes.now }
     ensures { IsFirst (T.test test) classes.now from to result }

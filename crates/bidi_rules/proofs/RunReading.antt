@@ -1,24 +1,24 @@
--- The characters of a run, read one by one for what is open.
-use Rattle.std.proofs.Common.{◌≡◌, ℕ, suc, ◌+◌, ◌-◌, ◌<◌, ◌≤◌, Bool, true, false, cond, eqb, List, length, get_or, drop, Option, Some, None, refl, sym, ap, ◌∙◌, arith, eq-eqb, ne_eqb, inl, inr}
-use Rattle.std.specs.Prelude.{slice_range}
+-- The characters of a run that open or close an isolate, read one by one.
+use Rattle.std.proofs.Common.{◌≡◌, ℕ, zero, suc, ◌+◌, ◌-◌, ◌<◌, ◌≤◌, Bool, true, false, cond, eqb, List, length, get_or, drop, Option, Some, None, refl, sym, ap, subst, ◌∙◌, arith, eq-eqb, ne_eqb, inl, inr}
 use Rattle.std.specs.Bool.{then_some}
 use Rattle.std.specs.List.{fold, range_with_len}
-use Rattle.std.proofs.lemmas.Bool.{cases_eq}
-use Rattle.std.proofs.lemmas.List.{length-take, length-drop}
+use Rattle.std.proofs.lemmas.Bool.{cases_eq, cases_lt, both_ways}
 use Rattle.std.proofs.lemmas.List.Sums.{fold_push}
 use Rattle.bidi_base.specs.declared.char_data.BidiClass.{BidiClass}
-use Rattle.bidi_base.specs.declared.char_data.BidiClass.TheVariants.{L}
+use Rattle.bidi_base.specs.declared.char_data.BidiClass.TheVariants.{L, LRI, RLI, FSI, PDI}
 use Rattle.bidi_base.specs.contracts.char_data.BidiClassPartialEq.TheImpl.{ghosts}
 use Rattle.bidi_base.specs.Places.{class_at}
+use Rattle.bidi_base.specs.Search.{IsFirst}
 use Rattle.bidi_base.specs.SequencePass.{read_class}
-use Rattle.bidi_base.specs.Text.{place, text_len, per_unit, per_char, is_per_char, is_boundary, char_index, subrange, IsLine}
+use Rattle.bidi_base.specs.Text.{place, text_len, per_unit, per_char, is_per_char, is_boundary, char_index, IsLine, IsPerChar}
 use Rattle.bidi_base.proofs.TextLemmas.{HasUnits}
-use Rattle.bidi_base.proofs.PlaceLemmas.{LengthTurn, place-slice_range, line_places, place-char_index, char_index-place, place-le, place-end}
+use Rattle.bidi_base.proofs.PlaceLemmas.{is_boundary-place, line_places, place-char_index, char_index-place, place-le, place-more, place-mono}
 use Rattle.bidi_base.proofs.PlacesLemmas.{range_with_len-more}
 use Rattle.bidi_base.proofs.PerUnit.{length-per_char, get_or-per_unit-place}
-use Rattle.bidi_base.proofs.UnitsLemmas.{per_unit-from_is_per_char, length-from_is_per_char}
-use Rattle.bidi_base.proofs.PerCharTests.{class_test}
-use Rattle.bidi_rules.specs.Joining.{read_range, read_units}
+use Rattle.bidi_base.proofs.UnitsLemmas.{per_unit-from_is_per_char, length-from_is_per_char, IsPerChar-from_is_per_char}
+use Rattle.bidi_base.proofs.PerCharTests.{class_eq, class_test}
+use Rattle.bidi_rules.specs.Joining.{is_isolate_control, read_range, read_units}
+use Rattle.bidi_rules.proofs.PassOverText.{alike_class}
 
 some_if : (b : Bool) (s : ℕ) → then_some b s ≡ cond b (Some s) None
 some_if true s = refl
@@ -35,112 +35,156 @@ read_range-more classes last s a m waits order =
     ∙ fold_push step waits (range_with_len a (m - a)) (a + (m - a))
     ∙ ap (λ x. step (fold step waits (range_with_len a (m - a))) x) place
 
--- what waits after n characters of a run
-pub record IsReadTo (len_of : ℕ → ℕ) (chars : List ℕ) (units : List BidiClass) (start last s n : ℕ) (old waits : List (Option ℕ)) : Type 0 where
-  pub is : waits ≡ read_range (per_char L len_of chars units) (char_index len_of chars last) s (char_index len_of chars start) (char_index len_of chars start + n) old
+-- a class that neither opens nor closes changes nothing
+read_class-plain : (c : BidiClass) (wait : Option ℕ) (waits : List (Option ℕ)) → is_isolate_control c ≡ false → read_class c wait waits ≡ waits
+read_class-plain LRI wait waits h = absurd (cc h)
+read_class-plain RLI wait waits h = absurd (cc h)
+read_class-plain FSI wait waits h = absurd (cc h)
+read_class-plain PDI wait waits h = absurd (cc h)
+read_class-plain _ wait waits h = refl
 
-module _ (len_of : ℕ → ℕ) (h : HasUnits len_of) (chars : List ℕ) (units : List BidiClass) (whole : is_per_char ghosts.eq len_of chars units ≡ true) (start end : ℕ) (line : IsLine len_of chars start end) where
+-- the characters of a run before the one with an index are read, which stands at a unit
+pub record IsReadTo (len_of : ℕ → ℕ) (chars : List ℕ) (units : List BidiClass) (start end last s : ℕ) (old waits : List (Option ℕ)) (at : ℕ) : Type 0 where
+  pub index : ℕ
+  pub there : at ≡ place len_of chars index
+  pub low : char_index len_of chars start ≤ index
+  pub high : index ≤ char_index len_of chars end
+  pub is : waits ≡ read_range (per_char L len_of chars units) (char_index len_of chars last) s (char_index len_of chars start) index old
+
+module _ (len_of : ℕ → ℕ) (h : HasUnits len_of) (chars : List ℕ) (units : List BidiClass) (whole : is_per_char ghosts.eq len_of chars units ≡ true) (start end last s : ℕ) (line : IsLine len_of chars start end) (boundary : is_boundary len_of chars last ≡ true) where
   abbrev first : ℕ
   first = char_index len_of chars start
+
+  abbrev final : ℕ
+  final = char_index len_of chars end
 
   abbrev stored : List BidiClass
   stored = per_char L len_of chars units
 
-  -- the n-th character of the run, which stands at `start + at` and is l units long
-  record IsTurnIn (n at l : ℕ) : Type 0 where
-    here : start + at ≡ place len_of chars (first + n)
-    after : start + at + l ≡ place len_of chars (first + n + 1)
-    within : first + n < char_index len_of chars end
-    fits : start + at + l ≤ end
+  abbrev ReadTo : List (Option ℕ) → List (Option ℕ) → ℕ → Type 0
+  ReadTo old waits at = IsReadTo len_of chars units start end last s old waits at
 
-  turn_in : (n at l : ℕ) → LengthTurn len_of (subrange len_of chars start end) n at l → IsTurnIn n at l
-  turn_in n at l turn =
-      let a : ℕ = first in
-      let b : ℕ = char_index len_of chars end in
+  abbrev read_to : ℕ → List (Option ℕ) → List (Option ℕ)
+  read_to m old = read_range stored (char_index len_of chars last) s first m old
+
+  size : length units ≡ text_len len_of chars
+  size = length-from_is_per_char ghosts.eq class_test len_of h chars units whole
+
+  per : IsPerChar len_of chars units
+  per = IsPerChar-from_is_per_char class_eq class_test len_of h chars units whole
+
+  pub IsReadTo-start : (old : List (Option ℕ)) → ReadTo old old start
+  IsReadTo-start old =
       let w = line_places len_of h chars start end line in
-      let cut : List ℕ = slice_range chars a b in
-      let long : length cut ≡ b - a = omega (arith, length-take (b - a) (drop a chars), length-drop a chars, w.ordered, w.within) in
-      let inside : n < b - a = omega (arith, turn.turn.within) in
-      let next : a + (n + 1) ≡ a + n + 1 = omega arith in
-      let p = place-slice_range len_of chars a b n (omega (arith, w.ordered)) w.within in
-      let q = place-slice_range len_of chars a b (n + 1) (omega (arith, w.ordered)) w.within in
-      let all = place-slice_range len_of chars a b (b - a) (omega (arith, w.ordered)) w.within in
-      let top : a + (b - a) ≡ b = omega (arith, w.ordered) in
-      let after_is : start + at + l ≡ place len_of chars (a + (n + 1)) = omega (arith, w.begins, q, turn.after) in
+      let none : first - first ≡ 0 = omega arith in
       record {
-        here = omega (arith, w.begins, p, turn.turn.at_place);
-        after = after_is ∙ ap (place len_of chars) next;
-        within = omega arith;
-        fits = omega (arith, w.begins, w.ends, ap (place len_of chars) top, all, turn.fits, place-whole cut (b - a) long);
+        index = first;
+        there = w.begins;
+        low = omega arith;
+        high = w.ordered;
+        is = ap (λ n. fold (λ ws m. read_class (class_at stored m) (cond (eqb (m + 1) (char_index len_of chars last)) (Some s) None) ws) old (range_with_len first n)) (sym none);
       }
-    where
-      place-whole : (cut : List ℕ) (n : ℕ) → length cut ≡ n → place len_of cut n ≡ text_len len_of cut
-      place-whole cut n e = place-end len_of cut n (omega arith)
 
-  class_in : (n at l : ℕ) → LengthTurn len_of (subrange len_of chars start end) n at l → get_or units (start + at) L ≡ class_at stored (first + n)
-  class_in n at l turn =
-      let t = turn_in n at l turn in
+  stored_class : (m : ℕ) → m < length chars → class_at units (place len_of chars m) ≡ class_at stored m
+  stored_class m fits =
+      ap (λ us. get_or us (place len_of chars m) L) (per_unit-from_is_per_char ghosts.eq class_test L len_of h chars units whole)
+      ∙ get_or-per_unit-place len_of h chars stored m L (length-per_char L len_of chars units) fits
+
+  -- up to the next control
+  jump : (n m next : ℕ) (old waits : List (Option ℕ)) → m + n ≡ final → first ≤ m → waits ≡ read_to m old → IsFirst is_isolate_control units (place len_of chars m) end next → ReadTo old waits next
+  jump zero m next old waits count low is f =
       let w = line_places len_of h chars start end line in
-      ap (λ us. get_or us (start + at) L) (per_unit-from_is_per_char ghosts.eq class_test L len_of h chars units whole)
-      ∙ ap (λ u. get_or (per_unit len_of chars stored) u L) t.here
-      ∙ get_or-per_unit-place len_of h chars stored (first + n) L (length-per_char L len_of chars units) (omega (arith, t.within, w.within))
-
-  -- what the code asks of the n-th character
-  pub record IsRunTurn (n at l : ℕ) : Type 0 where
-    pub below : start + at < length units
-    pub room : start + at + l ≤ end
-
-  pub run_turn : (n at l : ℕ) → LengthTurn len_of (subrange len_of chars start end) n at l → IsRunTurn n at l
-  run_turn n at l turn =
-      let t = turn_in n at l turn in
+      let same : m ≡ final = omega arith in
+      record { index = m; there = omega (arith, f.begins, f.ends, w.ends, ap (place len_of chars) same); low = low; high = omega arith; is = is }
+  jump (suc k) m next old waits count low is f =
       let w = line_places len_of h chars start end line in
-      let some = h (get_or (subrange len_of chars start end) n 0) in
-      let whole_long = length-from_is_per_char ghosts.eq class_test len_of h chars units whole in
-      let high = place-le len_of chars (char_index len_of chars end) in
-      record { below = omega (arith, t.fits, turn.long, w.ends); room = t.fits }
-
-  pub IsReadTo-more : (last s n at l : ℕ) (old waits now : List (Option ℕ)) (wait : Option ℕ) → is_boundary len_of chars last ≡ true → LengthTurn len_of (subrange len_of chars start end) n at l → IsReadTo len_of chars units start last s n old waits
-      → wait ≡ then_some (eqb (start + at + l) last) s → now ≡ read_class (get_or units (start + at) L) wait waits → IsReadTo len_of chars units start last s (n + 1) old now
-  IsReadTo-more last s n at l old waits now wait boundary turn before wait_as read = record {
-    is = read
-        ∙ ap (λ c. read_class c wait waits) (class_in n at l turn)
-        ∙ ap (λ w. read_class (class_at stored m) w waits) (wait_as ∙ some_if (eqb (start + at + l) last) s ∙ same_end)
-        ∙ ap (read_class (class_at stored m) (cond (eqb (m + 1) e) (Some s) None)) before.is
-        ∙ sym (read_range-more stored e s a m old (omega arith))
-        ∙ ap (λ x. read_range stored e s a x old) next;
-  }
-    where
-      a : ℕ
-      a = first
-
-      m : ℕ
-      m = first + n
-
-      e : ℕ
-      e = char_index len_of chars last
-
-      next : m + 1 ≡ first + (n + 1)
-      next = omega arith
-
-      t : IsTurnIn n at l
-      t = turn_in n at l turn
-
-      short : m + 1 ≤ length chars
-      short = let w = line_places len_of h chars start end line in omega (arith, t.within, w.within)
-
-      same_end : cond (eqb (start + at + l) last) (Some s) None ≡ cond (eqb (m + 1) e) (Some s) None
-      same_end = elim (cases_eq (m + 1) e) [
-        | inl same ↦ ap (λ b. cond b (Some s) None) (eq-eqb (start + at + l) last (t.after ∙ ap (place len_of chars) same ∙ place-char_index len_of h chars last boundary) ∙ sym (eq-eqb (m + 1) e same))
-        | inr other ↦
-            ap (λ b. cond b (Some s) None)
-            (ne_eqb (start + at + l) last (λ f. other (sym (char_index-place len_of chars h (m + 1) short) ∙ ap (char_index len_of chars) (sym t.after ∙ f))) ∙ sym (ne_eqb (m + 1) e other))
+      let fits : m < length chars = omega (arith, w.within) in
+      let more = place-more len_of chars m 0 fits in
+      let some = h (get_or chars m 0) in
+      let upto : place len_of chars (m + 1) ≤ end = omega (arith, w.ends, place-mono len_of chars (m + 1) final (omega arith)) in
+      elim (cases_lt next (place len_of chars (m + 1))) [
+        | inl here ↦
+            let control : is_isolate_control (class_at units next) ≡ true = f.at (omega arith) in
+            let same = alike_class len_of h chars units per m next fits f.begins here in
+            elim (cases_lt (place len_of chars m) next) [
+              | inl behind ↦ absurd (both_ways (is_isolate_control (class_at units (place len_of chars m))) (f.before (place len_of chars m) (omega arith) behind) (ap is_isolate_control (sym same) ∙ control))
+              | inr not_behind ↦ record { index = m; there = (let begins = f.begins in omega arith); low = low; high = omega arith; is = is }
+            ]
+        | inr later ↦
+            let plain : is_isolate_control (class_at stored m) ≡ false = ap is_isolate_control (sym (stored_class m fits)) ∙ f.before (place len_of chars m) (omega arith) (omega arith) in
+            jump k (m + 1) next old waits (omega arith) (omega arith)
+            (is ∙ sym (read_range-more stored (char_index len_of chars last) s first m old low ∙ read_class-plain (class_at stored m) (cond (eqb (m + 1) (char_index len_of chars last)) (Some s) None) (read_to m old) plain))
+            (record { begins = later; ends = f.ends; before = λ u a b. f.before u (omega arith) b; at = f.at })
       ]
 
-  -- all characters of the run
-  pub IsReadTo-end : (last s n : ℕ) (old waits : List (Option ℕ)) → n ≡ length (subrange len_of chars start end) → IsReadTo len_of chars units start last s n old waits → waits ≡ read_units len_of chars units last s start end old
-  IsReadTo-end last s n old waits all before =
-      let a : ℕ = first in
-      let b : ℕ = char_index len_of chars end in
+  pub IsReadTo-jump : (at next : ℕ) (old waits : List (Option ℕ)) → ReadTo old waits at → IsFirst is_isolate_control units at end next → ReadTo old waits next
+  IsReadTo-jump at next old waits r f =
+      let high = r.high in
+      jump (final - r.index) r.index next old waits (omega arith) r.low r.is (subst (λ (u : ℕ). IsFirst is_isolate_control units u end next) r.there f)
+
+  -- what the code asks of the character at hand
+  pub record IsAsked (at : ℕ) : Type 0 where
+    pub begins : is_boundary len_of chars at ≡ true
+    pub inside : at < text_len len_of chars
+
+  pub IsReadTo-asked : (old waits : List (Option ℕ)) (at : ℕ) → at < end → ReadTo old waits at → IsAsked at
+  IsReadTo-asked old waits at below r =
       let w = line_places len_of h chars start end line in
-      let top : a + n ≡ b = omega (arith, length-take (b - a) (drop a chars), length-drop a chars, w.ordered, w.within) in
-      before.is ∙ ap (λ x. read_range stored (char_index len_of chars last) s a x old) top
+      record {
+        begins = ap (is_boundary len_of chars) r.there ∙ is_boundary-place len_of chars r.index;
+        inside = omega (arith, w.ends, place-le len_of chars final);
+      }
+
+  -- one character
+  pub IsReadTo-more : (old waits now : List (Option ℕ)) (at behind : ℕ) (wait : Option ℕ) → at < end → ((k : ℕ) → k < length chars → at ≡ place len_of chars k → behind ≡ place len_of chars (k + 1))
+      → wait ≡ then_some (eqb behind last) s → now ≡ read_class (class_at units at) wait waits → ReadTo old waits at → ReadTo old now behind
+  IsReadTo-more old waits now at behind wait below ends wait_as read r =
+      let w = line_places len_of h chars start end line in
+      let m = r.index in
+      let e = char_index len_of chars last in
+      let more : m < final = elim (cases_lt m final) [
+        | inl short ↦ short
+        | inr past ↦ let high = r.high in let same : m ≡ final = omega arith in absurd (omega (arith, r.there, w.ends, ap (place len_of chars) same))
+      ] in
+      let fits : m < length chars = omega (arith, w.within) in
+      let after : behind ≡ place len_of chars (m + 1) = ends m fits r.there in
+      let same_end : cond (eqb behind last) (Some s) None ≡ cond (eqb (m + 1) e) (Some s) None =
+      elim (cases_eq (m + 1) e) [
+        | inl same ↦ ap (λ b. cond b (Some s) None) (eq-eqb behind last (after ∙ ap (place len_of chars) same ∙ place-char_index len_of h chars last boundary) ∙ sym (eq-eqb (m + 1) e same))
+        | inr other ↦
+            ap (λ b. cond b (Some s) None)
+            (ne_eqb behind last (λ f. other (sym (char_index-place len_of chars h (m + 1) (omega arith)) ∙ ap (char_index len_of chars) (sym after ∙ f))) ∙ sym (ne_eqb (m + 1) e other))
+      ] in
+      record {
+        index = m + 1;
+        there = after;
+        low = let low = r.low in omega arith;
+        high = omega arith;
+        is = read
+            ∙ ap (λ c. read_class c wait waits) (ap (class_at units) r.there ∙ stored_class m fits)
+            ∙ ap (λ x. read_class (class_at stored m) x waits) (wait_as ∙ some_if (eqb behind last) s ∙ same_end)
+            ∙ ap (read_class (class_at stored m) (cond (eqb (m + 1) e) (Some s) None)) r.is
+            ∙ sym (read_range-more stored e s first m old r.low);
+      }
+
+  pub IsReadTo-past : (old waits : List (Option ℕ)) (at behind : ℕ) → at < end → ((k : ℕ) → k < length chars → at ≡ place len_of chars k → behind ≡ place len_of chars (k + 1)) → ReadTo old waits at → at < behind
+  IsReadTo-past old waits at behind below ends r =
+      let w = line_places len_of h chars start end line in
+      let m = r.index in
+      let more : m < final = elim (cases_lt m final) [
+        | inl short ↦ short
+        | inr past ↦ let high = r.high in let same : m ≡ final = omega arith in absurd (omega (arith, r.there, w.ends, ap (place len_of chars) same))
+      ] in
+      let fits : m < length chars = omega (arith, w.within) in
+      omega (arith, ends m fits r.there, r.there, place-more len_of chars m 0 fits, h (get_or chars m 0))
+
+  pub IsReadTo-within : (old waits : List (Option ℕ)) (at : ℕ) → ReadTo old waits at → at ≤ end
+  IsReadTo-within old waits at r = let w = line_places len_of h chars start end line in omega (arith, r.there, w.ends, place-mono len_of chars r.index final r.high)
+
+  -- all characters of the run
+  pub IsReadTo-end : (old waits : List (Option ℕ)) → ReadTo old waits end → waits ≡ read_units len_of chars units last s start end old
+  IsReadTo-end old waits r =
+      let w = line_places len_of h chars start end line in
+      let same : r.index ≡ final =
+      sym (char_index-place len_of chars h r.index (let high = r.high in omega (arith, w.within))) ∙ ap (char_index len_of chars) (sym r.there) in
+      r.is ∙ ap (λ m. read_to m old) same

@@ -1,9 +1,9 @@
 -- The steps of the pass over units that joins level runs to isolating run sequences.
-use Rattle.std.specs.Prelude.{◌≡◌, ℕ, ◌+◌, ◌-◌, ◌<◌, ◌≤◌, true, false, ◌==◌, if◌then◌else◌, List, [], ◌∷◌, ◌++◌, length, get_or, slice_set, Option, Some, None}
+use Rattle.std.specs.Prelude.{◌≡◌, ℕ, ◌+◌, ◌-◌, ◌<◌, ◌≤◌, Bool, true, false, ◌||◌, ◌==◌, if◌then◌else◌, List, [], ◌∷◌, ◌++◌, length, get_or, slice_set, Option, Some, None}
 use Rattle.std.specs.List.{fold}
 use Rattle.bidi_base.specs.declared.char_data.BidiClass.{BidiClass}
 use Rattle.bidi_base.specs.declared.char_data.BidiClass.TheVariants.{L}
-use Rattle.bidi_base.specs.Classes.{is_initiator}
+use Rattle.bidi_base.specs.Classes.{is_initiator, is_pdi}
 use Rattle.bidi_base.specs.Places.{between, class_at}
 use Rattle.bidi_base.specs.Sequences.{RunSequence, is_kept_at, level_at}
 use Rattle.bidi_base.specs.SequencePass.{read_class}
@@ -34,6 +34,10 @@ pub record IsKeptEnd (classes : List BidiClass) (start end kept_end : ℕ) : Typ
   pub to : kept_end ≤ end
   pub gone : (u : ℕ) → kept_end ≤ u → u < end → is_kept_at classes u ≡ false
   pub kept : start < kept_end → is_kept_at classes (kept_end - 1) ≡ true
+
+-- a class that opens or closes an isolate
+abbrev pub is_isolate_control : BidiClass → Bool
+is_isolate_control c = is_initiator c || is_pdi c
 
 -- what waits once the characters from a up to b were read, of which the one before `last` waits for the sequence at s
 abbrev pub read_range : List BidiClass → ℕ → ℕ → ℕ → ℕ → List (Option ℕ) → List (Option ℕ)

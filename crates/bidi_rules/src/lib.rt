@@ -2,6 +2,7 @@
 //! paragraph: explicit levels, isolating run sequences, and what is resolved within each.
 #![tactic(auto)]
 
+mod characters;
 pub mod explicit;
 pub mod implicit;
 pub mod prepare;

@@ -1,5 +1,5 @@
 -- The levels of a paragraph's units: of what X9 removed, and of a paragraph that keeps to its level throughout.
-use Rattle.std.proofs.Common.{◌≡◌, ℕ, zero, suc, ◌+◌, ◌-◌, ◌<◌, ◌≤◌, ◌≢◌, Bool, true, false, not, List, [], ◌∷◌, ◌++◌, length, get_or, set, Option, Some, refl, sym, map, ap, ◌∙◌, arith, inl, inr, get_or-set_same, get_or-set_other}
+use Rattle.std.proofs.Common.{◌≡◌, ℕ, zero, suc, ◌+◌, ◌-◌, ◌<◌, ◌≤◌, ◌≢◌, Bool, true, false, not, List, [], ◌∷◌, ◌++◌, length, get_or, set, Option, Some, refl, sym, map, ap, subst, ◌∙◌, arith, inl, inr, get_or-set_same, get_or-set_other}
 use Rattle.std.specs.Prelude.{replicate}
 use Rattle.std.specs.List.{list_any}
 use Rattle.std.proofs.lemmas.Bool.{cases_Bool, cases_eq, cases_lt, both_ways, or_cases, or_left, or_right, cond-false, not-true}
@@ -187,6 +187,14 @@ module _ (len_of : ℕ → ℕ) (h : HasUnits len_of) (chars : List ℕ) (stored
       filled-units
       ∙ ap (per_unit len_of chars) (levels_in-written paragraph source brackets stored (explicit_levels paragraph stored) (explicit_classes paragraph stored) (sequences paragraph stored (explicit_levels paragraph stored)) values filled stored_is refl refl
       (IsPermutation-refl _) resolved (omega (arith, length-per_char 0 len_of chars new, stored_long)) filled-kept filled-front filled-removed)
+
+-- a row of units that are kept
+pub AreFilled-kept_row : (paragraph : ℕ) (classes : List BidiClass) (old : List ℕ) (i n : ℕ) (new : List ℕ) → AreFilled paragraph classes old i new → ((k : ℕ) → i ≤ k → k < i + n → is_kept_at classes k ≡ true) → AreFilled paragraph classes old (i + n) new
+AreFilled-kept_row paragraph classes old i zero new h stays = let same : i ≡ i + 0 = omega arith in subst (λ (k : ℕ). AreFilled paragraph classes old k new) same h
+AreFilled-kept_row paragraph classes old i (suc n) new h stays =
+    let next : i + 1 + n ≡ i + suc n = omega arith in
+    subst (λ (k : ℕ). AreFilled paragraph classes old k new) next
+    (AreFilled-kept_row paragraph classes old (i + 1) n new (AreFilled-kept paragraph classes old i new h (stays i (omega arith) (omega arith))) (λ k a b. stays k (omega arith) (omega arith)))
 
 -- ---- a paragraph that keeps to its level throughout
 

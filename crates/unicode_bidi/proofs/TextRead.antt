@@ -271,12 +271,11 @@ module _ (source : Source) (len_of : ℕ → ℕ) (chars : List ℕ) where
           ∙ met_units-char len_of units (take n chars) (text_classes source done) (stored_classes so_far) class q whole_long (stored_below q below)
 
       -- its units, as they are written
-      pub drawn-is : (drawn : List BidiClass) (from to : ℕ) → from ≡ place len_of chars n → to ≡ place len_of chars (n + 1) → take to drawn ≡ take from found.units ++ replicate (to - from) class
+      pub drawn-is : (drawn : List BidiClass) (from : ℕ) → from ≡ place len_of chars n → take (from + len_of c) drawn ≡ take from found.units ++ replicate (len_of c) class
           → take (place len_of chars (n + 1)) drawn ≡ read_units ++ replicate (len_of c) class
-      drawn-is drawn from to from_is to_is written =
-          let wide : to - from ≡ len_of c = omega (arith, from_is, to_is, place-more len_of chars n 0 within, ap len_of is_char) in
-          ap (λ (m : ℕ). take m drawn) (sym to_is) ∙ written ∙ ap (λ (m : ℕ). take m found.units ++ replicate (to - from) class) from_is
-          ∙ ap (λ (m : ℕ). read_units ++ replicate m class) wide
+      drawn-is drawn from from_is written =
+          let to_is : place len_of chars (n + 1) ≡ from + len_of c = omega (arith, from_is, place-more len_of chars n 0 within, ap len_of is_char) in
+          ap (λ (m : ℕ). take m drawn) to_is ∙ written ∙ ap (λ (m : ℕ). take m found.units ++ replicate (len_of c) class) from_is
 
       -- once the units of the character are written
       module _ (drawn : List BidiClass) (drawn_is : take (place len_of chars (n + 1)) drawn ≡ read_units ++ replicate (len_of c) class) (drawn_long : length drawn ≡ length found.units) where

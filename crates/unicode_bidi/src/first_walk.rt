@@ -1,6 +1,6 @@
 // One walk over a text: the class of each character, with each FSI resolved (X5c), and the
 // paragraphs (P1) with their levels (P2, P3).
-ghost use Rattle.std.specs.Prelude.{◌≡◌, ℕ, ◌-◌, ◌<◌, ◌≤◌, ◌&&◌, if◌then◌else◌, true, false, ◌++◌, length, take, drop, replicate, OnOk, IfOk, All, Some};
+ghost use Rattle.std.specs.Prelude.{◌≡◌, ℕ, ◌+◌, ◌<◌, ◌≤◌, ◌&&◌, if◌then◌else◌, true, false, ◌++◌, length, take, drop, replicate, OnOk, IfOk, All, Some};
 ghost use Rattle.std.specs.Option.{is_some};
 ghost use Rattle.bidi_base.specs.declared.char_data.BidiClass.{BidiClass};
 ghost use Rattle.bidi_base.specs.Classes.{is_strong as is_strong_class};
@@ -267,22 +267,19 @@ impl TextReading {
     }
 }
 
-// Writes a character's class to each of its units. Up to four are written at once; units behind the
-// character may get the class too, since what comes next writes over them.
-fn write(classes: &mut [BidiClass], units: Range<usize>, class: BidiClass)
-    requires begins { units.start < units.end }
-    requires ends { units.end ≤ length classes.old }
-    ensures { take units.end classes.new ≡ take units.start classes.old ++ replicate (units.end - units.start) class }
+// Writes a character's class to each of its units, of which the first is given. Up to four are written
+// at once; units behind the character may get the class too, since what comes next writes over them.
+fn write<T: TextSource>(classes: &mut [BidiClass], start: usize, c: char, class: BidiClass)
+    requires { start + T.units c ≤ length classes.old }
+    ensures { take (start + T.units c) classes.new ≡ take start classes.old ++ replicate (T.units c) class }
 {
-    let start = units.start;
-    let end = units.end;
-    if end - start <= 4 && classes.len() - start >= 4 {
+    if T::char_len(c) <= 4 && classes.len() - start >= 4 {
         classes[start] = class;
         classes[start + 1] = class;
         classes[start + 2] = class;
         classes[start + 3] = class;
     } else {
-        classes[start..end].fill(class);
+        classes[start..start + T::char_len(c)].fill(class);
     }
 }
 
@@ -354,17 +351,16 @@ pub(crate) fn walk<D: BidiDataSource, T: TextSource>(
         flags: Vec::new(alloc),
     };
     let mut minded = walk.reading.minded();
-    let mut end = 0;
-    for c in text.chars() {
+    for (start, c) in text.char_indices() {
         let class = data_source.bidi_class(c);
-        let start = end;
-        end = start + T::char_len(c);
-        write(classes, start..end, class);
+        write::<T>(classes, start, c, class);
         if minded.has(class) {
+            let end = start + T::char_len(c);
             let ends = ends_paragraph(data_source, text, split, c, class, end);
             minded = walk.meet(classes, class, start..end, ends)?;
         }
     }
+    let end = text.len();
     if split.is_none() || walk.reading.start < end {
         walk.close(end)?;
     }

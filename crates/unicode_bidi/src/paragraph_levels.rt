@@ -17,6 +17,7 @@ use bidi_base::char_data::BidiClass;
 use bidi_base::classes::is_removed;
 use bidi_base::data_source::BidiDataSource;
 use bidi_base::level::Level;
+use bidi_base::search::{ClassTest, first_passing};
 use bidi_base::text::TextSource;
 use bidi_rules::explicit;
 use bidi_rules::implicit::{NeutralResolver, resolve_levels, resolve_weak, resolve_weak_lent};
@@ -271,6 +272,20 @@ fn level_before(para_level: Level, levels: &[Level], unit: usize) -> Level
     }
 }
 
+/// What X9 removes.
+#[derive(Clone, Copy, Debug)]
+struct Removed;
+
+impl ClassTest for Removed {
+    ghost use Rattle.bidi_base.specs.Classes.{is_removed};
+
+    ghost test = { λ _. is_removed };
+
+    fn passes(self, class: BidiClass) -> bool {
+        is_removed(class)
+    }
+}
+
 // Gives each unit of a removed character the level of the unit before it, those at the front the
 // paragraph level.
 fn fill_removed(para_level: Level, classes: &[BidiClass], levels: &mut [Level])
@@ -279,9 +294,10 @@ fn fill_removed(para_level: Level, classes: &[BidiClass], levels: &mut [Level])
     ensures front { 0 < length classes.now → is_kept_at classes.now 0 ≡ false → slice_index levels.new 0 ≡ para_level }
     ensures removed { (u : ℕ) → u + 1 < length classes.now → is_kept_at classes.now (u + 1) ≡ false → slice_index levels.new (u + 1) ≡ slice_index levels.new u }
 {
-    for i in 0..classes.len() {
-        if is_removed(classes[i]) {
-            levels[i] = level_before(para_level, levels, i);
-        }
+    let units = classes.len();
+    let mut at = first_passing(Removed, classes, 0, units);
+    while at < units {
+        levels[at] = level_before(para_level, levels, at);
+        at = first_passing(Removed, classes, at + 1, units);
     }
 }

@@ -15,10 +15,12 @@ ghost use Rattle.bidi_rules.specs.RunSequence.{joined, run_bounds, sequences_in}
 use super::{
     IsolatingRunSequence, IsolatingRunSequenceVec, LevelRun, LevelRunVec, not_removed_by_x9,
 };
+use crate::characters::end_of;
 use bidi_base::char_data::BidiClass;
 use bidi_base::classes::is_initiator;
 use bidi_base::isolates::{WaitingSequences, read_class, waiting_for};
 use bidi_base::level::Level;
+use bidi_base::search::{ClassTest, first_passing};
 use bidi_base::text::TextSource;
 use std::alloc::{AllocError, Global};
 
@@ -56,7 +58,7 @@ fn level_after(para_level: Level, class: BidiClass, levels: &[Level], end: usize
     }
 }
 
-// Reads the characters of a run for what is open. The one that ends at `kept_end` is the last that
+// Reads the characters of a run for what is open, those alone that open or close. The one that ends at `kept_end` is the last that
 // X9 keeps; if it opens an isolate, the sequence at `s` waits for the PDI.
 fn read_run<T: TextSource>(
     waiting: &mut WaitingSequences,
@@ -71,12 +73,33 @@ fn read_run<T: TextSource>(
     requires kept_end { IsTrue (is_boundary T.units (T.characters text) kept_end) }
     ensures { OnOk result (waiting.new.items ≡ read_units T.units (T.characters text) classes.now kept_end s run.now.start run.now.end waiting.old.items) }
 {
-    for (offset, len) in text.subrange(run.start..run.end).indices_lengths() {
-        let start = run.start + offset;
-        let wait = (start + len == kept_end).then_some(s);
-        read_class(waiting, classes[start], wait)?;
+    let end = run.end;
+    let mut at = first_passing(IsolateControl, classes, run.start, end);
+    while at < end {
+        let behind = end_of(text, at);
+        let wait = (behind == kept_end).then_some(s);
+        read_class(waiting, classes[at], wait)?;
+        at = first_passing(IsolateControl, classes, behind, end);
     }
     Ok(())
+}
+
+// The classes that open or close an isolate. The test has no branch, so that many units are tested at
+// once.
+#[derive(Clone, Copy, Debug)]
+struct IsolateControl;
+
+impl ClassTest for IsolateControl {
+    ghost use Rattle.bidi_rules.specs.Joining.{is_isolate_control};
+
+    ghost test = { λ _. is_isolate_control };
+
+    fn passes(self, class: BidiClass) -> bool {
+        (class == BidiClass::LRI)
+            | (class == BidiClass::RLI)
+            | (class == BidiClass::FSI)
+            | (class == BidiClass::PDI)
+    }
 }
 
 // A run comes to the sequence at `s`, which then ends with the class `eos`, or begins one between

@@ -11,9 +11,9 @@ ghost use Rattle.bidi_rules.specs.NeutralPass.{seen_units};
 ghost use Rattle.bidi_rules.specs.PairWalk.{opposite_of};
 ghost use Rattle.bidi_rules.specs.WeakWalk.{is_seen, IsWrittenOver};
 
+use super::class_tests::{AnyDirection, For, NotFor};
 use crate::implicit::weak::write_over_runs;
 use crate::prepare::LevelRun;
-use super::class_tests::{AnyDirection, For, NotFor};
 use bidi_base::char_data::BidiClass::{self, L, R};
 use bidi_base::classes::{is_neutral, stands_for};
 use bidi_base::search::first_passing;

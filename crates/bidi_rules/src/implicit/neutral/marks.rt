@@ -6,23 +6,11 @@ ghost use Rattle.bidi_base.specs.Text.{is_boundary, place, text_len};
 ghost use Rattle.bidi_base.specs.Units.{bounds, are_ordered, AreLines};
 ghost use Rattle.bidi_rules.specs.PairWalk.{IsMarksEnd};
 
+use crate::characters::end_of;
 use crate::implicit::is_kept_in_place;
 use crate::prepare::LevelRun;
 use bidi_base::char_data::BidiClass::{self, NSM};
 use bidi_base::text::TextSource;
-
-/// The unit behind the character that begins at a unit.
-pub fn end_of<T: TextSource>(text: T, start: usize) -> usize
-    requires begins { IsTrue (is_boundary T.units (T.characters text) start) }
-    requires inside { start < text_len T.units (T.characters text) }
-    requires fits { text_len T.units (T.characters text) ≤ usize.MAX }
-    ensures { (k : ℕ) → k < length (T.characters text) → start ≡ place T.units (T.characters text) k → result ≡ place T.units (T.characters text) (k + 1) }
-{
-    match text.char_at(start) {
-        Some((_, len)) => start + len,
-        None => start,
-    }
-}
 
 /// Whether a character with these classes is neither BN nor a nonspacing mark by its original class.
 fn ends_marks(class: BidiClass, original: BidiClass) -> bool

@@ -8,6 +8,7 @@ ghost use Rattle.bidi_rules.specs.NeutralPass.{turns_from};
 use super::directions::Directions;
 use crate::prepare::LevelRun;
 use bidi_base::char_data::BidiClass::{self, AN, EN, L, R};
+use bidi_base::search::{ClassTest, first_passing};
 
 /// Whether sos and eos are the embedding direction, and no class in the runs is a number or the other
 /// direction.
@@ -38,24 +39,28 @@ fn keep_to(direction: BidiClass, runs: &[LevelRun], classes: &[BidiClass]) -> bo
     true
 }
 
-/// Whether a class in the run turns from a direction. All are looked at, many at once.
+/// Whether a class in the run turns from a direction.
 fn has_turn(direction: BidiClass, run: &LevelRun, classes: &[BidiClass]) -> bool
     requires { run.now.end ≤ length classes.now }
     ensures { result ≡ false → (u : ℕ) → run.now.start ≤ u → u < run.now.end → turns_from direction (class_at classes.now u) ≡ false }
 {
-    let mut turns = false;
-    for unit in run.start..run.end {
-        turns |= turns_from(direction, classes[unit]);
-    }
-    turns
+    let end = run.end;
+    let start = run.start.min(end);
+    first_passing(TurningFrom(direction), classes, start, end) < end
 }
 
-/// Whether a class is a number, or the direction other than this one.
-fn turns_from(direction: BidiClass, class: BidiClass) -> bool
-    ensures { result ≡ turns_from direction class }
-{
-    match direction {
-        L => matches!(class, R | EN | AN),
-        _ => matches!(class, L | EN | AN),
+/// Numbers, and the direction other than this one. The test has no branch, so that many units are
+/// tested at once.
+#[derive(Clone, Copy, Debug)]
+struct TurningFrom(BidiClass);
+
+impl ClassTest for TurningFrom {
+    ghost use Rattle.bidi_rules.specs.NeutralPass.{turns_from};
+
+    ghost test = { λ d. turns_from d.0 };
+
+    fn passes(self, class: BidiClass) -> bool {
+        let other = if self.0 == L { R } else { L };
+        (class == other) | (class == EN) | (class == AN)
     }
 }

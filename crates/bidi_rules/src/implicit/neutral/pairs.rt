@@ -9,8 +9,9 @@ ghost use Rattle.bidi_rules.specs.NeutralPass.{IsPaired, IsReady};
 ghost use Rattle.bidi_rules.specs.PairWalk.{at_spots, opposite_of, IsAsked, IsRow, IsSet, IsSetUpTo, IsTaken};
 
 use super::directions::{Directions, opposite_of};
-use super::marks::{end_of, marks_end};
+use super::marks::marks_end;
 use super::nearest::{direction_before, first_for, run_of};
+use crate::characters::end_of;
 use crate::implicit::weak::write_over_runs;
 use crate::prepare::LevelRun;
 use bidi_base::char_data::BidiClass::{self, NSM};

@@ -1,33 +1,46 @@
-use Rattle.std.proofs.Common.{◌≡◌, ◌∙◌, ◌+◌, not, false, true, sym, ap, subst, arith}
-use Rattle.bidi_base.specs.Sequences.{is_kept_at}
-use Rattle.unicode_bidi.proofs.FilledUnits.{AreFilled, AreFilled-start, AreFilled-kept, AreFilled-removed}
+use Rattle.std.proofs.Common.{◌≡◌, ◌∙◌, ◌+◌, ◌-◌, ◌<◌, ◌≤◌, ℕ, List, length, not, false, true, sym, ap, subst, arith}
+use Rattle.bidi_base.specs.declared.char_data.BidiClass.{BidiClass}
+use Rattle.bidi_base.specs.Classes.{is_removed}
+use Rattle.bidi_base.specs.Places.{class_at}
+use Rattle.bidi_base.specs.Search.{IsFirst}
+use Rattle.unicode_bidi.proofs.FilledUnits.{AreFilled, AreFilled-start, AreFilled-kept_row, AreFilled-removed}
 use Rattle.unicode_bidi.proofs.paragraph_levels.fill_removed.Goals as goal
-use Rattle.unicode_bidi.proofs.paragraph_levels.fill_removed.Goals.{then-is_removed, else-is_removed}
 
-pub loop-i-init : goal.loop-i-init
-loop-i-init c = AreFilled-start c.args.para_level c.args.classes.now c.args.levels.now
+-- up to the next one that is removed
+up_to : (para : ℕ) (classes : List BidiClass) (old now : List ℕ) (i next : ℕ) → IsFirst is_removed classes i (length classes) next → AreFilled para classes old i now → AreFilled para classes old next now
+up_to para classes old now i next f h =
+    let row : i + (next - i) ≡ next = let begins = f.begins in omega arith in
+    subst (λ (k : ℕ). AreFilled para classes old k now) row (AreFilled-kept_row para classes old i (next - i) now h (λ k a b. ap not (f.before k a (omega arith))))
 
-pub loop-i-preserved : goal.loop-i-preserved
-loop-i-preserved c =
+pub loop-at-init : goal.loop-at-init
+loop-at-init c =
+    let f = c.first_passing-at.ensures in
+    record {
+      filled = up_to c.args.para_level c.args.classes.now c.args.levels.now c.args.levels.now 0 c.first_passing-at.result f (AreFilled-start c.args.para_level c.args.classes.now c.args.levels.now);
+      ends = f.ends;
+      here = f.at;
+    }
+
+pub loop-at-preserved : goal.loop-at-preserved
+loop-at-preserved c =
     let para = c.args.para_level in
     let classes = c.args.classes.now in
     let old = c.args.levels.now in
-    let i = c.loop-i.i in
-    elim c.if-is_removed.branch [
-      | then-is_removed w ↦
-          let gone : is_kept_at classes i ≡ false = ap not (sym c.is_removed.ensures ∙ w.if-is_removed.true) in
-          subst (AreFilled para classes old (i + 1)) (sym w.levels-is)
-          (AreFilled-removed para classes old i c.loop-i.levels c.loop-i.invariant w.level_before.result (omega arith) w.level_before.ensures.front w.level_before.ensures.inside gone)
-      | else-is_removed w ↦
-          let stays : is_kept_at classes i ≡ true = ap not (sym c.is_removed.ensures ∙ w.if-is_removed.false) in
-          subst (AreFilled para classes old (i + 1)) (sym w.levels-is) (AreFilled-kept para classes old i c.loop-i.levels c.loop-i.invariant stays)
-    ]
+    let at = c.loop-at.at in
+    let inv = c.loop-at.invariant in
+    let f = c.first_passing-at-in-loop-at.ensures in
+    record {
+      filled = up_to para classes old _ (at + 1) c.first_passing-at-in-loop-at.result f
+          (AreFilled-removed para classes old at c.loop-at.levels inv.filled c.level_before.result (omega (arith, c.loop-at-test.true, c.requires, c.loop-at.auto.levels)) c.level_before.ensures.front c.level_before.ensures.inside (ap not (inv.here c.loop-at-test.true)));
+      ends = f.ends;
+      here = f.at;
+    }
 
 pub returns-clause-kept : goal.returns-clause-kept
-returns-clause-kept c = λ p within k. c.loop-i.invariant.kept p (omega arith) k
+returns-clause-kept c = λ p within k. c.loop-at.invariant.filled.kept p (omega (arith, c.loop-at-test.false)) k
 
 pub returns-clause-front : goal.returns-clause-front
-returns-clause-front c = λ some k. c.loop-i.invariant.front (omega arith) k
+returns-clause-front c = λ some k. c.loop-at.invariant.filled.front (omega (arith, c.loop-at-test.false)) k
 
 pub returns-clause-removed : goal.returns-clause-removed
-returns-clause-removed c = λ p within k. c.loop-i.invariant.removed p (omega arith) k
+returns-clause-removed c = λ p within k. c.loop-at.invariant.filled.removed p (omega (arith, c.loop-at-test.false)) k

@@ -1,5 +1,15 @@
+use Rattle.std.proofs.Common.{◌≡◌, ◌-◌, ◌<◌, ◌≤◌, length, true}
+use Rattle.bidi_base.specs.Classes.{is_removed}
+use Rattle.bidi_base.specs.Places.{class_at}
 use Rattle.unicode_bidi.proofs.FilledUnits.{AreFilled}
 use Rattle.unicode_bidi.proofs.paragraph_levels.fill_removed.Given as goal
 
-abbrev pub invariant-loop-i : goal.invariant-loop-i
-invariant-loop-i l = AreFilled l.fn.para_level l.classes l.initial.levels l.i l.levels
+abbrev pub invariant-loop-at : goal.invariant-loop-at
+invariant-loop-at l = record {
+  filled : AreFilled l.fn.para_level l.classes l.initial.levels l.at l.levels;
+  ends : l.at ≤ length l.classes;
+  here : l.at < length l.classes → is_removed (class_at l.classes l.at) ≡ true;
+}
+
+abbrev pub decreases-loop-at : goal.decreases-loop-at
+decreases-loop-at l = length l.classes - l.at

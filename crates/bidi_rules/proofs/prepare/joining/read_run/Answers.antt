@@ -1,50 +1,86 @@
-use Rattle.std.proofs.Common.{◌≡◌, ℕ, List, Option, length, subst, arith}
-use Rattle.std.specs.Iterator.{Count}
-use Rattle.std.proofs.lemmas.List.{length_push}
-use Rattle.bidi_base.specs.Text.{subrange, indices_lengths, Gives}
-use Rattle.bidi_base.proofs.PlaceLemmas.{LengthTurn, length_turn, length_end}
-use Rattle.bidi_rules.proofs.RunReading.{IsRunTurn, run_turn, IsReadTo-more, IsReadTo-end}
+use Rattle.std.proofs.Common.{◌≡◌, ◌≤◌, ◌<◌, ◌+◌, ℕ, List, Option, length, true, refl, sym, ap, subst, ◌∙◌, arith}
+use Rattle.bidi_base.specs.contracts.char_data.BidiClassPartialEq.TheImpl.{ghosts}
+use Rattle.bidi_base.specs.Text.{is_per_char, place, text_len, is_boundary, IsLine}
+use Rattle.bidi_base.specs.declared.char_data.BidiClass.{BidiClass}
+use Rattle.bidi_base.proofs.TextLemmas.{HasUnits, is_boundary-le}
+use Rattle.bidi_base.proofs.PerCharTests.{class_test}
+use Rattle.bidi_base.proofs.UnitsLemmas.{length-from_is_per_char}
+use Rattle.bidi_rules.proofs.RunReading.{IsReadTo, IsAsked, IsReadTo-start, IsReadTo-jump, IsReadTo-asked, IsReadTo-more, IsReadTo-end, IsReadTo-past, IsReadTo-within}
 use Rattle.bidi_rules.proofs.prepare.joining.read_run.Given.{Over}
 use Rattle.bidi_rules.proofs.prepare.joining.read_run.Goals as goal
-use Rattle.bidi_rules.proofs.prepare.joining.read_run.Goals.{In-Some}
+use Rattle.bidi_rules.proofs.prepare.joining.read_run.Goals.{After-first_passing-at-in-loop-at}
 
--- the loop goes over the characters of the run
-gives_units : {S : Type 0} {can : S → Type 0} {steps : S → Option (ℕ × ℕ) → S → Type 0} {left : S → Count} {s : S} (len_of : ℕ → ℕ) (part whole : List ℕ) → part ≡ whole → Gives can steps left s (indices_lengths len_of part) → Gives can steps left s (indices_lengths len_of whole)
-gives_units {can = can} {steps = steps} {left = left} {s = s} len_of part whole is items = subst (λ (cs : List ℕ). Gives can steps left s (indices_lengths len_of cs)) is items
+-- the run lies within
+within : (len_of : ℕ → ℕ) → HasUnits len_of → (chars : List ℕ) (units : List BidiClass) (start end : ℕ) → is_per_char ghosts.eq len_of chars units ≡ true → IsLine len_of chars start end → end ≤ length units
+within len_of h chars units start end whole line = omega (arith, length-from_is_per_char ghosts.eq class_test len_of h chars units whole, is_boundary-le len_of chars end line.ends)
 
--- the character that comes
-turn_in : (g : Over) (c : In-Some g) → LengthTurn g.T.TextSource.units (subrange g.T.TextSource.units (g.T.TextSource.characters c.args.text) c.args.run.now.start c.args.run.now.end) (length c.loop-offset.yielded) c.in-Some.offset c.in-Some.len
-turn_in g c =
-    let items = gives_units g.T.TextSource.units _ (subrange g.T.TextSource.units (g.T.TextSource.characters c.args.text) c.args.run.now.start c.args.run.now.end) c.subrange.ensures c.indices_lengths-offset-items.ensures in
-    length_turn g.T.TextSource.units (subrange g.T.TextSource.units (g.T.TextSource.characters c.args.text) c.args.run.now.start c.args.run.now.end) items c.into_iter-offset-iterator.ensures.into_iter_gives c.loop-offset.yielded _ c.loop-offset.yielded_by _ _ c.in-Some.offset c.in-Some.len c.in-Some.is c.next.ensures.steps
+pub first_passing-at-requires-clause-inside : goal.first_passing-at-requires-clause-inside
+first_passing-at-requires-clause-inside g c = within g.T.TextSource.units g.met.T.TextSource.has_units (g.T.TextSource.characters c.args.text) c.args.classes.now c.args.run.now.start c.args.run.now.end c.requires.per_char c.requires.line
 
-asks : (g : Over) (c : In-Some g) → IsRunTurn g.T.TextSource.units g.met.T.TextSource.has_units (g.T.TextSource.characters c.args.text) c.args.classes.now c.requires.per_char c.args.run.now.start c.args.run.now.end c.requires.line (length c.loop-offset.yielded) c.in-Some.offset c.in-Some.len
-asks g c = run_turn g.T.TextSource.units g.met.T.TextSource.has_units (g.T.TextSource.characters c.args.text) c.args.classes.now c.requires.per_char c.args.run.now.start c.args.run.now.end c.requires.line (length c.loop-offset.yielded) c.in-Some.offset c.in-Some.len (turn_in g c)
+pub first_passing-at-requires-in-loop-at-clause-inside : goal.first_passing-at-requires-in-loop-at-clause-inside
+first_passing-at-requires-in-loop-at-clause-inside g c = within g.T.TextSource.units g.met.T.TextSource.has_units (g.T.TextSource.characters c.args.text) c.args.classes.now c.args.run.now.start c.args.run.now.end c.requires.per_char c.requires.line
 
-pub overflow_add-start : goal.overflow_add-start
-overflow_add-start g c = omega (arith, (asks g (goal.at.overflow_add-start g c).In-Some).room)
+pub bounds-classes-at : goal.bounds-classes-at
+bounds-classes-at g c = omega (arith, c.loop-at-test.true, within g.T.TextSource.units g.met.T.TextSource.has_units (g.T.TextSource.characters c.args.text) c.args.classes.now c.args.run.now.start c.args.run.now.end c.requires.per_char c.requires.line)
 
-pub overflow_add-start-in-loop-offset : goal.overflow_add-start-in-loop-offset
-overflow_add-start-in-loop-offset g c = omega (arith, (asks g (goal.at.overflow_add-start-in-loop-offset g c).In-Some).room)
+pub loop-at-init : goal.loop-at-init
+loop-at-init g c =
+    let old = c.args.waiting.now.items in
+    IsReadTo-jump g.T.TextSource.units g.met.T.TextSource.has_units (g.T.TextSource.characters c.args.text) c.args.classes.now c.requires.per_char c.args.run.now.start c.args.run.now.end c.args.kept_end c.args.s c.requires.line c.requires.kept_end
+    c.args.run.now.start c.first_passing-at.result old old
+    (IsReadTo-start g.T.TextSource.units g.met.T.TextSource.has_units (g.T.TextSource.characters c.args.text) c.args.classes.now c.requires.per_char c.args.run.now.start c.args.run.now.end c.args.kept_end c.args.s c.requires.line c.requires.kept_end old)
+    c.first_passing-at.ensures
 
-pub bounds-classes-start : goal.bounds-classes-start
-bounds-classes-start g c = (asks g (goal.at.bounds-classes-start g c).In-Some).below
+pub end_of-behind-requires-clause-begins : goal.end_of-behind-requires-clause-begins
+end_of-behind-requires-clause-begins g c =
+    (IsReadTo-asked g.T.TextSource.units g.met.T.TextSource.has_units (g.T.TextSource.characters c.args.text) c.args.classes.now c.requires.per_char c.args.run.now.start c.args.run.now.end c.args.kept_end c.args.s c.requires.line c.requires.kept_end
+    c.args.waiting.now.items c.loop-at.waiting.items c.loop-at.at c.loop-at-test.true c.loop-at.invariant).begins
 
-pub loop-offset-preserved : goal.loop-offset-preserved
-loop-offset-preserved g c = (
-  c.in-Some.ensures.goes.keeps,
-  (c.in-Some.ensures.goes.on c.loop-offset.invariant.1).1,
-  rw length_push
-      (IsReadTo-more g.T.TextSource.units g.met.T.TextSource.has_units (g.T.TextSource.characters c.args.text) c.args.classes.now c.requires.per_char c.args.run.now.start c.args.run.now.end c.requires.line
-      c.args.kept_end c.args.s (length c.loop-offset.yielded) c.in-Some.offset c.in-Some.len c.args.waiting.now.items c.loop-offset.waiting.items c.read_class.new.waiting.items _
-      c.requires.kept_end (turn_in g (goal.at.loop-offset-preserved g c).In-Some) c.loop-offset.invariant.2 c.then_some-wait.ensures c.in_ok-read_class.ensures),
-)
+pub end_of-behind-requires-clause-inside : goal.end_of-behind-requires-clause-inside
+end_of-behind-requires-clause-inside g c =
+    (IsReadTo-asked g.T.TextSource.units g.met.T.TextSource.has_units (g.T.TextSource.characters c.args.text) c.args.classes.now c.requires.per_char c.args.run.now.start c.args.run.now.end c.args.kept_end c.args.s c.requires.line c.requires.kept_end
+    c.args.waiting.now.items c.loop-at.waiting.items c.loop-at.at c.loop-at-test.true c.loop-at.invariant).inside
+
+pub end_of-behind-requires-clause-fits : goal.end_of-behind-requires-clause-fits
+end_of-behind-requires-clause-fits g c =
+    let chars : List ℕ = g.T.TextSource.characters c.args.text in
+    omega (arith, length-from_is_per_char ghosts.eq class_test g.T.TextSource.units g.met.T.TextSource.has_units chars c.args.classes.now c.requires.per_char)
 
 pub returns : goal.returns
 returns g c =
-    let len_of = g.T.TextSource.units in
-    let chars : List ℕ = g.T.TextSource.characters c.args.text in
-    let run = c.args.run.now in
-    let items = gives_units len_of _ (subrange len_of chars run.start run.end) c.subrange.ensures c.indices_lengths-offset-items.ensures in
-    let all = length_end len_of (subrange len_of chars run.start run.end) items c.into_iter-offset-iterator.ensures.into_iter_gives c.loop-offset.yielded _ c.loop-offset.yielded_by _ _ c.in-None.is c.next.ensures.steps in
-    IsReadTo-end len_of g.met.T.TextSource.has_units chars c.args.classes.now c.requires.per_char run.start run.end c.requires.line c.args.kept_end c.args.s (length c.loop-offset.yielded) c.args.waiting.now.items c.loop-offset.waiting.items all c.loop-offset.invariant.2
+    let end : c.loop-at.at ≡ c.args.run.now.end =
+    omega (
+      arith,
+      c.loop-at-test.false,
+      IsReadTo-within g.T.TextSource.units g.met.T.TextSource.has_units (g.T.TextSource.characters c.args.text) c.args.classes.now c.requires.per_char c.args.run.now.start c.args.run.now.end c.args.kept_end c.args.s c.requires.line c.requires.kept_end
+          c.args.waiting.now.items c.loop-at.waiting.items c.loop-at.at c.loop-at.invariant,
+    ) in
+    IsReadTo-end g.T.TextSource.units g.met.T.TextSource.has_units (g.T.TextSource.characters c.args.text) c.args.classes.now c.requires.per_char c.args.run.now.start c.args.run.now.end c.args.kept_end c.args.s c.requires.line c.requires.kept_end
+    c.args.waiting.now.items c.loop-at.waiting.items
+    (subst (λ (u : ℕ). IsReadTo g.T.TextSource.units (g.T.TextSource.characters c.args.text) c.args.classes.now c.args.run.now.start c.args.run.now.end c.args.kept_end c.args.s c.args.waiting.now.items c.loop-at.waiting.items u) end c.loop-at.invariant)
+
+-- the character at hand is read
+behind_read : (g : Over) (c : After-first_passing-at-in-loop-at g)
+    → IsReadTo g.T.TextSource.units (g.T.TextSource.characters c.args.text) c.args.classes.now c.args.run.now.start c.args.run.now.end c.args.kept_end c.args.s c.args.waiting.now.items c.read_class.new.waiting.items c.end_of-behind.result
+behind_read g c =
+    IsReadTo-more g.T.TextSource.units g.met.T.TextSource.has_units (g.T.TextSource.characters c.args.text) c.args.classes.now c.requires.per_char c.args.run.now.start c.args.run.now.end c.args.kept_end c.args.s c.requires.line c.requires.kept_end
+    c.args.waiting.now.items c.loop-at.waiting.items c.read_class.new.waiting.items c.loop-at.at c.end_of-behind.result c.then_some-wait.result c.loop-at-test.true c.end_of-behind.ensures c.then_some-wait.ensures c.in_ok-read_class.ensures c.loop-at.invariant
+
+pub first_passing-at-requires-in-loop-at-clause-ordered : goal.first_passing-at-requires-in-loop-at-clause-ordered
+first_passing-at-requires-in-loop-at-clause-ordered g c =
+    IsReadTo-within g.T.TextSource.units g.met.T.TextSource.has_units (g.T.TextSource.characters c.args.text) c.args.classes.now c.requires.per_char c.args.run.now.start c.args.run.now.end c.args.kept_end c.args.s c.requires.line c.requires.kept_end
+    c.args.waiting.now.items c.read_class.new.waiting.items c.end_of-behind.result
+    (IsReadTo-more g.T.TextSource.units g.met.T.TextSource.has_units (g.T.TextSource.characters c.args.text) c.args.classes.now c.requires.per_char c.args.run.now.start c.args.run.now.end c.args.kept_end c.args.s c.requires.line c.requires.kept_end
+    c.args.waiting.now.items c.loop-at.waiting.items c.read_class.new.waiting.items c.loop-at.at c.end_of-behind.result c.then_some-wait.result c.loop-at-test.true c.end_of-behind.ensures c.then_some-wait.ensures c.in_ok-read_class.ensures c.loop-at.invariant)
+
+pub loop-at-smaller : goal.loop-at-smaller
+loop-at-smaller g c =
+    let past = IsReadTo-past g.T.TextSource.units g.met.T.TextSource.has_units (g.T.TextSource.characters c.args.text) c.args.classes.now c.requires.per_char c.args.run.now.start c.args.run.now.end c.args.kept_end c.args.s c.requires.line c.requires.kept_end
+    c.args.waiting.now.items c.loop-at.waiting.items c.loop-at.at c.end_of-behind.result c.loop-at-test.true c.end_of-behind.ensures c.loop-at.invariant in
+    omega (arith, c.first_passing-at-in-loop-at.ensures.begins, c.loop-at-test.true, past)
+
+pub loop-at-preserved : goal.loop-at-preserved
+loop-at-preserved g c =
+    let after = (goal.at.loop-at-preserved g c).After-first_passing-at-in-loop-at in
+    IsReadTo-jump g.T.TextSource.units g.met.T.TextSource.has_units (g.T.TextSource.characters c.args.text) c.args.classes.now c.requires.per_char c.args.run.now.start c.args.run.now.end c.args.kept_end c.args.s c.requires.line c.requires.kept_end
+    c.end_of-behind.result c.first_passing-at-in-loop-at.result c.args.waiting.now.items c.read_class.new.waiting.items (behind_read g after) c.first_passing-at-in-loop-at.ensures

@@ -1,9 +1,10 @@
--- The characters so far are read.
-use Rattle.std.proofs.Common.{length}
+-- The characters before the unit at hand are read.
+use Rattle.std.proofs.Common.{◌-◌}
 use Rattle.bidi_rules.proofs.RunReading.{IsReadTo}
 use Rattle.bidi_rules.proofs.prepare.joining.read_run.Given as goal
 
-abbrev pub invariant-loop-offset : goal.invariant-loop-offset
-invariant-loop-offset g l =
-    (goal.iterator-loop-offset g).can_next l.offset-iterator × (goal.iterator-loop-offset g).is_finite l.offset-iterator
-    × IsReadTo g.T.TextSource.units (g.T.TextSource.characters l.fn.text) l.classes l.run.start l.kept_end l.s (length l.yielded) l.fn.waiting.items l.waiting.items
+abbrev pub invariant-loop-at : goal.invariant-loop-at
+invariant-loop-at g l = IsReadTo g.T.TextSource.units (g.T.TextSource.characters l.fn.text) l.classes l.run.start l.end l.kept_end l.s l.fn.waiting.items l.waiting.items l.at
+
+abbrev pub decreases-loop-at : goal.decreases-loop-at
+decreases-loop-at g l = l.end - l.at

@@ -36,9 +36,9 @@ loop-run-init c =
       reads = λ s runs_are e_is sos_is old_is.
           let w : Join = record { opposite = c.opposite_of-opposite.result; waits = c.stands_for.result; first = 0; first_run = 0 } in
           let start = IsUnderWay-start s w
-              (ap (λ (b : Bool). if b then opposite_of s.e else s.e) waits
-              ∙ ap (λ (x : BidiClass). if stands_for (opposite_of d.embedding) d.sos then opposite_of x else x) e_is
-              ∙ before_first d.embedding d.sos c.requires.side c.requires.sos ∙ sym sos_is) refl refl in
+          (ap (λ (b : Bool). if b then opposite_of s.e else s.e) waits
+          ∙ ap (λ (x : BidiClass). if stands_for (opposite_of d.embedding) d.sos then opposite_of x else x) e_is
+          ∙ before_first d.embedding d.sos c.requires.side c.requires.sos ∙ sym sos_is) refl refl in
           subst (λ (old : List BidiClass). IsUnderWay s old w (start_or (map bounds c.args.runs.now) 0 (length old))) old_is
           (subst (λ (rs : List (ℕ × ℕ)). IsUnderWay s s.old w (start_or rs 0 (length s.old))) runs_are start);
     }
@@ -60,8 +60,8 @@ loop-run-preserved c =
           let read : IsUnderWay s c.read_run.new.classes c.read_run.new.self (get_or runs i (0, 0)).1 =
           c.read_run.ensures.reads s runs_are (ap opposite_of e_is ∙ sym inv.opposite) at in
           let gap = IsUnderWay-gap s c.read_run.new.classes c.read_run.new.self i (subst (λ (rs : List (ℕ × ℕ)). i < length rs) (sym runs_are) here)
-              (subst (λ (rs : List (ℕ × ℕ)). (get_or rs i (0, 0)).1 ≤ length s.old) (sym runs_are) (subst (λ (xs : List BidiClass). (get_or runs i (0, 0)).1 ≤ length xs) (sym old_is) (c.requires.inside i (0, 0) here)))
-              (subst (λ (rs : List (ℕ × ℕ)). IsUnderWay s c.read_run.new.classes c.read_run.new.self (get_or rs i (0, 0)).1) (sym runs_are) read) in
+          (subst (λ (rs : List (ℕ × ℕ)). (get_or rs i (0, 0)).1 ≤ length s.old) (sym runs_are) (subst (λ (xs : List BidiClass). (get_or runs i (0, 0)).1 ≤ length xs) (sym old_is) (c.requires.inside i (0, 0) here)))
+          (subst (λ (rs : List (ℕ × ℕ)). IsUnderWay s c.read_run.new.classes c.read_run.new.self (get_or rs i (0, 0)).1) (sym runs_are) read) in
           subst (λ (xs : List BidiClass). IsUnderWay s c.read_run.new.classes c.read_run.new.self (start_or runs (i + 1) (length xs))) old_is
           (subst (λ (rs : List (ℕ × ℕ)). IsUnderWay s c.read_run.new.classes c.read_run.new.self (start_or rs (i + 1) (length s.old))) runs_are gap);
     }

@@ -46,7 +46,7 @@ returns-clause-reads c = λ s runs_are same inside u.
           let below : mid < end = omega (arith, f.ends, w.if-next-end.false) in
           let is = ap (λ r. r.opposite) w.self-is in
           let turned = IsUnderWay-turned s now c.args.self.now at end inside fits u mid f.begins below f.before (f.at below)
-              (ap (λ (d : BidiClass). stands_for d (class_at now mid)) same ∙ sym w.stands_for.ensures ∙ w.if-stands_for.false) w.if-self.true in
+          (ap (λ (d : BidiClass). stands_for d (class_at now mid)) same ∙ sym w.stands_for.ensures ∙ w.if-stands_for.false) w.if-self.true in
           IsAtOpposite-quiet s now c.if-self.self mid c.if-self.from next end (subst (λ (k : ℕ). IsJoined s now false mid k) (sym w.from-is) turned) (ap (λ r. r.waits) w.self-is) q.begins q.ends fits (before is) (there is)
       | else-self w ↦
           let is = ap (λ r. r.opposite) w.self-is in

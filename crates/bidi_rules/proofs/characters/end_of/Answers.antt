@@ -1,6 +1,6 @@
 use Rattle.std.proofs.Common.{sym, ◌∙◌, arith}
 use Rattle.bidi_rules.proofs.CharEnds.{end-at, end-within, never-None}
-use Rattle.bidi_rules.proofs.implicit.neutral.marks.end_of.Goals as goal
+use Rattle.bidi_rules.proofs.characters.end_of.Goals as goal
 
 pub overflow_add-result : goal.overflow_add-result
 overflow_add-result g c =

@@ -1,0 +1,19 @@
+//! The characters of a text, by the units at which they begin.
+
+ghost use Rattle.std.specs.Prelude.{◌≡◌, ℕ, ◌<◌, ◌≤◌, ◌+◌, length, IsTrue};
+ghost use Rattle.bidi_base.specs.Text.{is_boundary, place, text_len};
+
+use bidi_base::text::TextSource;
+
+/// The unit behind the character that begins at a unit.
+pub fn end_of<T: TextSource>(text: T, start: usize) -> usize
+    requires begins { IsTrue (is_boundary T.units (T.characters text) start) }
+    requires inside { start < text_len T.units (T.characters text) }
+    requires fits { text_len T.units (T.characters text) ≤ usize.MAX }
+    ensures { (k : ℕ) → k < length (T.characters text) → start ≡ place T.units (T.characters text) k → result ≡ place T.units (T.characters text) (k + 1) }
+{
+    match text.char_at(start) {
+        Some((_, len)) => start + len,
+        None => start,
+    }
+}
