@@ -193,13 +193,13 @@ pub fn analyse_with_rule<D: BidiDataSource, T: TextSource>(
     data_source: &D,
     text: T,
     base: Option<Level>,
-    split: Option<SplitRule>,
+    rule: Option<SplitRule>,
 ) -> Result<Analysis, AllocError>
     requires { IfSome base (λ level. level ≤ 125) }
-    ensures analysis { IfOk result (λ a. IsAnalysisBy (D.source data_source.now) base split (with_analysis T.units (T.characters text) a) (ranges_of (paragraphs_of_analysis a)) (levels_of (paragraphs_of_analysis a))) }
+    ensures analysis { IfOk result (λ a. IsAnalysisBy (D.source data_source.now) base rule (with_analysis T.units (T.characters text) a) (ranges_of (paragraphs_of_analysis a)) (levels_of (paragraphs_of_analysis a))) }
     ensures per_char { IfOk result (λ a. IsPerCharText (with_analysis T.units (T.characters text) a)) }
 {
-    analyse_by(alloc, data_source, text, base, split)
+    analyse_by(alloc, data_source, text, base, rule)
 }
 
 /// The levels of a text's units, those of the line as L1 leaves them and all others as they are in
