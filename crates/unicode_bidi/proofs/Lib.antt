@@ -18,4 +18,5 @@ pub mod StoredLine
 pub mod TextOfLine
 pub mod TextRead
 pub mod Undecided
+pub mod WholeText
 pub mod WrittenRuns

@@ -186,6 +186,22 @@ pub fn analyse<D: BidiDataSource, T: TextSource>(
     analyse_by(alloc, data_source, text, base, split)
 }
 
+/// The same of a text whose paragraphs end where a rule says. Without a rule the whole text is one
+/// paragraph, even an empty one.
+pub fn analyse_with_rule<D: BidiDataSource, T: TextSource>(
+    alloc: Global,
+    data_source: &D,
+    text: T,
+    base: Option<Level>,
+    rule: Option<SplitRule>,
+) -> Result<Analysis, AllocError>
+    requires { IfSome base (λ level. level ≤ 125) }
+    ensures analysis { IfOk result (λ a. IsAnalysisBy (D.source data_source.now) base rule (with_analysis T.units (T.characters text) a) (ranges_of (paragraphs_of_analysis a)) (levels_of (paragraphs_of_analysis a))) }
+    ensures per_char { IfOk result (λ a. IsPerCharText (with_analysis T.units (T.characters text) a)) }
+{
+    analyse_by(alloc, data_source, text, base, rule)
+}
+
 /// The levels of a text's units, those of the line as L1 leaves them and all others as they are in
 /// the analysis. The line goes from one unit up to another, both of which have to begin a character
 /// or be the text's length (see `is_line`), and `level` is its paragraph's. The lists of the

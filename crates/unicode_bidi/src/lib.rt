@@ -23,6 +23,7 @@ pub mod engine;
 mod first_walk;
 mod info;
 mod initial_info;
+pub mod kept_line;
 pub mod layout;
 mod level_direction;
 mod line_text;

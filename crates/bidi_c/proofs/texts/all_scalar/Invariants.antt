@@ -1,0 +1,8 @@
+use Rattle.std.proofs.Common.{◌≡◌, take}
+use Rattle.std.specs.List.{list_all}
+use Rattle.bidi_c.specs.Texts.{is_scalar}
+use Rattle.bidi_c.proofs.texts.all_scalar.Given as goal
+
+-- the numbers read so far
+abbrev pub invariant-loop-number : goal.invariant-loop-number
+invariant-loop-number l = l.all ≡ list_all is_scalar (take l.number-index l.numbers)

@@ -1,0 +1,54 @@
+//! The exports over a line.
+use crate::fault::answer;
+use crate::line::{KeptLine, line_levels, line_runs, visual_order};
+use crate::rows::{Paragraph, Run};
+use std::alloc::Global;
+
+#[unsafe(no_mangle)]
+pub extern "C" fn unicode_bidi_line_levels(
+    alloc: Global,
+    classes: &[u8],
+    levels: &[u8],
+    paragraph: &Paragraph,
+    start: usize,
+    end: usize,
+    out: &mut [u8],
+) -> i64 {
+    let line = &KeptLine {
+        classes,
+        levels,
+        paragraph,
+        start,
+        end,
+    };
+    answer(line_levels(alloc, line, out))
+}
+
+#[unsafe(no_mangle)]
+pub extern "C" fn unicode_bidi_line_runs(
+    alloc: Global,
+    classes: &[u8],
+    levels: &[u8],
+    paragraph: &Paragraph,
+    start: usize,
+    end: usize,
+    runs: &mut [Run],
+) -> i64 {
+    let line = &KeptLine {
+        classes,
+        levels,
+        paragraph,
+        start,
+        end,
+    };
+    answer(line_runs(alloc, line, runs))
+}
+
+#[unsafe(no_mangle)]
+pub extern "C" fn unicode_bidi_reorder_visual(
+    alloc: Global,
+    levels: &[u8],
+    order: &mut [usize],
+) -> i64 {
+    answer(visual_order(alloc, levels, order))
+}

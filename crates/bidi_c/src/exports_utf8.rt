@@ -1,0 +1,105 @@
+//! The exports over texts of UTF-8.
+use crate::by_tables::{analyse_utf8, base_direction_utf8};
+use crate::fault::answer;
+use crate::line::KeptLine;
+use crate::rows::{BracketPair, ClassRange, Paragraph};
+use crate::utf8::{analyse, base_direction, line_map, reorder_line};
+use bidi_unicode::UnicodeData;
+use std::alloc::Global;
+
+#[unsafe(no_mangle)]
+pub extern "C" fn unicode_bidi_analyse_utf8(
+    alloc: Global,
+    text: &[u8],
+    base: u8,
+    split: u8,
+    classes: &mut [u8],
+    levels: &mut [u8],
+    paragraphs: &mut [Paragraph],
+) -> i64 {
+    answer(analyse(
+        alloc,
+        &UnicodeData,
+        text,
+        base,
+        split,
+        classes,
+        levels,
+        paragraphs,
+    ))
+}
+
+#[unsafe(no_mangle)]
+pub extern "C" fn unicode_bidi_base_direction_utf8(text: &[u8], full: u8) -> i64 {
+    answer(base_direction(&UnicodeData, text, full != 0))
+}
+
+#[unsafe(no_mangle)]
+pub extern "C" fn unicode_bidi_analyse_by_tables_utf8(
+    alloc: Global,
+    ranges: &[ClassRange],
+    brackets: &[BracketPair],
+    text: &[u8],
+    base: u8,
+    split: u8,
+    classes: &mut [u8],
+    levels: &mut [u8],
+    paragraphs: &mut [Paragraph],
+) -> i64 {
+    answer(analyse_utf8(
+        alloc, ranges, brackets, text, base, split, classes, levels, paragraphs,
+    ))
+}
+
+#[unsafe(no_mangle)]
+pub extern "C" fn unicode_bidi_base_direction_by_tables_utf8(
+    alloc: Global,
+    ranges: &[ClassRange],
+    brackets: &[BracketPair],
+    text: &[u8],
+    full: u8,
+) -> i64 {
+    answer(base_direction_utf8(alloc, ranges, brackets, text, full != 0))
+}
+
+#[unsafe(no_mangle)]
+pub extern "C" fn unicode_bidi_line_map_utf8(
+    alloc: Global,
+    text: &[u8],
+    classes: &[u8],
+    levels: &[u8],
+    paragraph: &Paragraph,
+    start: usize,
+    end: usize,
+    order: &mut [usize],
+) -> i64 {
+    let line = &KeptLine {
+        classes,
+        levels,
+        paragraph,
+        start,
+        end,
+    };
+    answer(line_map(alloc, text, line, order))
+}
+
+#[unsafe(no_mangle)]
+pub extern "C" fn unicode_bidi_reorder_line_utf8(
+    alloc: Global,
+    text: &[u8],
+    classes: &[u8],
+    levels: &[u8],
+    paragraph: &Paragraph,
+    start: usize,
+    end: usize,
+    out: &mut [u8],
+) -> i64 {
+    let line = &KeptLine {
+        classes,
+        levels,
+        paragraph,
+        start,
+        end,
+    };
+    answer(reorder_line(alloc, text, line, out))
+}

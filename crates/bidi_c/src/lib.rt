@@ -1,0 +1,24 @@
+//! The library for callers in other languages: a static library with the header `unicode_bidi.h`.
+//!
+//! Each export hands its arguments to a function that tests all that the library asks, and turns the
+//! answer into a number. The caller owns every buffer. A slice is a pointer and a length; that these
+//! are right is what no call can test.
+#![tactic(auto)]
+
+mod by_tables;
+mod checked;
+mod exports;
+mod exports_utf16;
+mod exports_utf32;
+mod exports_utf8;
+mod fault;
+mod line;
+mod numbers;
+mod rows;
+mod tables;
+#[cfg(test)]
+mod tests;
+mod texts;
+mod utf16;
+mod utf32;
+mod utf8;
