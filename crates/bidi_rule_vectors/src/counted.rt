@@ -13,7 +13,6 @@ use bidi_base::text::{StrText, is_per_char};
 use bidi_rules::explicit::compute_counted;
 use bidi_rules::implicit::resolve_weak_counted;
 use bidi_rules::prepare::{IsolatingRunSequence, LevelRunVec, Steps};
-use std::alloc::Global;
 use std::marker::Brand;
 use std::process::Abort;
 use std::sync::ledger::{Blank, Ledger};

@@ -191,7 +191,7 @@ fn compute_fresh<T: TextSource, S: Ledger>(
 /// The same as [`compute`], where each turn of a loop, here and in what is called, counts in `steps`: at
 /// least one for each character of the paragraph, and at most four. The turns that empty the status
 /// stack at a PDI are paid by the openers that filled it. Calls of the text and of the library have no
-/// turns.
+/// turns. After a refusal nothing is said of the count.
 pub fn compute_counted<T: TextSource, S: Ledger>(
     _alloc: Global,
     text: T,

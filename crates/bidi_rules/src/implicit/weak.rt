@@ -62,13 +62,6 @@ fn write_over<S: Ledger>(
     }
 }
 
-/// Whether there is a run at an index, and it begins below a unit.
-fn begins_below(runs: &[LevelRun], index: usize, unit: usize) -> bool
-    ensures { result ≡ (nat_lt index (length runs.now) && nat_lt (get_or (map bounds runs.now) index (0, 0)).0 unit) }
-{
-    index < runs.len() && runs[index].start < unit
-}
-
 /// The same, of the units of some runs.
 pub(super) fn write_over_runs(
     runs: &[LevelRun],
@@ -105,7 +98,7 @@ fn write_over_runs_fresh<S: Ledger>(
 }
 
 /// The same with each turn counted. Where each run ends behind `from`, those that begin below `to` have
-/// a unit to write over, so there are no more turns than two for each of these units.
+/// a unit between the two, so there are no more turns than two for each of these units.
 fn write_over_runs_counted<S: Ledger>(
     runs: &[LevelRun],
     classes: &mut [BidiClass],
@@ -127,6 +120,13 @@ fn write_over_runs_counted<S: Ledger>(
         write_over(classes, run.start.max(from), run.end.min(to), class, steps);
         index += 1;
     }
+}
+
+/// Whether there is a run at an index, and it begins below a unit.
+fn begins_below(runs: &[LevelRun], index: usize, unit: usize) -> bool
+    ensures { result ≡ (nat_lt index (length runs.now) && nat_lt (get_or (map bounds runs.now) index (0, 0)).0 unit) }
+{
+    index < runs.len() && runs[index].start < unit
 }
 
 /// The weak types of a sequence, in place: W1 to W7 over its characters that are not BN.
@@ -151,9 +151,9 @@ pub fn resolve_weak<T: TextSource>(
 }
 
 /// The same as [`resolve_weak`], where each turn of a loop, here and in what is called, counts in
-/// `steps`: at least one for each character in the runs, and at most eight for each unit in them. Where
-/// separators and terminators wait, nothing is sought ahead: a stretch of BN behind them is gone over
-/// once. Calls of the text and of the library have no turns.
+/// `steps`: at least one for each character in the runs, and at most eight for each unit in them. What
+/// waits for a character behind it waits until that comes: nothing is looked for ahead, so no stretch of
+/// BN is gone over for each unit before it. Calls of the text and of the library have no turns.
 pub fn resolve_weak_counted<T: TextSource, S: Ledger>(
     text: T,
     sequence: &IsolatingRunSequence,
