@@ -1,8 +1,8 @@
 -- N1 for the direction against the embedding one, in one walk: neutrals wait from a class of that direction to the next class with one.
-use Rattle.std.proofs.Common.{◌≡◌, ℕ, zero, suc, ◌+◌, ◌-◌, ◌<◌, ◌≤◌, Bool, true, false, not, ◌&&◌, if◌then◌else◌, cond, List, [], ◌∷◌, ◌++◌, length, map, replicate, unwrap_or, Option, Some, None, refl, sym, ap, subst, ◌∙◌, arith, append_assoc, append-nil, inl, inr, ◌⊎◌}
+use Rattle.std.proofs.Common.{◌≡◌, ℕ, zero, suc, ◌+◌, ◌-◌, ◌<◌, ◌≤◌, Bool, true, false, not, ◌&&◌, List, [], ◌∷◌, ◌++◌, length, map, replicate, unwrap_or, Option, Some, refl, sym, ap, ◌∙◌, arith, append_assoc, append-nil, inl, inr, ◌⊎◌}
 use Rattle.std.specs.Prelude.{filter}
 use Rattle.std.specs.List.{list_all, range_with_len}
-use Rattle.std.proofs.lemmas.Bool.{cases_Bool, cases_lt, both_ways, and_parts, and_from, and_right, cond-true, cond-false}
+use Rattle.std.proofs.lemmas.Bool.{cases_Bool, cases_lt, and_parts, and_from, cond-true, cond-false}
 use Rattle.std.proofs.lemmas.List.{map-append}
 use Rattle.bidi_base.specs.declared.char_data.BidiClass.{BidiClass}
 use Rattle.bidi_base.specs.declared.char_data.BidiClass.TheVariants.{L, R, EN, AN, BN}
@@ -12,9 +12,9 @@ use Rattle.bidi_base.specs.Places.{at_places, class_at}
 use Rattle.bidi_base.specs.Units.{in_runs}
 use Rattle.bidi_base.proofs.NeutralBlocks.{common}
 use Rattle.bidi_base.proofs.NeutralLemmas.{nearest_direction-more}
-use Rattle.bidi_base.proofs.NeutralStretches.{undirected-neutral, n1_n2-neutrals, n1_n2-directed, n1_n2-last}
+use Rattle.bidi_base.proofs.NeutralStretches.{n1_n2-neutrals, n1_n2-directed, n1_n2-last}
 use Rattle.bidi_base.proofs.StoredLemmas.{at_places-append}
-use Rattle.bidi_rules.specs.JoinPass.{settled, side_before, units_of, Unjoined, IsJoined}
+use Rattle.bidi_rules.specs.JoinPass.{settled, side_before, Unjoined, IsJoined}
 use Rattle.bidi_rules.specs.PairWalk.{opposite_of}
 use Rattle.bidi_rules.specs.WeakWalk.{is_seen, IsWrittenOver}
 use Rattle.bidi_rules.proofs.Marks.{marked, marked-parts, at_marked-same, at_marked-all}

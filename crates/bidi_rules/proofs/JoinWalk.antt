@@ -1,23 +1,20 @@
 -- The walk for N1 over the runs of a sequence.
-use Rattle.std.proofs.Common.{◌≡◌, ℕ, zero, suc, ◌+◌, ◌<◌, ◌≤◌, Bool, true, false, not, ◌&&◌, if◌then◌else◌, List, [], ◌∷◌, ◌++◌, length, map, get_or, drop, Option, Some, None, refl, sym, ap, subst, ◌∙◌, arith, append-nil, add-one, inl, inr}
-use Rattle.std.specs.Prelude.{filter}
+use Rattle.std.proofs.Common.{◌≡◌, ℕ, suc, ◌+◌, ◌<◌, ◌≤◌, Bool, true, false, ◌&&◌, List, length, map, get_or, drop, Option, Some, None, refl, sym, ap, subst, ◌∙◌, arith, add-one, inl, inr}
 use Rattle.std.specs.Option.{is_some}
-use Rattle.std.proofs.lemmas.Bool.{cases_Bool, cases_lt, both_ways, and_parts, and_from, and_left, and_right, cond-true, cond-false}
+use Rattle.std.proofs.lemmas.Bool.{cases_Bool, both_ways, and_parts, and_from, and_left}
 use Rattle.bidi_base.specs.declared.char_data.BidiClass.{BidiClass}
 use Rattle.bidi_base.specs.declared.char_data.BidiClass.TheVariants.{L, R, EN, AN, BN}
-use Rattle.bidi_base.specs.Classes.{as_direction, has_direction, is_kept_in_place, is_l_or_r, is_neutral, stands_for}
+use Rattle.bidi_base.specs.Classes.{as_direction, has_direction, is_kept_in_place, is_l_or_r, stands_for}
 use Rattle.bidi_base.specs.Neutral.{n1_n2}
 use Rattle.bidi_base.specs.Places.{at_places, class_at}
 use Rattle.bidi_base.specs.Units.{in_runs}
-use Rattle.bidi_base.proofs.NeutralBlocks.{common}
 use Rattle.bidi_base.proofs.NeutralStretches.{undirected-neutral}
-use Rattle.bidi_rules.specs.JoinPass.{settled, side_before, units_of, AreNamed, Unjoined, IsAtOpposite, IsJoined, IsUnderWay}
+use Rattle.bidi_rules.specs.JoinPass.{settled, side_before, units_of, Unjoined, IsAtOpposite, IsJoined, IsUnderWay}
 use Rattle.bidi_rules.specs.PairWalk.{opposite_of}
 use Rattle.bidi_rules.specs.WeakWalk.{is_seen, IsWrittenOver}
 use Rattle.bidi_rules.specs.declared.implicit.neutral.directions.Join.{Join}
-use Rattle.bidi_rules.proofs.InRuns.{in_run, in_runs-at, in_runs-drop, start_or, start_or-past, gap_before, gap_after, next_start}
+use Rattle.bidi_rules.proofs.InRuns.{in_runs-at, in_runs-drop, start_or, gap_before, gap_after, next_start}
 use Rattle.bidi_rules.proofs.JoinScan.{opposite-directed, IsJoined-more, IsJoined-quiet, IsJoined-turned, IsJoined-settled, IsJoined-stretch, finished-quiet, finished-embedding, finished-opposite, at_marked-changed}
-use Rattle.bidi_rules.proofs.Marks.{marked}
 use Rattle.bidi_rules.proofs.WrittenOver.{IsWrittenOver-same_test}
 
 undirected : (c : BidiClass) → has_direction c ≡ false → as_direction c ≡ None

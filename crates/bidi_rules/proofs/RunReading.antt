@@ -1,5 +1,5 @@
 -- The characters of a run that open or close an isolate, read one by one.
-use Rattle.std.proofs.Common.{◌≡◌, ℕ, zero, suc, ◌+◌, ◌-◌, ◌<◌, ◌≤◌, Bool, true, false, cond, eqb, List, length, get_or, drop, Option, Some, None, refl, sym, ap, subst, ◌∙◌, arith, eq-eqb, ne_eqb, inl, inr}
+use Rattle.std.proofs.Common.{◌≡◌, ℕ, zero, suc, ◌+◌, ◌-◌, ◌<◌, ◌≤◌, Bool, true, false, cond, eqb, List, length, get_or, Option, Some, None, refl, sym, ap, subst, ◌∙◌, arith, eq-eqb, ne_eqb, inl, inr}
 use Rattle.std.specs.Bool.{then_some}
 use Rattle.std.specs.List.{fold, range_with_len}
 use Rattle.std.proofs.lemmas.Bool.{cases_eq, cases_lt, both_ways}
@@ -10,7 +10,7 @@ use Rattle.bidi_base.specs.contracts.char_data.BidiClassPartialEq.TheImpl.{ghost
 use Rattle.bidi_base.specs.Places.{class_at}
 use Rattle.bidi_base.specs.Search.{IsFirst}
 use Rattle.bidi_base.specs.SequencePass.{read_class}
-use Rattle.bidi_base.specs.Text.{place, text_len, per_unit, per_char, is_per_char, is_boundary, char_index, IsLine, IsPerChar}
+use Rattle.bidi_base.specs.Text.{place, text_len, per_char, is_per_char, is_boundary, char_index, IsLine, IsPerChar}
 use Rattle.bidi_base.proofs.TextLemmas.{HasUnits}
 use Rattle.bidi_base.proofs.PlaceLemmas.{is_boundary-place, line_places, place-char_index, char_index-place, place-le, place-more, place-mono}
 use Rattle.bidi_base.proofs.PlacesLemmas.{range_with_len-more}

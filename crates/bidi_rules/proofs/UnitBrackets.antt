@@ -1,6 +1,6 @@
 -- The brackets of a line, gathered unit by unit: those units at which no character begins have none, nor have those of another class than ON.
-use Rattle.std.proofs.Common.{◌≡◌, ℕ, zero, suc, ◌+◌, ◌-◌, ◌<◌, ◌≤◌, Bool, true, false, ◌||◌, ◌==◌, List, [], ◌∷◌, ◌++◌, length, get_or, Option, Some, None, refl, sym, ap, ◌∙◌, arith, append-nil, inl, inr}
-use Rattle.std.specs.Prelude.{filter, flat_map}
+use Rattle.std.proofs.Common.{◌≡◌, ℕ, zero, suc, ◌+◌, ◌-◌, ◌<◌, ◌≤◌, true, false, ◌||◌, ◌==◌, List, [], ◌∷◌, ◌++◌, length, get_or, Option, Some, None, refl, sym, ap, ◌∙◌, arith, append-nil, inl, inr}
+use Rattle.std.specs.Prelude.{flat_map}
 use Rattle.std.specs.List.{range_with_len}
 use Rattle.std.specs.Option.{is_some, option_map_or}
 use Rattle.std.proofs.lemmas.Bool.{cases_lt}
@@ -19,10 +19,10 @@ use Rattle.bidi_base.specs.Source.{Source}
 use Rattle.bidi_base.specs.Text.{char_at, char_index, is_boundary, place, text_len, IsLine}
 use Rattle.bidi_base.specs.Units.{kept_in_place}
 use Rattle.bidi_base.proofs.ChainLemmas.{range_with_len-append}
-use Rattle.bidi_base.proofs.PlaceLemmas.{char_at-place, line_places, place-le, place-mono, place-more, place-end}
+use Rattle.bidi_base.proofs.PlaceLemmas.{char_at-place, line_places, place-le, place-mono, place-more}
 use Rattle.bidi_base.proofs.TextLemmas.{HasUnits, is_boundary-char_at}
 use Rattle.bidi_rules.specs.NeutralPass.{kept_among, placed_bracket, placed_brackets, unit_bracket, unit_brackets}
-use Rattle.bidi_rules.proofs.CharEnds.{Begins, begins_at}
+use Rattle.bidi_rules.proofs.CharEnds.{begins_at}
 use Rattle.bidi_rules.proofs.Gathered.{placed-append, placed-one}
 use Rattle.bidi_rules.proofs.KeptRuns.{kept_so_far-end}
 

@@ -40,13 +40,15 @@ fn change_run<S: Ledger>(run: &LevelRun, classes: &mut [BidiClass], steps: &mut 
     }
 }
 
-/// What W3 and W6 make of a class.
+/// What W3 and W6 make of a class. It has no branch, so that a loop changes many units at once.
 pub fn left_over(class: BidiClass) -> BidiClass
     ensures { result ≡ left_over class }
 {
-    match class {
-        AL => R,
-        ES | ET | CS => ON,
-        other => other,
+    if (class == ES) | (class == ET) | (class == CS) {
+        ON
+    } else if class == AL {
+        R
+    } else {
+        class
     }
 }

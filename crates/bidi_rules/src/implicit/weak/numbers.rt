@@ -85,7 +85,7 @@ fn is_number_in(classes: &[BidiClass]) -> bool
 fn is_number(class: BidiClass) -> bool
     ensures { result ≡ is_number class }
 {
-    matches!(class, EN | AN)
+    (class == EN) | (class == AN)
 }
 
 impl Walk {

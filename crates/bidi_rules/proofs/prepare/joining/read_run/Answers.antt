@@ -1,11 +1,11 @@
-use Rattle.std.proofs.Common.{◌≡◌, ◌≤◌, ◌<◌, ◌+◌, ℕ, List, Option, length, true, refl, sym, ap, subst, ◌∙◌, arith}
+use Rattle.std.proofs.Common.{◌≡◌, ◌≤◌, ℕ, List, length, true, subst, arith}
 use Rattle.bidi_base.specs.contracts.char_data.BidiClassPartialEq.TheImpl.{ghosts}
-use Rattle.bidi_base.specs.Text.{is_per_char, place, text_len, is_boundary, IsLine}
+use Rattle.bidi_base.specs.Text.{is_per_char, IsLine}
 use Rattle.bidi_base.specs.declared.char_data.BidiClass.{BidiClass}
 use Rattle.bidi_base.proofs.TextLemmas.{HasUnits, is_boundary-le}
 use Rattle.bidi_base.proofs.PerCharTests.{class_test}
 use Rattle.bidi_base.proofs.UnitsLemmas.{length-from_is_per_char}
-use Rattle.bidi_rules.proofs.RunReading.{IsReadTo, IsAsked, IsReadTo-start, IsReadTo-jump, IsReadTo-asked, IsReadTo-more, IsReadTo-end, IsReadTo-past, IsReadTo-within}
+use Rattle.bidi_rules.proofs.RunReading.{IsReadTo, IsReadTo-start, IsReadTo-jump, IsReadTo-asked, IsReadTo-more, IsReadTo-end, IsReadTo-past, IsReadTo-within}
 use Rattle.bidi_rules.proofs.prepare.joining.read_run.Given.{Over}
 use Rattle.bidi_rules.proofs.prepare.joining.read_run.Goals as goal
 use Rattle.bidi_rules.proofs.prepare.joining.read_run.Goals.{After-first_passing-at-in-loop-at}

@@ -1,10 +1,8 @@
-use Rattle.std.proofs.Common.{◌≡◌, ◌≤◌, ◌<◌, ◌+◌, ℕ, List, length, map, get_or, drop, true, false, Bool, if◌then◌else◌, refl, sym, ap, subst, ◌∙◌, arith}
-use Rattle.std.specs.Prelude.{All}
+use Rattle.std.proofs.Common.{◌≡◌, ◌≤◌, ◌<◌, ◌+◌, ℕ, List, length, map, get_or, drop, true, Bool, if◌then◌else◌, refl, sym, ap, subst, ◌∙◌, arith}
 use Rattle.std.proofs.lemmas.List.{length-map}
 use Rattle.bidi_base.specs.declared.char_data.BidiClass.{BidiClass}
 use Rattle.bidi_base.specs.declared.char_data.BidiClass.TheVariants.{L, R}
 use Rattle.bidi_base.specs.Classes.{is_l_or_r, stands_for}
-use Rattle.bidi_base.specs.Places.{class_at}
 use Rattle.bidi_base.specs.Units.{bounds}
 use Rattle.bidi_rules.specs.JoinPass.{Unjoined, IsUnderWay}
 use Rattle.bidi_rules.specs.PairWalk.{opposite_of}

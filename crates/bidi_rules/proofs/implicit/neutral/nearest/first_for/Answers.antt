@@ -1,4 +1,4 @@
-use Rattle.std.proofs.Common.{◌≡◌, ◌<◌, ◌≤◌, false, sym, ap, ◌∙◌, arith}
+use Rattle.std.proofs.Common.{◌≡◌, ◌<◌, ◌≤◌, false, arith}
 use Rattle.bidi_base.specs.Classes.{stands_for}
 use Rattle.bidi_base.specs.Places.{class_at}
 use Rattle.bidi_rules.proofs.NearestLemmas.{every-more, IsFirstFor-here}

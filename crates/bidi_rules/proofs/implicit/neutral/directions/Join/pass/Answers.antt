@@ -1,4 +1,4 @@
-use Rattle.std.proofs.Common.{◌≡◌, ◌≤◌, ◌<◌, true, false, not, Bool, refl, sym, ap, ◌∙◌, arith, inl, inr, ℕ}
+use Rattle.std.proofs.Common.{◌≡◌, ◌<◌, true, false, not, Bool, refl, ap, ◌∙◌, arith, inl, inr, ℕ}
 use Rattle.std.proofs.lemmas.Bool.{cases_lt, both_ways}
 use Rattle.bidi_base.specs.declared.char_data.BidiClass.{BidiClass}
 use Rattle.bidi_base.specs.Classes.{stands_for}

@@ -1,8 +1,8 @@
-use Rattle.std.proofs.Common.{◌≡◌, ◌≤◌, ◌<◌, ℕ, length, map, get_or, refl, sym, ap, subst, ◌∙◌, arith}
+use Rattle.std.proofs.Common.{ℕ, map, refl, sym, ap, subst, arith}
 use Rattle.std.proofs.lemmas.List.{get_or-map, length-map}
 use Rattle.bidi_base.specs.Units.{bounds}
 use Rattle.bidi_rules.specs.JoinPass.{IsUnderWay}
-use Rattle.bidi_rules.proofs.InRuns.{run_some, in_runs-at}
+use Rattle.bidi_rules.proofs.InRuns.{run_some}
 use Rattle.bidi_rules.proofs.KeptRuns.{no_range}
 use Rattle.bidi_rules.proofs.implicit.neutral.directions.Join.read_run.Goals as goal
 
