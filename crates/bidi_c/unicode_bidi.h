@@ -173,8 +173,9 @@ int64_t unicode_bidi_base_direction_by_tables_utf32(
  *
  * Over the classes and the levels that an analysis has written, of the whole text and one a unit, and
  * the paragraph in which the line lies, whose level L1 uses. The line goes from start up to end; an
- * empty one is allowed. No call reads classes, levels or text outside the line, so each costs the line.
- * These calls ask not where the numbers come from: any that pass the tests will do.
+ * empty one is allowed. No call looks at more than the line, and for CUT_CHARACTER at the units beside its
+ * ends, so each costs the line. These calls ask not where the numbers come from: any that pass the tests
+ * will do.
  *
  * Faults of every line call, first of all: UNEQUAL_LENGTHS of classes and levels, BAD_LINE, BAD_CLASS and
  * BAD_LEVEL in the line, BAD_LEVEL of the paragraph. */

@@ -1,4 +1,5 @@
-/* The library as a caller in C has it: the worked rows in three encodings, each fault, and random calls.
+/* The library as a caller in C has it: the worked rows in three encodings, each fault, want of memory at each
+ * request, and random calls.
  *   callers CALLS SEED
  * Each buffer ends where a page without leave to read or write begins, and the units before it are
  * watched, so that a call that leaves its buffers is seen. */
@@ -15,6 +16,35 @@
 
 #define COUNT(a) (sizeof(a) / sizeof *(a))
 #define FAIL(...) (fprintf(stderr, "failed: "), fprintf(stderr, __VA_ARGS__), fputc('\n', stderr), exit(1))
+
+/* ---- the library's heap, as the kit's liblibc_c.a has it, with one request to be refused ---- */
+
+struct tried {
+    bool ok;
+    void *p;
+};
+
+static long until_refusal = -1; /* how many requests are granted before one is refused; -1: none is */
+static bool was_refused;
+static char nothing;
+
+static bool refuse(void) {
+    if (until_refusal < 0 || until_refusal-- > 0) return false;
+    return was_refused = true;
+}
+
+struct tried rattle_alloc(size_t n, size_t align) {
+    void *p = refuse() ? NULL : malloc(n ? n : align);
+    return (struct tried){p != NULL, p ? p : &nothing};
+}
+
+struct tried rattle_realloc(void *from, size_t kept, size_t n, size_t align) {
+    (void)kept;
+    void *p = refuse() ? NULL : realloc(from, n ? n : align);
+    return (struct tried){p != NULL, p ? p : &nothing};
+}
+
+void rattle_dealloc(void *p) { free(p); }
 
 /* ---- buffers at a page's end ---- */
 
@@ -341,6 +371,52 @@ static void try_faults(void) {
         expect("a table", unicode_bidi_analyse_by_tables_utf8(tables[i].rows, 2, &tables[i].pair, 1, hebrew, 4, AUTO, SPLIT, out, 4, more, 4, ps, 2), tables[i].wanted);
 }
 
+/* A call with each of its requests for memory refused in turn: it answers want of memory, and has left
+ * its buffer, or what it answers unhindered. */
+#define SWEEP(what, at, bytes, call)                                                               \
+    do {                                                                                           \
+        buffer(at, bytes, 0x77);                                                                   \
+        int64_t unhindered = (call);                                                               \
+        if (unhindered < 0) FAIL("%s: fault %lld", what, (long long)unhindered);                   \
+        for (long k = 0;; k++) {                                                                   \
+            unsigned char *b = buffer(at, bytes, 0x77);                                            \
+            until_refusal = k, was_refused = false;                                                \
+            int64_t found = (call);                                                                \
+            until_refusal = -1;                                                                    \
+            if (!was_refused) break;                                                               \
+            if (found == unhindered) continue;                                                     \
+            if (found != UNICODE_BIDI_NO_MEMORY) FAIL("%s: request %ld refused: %lld", what, k, (long long)found); \
+            for (size_t i = 0; i < (bytes); i++)                                                   \
+                if (b[i] != 0x77) FAIL("%s: request %ld refused, and written", what, k);           \
+            refusals++;                                                                            \
+        }                                                                                          \
+    } while (0)
+
+static long refusals;
+
+static void try_refusals(void) {
+    text t;
+    read_utf8(&t, u8"a\u05D0 (\u05D1) 12\u202Bb\u202C\u2067c\u2068\u05D0\u2069\u2069 \u05D0a\u05D0a\u05D0a\u05D0a\u05D0a\u05D0a\u05D0a\u05D0a\u05D0\nb");
+    for (int e = UTF8; e <= UTF32; e++) {
+        size_t n = t.units[e];
+        const void *in = t.in[e];
+        uint8_t c[4 * MOST], l[4 * MOST];
+        unicode_bidi_paragraph p[2];
+        for (int tables = 0; tables < 2; tables++) {
+            SWEEP("analyse", levels_at, n, analyse(e, tables, in, n, AUTO, SPLIT, c, n, levels_at.end - n, n, p, 2));
+            SWEEP("base_direction", levels_at, n, direction(e, tables, in, n, 1));
+        }
+        if (analyse(e, false, in, n, AUTO, SPLIT, c, n, l, n, p, 2) != 2) FAIL("two paragraphs");
+        size_t end = p[0].end;
+        size_t *order = (size_t *)order_at.end - n;
+        SWEEP("line_levels", out_at, end, unicode_bidi_line_levels(c, n, l, n, p, 0, end, out_at.end - end, end));
+        SWEEP("line_runs", rows_at, n * sizeof(unicode_bidi_run), unicode_bidi_line_runs(c, n, l, n, p, 0, end, (unicode_bidi_run *)rows_at.end - n, n));
+        SWEEP("line_map", order_at, n * sizeof *order, line_map(e, in, n, c, n, l, n, p, 0, end, order, n));
+        SWEEP("reorder_line", out_at, n * SIZES[e], reorder_line(e, in, n, c, n, l, n, p, 0, end, out_at.end - n * SIZES[e], n));
+        SWEEP("reorder_visual", order_at, n * sizeof *order, unicode_bidi_reorder_visual(l, n, order, n));
+    }
+}
+
 /* ---- random calls ---- */
 
 static uint64_t state;
@@ -376,7 +452,7 @@ static void unchanged(int64_t answer, arena a, const void *before, size_t bytes,
 
 /* Any bytes, sizes and levels: the answer is a count or a fault, and nothing is written beside the buffers. */
 static void call_at_random(void) {
-    static unsigned char seed[4096], old[4096];
+    static unsigned char seed[4096];
     for (size_t i = 0; i < sizeof seed; i++) seed[i] = below(3) ? below(24) : next() >> 56;
     int e = below(3);
     size_t n = below(24), m = below(24);
@@ -439,7 +515,6 @@ static void call_at_random(void) {
         direction(e, below(2), in, m, next() & 1);
     }
     }
-    (void)old;
 }
 
 /* A text in the three encodings: all calls answer alike, character by character. */
@@ -504,10 +579,11 @@ int main(int argc, char **argv) {
     try_surrogates();
     try_directions();
     try_faults();
+    try_refusals();
     for (long i = 0; i < calls; i++) {
         if (i % 4) call_at_random();
         else compare_at_random();
     }
-    printf("ok callers: %zu texts, %zu lines, each fault, and %ld random calls\n", COUNT(TEXTS), COUNT(LINES), calls);
+    printf("ok callers: %zu texts, %zu lines, each fault, %ld refusals of memory, and %ld random calls\n", COUNT(TEXTS), COUNT(LINES), refusals, calls);
     return 0;
 }
