@@ -44,22 +44,6 @@ module _ (len_of : ℕ → ℕ) (chars : List ℕ) (source : Source) (units : Li
         ∙ sym (removed-none (class_at units (place len_of chars k)) (source.bracket_of (get_or chars k 0)) (place len_of chars k) no')
   ]
 
-  -- one character more of a line
-  pub placed-more : (start n u c : ℕ) (before old new : List Bracket) → place len_of chars (char_index len_of chars start + n) ≡ u → get_or chars (char_index len_of chars start + n) 0 ≡ c
-      → old ≡ before ++ placed (kept_so_far len_of chars units start n) → new ≡ old ++ brackets_from u (counted_bracket (class_at units u) (source.bracket_of c) ∷ [])
-      → new ≡ before ++ placed (kept_so_far len_of chars units start (n + 1))
-  placed-more start n u c before old new here is_char held pushed =
-      let k = char_index len_of chars start + n in
-      let so_far = kept_so_far len_of chars units start n in
-      let one : brackets_from u (counted_bracket (class_at units u) (source.bracket_of c) ∷ []) ≡ placed_bracket len_of chars source units k =
-      ap (λ (d : ℕ). brackets_from u (counted_bracket (class_at units u) (source.bracket_of d) ∷ [])) (sym is_char)
-      ∙ ap (λ (v : ℕ). brackets_from v (counted_bracket (class_at units v) (source.bracket_of (get_or chars k 0)) ∷ [])) (sym here) in
-      pushed
-      ∙ ap (λ (bs : List Bracket). bs ++ brackets_from u (counted_bracket (class_at units u) (source.bracket_of c) ∷ [])) held
-      ∙ append_assoc before (placed so_far) (brackets_from u (counted_bracket (class_at units u) (source.bracket_of c) ∷ []))
-      ∙ ap (λ (bs : List Bracket). before ++ (placed so_far ++ bs)) (one ∙ sym (placed-one k))
-      ∙ ap (λ (bs : List Bracket). before ++ bs) (sym (ap placed (kept_so_far-step len_of chars units start n) ∙ placed-append so_far (kept_among len_of chars units (k ∷ []))))
-
   -- ---- all of them
 
   step : (f : ℕ → ℕ) (rises : (i j : ℕ) → i < j → f i < f j) (o : Option BidiMatchedOpeningBracket) (u j : ℕ) (rest : List (Option BidiMatchedOpeningBracket)) (tail : List Bracket) → f j ≡ u → tail ≡ map (moved f rises) (brackets_from (j + 1) rest)

@@ -19,44 +19,6 @@ use Rattle.bidi_base.proofs.PlacesLemmas.{range_with_len-more}
 use Rattle.bidi_rules.specs.NeutralPass.{kept_among, values_of}
 use Rattle.bidi_rules.proofs.WalkLemmas.{are_ordered-front, map-take}
 
--- ---- the turns of a loop over the characters of a line
-
--- the n-th character of the line is c, and stands `offset` units behind its start
-pub record IsTurnIn (len_of : ℕ → ℕ) (chars : List ℕ) (start stop n offset c : ℕ) : Type 0 where
-  pub here : place len_of chars (char_index len_of chars start + n) ≡ start + offset
-  pub is_char : get_or chars (char_index len_of chars start + n) 0 ≡ c
-  pub within : char_index len_of chars start + n < char_index len_of chars stop
-  pub fits : char_index len_of chars start + n < length chars
-  pub some : 1 ≤ len_of c
-  pub below : start + offset + len_of c ≤ stop
-
-module _ (len_of : ℕ → ℕ) (h : HasUnits len_of) (chars : List ℕ) (start stop : ℕ) (line : IsLine len_of chars start stop) (part : List ℕ) (is : part ≡ subrange len_of chars start stop) where
-  length-line : length (subrange len_of chars start stop) ≡ char_index len_of chars stop - char_index len_of chars start
-  length-line =
-      let i = char_index len_of chars start in
-      let j = char_index len_of chars stop in
-      let w = line_places len_of h chars start stop line in
-      omega (arith, length-take (j - i) (drop i chars), length-drop i chars, w.ordered, w.within)
-
-  pub line_turn : (n offset c : ℕ) → CharTurn len_of part n offset c → IsTurnIn len_of chars start stop n offset c
-  line_turn n offset c turn_of_part =
-      let turn : CharTurn len_of (subrange len_of chars start stop) n offset c = subst (λ (cs : List ℕ). CharTurn len_of cs n offset c) is turn_of_part in
-      let i = char_index len_of chars start in
-      let j = char_index len_of chars stop in
-      let w = line_places len_of h chars start stop line in
-      let short : n < j - i = omega (arith, turn.within, length-line) in
-      record {
-        here = omega (arith, w.begins, turn.at_place, place-slice_range len_of chars i j n (omega arith) w.within);
-        is_char = sym (get_or-drop i chars n 0) ∙ sym (get_or-take (j - i) (drop i chars) n 0 short) ∙ turn.is_char;
-        within = omega arith;
-        fits = omega (arith, w.within);
-        some = h c;
-        below = omega (arith, turn.fits, text_len-subrange len_of h chars start stop line, line.ordered);
-      }
-
-  pub line_end : (n : ℕ) → n ≡ length part → char_index len_of chars start + n ≡ char_index len_of chars stop
-  line_end n all = let w = line_places len_of h chars start stop line in omega (arith, length-line, w.ordered, ap length is)
-
 -- ---- the runs one after another
 
 abbrev pub no_range : Range ℕ

@@ -67,9 +67,6 @@ module _ (len_of : ℕ → ℕ) (h : HasUnits len_of) (chars : List ℕ) (units 
   abbrev read_to : ℕ → List (Option ℕ) → List (Option ℕ)
   read_to m old = read_range stored (char_index len_of chars last) s first m old
 
-  size : length units ≡ text_len len_of chars
-  size = length-from_is_per_char ghosts.eq class_test len_of h chars units whole
-
   per : IsPerChar len_of chars units
   per = IsPerChar-from_is_per_char class_eq class_test len_of h chars units whole
 
