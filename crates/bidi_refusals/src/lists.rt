@@ -162,7 +162,7 @@ pub fn run(rt: &(impl Print + AllocGlobal), source: &TableBidiData<'_>) -> Resul
         rt,
         "plain::explicit_levels",
         explicit_levels(alloc, LTR_LEVEL, &text.classes),
-        are_explicit_equal
+        before, answer => are_explicit_equal(before, &answer)
     );
     if explicit.levels().len() != LENGTH {
         return Err(Fault::NoTrial("explicit levels"));
@@ -171,7 +171,7 @@ pub fn run(rt: &(impl Print + AllocGlobal), source: &TableBidiData<'_>) -> Resul
         rt,
         "plain::sequences",
         sequences(alloc, LTR_LEVEL, &text.classes, explicit.levels()),
-        are_sequences_equal
+        before, answer => are_sequences_equal(before, &answer)
     );
     for sequence in &found {
         let first = sequence.places().first().copied().unwrap_or(0);

@@ -59,8 +59,8 @@ impl From<io::Error> for Fault {
     }
 }
 
-/// What a call answers or why it does not.
-pub type Answer<A> = Result<A, NoAnswer>;
+/// How often a call is made.
+pub const CALLS: u8 = 3;
 
 /// What came of the calls so far: how many were refused, and whether each went with those before it.
 #[derive(Clone, Copy)]
@@ -99,80 +99,31 @@ impl Outcomes {
     }
 }
 
-/// The first answer so far, and what came of the calls.
-#[derive(Drop)]
-struct Trial<A: Drop> {
-    first: Option<A>,
-    outcomes: Outcomes,
-}
-
-impl<A: Drop> Trial<A> {
-    /// Takes what came of one more call.
-    fn take<F: Fn(&A, &A) -> bool>(&mut self, answer: Answer<A>, are_alike: &F) {
-        match answer {
-            Ok(answer) => match &self.first {
-                Some(first) => self.outcomes.compare(are_alike(first, &answer)),
-                None => self.first = Some(answer),
-            },
-            Err(reason) => self.outcomes.miss(reason),
-        }
-    }
-}
-
-/// Prints the name of a call that was made three times, and how many of the three were refused, and
-/// hands back the answer. All answers must be alike, and one call at most be refused.
-pub fn judge_by<A: Drop, F: Fn(&A, &A) -> bool>(
-    rt: &impl Print,
-    name: &'static str,
-    answers: (Answer<A>, Answer<A>, Answer<A>),
-    are_alike: F,
-) -> Result<A, Fault> {
-    let mut trial = Trial {
-        first: None,
-        outcomes: Outcomes::new(),
-    };
-    trial.take(answers.0, &are_alike);
-    trial.take(answers.1, &are_alike);
-    trial.take(answers.2, &are_alike);
-    trial.outcomes.tell(rt, name)?;
-    trial.first.ok_or(Fault::Answers(name))
-}
-
-/// The same of answers that are alike where they are equal.
-pub fn judge<A: PartialEq + Drop>(
-    rt: &impl Print,
-    name: &'static str,
-    answers: (Answer<A>, Answer<A>, Answer<A>),
-) -> Result<A, Fault> {
-    judge_by(rt, name, answers, |before, answer| before == answer)
-}
-
-/// What came of a call.
-pub fn answer_of<A: Drop, E: Into<NoAnswer>>(outcome: Result<A, E>) -> Answer<A> {
-    outcome.map_err(|error| error.into())
-}
-
 /// Makes a call three times, prints its name and how many of the three were refused, and hands back
 /// the answer. All answers must be equal, or alike by a test of one's own, and one call at most be
 /// refused.
 macro_rules! tried {
     ($rt:expr, $name:expr, $call:expr) => {
-        $crate::trial::judge($rt, $name, $crate::trial::thrice!($call))?
+        $crate::trial::tried!($rt, $name, $call, before, answer => *before == answer)
     };
-    ($rt:expr, $name:expr, $call:expr, $are_alike:expr) => {
-        $crate::trial::judge_by($rt, $name, $crate::trial::thrice!($call), $are_alike)?
-    };
+    ($rt:expr, $name:expr, $call:expr, $before:ident, $answer:ident => $are_alike:expr) => {{
+        let mut first = None;
+        let mut outcomes = $crate::trial::Outcomes::new();
+        for _ in 0..$crate::trial::CALLS {
+            match $call {
+                Ok($answer) => match &first {
+                    Some($before) => outcomes.compare($are_alike),
+                    None => first = Some($answer),
+                },
+                Err(reason) => outcomes.miss($crate::trial::NoAnswer::from(reason)),
+            }
+        }
+        outcomes.tell($rt, $name)?;
+        match first {
+            Some(answer) => answer,
+            None => return Err($crate::trial::Fault::Answers($name)),
+        }
+    }};
 }
 
-/// The answers of a call that is made three times.
-macro_rules! thrice {
-    ($call:expr) => {
-        (
-            $crate::trial::answer_of($call),
-            $crate::trial::answer_of($call),
-            $crate::trial::answer_of($call),
-        )
-    };
-}
-
-pub(crate) use {thrice, tried};
+pub(crate) use tried;
