@@ -6,6 +6,8 @@ pub mod OpenersLemmas
 pub mod ClosedOpeners
 pub mod OptionsLemmas
 pub mod ParagraphLemmas
+pub mod SequencesLemmas
 pub mod ShownLemmas
+pub mod StagesLemmas
 pub mod TurnedLemmas
 pub mod UnmatchedPass

@@ -40,3 +40,18 @@ control_name PopDirectionalIsolate = codes "U+2069 POP DIRECTIONAL ISOLATE"
 control_name LeftToRightMark = codes "U+200E LEFT-TO-RIGHT MARK"
 control_name RightToLeftMark = codes "U+200F RIGHT-TO-LEFT MARK"
 control_name ArabicLetterMark = codes "U+061C ARABIC LETTER MARK"
+
+-- its short name
+abbrev pub control_short : Control → List ℕ
+control_short LeftToRightEmbedding = codes "LRE"
+control_short RightToLeftEmbedding = codes "RLE"
+control_short PopDirectionalFormatting = codes "PDF"
+control_short LeftToRightOverride = codes "LRO"
+control_short RightToLeftOverride = codes "RLO"
+control_short LeftToRightIsolate = codes "LRI"
+control_short RightToLeftIsolate = codes "RLI"
+control_short FirstStrongIsolate = codes "FSI"
+control_short PopDirectionalIsolate = codes "PDI"
+control_short LeftToRightMark = codes "LRM"
+control_short RightToLeftMark = codes "RLM"
+control_short ArabicLetterMark = codes "ALM"

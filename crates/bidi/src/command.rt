@@ -7,7 +7,7 @@ use crate::view::View;
 use bidi_terminal::{Base, parse_number};
 use std::marker::Model;
 
-/// Words that name files, none of them an option. In clauses they are their bytes.
+/// Words that name files, or texts, none of them an option. In clauses they are their bytes.
 #[derive(Drop)]
 pub struct FileWords<'w> {
     words: &'w [String],
@@ -61,12 +61,14 @@ impl<'w> FileWords<'w> {
 pub enum Command<'w> {
     /// `check [--any] [FILE..]`: the direction controls without a match on their line, or all.
     Check { any: bool, files: FileWords<'w> },
+    /// `explain [--base auto|ltr|rtl] TEXT..`: what each stage makes of the characters.
+    Explain { base: Base, texts: FileWords<'w> },
     /// `show [--base auto|ltr|rtl] [--width N] [--plain] [FILE..]`: the lines from left to right.
     Show { view: View, files: FileWords<'w> },
 }
 
 impl<'w> Command<'w> {
-    ghost use Rattle.bidi.specs.Commands.{command_of, check_of, show_of};
+    ghost use Rattle.bidi.specs.Commands.{command_of, check_of, explain_of, show_of};
 
     /// What the words behind `check` ask for.
     fn parse_check(words: &'w [String]) -> Option<Command<'w>>
@@ -107,6 +109,20 @@ impl<'w> Command<'w> {
         }
     }
 
+    /// What words behind `explain` ask for.
+    fn parse_explain(words: &'w [String]) -> Option<Command<'w>>
+        ensures { result ≡ explain_of (map string_bytes words.now) }
+    {
+        let (base, words) = match words {
+            [option, base, rest @ ..] if option.as_str() == "--base" => {
+                (Base::parse(base.as_str())?, rest)
+            }
+            _ => (Base::Auto, words),
+        };
+        let texts = FileWords::parse(words)?;
+        Some(Command::Explain { base, texts })
+    }
+
     /// The form that the words have, where they have one. Options stand before the files, in any
     /// order, and of one that is repeated the last counts. It takes no memory.
     pub fn parse(words: &'w [String]) -> Option<Command<'w>>
@@ -117,6 +133,7 @@ impl<'w> Command<'w> {
             [form, rest @ ..] if form.as_str() == "show" => {
                 Command::parse_show(View::default(), rest)
             }
+            [form, rest @ ..] if form.as_str() == "explain" => Command::parse_explain(rest),
             _ => None,
         }
     }

@@ -34,7 +34,7 @@ pub enum Control {
 }
 
 impl Control {
-    ghost use Rattle.bidi.specs.Controls.{mark_of, control_of, control_name};
+    ghost use Rattle.bidi.specs.Controls.{mark_of, control_of, control_name, control_short};
 
     /// The mark that a character is.
     fn mark(c: char) -> Option<Control>
@@ -84,6 +84,26 @@ impl Control {
             Control::LeftToRightMark => "U+200E LEFT-TO-RIGHT MARK",
             Control::RightToLeftMark => "U+200F RIGHT-TO-LEFT MARK",
             Control::ArabicLetterMark => "U+061C ARABIC LETTER MARK",
+        }
+    }
+
+    /// Its short name, as UAX #9 has it.
+    pub fn short_name(self) -> &'static str
+        ensures { result.now ≡ control_short self }
+    {
+        match self {
+            Control::LeftToRightEmbedding => "LRE",
+            Control::RightToLeftEmbedding => "RLE",
+            Control::PopDirectionalFormatting => "PDF",
+            Control::LeftToRightOverride => "LRO",
+            Control::RightToLeftOverride => "RLO",
+            Control::LeftToRightIsolate => "LRI",
+            Control::RightToLeftIsolate => "RLI",
+            Control::FirstStrongIsolate => "FSI",
+            Control::PopDirectionalIsolate => "PDI",
+            Control::LeftToRightMark => "LRM",
+            Control::RightToLeftMark => "RLM",
+            Control::ArabicLetterMark => "ALM",
         }
     }
 }

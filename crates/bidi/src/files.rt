@@ -1,7 +1,8 @@
 //! The files of a call: they are read and answered one after the other.
-use crate::input::{InputFault, check_input, show_input};
+use crate::input::{InputFault, check_input, explain_text, show_input};
 use crate::status::Status;
 use crate::view::View;
+use bidi_terminal::Base;
 use std::fs;
 use std::io::{self, ErrorKind, Read, Write};
 use std::rt::Files;
@@ -31,9 +32,14 @@ fn refuse(rt: &(impl Print + Eprint), name: &str, error: &io::Error) -> Result<S
     Ok(Status::Device)
 }
 
-fn out_of_memory(rt: &impl Eprint) -> Result<Status, Status> {
+// The run ends for want of memory.
+fn end_without_memory(rt: &impl Eprint) -> Status {
     let _ = eprintln!(rt; "bidi: out of memory");
-    Err(Status::Memory)
+    Status::Memory
+}
+
+fn out_of_memory(rt: &impl Eprint) -> Result<Status, Status> {
+    Err(end_without_memory(rt))
 }
 
 // Tells why an input has no answer.
@@ -125,4 +131,21 @@ pub fn answer_files(
         }
     }
     status
+}
+
+/// Writes the tables of texts. What fails ends the run.
+pub fn answer_texts(
+    rt: &(impl Print + Eprint + AllocGlobal),
+    base: Base,
+    texts: &[String],
+) -> Status {
+    for text in texts {
+        let Ok(tables) = explain_text(rt.alloc(), base, text.as_str()) else {
+            return end_without_memory(rt);
+        };
+        if let Err(ended) = write_out(rt, tables.as_str()) {
+            return ended;
+        }
+    }
+    Status::Clean
 }

@@ -1,12 +1,15 @@
 //! The bidirectional algorithm at a command line. `bidi check` finds direction controls that have no
 //! match on their line: they can make a text, also a program, read otherwise than it is. `bidi show`
 //! gives the lines of a text as a terminal that does not know the algorithm has to be given them.
+//! `bidi explain` shows what each stage of the rules makes of the characters of a text.
 #![tactic(auto)]
 
+mod cells;
 mod characters;
 mod check;
 mod command;
 mod control;
+mod explain;
 mod files;
 mod finding;
 mod input;
@@ -14,22 +17,25 @@ mod lines;
 mod openers;
 mod paragraphs;
 mod report;
+mod rows;
 mod show;
+mod stages;
 mod status;
+mod table;
 #[cfg(test)]
 mod tests;
 mod unmatched;
 mod view;
 
 use command::Command;
-use files::{Task, answer_files};
+use files::{Task, answer_files, answer_texts};
 use status::Status;
 use std::process::ExitCode;
 use std::rt::{Env, Files};
 use std::{env, io};
 
 const USAGE: &str =
-    "usage: bidi check [--any] [FILE..]\n       bidi show [--base auto|ltr|rtl] [--width N] [--plain] [FILE..]";
+    "usage: bidi check [--any] [FILE..]\n       bidi show [--base auto|ltr|rtl] [--width N] [--plain] [FILE..]\n       bidi explain [--base auto|ltr|rtl] TEXT..";
 
 // The words after the program's name.
 fn arguments(rt: &(impl Env + AllocGlobal)) -> io::Result<Vec<String>> {
@@ -43,6 +49,7 @@ fn serve(rt: &(impl Env + Files + Input + Print + Eprint + AllocGlobal)) -> Stat
     };
     match Command::parse(words.as_slice()) {
         Some(Command::Check { any, files }) => answer_files(rt, Task::Check { any }, files.words()),
+        Some(Command::Explain { base, texts }) => answer_texts(rt, base, texts.words()),
         Some(Command::Show { view, files }) => answer_files(rt, Task::Show(view), files.words()),
         None => {
             let _ = eprintln!(rt; "bidi: {USAGE}");

@@ -1,7 +1,7 @@
 //! Reports of hand-made texts, and what words ask for.
 use crate::command::Command;
 use crate::control::Control;
-use crate::input::{InputFault, check_input, show_input};
+use crate::input::{InputFault, check_input, explain_text, show_input};
 use crate::view::View;
 use bidi_base::data_source::BidiDataSource;
 use bidi_terminal::Base;
@@ -182,6 +182,10 @@ fn words_ask_for_forms(rt: HostRuntime) -> Result<(), Fail> {
         ("show --width", None),
         ("show --width 1000", None),
         ("show --width -1", None),
+        ("explain abc", Some((false, 1))),
+        ("explain --base rtl a b", Some((true, 2))),
+        ("explain --base up a", None),
+        ("explain --all a", None),
         ("show --base", None),
         ("show --base sideways", None),
         ("show --plain --base rtl", Some((true, 0))),
@@ -196,6 +200,9 @@ fn words_ask_for_forms(rt: HostRuntime) -> Result<(), Fail> {
         let found = match Command::parse(words.as_slice()) {
             Some(Command::Check { any, files }) => Some((any, files.words().len())),
             Some(Command::Show { view, files }) => Some((view.plain, files.words().len())),
+            Some(Command::Explain { base, texts }) => {
+                Some((base == Base::Rtl, texts.words().len()))
+            }
             None => None,
         };
         assert_eq!(rt; found, wanted, "{line}");
@@ -204,7 +211,7 @@ fn words_ask_for_forms(rt: HostRuntime) -> Result<(), Fail> {
 }
 
 // A text, and its lines as they are shown, and plainly.
-const SHOWN: [(Base, &str, &str, &str); 8] = [
+const SHOWN: [(Base, &str, &str, &str); 13] = [
     (
         Base::Auto,
         "ab \u{5D0}\u{5D1}",
@@ -235,6 +242,42 @@ const SHOWN: [(Base, &str, &str, &str); 8] = [
         "\u{5D0}\u{301}\n",
     ),
     (Base::Auto, "", "", ""),
+    // Persian: its digits are EN, and AN behind the letters (W2).
+    (
+        Base::Auto,
+        "\u{633}\u{644}\u{627}\u{645} \u{6F1}\u{6F2}",
+        "\u{6F1}\u{6F2} \u{645}\u{627}\u{644}\u{633}\n",
+        "\u{6F1}\u{6F2} \u{645}\u{627}\u{644}\u{633}\n",
+    ),
+    // Syriac.
+    (
+        Base::Auto,
+        "\u{72B}\u{720}\u{721}\u{710}",
+        "\u{710}\u{721}\u{720}\u{72B}\n",
+        "\u{710}\u{721}\u{720}\u{72B}\n",
+    ),
+    // Emoji are neutral, and keep to the level of the line between two directions (N2).
+    (
+        Base::Auto,
+        "a \u{1F600} \u{5D1}",
+        "a \u{1F600} \u{5D1}\n",
+        "a \u{1F600} \u{5D1}\n",
+    ),
+    // An isolate from right to left, with letters from left to right first (X5a).
+    (
+        Base::Auto,
+        "x \u{2067}car \u{5D0}\u{5D1} \u{5D2}\u{2069}.",
+        "x \u{2067}\u{5D2} \u{5D1}\u{5D0} car\u{2069}.\n",
+        "x \u{2067}\u{5D2} \u{5D1}\u{5D0} car\u{2069}.\n",
+    ),
+    // An override turns letters that go from left to right (X4); what X9 removes stands by the level
+    // before it.
+    (
+        Base::Auto,
+        "x\u{202E}abc\u{202C}",
+        "x\u{202E}cba\u{202C}\n",
+        "x\u{202E}cba\u{202C}\n",
+    ),
 ];
 
 #[test]
@@ -289,6 +332,75 @@ fn lines_are_cut(rt: HostRuntime) {
         match show_input(rt.alloc(), view, text.as_bytes()) {
             Ok(shown) => assert_eq!(rt; shown.as_str(), wanted, "{text:?}"),
             Err(fault) => panic!(rt; "{text:?}: {fault:?}"),
+        }
+    }
+}
+
+// A base level, a text, and its tables, each row by the rule that it is named for.
+const EXPLAINED: [(Base, &str, &str); 2] = [
+    (
+        Base::Auto,
+        "a \u{5D0}\u{5D1}!",
+        "paragraph level 0\n\
+            index         \t0\t1\t2\t3\t4\n\
+            character     \ta\t\t\u{5D0}\t\u{5D1}\t!\n\
+            code point    \t0061\t0020\t05D0\t05D1\t0021\n\
+            class         \tL\tWS\tR\tR\tON\n\
+            after X       \tL\tWS\tR\tR\tON\n\
+            explicit level\t0\t0\t0\t0\t0\n\
+            after W       \tL\tWS\tR\tR\tON\n\
+            after N       \tL\tL\tR\tR\tL\n\
+            level         \t0\t0\t1\t1\t0\n\
+            level in line \t0\t0\t1\t1\t0\n\
+            visual place  \t0\t1\t3\t2\t4\n\
+            sequence sos L eos L: 0 1 2 3 4\n",
+    ),
+    // An FSI is resolved (X5c), a PDF is removed (X9), a mark takes the class before it (W1), and the
+    // space at the end the level of the paragraph (L1). An emoji has five digits.
+    (
+        Base::Rtl,
+        "\u{2068}\u{5D0}\u{5B8}\u{2069}\u{202C}\u{1F600} \n",
+        "paragraph level 1\n\
+            index         \t0\t1\t2\t3\t4\t5\t6\n\
+            character     \tFSI\t\u{5D0}\t\u{25CC}\u{5B8}\tPDI\tPDF\t\u{1F600}\t\n\
+            code point    \t2068\t05D0\t05B8\t2069\t202C\t1F600\t0020\n\
+            class         \tFSI\tR\tNSM\tPDI\tPDF\tON\tWS\n\
+            after X       \tRLI\tR\tNSM\tPDI\tPDF\tON\tWS\n\
+            explicit level\t1\t3\t3\t1\t1\t1\t1\n\
+            after W       \tRLI\tR\tR\tPDI\t-\tON\tWS\n\
+            after N       \tR\tR\tR\tR\t-\tR\tR\n\
+            level         \t1\t3\t3\t1\t1\t1\t1\n\
+            level in line \t1\t3\t3\t1\t1\t1\t1\n\
+            visual place  \t6\t5\t4\t3\t2\t1\t0\n\
+            sequence sos R eos R: 0 3 5 6\n\
+            sequence sos R eos R: 1 2\n",
+    ),
+];
+
+#[test]
+fn stages_are_explained(rt: HostRuntime) {
+    for (base, text, wanted) in EXPLAINED {
+        match explain_text(rt.alloc(), base, text) {
+            Ok(tables) => assert_eq!(rt; tables.as_str(), wanted, "{text:?}"),
+            Err(_) => panic!(rt; "{text:?}"),
+        }
+    }
+}
+
+// All digits of code points stand in one table.
+#[test]
+fn code_points_have_their_digits(rt: HostRuntime) {
+    for (text, wanted) in [
+        ("\u{9}", "0009"),
+        ("\u{ABCD}", "ABCD"),
+        ("\u{10FFFE}", "10FFFE"),
+    ] {
+        match explain_text(rt.alloc(), Base::Auto, text) {
+            Ok(tables) => {
+                let row = tables.as_str().contains(wanted);
+                assert!(rt; row, "{wanted}");
+            }
+            Err(_) => panic!(rt; "{wanted}"),
         }
     }
 }

@@ -29,7 +29,6 @@ command_of (form ∷ words) =
     else if bytes_eq form (codes "lines") then lines_named words
     else None
 
-
 -- the form reads the input
 abbrev pub reads_input : Option Command → Bool
 reads_input (Some (Show base view)) = true

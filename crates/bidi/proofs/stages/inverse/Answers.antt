@@ -1,0 +1,31 @@
+use Rattle.std.proofs.Common.{◌≢◌, ◌<◌, ℕ, length, get_or, arith, below_more, get_or-set_other, get_or-set_same}
+use Rattle.std.proofs.lemmas.List.{length-set}
+use Rattle.std.proofs.lemmas.List.Sorted.{All-permutation}
+use Rattle.bidi_base.specs.Places.{indexes}
+use Rattle.bidi_base.proofs.LayoutLemmas.{AreInverse-from_back}
+use Rattle.bidi_base.proofs.VisualOrderLemmas.{all_below}
+use Rattle.bidi_lines.proofs.Distinct.{distinct}
+use Rattle.bidi.proofs.stages.inverse.Goals as goal
+
+pub index_mut-requires : goal.index_mut-requires
+index_mut-requires c =
+    let below = All-permutation (λ (i : ℕ). i < length c.args.order.now) (indexes c.args.order.now) c.args.order.now c.requires (all_below c.args.order.now) c.loop-place.place 0 c.loop-place-test.true in
+    let long = c.loop-place.invariant.0 in
+    omega arith
+
+pub loop-place-preserved : goal.loop-place-preserved
+loop-place-preserved c =
+    let below = All-permutation (λ (i : ℕ). i < length c.args.order.now) (indexes c.args.order.now) c.args.order.now c.requires (all_below c.args.order.now) c.loop-place.place 0 c.loop-place-test.true in
+    let long = c.loop-place.invariant.0 in
+    let inside : get_or c.args.order.now c.loop-place.place 0 < length c.loop-place.places.items = omega arith in (
+      omega (arith, length-set c.loop-place.places.items (get_or c.args.order.now c.loop-place.place 0) c.loop-place.place),
+      below_more _ _
+          (λ k earlier.
+          let other : get_or c.args.order.now k 0 ≢ get_or c.args.order.now c.loop-place.place 0 = distinct (length c.args.order.now) c.args.order.now c.requires k c.loop-place.place 0 earlier c.loop-place-test.true in
+          rw get_or-set_other (c.loop-place.invariant.1 k earlier))
+          (rw get_or-set_same),
+    )
+
+pub returns : goal.returns
+returns c =
+    AreInverse-from_back c.args.order.now c.loop-place.places.items c.requires c.loop-place.invariant.0 (λ k within. c.loop-place.invariant.1 k (omega arith))

@@ -1,0 +1,97 @@
+use Rattle.std.proofs.Common.{◌≡◌, ◌∙◌, ℕ, List, Option, length, map, refl, ap, ap₂, subst, sym}
+use Rattle.std.specs.List.Sorted.{IsPermutation}
+use Rattle.std.specs.Prelude.{All}
+use Rattle.std.proofs.lemmas.List.{length-map}
+use Rattle.bidi_base.specs.declared.char_data.BidiClass.{BidiClass}
+use Rattle.bidi_base.specs.declared.data_source.BidiMatchedOpeningBracket.{BidiMatchedOpeningBracket}
+use Rattle.bidi_base.specs.Explicit.{explicit_levels, explicit_classes}
+use Rattle.bidi_base.specs.Isolates.{stored_classes}
+use Rattle.bidi_base.specs.Layout.{visual_places, AreInverse}
+use Rattle.bidi_base.specs.Line.{levels_of_line}
+use Rattle.bidi_base.specs.Order.{visual_order}
+use Rattle.bidi_base.specs.Places.{indexes}
+use Rattle.bidi_base.specs.Sequences.{RunSequence, sequences}
+use Rattle.bidi_base.specs.Source.{Source}
+use Rattle.bidi_base.proofs.ExplicitLemmas.{length-explicit_classes}
+use Rattle.bidi_base.proofs.LayoutLemmas.{own_indexes, visual_places-inverse}
+use Rattle.bidi_base.proofs.StoredSteps.{length-stored_classes}
+use Rattle.bidi.specs.Stages.{CanResolve, row_of, weak_in, neutral_in}
+use Rattle.bidi.proofs.SequencesLemmas.{can_resolve}
+use Rattle.bidi.proofs.stages.stages_of.Given.{Over}
+use Rattle.bidi.proofs.stages.stages_of.Goals as goal
+use Rattle.bidi.proofs.stages.stages_of.Goals.{After-as_slice-3}
+
+-- what the sequences are found in
+classes_are : (g : Over) (c : After-as_slice-3 g) → c.as_slice.result.now ≡ map (g.D.BidiDataSource.source c.args.data_source.now).class_of c.args.chars.now
+classes_are g c = c.as_slice.ensures.value ∙ c.in_ok-classes.ensures
+
+brackets_are : (g : Over) (c : After-as_slice-3 g) → c.as_slice-2.result.now ≡ map (g.D.BidiDataSource.source c.args.data_source.now).bracket_of c.args.chars.now
+brackets_are g c = c.as_slice-2.ensures.value ∙ c.in_ok-brackets.ensures
+
+explicit_classes_are : (g : Over) (c : After-as_slice-3 g) → c.classes.result.now ≡ explicit_classes c.args.level (stored_classes (map (g.D.BidiDataSource.source c.args.data_source.now).class_of c.args.chars.now))
+explicit_classes_are g c = c.classes.ensures ∙ c.in_ok-explicit.ensures.classes ∙ ap (explicit_classes c.args.level) c.requires.stored
+
+explicit_levels_are : (g : Over) (c : After-as_slice-3 g) → c.levels-2.result.now ≡ explicit_levels c.args.level (stored_classes (map (g.D.BidiDataSource.source c.args.data_source.now).class_of c.args.chars.now))
+explicit_levels_are g c = c.levels-2.ensures ∙ c.in_ok-explicit.ensures.levels ∙ ap (explicit_levels c.args.level) c.requires.stored
+
+sequences_are : (g : Over) (c : After-as_slice-3 g) → c.as_slice-3.result.now
+    ≡ sequences c.args.level (stored_classes (map (g.D.BidiDataSource.source c.args.data_source.now).class_of c.args.chars.now)) (explicit_levels c.args.level (stored_classes (map (g.D.BidiDataSource.source c.args.data_source.now).class_of c.args.chars.now)))
+sequences_are g c =
+    c.as_slice-3.ensures.value ∙ c.in_ok-sequences.ensures.given
+    ∙ ap₂ (λ (ks : List BidiClass) (ls : List ℕ). sequences c.args.level ks ls) c.requires.stored (c.levels.ensures ∙ c.in_ok-explicit.ensures.levels ∙ ap (explicit_levels c.args.level) c.requires.stored)
+
+pub resolve-requires : goal.resolve-requires
+resolve-requires g c =
+    let at : After-as_slice-3 g = (goal.at.resolve-requires g c).After-as_slice-3 in
+    let source : Source = g.D.BidiDataSource.source c.args.data_source.now in
+    let own : List BidiClass = map source.class_of c.args.chars.now in
+    let many : length (map source.bracket_of c.args.chars.now) ≡ length own = length-map c.args.chars.now source.bracket_of ∙ sym (length-map c.args.chars.now source.class_of) in
+    let found : List RunSequence = sequences c.args.level (stored_classes own) (explicit_levels c.args.level (stored_classes own)) in
+    let all : All (CanResolve own (map source.bracket_of c.args.chars.now) (explicit_classes c.args.level (stored_classes own)) (explicit_levels c.args.level (stored_classes own))) found =
+    λ k d within. can_resolve c.args.level own (map source.bracket_of c.args.chars.now) k d c.requires.low many within in
+    subst (λ (ss : List RunSequence). All (CanResolve c.as_slice.result.now c.as_slice-2.result.now c.classes.result.now c.levels-2.result.now) ss) (sym (sequences_are g at))
+    (subst (λ (ls : List ℕ). All (CanResolve c.as_slice.result.now c.as_slice-2.result.now c.classes.result.now ls) found) (sym (explicit_levels_are g at))
+    (subst (λ (ks : List BidiClass). All (CanResolve c.as_slice.result.now c.as_slice-2.result.now ks (explicit_levels c.args.level (stored_classes own))) found) (sym (explicit_classes_are g at))
+    (subst (λ (bs : List (Option BidiMatchedOpeningBracket)). All (CanResolve c.as_slice.result.now bs (explicit_classes c.args.level (stored_classes own)) (explicit_levels c.args.level (stored_classes own))) found) (sym (brackets_are g at))
+    (subst (λ (ks : List BidiClass). All (CanResolve ks (map source.bracket_of c.args.chars.now) (explicit_classes c.args.level (stored_classes own)) (explicit_levels c.args.level (stored_classes own))) found) (sym (classes_are g at)) all))))
+
+pub levels_of_line-requires-clause-same_len : goal.levels_of_line-requires-clause-same_len
+levels_of_line-requires-clause-same_len g c =
+    let source : Source = g.D.BidiDataSource.source c.args.data_source.now in
+    let own : List BidiClass = map source.class_of c.args.chars.now in
+    c.requires.levels ∙ sym (ap length c.requires.stored ∙ length-stored_classes own ∙ length-map c.args.chars.now source.class_of)
+
+pub inverse-requires : goal.inverse-requires
+inverse-requires g c =
+    subst (λ (order : List ℕ). IsPermutation (indexes order) order) (sym c.as_slice-5.ensures.value)
+    (own_indexes c.as_slice-4.result.now c.in_ok-order.order.items c.in_ok-order.ensures.visual)
+
+pub returns : goal.returns
+returns g c =
+    let at : After-as_slice-3 g = (goal.at.returns g c).After-as_slice-3 in
+    let source : Source = g.D.BidiDataSource.source c.args.data_source.now in
+    let own : List BidiClass = map source.class_of c.args.chars.now in
+    let many : length c.classes.result.now ≡ length c.args.chars.now =
+    ap length (explicit_classes_are g at) ∙ length-explicit_classes c.args.level (stored_classes own) ∙ length-stored_classes own ∙ length-map c.args.chars.now source.class_of in
+    let lines : c.in_ok-line_levels.line_levels.items ≡ levels_of_line c.args.level (stored_classes own) c.args.levels.now 0 (length c.args.chars.now) =
+    c.in_ok-line_levels.ensures ∙ ap (λ (ks : List BidiClass). levels_of_line c.args.level ks c.args.levels.now 0 (length c.args.chars.now)) c.requires.stored in
+    record {
+      level = refl;
+      classes = c.in_ok-classes.ensures;
+      explicit_levels = ap (λ e. e.levels) c.explicit.view_is ∙ c.in_ok-explicit.ensures.levels ∙ ap (explicit_levels c.args.level) c.requires.stored;
+      explicit_classes = ap (λ e. e.classes) c.explicit.view_is ∙ c.in_ok-explicit.ensures.classes ∙ ap (explicit_classes c.args.level) c.requires.stored;
+      sequences = sym c.as_slice-3.ensures.value ∙ sequences_are g at;
+      weak = c.in_ok-resolved.ensures.weak
+          ∙ ap₂ (λ (n : ℕ) (ss : List RunSequence). row_of (weak_in c.classes.result.now) n ss) many (sequences_are g at)
+          ∙ ap (λ (ks : List BidiClass). row_of (weak_in ks) (length c.args.chars.now) (sequences c.args.level (stored_classes own) (explicit_levels c.args.level (stored_classes own)))) (explicit_classes_are g at);
+      neutral = c.in_ok-resolved.ensures.neutral
+          ∙ ap₂ (λ (n : ℕ) (ss : List RunSequence). row_of (neutral_in c.as_slice.result.now c.as_slice-2.result.now c.levels-2.result.now c.classes.result.now) n ss) many (sequences_are g at)
+          ∙ ap₂ (λ (ls : List ℕ) (ks : List BidiClass). row_of (neutral_in c.as_slice.result.now c.as_slice-2.result.now ls ks) (length c.args.chars.now) (sequences c.args.level (stored_classes own) (explicit_levels c.args.level (stored_classes own)))) (explicit_levels_are g at) (explicit_classes_are g at)
+          ∙ ap₂ (λ (ks : List BidiClass) (bs : List (Option BidiMatchedOpeningBracket)). row_of (neutral_in ks bs (explicit_levels c.args.level (stored_classes own)) (explicit_classes c.args.level (stored_classes own))) (length c.args.chars.now) (sequences c.args.level (stored_classes own) (explicit_levels c.args.level (stored_classes own)))) (classes_are g at) (brackets_are g at);
+      levels = c.in_ok-from_slice.ensures.items;
+      line_levels = lines;
+      order = c.in_ok-order.ensures.order ∙ ap visual_order (c.as_slice-4.ensures.value ∙ lines);
+      places = visual_places-inverse c.as_slice-4.result.now c.in_ok-order.order.items c.in_ok-order.ensures.visual c.in_ok-places.places.items
+          (subst (λ (order : List ℕ). AreInverse order c.in_ok-places.places.items) c.as_slice-5.ensures.value c.in_ok-places.ensures)
+          ∙ ap visual_places (c.as_slice-4.ensures.value ∙ lines);
+    }
