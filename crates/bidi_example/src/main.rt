@@ -2,6 +2,7 @@
 #![tactic(auto)]
 
 mod callers;
+mod real;
 mod wrapped;
 
 use std::io;
@@ -50,5 +51,6 @@ fn main(rt: HostRuntime) -> io::Result<()> {
     };
     let text = "car (מכונית) 12\nאבג abc";
     let info = BidiInfo::new_with_data_source(rt.alloc(), &source, text, None)?;
-    print_lines(&rt, &info, &[0..4, 4..21, 22..32])
+    print_lines(&rt, &info, &[0..4, 4..21, 22..32])?;
+    real::print_shown(&rt, "car (מכונית) 12")
 }
