@@ -1,11 +1,93 @@
 //! The calls over texts of UTF-8.
 
+ghost use Rattle.std.specs.Prelude.{◌<◌};
+ghost use Rattle.bidi_base.specs.Analysed.{IsLineOf};
+ghost use Rattle.unicode_bidi.specs.BidiInfo.{analysed as analysed_of};
+ghost use Rattle.unicode_bidi.specs.ParagraphBidiInfo.{analysed as whole_of};
+
 use crate::texts::TEXT;
 use crate::trial::{Fault, tried};
 use bidi_base::data_source::TableBidiData;
 use bidi_base::text::{StrText, is_line};
+use std::ops::Range;
 use unicode_bidi::layout::{CharWidth, LineMap, lines};
 use unicode_bidi::{BidiInfo, InitialInfo, ParagraphBidiInfo, ParagraphInfo, SplitRule};
+
+// The levels of a text with a line after L1.
+fn try_levels(
+    rt: &(impl Print + AllocGlobal),
+    info: &BidiInfo<'_>,
+    para: &ParagraphInfo,
+    line: &Range<usize>,
+) -> Result<(), Fault>
+    requires line { IsLineOf (analysed_of info.now) line.now }
+{
+    let alloc = rt.alloc();
+    tried!(
+        rt,
+        "BidiInfo::reordered_levels",
+        info.reordered_levels(alloc, para, line.start..line.end)
+    );
+    tried!(
+        rt,
+        "BidiInfo::reordered_levels_per_char",
+        info.reordered_levels_per_char(alloc, para, line.start..line.end)
+    );
+    Ok(())
+}
+
+// A line from left to right.
+fn try_order(
+    rt: &(impl Print + AllocGlobal),
+    info: &BidiInfo<'_>,
+    para: &ParagraphInfo,
+    line: &Range<usize>,
+) -> Result<(), Fault>
+    requires line { IsLineOf (analysed_of info.now) line.now }
+    requires not_empty { line.now.start < line.now.end }
+{
+    let alloc = rt.alloc();
+    tried!(
+        rt,
+        "BidiInfo::reorder_line",
+        info.reorder_line(alloc, para, line.start..line.end)
+    );
+    tried!(
+        rt,
+        "BidiInfo::visual_runs",
+        info.visual_runs(alloc, para, line.start..line.end)
+    );
+    Ok(())
+}
+
+// What is told of a line alone.
+fn try_line_alone(
+    rt: &(impl Print + AllocGlobal),
+    info: &BidiInfo<'_>,
+    para: &ParagraphInfo,
+    line: &Range<usize>,
+) -> Result<(), Fault>
+    requires line { IsLineOf (analysed_of info.now) line.now }
+    requires not_empty { line.now.start < line.now.end }
+{
+    let alloc = rt.alloc();
+    tried!(
+        rt,
+        "BidiInfo::line_levels",
+        info.line_levels(alloc, para, line.start..line.end)
+    );
+    tried!(
+        rt,
+        "BidiInfo::line_runs",
+        info.line_runs(alloc, para, line.start..line.end)
+    );
+    tried!(
+        rt,
+        "LineMap::new",
+        LineMap::new(alloc, info, para, line.start..line.end)
+    );
+    Ok(())
+}
 
 // The line calls, of a paragraph as one line.
 fn try_line(
@@ -13,47 +95,13 @@ fn try_line(
     info: &BidiInfo<'_>,
     para: &ParagraphInfo,
 ) -> Result<(), Fault> {
-    let alloc = rt.alloc();
-    let (start, end) = (para.range().start, para.range().end);
-    if start >= end || !is_line(StrText::new(info.text()), &(start..end)) {
+    let line = para.range();
+    if line.start >= line.end || !is_line(StrText::new(info.text()), &line) {
         return Err(Fault::NoTrial("a line"));
     }
-    tried!(
-        rt,
-        "BidiInfo::reordered_levels",
-        info.reordered_levels(alloc, para, start..end)
-    );
-    tried!(
-        rt,
-        "BidiInfo::reordered_levels_per_char",
-        info.reordered_levels_per_char(alloc, para, start..end)
-    );
-    tried!(
-        rt,
-        "BidiInfo::reorder_line",
-        info.reorder_line(alloc, para, start..end)
-    );
-    tried!(
-        rt,
-        "BidiInfo::visual_runs",
-        info.visual_runs(alloc, para, start..end)
-    );
-    tried!(
-        rt,
-        "BidiInfo::line_levels",
-        info.line_levels(alloc, para, start..end)
-    );
-    tried!(
-        rt,
-        "BidiInfo::line_runs",
-        info.line_runs(alloc, para, start..end)
-    );
-    tried!(
-        rt,
-        "LineMap::new",
-        LineMap::new(alloc, info, para, start..end)
-    );
-    Ok(())
+    try_levels(rt, info, para, &line)?;
+    try_order(rt, info, para, &line)?;
+    try_line_alone(rt, info, para, &line)
 }
 
 // Each character as wide as a column.
@@ -84,51 +132,93 @@ fn try_lines(
     Ok(())
 }
 
+// The levels of a text that is one paragraph with a line after L1.
+fn try_whole_levels(
+    rt: &(impl Print + AllocGlobal),
+    info: &ParagraphBidiInfo<'_>,
+    line: &Range<usize>,
+) -> Result<(), Fault>
+    requires line { IsLineOf (whole_of info.now) line.now }
+{
+    let alloc = rt.alloc();
+    tried!(
+        rt,
+        "ParagraphBidiInfo::reordered_levels",
+        info.reordered_levels(alloc, line.start..line.end)
+    );
+    tried!(
+        rt,
+        "ParagraphBidiInfo::reordered_levels_per_char",
+        info.reordered_levels_per_char(alloc, line.start..line.end)
+    );
+    Ok(())
+}
+
+// A line of such a text from left to right.
+fn try_whole_order(
+    rt: &(impl Print + AllocGlobal),
+    info: &ParagraphBidiInfo<'_>,
+    line: &Range<usize>,
+) -> Result<(), Fault>
+    requires line { IsLineOf (whole_of info.now) line.now }
+    requires not_empty { line.now.start < line.now.end }
+{
+    let alloc = rt.alloc();
+    tried!(
+        rt,
+        "ParagraphBidiInfo::reorder_line",
+        info.reorder_line(alloc, line.start..line.end)
+    );
+    tried!(
+        rt,
+        "ParagraphBidiInfo::visual_runs",
+        info.visual_runs(alloc, line.start..line.end)
+    );
+    Ok(())
+}
+
+// What is told of a line of such a text alone.
+fn try_whole_line_alone(
+    rt: &(impl Print + AllocGlobal),
+    info: &ParagraphBidiInfo<'_>,
+    line: &Range<usize>,
+) -> Result<(), Fault>
+    requires line { IsLineOf (whole_of info.now) line.now }
+    requires not_empty { line.now.start < line.now.end }
+{
+    let alloc = rt.alloc();
+    tried!(
+        rt,
+        "ParagraphBidiInfo::line_levels",
+        info.line_levels(alloc, line.start..line.end)
+    );
+    tried!(
+        rt,
+        "ParagraphBidiInfo::line_runs",
+        info.line_runs(alloc, line.start..line.end)
+    );
+    Ok(())
+}
+
 // The line calls of a text that is one paragraph, as one line.
 fn try_whole_line(
     rt: &(impl Print + AllocGlobal),
     info: &ParagraphBidiInfo<'_>,
 ) -> Result<(), Fault> {
-    let alloc = rt.alloc();
-    let end = info.text().len();
-    if end == 0 || !is_line(StrText::new(info.text()), &(0..end)) {
+    let line = 0..info.text().len();
+    if line.end == 0 || !is_line(StrText::new(info.text()), &line) {
         return Err(Fault::NoTrial("a line"));
     }
-    tried!(
-        rt,
-        "ParagraphBidiInfo::reordered_levels",
-        info.reordered_levels(alloc, 0..end)
-    );
-    tried!(
-        rt,
-        "ParagraphBidiInfo::reordered_levels_per_char",
-        info.reordered_levels_per_char(alloc, 0..end)
-    );
-    tried!(
-        rt,
-        "ParagraphBidiInfo::reorder_line",
-        info.reorder_line(alloc, 0..end)
-    );
-    tried!(
-        rt,
-        "ParagraphBidiInfo::visual_runs",
-        info.visual_runs(alloc, 0..end)
-    );
-    tried!(
-        rt,
-        "ParagraphBidiInfo::line_levels",
-        info.line_levels(alloc, 0..end)
-    );
-    tried!(
-        rt,
-        "ParagraphBidiInfo::line_runs",
-        info.line_runs(alloc, 0..end)
-    );
-    Ok(())
+    try_whole_levels(rt, info, &line)?;
+    try_whole_order(rt, info, &line)?;
+    try_whole_line_alone(rt, info, &line)
 }
 
-/// Tries the constructors, the line calls and the order of a line.
-pub fn run(rt: &(impl Print + AllocGlobal), source: &TableBidiData<'_>) -> Result<(), Fault> {
+// The constructors of what is known of a text before its levels, and by a rule of one's own.
+fn try_other_constructors(
+    rt: &(impl Print + AllocGlobal),
+    source: &TableBidiData<'_>,
+) -> Result<(), Fault> {
     let alloc = rt.alloc();
     tried!(
         rt,
@@ -140,6 +230,12 @@ pub fn run(rt: &(impl Print + AllocGlobal), source: &TableBidiData<'_>) -> Resul
         "BidiInfo::new_with_rule",
         BidiInfo::new_with_rule(alloc, source, TEXT, None, SplitRule::CrLfTogether)
     );
+    Ok(())
+}
+
+// A text in paragraphs, the calls on its last one, and the order of a line.
+fn try_text(rt: &(impl Print + AllocGlobal), source: &TableBidiData<'_>) -> Result<(), Fault> {
+    let alloc = rt.alloc();
     let info = tried!(
         rt,
         "BidiInfo::new_with_data_source",
@@ -154,6 +250,12 @@ pub fn run(rt: &(impl Print + AllocGlobal), source: &TableBidiData<'_>) -> Resul
         "BidiInfo::reorder_visual",
         BidiInfo::reorder_visual(alloc, info.levels())
     );
+    Ok(())
+}
+
+// The same of a text that is one paragraph.
+fn try_paragraph(rt: &(impl Print + AllocGlobal), source: &TableBidiData<'_>) -> Result<(), Fault> {
+    let alloc = rt.alloc();
     let info = tried!(
         rt,
         "ParagraphBidiInfo::new_with_data_source",
@@ -166,4 +268,11 @@ pub fn run(rt: &(impl Print + AllocGlobal), source: &TableBidiData<'_>) -> Resul
         ParagraphBidiInfo::reorder_visual(alloc, info.levels())
     );
     Ok(())
+}
+
+/// Tries the constructors, the line calls and the order of a line.
+pub fn run(rt: &(impl Print + AllocGlobal), source: &TableBidiData<'_>) -> Result<(), Fault> {
+    try_other_constructors(rt, source)?;
+    try_text(rt, source)?;
+    try_paragraph(rt, source)
 }

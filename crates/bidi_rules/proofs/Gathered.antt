@@ -1,5 +1,5 @@
 -- The brackets of a sequence by the units at which they begin: as they are gathered, and that they pair as the definitions say.
-use Rattle.std.proofs.Common.{◌≡◌, ℕ, suc, ◌+◌, ◌<◌, false, List, [], ◌∷◌, ◌++◌, length, map, get_or, Option, Some, None, refl, sym, ap, subst, ◌∙◌, arith, append-nil, append_assoc, inl, inr}
+use Rattle.std.proofs.Common.{◌≡◌, ℕ, suc, ◌+◌, ◌<◌, false, List, [], ◌∷◌, ◌++◌, length, map, get_or, Option, Some, None, refl, sym, ap, subst, ◌∙◌, arith, append-nil, inl, inr}
 use Rattle.std.proofs.lemmas.Bool.{cases_Bool, cond-true, cond-false}
 use Rattle.std.proofs.lemmas.Grind.{flat_map-append}
 use Rattle.std.proofs.lemmas.List.{length-map}
@@ -12,7 +12,7 @@ use Rattle.bidi_base.specs.Classes.{is_kept_in_place}
 use Rattle.bidi_base.specs.FoundBrackets.{brackets_from, found_brackets, ArePairsOf}
 use Rattle.bidi_base.specs.Places.{at_places, class_at}
 use Rattle.bidi_base.specs.Source.{Source}
-use Rattle.bidi_base.specs.Text.{char_index, place}
+use Rattle.bidi_base.specs.Text.{place}
 use Rattle.bidi_base.specs.Units.{bounds, kept_in_place}
 use Rattle.bidi_base.proofs.BracketPlaces.{moved, bracket_pairs-moved}
 use Rattle.bidi_base.proofs.NestedPairs.{bracket_pairs-nested}
@@ -20,7 +20,6 @@ use Rattle.bidi_base.proofs.StoredLemmas.{length-at_places}
 use Rattle.bidi_base.proofs.TextLemmas.{HasUnits}
 use Rattle.bidi_rules.specs.NeutralPass.{kept_among, pairs_in, placed_bracket, placed_brackets, values_of, IsReady}
 use Rattle.bidi_rules.specs.PairWalk.{at_spots, spot}
-use Rattle.bidi_rules.proofs.KeptRuns.{kept_so_far, kept_so_far-step}
 use Rattle.bidi_rules.proofs.Spots.{length-values_of, spot-in, spot-rises}
 use Rattle.std.specs.declared.ops.Range.{Range}
 

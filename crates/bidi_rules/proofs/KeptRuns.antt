@@ -3,18 +3,18 @@ use Rattle.std.proofs.Common.{◌≡◌, ℕ, zero, suc, ◌+◌, ◌-◌, ◌<�
 use Rattle.std.specs.List.{range_with_len}
 use Rattle.std.proofs.lemmas.Bool.{cond-true, cond-false}
 use Rattle.std.proofs.lemmas.Grind.{flat_map-append}
-use Rattle.std.proofs.lemmas.List.{get_or-take, get_or-drop, get_or-map, length-take, length-drop, length-map, map-append, take_more, take-append-drop}
+use Rattle.std.proofs.lemmas.List.{get_or-map, length-map, map-append, take_more, take-append-drop}
 use Rattle.std.proofs.lemmas.List.Elements.{All-get_or, All-head, All-tail, filter-append}
 use Rattle.std.specs.declared.ops.Range.{Range}
 use Rattle.bidi_base.specs.declared.char_data.BidiClass.{BidiClass}
 use Rattle.bidi_base.specs.Classes.{is_kept_in_place}
 use Rattle.bidi_base.specs.Places.{at_places, between, class_at}
-use Rattle.bidi_base.specs.Text.{place, IsLine, char_index, subrange}
+use Rattle.bidi_base.specs.Text.{place, IsLine, char_index}
 use Rattle.bidi_base.specs.Units.{are_ordered, are_ordered_from, bounds, chars_in_runs, kept_in_place, AreLines}
 use Rattle.bidi_base.proofs.StoredLemmas.{at_places-append}
 use Rattle.bidi_base.proofs.TextLemmas.{HasUnits}
 use Rattle.bidi_base.proofs.PermutationLemmas.{Ascends, Ascends-filter, Ascends-lower, Ascends-range}
-use Rattle.bidi_base.proofs.PlaceLemmas.{CharTurn, char_index-le, line_places, place-le-back, place-slice_range, text_len-subrange}
+use Rattle.bidi_base.proofs.PlaceLemmas.{char_index-le, line_places, place-le-back}
 use Rattle.bidi_base.proofs.PlacesLemmas.{range_with_len-more}
 use Rattle.bidi_rules.specs.NeutralPass.{kept_among, values_of}
 use Rattle.bidi_rules.proofs.WalkLemmas.{are_ordered-front, map-take}
