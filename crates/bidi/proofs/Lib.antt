@@ -5,6 +5,7 @@ pub mod ListsLemmas
 pub mod OpenersLemmas
 pub mod ClosedOpeners
 pub mod OptionsLemmas
+pub mod PagesLemmas
 pub mod ParagraphLemmas
 pub mod SequencesLemmas
 pub mod ShownLemmas

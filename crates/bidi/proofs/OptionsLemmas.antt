@@ -9,7 +9,9 @@ use Rattle.std.proofs.lemmas.List.{take_all, length-drop}
 use Rattle.bidi_terminal.specs.Bases.{base_named}
 use Rattle.bidi_terminal.specs.Numbers.{number_of}
 use Rattle.bidi_terminal.specs.declared.base.Base.{Base}
-use Rattle.bidi.specs.Commands.{show_of}
+use Rattle.bidi.specs.Commands.{explain_of, show_of}
+use Rattle.bidi.specs.declared.view.Form.TheVariants.{Page}
+use Rattle.bidi.specs.declared.view.StageView.{StageView}
 use Rattle.bidi.specs.declared.view.View.{View}
 
 module _ {Z : Type 0} where
@@ -53,3 +55,24 @@ module _ {Z : Type 0} where
       ∙ cond-false (is_named w (codes "--base")) _ _ (subst (λ s. is_named s (codes "--base") ≡ false) is' another)
       ∙ cond-true (is_named w (codes "--width")) _ _ (subst (λ s. is_named s (codes "--width") ≡ true) is'' named)
       ∙ ap (option_and_then (λ n. show_of (record view { width = Some n }) (map string_bytes words))) (subst (λ s. number_of (string_bytes s) ≡ Some width) next number))
+
+  pub explain_of-html : (view : StageView) (words : List (String Z)) (first : String Z) → 1 ≤ length words → first ≡ get_or words 0 first → is_named first (codes "--html") ≡ true
+      → explain_of (record view { form = Page }) (map string_bytes (slice_range words 1 (length words))) ≡ explain_of view (map string_bytes words)
+  explain_of-html view [] first some is named = absurd (omega arith)
+  explain_of-html view (w ∷ []) first some is named =
+      ap (λ ws. explain_of (record view { form = Page }) (map string_bytes ws)) (rest-all 1 (w ∷ []))
+      ∙ sym (cond-true (is_named w (codes "--html")) _ _ (subst (λ s. is_named s (codes "--html") ≡ true) is named))
+  explain_of-html view (w ∷ v ∷ words) first some is named =
+      ap (λ ws. explain_of (record view { form = Page }) (map string_bytes ws)) (rest-all 1 (w ∷ v ∷ words))
+      ∙ sym (cond-true (is_named w (codes "--html")) _ _ (subst (λ s. is_named s (codes "--html") ≡ true) is named))
+
+  pub explain_of-base : (view : StageView) (words : List (String Z)) (first again second : String Z) (base : Base) → 2 ≤ length words → first ≡ get_or words 0 first → again ≡ get_or words 0 again
+      → second ≡ get_or words 1 second → is_named first (codes "--html") ≡ false → is_named again (codes "--base") ≡ true → base_named (string_bytes second) ≡ Some base
+      → explain_of (record view { base = base }) (map string_bytes (slice_range words 2 (length words))) ≡ explain_of view (map string_bytes words)
+  explain_of-base view [] first again second base some is is' next other named level = absurd (omega arith)
+  explain_of-base view (w ∷ []) first again second base some is is' next other named level = absurd (omega arith)
+  explain_of-base view (w ∷ v ∷ words) first again second base some is is' next other named level =
+      ap (λ ws. explain_of (record view { base = base }) (map string_bytes ws)) (rest-all 2 (w ∷ v ∷ words))
+      ∙ sym (cond-false (is_named w (codes "--html")) _ _ (subst (λ s. is_named s (codes "--html") ≡ false) is other)
+      ∙ cond-true (is_named w (codes "--base")) _ _ (subst (λ s. is_named s (codes "--base") ≡ true) is' named)
+      ∙ ap (option_and_then (λ b. explain_of (record view { base = b }) (map string_bytes words))) (subst (λ s. base_named (string_bytes s) ≡ Some base) next level))

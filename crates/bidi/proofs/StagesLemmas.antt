@@ -1,17 +1,26 @@
 -- The rows that sequences write.
-use Rattle.std.proofs.Common.{◌≡◌, ℕ, ◌+◌, ◌<◌, true, List, [], ◌∷◌, ◌++◌, Option, Some, length, get_or, zip, take, flat_map, refl, sym, ap, ◌∙◌, arith}
-use Rattle.std.specs.Prelude.{slice_set}
+use Rattle.std.proofs.Common.{◌≡◌, ℕ, ◌+◌, ◌-◌, ◌<◌, true, List, [], ◌∷◌, ◌++◌, Option, Some, length, get_or, map, zip, take, flat_map, refl, sym, ap, subst, ◌∙◌, arith}
+use Rattle.std.specs.Prelude.{slice_set, All}
 use Rattle.std.specs.List.{list_all}
-use Rattle.std.proofs.lemmas.List.{length-set, take_more, flat_map_more}
+use Rattle.std.proofs.lemmas.List.{length-set, length-map, take_more, flat_map_more}
+use Rattle.std.proofs.lemmas.List.Sorted.{All-permutation}
 use Rattle.bidi_base.specs.declared.char_data.BidiClass.{BidiClass}
 use Rattle.bidi_base.specs.declared.char_data.BidiClass.TheVariants.{L}
 use Rattle.bidi_base.specs.Classes.{is_kept, is_l_or_r, is_weak_resolved}
-use Rattle.bidi_base.specs.Places.{at_places, first_or}
+use Rattle.bidi_base.specs.Places.{indexes, at_places, first_or}
 use Rattle.bidi_base.specs.Sequences.{RunSequence}
 use Rattle.bidi_base.proofs.ResolvedLemmas.{length-weak_classes}
 use Rattle.bidi_base.proofs.StoredLemmas.{length-at_places}
 use Rattle.bidi_base.proofs.WeakLemmas.{weak_classes-resolved}
-use Rattle.bidi.specs.Stages.{written, weak_in}
+use Rattle.bidi_base.specs.Isolates.{stored_classes}
+use Rattle.bidi_base.specs.Order.{visual_order}
+use Rattle.bidi_base.specs.Source.{Source}
+use Rattle.bidi_base.proofs.StoredSteps.{length-stored_classes}
+use Rattle.bidi_base.proofs.VisualOrderLemmas.{all_below}
+use Rattle.bidi_lines.proofs.LineInText.{length-line}
+use Rattle.bidi_lines.proofs.Ordered.{visual_order-is}
+use Rattle.bidi.specs.Stages.{written, weak_in, own_line_levels, StagesFrom}
+use Rattle.bidi.specs.declared.stages.Stages.{Stages}
 
 pub written-append : (row : List (Option BidiClass)) (xs ys : List (ℕ × BidiClass)) → written row (xs ++ ys) ≡ written (written row xs) ys
 written-append row [] ys = refl
@@ -44,3 +53,24 @@ written-more f row old seqs i s d within is so_far =
     ∙ ap (λ (t : RunSequence). written old (flat_map entries (take i seqs) ++ entries t)) is
     ∙ ap (written old) (flat_map_more entries [] (take i seqs) (get_or seqs i d))
     ∙ ap (λ (ts : List RunSequence). written old (flat_map entries ts)) (sym (take_more seqs i d within))
+
+-- ---- what is shown of a paragraph
+
+-- the indexes of a line from left to right are its own
+order-below : (levels : List ℕ) → All (λ p. p < length levels) (visual_order levels)
+order-below levels = All-permutation (λ p. p < length levels) (indexes levels) (visual_order levels) (visual_order-is levels).all_indexes (all_below levels)
+
+module _ (source : Source) (chars : List ℕ) (paragraph : ℕ) (stored : List ℕ) (long : length stored ≡ length chars) (s : Stages) (from : StagesFrom source chars paragraph stored s) where
+  -- it has a class and a level in line for each character
+  pub classes-long : length s.classes.items ≡ length chars
+  classes-long = ap length from.classes ∙ length-map chars source.class_of
+
+  pub line_levels-long : length s.line_levels.items ≡ length chars
+  line_levels-long =
+      let many : length (stored_classes (map source.class_of chars)) ≡ length chars = length-stored_classes (map source.class_of chars) ∙ length-map chars source.class_of in
+      ap length from.line_levels ∙ length-line paragraph (stored_classes (map source.class_of chars)) stored 0 (length chars) (long ∙ sym many) (omega arith) (omega arith) ∙ (let all : length chars - 0 ≡ length chars = omega arith in all)
+
+  pub order-within : All (λ p. p < length chars) s.order.items
+  order-within =
+      subst (λ (order : List ℕ). All (λ p. p < length chars) order) (sym from.order)
+      (subst (λ (n : ℕ). All (λ p. p < n) (visual_order (own_line_levels source chars paragraph stored))) (ap length (sym from.line_levels) ∙ line_levels-long) (order-below (own_line_levels source chars paragraph stored)))

@@ -8,6 +8,8 @@ use Rattle.bidi_terminal.specs.Numbers.{number_of}
 use Rattle.bidi_terminal.specs.declared.base.Base.TheVariants.{Auto}
 use Rattle.bidi.specs.declared.command.Command.{Command}
 use Rattle.bidi.specs.declared.command.Command.TheVariants.{Check, Show, Explain}
+use Rattle.bidi.specs.declared.view.Form.TheVariants.{Table, Page}
+use Rattle.bidi.specs.declared.view.StageView.{StageView}
 use Rattle.bidi.specs.declared.view.View.{View}
 
 -- a word that begins as an option does
@@ -39,15 +41,21 @@ show_of view (word ∷ value ∷ words) =
     else if bytes_eq word (codes "--width") then option_and_then (λ width. show_of (record view { width = Some width }) words) (number_of value)
     else option_map (Show view) (file_words (word ∷ value ∷ words))
 
--- behind `explain`: `--base` with a base level, or none, and texts
-abbrev pub explain_of : List (List ℕ) → Option Command
-explain_of [] = option_map (Explain Auto) (file_words [])
-explain_of (word ∷ []) = option_map (Explain Auto) (file_words (word ∷ []))
-explain_of (word ∷ value ∷ words) =
-    if bytes_eq word (codes "--base") then option_and_then (λ base. option_map (Explain base) (file_words words)) (base_named value)
-    else option_map (Explain Auto) (file_words (word ∷ value ∷ words))
+-- what `explain` does without options
+abbrev pub first_stage_view : StageView
+first_stage_view = record { base = Auto; form = Table }
+
+-- behind `explain` and options that ask for this view: further options, in any order, and at least one text
+abbrev pub explain_of : StageView → List (List ℕ) → Option Command
+explain_of view [] = None
+explain_of view (word ∷ []) =
+    if bytes_eq word (codes "--html") then None else option_map (Explain view) (file_words (word ∷ []))
+explain_of view (word ∷ value ∷ words) =
+    if bytes_eq word (codes "--html") then explain_of (record view { form = Page }) (value ∷ words)
+    else if bytes_eq word (codes "--base") then option_and_then (λ base. explain_of (record view { base = base }) words) (base_named value)
+    else option_map (Explain view) (file_words (word ∷ value ∷ words))
 
 -- the form that words have, where they have one
 abbrev pub command_of : List (List ℕ) → Option Command
 command_of [] = None
-command_of (form ∷ words) = if bytes_eq form (codes "check") then check_of words else if bytes_eq form (codes "show") then show_of first_view words else if bytes_eq form (codes "explain") then explain_of words else None
+command_of (form ∷ words) = if bytes_eq form (codes "check") then check_of words else if bytes_eq form (codes "show") then show_of first_view words else if bytes_eq form (codes "explain") then explain_of first_stage_view words else None

@@ -6,6 +6,7 @@ pub mod Findings
 pub mod Inputs
 pub mod Matches
 pub mod OpenOpeners
+pub mod Pages
 pub mod Rows
 pub mod Shown
 pub mod Stages

@@ -4,10 +4,10 @@ use Rattle.std.specs.List.{range_with_len}
 use Rattle.bidi.specs.Cells.{class_name, option_name, glyph, hex}
 use Rattle.bidi.specs.declared.stages.Stages.{Stages}
 
-abbrev pub rows_from : List ℕ → Stages → List (List ℕ × List (List ℕ))
-rows_from chars s =
+-- those of the stages
+abbrev pub stage_rows : List ℕ → Stages → List (List ℕ × List (List ℕ))
+stage_rows chars s =
     (codes "index         ", map decimal (range_with_len 0 (length chars)))
-    ∷ (codes "character     ", map (λ e. glyph e.0 e.1) (zip s.classes.items chars))
     ∷ (codes "code point    ", map hex chars)
     ∷ (codes "class         ", map class_name s.classes.items)
     ∷ (codes "after X       ", map class_name s.explicit.classes)
@@ -18,3 +18,7 @@ rows_from chars s =
     ∷ (codes "level in line ", map decimal s.line_levels.items)
     ∷ (codes "visual place  ", map decimal s.places.items)
     ∷ []
+
+-- the characters above them
+abbrev pub rows_from : List ℕ → Stages → List (List ℕ × List (List ℕ))
+rows_from chars s = (codes "character     ", map (λ e. glyph e.0 e.1) (zip s.classes.items chars)) ∷ stage_rows chars s

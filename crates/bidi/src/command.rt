@@ -3,7 +3,7 @@ ghost use Rattle.std.specs.Prelude.{◌≡◌, map, string_bytes};
 ghost use Rattle.std.specs.List.{list_any};
 ghost use Rattle.bidi.specs.Commands.{is_option};
 
-use crate::view::View;
+use crate::view::{Form, StageView, View};
 use bidi_terminal::{Base, parse_number};
 use std::marker::Model;
 
@@ -60,11 +60,20 @@ impl<'w> FileWords<'w> {
 #[derive(Drop)]
 pub enum Command<'w> {
     /// `check [--any] [FILE..]`: the direction controls without a match on their line, or all.
-    Check { any: bool, files: FileWords<'w> },
-    /// `explain [--base auto|ltr|rtl] TEXT..`: what each stage makes of the characters.
-    Explain { base: Base, texts: FileWords<'w> },
+    Check {
+        any: bool,
+        files: FileWords<'w>,
+    },
+    /// `explain [--base auto|ltr|rtl] [--html] TEXT..`: what each stage makes of the characters.
+    Explain {
+        view: StageView,
+        texts: FileWords<'w>,
+    },
     /// `show [--base auto|ltr|rtl] [--width N] [--plain] [FILE..]`: the lines from left to right.
-    Show { view: View, files: FileWords<'w> },
+    Show {
+        view: View,
+        files: FileWords<'w>,
+    },
 }
 
 impl<'w> Command<'w> {
@@ -109,18 +118,28 @@ impl<'w> Command<'w> {
         }
     }
 
-    /// What words behind `explain` ask for.
-    fn parse_explain(words: &'w [String]) -> Option<Command<'w>>
-        ensures { result ≡ explain_of (map string_bytes words.now) }
+    /// What words behind `explain` ask for, where the options before them ask for this view.
+    fn parse_explain(view: StageView, words: &'w [String]) -> Option<Command<'w>>
+        ensures { result ≡ explain_of view (map string_bytes words.now) }
     {
-        let (base, words) = match words {
-            [option, base, rest @ ..] if option.as_str() == "--base" => {
-                (Base::parse(base.as_str())?, rest)
+        match words {
+            [] => None,
+            [option, rest @ ..] if option.as_str() == "--html" => {
+                let view = StageView {
+                    form: Form::Page,
+                    ..view
+                };
+                Command::parse_explain(view, rest)
             }
-            _ => (Base::Auto, words),
-        };
-        let texts = FileWords::parse(words)?;
-        Some(Command::Explain { base, texts })
+            [option, base, rest @ ..] if option.as_str() == "--base" => {
+                let base = Base::parse(base.as_str())?;
+                Command::parse_explain(StageView { base, ..view }, rest)
+            }
+            _ => {
+                let texts = FileWords::parse(words)?;
+                Some(Command::Explain { view, texts })
+            }
+        }
     }
 
     /// The form that the words have, where they have one. Options stand before the files, in any
@@ -133,7 +152,9 @@ impl<'w> Command<'w> {
             [form, rest @ ..] if form.as_str() == "show" => {
                 Command::parse_show(View::default(), rest)
             }
-            [form, rest @ ..] if form.as_str() == "explain" => Command::parse_explain(rest),
+            [form, rest @ ..] if form.as_str() == "explain" => {
+                Command::parse_explain(StageView::default(), rest)
+            }
             _ => None,
         }
     }

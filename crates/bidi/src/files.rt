@@ -1,8 +1,8 @@
 //! The files of a call: they are read and answered one after the other.
 use crate::input::{InputFault, check_input, explain_text, show_input};
+use crate::page;
 use crate::status::Status;
-use crate::view::View;
-use bidi_terminal::Base;
+use crate::view::{Form, StageView, View};
 use std::fs;
 use std::io::{self, ErrorKind, Read, Write};
 use std::rt::Files;
@@ -133,19 +133,44 @@ pub fn answer_files(
     status
 }
 
-/// Writes the tables of texts. What fails ends the run.
+// Writes what the rules make of each text.
+fn write_texts(
+    rt: &(impl Print + Eprint + AllocGlobal),
+    view: StageView,
+    texts: &[String],
+) -> Result<(), Status> {
+    for text in texts {
+        let Ok(told) = explain_text(rt.alloc(), view, text.as_str()) else {
+            return Err(end_without_memory(rt));
+        };
+        write_out(rt, told.as_str())?;
+    }
+    Ok(())
+}
+
+// The same as one page of HTML.
+fn write_page(
+    rt: &(impl Print + Eprint + AllocGlobal),
+    view: StageView,
+    texts: &[String],
+) -> Result<(), Status> {
+    write_out(rt, page::HEAD)?;
+    write_texts(rt, view, texts)?;
+    write_out(rt, page::FOOT)
+}
+
+/// Writes what the rules make of texts. What fails ends the run.
 pub fn answer_texts(
     rt: &(impl Print + Eprint + AllocGlobal),
-    base: Base,
+    view: StageView,
     texts: &[String],
 ) -> Status {
-    for text in texts {
-        let Ok(tables) = explain_text(rt.alloc(), base, text.as_str()) else {
-            return end_without_memory(rt);
-        };
-        if let Err(ended) = write_out(rt, tables.as_str()) {
-            return ended;
-        }
+    let written = match view.form {
+        Form::Table => write_texts(rt, view, texts),
+        Form::Page => write_page(rt, view, texts),
+    };
+    match written {
+        Ok(()) => Status::Clean,
+        Err(ended) => ended,
     }
-    Status::Clean
 }

@@ -1,10 +1,9 @@
 //! What becomes of an input.
 ghost use Rattle.std.specs.Prelude.{◌≡◌, ◌==◌, not, length, IfOk, IfErr, IsErrOf, string_bytes};
 ghost use Rattle.std.specs.Str.{chars, IsUtf8};
-ghost use Rattle.bidi_terminal.specs.Bases.{level_of_base};
 ghost use Rattle.bidi_unicode.specs.Unicode.{unicode_source};
 ghost use Rattle.bidi.specs.Findings.{findings_of, report_of};
-ghost use Rattle.bidi.specs.Explained.{AreTables};
+ghost use Rattle.bidi.specs.Explained.{AreTold};
 ghost use Rattle.bidi.specs.Inputs.{TellsInput};
 ghost use Rattle.bidi.specs.Shown.{shown_text};
 ghost use Rattle.bidi.specs.declared.input.InputFault.TheVariants.{Memory};
@@ -15,8 +14,7 @@ use crate::explain::explain;
 use crate::paragraphs::show;
 use crate::report::report;
 use crate::status::Status;
-use crate::view::View;
-use bidi_terminal::Base;
+use crate::view::{StageView, View};
 use bidi_unicode::UnicodeData;
 use std::alloc::{AllocError, Global};
 
@@ -113,11 +111,11 @@ pub fn show_input(alloc: Global, view: View, bytes: &[u8]) -> Result<String, Inp
     Ok(shown)
 }
 
-/// The tables of the lines of a text.
-pub fn explain_text(alloc: Global, base: Base, text: &str) -> Result<String, AllocError>
-    ensures { IfOk result (λ out. AreTables unicode_source (level_of_base base) (chars text.now) (string_bytes out)) }
+/// What the rules make of the lines of a text, as tables or as sections of a page.
+pub fn explain_text(alloc: Global, view: StageView, text: &str) -> Result<String, AllocError>
+    ensures { IfOk result (λ out. AreTold unicode_source view (chars text.now) (string_bytes out)) }
 {
     let chars = chars_of(alloc, text)?;
-    let tables = explain(alloc, &UnicodeData, base, chars.as_slice())?;
-    Ok(tables)
+    let told = explain(alloc, &UnicodeData, view, chars.as_slice())?;
+    Ok(told)
 }

@@ -15,6 +15,7 @@ mod finding;
 mod input;
 mod lines;
 mod openers;
+mod page;
 mod paragraphs;
 mod report;
 mod rows;
@@ -35,7 +36,7 @@ use std::rt::{Env, Files};
 use std::{env, io};
 
 const USAGE: &str =
-    "usage: bidi check [--any] [FILE..]\n       bidi show [--base auto|ltr|rtl] [--width N] [--plain] [FILE..]\n       bidi explain [--base auto|ltr|rtl] TEXT..";
+    "usage: bidi check [--any] [FILE..]\n       bidi show [--base auto|ltr|rtl] [--width N] [--plain] [FILE..]\n       bidi explain [--base auto|ltr|rtl] [--html] TEXT..";
 
 // The words after the program's name.
 fn arguments(rt: &(impl Env + AllocGlobal)) -> io::Result<Vec<String>> {
@@ -49,7 +50,7 @@ fn serve(rt: &(impl Env + Files + Input + Print + Eprint + AllocGlobal)) -> Stat
     };
     match Command::parse(words.as_slice()) {
         Some(Command::Check { any, files }) => answer_files(rt, Task::Check { any }, files.words()),
-        Some(Command::Explain { base, texts }) => answer_texts(rt, base, texts.words()),
+        Some(Command::Explain { view, texts }) => answer_texts(rt, view, texts.words()),
         Some(Command::Show { view, files }) => answer_files(rt, Task::Show(view), files.words()),
         None => {
             let _ = eprintln!(rt; "bidi: {USAGE}");

@@ -1,6 +1,6 @@
 //! The rows of a paragraph's stages.
 ghost use Rattle.std.specs.Prelude.{◌≡◌, length, map, vec_len, IfOk, string_bytes};
-ghost use Rattle.bidi.specs.Rows.{rows_from};
+ghost use Rattle.bidi.specs.Rows.{stage_rows, rows_from};
 
 use crate::cells::{
     class_cells, code_cells, glyph_cells, index_cells, level_cells, number_cells, option_cells,
@@ -31,13 +31,11 @@ fn labelled(label: &'static str, cells: Vec<String>) -> Row
     Row { label, cells }
 }
 
-/// The rows of a paragraph, from its characters and their stages.
-pub fn rows(alloc: Global, chars: &[char], stages: &Stages) -> Result<Vec<Row>, AllocError>
-    requires { vec_len stages.now.classes ≡ length chars.now }
-    ensures { IfOk result (λ v. v.items ≡ rows_from chars.now stages.now) }
+/// The rows of a paragraph's stages, from its characters.
+pub fn stage_rows(alloc: Global, chars: &[char], stages: &Stages) -> Result<Vec<Row>, AllocError>
+    ensures { IfOk result (λ v. v.items ≡ stage_rows chars.now stages.now) }
 {
     let indexes = index_cells(alloc, chars.len())?;
-    let glyphs = glyph_cells(alloc, stages.classes.as_slice(), chars)?;
     let codes = code_cells(alloc, chars)?;
     let classes = class_cells(alloc, stages.classes.as_slice())?;
     let explicit_classes = class_cells(alloc, stages.explicit.classes())?;
@@ -49,7 +47,6 @@ pub fn rows(alloc: Global, chars: &[char], stages: &Stages) -> Result<Vec<Row>, 
     let places = number_cells(alloc, stages.places.as_slice())?;
     let rows = vec![in alloc;
         labelled("index         ", indexes),
-        labelled("character     ", glyphs),
         labelled("code point    ", codes),
         labelled("class         ", classes),
         labelled("after X       ", explicit_classes),
@@ -60,5 +57,16 @@ pub fn rows(alloc: Global, chars: &[char], stages: &Stages) -> Result<Vec<Row>, 
         labelled("level in line ", line_levels),
         labelled("visual place  ", places),
     ]?;
+    Ok(rows)
+}
+
+/// The rows of a paragraph, from its characters and their stages: the characters, and the stages.
+pub fn rows(alloc: Global, chars: &[char], stages: &Stages) -> Result<Vec<Row>, AllocError>
+    requires { vec_len stages.now.classes ≡ length chars.now }
+    ensures { IfOk result (λ v. v.items ≡ rows_from chars.now stages.now) }
+{
+    let glyphs = glyph_cells(alloc, stages.classes.as_slice(), chars)?;
+    let mut rows = vec![in alloc; labelled("character     ", glyphs)]?;
+    rows.append(&mut stage_rows(alloc, chars, stages)?)?;
     Ok(rows)
 }

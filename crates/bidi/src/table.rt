@@ -97,7 +97,7 @@ fn push_rows(out: &mut String, rows: &[Row]) -> Result<(), AllocError>
 }
 
 /// Appends isolating run sequences.
-fn push_sequences(out: &mut String, sequences: &[PlainSequence]) -> Result<(), AllocError>
+pub fn push_sequences(out: &mut String, sequences: &[PlainSequence]) -> Result<(), AllocError>
     ensures { OnOk result (string_bytes out.new ≡ string_bytes out.old ++ flat_map sequence_text sequences.now) }
 {
     for sequence in sequences {
@@ -107,7 +107,7 @@ fn push_sequences(out: &mut String, sequences: &[PlainSequence]) -> Result<(), A
 }
 
 /// Appends the level of a paragraph.
-fn push_level(out: &mut String, level: usize) -> Result<(), AllocError>
+pub fn push_level(out: &mut String, level: usize) -> Result<(), AllocError>
     ensures { OnOk result (string_bytes out.new ≡ string_bytes out.old ++ level_text level) }
 {
     out.push_str("paragraph level ")?;

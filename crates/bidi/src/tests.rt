@@ -2,7 +2,7 @@
 use crate::command::Command;
 use crate::control::Control;
 use crate::input::{InputFault, check_input, explain_text, show_input};
-use crate::view::View;
+use crate::view::{Form, StageView, View};
 use bidi_base::data_source::BidiDataSource;
 use bidi_terminal::Base;
 use bidi_unicode::UnicodeData;
@@ -183,9 +183,16 @@ fn words_ask_for_forms(rt: HostRuntime) -> Result<(), Fail> {
         ("show --width 1000", None),
         ("show --width -1", None),
         ("explain abc", Some((false, 1))),
-        ("explain --base rtl a b", Some((true, 2))),
+        ("explain --base rtl a b", Some((false, 2))),
+        ("explain --html a", Some((true, 1))),
+        ("explain --html --base rtl a b", Some((true, 2))),
+        ("explain --base rtl --html a b c", Some((true, 3))),
+        ("explain", None),
+        ("explain --html", None),
+        ("explain --base rtl", None),
         ("explain --base up a", None),
         ("explain --all a", None),
+        ("explain a --html", None),
         ("show --base", None),
         ("show --base sideways", None),
         ("show --plain --base rtl", Some((true, 0))),
@@ -200,8 +207,8 @@ fn words_ask_for_forms(rt: HostRuntime) -> Result<(), Fail> {
         let found = match Command::parse(words.as_slice()) {
             Some(Command::Check { any, files }) => Some((any, files.words().len())),
             Some(Command::Show { view, files }) => Some((view.plain, files.words().len())),
-            Some(Command::Explain { base, texts }) => {
-                Some((base == Base::Rtl, texts.words().len()))
+            Some(Command::Explain { view, texts }) => {
+                Some((view.form == Form::Page, texts.words().len()))
             }
             None => None,
         };
@@ -342,8 +349,8 @@ const EXPLAINED: [(Base, &str, &str); 2] = [
         Base::Auto,
         "a \u{5D0}\u{5D1}!",
         "paragraph level 0\n\
-            index         \t0\t1\t2\t3\t4\n\
             character     \ta\t\t\u{5D0}\t\u{5D1}\t!\n\
+            index         \t0\t1\t2\t3\t4\n\
             code point    \t0061\t0020\t05D0\t05D1\t0021\n\
             class         \tL\tWS\tR\tR\tON\n\
             after X       \tL\tWS\tR\tR\tON\n\
@@ -361,8 +368,8 @@ const EXPLAINED: [(Base, &str, &str); 2] = [
         Base::Rtl,
         "\u{2068}\u{5D0}\u{5B8}\u{2069}\u{202C}\u{1F600} \n",
         "paragraph level 1\n\
-            index         \t0\t1\t2\t3\t4\t5\t6\n\
             character     \tFSI\t\u{5D0}\t\u{25CC}\u{5B8}\tPDI\tPDF\t\u{1F600}\t\n\
+            index         \t0\t1\t2\t3\t4\t5\t6\n\
             code point    \t2068\t05D0\t05B8\t2069\t202C\t1F600\t0020\n\
             class         \tFSI\tR\tNSM\tPDI\tPDF\tON\tWS\n\
             after X       \tRLI\tR\tNSM\tPDI\tPDF\tON\tWS\n\
@@ -380,10 +387,54 @@ const EXPLAINED: [(Base, &str, &str); 2] = [
 #[test]
 fn stages_are_explained(rt: HostRuntime) {
     for (base, text, wanted) in EXPLAINED {
-        match explain_text(rt.alloc(), base, text) {
+        let view = StageView {
+            base,
+            form: Form::Table,
+        };
+        match explain_text(rt.alloc(), view, text) {
             Ok(tables) => assert_eq!(rt; tables.as_str(), wanted, "{text:?}"),
             Err(_) => panic!(rt; "{text:?}"),
         }
+    }
+}
+
+// A text whose characters are references, and turned: its section of a page.
+#[test]
+fn stages_are_a_section_of_a_page(rt: HostRuntime) {
+    let view = StageView {
+        base: Base::Auto,
+        form: Form::Page,
+    };
+    let wanted = "<section>\n\
+        <pre>paragraph level 1\n\
+        sequence sos R eos R: 0 1 2\n\
+        </pre>\n\
+        <table>\n\
+        <tr><th>character</th><td class=\"rtl\" style=\"--level:1\">&lt;</td>\
+        <td class=\"rtl\" style=\"--level:1\">\u{5D0}</td>\
+        <td style=\"--level:2\">7</td></tr>\n\
+        <tr><th>index         </th><td>0</td><td>1</td><td>2</td></tr>\n\
+        <tr><th>code point    </th><td>003C</td><td>05D0</td><td>0037</td></tr>\n\
+        <tr><th>class         </th><td>ON</td><td>R</td><td>EN</td></tr>\n\
+        <tr><th>after X       </th><td>ON</td><td>R</td><td>EN</td></tr>\n\
+        <tr><th>explicit level</th><td>1</td><td>1</td><td>1</td></tr>\n\
+        <tr><th>after W       </th><td>ON</td><td>R</td><td>EN</td></tr>\n\
+        <tr><th>after N       </th><td>R</td><td>R</td><td>EN</td></tr>\n\
+        <tr><th>level         </th><td>1</td><td>1</td><td>2</td></tr>\n\
+        <tr><th>level in line </th><td>1</td><td>1</td><td>2</td></tr>\n\
+        <tr><th>visual place  </th><td>2</td><td>1</td><td>0</td></tr>\n\
+        <tr><th></th><td colspan=\"3\"><svg preserveAspectRatio=\"none\" viewBox=\"0 0 3 1\">\
+        <line x1=\"0\" y1=\"0\" x2=\"2\" y2=\"1\"/>\
+        <line x1=\"1\" y1=\"0\" x2=\"1\" y2=\"1\"/>\
+        <line x1=\"2\" y1=\"0\" x2=\"0\" y2=\"1\"/></svg></td></tr>\n\
+        <tr class=\"shown\"><th>as shown</th><td style=\"--level:2\">7</td>\
+        <td class=\"rtl\" style=\"--level:1\">\u{5D0}</td>\
+        <td class=\"rtl\" style=\"--level:1\">&lt;</td></tr>\n\
+        </table>\n\
+        </section>\n";
+    match explain_text(rt.alloc(), view, "<\u{5D0}7") {
+        Ok(section) => assert_eq!(rt; section.as_str(), wanted),
+        Err(_) => panic!(rt; "memory"),
     }
 }
 
@@ -395,7 +446,11 @@ fn code_points_have_their_digits(rt: HostRuntime) {
         ("\u{ABCD}", "ABCD"),
         ("\u{10FFFE}", "10FFFE"),
     ] {
-        match explain_text(rt.alloc(), Base::Auto, text) {
+        let view = StageView {
+            base: Base::Auto,
+            form: Form::Table,
+        };
+        match explain_text(rt.alloc(), view, text) {
             Ok(tables) => {
                 let row = tables.as_str().contains(wanted);
                 assert!(rt; row, "{wanted}");

@@ -1,0 +1,5 @@
+use Rattle.std.proofs.Common.{length}
+use Rattle.bidi.proofs.command.Command.+parse_explain.Given as goal
+
+abbrev pub decreases-parse_explain : goal.decreases-parse_explain
+decreases-parse_explain l = length l.words.now
