@@ -56,9 +56,9 @@ encoded c less greater = elim (cases_lt c 128) [
       | inr four ↦
           ap (list_all is_text_byte) (cond-false (ltb c 65536) _ _ (le-ltb c 65536 four))
           ∙ all_more (240 + c / 262144) ((128 + c / 4096 % 64) ∷ (128 + c / 64 % 64) ∷ (128 + c % 64) ∷ []) (high (240 + c / 262144) (omega arith)) (high_all (c / 4096 % 64) ((128 + c / 64 % 64) ∷ (128 + c % 64) ∷ []) two_last)
-      ]
     ]
   ]
+]
   where
     last : list_all is_text_byte ((128 + c % 64) ∷ []) ≡ true
     last = high_all (c % 64) [] refl

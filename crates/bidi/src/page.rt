@@ -28,7 +28,7 @@ pub const HEAD: &str = "<!DOCTYPE html>\n\
     td { width: 3.4rem; height: 1.5rem; padding: 0; text-align: center; }\n\
     td[style] { height: 2.6rem; font-size: 1.4rem; border: 1px solid #888; unicode-bidi: isolate;\n\
     background: hsl(calc(200 + var(--level) * 137) 75% 86%); }\n\
-    .shown .rtl { direction: rtl; unicode-bidi: isolate-override; }\n\
+    .shown .rtl { direction: rtl; }\n\
     svg { display: block; width: 100%; height: 6rem; }\n\
     line { stroke: #777; stroke-width: 1.5px; vector-effect: non-scaling-stroke; transform: translate(.5px, 0); }\n\
     </style>\n\

@@ -16,7 +16,7 @@ struct Row {
     any: &'static str,
 }
 
-const ROWS: [Row; 10] = [
+const ROWS: [Row; 11] = [
     Row {
         name: "an override and an isolate in a string, an isolate closed in a comment",
         text: "let a = \"x\u{202E}\u{2066}y\u{2069}\u{2066}z\";\n// fine \u{2067}\u{5D0}\u{2069}\nlet b;\n",
@@ -65,6 +65,13 @@ const ROWS: [Row; 10] = [
             f:4:2: U+200E LEFT-TO-RIGHT MARK is present\n\
             f:5:1: U+200F RIGHT-TO-LEFT MARK is present\n\
             f:6:1: U+061C ARABIC LETTER MARK is present\n",
+    },
+    Row {
+        name: "an example of L2, with both isolates closed",
+        text: "he said \"\u{2067}car \u{5D3}\u{5D4}\u{2069}.\"",
+        unmatched: "",
+        any: "f:1:10: U+2067 RIGHT-TO-LEFT ISOLATE is present\n\
+            f:1:17: U+2069 POP DIRECTIONAL ISOLATE is present\n",
     },
     Row {
         name: "a PDF closes the innermost",
@@ -218,7 +225,7 @@ fn words_ask_for_forms(rt: HostRuntime) -> Result<(), Fail> {
 }
 
 // A text, and its lines as they are shown, and plainly.
-const SHOWN: [(Base, &str, &str, &str); 13] = [
+const SHOWN: [(Base, &str, &str, &str); 17] = [
     (
         Base::Auto,
         "ab \u{5D0}\u{5D1}",
@@ -285,6 +292,32 @@ const SHOWN: [(Base, &str, &str, &str); 13] = [
         "x\u{202E}cba\u{202C}\n",
         "x\u{202E}cba\u{202C}\n",
     ),
+    // The examples of L2: where they have "car means CAR", capitals for letters from right to left, stand
+    // Hebrew letters.
+    (
+        Base::Auto,
+        "car means \u{5D0}\u{5D1}\u{5D2}.",
+        "car means \u{5D2}\u{5D1}\u{5D0}.\n",
+        "car means \u{5D2}\u{5D1}\u{5D0}.\n",
+    ),
+    (
+        Base::Auto,
+        "\u{2067}car \u{5D3}\u{5D4}\u{5D5}\u{5D6}\u{5D7} \u{5D0}\u{5D1}\u{5D2}.=\u{2069}",
+        "\u{2067}=.\u{5D2}\u{5D1}\u{5D0} \u{5D7}\u{5D6}\u{5D5}\u{5D4}\u{5D3} car\u{2069}\n",
+        "\u{2067}=.\u{5D2}\u{5D1}\u{5D0} \u{5D7}\u{5D6}\u{5D5}\u{5D4}\u{5D3} car\u{2069}\n",
+    ),
+    (
+        Base::Auto,
+        "he said \"\u{2067}car \u{5D3}\u{5D4} \u{5D0}\u{5D1}\u{2069}.\" \"\u{2067}\u{5D8}\u{5D9} \u{5DB}\u{5DC}\u{2069},\" she agreed.",
+        "he said \"\u{2067}\u{5D1}\u{5D0} \u{5D4}\u{5D3} car\u{2069}.\" \"\u{2067}\u{5DC}\u{5DB} \u{5D9}\u{5D8}\u{2069},\" she agreed.\n",
+        "he said \"\u{2067}\u{5D1}\u{5D0} \u{5D4}\u{5D3} car\u{2069}.\" \"\u{2067}\u{5DC}\u{5DB} \u{5D9}\u{5D8}\u{2069},\" she agreed.\n",
+    ),
+    (
+        Base::Auto,
+        "\u{5E1}\u{5E2} \u{5E4}\u{5E6} '\u{2066}he said \"\u{2067}car \u{5D3}\u{5D4} \u{5D0}\u{5D1}\u{2069}\"\u{2069}'?",
+        "?'\u{2069}he said \"\u{2067}\u{5D1}\u{5D0} \u{5D4}\u{5D3} car\u{2069}\"\u{2066}' \u{5E6}\u{5E4} \u{5E2}\u{5E1}\n",
+        "?'\u{2069}he said \"\u{2067}\u{5D1}\u{5D0} \u{5D4}\u{5D3} car\u{2069}\"\u{2066}' \u{5E6}\u{5E4} \u{5E2}\u{5E1}\n",
+    ),
 ];
 
 #[test]
@@ -344,7 +377,7 @@ fn lines_are_cut(rt: HostRuntime) {
 }
 
 // A base level, a text, and its tables, each row by the rule that it is named for.
-const EXPLAINED: [(Base, &str, &str); 2] = [
+const EXPLAINED: [(Base, &str, &str); 5] = [
     (
         Base::Auto,
         "a \u{5D0}\u{5D1}!",
@@ -381,6 +414,60 @@ const EXPLAINED: [(Base, &str, &str); 2] = [
             visual place  \t6\t5\t4\t3\t2\t1\t0\n\
             sequence sos R eos R: 0 3 5 6\n\
             sequence sos R eos R: 1 2\n",
+    ),
+    // Arabic: behind its letters EN is AN (W2), which counts as R inside brackets (N0).
+    (
+        Base::Auto,
+        "\u{627}(1)",
+        "paragraph level 1\n\
+            character     \t\u{627}\t(\t1\t)\n\
+            index         \t0\t1\t2\t3\n\
+            code point    \t0627\t0028\t0031\t0029\n\
+            class         \tAL\tON\tEN\tON\n\
+            after X       \tAL\tON\tEN\tON\n\
+            explicit level\t1\t1\t1\t1\n\
+            after W       \tR\tON\tAN\tON\n\
+            after N       \tR\tR\tAN\tR\n\
+            level         \t1\t1\t2\t1\n\
+            level in line \t1\t1\t2\t1\n\
+            visual place  \t3\t2\t1\t0\n\
+            sequence sos R eos R: 0 1 2 3\n",
+    ),
+    // Persian: before its letters its digits are EN.
+    (
+        Base::Auto,
+        "\u{6F1}\u{633}",
+        "paragraph level 1\n\
+            character     \t\u{6F1}\t\u{633}\n\
+            index         \t0\t1\n\
+            code point    \t06F1\t0633\n\
+            class         \tEN\tAL\n\
+            after X       \tEN\tAL\n\
+            explicit level\t1\t1\n\
+            after W       \tEN\tR\n\
+            after N       \tEN\tR\n\
+            level         \t2\t1\n\
+            level in line \t2\t1\n\
+            visual place  \t1\t0\n\
+            sequence sos R eos R: 0 1\n",
+    ),
+    // Syriac, a letter with a point.
+    (
+        Base::Auto,
+        "\u{72B}\u{730}",
+        "paragraph level 1\n\
+            character     \t\u{72B}\t\u{25CC}\u{730}\n\
+            index         \t0\t1\n\
+            code point    \t072B\t0730\n\
+            class         \tAL\tNSM\n\
+            after X       \tAL\tNSM\n\
+            explicit level\t1\t1\n\
+            after W       \tR\tR\n\
+            after N       \tR\tR\n\
+            level         \t1\t1\n\
+            level in line \t1\t1\n\
+            visual place  \t1\t0\n\
+            sequence sos R eos R: 0 1\n",
     ),
 ];
 
