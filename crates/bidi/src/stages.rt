@@ -1,8 +1,7 @@
 //! What the rules make of a paragraph, stage by stage.
-ghost use Rattle.std.specs.Prelude.{◌≡◌, ◌<◌, ◌≤◌, None, map, length, vec_len, zip, All, IfOk, IfSome, IsPermutation};
+ghost use Rattle.std.specs.Prelude.{◌≡◌, ◌<◌, ◌≤◌, None, map, length, vec_len, zip, All, IfOk, IfSome};
 ghost use Rattle.bidi_base.specs.Isolates.{stored_classes};
-ghost use Rattle.bidi_base.specs.Layout.{AreInverse};
-ghost use Rattle.bidi_base.specs.Places.{indexes, at_places, first_or};
+ghost use Rattle.bidi_base.specs.Places.{at_places, first_or};
 ghost use Rattle.bidi_base.specs.declared.char_data.BidiClass.TheVariants.{L};
 ghost use Rattle.bidi_base.specs.Sequences.{level_at};
 ghost use Rattle.bidi.specs.Stages.{weak_in, neutral_in, written, row_of, CanResolve, StagesFrom, AreStages};
@@ -13,7 +12,7 @@ use bidi_base::data_source::{BidiDataSource, BidiMatchedOpeningBracket};
 use bidi_base::level::{LTR_LEVEL, Level};
 use bidi_base::text::CharsText;
 use bidi_lines::line_levels::levels_of_line;
-use bidi_lines::visual_order::reorder_visual;
+use bidi_lines::visual_order::{inverse, reorder_visual};
 use bidi_plain::plain::{self, Explicit, PlainSequence};
 use std::alloc::{AllocError, Global};
 use unicode_bidi::{ParagraphInfo, engine};
@@ -181,18 +180,6 @@ fn resolve(
         weak: weak_row,
         neutral: neutral_row,
     })
-}
-
-/// The inverse of a list of indexes in which each stands once.
-fn inverse(alloc: Global, order: &[usize]) -> Result<Vec<usize>, AllocError>
-    requires { IsPermutation (indexes order.now) order.now }
-    ensures { IfOk result (λ v. AreInverse order.now v.items) }
-{
-    let mut places = vec![in alloc; 0; order.len()]?;
-    for (place, index) in order.iter().enumerate() {
-        places[*index] = place;
-    }
-    Ok(places)
 }
 
 /// The level of the first paragraph.

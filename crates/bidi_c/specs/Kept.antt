@@ -1,6 +1,7 @@
 -- What a call leaves in the buffers of its caller, and what it finds wrong.
 use Rattle.std.specs.Prelude.{ℕ, ◌==◌, ◌&&◌, nat_le, if◌then◌else◌, List, length, ◌++◌, drop, map, Option}
 use Rattle.std.specs.Option.{option_or}
+use Rattle.bidi_base.specs.Classes.{class_number}
 use Rattle.bidi_base.specs.Paragraphs.{ranges_from}
 use Rattle.bidi_base.specs.Source.{Source}
 use Rattle.bidi_base.specs.Stored.{text_classes, text_levels, paragraph_levels}
@@ -11,7 +12,7 @@ use Rattle.bidi_c.specs.declared.fault.Fault.{Fault}
 use Rattle.bidi_c.specs.declared.fault.Fault.TheVariants.{BadBaseLevel, BadSplit, NoRoom}
 use Rattle.bidi_c.specs.declared.rows.Paragraph.{Paragraph}
 use Rattle.bidi_c.specs.Faults.{fault_unless, has_room_or_none}
-use Rattle.bidi_c.specs.Numbers.{class_number, is_base, is_split}
+use Rattle.bidi_c.specs.Numbers.{is_base, is_split}
 use Rattle.bidi_c.specs.Rows.{paragraph_rows}
 
 -- a buffer in which an answer stands at the front

@@ -10,32 +10,6 @@ use Rattle.bidi_base.specs.Source.{Source}
 use Rattle.unicode_bidi.specs.declared.split_rule.SplitRule.{SplitRule}
 use Rattle.unicode_bidi.specs.declared.split_rule.SplitRule.TheVariants.{EachSeparator, CrLfTogether}
 
--- the number of a class
-abbrev pub class_number : BidiClass → ℕ
-class_number L = 0
-class_number R = 1
-class_number AL = 2
-class_number EN = 3
-class_number ES = 4
-class_number ET = 5
-class_number AN = 6
-class_number CS = 7
-class_number NSM = 8
-class_number BN = 9
-class_number B = 10
-class_number S = 11
-class_number WS = 12
-class_number ON = 13
-class_number LRE = 14
-class_number LRO = 15
-class_number RLE = 16
-class_number RLO = 17
-class_number PDF = 18
-class_number LRI = 19
-class_number RLI = 20
-class_number FSI = 21
-class_number PDI = 22
-
 -- the number stands for a class
 abbrev pub is_class : ℕ → Bool
 is_class n = nat_lt n 23

@@ -1,10 +1,11 @@
 //! The calls over a whole text, with every condition tested.
 ghost use Rattle.std.specs.Prelude.{◌≡◌, ◌<◌, ◌&&◌, nat_le, length, map, slice_index, IsTrue, OnOk, OnErr, IfOk};
+ghost use Rattle.bidi_base.specs.Classes.{class_number};
 ghost use Rattle.bidi_base.specs.Text.{text_len};
 ghost use Rattle.std.specs.Result.{result_err};
 ghost use Rattle.bidi_c.specs.Faults.{FaultsAs, fault_unless, has_room_or_none};
 ghost use Rattle.bidi_c.specs.Kept.{written, written_if_room, class_numbers, level_numbers, paragraphs_in, analysis_fault};
-ghost use Rattle.bidi_c.specs.Numbers.{class_number, base_of, split_of, direction_number, direction_in};
+ghost use Rattle.bidi_c.specs.Numbers.{base_of, split_of, direction_number, direction_in};
 ghost use Rattle.bidi_c.specs.Rows.{paragraph_row};
 ghost use Rattle.unicode_bidi.specs.ParagraphInfo.{range_of, level_of};
 

@@ -3,7 +3,8 @@ ghost use Rattle.std.specs.Prelude.{◌≡◌, ◌≤◌, ◌<◌, IfOk, length,
 ghost use Rattle.std.specs.List.{list_all};
 ghost use Rattle.std.specs.Result.{result_err};
 ghost use Rattle.bidi_c.specs.Faults.{fault_unless};
-ghost use Rattle.bidi_c.specs.Numbers.{class_number, class_numbered, is_class, base_of, is_base, split_of, is_split};
+ghost use Rattle.bidi_base.specs.Classes.{class_number};
+ghost use Rattle.bidi_c.specs.Numbers.{class_numbered, is_class, base_of, is_base, split_of, is_split};
 
 use crate::fault::{Fault, check};
 use std::alloc::{AllocError, Global};

@@ -10,6 +10,7 @@ use bidi_rows::{base_of, per_char};
 use std::process::Abort;
 use std::test::Fail;
 use unicode_bidi::SplitRule::{self, CrLfTogether, EachSeparator};
+use unicode_bidi::engine::analyse_with_rule;
 use unicode_bidi::{BidiInfo, ParagraphInfo, utf16};
 
 /// Where a paragraph begins and ends, in units, and its level.
@@ -84,6 +85,21 @@ fn check_row(
 ) -> Result<(), Fail> {
     let (text, base, rule, pieces, unit_pieces, levels) = row;
     let alloc = rt.alloc();
+    let found = analyse_with_rule(
+        alloc,
+        source,
+        StrText::new(text),
+        base_of(base)?,
+        Some(rule),
+    )?;
+    check_found(
+        rt,
+        StrText::new(text),
+        found.paragraphs(),
+        found.levels(),
+        pieces,
+        levels,
+    )?;
     let info = BidiInfo::new_with_rule(alloc, source, text, base_of(base)?, rule)?;
     check_found(
         rt,

@@ -5,6 +5,7 @@ ghost use Rattle.std.specs.List.{range_with_len};
 ghost use lib.Lanes.{chunk};
 ghost use lib.Count.{count_trailing_zeros};
 ghost use Rattle.bidi_lines.specs.Arranged.{IsArranged, AtLeast};
+ghost use Rattle.bidi_base.specs.Layout.{AreInverse};
 ghost use Rattle.bidi_base.specs.Levels.{has_rtl};
 ghost use Rattle.bidi_base.specs.Order.{visual_order, IsVisualOrder, order_by_reversals};
 ghost use Rattle.bidi_base.specs.Places.{indexes};
@@ -242,4 +243,17 @@ pub fn reorder_visual(alloc: Global, levels: &[Level]) -> Result<Vec<usize>, All
     let mut order = indexes_below(alloc, levels.len())?;
     put_in_visual_order(levels, order.as_mut_slice());
     Ok(order)
+}
+
+/// The inverse of a list of indexes in which each stands once: of a visual order the visual place of
+/// each index. It costs the list.
+pub fn inverse(alloc: Global, order: &[usize]) -> Result<Vec<usize>, AllocError>
+    requires { IsPermutation (indexes order.now) order.now }
+    ensures { IfOk result (λ v. AreInverse order.now v.items) }
+{
+    let mut places = vec![in alloc; 0; order.len()]?;
+    for (place, index) in order.iter().enumerate() {
+        places[*index] = place;
+    }
+    Ok(places)
 }

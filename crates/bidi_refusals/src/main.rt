@@ -2,6 +2,7 @@
 #![tactic(auto)]
 
 mod any_text;
+mod kept;
 mod lists;
 mod passes;
 mod texts;
@@ -45,6 +46,7 @@ fn run(rt: &(impl Env + Print + AllocGlobal)) -> Result<(), Fault> {
     utf8::run(rt, &source)?;
     utf16::run(rt, &source)?;
     any_text::run(rt, &source)?;
+    kept::run(rt, &source)?;
     lists::run(rt, &source)?;
     passes::run(rt, &source)?;
     println!(rt; "behind {}", request(rt.alloc(), 1))?;

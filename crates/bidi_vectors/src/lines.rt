@@ -1,13 +1,14 @@
 //! Lines: levels after L1, visual runs, and the text from left to right (L2).
 
-use bidi_base::char_data::Direction;
+use bidi_base::char_data::{BidiClass, Direction};
 use bidi_base::level::Level;
-use bidi_base::text::{StrText, is_line};
+use bidi_base::text::{StrText, is_line, is_per_char};
 use bidi_rows::{LineRow, base_of, per_char, same, sample};
 use std::alloc::Global;
 use std::borrow::CowStr;
 use std::ops::Range;
 use std::test::Fail;
+use unicode_bidi::kept_line::reorder_utf8;
 use unicode_bidi::{BidiInfo, Paragraph, ParagraphBidiInfo, ParagraphInfo};
 
 // What a line shows: the levels of all bytes and of all characters of its text, the line's runs, and
@@ -19,6 +20,45 @@ struct Shown {
     runs: Vec<Range<usize>>,
     text: String,
     is_borrowed: bool,
+}
+
+// A line from left to right, from its text, and the classes and levels of its bytes.
+fn kept_line<'t>(
+    alloc: Global,
+    text: &'t str,
+    classes: &[BidiClass],
+    levels: &[Level],
+    level: Level,
+) -> Result<CowStr<'t>, Fail> {
+    let line = StrText::new(text);
+    if !is_per_char(line, classes) || !is_per_char(line, levels) {
+        return Err(Fail::from("no values of characters"));
+    }
+    let classes = Vec::from_slice(alloc, classes)?;
+    let levels = Vec::from_slice(alloc, levels)?;
+    let shown = reorder_utf8(alloc, text, classes, levels, level)?;
+    Ok(shown)
+}
+
+// Whether a line of which the classes and the levels were kept is this text from left to right.
+fn is_kept_line(
+    alloc: Global,
+    info: &BidiInfo<'_>,
+    para: &ParagraphInfo,
+    line: (usize, usize),
+    shown: &CowStr<'_>,
+) -> Result<bool, Fail> {
+    let (start, end) = line;
+    let text = info.text().get(start..end);
+    let classes = info.original_classes().get(start..end);
+    let levels = info.levels().get(start..end);
+    match (text, classes, levels) {
+        (Some(text), Some(classes), Some(levels)) => {
+            let kept = kept_line(alloc, text, classes, levels, para.level())?;
+            Ok(kept == *shown)
+        }
+        _ => Ok(false),
+    }
 }
 
 impl Shown {
@@ -36,6 +76,9 @@ impl Shown {
         let units = info.reordered_levels(alloc, para, start..end)?;
         let characters = info.reordered_levels_per_char(alloc, para, start..end)?;
         let text = info.reorder_line(alloc, para, start..end)?;
+        if !is_kept_line(alloc, info, para, line, &text)? {
+            return Err(Fail::from("another text of a kept line"));
+        }
         let runs = info.line_runs(alloc, para, start..end)?;
         if start < end {
             let (levels, of_line) = info.visual_runs(alloc, para, start..end)?;

@@ -1,6 +1,6 @@
 //! The text of a line whose classes and levels the caller has kept, so that it costs the line alone.
 
-ghost use Rattle.std.specs.Prelude.{◌≡◌, ◌↔◌, IsTrue, IfOk, length, encode_utf8};
+ghost use Rattle.std.specs.Prelude.{◌≡◌, IsTrue, IfOk, length, encode_utf8};
 ghost use Rattle.std.specs.Char.{len_utf8};
 ghost use Rattle.std.specs.Char.Escape.{encode_utf16};
 ghost use Rattle.std.specs.Cow.{cow_slice_items, cow_str_bytes};

@@ -1,12 +1,11 @@
 //! Lines of given width, and the places of their characters on the screen, over UTF-8.
 
-ghost use Rattle.std.specs.Prelude.{◌≡◌, ℕ, ◌<◌, map, length, slice_get, IfOk, IfSome, All, Some, IsPermutation};
+ghost use Rattle.std.specs.Prelude.{◌≡◌, ℕ, ◌<◌, map, length, slice_get, IfOk, IfSome, All, Some};
 ghost use Rattle.bidi_base.specs.Analysed.{IsLineOf, line_levels_per_char};
 ghost use Rattle.bidi_base.specs.Display.{run_of};
 ghost use Rattle.bidi_base.specs.Layout.{line_length, line_ranges, visual_places, AreInverse};
 ghost use Rattle.bidi_base.specs.Order.{visual_order};
 ghost use Rattle.bidi_base.specs.Paragraphs.{IsPartition};
-ghost use Rattle.bidi_base.specs.Places.{indexes};
 ghost use Rattle.bidi_base.specs.Text.{place, per_char, text_len, IsLine};
 ghost use Rattle.unicode_bidi.specs.BidiInfo.{analysed as analysed_of};
 ghost use Rattle.unicode_bidi.specs.ParagraphInfo.{level_of, range_of};
@@ -16,6 +15,7 @@ use crate::utf8::BidiInfo;
 use bidi_base::level::Level;
 use bidi_base::text::{StrText, TextSource};
 use bidi_lines::line_levels::first_units;
+use bidi_lines::visual_order::inverse;
 use bidi_rules::prepare::LevelRun;
 use std::alloc::{AllocError, Global};
 use std::ops::Range;
@@ -113,18 +113,6 @@ fn char_levels(
     let text = StrText::new(info.text()).subrange(line.start..line.end);
     let levels = info.line_levels(alloc, para, line)?;
     Ok(first_units(text, levels))
-}
-
-// The inverse of a list of indexes in which each stands once.
-fn inverse(alloc: Global, order: &[usize]) -> Result<Vec<usize>, AllocError>
-    requires { IsPermutation (indexes order.now) order.now }
-    ensures { IfOk result (λ v. AreInverse order.now v.items) }
-{
-    let mut places = vec![in alloc; 0; order.len()]?;
-    for (place, index) in order.iter().enumerate() {
-        places[*index] = place;
-    }
-    Ok(places)
 }
 
 /// Where each character of a line stands on the screen, and which one stands at each place there, by

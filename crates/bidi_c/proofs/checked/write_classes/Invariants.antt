@@ -1,5 +1,5 @@
 use Rattle.std.proofs.Common.{◌≡◌, map, take}
-use Rattle.bidi_c.specs.Numbers.{class_number}
+use Rattle.bidi_base.specs.Classes.{class_number}
 use Rattle.bidi_c.proofs.checked.write_classes.Given as goal
 
 -- the numbers so far

@@ -5,7 +5,7 @@ use Rattle.bidi_base.specs.Places.{indexes}
 use Rattle.bidi_base.proofs.LayoutLemmas.{AreInverse-from_back}
 use Rattle.bidi_base.proofs.VisualOrderLemmas.{all_below}
 use Rattle.bidi_lines.proofs.Distinct.{distinct}
-use Rattle.unicode_bidi.proofs.layout.inverse.Goals as goal
+use Rattle.bidi_lines.proofs.visual_order.inverse.Goals as goal
 
 pub index_mut-requires : goal.index_mut-requires
 index_mut-requires c =
