@@ -40,11 +40,5 @@ module _ (source : Source) (base : Option ℕ) (chars : List ℕ) (classes : Lis
   unfolding paragraph_levels
   alone-level = ap (first_or 0) h.paragraph_levels
 
-  pub length-alone_classes : length classes ≡ length chars
-  length-alone_classes = ap length alone-classes ∙ length-stored_classes (map source.class_of chars) ∙ length-map chars source.class_of
-
   pub length-alone_levels : length levels ≡ length chars
   length-alone_levels = ap length alone-levels ∙ length-stored_levels source base chars
-
-  whole : {X : Type 0} (xs : List X) → length xs ≡ length chars → slice_range xs 0 (length chars) ≡ xs
-  whole xs long = take_all (length chars - 0) xs (omega arith)

@@ -38,11 +38,6 @@ pub weak_in-resolved : (classes : List BidiClass) (s : RunSequence) → is_l_or_
 unfolding weak_in
 weak_in-resolved classes s sos kept = weak_classes-resolved s.sos (at_places L classes s.places) sos kept
 
--- the first place of a sequence
-pub first_or-first : (ps : List ℕ) (d e : ℕ) → 0 < length ps → first_or d ps ≡ get_or ps 0 e
-first_or-first [] d e some = absurd (omega arith)
-first_or-first (p ∷ ps) d e some = refl
-
 -- one more sequence
 pub written-more : (f : RunSequence → List BidiClass) (row old : List (Option BidiClass)) (seqs : List RunSequence) (i : ℕ) (s d : RunSequence) → i < length seqs → s ≡ get_or seqs i d
     → row ≡ written old (flat_map (λ t. zip t.places (f t)) (take i seqs)) → written row (zip s.places (f s)) ≡ written old (flat_map (λ t. zip t.places (f t)) (take (i + 1) seqs))
@@ -61,10 +56,7 @@ order-below : (levels : List ℕ) → All (λ p. p < length levels) (visual_orde
 order-below levels = All-permutation (λ p. p < length levels) (indexes levels) (visual_order levels) (visual_order-is levels).all_indexes (all_below levels)
 
 module _ (source : Source) (chars : List ℕ) (paragraph : ℕ) (stored : List ℕ) (long : length stored ≡ length chars) (s : Stages) (from : StagesFrom source chars paragraph stored s) where
-  -- it has a class and a level in line for each character
-  pub classes-long : length s.classes.items ≡ length chars
-  classes-long = ap length from.classes ∙ length-map chars source.class_of
-
+  -- it has a level in line for each character
   pub line_levels-long : length s.line_levels.items ≡ length chars
   line_levels-long =
       let many : length (stored_classes (map source.class_of chars)) ≡ length chars = length-stored_classes (map source.class_of chars) ∙ length-map chars source.class_of in
