@@ -1,69 +1,14 @@
 //! The rules over lists of characters.
 
-ghost use Rattle.std.specs.Prelude.{◌≡◌};
-ghost use Rattle.std.specs.List.{list_all};
-ghost use Rattle.bidi_base.specs.Classes.{has_direction, is_kept, is_l_or_r, is_weak_resolved};
-
 use crate::texts::{CHARACTERS, LENGTH};
 use crate::trial::{Fault, tried};
-use bidi_base::char_data::BidiClass::{self, AN, B, EN, FSI, L, LRI, ON, PDI, R, RLI, S, WS};
-use bidi_base::classes::is_removed;
+use bidi_base::char_data::BidiClass::{self, L};
 use bidi_base::data_source::{BidiDataSource, BidiMatchedOpeningBracket, TableBidiData};
 use bidi_base::level::{LTR_LEVEL, Level};
 use bidi_plain::plain::{
     Explicit, PlainSequence, explicit_levels, implicit, neutral, pairs, sequences, weak,
 };
-
-// Whether a class may be sos or eos.
-fn is_side(class: BidiClass) -> bool
-    ensures { result ≡ is_l_or_r class }
-{
-    matches!(class, L | R)
-}
-
-fn is_kept_class(class: BidiClass) -> bool
-    ensures { result ≡ is_kept class }
-{
-    !is_removed(class)
-}
-
-// Whether X9 removes none of the classes.
-fn are_kept(classes: &[BidiClass]) -> bool
-    ensures { result ≡ list_all is_kept classes.now }
-{
-    classes.iter().all(|class| is_kept_class(*class))
-}
-
-/// Whether the weak types leave a class.
-pub fn is_left(class: BidiClass) -> bool
-    ensures { result ≡ is_weak_resolved class }
-{
-    matches!(
-        class,
-        L | R | EN | AN | B | S | WS | ON | LRI | RLI | FSI | PDI
-    )
-}
-
-// Whether the weak types leave all the classes.
-fn are_left(classes: &[BidiClass]) -> bool
-    ensures { result ≡ list_all is_weak_resolved classes.now }
-{
-    classes.iter().all(|class| is_left(*class))
-}
-
-// Whether the neutrals leave a class.
-fn is_directed(class: BidiClass) -> bool
-    ensures { result ≡ has_direction class }
-{
-    matches!(class, L | R | EN | AN)
-}
-
-// Whether the neutrals leave all the classes.
-fn are_directed(classes: &[BidiClass]) -> bool
-    ensures { result ≡ list_all has_direction classes.now }
-{
-    classes.iter().all(|class| is_directed(*class))
-}
+use bidi_rule_rows::conditions::{are_directed, are_kept, are_left, is_side};
 
 // The classes of characters, their classes under overrides, and their brackets.
 #[derive(Clone, Copy)]

@@ -1,17 +1,14 @@
 //! The passes in place, over the code units of one paragraph.
 
 ghost use Rattle.std.specs.Prelude.{◌≡◌, ◌≤◌, not, ◌||◌, length};
-ghost use Rattle.std.specs.List.{list_all, list_any};
-ghost use Rattle.bidi_base.specs.Classes.{is_initiator as is_initiator_of, is_kept_in_place, is_weak_resolved};
 
-use crate::lists::is_left;
 use crate::texts::{TEXT, WITHOUT_ISOLATES};
 use crate::trial::{Fault, NoAnswer, tried};
-use bidi_base::char_data::BidiClass::{self, BN, L};
-use bidi_base::classes::is_initiator;
+use bidi_base::char_data::BidiClass::{self, L};
 use bidi_base::data_source::TableBidiData;
 use bidi_base::level::{LTR_LEVEL, Level, RTL_LEVEL};
 use bidi_base::text::{StrText, is_per_char};
+use bidi_rule_rows::conditions::{are_left_or_removed, has_initiator};
 use bidi_rules::explicit::{compute, compute_counted};
 use bidi_rules::implicit::{NeutralResolver, resolve_levels, resolve_neutral, resolve_weak};
 use bidi_rules::prepare::{IsolatingRunSequence, LevelRunVec, Steps, isolating_run_sequences};
@@ -28,27 +25,6 @@ const ROOM: usize = 256;
 struct Units {
     levels: [Level; ROOM],
     classes: [BidiClass; ROOM],
-}
-
-// Whether some class is an isolate initiator.
-fn has_initiator(classes: &[BidiClass]) -> bool
-    ensures { result ≡ list_any is_initiator_of classes.now }
-{
-    classes.iter().any(|class| is_initiator(*class))
-}
-
-// Whether a unit may have a class: BN, or one that the weak types leave.
-fn is_left_or_removed(class: BidiClass) -> bool
-    ensures { result ≡ (is_weak_resolved class || not (is_kept_in_place class)) }
-{
-    is_left(class) || matches!(class, BN)
-}
-
-// Whether the weak types leave all the classes but BN.
-fn are_left_or_removed(classes: &[BidiClass]) -> bool
-    ensures { result ≡ list_all (λ c. is_weak_resolved c || not (is_kept_in_place c)) classes.now }
-{
-    classes.iter().all(|class| is_left_or_removed(*class))
 }
 
 // A text with its stored classes, one a unit, and whether one of them is an initiator.

@@ -2,14 +2,15 @@
 
 ghost use Rattle.std.specs.Prelude.{◌≡◌, ◌≤◌, length};
 
+use crate::equality::same;
 use crate::explicit_levels::{LEVELS, Prepared, UNITS, letters};
-use crate::units::{ends_of, per_unit, same, sequence_of};
 use crate::weak_types::{UNITS as WEAK_UNITS, resolve_units};
 use bidi_base::char_data::BidiClass::{
     self, BN, CS, EN, ES, ET, L, LRE, LRI, ON, PDF, PDI, R, RLE,
 };
 use bidi_base::level::Level;
 use bidi_base::text::{StrText, is_per_char};
+use bidi_rule_rows::units::{ends_of, per_unit, sequence_of};
 use bidi_rules::explicit::compute_counted;
 use bidi_rules::implicit::resolve_weak_counted;
 use bidi_rules::prepare::{IsolatingRunSequence, LevelRunVec, Steps};

@@ -2,8 +2,7 @@
 
 ghost use Rattle.std.specs.Prelude.{◌≡◌, ◌≤◌, length};
 
-use crate::conditions::has_initiator;
-use crate::units::{Sequence, ends_of, per_unit, same};
+use crate::equality::same;
 use bidi_base::char_data::BidiClass::{
     self, AL, AN, B, BN, CS, EN, ES, ET, FSI, L, LRE, LRI, LRO, NSM, ON, PDF, PDI, R, RLE, RLI,
     RLO, S, WS,
@@ -11,6 +10,8 @@ use bidi_base::char_data::BidiClass::{
 use bidi_base::level::Level;
 use bidi_base::text::{StrText, is_per_char};
 use bidi_plain::plain::{Explicit, PlainSequence, explicit_levels, sequences};
+use bidi_rule_rows::conditions::has_initiator;
+use bidi_rule_rows::units::{Sequence, ends_of, per_unit};
 use bidi_rules::explicit::compute;
 use bidi_rules::prepare::{
     IsolatingRunSequence, LevelRun, isolating_run_sequences, not_removed_by_x9, removed_by_x9,

@@ -1,9 +1,9 @@
 //! The implicit levels (I1, I2), over lists and in place.
 
-use crate::conditions::are_directed;
 use bidi_base::char_data::BidiClass::{self, AN, BN, EN, L, R};
 use bidi_base::level::Level;
 use bidi_plain::plain::implicit;
+use bidi_rule_rows::conditions::are_directed;
 use bidi_rules::implicit::resolve_levels;
 use std::test::Fail;
 

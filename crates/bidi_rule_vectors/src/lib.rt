@@ -2,18 +2,14 @@
 #![tactic(auto)]
 
 #[cfg(test)]
-mod conditions;
-#[cfg(test)]
 mod counted;
+#[cfg(test)]
+mod equality;
 #[cfg(test)]
 mod explicit_levels;
 #[cfg(test)]
 mod implicit_levels;
 #[cfg(test)]
-mod neutrals;
-#[cfg(test)]
 mod run_sequences;
-#[cfg(test)]
-mod units;
 #[cfg(test)]
 mod weak_types;

@@ -1,8 +1,8 @@
 //! Isolating run sequences, and the walks over their units.
 
-use crate::units::{Sequence, ends_of, sequence_of};
 use bidi_base::char_data::BidiClass::{self, AN, EN, L, R};
 use bidi_base::text::StrText;
+use bidi_rule_rows::units::{Sequence, ends_of, sequence_of};
 use bidi_rules::prepare::IsolatingRunSequence;
 use std::alloc::Global;
 use std::test::Fail;

@@ -1,10 +1,11 @@
 //! The weak types (W1 to W7), over lists and in place.
 
-use crate::conditions::{are_kept, is_side};
-use crate::units::{per_unit, same, sequence_of};
+use crate::equality::same;
 use bidi_base::char_data::BidiClass::{self, AL, AN, BN, CS, EN, ES, ET, L, LRI, NSM, ON, PDI, R};
 use bidi_base::text::{StrText, is_per_char};
 use bidi_plain::plain::weak;
+use bidi_rule_rows::conditions::{are_kept, is_side};
+use bidi_rule_rows::units::{per_unit, sequence_of};
 use bidi_rules::implicit::resolve_weak;
 use bidi_rules::prepare::IsolatingRunSequence;
 use std::alloc::Global;

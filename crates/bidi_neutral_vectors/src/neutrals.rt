@@ -1,15 +1,16 @@
 //! Bracket pairs (BD16), neutrals (N0 to N2) and what follows from them, over lists and in place.
 
-use crate::conditions::{are_directed, are_kept, are_left, are_left_or_removed, is_side};
-use crate::units::{Sequence, per_unit, same, sequence_of};
 use bidi_base::char_data::BidiClass::{
     self, AL, AN, BN, CS, EN, ES, ET, L, LRI, NSM, ON, PDF, R, RLE,
 };
 use bidi_base::data_source::{BidiDataSource, BidiMatchedOpeningBracket, TableBidiData};
 use bidi_base::level::Level;
-use bidi_base::sample;
+use bidi_base::sample::RANGES;
 use bidi_base::text::{StrText, is_per_char};
 use bidi_plain::plain::{implicit, neutral, pairs, weak};
+use bidi_rows::{same, sample};
+use bidi_rule_rows::conditions::{are_directed, are_kept, are_left, are_left_or_removed, is_side};
+use bidi_rule_rows::units::{Sequence, per_unit, sequence_of};
 use bidi_rules::implicit::{NeutralResolver, resolve_levels, resolve_neutral, resolve_weak};
 use bidi_rules::prepare::IsolatingRunSequence;
 use std::alloc::{AllocError, Global};
@@ -112,12 +113,6 @@ const UNITS: [UnitRow<'static>; 4] = [
     ("N0, N1: one resolver for many sequences", "\u{5D0}(a)!\u{5D1}", ')', &[(&[(0, 3), (4, 5)], L, L), (&[(3, 4)], R, R), (&[(5, 8)], R, L)], &[0; 6],
         &[R, ON, L, ON, ON, R], &[R, ON, L, ON, ON, R], &[R, L, L, L, R, R]),
 ];
-
-fn sample() -> Result<TableBidiData<'static>, Fail> {
-    TableBidiData::new(&sample::RANGES, &sample::BRACKETS).map_err(|_| Fail::from(
-        "the sample is faultless",
-    ))
-}
 
 // The brackets of a text, one entry a character.
 fn brackets_of(
@@ -284,7 +279,7 @@ fn check_in_place(
             &mut units,
             is_by_one,
         )?;
-        same(rt, name, units.classes.as_slice(), wanted.as_slice());
+        same(name, units.classes.as_slice(), wanted.as_slice())?;
     }
     Ok(())
 }
@@ -309,7 +304,7 @@ fn pairs_of_lists(rt: HostRuntime) -> Result<(), Fail> {
         assert!(rt; brackets.len() == classes.len());
         assert!(rt; are_left(classes));
         let found = pairs(rt.alloc(), classes, brackets.as_slice())?;
-        same(&rt, name, found.as_slice(), wanted);
+        same(name, found.as_slice(), wanted)?;
     }
     Ok(())
 }
@@ -351,7 +346,7 @@ fn lists(rt: HostRuntime) -> Result<(), Fail> {
             brackets.as_slice(),
             classes,
         )?;
-        same(&rt, name, answer.as_slice(), wanted);
+        same(name, answer.as_slice(), wanted)?;
         let whole = [(0, text.len())];
         let sequences = [(whole.as_slice(), sos, eos)];
         let levels = vec![in rt.alloc(); 0; classes.len()]?;
@@ -390,11 +385,10 @@ fn levels_of_lists(rt: HostRuntime) -> Result<(), Fail> {
         assert!(rt; are_directed(answer.as_slice()));
         let levels = implicit(rt.alloc(), level, answer.as_slice())?;
         same(
-            &rt,
             name,
             levels.as_slice(),
             Level::vec(rt.alloc(), wanted)?.as_slice(),
-        );
+        )?;
     }
     Ok(())
 }
@@ -403,7 +397,7 @@ fn levels_of_lists(rt: HostRuntime) -> Result<(), Fail> {
 fn units(rt: HostRuntime) -> Result<(), Fail> {
     for row in UNITS {
         let brackets = [('(', row.2, None)];
-        let Ok(source) = TableBidiData::new(&sample::RANGES, &brackets) else {
+        let Ok(source) = TableBidiData::new(&RANGES, &brackets) else {
             return Err(Fail::from("the sample is faultless"));
         };
         check_in_place(&rt, row, &source)?;

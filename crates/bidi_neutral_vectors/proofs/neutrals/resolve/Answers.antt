@@ -11,7 +11,7 @@ use Rattle.bidi_base.specs.Places.{at_places, class_at}
 use Rattle.bidi_base.specs.Text.{place}
 use Rattle.bidi_base.specs.Units.{kept_in_place}
 use Rattle.bidi_base.proofs.ContextLemmas.{list_all-get_or}
-use Rattle.bidi_rule_vectors.proofs.neutrals.resolve.Goals as goal
+use Rattle.bidi_neutral_vectors.proofs.neutrals.resolve.Goals as goal
 
 abbrev taken : BidiClass → Bool
 taken c = is_weak_resolved c || not (is_kept_in_place c)

@@ -22,8 +22,8 @@ pub fn are_kept(classes: &[BidiClass]) -> bool
     classes.iter().all(|class| not_removed_by_x9(class))
 }
 
-// Whether the weak types leave a class.
-fn is_left(class: BidiClass) -> bool
+/// Whether the weak types leave a class.
+pub fn is_left(class: BidiClass) -> bool
     ensures { result ≡ is_weak_resolved class }
 {
     matches!(

@@ -1,11 +1,9 @@
-//! What rows of every pass ask: lists over the units of a text, and sequences of runs.
+//! Lists over the units of a text, and sequences of runs.
 
 use bidi_base::char_data::BidiClass;
 use bidi_base::text::TextSource;
 use bidi_rules::prepare::{IsolatingRunSequence, LevelRun};
 use std::alloc::Global;
-use std::fmt::Debug;
-use std::process::Abort;
 use std::test::Fail;
 
 /// The start and the end of each run of a sequence, its sos and its eos.
@@ -48,9 +46,4 @@ pub fn ends_of(alloc: Global, runs: &[LevelRun]) -> Result<Vec<(usize, usize)>, 
         ends.push((run.start, run.end))?;
     }
     Ok(ends)
-}
-
-/// Sees that a list is the wanted one, of the row with this name.
-pub fn same<X: PartialEq + Debug>(rt: &impl Abort, name: &str, found: &[X], wanted: &[X]) {
-    assert_eq!(rt; found, wanted, "{name}");
 }
