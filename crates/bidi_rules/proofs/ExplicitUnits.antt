@@ -21,8 +21,8 @@ use Rattle.bidi_base.specs.contracts.char_data.BidiClassPartialEq.TheImpl.{ghost
 use Rattle.bidi_base.proofs.PerCharTests.{class_test, level_eq, level_test}
 use Rattle.bidi_base.proofs.StatusMachine.{answer_level-explicit_level, answer_class-explicit_class}
 use Rattle.bidi_base.proofs.StatusBounds.{state_at-more, state_at-IsPoppable, closed-IsWithinDepth, closed-counted}
-use Rattle.bidi_rules.specs.ExplicitPass.{filled, runs_before, run_start}
-use Rattle.bidi_rules.proofs.RunCutting.{IsCutTo, IsCutTo-start, IsCutTo-removed, IsCutTo-kept}
+use Rattle.bidi_rules.specs.ExplicitPass.{IsCutTo, filled, runs_before, run_start}
+use Rattle.bidi_rules.proofs.RunCutting.{IsCutTo-start, IsCutTo-removed, IsCutTo-kept}
 
 processing_class-is : (paragraph : ℕ) (classes : List BidiClass) (k : ℕ) → k < length classes
     → (if is_removed (class_at classes k) then BN else if is_paragraph_separator (class_at classes k) || is_removed (class_at classes k) then class_at classes k else unwrap_or (closed (class_at classes k) (state_at paragraph classes k)).top.status.override (class_at classes k))
