@@ -14,7 +14,7 @@ use Rattle.bidi_base.specs.StatusMachine.{Entry, State, start, closed, opened, s
 use Rattle.bidi_base.specs.Text.{is_boundary, place, text_len, per_char, per_unit, IsPerChar}
 use Rattle.bidi_base.proofs.ExplicitLemmas.{length-explicit_levels, length-processing_classes, level_at-explicit_levels, class_at-processing_classes}
 use Rattle.bidi_base.proofs.PerUnit.{length-per_char, get_or-per_unit}
-use Rattle.bidi_base.proofs.PlaceLemmas.{is_boundary-place, place-end, place-le-back, place-lt, place-mono, place-more, UnitOf, unit_of}
+use Rattle.bidi_base.proofs.PlaceLemmas.{is_boundary-place, place-end, place-le, place-lt, place-mono, place-more, UnitOf, unit_of}
 use Rattle.bidi_base.proofs.StatusBounds.{state_at-more, state_at-IsPoppable, closed-IsWithinDepth, closed-counted}
 use Rattle.bidi_base.proofs.StatusMachine.{answer_level-explicit_level}
 use Rattle.bidi_base.proofs.TextLemmas.{HasUnits, length-le-text_len}
@@ -22,7 +22,7 @@ use Rattle.bidi_base.proofs.UnitsLemmas.{length-from_IsPerChar, per_unit-from_Is
 use Rattle.bidi_rules.specs.ExplicitPass.{IsCutTo, filled, differs, runs_before, run_start}
 use Rattle.bidi_rules.specs.ExplicitStretches.{is_control, put_over, overridden, IsOverridden, Paragraph, stored, levels_of, classes_of, IsReadTo}
 use Rattle.bidi_rules.specs.declared.explicit.stretches.OpenRun.{OpenRun}
-use Rattle.bidi_rules.proofs.ExplicitUnits.{length-filled, processing_class-is, level_at as level_of_next, put_at, next_at}
+use Rattle.bidi_rules.proofs.ExplicitUnits.{CanRead, can_read, length-filled, processing_class-is, level_at as level_of_next, put_at, next_at}
 use Rattle.bidi_rules.proofs.RunCutting.{IsCutTo-removed, IsCutTo-kept}
 use Rattle.bidi_rules.proofs.StackLemmas.{closed-other, opened-other}
 
@@ -381,3 +381,94 @@ module _ (p : Paragraph) (from to : ℕ) (stack : State) (levels : List ℕ) (cl
         stretch-read level override now_levels now_classes now_runs now level_is override_is filled_is over
         (subst (λ (r : OpenRun). IsCut end.index now_runs r.start r.last_level) (sym now_is)
         (subst (λ (rs : List (ℕ × ℕ)). IsCut end.index rs (run_start run.last_level level run.start v) (Some level)) (sym runs_is) (cut-some v level level_is first inside)))
+
+-- ---- a control is read
+
+module _ (p : Paragraph) (at : ℕ) (stack : State) (levels : List ℕ) (classes : List BidiClass) (runs : List (ℕ × ℕ)) (run : OpenRun) (h : IsReadTo p at stack levels classes runs run) (inside : at < length p.original) where
+  control-fits : h.index < length p.chars
+  control-fits = elim (cases_lt h.index (length p.chars)) [
+    | inl fits ↦ fits
+    | inr past ↦ absurd (omega (arith, h.begins, place-end p.len_of p.chars h.index past, original_long p h.has_units h.per_char))
+  ]
+
+  control-class : class_at p.original at ≡ class_at (stored p) h.index
+  control-class = ap (class_at p.original) h.begins ∙ class-at_place p h.has_units h.per_char h.index control-fits
+
+  pub control-can : p.level ≤ 125 → length p.original < 2 ^ 64 → CanRead p.len_of p.chars p.level (stored p) (class_at p.original at) stack
+  control-can low few =
+      can_read p.len_of p.chars p.level (stored p) h.index stack (class_at p.original at) low (omega (arith, control-fits, stored_long p h.has_units h.per_char))
+      (omega (arith, stored_long p h.has_units h.per_char, length-le-text_len p.len_of h.has_units p.chars, original_long p h.has_units h.per_char)) control-class h.machine
+
+  pub control-begins : is_boundary p.len_of p.chars at ≡ true
+  control-begins = ap (is_boundary p.len_of p.chars) h.begins ∙ is_boundary-place p.len_of p.chars h.index
+
+  -- where it ends
+  abbrev pub Ends : ℕ → Type 0
+  Ends next = (k : ℕ) → k < length p.chars → at ≡ place p.len_of p.chars k → next ≡ place p.len_of p.chars (k + 1)
+
+  pub control-some : (next : ℕ) → Ends next → at < next
+  control-some next ends = omega (arith, ends h.index control-fits h.begins, h.begins, place-lt p.len_of p.chars h.has_units h.index (h.index + 1) (omega arith) control-fits)
+
+  module _ (next : ℕ) (ends : Ends next) (now : State) (status : Entry) (level : ℕ) (put : BidiClass) (now_is : now ≡ step (class_at p.original at) stack) (status_is : status ≡ (closed (class_at p.original at) stack).top)
+      (level_is : level ≡ (if is_paragraph_separator (class_at p.original at) then p.level else status.status.level))
+      (put_is : put ≡ (if is_removed (class_at p.original at) then BN else if is_paragraph_separator (class_at p.original at) || is_removed (class_at p.original at) then class_at p.original at else unwrap_or status.status.override (class_at p.original at)))
+      (now_levels : List ℕ) (now_classes : List BidiClass) (levels_are : now_levels ≡ filled at (next - at) level levels) (classes_are : now_classes ≡ filled at (next - at) put classes) where
+    within : h.index < length (stored p)
+    within = omega (arith, control-fits, stored_long p h.has_units h.per_char)
+
+    level-at_control : level ≡ get_or (levels_of p) h.index 0
+    level-at_control = level_of_next p.len_of p.chars p.level (stored p) h.index within (class_at p.original at) control-class stack now status level put now_is status_is level_is put_is h.machine
+
+    put-at_control : put ≡ class_at (classes_of p) h.index
+    put-at_control = put_at p.len_of p.chars p.level (stored p) h.index within (class_at p.original at) control-class stack now status level put now_is status_is level_is put_is h.machine
+
+    control-read : (now_runs : List (ℕ × ℕ)) (now_run : OpenRun) → IsCutTo p.len_of p.chars (stored p) (levels_of p) (h.index + 1) now_runs now_run.start now_run.last_level → IsReadTo p next now now_levels now_classes now_runs now_run
+    control-read now_runs now_run cut =
+        let some = control-some next ends in
+        let there : next ≡ place p.len_of p.chars (h.index + 1) = ends h.index control-fits h.begins in
+        let more : place p.len_of p.chars (h.index + 1) ≡ place p.len_of p.chars h.index + p.len_of (get_or p.chars h.index 0) = place-more p.len_of p.chars h.index 0 control-fits in
+        let long = original_long p h.has_units h.per_char in
+        let room : at + (next - at) ≤ text_len p.len_of p.chars = omega (arith, place-le p.len_of p.chars (h.index + 1)) in
+        let room_levels : at + (next - at) ≤ length levels = omega (arith, h.levels_long) in
+        let room_classes : at + (next - at) ≤ length classes = omega (arith, h.classes_long) in
+        let offset : (v : ℕ) → at ≤ v → v ≡ place p.len_of p.chars h.index + (v - at) = λ v above. omega (arith, h.begins) in
+        record {
+          has_units = h.has_units;
+          per_char = h.per_char;
+          index = h.index + 1;
+          begins = there;
+          within = omega (arith, control-fits);
+          machine = next_at p.len_of p.chars p.level (stored p) h.index within (class_at p.original at) control-class stack now status level put now_is status_is level_is put_is h.machine;
+          levels_long = ap length levels_are ∙ length-filled at (next - at) level levels room_levels ∙ h.levels_long;
+          classes_long = ap length classes_are ∙ length-filled at (next - at) put classes room_classes ∙ h.classes_long;
+          levels_written = λ v below. ap (λ (ls : List ℕ). get_or ls v 0) levels_are ∙ elim (cases_lt v at) [
+            | inl old ↦ filled-below at (next - at) level 0 levels room_levels v old ∙ h.levels_written v old
+            | inr new' ↦
+                filled-inside at (next - at) level 0 levels room_levels v new' (omega arith)
+                ∙ level-at_control
+                ∙ sym (get_or-per_unit p.len_of p.chars (levels_of p) h.index (v - at) 0 0 (levels_long p h.has_units h.per_char) control-fits (omega (arith, h.begins)))
+                ∙ ap (λ (u : ℕ). get_or (per_unit p.len_of p.chars (levels_of p)) u 0) (sym (offset v new'))
+          ];
+          classes_written = λ v below. ap (λ (cs : List BidiClass). class_at cs v) classes_are ∙ elim (cases_lt v at) [
+            | inl old ↦ filled-below at (next - at) put L classes room_classes v old ∙ h.classes_written v old
+            | inr new' ↦
+                filled-inside at (next - at) put L classes room_classes v new' (omega arith)
+                ∙ put-at_control
+                ∙ sym (get_or-per_unit p.len_of p.chars (classes_of p) h.index (v - at) 0 L (classes_long p h.has_units h.per_char) control-fits (omega (arith, h.begins)))
+                ∙ ap (class_at (per_unit p.len_of p.chars (classes_of p))) (sym (offset v new'))
+          ];
+          unread = λ v above. ap (λ (cs : List BidiClass). class_at cs v) classes_are ∙ filled-above at (next - at) put L classes room_classes v (omega arith) ∙ h.unread v (omega arith);
+          cut = cut;
+        }
+
+    pub control-removed : is_kept (class_at p.original at) ≡ false → IsReadTo p next now now_levels now_classes runs run
+    control-removed gone = control-read runs run (IsCutTo-removed p.len_of p.chars (stored p) (levels_of p) h.index runs run.start run.last_level (ap is_kept (sym control-class) ∙ gone) h.cut)
+
+    pub control-kept : (now_runs : List (ℕ × ℕ)) (now_run : OpenRun) → is_kept (class_at p.original at) ≡ true → now_runs ≡ runs_before run.last_level level run.start at runs
+        → now_run ≡ record { start = run_start run.last_level level run.start at; last_level = Some level } → IsReadTo p next now now_levels now_classes now_runs now_run
+    control-kept now_runs now_run kept runs_are run_is =
+        control-read now_runs now_run
+        (subst (λ (r : OpenRun). IsCutTo p.len_of p.chars (stored p) (levels_of p) (h.index + 1) now_runs r.start r.last_level) (sym run_is)
+        (subst (λ (rs : List (ℕ × ℕ)). IsCutTo p.len_of p.chars (stored p) (levels_of p) (h.index + 1) rs (run_start run.last_level level run.start at) (Some level)) (sym runs_are)
+        (subst (λ (u : ℕ). IsCutTo p.len_of p.chars (stored p) (levels_of p) (h.index + 1) (runs_before run.last_level level run.start u runs) (run_start run.last_level level run.start u) (Some level)) (sym h.begins)
+        (IsCutTo-kept p.len_of p.chars (stored p) (levels_of p) h.index runs run.start run.last_level level (ap is_kept (sym control-class) ∙ kept) level-at_control h.cut))))

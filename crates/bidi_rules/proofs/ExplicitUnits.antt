@@ -119,14 +119,13 @@ module _ (len_of : ℕ → ℕ) (chars : List ℕ) (paragraph : ℕ) (stored : L
     pub depth : IsWithinDepth paragraph (closed class stack)
     pub counts : counted (closed class stack) + 1 < 2 ^ 64
 
-  pub IsRead-can : (k : ℕ) (stack : State) (levels : List ℕ) (classes : List BidiClass) (runs : List (ℕ × ℕ)) (from : ℕ) (last : Option ℕ) (class : BidiClass) → paragraph ≤ 125 → k < length stored → length stored < 2 ^ 64 → class ≡ class_at stored k
-      → IsRead k stack levels classes runs from last → CanRead class stack
-  IsRead-can k stack levels classes runs from last class low within few is h =
+  pub can_read : (k : ℕ) (stack : State) (class : BidiClass) → paragraph ≤ 125 → k < length stored → length stored < 2 ^ 64 → class ≡ class_at stored k → stack ≡ state_at paragraph stored k → CanRead class stack
+  can_read k stack class low within few is machine =
       let few_open : counted (closed (class_at stored k) (state_at paragraph stored k)) ≤ k = closed-counted paragraph stored k within in
-      let here : closed class stack ≡ closed (class_at stored k) (state_at paragraph stored k) = ap (λ c. closed c stack) is ∙ ap (closed (class_at stored k)) h.machine in
+      let here : closed class stack ≡ closed (class_at stored k) (state_at paragraph stored k) = ap (λ c. closed c stack) is ∙ ap (closed (class_at stored k)) machine in
       let same : counted (closed class stack) ≡ counted (closed (class_at stored k) (state_at paragraph stored k)) = ap counted here in
       record {
-        poppable = subst IsPoppable (sym h.machine) (state_at-IsPoppable paragraph stored k);
+        poppable = subst IsPoppable (sym machine) (state_at-IsPoppable paragraph stored k);
         depth = subst (IsWithinDepth paragraph) (sym here) (closed-IsWithinDepth paragraph stored k low);
         counts = omega arith;
       }
