@@ -2,7 +2,7 @@
 use Rattle.std.proofs.Common.{◌≡◌, ℕ, zero, suc, ◌+◌, ◌-◌, ◌<◌, ◌≤◌, ◌^◌, Bool, true, false, not, ◌||◌, cond, eqb, List, [], ◌∷◌, ◌++◌, length, get_or, map, take, drop, Option, Some, None, unwrap_or, refl, sym, ap, subst, ◌∙◌, arith, inl, inr, length-append, length-take, length-drop, eq-eqb}
 use Rattle.std.specs.Prelude.{if◌then◌else◌, replicate}
 use Rattle.std.proofs.lemmas.Bool.{cases_Bool, cases_lt, cases_eq, cond-true, cond-false, or_parts, both_ways}
-use Rattle.std.proofs.lemmas.List.{drop-drop, length-map, length-replicate, get_or-map, get_or-take, get_or-drop, get_or_append_left, get_or-append_right, get_or-replicate}
+use Rattle.std.proofs.lemmas.List.{drop-drop, ext_get_or, length-map, length-replicate, get_or-map, get_or-take, get_or-drop, get_or_append_left, get_or-append_right, get_or-replicate}
 use Rattle.bidi_base.specs.declared.char_data.BidiClass.{BidiClass}
 use Rattle.bidi_base.specs.declared.char_data.BidiClass.TheVariants.{L, BN, B, LRE, LRO, RLE, RLO, PDF}
 use Rattle.bidi_base.specs.Classes.{is_kept, is_kept_in_place, is_opener, is_paragraph_separator, is_pdf, is_pdi, is_removed}
@@ -11,19 +11,22 @@ use Rattle.bidi_base.specs.Places.{class_at}
 use Rattle.bidi_base.specs.Search.{IsFirst}
 use Rattle.bidi_base.specs.Sequences.{is_kept_at, level_at}
 use Rattle.bidi_base.specs.StatusMachine.{Entry, State, start, closed, opened, step, state_at, counted, IsWithinDepth, IsPoppable}
-use Rattle.bidi_base.specs.Text.{is_boundary, place, text_len, per_char, per_unit, IsPerChar}
+use Rattle.bidi_base.specs.Text.{is_boundary, place, text_len, is_per_char, per_char, per_unit, IsPerChar}
 use Rattle.bidi_base.proofs.ExplicitLemmas.{length-explicit_levels, length-processing_classes, level_at-explicit_levels, class_at-processing_classes}
-use Rattle.bidi_base.proofs.PerUnit.{length-per_char, get_or-per_unit}
-use Rattle.bidi_base.proofs.PlaceLemmas.{is_boundary-place, place-end, place-le, place-lt, place-mono, place-more, UnitOf, unit_of}
+use Rattle.bidi_base.proofs.PerUnit.{length-per_char, length-per_unit, get_or-per_unit}
+use Rattle.bidi_base.proofs.PlaceLemmas.{is_boundary-place, place-end, place-le, place-lt, place-mono, place-more, place-zero, UnitOf, unit_of}
 use Rattle.bidi_base.proofs.StatusBounds.{state_at-more, state_at-IsPoppable, closed-IsWithinDepth, closed-counted}
 use Rattle.bidi_base.proofs.StatusMachine.{answer_level-explicit_level}
 use Rattle.bidi_base.proofs.TextLemmas.{HasUnits, length-le-text_len}
-use Rattle.bidi_base.proofs.UnitsLemmas.{length-from_IsPerChar, per_unit-from_IsPerChar}
+use Rattle.bidi_base.proofs.UnitsLemmas.{length-from_IsPerChar, per_unit-from_IsPerChar, IsPerChar-from_is_per_char}
+use Rattle.bidi_base.specs.contracts.char_data.BidiClassPartialEq.TheImpl.{ghosts}
+use Rattle.bidi_base.specs.Units.{level_run_ranges}
+use Rattle.bidi_base.proofs.PerCharTests.{class_test}
 use Rattle.bidi_rules.specs.ExplicitPass.{IsCutTo, filled, differs, runs_before, run_start}
 use Rattle.bidi_rules.specs.ExplicitStretches.{is_control, put_over, overridden, IsOverridden, Paragraph, stored, levels_of, classes_of, IsReadTo}
 use Rattle.bidi_rules.specs.declared.explicit.stretches.OpenRun.{OpenRun}
-use Rattle.bidi_rules.proofs.ExplicitUnits.{CanRead, can_read, length-filled, processing_class-is, level_at as level_of_next, put_at, next_at}
-use Rattle.bidi_rules.proofs.RunCutting.{IsCutTo-removed, IsCutTo-kept}
+use Rattle.bidi_rules.proofs.ExplicitUnits.{CanRead, can_read, length-filled, processing_class-is, level_at as level_of_next, put_at, next_at, text_len-some}
+use Rattle.bidi_rules.proofs.RunCutting.{IsCutTo-start, IsCutTo-removed, IsCutTo-kept, IsCutTo-end, IsCutTo-none}
 use Rattle.bidi_rules.proofs.StackLemmas.{closed-other, opened-other}
 
 -- ---- a part of a list that is written over
@@ -472,3 +475,62 @@ module _ (p : Paragraph) (at : ℕ) (stack : State) (levels : List ℕ) (classes
         (subst (λ (rs : List (ℕ × ℕ)). IsCutTo p.len_of p.chars (stored p) (levels_of p) (h.index + 1) rs (run_start run.last_level level run.start at) (Some level)) (sym runs_are)
         (subst (λ (u : ℕ). IsCutTo p.len_of p.chars (stored p) (levels_of p) (h.index + 1) (runs_before run.last_level level run.start u runs) (run_start run.last_level level run.start u) (Some level)) (sym h.begins)
         (IsCutTo-kept p.len_of p.chars (stored p) (levels_of p) h.index runs run.start run.last_level level (ap is_kept (sym control-class) ∙ kept) level-at_control h.cut))))
+
+-- ---- the start and the end of a paragraph
+
+pub read-start : (p : Paragraph) → HasUnits p.len_of → is_per_char ghosts.eq p.len_of p.chars p.original ≡ true → (stack : State) (levels : List ℕ) (classes : List BidiClass) (runs : List (ℕ × ℕ)) (run : OpenRun) → stack ≡ start p.level
+    → length levels ≡ length p.original → classes ≡ p.original → runs ≡ [] → run ≡ record { start = 0; last_level = None } → IsReadTo p 0 stack levels classes runs run
+unfolding state_at
+read-start p has_units whole stack levels classes runs run new long same none first =
+    let per_char = IsPerChar-from_is_per_char ghosts.eq class_test p.len_of has_units p.chars p.original whole in
+    let units = original_long p has_units per_char in
+    record {
+      has_units = has_units;
+      per_char = per_char;
+      index = 0;
+      begins = sym (place-zero p.len_of p.chars);
+      within = omega arith;
+      machine = new;
+      levels_long = long ∙ units;
+      classes_long = ap length same ∙ units;
+      levels_written = λ v below. absurd (omega arith);
+      classes_written = λ v below. absurd (omega arith);
+      unread = λ v above. ap (λ (cs : List BidiClass). class_at cs v) same;
+      cut =
+          subst (λ (r : OpenRun). IsCutTo p.len_of p.chars (stored p) (levels_of p) 0 runs r.start r.last_level) (sym first)
+          (subst (λ (rs : List (ℕ × ℕ)). IsCutTo p.len_of p.chars (stored p) (levels_of p) 0 rs 0 None) (sym none) (IsCutTo-start p.len_of p.chars (stored p) (levels_of p)));
+    }
+
+module _ (p : Paragraph) (at : ℕ) (stack : State) (levels : List ℕ) (classes : List BidiClass) (runs : List (ℕ × ℕ)) (run : OpenRun) (h : IsReadTo p at stack levels classes runs run) (past : length p.original ≤ at) where
+  all_read : h.index ≡ length (stored p)
+  all_read =
+      let long = original_long p h.has_units h.per_char in
+      let count = stored_long p h.has_units h.per_char in
+      elim (cases_lt h.index (length p.chars)) [
+        | inl fewer ↦ absurd (omega (arith, h.begins, place-lt p.len_of p.chars h.has_units h.index (length p.chars) fewer fewer, place-end p.len_of p.chars (length p.chars) (omega arith)))
+        | inr upto ↦ omega (arith, h.within)
+      ]
+
+  pub read-levels : levels ≡ per_unit p.len_of p.chars (levels_of p)
+  read-levels =
+      let whole = length-per_unit p.len_of p.chars (levels_of p) (levels_long p h.has_units h.per_char) in
+      ext_get_or 0 levels (per_unit p.len_of p.chars (levels_of p)) (h.levels_long ∙ sym whole) (λ u below. h.levels_written u (omega (arith, h.levels_long, original_long p h.has_units h.per_char)))
+
+  pub read-classes : classes ≡ per_unit p.len_of p.chars (classes_of p)
+  read-classes =
+      let whole = length-per_unit p.len_of p.chars (classes_of p) (classes_long p h.has_units h.per_char) in
+      ext_get_or L classes (per_unit p.len_of p.chars (classes_of p)) (h.classes_long ∙ sym whole) (λ u below. h.classes_written u (omega (arith, h.classes_long, original_long p h.has_units h.per_char)))
+
+  -- the last run ends with the text
+  pub read-runs : (units : ℕ) → units ≡ length p.original → 0 < units → runs ++ (run.start, units) ∷ [] ≡ level_run_ranges p.len_of p.chars (stored p) (levels_of p)
+  read-runs units is some =
+      let long = original_long p h.has_units h.per_char in
+      let count = stored_long p h.has_units h.per_char in
+      ap (λ n. runs ++ (run.start, n) ∷ []) (is ∙ long)
+      ∙ IsCutTo-end p.len_of p.chars (stored p) (levels_of p) h.index runs run.start run.last_level all_read (omega (arith, text_len-some p.len_of p.chars (omega arith))) h.cut
+
+  pub read-no_runs : length p.original ≡ 0 → runs ≡ level_run_ranges p.len_of p.chars (stored p) (levels_of p)
+  read-no_runs none =
+      let long = original_long p h.has_units h.per_char in
+      let count = stored_long p h.has_units h.per_char in
+      IsCutTo-none p.len_of p.chars (stored p) (levels_of p) h.index runs run.start run.last_level all_read (omega (arith, length-le-text_len p.len_of h.has_units p.chars)) h.cut

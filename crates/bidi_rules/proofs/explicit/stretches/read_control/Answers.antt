@@ -32,9 +32,9 @@ returns-in_ok-meet g c =
     let p : Paragraph = record { len_of = g.T.TextSource.units; chars = g.T.TextSource.characters a.text; level = a.para_level; original = a.original_classes.now } in (
       control-some p a.start a.stack.now a.levels.now a.classes.now (map bounds a.runs.now.items) a.run.now c.requires.read c.requires.inside c.end_of-next.result c.end_of-next.ensures,
       control-kept p a.start a.stack.now a.levels.now a.classes.now (map bounds a.runs.now.items) a.run.now c.requires.read c.requires.inside c.end_of-next.result c.end_of-next.ensures
-      c.read-status.new.self (seen c.read-status.result) c.own_level-level.result c.own_class.result c.read-status.ensures.state c.read-status.ensures.status c.own_level-level.ensures c.own_class.ensures
-      c.write.new.levels c.write.new.classes c.write.ensures.levels c.write.ensures.classes
-      (map bounds c.meet.new.runs.items) c.meet.new.self (sym c.not_removed_by_x9.ensures ∙ c.if-not_removed_by_x9.true) c.in_ok-meet.ensures.runs c.in_ok-meet.ensures.run,
+          c.read-status.new.self (seen c.read-status.result) c.own_level-level.result c.own_class.result c.read-status.ensures.state c.read-status.ensures.status c.own_level-level.ensures c.own_class.ensures
+          c.write.new.levels c.write.new.classes c.write.ensures.levels c.write.ensures.classes
+          (map bounds c.meet.new.runs.items) c.meet.new.self (sym c.not_removed_by_x9.ensures ∙ c.if-not_removed_by_x9.true) c.in_ok-meet.ensures.runs c.in_ok-meet.ensures.run,
     )
 
 pub returns-else-not_removed_by_x9 : goal.returns-else-not_removed_by_x9
@@ -43,7 +43,7 @@ returns-else-not_removed_by_x9 g c =
     let p : Paragraph = record { len_of = g.T.TextSource.units; chars = g.T.TextSource.characters a.text; level = a.para_level; original = a.original_classes.now } in (
       control-some p a.start a.stack.now a.levels.now a.classes.now (map bounds a.runs.now.items) a.run.now c.requires.read c.requires.inside c.end_of-next.result c.end_of-next.ensures,
       control-removed p a.start a.stack.now a.levels.now a.classes.now (map bounds a.runs.now.items) a.run.now c.requires.read c.requires.inside c.end_of-next.result c.end_of-next.ensures
-      c.read-status.new.self (seen c.read-status.result) c.own_level-level.result c.own_class.result c.read-status.ensures.state c.read-status.ensures.status c.own_level-level.ensures c.own_class.ensures
-      c.write.new.levels c.write.new.classes c.write.ensures.levels c.write.ensures.classes
-      (sym c.not_removed_by_x9.ensures ∙ c.if-not_removed_by_x9.false),
+          c.read-status.new.self (seen c.read-status.result) c.own_level-level.result c.own_class.result c.read-status.ensures.state c.read-status.ensures.status c.own_level-level.ensures c.own_class.ensures
+          c.write.new.levels c.write.new.classes c.write.ensures.levels c.write.ensures.classes
+          (sym c.not_removed_by_x9.ensures ∙ c.if-not_removed_by_x9.false),
     )
