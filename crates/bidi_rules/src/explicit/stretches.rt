@@ -1,10 +1,10 @@
 //! The explicit pass by stretches: between two controls the status stands still, so all units there
 //! get one level, and are under one override.
 
-ghost use Rattle.std.specs.Prelude.{◌≡◌, ℕ, ◌-◌, ◌<◌, ◌≤◌, ◌^◌, None, Some, [], length, map, IsTrue, OnOk, IfOk};
+ghost use Rattle.std.specs.Prelude.{◌≡◌, ℕ, ◌-◌, ◌<◌, ◌≤◌, ◌^◌, false, None, Some, [], length, map, IsTrue, OnOk, IfOk};
 ghost use Rattle.bidi_base.specs.declared.char_data.BidiClass.TheVariants.{L};
 ghost use Rattle.bidi_base.specs.Explicit.{explicit_levels, processing_classes as processing_classes_of};
-ghost use Rattle.bidi_base.specs.Search.{IsFirst};
+ghost use Rattle.bidi_base.specs.Places.{class_at};
 ghost use Rattle.bidi_base.specs.StatusMachine.{State};
 ghost use Rattle.bidi_base.specs.Text.{is_per_char, per_char, per_unit, text_len};
 ghost use Rattle.bidi_base.specs.Units.{bounds, level_run_ranges};
@@ -24,7 +24,17 @@ use std::alloc::AllocError;
 use std::marker::Brand;
 use std::sync::ledger::{Blank, Ledger};
 
-/// Classes that change the status, or whose level is not that of the status.
+// Whether a class changes the status, or has another level than it. The test has no branch, so that
+// many units are tested at once.
+fn is_control(class: BidiClass) -> bool
+    ensures { result ≡ is_control class }
+{
+    let embedding = (class == LRE) | (class == RLE) | (class == LRO) | (class == RLO);
+    let isolate = (class == LRI) | (class == RLI) | (class == FSI);
+    (class == B) | embedding | isolate | (class == PDI) | (class == PDF)
+}
+
+/// Classes of controls.
 #[derive(Clone, Copy, Debug)]
 struct Control;
 
@@ -32,9 +42,7 @@ impl ClassTest for Control {
     ghost test = { λ _. is_control };
 
     fn passes(self, class: BidiClass) -> bool {
-        let embedding = (class == LRE) | (class == RLE) | (class == LRO) | (class == RLO);
-        let isolate = (class == LRI) | (class == RLI) | (class == FSI);
-        (class == B) | embedding | isolate | (class == PDI) | (class == PDF)
+        is_control(class)
     }
 }
 
@@ -124,29 +132,31 @@ fn write_override(
     }
 }
 
-// Reads the units from `from` up to `to`, among which is no control.
+// Reads the units from `from` up to the next control, and answers where that is.
 fn read_stretch(
     original_classes: &[BidiClass],
     from: usize,
-    to: usize,
     status: StatusEntry,
     levels: &mut [Level],
     classes: &mut [BidiClass],
     runs: &mut LevelRunVec,
     run: &mut OpenRun,
-) -> Result<(), AllocError>
-    requires stretch { IsFirst is_control original_classes.now from (length original_classes.now) to }
+) -> Result<usize, AllocError>
+    requires inside { from < length original_classes.now }
+    requires plain { is_control (class_at original_classes.now from) ≡ false }
     requires levels { length levels.old ≡ length original_classes.now }
     requires classes { length classes.old ≡ length original_classes.now }
-    ensures { (stack : State) → seen status ≡ stack.top → OnOk result (ReadsStretch original_classes.now from to stack levels.old classes.old (map bounds runs.old.items) run.old levels.new classes.new (map bounds runs.new.items) run.new) }
+    ensures some { IfOk result (λ to. from < to) }
+    ensures read { (stack : State) → seen status ≡ stack.top → IfOk result (λ to. ReadsStretch original_classes.now from to stack levels.old classes.old (map bounds runs.old.items) run.old levels.new classes.new (map bounds runs.new.items) run.new) }
 {
+    let to = first_passing(Control, original_classes, from, original_classes.len());
     write_level(levels, from, to, status.level);
     write_override(classes, from, to, status.override_class);
     let first_kept = first_passing(Kept, original_classes, from, to);
     if first_kept < to {
         run.meet(runs, first_kept, status.level)?;
     }
-    Ok(())
+    Ok(to)
 }
 
 // Reads the control that begins at a unit. Answers where the next character begins.
@@ -243,32 +253,30 @@ fn compute_by_stretches_fresh<T: TextSource, S: Ledger>(
     let mut run = OpenRun::new();
     let mut at = 0;
     while at < units {
-        let end = first_passing(Control, original_classes, at, units);
-        read_stretch(
-            original_classes,
-            at,
-            end,
-            stack.top(),
-            levels,
-            processing_classes,
-            runs,
-            &mut run,
-        )?;
-        at = end;
-        if end < units {
-            at = read_control(
+        at = if is_control(original_classes[at]) {
+            read_control(
                 text,
                 para_level,
                 original_classes,
-                end,
+                at,
                 &mut stack,
                 levels,
                 processing_classes,
                 runs,
                 &mut run,
                 &mut steps,
-            )?;
-        }
+            )?
+        } else {
+            read_stretch(
+                original_classes,
+                at,
+                stack.top(),
+                levels,
+                processing_classes,
+                runs,
+                &mut run,
+            )?
+        };
     }
     if units > 0 {
         runs.push(run.start..units)?;

@@ -1,5 +1,6 @@
 use Rattle.std.proofs.Common.{◌≡◌, ℕ, List, ◌∷◌, [], ◌++◌, length, map, refl, ap, sym, ◌∙◌, arith}
 use Rattle.std.proofs.lemmas.List.{map-append}
+use Rattle.std.specs.declared.ops.Range.{Range}
 use Rattle.bidi_base.specs.Units.{bounds}
 use Rattle.bidi_base.specs.declared.char_data.BidiClass.{BidiClass}
 use Rattle.bidi_rules.specs.ExplicitStretches.{Paragraph}
@@ -28,6 +29,10 @@ returns-clause-classes g c =
     let p : Paragraph = record { len_of = g.T.TextSource.units; chars = g.T.TextSource.characters a.text; level = a.para_level; original = a.original_classes.now } in
     read-classes p l.at l.stack l.levels l.processing_classes (map bounds l.runs.items) l.run l.invariant (omega arith)
 
+-- the last run
+pushed : (old now : List (Range ℕ)) (start end : ℕ) → now ≡ old ++ record { start = start; end = end } ∷ [] → map bounds now ≡ map bounds old ++ (start, end) ∷ []
+pushed old now start end is = ap (map bounds) is ∙ map-append bounds old (record { start = start; end = end } ∷ [])
+
 pub returns-clause-runs : goal.returns-clause-runs
 returns-clause-runs g c =
     let a = c.args in
@@ -35,8 +40,10 @@ returns-clause-runs g c =
     let p : Paragraph = record { len_of = g.T.TextSource.units; chars = g.T.TextSource.characters a.text; level = a.para_level; original = a.original_classes.now } in
     elim c.if-units-gt0.branch [
       | then-units-gt0+in_ok-push w ↦
-          ap (map bounds) (ap (λ r. r.items) w.runs-is ∙ w.in_ok-push.ensures.items)
-          ∙ map-append bounds l.runs.items (record { start = l.run.start; end = length a.original_classes.now } ∷ [])
+          ap (λ r. map bounds r.items) {y = w.push.new.self} w.runs-is
+          ∙ pushed l.runs.items w.push.new.self.items l.run.start (length a.original_classes.now) w.in_ok-push.ensures.items
           ∙ read-runs p l.at l.stack l.levels l.processing_classes (map bounds l.runs.items) l.run l.invariant (omega arith) (length a.original_classes.now) refl w.if-units-gt0.true
-      | else-units-gt0 w ↦ ap (map bounds) (ap (λ r. r.items) w.runs-is) ∙ read-no_runs p l.at l.stack l.levels l.processing_classes (map bounds l.runs.items) l.run l.invariant (omega arith) (omega arith)
+      | else-units-gt0 w ↦
+          ap (λ r. map bounds r.items) {y = l.runs} w.runs-is
+          ∙ read-no_runs p l.at l.stack l.levels l.processing_classes (map bounds l.runs.items) l.run l.invariant (omega arith) (omega arith)
     ]
