@@ -13,7 +13,7 @@ ghost use Rattle.bidi_rules.specs.ExplicitStretches.{is_control, put_over, IsOve
 ghost use Rattle.bidi_rules.specs.Status.{seen};
 
 use super::status::{StatusEntry, StatusStack};
-use super::{cut_run, own_class, own_level, write};
+use super::{cut_run, fill_few, own_class, own_level, write};
 use crate::characters::end_of;
 use crate::prepare::{LevelRunVec, Steps, not_removed_by_x9};
 use bidi_base::char_data::BidiClass::{self, B, BN, FSI, LRE, LRI, LRO, PDF, PDI, RLE, RLI, RLO};
@@ -107,13 +107,17 @@ fn put_override(classes: &mut [BidiClass], put: BidiClass)
     }
 }
 
-// Writes the level of a stretch.
+// Writes the level of a stretch. A short one is written unit by unit.
 fn write_level(levels: &mut [Level], from: usize, to: usize, level: Level)
     requires ordered { from ≤ to }
     requires within { to ≤ length levels.old }
     ensures { levels.new ≡ filled from (to - from) level levels.old }
 {
-    levels[from..to].fill(level);
+    if to - from <= 3 {
+        fill_few(levels, from, to - from, level);
+    } else {
+        levels[from..to].fill(level);
+    }
 }
 
 // Writes the classes of a stretch without controls, if an override is over it (X6).
