@@ -21,17 +21,17 @@ use Rattle.bidi_base.specs.contracts.char_data.BidiClassPartialEq.TheImpl.{ghost
 use Rattle.bidi_base.proofs.PerCharTests.{class_test, level_eq, level_test}
 use Rattle.bidi_base.proofs.StatusMachine.{answer_level-explicit_level, answer_class-explicit_class}
 use Rattle.bidi_base.proofs.StatusBounds.{state_at-more, state_at-IsPoppable, closed-IsWithinDepth, closed-counted}
-use Rattle.bidi_rules.specs.ExplicitPass.{filled, runs_before, run_start}
-use Rattle.bidi_rules.proofs.RunCutting.{IsCutTo, IsCutTo-start, IsCutTo-removed, IsCutTo-kept}
+use Rattle.bidi_rules.specs.ExplicitPass.{IsCutTo, filled, runs_before, run_start}
+use Rattle.bidi_rules.proofs.RunCutting.{IsCutTo-start, IsCutTo-removed, IsCutTo-kept}
 
-processing_class-is : (paragraph : ℕ) (classes : List BidiClass) (k : ℕ) → k < length classes
+pub processing_class-is : (paragraph : ℕ) (classes : List BidiClass) (k : ℕ) → k < length classes
     → (if is_removed (class_at classes k) then BN else if is_paragraph_separator (class_at classes k) || is_removed (class_at classes k) then class_at classes k else unwrap_or (closed (class_at classes k) (state_at paragraph classes k)).top.status.override (class_at classes k))
     ≡ processing_class paragraph classes k
 unfolding processing_class
 processing_class-is paragraph classes k fits = ap (λ (c : BidiClass). if is_removed (class_at classes k) then BN else c) (answer_class-explicit_class paragraph classes k fits)
 
 -- writing the units of a character
-length-filled : {X : Type 0} (from len : ℕ) (x : X) (units : List X) → from + len ≤ length units → length (filled from len x units) ≡ length units
+pub length-filled : {X : Type 0} (from len : ℕ) (x : X) (units : List X) → from + len ≤ length units → length (filled from len x units) ≡ length units
 length-filled from len x units fits =
     omega (
       arith,
@@ -119,23 +119,22 @@ module _ (len_of : ℕ → ℕ) (chars : List ℕ) (paragraph : ℕ) (stored : L
     pub depth : IsWithinDepth paragraph (closed class stack)
     pub counts : counted (closed class stack) + 1 < 2 ^ 64
 
-  pub IsRead-can : (k : ℕ) (stack : State) (levels : List ℕ) (classes : List BidiClass) (runs : List (ℕ × ℕ)) (from : ℕ) (last : Option ℕ) (class : BidiClass) → paragraph ≤ 125 → k < length stored → length stored < 2 ^ 64 → class ≡ class_at stored k
-      → IsRead k stack levels classes runs from last → CanRead class stack
-  IsRead-can k stack levels classes runs from last class low within few is h =
+  pub can_read : (k : ℕ) (stack : State) (class : BidiClass) → paragraph ≤ 125 → k < length stored → length stored < 2 ^ 64 → class ≡ class_at stored k → stack ≡ state_at paragraph stored k → CanRead class stack
+  can_read k stack class low within few is machine =
       let few_open : counted (closed (class_at stored k) (state_at paragraph stored k)) ≤ k = closed-counted paragraph stored k within in
-      let here : closed class stack ≡ closed (class_at stored k) (state_at paragraph stored k) = ap (λ c. closed c stack) is ∙ ap (closed (class_at stored k)) h.machine in
+      let here : closed class stack ≡ closed (class_at stored k) (state_at paragraph stored k) = ap (λ c. closed c stack) is ∙ ap (closed (class_at stored k)) machine in
       let same : counted (closed class stack) ≡ counted (closed (class_at stored k) (state_at paragraph stored k)) = ap counted here in
       record {
-        poppable = subst IsPoppable (sym h.machine) (state_at-IsPoppable paragraph stored k);
+        poppable = subst IsPoppable (sym machine) (state_at-IsPoppable paragraph stored k);
         depth = subst (IsWithinDepth paragraph) (sym here) (closed-IsWithinDepth paragraph stored k low);
         counts = omega arith;
       }
 
   -- one character more
-  module _ (k at len : ℕ) (turn : LengthTurn len_of chars k at len) (within : k < length stored) (class : BidiClass) (class_is : class ≡ class_at stored k) (stack next : State) (status : Entry) (level : ℕ) (put : BidiClass) (next_is : next ≡ step class stack)
+  module _ (k : ℕ) (within : k < length stored) (class : BidiClass) (class_is : class ≡ class_at stored k) (stack next : State) (status : Entry) (level : ℕ) (put : BidiClass) (next_is : next ≡ step class stack)
       (status_is : status ≡ (closed class stack).top) (level_is : level ≡ (if is_paragraph_separator class then paragraph else status.status.level))
       (put_is : put ≡ (if is_removed class then BN else if is_paragraph_separator class || is_removed class then class else unwrap_or status.status.override class)) where
-    level_at : stack ≡ state_at paragraph stored k → level ≡ get_or (explicit_levels paragraph stored) k 0
+    pub level_at : stack ≡ state_at paragraph stored k → level ≡ get_or (explicit_levels paragraph stored) k 0
     level_at machine =
         level_is
         ∙ ap (λ (e : Entry). if is_paragraph_separator class then paragraph else e.status.level) status_is
@@ -144,7 +143,7 @@ module _ (len_of : ℕ → ℕ) (chars : List ℕ) (paragraph : ℕ) (stored : L
         ∙ answer_level-explicit_level paragraph stored k within
         ∙ sym (level_at-explicit_levels paragraph stored k within)
 
-    put_at : stack ≡ state_at paragraph stored k → put ≡ get_or (processing_classes paragraph stored) k L
+    pub put_at : stack ≡ state_at paragraph stored k → put ≡ get_or (processing_classes paragraph stored) k L
     put_at machine =
         put_is
         ∙ ap (λ (e : Entry). if is_removed class then BN else if is_paragraph_separator class || is_removed class then class else unwrap_or e.status.override class) status_is
@@ -153,19 +152,23 @@ module _ (len_of : ℕ → ℕ) (chars : List ℕ) (paragraph : ℕ) (stored : L
         ∙ processing_class-is paragraph stored k within
         ∙ sym (class_at-processing_classes paragraph stored k within)
 
-    next_at : stack ≡ state_at paragraph stored k → next ≡ state_at paragraph stored (k + 1)
+    pub next_at : stack ≡ state_at paragraph stored k → next ≡ state_at paragraph stored (k + 1)
     next_at machine = next_is ∙ ap (λ c. step c stack) class_is ∙ ap (step (class_at stored k)) machine ∙ sym (state_at-more paragraph stored k)
 
+  -- which is written to its units
+  module _ (k at len : ℕ) (turn : LengthTurn len_of chars k at len) (within : k < length stored) (class : BidiClass) (class_is : class ≡ class_at stored k) (stack next : State) (status : Entry) (level : ℕ) (put : BidiClass) (next_is : next ≡ step class stack)
+      (status_is : status ≡ (closed class stack).top) (level_is : level ≡ (if is_paragraph_separator class then paragraph else status.status.level))
+      (put_is : put ≡ (if is_removed class then BN else if is_paragraph_separator class || is_removed class then class else unwrap_or status.status.override class)) where
     more : (levels : List ℕ) (classes : List BidiClass) (runs : List (ℕ × ℕ)) (from : ℕ) (last : Option ℕ) (now : List (ℕ × ℕ)) (now_from : ℕ) (now_last : Option ℕ) → IsRead k stack levels classes runs from last
         → IsCutTo len_of chars stored (explicit_levels paragraph stored) (k + 1) now now_from now_last → IsRead (k + 1) next (filled at len level levels) (filled at len put classes) now now_from now_last
     more levels classes runs from last now now_from now_last h cut =
         let room = turn.fits in
         record {
-          machine = next_at h.machine;
+          machine = next_at k within class class_is stack next status level put next_is status_is level_is put_is h.machine;
           levels_long = length-filled at len level levels (omega (arith, h.levels_long)) ∙ h.levels_long;
           classes_long = length-filled at len put classes (omega (arith, h.classes_long)) ∙ h.classes_long;
-          levels_written = IsWrittenTo-filled len_of chars (explicit_levels paragraph stored) k at len 0 level levels turn (omega (arith, length-explicit_levels paragraph stored)) (level_at h.machine) h.levels_long h.levels_written;
-          classes_written = IsWrittenTo-filled len_of chars (processing_classes paragraph stored) k at len L put classes turn (omega (arith, length-processing_classes paragraph stored)) (put_at h.machine) h.classes_long h.classes_written;
+          levels_written = IsWrittenTo-filled len_of chars (explicit_levels paragraph stored) k at len 0 level levels turn (omega (arith, length-explicit_levels paragraph stored)) (level_at k within class class_is stack next status level put next_is status_is level_is put_is h.machine) h.levels_long h.levels_written;
+          classes_written = IsWrittenTo-filled len_of chars (processing_classes paragraph stored) k at len L put classes turn (omega (arith, length-processing_classes paragraph stored)) (put_at k within class class_is stack next status level put next_is status_is level_is put_is h.machine) h.classes_long h.classes_written;
           cut = cut;
         }
 
@@ -179,7 +182,7 @@ module _ (len_of : ℕ → ℕ) (chars : List ℕ) (paragraph : ℕ) (stored : L
         let place_is : place len_of chars k ≡ at = sym turn.turn.at_place in
         more levels classes runs from last (runs_before last level from at runs) (run_start last level from at) (Some level) h
         (subst (λ n. IsCutTo len_of chars stored (explicit_levels paragraph stored) (k + 1) (runs_before last level from n runs) (run_start last level from n) (Some level)) place_is
-        (IsCutTo-kept len_of chars stored (explicit_levels paragraph stored) k runs from last level kept (level_at h.machine) h.cut))
+        (IsCutTo-kept len_of chars stored (explicit_levels paragraph stored) k runs from last level kept (level_at k within class class_is stack next status level put next_is status_is level_is put_is h.machine) h.cut))
 
   -- all characters
   pub IsRead-levels : (k : ℕ) (stack : State) (levels : List ℕ) (classes : List BidiClass) (runs : List (ℕ × ℕ)) (from : ℕ) (last : Option ℕ) → k ≡ length chars → length stored ≡ length chars → IsRead k stack levels classes runs from last

@@ -1,5 +1,6 @@
 pub mod CharEnds
 pub mod CountBelow
+pub mod ExplicitStretches
 pub mod ExplicitUnits
 pub mod FirstKept
 pub mod FoldAny

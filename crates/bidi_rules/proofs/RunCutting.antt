@@ -12,7 +12,7 @@ use Rattle.bidi_base.specs.Text.{place, text_len}
 use Rattle.bidi_base.specs.Units.{ranges_between, level_run_ranges}
 use Rattle.bidi_base.proofs.PlacesLemmas.{range_with_len-more}
 use Rattle.bidi_base.proofs.PlaceLemmas.{place-zero}
-use Rattle.bidi_rules.specs.ExplicitPass.{differs, runs_before, run_start}
+use Rattle.bidi_rules.specs.ExplicitPass.{IsCutTo, differs, runs_before, run_start}
 
 -- one more cut
 pub ranges_between-push : (x : ℕ) (xs : List ℕ) (y end : ℕ) → ranges_between (x ∷ xs ++ y ∷ []) end ≡ ranges_between (x ∷ xs) y ++ (y, end) ∷ []
@@ -57,12 +57,7 @@ module _ (len_of : ℕ → ℕ) (chars : List ℕ) (stored : List BidiClass) (le
   abbrev starts_below : ℕ → List ℕ
   starts_below k = filter (begins_run stored levels) (range_with_len 0 k)
 
-  -- of the first k characters, with the level of the last kept one: these runs have ended, and the one that is open began at unit `from`
-  pub record IsCutTo (k : ℕ) (runs : List (ℕ × ℕ)) (from : ℕ) (last : Option ℕ) : Type 0 where
-    pub level : last ≡ option_map (level_at levels) (kept_before stored k)
-    pub cut : (end : ℕ) → runs ++ (from, end) ∷ [] ≡ ranges_between (map (place len_of chars) (0 ∷ filter (begins_run stored levels) (range_with_len 0 k))) end
-
-  pub IsCutTo-start : IsCutTo 0 [] 0 None
+  pub IsCutTo-start : IsCutTo len_of chars stored levels 0 [] 0 None
   unfolding kept_before
   IsCutTo-start = record { level = refl; cut = λ end. ap (λ n. (n, end) ∷ []) (sym (place-zero len_of chars)) }
 
@@ -79,14 +74,14 @@ module _ (len_of : ℕ → ℕ) (chars : List ℕ) (stored : List BidiClass) (le
   starts_same k none = starts_more k ∙ ap (λ xs. starts_below k ++ xs) (cond-false (begins_run stored levels k) (k ∷ []) [] none) ∙ append-nil (starts_below k)
 
   -- what X9 removes goes with the run that is open
-  pub IsCutTo-removed : (k : ℕ) (runs : List (ℕ × ℕ)) (from : ℕ) (last : Option ℕ) → is_kept_at stored k ≡ false → IsCutTo k runs from last → IsCutTo (k + 1) runs from last
+  pub IsCutTo-removed : (k : ℕ) (runs : List (ℕ × ℕ)) (from : ℕ) (last : Option ℕ) → is_kept_at stored k ≡ false → IsCutTo len_of chars stored levels k runs from last → IsCutTo len_of chars stored levels (k + 1) runs from last
   IsCutTo-removed k runs from last gone h = record {
     level = h.level ∙ ap (option_map (level_at levels)) (sym (kept_before-more stored k ∙ cond-false (is_kept_at stored k) (Some k) (kept_before stored k) gone));
     cut = λ end. h.cut end ∙ ap (λ xs. ranges_between (map (place len_of chars) (0 ∷ xs)) end) (sym (starts_same k (no_begin stored levels k gone)));
   }
 
-  pub IsCutTo-kept : (k : ℕ) (runs : List (ℕ × ℕ)) (from : ℕ) (last : Option ℕ) (level : ℕ) → is_kept_at stored k ≡ true → level ≡ level_at levels k → IsCutTo k runs from last
-      → IsCutTo (k + 1) (runs_before last level from (place len_of chars k) runs) (run_start last level from (place len_of chars k)) (Some level)
+  pub IsCutTo-kept : (k : ℕ) (runs : List (ℕ × ℕ)) (from : ℕ) (last : Option ℕ) (level : ℕ) → is_kept_at stored k ≡ true → level ≡ level_at levels k → IsCutTo len_of chars stored levels k runs from last
+      → IsCutTo len_of chars stored levels (k + 1) (runs_before last level from (place len_of chars k) runs) (run_start last level from (place len_of chars k)) (Some level)
   IsCutTo-kept k runs from last level kept level_is h = record { level = now; cut = λ end. elim (cases_Bool (differs last level)) [ inl other ↦ cut_here end other | inr same ↦ cut_on end same ] }
     where
       now : Some level ≡ option_map (level_at levels) (kept_before stored (k + 1))
@@ -115,7 +110,7 @@ module _ (len_of : ℕ → ℕ) (chars : List ℕ) (stored : List BidiClass) (le
           ∙ ap (λ xs. ranges_between (map (place len_of chars) (0 ∷ xs)) end) (sym (starts_more k ∙ ap (λ xs. starts_below k ++ xs) (cond-true (begins_run stored levels k) (k ∷ []) [] (begins ∙ other))))
 
   -- the end of the text ends the last run
-  pub IsCutTo-end : (k : ℕ) (runs : List (ℕ × ℕ)) (from : ℕ) (last : Option ℕ) → k ≡ length stored → 0 < length stored → IsCutTo k runs from last → runs ++ (from, text_len len_of chars) ∷ [] ≡ level_run_ranges len_of chars stored levels
+  pub IsCutTo-end : (k : ℕ) (runs : List (ℕ × ℕ)) (from : ℕ) (last : Option ℕ) → k ≡ length stored → 0 < length stored → IsCutTo len_of chars stored levels k runs from last → runs ++ (from, text_len len_of chars) ∷ [] ≡ level_run_ranges len_of chars stored levels
   unfolding level_run_ranges
   IsCutTo-end k runs from last all some h =
       h.cut (text_len len_of chars)
@@ -127,7 +122,7 @@ module _ (len_of : ℕ → ℕ) (chars : List ℕ) (stored : List BidiClass) (le
   none_of (q ∷ runs) r s e = absurd (omega (arith, ap length e, length-append runs (r ∷ [])))
 
   -- where there is no character there is no run
-  pub IsCutTo-none : (k : ℕ) (runs : List (ℕ × ℕ)) (from : ℕ) (last : Option ℕ) → k ≡ length stored → length stored ≡ 0 → IsCutTo k runs from last → runs ≡ level_run_ranges len_of chars stored levels
+  pub IsCutTo-none : (k : ℕ) (runs : List (ℕ × ℕ)) (from : ℕ) (last : Option ℕ) → k ≡ length stored → length stored ≡ 0 → IsCutTo len_of chars stored levels k runs from last → runs ≡ level_run_ranges len_of chars stored levels
   unfolding level_run_ranges
   IsCutTo-none k runs from last all none h =
       let zero_is : k ≡ 0 = all ∙ none in

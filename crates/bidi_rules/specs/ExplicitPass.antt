@@ -1,5 +1,10 @@
 -- The steps of the pass over units that gives explicit levels.
-use Rattle.std.specs.Prelude.{ℕ, ◌+◌, Bool, false, not, ◌==◌, if◌then◌else◌, List, [], ◌∷◌, ◌++◌, take, drop, replicate, Option, Some, None}
+use Rattle.std.specs.Prelude.{◌≡◌, ℕ, ◌+◌, Bool, false, not, ◌==◌, if◌then◌else◌, List, [], ◌∷◌, ◌++◌, take, drop, replicate, map, filter, option_map, Option, Some, None}
+use Rattle.std.specs.List.{range_with_len}
+use Rattle.bidi_base.specs.declared.char_data.BidiClass.{BidiClass}
+use Rattle.bidi_base.specs.Sequences.{kept_before, level_at, begins_run}
+use Rattle.bidi_base.specs.Text.{place}
+use Rattle.bidi_base.specs.Units.{ranges_between}
 
 -- units from `start` on, `len` of them, hold one value
 abbrev pub filled : {X : Type 0} → ℕ → ℕ → X → List X → List X
@@ -16,3 +21,8 @@ runs_before last level start at runs = if differs last level then runs ++ (start
 
 abbrev pub run_start : Option ℕ → ℕ → ℕ → ℕ → ℕ
 run_start last level start at = if differs last level then at else start
+
+-- of the first k characters, with the level of the last kept one: these runs have ended, and the one that is open began at unit `from`
+pub record IsCutTo (len_of : ℕ → ℕ) (chars : List ℕ) (stored : List BidiClass) (levels : List ℕ) (k : ℕ) (runs : List (ℕ × ℕ)) (from : ℕ) (last : Option ℕ) : Type 0 where
+  pub level : last ≡ option_map (level_at levels) (kept_before stored k)
+  pub cut : (end : ℕ) → runs ++ (from, end) ∷ [] ≡ ranges_between (map (place len_of chars) (0 ∷ filter (begins_run stored levels) (range_with_len 0 k))) end

@@ -1,4 +1,5 @@
 pub mod ExplicitPass
+pub mod ExplicitStretches
 pub mod JoinPass
 pub mod Joining
 pub mod NeutralPass

@@ -10,6 +10,7 @@ ghost use Rattle.bidi_base.specs.Units.{bounds, level_run_ranges};
 ghost use Rattle.bidi_rules.specs.ExplicitPass.{filled, runs_before, run_start as run_start_after};
 
 mod status;
+mod stretches;
 
 use crate::prepare::{LevelRunVec, Steps, not_removed_by_x9};
 use bidi_base::char_data::BidiClass;
@@ -19,6 +20,7 @@ use status::StatusStack;
 use std::alloc::{AllocError, Global};
 use std::marker::Brand;
 use std::sync::ledger::{Blank, Ledger};
+pub use stretches::compute_by_stretches;
 
 // The level of a character, where `level` holds at its place (X8).
 fn own_level(para_level: Level, class: BidiClass, level: Level) -> Level

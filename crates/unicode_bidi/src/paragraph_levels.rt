@@ -84,8 +84,7 @@ impl LevelResolver {
         self.classes.extend_from_slice(original_classes)?;
         self.runs.clear();
         self.sequences.clear();
-        explicit::compute(
-            alloc,
+        explicit::compute_by_stretches(
             paragraph.text,
             paragraph.level,
             original_classes,

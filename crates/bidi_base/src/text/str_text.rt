@@ -91,8 +91,10 @@ impl<'t> TextSource for StrText<'t> {
         if !text.is_char_boundary(index) {
             return None;
         }
-        match text[index..].chars().next() {
-            Some(c) => Some((c, c.len_utf8())),
+        let rest = &text[index..];
+        let mut chars = rest.chars();
+        match chars.next() {
+            Some(c) => Some((c, rest.len() - chars.as_str().len())),
             None => None,
         }
     }

@@ -15,7 +15,7 @@ use Rattle.bidi_base.proofs.PerCharTests.{class_test}
 use Rattle.bidi_base.proofs.UnitsLemmas.{length-from_is_per_char}
 use Rattle.bidi_rules.specs.Status.{entry_count}
 use Rattle.bidi_rules.proofs.RunCutting.{IsCutTo-end, IsCutTo-none}
-use Rattle.bidi_rules.proofs.ExplicitUnits.{IsTurn, IsRead-start, IsRead-can, IsRead-kept, IsRead-removed, IsRead-levels, IsRead-classes, turn_of, few_characters, text_len-some}
+use Rattle.bidi_rules.proofs.ExplicitUnits.{IsTurn, IsRead-start, can_read, IsRead-kept, IsRead-removed, IsRead-levels, IsRead-classes, turn_of, few_characters, text_len-some}
 use Rattle.bidi_rules.proofs.explicit.compute_counted.Given.{Over}
 use Rattle.bidi_rules.proofs.explicit.compute_counted.Goals as goal
 use Rattle.bidi_rules.proofs.explicit.compute_counted.Goals.{In-Some, In-None}
@@ -53,7 +53,7 @@ pub read-status-requires : goal.read-status-requires
 read-status-requires g c =
     let it = comes g (goal.at.read-status-requires g c).In-Some in
     let few = few_characters g.T.TextSource.units g.met.T.TextSource.has_units (g.T.TextSource.characters c.args.text) c.args.original_classes.now c.len-units.result c.len-units.ensures (omega arith) in
-    let can = IsRead-can g.T.TextSource.units (g.T.TextSource.characters c.args.text) c.args.para_level (per_char L g.T.TextSource.units (g.T.TextSource.characters c.args.text) c.args.original_classes.now) (length c.loop-start.yielded) c.loop-start.stack c.loop-start.levels c.loop-start.processing_classes (map bounds c.loop-start.runs.items) c.loop-start.run_start c.loop-start.last_level _ c.requires.explicit it.here.within few it.here.class c.loop-start.invariant.2 in
+    let can = can_read g.T.TextSource.units (g.T.TextSource.characters c.args.text) c.args.para_level (per_char L g.T.TextSource.units (g.T.TextSource.characters c.args.text) c.args.original_classes.now) (length c.loop-start.yielded) c.loop-start.stack _ c.requires.explicit it.here.within few it.here.class c.loop-start.invariant.2.machine in
     record { poppable = can.poppable; depth = (c.args.para_level, can.depth); counts = can.counts }
 
 pub write-requires-clause-levels : goal.write-requires-clause-levels

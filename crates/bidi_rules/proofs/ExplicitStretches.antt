@@ -1,0 +1,536 @@
+-- The explicit pass by stretches: where no control comes the status stands still, so the characters there have one level and are under one override.
+use Rattle.std.proofs.Common.{◌≡◌, ℕ, zero, suc, ◌+◌, ◌-◌, ◌<◌, ◌≤◌, ◌^◌, Bool, true, false, not, ◌||◌, cond, eqb, List, [], ◌∷◌, ◌++◌, length, get_or, map, take, drop, Option, Some, None, unwrap_or, refl, sym, ap, subst, ◌∙◌, arith, inl, inr, length-append, length-take, length-drop, eq-eqb}
+use Rattle.std.specs.Prelude.{if◌then◌else◌, replicate}
+use Rattle.std.proofs.lemmas.Bool.{cases_Bool, cases_lt, cases_eq, cond-true, cond-false, or_parts, both_ways}
+use Rattle.std.proofs.lemmas.List.{drop-drop, ext_get_or, length-map, length-replicate, get_or-map, get_or-take, get_or-drop, get_or_append_left, get_or-append_right, get_or-replicate}
+use Rattle.bidi_base.specs.declared.char_data.BidiClass.{BidiClass}
+use Rattle.bidi_base.specs.declared.char_data.BidiClass.TheVariants.{L, BN, B, LRE, LRO, RLE, RLO, PDF}
+use Rattle.bidi_base.specs.Classes.{is_kept, is_kept_in_place, is_opener, is_paragraph_separator, is_pdf, is_pdi, is_removed}
+use Rattle.bidi_base.specs.Explicit.{explicit_levels, processing_classes}
+use Rattle.bidi_base.specs.Places.{class_at}
+use Rattle.bidi_base.specs.Search.{IsFirst}
+use Rattle.bidi_base.specs.Sequences.{is_kept_at, level_at}
+use Rattle.bidi_base.specs.StatusMachine.{Entry, State, start, closed, opened, step, state_at, counted, IsWithinDepth, IsPoppable}
+use Rattle.bidi_base.specs.Text.{is_boundary, place, text_len, is_per_char, per_char, per_unit, IsPerChar}
+use Rattle.bidi_base.proofs.ExplicitLemmas.{length-explicit_levels, length-processing_classes, level_at-explicit_levels, class_at-processing_classes}
+use Rattle.bidi_base.proofs.PerUnit.{length-per_char, length-per_unit, get_or-per_unit}
+use Rattle.bidi_base.proofs.PlaceLemmas.{is_boundary-place, place-end, place-le, place-lt, place-mono, place-more, place-zero, UnitOf, unit_of}
+use Rattle.bidi_base.proofs.StatusBounds.{state_at-more, state_at-IsPoppable, closed-IsWithinDepth, closed-counted}
+use Rattle.bidi_base.proofs.StatusMachine.{answer_level-explicit_level}
+use Rattle.bidi_base.proofs.TextLemmas.{HasUnits, length-le-text_len}
+use Rattle.bidi_base.proofs.UnitsLemmas.{length-from_IsPerChar, per_unit-from_IsPerChar, IsPerChar-from_is_per_char}
+use Rattle.bidi_base.specs.contracts.char_data.BidiClassPartialEq.TheImpl.{ghosts}
+use Rattle.bidi_base.specs.Units.{level_run_ranges}
+use Rattle.bidi_base.proofs.PerCharTests.{class_test}
+use Rattle.bidi_rules.specs.ExplicitPass.{IsCutTo, filled, differs, runs_before, run_start}
+use Rattle.bidi_rules.specs.ExplicitStretches.{is_control, put_over, overridden, IsOverridden, Paragraph, stored, levels_of, classes_of, IsReadTo}
+use Rattle.bidi_rules.specs.declared.explicit.stretches.OpenRun.{OpenRun}
+use Rattle.bidi_rules.proofs.ExplicitUnits.{CanRead, can_read, length-filled, processing_class-is, level_at as level_of_next, put_at, next_at, text_len-some}
+use Rattle.bidi_rules.proofs.RunCutting.{IsCutTo-start, IsCutTo-removed, IsCutTo-kept, IsCutTo-end, IsCutTo-none}
+use Rattle.bidi_rules.proofs.StackLemmas.{closed-other, opened-other}
+
+-- ---- a part of a list that is written over
+
+module _ {X : Type 0} (from len : ℕ) (row units : List X) (d : X) (fits : from + len ≤ length units) (long : length row ≡ len) where
+  abbrev written : List X
+  written = take from units ++ (row ++ drop (from + len) units)
+
+  front_long : length (take from units) ≡ from
+  front_long = omega (arith, length-take from units)
+
+  part-inside : (k : ℕ) → from ≤ k → k < from + len → get_or written k d ≡ get_or row (k - from) d
+  part-inside k a b = get_or-append_right (take from units) (row ++ drop (from + len) units) from k d front_long a ∙ get_or_append_left row (drop (from + len) units) d (k - from) (omega arith)
+
+  part-below : (k : ℕ) → k < from → get_or written k d ≡ get_or units k d
+  part-below k a = get_or_append_left (take from units) (row ++ drop (from + len) units) d k (omega (arith, front_long)) ∙ get_or-take from units k d a
+
+  part-above : (k : ℕ) → from + len ≤ k → get_or written k d ≡ get_or units k d
+  part-above k a =
+      let at : from + len + (k - from - len) ≡ k = omega arith in
+      get_or-append_right (take from units) (row ++ drop (from + len) units) from k d front_long (omega arith)
+      ∙ get_or-append_right row (drop (from + len) units) len (k - from) d long (omega arith)
+      ∙ get_or-drop (from + len) units (k - from - len) d
+      ∙ ap (λ n. get_or units n d) at
+
+filled-inside : {X : Type 0} (from len : ℕ) (x d : X) (units : List X) → from + len ≤ length units → (k : ℕ) → from ≤ k → k < from + len → get_or (filled from len x units) k d ≡ x
+filled-inside from len x d units fits k a b = part-inside from len (replicate len x) units d fits (length-replicate len x) k a b ∙ get_or-replicate len (k - from) x d (omega arith)
+
+overridden_part : (override : Option BidiClass) (put : BidiClass) (from to : ℕ) (old row : List BidiClass) → override ≡ Some put → from ≤ to → to ≤ length old → row ≡ map (put_over put) (take (to - from) (drop from old))
+    → IsOverridden override from to old (take from old ++ (row ++ drop (from + (to - from)) old))
+overridden_part override put from to old row some order fits is =
+    let len : ℕ = to - from in
+    let part : List BidiClass = take len (drop from old) in
+    let part_long : length part ≡ len = omega (arith, length-take len (drop from old), length-drop from old) in
+    let row_long : length row ≡ len = ap length is ∙ length-map part (put_over put) ∙ part_long in
+    let room : from + len ≤ length old = omega arith in
+    record {
+      inside = λ u a b.
+          let at : from + (u - from) ≡ u = omega arith in
+          part-inside from len row old L room row_long u a (omega arith)
+          ∙ ap (λ (r : List BidiClass). get_or r (u - from) L) is
+          ∙ get_or-map (put_over put) part (u - from) L L (omega arith)
+          ∙ ap (put_over put) (get_or-take len (drop from old) (u - from) L (omega arith) ∙ get_or-drop from old (u - from) L ∙ ap (class_at old) at)
+          ∙ ap (λ (o : Option BidiClass). overridden o (class_at old u)) (sym some);
+      below = λ u a. part-below from len row old L room row_long u a;
+      above = λ u a. part-above from len row old L room row_long u (omega arith);
+      long = omega (arith, length-append (take from old) (row ++ drop (from + len) old), length-append row (drop (from + len) old), length-take from old, length-drop (from + len) old);
+    }
+
+filled-below : {X : Type 0} (from len : ℕ) (x d : X) (units : List X) → from + len ≤ length units → (k : ℕ) → k < from → get_or (filled from len x units) k d ≡ get_or units k d
+filled-below from len x d units fits k a = part-below from len (replicate len x) units d fits (length-replicate len x) k a
+
+filled-above : {X : Type 0} (from len : ℕ) (x d : X) (units : List X) → from + len ≤ length units → (k : ℕ) → from + len ≤ k → get_or (filled from len x units) k d ≡ get_or units k d
+filled-above from len x d units fits k a = part-above from len (replicate len x) units d fits (length-replicate len x) k a
+
+pub IsOverridden-part : (override : Option BidiClass) (put : BidiClass) (from to : ℕ) (old row : List BidiClass) → override ≡ Some put → from ≤ to → to ≤ length old → row ≡ map (put_over put) (take (to - from) (drop from old))
+    → IsOverridden override from to old (take from old ++ (row ++ drop (to - from) (drop from old)))
+IsOverridden-part override put from to old row some order fits is =
+    rw (drop-drop (to - from) from old) (overridden_part override put from to old row some order fits is)
+
+-- ---- a class that is no control
+
+record IsPlain (c : BidiClass) : Type 0 where
+  separator : is_paragraph_separator c ≡ false
+  opener : is_opener c ≡ false
+  pdi : is_pdi c ≡ false
+  pdf : is_pdf c ≡ false
+
+plain_of : (c : BidiClass) → is_control c ≡ false → IsPlain c
+plain_of c e =
+    let front = or_parts (is_paragraph_separator c) (is_opener c || (is_pdi c || is_pdf c)) e in
+    let middle = or_parts (is_opener c) (is_pdi c || is_pdf c) front.1 in
+    let last = or_parts (is_pdi c) (is_pdf c) middle.1 in
+    record { separator = front.0; opener = middle.0; pdi = last.0; pdf = last.1 }
+
+step-plain : (c : BidiClass) (s : State) → is_control c ≡ false → step c s ≡ s
+step-plain c s e =
+    let h = plain_of c e in
+    ap (opened c) (closed-other c s h.pdi h.pdf) ∙ opened-other c s h.opener
+
+kept-plain : (c : BidiClass) → is_control c ≡ false → is_kept c ≡ is_kept_in_place c
+kept-plain LRE e = absurd (both_ways true e refl)
+kept-plain LRO e = absurd (both_ways true e refl)
+kept-plain RLE e = absurd (both_ways true e refl)
+kept-plain RLO e = absurd (both_ways true e refl)
+kept-plain PDF e = absurd (both_ways true e refl)
+kept-plain _ e = refl
+
+class-plain : (c : BidiClass) (override : Option BidiClass) → is_control c ≡ false → (if is_removed c then BN else if is_paragraph_separator c || is_removed c then c else unwrap_or override c) ≡ overridden override c
+class-plain LRE override e = absurd (both_ways true e refl)
+class-plain LRO override e = absurd (both_ways true e refl)
+class-plain RLE override e = absurd (both_ways true e refl)
+class-plain RLO override e = absurd (both_ways true e refl)
+class-plain PDF override e = absurd (both_ways true e refl)
+class-plain B override e = absurd (both_ways true e refl)
+class-plain _ None e = refl
+class-plain _ (Some put) e = refl
+
+-- ---- level runs over several characters
+
+module _ (len_of : ℕ → ℕ) (chars : List ℕ) (classes : List BidiClass) (levels : List ℕ) where
+  cut-removed : (i n : ℕ) (runs : List (ℕ × ℕ)) (from : ℕ) (last : Option ℕ) → ((k : ℕ) → i ≤ k → k < i + n → is_kept_at classes k ≡ false) → IsCutTo len_of chars classes levels i runs from last → IsCutTo len_of chars classes levels (i + n) runs from last
+  cut-removed i zero runs from last gone h = subst (λ k. IsCutTo len_of chars classes levels k runs from last) (omega arith) h
+  cut-removed i (suc n) runs from last gone h =
+      let next : i + n + 1 ≡ i + suc n = omega arith in
+      subst (λ k. IsCutTo len_of chars classes levels k runs from last) next
+      (IsCutTo-removed len_of chars classes levels (i + n) runs from last (gone (i + n) (omega arith) (omega arith)) (cut-removed i n runs from last (λ k a b. gone k a (omega arith)) h))
+
+  same_level : (level : ℕ) → differs (Some level) level ≡ false
+  same_level level = ap not (eq-eqb level level refl)
+
+  -- those behind a kept one at the same level go with its run
+  cut-same : (i n : ℕ) (runs : List (ℕ × ℕ)) (from level : ℕ) → ((k : ℕ) → i ≤ k → k < i + n → level ≡ level_at levels k) → IsCutTo len_of chars classes levels i runs from (Some level) → IsCutTo len_of chars classes levels (i + n) runs from (Some level)
+  cut-same i zero runs from level one h = subst (λ k. IsCutTo len_of chars classes levels k runs from (Some level)) (omega arith) h
+  cut-same i (suc n) runs from level one h =
+      let next : i + n + 1 ≡ i + suc n = omega arith in
+      let before = cut-same i n runs from level (λ k a b. one k a (omega arith)) h in
+      let there = place len_of chars (i + n) in
+      subst (λ k. IsCutTo len_of chars classes levels k runs from (Some level)) next
+      (elim (cases_Bool (is_kept_at classes (i + n))) [
+        | inl kept ↦
+            subst (λ (rs : List (ℕ × ℕ)). IsCutTo len_of chars classes levels (i + n + 1) rs from (Some level)) (cond-false (differs (Some level) level) (runs ++ (from, there) ∷ []) runs (same_level level))
+            (subst (λ (n' : ℕ). IsCutTo len_of chars classes levels (i + n + 1) (runs_before (Some level) level from there runs) n' (Some level)) (cond-false (differs (Some level) level) there from (same_level level))
+            (IsCutTo-kept len_of chars classes levels (i + n) runs from (Some level) level kept (one (i + n) (omega arith) (omega arith)) before))
+        | inr gone ↦ IsCutTo-removed len_of chars classes levels (i + n) runs from (Some level) gone before
+      ])
+
+-- ---- the characters of a paragraph
+
+module _ (p : Paragraph) (has_units : HasUnits p.len_of) (whole : IsPerChar p.len_of p.chars p.original) where
+  abbrev place_of : ℕ → ℕ
+  place_of k = place p.len_of p.chars k
+
+  original_is : p.original ≡ per_unit p.len_of p.chars (stored p)
+  original_is = per_unit-from_IsPerChar L p.len_of has_units p.chars p.original whole
+
+  stored_long : length (stored p) ≡ length p.chars
+  stored_long = length-per_char L p.len_of p.chars p.original
+
+  original_long : length p.original ≡ text_len p.len_of p.chars
+  original_long = length-from_IsPerChar p.len_of p.chars p.original whole
+
+  levels_long : length (levels_of p) ≡ length p.chars
+  levels_long = length-explicit_levels p.level (stored p) ∙ stored_long
+
+  classes_long : length (classes_of p) ≡ length p.chars
+  classes_long = length-processing_classes p.level (stored p) ∙ stored_long
+
+  class-at_unit : (k j : ℕ) → k < length p.chars → j < p.len_of (get_or p.chars k 0) → class_at p.original (place_of k + j) ≡ class_at (stored p) k
+  class-at_unit k j fits below = ap (λ (cs : List BidiClass). class_at cs (place_of k + j)) original_is ∙ get_or-per_unit p.len_of p.chars (stored p) k j 0 L stored_long fits below
+
+  class-at_place : (k : ℕ) → k < length p.chars → class_at p.original (place_of k) ≡ class_at (stored p) k
+  class-at_place k fits =
+      let here : place_of k ≡ place_of k + 0 = omega arith in
+      ap (class_at p.original) here ∙ class-at_unit k 0 fits (omega (arith, has_units (get_or p.chars k 0)))
+
+  -- a unit between two places is one of a character between them
+  unit-from : (i v : ℕ) → place_of i ≤ v → (w : UnitOf p.len_of p.chars v) → i ≤ w.index
+  unit-from i v above w = elim (cases_lt w.index i) [
+    | inl past ↦ absurd (omega (arith, w.at_place, w.below, place-more p.len_of p.chars w.index 0 w.within, place-mono p.len_of p.chars (w.index + 1) i (omega arith)))
+    | inr order ↦ order
+  ]
+
+  unit-to : (j v : ℕ) → v < place_of j → (w : UnitOf p.len_of p.chars v) → w.index < j
+  unit-to j v below w = elim (cases_lt w.index j) [
+    | inl order ↦ order
+    | inr past ↦ absurd (omega (arith, w.at_place, place-mono p.len_of p.chars j w.index past))
+  ]
+
+  -- a character that begins at unit u, behind others
+  record BeginsFrom (i u : ℕ) : Type 0 where
+    index : ℕ
+    order : i ≤ index
+    within : index < length p.chars
+    there : u ≡ place_of index
+
+  -- the first unit that passes a test is the first one of its character
+  first-begins : (test : BidiClass → Bool) (i from to u : ℕ) → from ≡ place_of i → to ≤ length p.original → IsFirst test p.original from to u → u < to → BeginsFrom i u
+  first-begins test i from to u from_is fits h inside =
+      let w = unit_of p.len_of p.chars u (omega (arith, original_long)) in
+      let order : i ≤ w.index = unit-from i u (omega (arith, h.begins)) w in
+      let after = place-mono p.len_of p.chars i w.index order in
+      elim (cases_eq w.offset 0) [
+        | inl none ↦ record { index = w.index; order = order; within = w.within; there = omega (arith, w.at_place) }
+        | inr some ↦ absurd (both_ways (test (class_at p.original (place_of w.index))) (h.before (place_of w.index) (omega arith) (omega (arith, w.at_place)))
+            (ap test (class-at_place w.index w.within ∙ sym (class-at_unit w.index w.offset w.within w.below) ∙ ap (class_at p.original) (sym w.at_place)) ∙ h.at inside))
+      ]
+
+  -- where a stretch without controls ends
+  record EndsAt (i to : ℕ) : Type 0 where
+    index : ℕ
+    order : i ≤ index
+    within : index ≤ length p.chars
+    there : to ≡ place_of index
+
+  stretch-ends : (i from to : ℕ) → from ≡ place_of i → i ≤ length p.chars → IsFirst is_control p.original from (length p.original) to → EndsAt i to
+  stretch-ends i from to from_is short h = elim (cases_lt to (length p.original)) [
+    | inl inside ↦
+        let b = first-begins is_control i from (length p.original) to from_is (omega arith) h inside in
+        record { index = b.index; order = b.order; within = omega (arith, b.within); there = b.there }
+    | inr past ↦ record { index = length p.chars; order = short; within = omega arith; there = omega (arith, h.ends, original_long, place-end p.len_of p.chars (length p.chars) (omega arith)) }
+  ]
+
+  -- what holds of the class of each unit holds of each character
+  each-char : (test : BidiClass → Bool) (b : Bool) (i j from to : ℕ) → from ≡ place_of i → to ≡ place_of j → j ≤ length p.chars → ((u : ℕ) → from ≤ u → u < to → test (class_at p.original u) ≡ b) → (k : ℕ) → i ≤ k → k < j → test (class_at (stored p) k) ≡ b
+  each-char test b i j from to from_is to_is short each k above below =
+      ap test (sym (class-at_place k (omega arith)))
+      ∙ each (place_of k) (omega (arith, place-mono p.len_of p.chars i k above)) (omega (arith, place-lt p.len_of p.chars has_units k j below (omega arith)))
+
+  -- where characters i to j are no controls
+  module _ (i j : ℕ) (order : i ≤ j) (short : j ≤ length p.chars) (plain : (k : ℕ) → i ≤ k → k < j → is_control (class_at (stored p) k) ≡ false) where
+    state-still : (n : ℕ) → i + n ≤ j → state_at p.level (stored p) (i + n) ≡ state_at p.level (stored p) i
+    state-still zero fits = ap (state_at p.level (stored p)) (let same : i + 0 ≡ i = omega arith in same)
+    state-still (suc n) fits =
+        let next : i + suc n ≡ i + n + 1 = omega arith in
+        ap (state_at p.level (stored p)) next
+        ∙ state_at-more p.level (stored p) (i + n)
+        ∙ step-plain (class_at (stored p) (i + n)) (state_at p.level (stored p) (i + n)) (plain (i + n) (omega arith) (omega arith))
+        ∙ state-still n (omega arith)
+
+    state-to : (k : ℕ) → i ≤ k → k ≤ j → state_at p.level (stored p) k ≡ state_at p.level (stored p) i
+    state-to k above upto =
+        let there : k ≡ i + (k - i) = omega arith in
+        ap (state_at p.level (stored p)) there ∙ state-still (k - i) (omega arith)
+
+    closed-still : (k : ℕ) → i ≤ k → k < j → closed (class_at (stored p) k) (state_at p.level (stored p) k) ≡ state_at p.level (stored p) i
+    closed-still k above below =
+        let h = plain_of (class_at (stored p) k) (plain k above below) in
+        closed-other (class_at (stored p) k) (state_at p.level (stored p) k) h.pdi h.pdf ∙ state-to k above (omega arith)
+
+    level-still : (k : ℕ) → i ≤ k → k < j → get_or (levels_of p) k 0 ≡ (state_at p.level (stored p) i).top.status.level
+    level-still k above below =
+        let fits : k < length (stored p) = omega (arith, stored_long) in
+        let h = plain_of (class_at (stored p) k) (plain k above below) in
+        level_at-explicit_levels p.level (stored p) k fits
+        ∙ sym (answer_level-explicit_level p.level (stored p) k fits)
+        ∙ cond-false (is_paragraph_separator (class_at (stored p) k)) _ _ h.separator
+        ∙ ap (λ (s : State). s.top.status.level) (closed-still k above below)
+
+    class-still : (k : ℕ) → i ≤ k → k < j → class_at (classes_of p) k ≡ overridden (state_at p.level (stored p) i).top.status.override (class_at (stored p) k)
+    class-still k above below =
+        let fits : k < length (stored p) = omega (arith, stored_long) in
+        class_at-processing_classes p.level (stored p) k fits
+        ∙ sym (processing_class-is p.level (stored p) k fits)
+        ∙ class-plain (class_at (stored p) k) (closed (class_at (stored p) k) (state_at p.level (stored p) k)).top.status.override (plain k above below)
+        ∙ ap (λ (s : State). overridden s.top.status.override (class_at (stored p) k)) (closed-still k above below)
+
+-- ---- a stretch is read
+
+module _ (p : Paragraph) (from to : ℕ) (stack : State) (levels : List ℕ) (classes : List BidiClass) (runs : List (ℕ × ℕ)) (run : OpenRun) (h : IsReadTo p from stack levels classes runs run)
+    (stretch : IsFirst is_control p.original from (length p.original) to) where
+  end : EndsAt p h.has_units h.per_char h.index to
+  end = stretch-ends p h.has_units h.per_char h.index from to h.begins h.within stretch
+
+  plain : (k : ℕ) → h.index ≤ k → k < end.index → is_control (class_at (stored p) k) ≡ false
+  plain = each-char p h.has_units h.per_char is_control false h.index end.index from to h.begins end.there end.within stretch.before
+
+  abbrev IsCut : ℕ → List (ℕ × ℕ) → ℕ → Option ℕ → Type 0
+  IsCut k rs start last = IsCutTo p.len_of p.chars (stored p) (levels_of p) k rs start last
+
+  level-here : (k : ℕ) → h.index ≤ k → k < end.index → get_or (levels_of p) k 0 ≡ stack.top.status.level
+  level-here k above below = level-still p h.has_units h.per_char h.index end.index end.order end.within plain k above below ∙ ap (λ (s : State). s.top.status.level) (sym h.machine)
+
+  class-here : (k : ℕ) → h.index ≤ k → k < end.index → class_at (classes_of p) k ≡ overridden stack.top.status.override (class_at (stored p) k)
+  class-here k above below =
+      class-still p h.has_units h.per_char h.index end.index end.order end.within plain k above below ∙ ap (λ (s : State). overridden s.top.status.override (class_at (stored p) k)) (sym h.machine)
+
+  kept-as : (b : Bool) (j u : ℕ) → u ≡ place p.len_of p.chars j → j ≤ end.index → ((v : ℕ) → from ≤ v → v < u → is_kept_in_place (class_at p.original v) ≡ b) → (k : ℕ) → h.index ≤ k → k < j → is_kept_at (stored p) k ≡ b
+  kept-as b j u there upto each k above below =
+      let last = end.within in
+      kept-plain (class_at (stored p) k) (plain k above (omega arith))
+      ∙ each-char p h.has_units h.per_char is_kept_in_place b h.index j from u h.begins there (omega arith) each k above below
+
+  -- up to the first kept unit
+  cut-before : (j u : ℕ) → u ≡ place p.len_of p.chars j → h.index ≤ j → j ≤ end.index → ((v : ℕ) → from ≤ v → v < u → is_kept_in_place (class_at p.original v) ≡ false) → IsCut j runs run.start run.last_level
+  cut-before j u there order upto none =
+      let all : h.index + (j - h.index) ≡ j = omega arith in
+      subst (λ k. IsCut k runs run.start run.last_level) all
+      (cut-removed p.len_of p.chars (stored p) (levels_of p) h.index (j - h.index) runs run.start run.last_level (λ k above below. kept-as false j u there upto none k above (omega arith)) h.cut)
+
+  cut-none : (v : ℕ) → IsFirst is_kept_in_place p.original from to v → to ≤ v → IsCut end.index runs run.start run.last_level
+  cut-none v first past = cut-before end.index to end.there end.order (omega arith) (λ u above below. first.before u above (omega arith))
+
+  cut-some : (v level : ℕ) → level ≡ stack.top.status.level → IsFirst is_kept_in_place p.original from to v → v < to → IsCut end.index (runs_before run.last_level level run.start v runs) (run_start run.last_level level run.start v) (Some level)
+  cut-some v level level_is first inside =
+      let last = stretch.ends in
+      let b = first-begins p h.has_units h.per_char is_kept_in_place h.index from to v h.begins (omega arith) first inside in
+      let below : b.index < end.index = elim (cases_lt b.index end.index) [
+        | inl less ↦ less
+        | inr past ↦ absurd (omega (arith, b.there, end.there, place-mono p.len_of p.chars end.index b.index past))
+      ] in
+      let kept : is_kept_at (stored p) b.index ≡ true =
+      kept-plain (class_at (stored p) b.index) (plain b.index b.order below) ∙ ap is_kept_in_place (sym (ap (class_at p.original) b.there ∙ class-at_place p h.has_units h.per_char b.index b.within)) ∙ first.at inside in
+      let here = IsCutTo-kept p.len_of p.chars (stored p) (levels_of p) b.index runs run.start run.last_level level kept (level_is ∙ sym (level-here b.index b.order below)) (cut-before b.index v b.there b.order (omega arith) first.before) in
+      let there : IsCut (b.index + 1) (runs_before run.last_level level run.start v runs) (run_start run.last_level level run.start v) (Some level) =
+      subst (λ u. IsCut (b.index + 1) (runs_before run.last_level level run.start u runs) (run_start run.last_level level run.start u) (Some level)) (sym b.there) here in
+      let all : b.index + 1 + (end.index - (b.index + 1)) ≡ end.index = omega arith in
+      let start_is : h.index ≤ b.index = b.order in
+      subst (λ k. IsCut k (runs_before run.last_level level run.start v runs) (run_start run.last_level level run.start v) (Some level)) all
+      (cut-same p.len_of p.chars (stored p) (levels_of p) (b.index + 1) (end.index - (b.index + 1)) (runs_before run.last_level level run.start v runs) (run_start run.last_level level run.start v) level
+      (λ k above upto. level_is ∙ sym (level-here k (omega arith) (omega arith))) there)
+
+  stretch-read : (level : ℕ) (override : Option BidiClass) (now_levels : List ℕ) (now_classes : List BidiClass) (now_runs : List (ℕ × ℕ)) (now : OpenRun) → level ≡ stack.top.status.level → override ≡ stack.top.status.override
+      → now_levels ≡ filled from (to - from) level levels → IsOverridden override from to classes now_classes → IsCut end.index now_runs now.start now.last_level → IsReadTo p to stack now_levels now_classes now_runs now
+  stretch-read level override now_levels now_classes now_runs now level_is override_is filled_is over cut =
+      let begins = stretch.begins in
+      let ends = stretch.ends in
+      let long = original_long p h.has_units h.per_char in
+      let room : from + (to - from) ≤ length levels = omega (arith, h.levels_long) in
+      let unit : (v : ℕ) → v < to → UnitOf p.len_of p.chars v = λ v below. unit_of p.len_of p.chars v (omega arith) in
+      record {
+        has_units = h.has_units;
+        per_char = h.per_char;
+        index = end.index;
+        begins = end.there;
+        within = end.within;
+        machine = h.machine ∙ sym (state-to p h.has_units h.per_char h.index end.index end.order end.within plain end.index end.order (omega arith));
+        levels_long = ap length filled_is ∙ length-filled from (to - from) level levels room ∙ h.levels_long;
+        classes_long = over.long ∙ h.classes_long;
+        levels_written = λ v below. ap (λ (ls : List ℕ). get_or ls v 0) filled_is ∙ elim (cases_lt v from) [
+          | inl old ↦ filled-below from (to - from) level 0 levels room v old ∙ h.levels_written v old
+          | inr new' ↦
+              let w = unit v below in
+              filled-inside from (to - from) level 0 levels room v new' (omega arith)
+              ∙ level_is
+              ∙ sym (level-here w.index (unit-from p h.has_units h.per_char h.index v (omega (arith, h.begins)) w) (unit-to p h.has_units h.per_char end.index v (omega (arith, end.there)) w))
+              ∙ sym (get_or-per_unit p.len_of p.chars (levels_of p) w.index w.offset 0 0 (levels_long p h.has_units h.per_char) w.within w.below)
+              ∙ ap (λ (u : ℕ). get_or (per_unit p.len_of p.chars (levels_of p)) u 0) (sym w.at_place)
+        ];
+        classes_written = λ v below. elim (cases_lt v from) [
+          | inl old ↦ over.below v old ∙ h.classes_written v old
+          | inr new' ↦
+              let w = unit v below in
+              over.inside v new' below
+              ∙ ap (λ (o : Option BidiClass). overridden o (class_at classes v)) override_is
+              ∙ ap (overridden stack.top.status.override) (h.unread v new' ∙ ap (class_at p.original) w.at_place ∙ class-at_unit p h.has_units h.per_char w.index w.offset w.within w.below)
+              ∙ sym (class-here w.index (unit-from p h.has_units h.per_char h.index v (omega (arith, h.begins)) w) (unit-to p h.has_units h.per_char end.index v (omega (arith, end.there)) w))
+              ∙ sym (get_or-per_unit p.len_of p.chars (classes_of p) w.index w.offset 0 L (classes_long p h.has_units h.per_char) w.within w.below)
+              ∙ ap (class_at (per_unit p.len_of p.chars (classes_of p))) (sym w.at_place)
+        ];
+        unread = λ v above. over.above v above ∙ h.unread v (omega arith);
+        cut = cut;
+      }
+
+  module _ (level : ℕ) (override : Option BidiClass) (now_levels : List ℕ) (now_classes : List BidiClass) (level_is : level ≡ stack.top.status.level) (override_is : override ≡ stack.top.status.override)
+      (filled_is : now_levels ≡ filled from (to - from) level levels) (over : IsOverridden override from to classes now_classes) (v : ℕ) (first : IsFirst is_kept_in_place p.original from to v) where
+    -- in which no character is kept
+    pub stretch-none : to ≤ v → IsReadTo p to stack now_levels now_classes runs run
+    stretch-none past = stretch-read level override now_levels now_classes runs run level_is override_is filled_is over (cut-none v first past)
+
+    -- in which the first kept one begins at v
+    pub stretch-some : (now_runs : List (ℕ × ℕ)) (now : OpenRun) → v < to → now_runs ≡ runs_before run.last_level level run.start v runs → now ≡ record { start = run_start run.last_level level run.start v; last_level = Some level }
+        → IsReadTo p to stack now_levels now_classes now_runs now
+    stretch-some now_runs now inside runs_is now_is =
+        stretch-read level override now_levels now_classes now_runs now level_is override_is filled_is over
+        (subst (λ (r : OpenRun). IsCut end.index now_runs r.start r.last_level) (sym now_is)
+        (subst (λ (rs : List (ℕ × ℕ)). IsCut end.index rs (run_start run.last_level level run.start v) (Some level)) (sym runs_is) (cut-some v level level_is first inside)))
+
+-- ---- a control is read
+
+module _ (p : Paragraph) (at : ℕ) (stack : State) (levels : List ℕ) (classes : List BidiClass) (runs : List (ℕ × ℕ)) (run : OpenRun) (h : IsReadTo p at stack levels classes runs run) (inside : at < length p.original) where
+  control-fits : h.index < length p.chars
+  control-fits = elim (cases_lt h.index (length p.chars)) [
+    | inl fits ↦ fits
+    | inr past ↦ absurd (omega (arith, h.begins, place-end p.len_of p.chars h.index past, original_long p h.has_units h.per_char))
+  ]
+
+  control-class : class_at p.original at ≡ class_at (stored p) h.index
+  control-class = ap (class_at p.original) h.begins ∙ class-at_place p h.has_units h.per_char h.index control-fits
+
+  pub control-can : p.level ≤ 125 → length p.original < 2 ^ 64 → CanRead p.len_of p.chars p.level (stored p) (class_at p.original at) stack
+  control-can low few =
+      can_read p.len_of p.chars p.level (stored p) h.index stack (class_at p.original at) low (omega (arith, control-fits, stored_long p h.has_units h.per_char))
+      (omega (arith, stored_long p h.has_units h.per_char, length-le-text_len p.len_of h.has_units p.chars, original_long p h.has_units h.per_char)) control-class h.machine
+
+  pub control-begins : is_boundary p.len_of p.chars at ≡ true
+  control-begins = ap (is_boundary p.len_of p.chars) h.begins ∙ is_boundary-place p.len_of p.chars h.index
+
+  -- where it ends
+  abbrev pub Ends : ℕ → Type 0
+  Ends next = (k : ℕ) → k < length p.chars → at ≡ place p.len_of p.chars k → next ≡ place p.len_of p.chars (k + 1)
+
+  pub control-some : (next : ℕ) → Ends next → at < next
+  control-some next ends = omega (arith, ends h.index control-fits h.begins, h.begins, place-lt p.len_of p.chars h.has_units h.index (h.index + 1) (omega arith) control-fits)
+
+  module _ (next : ℕ) (ends : Ends next) (now : State) (status : Entry) (level : ℕ) (put : BidiClass) (now_is : now ≡ step (class_at p.original at) stack) (status_is : status ≡ (closed (class_at p.original at) stack).top)
+      (level_is : level ≡ (if is_paragraph_separator (class_at p.original at) then p.level else status.status.level))
+      (put_is : put ≡ (if is_removed (class_at p.original at) then BN else if is_paragraph_separator (class_at p.original at) || is_removed (class_at p.original at) then class_at p.original at else unwrap_or status.status.override (class_at p.original at)))
+      (now_levels : List ℕ) (now_classes : List BidiClass) (levels_are : now_levels ≡ filled at (next - at) level levels) (classes_are : now_classes ≡ filled at (next - at) put classes) where
+    within : h.index < length (stored p)
+    within = omega (arith, control-fits, stored_long p h.has_units h.per_char)
+
+    level-at_control : level ≡ get_or (levels_of p) h.index 0
+    level-at_control = level_of_next p.len_of p.chars p.level (stored p) h.index within (class_at p.original at) control-class stack now status level put now_is status_is level_is put_is h.machine
+
+    put-at_control : put ≡ class_at (classes_of p) h.index
+    put-at_control = put_at p.len_of p.chars p.level (stored p) h.index within (class_at p.original at) control-class stack now status level put now_is status_is level_is put_is h.machine
+
+    control-read : (now_runs : List (ℕ × ℕ)) (now_run : OpenRun) → IsCutTo p.len_of p.chars (stored p) (levels_of p) (h.index + 1) now_runs now_run.start now_run.last_level → IsReadTo p next now now_levels now_classes now_runs now_run
+    control-read now_runs now_run cut =
+        let some = control-some next ends in
+        let there : next ≡ place p.len_of p.chars (h.index + 1) = ends h.index control-fits h.begins in
+        let more : place p.len_of p.chars (h.index + 1) ≡ place p.len_of p.chars h.index + p.len_of (get_or p.chars h.index 0) = place-more p.len_of p.chars h.index 0 control-fits in
+        let long = original_long p h.has_units h.per_char in
+        let room : at + (next - at) ≤ text_len p.len_of p.chars = omega (arith, place-le p.len_of p.chars (h.index + 1)) in
+        let room_levels : at + (next - at) ≤ length levels = omega (arith, h.levels_long) in
+        let room_classes : at + (next - at) ≤ length classes = omega (arith, h.classes_long) in
+        let offset : (v : ℕ) → at ≤ v → v ≡ place p.len_of p.chars h.index + (v - at) = λ v above. omega (arith, h.begins) in
+        record {
+          has_units = h.has_units;
+          per_char = h.per_char;
+          index = h.index + 1;
+          begins = there;
+          within = omega (arith, control-fits);
+          machine = next_at p.len_of p.chars p.level (stored p) h.index within (class_at p.original at) control-class stack now status level put now_is status_is level_is put_is h.machine;
+          levels_long = ap length levels_are ∙ length-filled at (next - at) level levels room_levels ∙ h.levels_long;
+          classes_long = ap length classes_are ∙ length-filled at (next - at) put classes room_classes ∙ h.classes_long;
+          levels_written = λ v below. ap (λ (ls : List ℕ). get_or ls v 0) levels_are ∙ elim (cases_lt v at) [
+            | inl old ↦ filled-below at (next - at) level 0 levels room_levels v old ∙ h.levels_written v old
+            | inr new' ↦
+                filled-inside at (next - at) level 0 levels room_levels v new' (omega arith)
+                ∙ level-at_control
+                ∙ sym (get_or-per_unit p.len_of p.chars (levels_of p) h.index (v - at) 0 0 (levels_long p h.has_units h.per_char) control-fits (omega (arith, h.begins)))
+                ∙ ap (λ (u : ℕ). get_or (per_unit p.len_of p.chars (levels_of p)) u 0) (sym (offset v new'))
+          ];
+          classes_written = λ v below. ap (λ (cs : List BidiClass). class_at cs v) classes_are ∙ elim (cases_lt v at) [
+            | inl old ↦ filled-below at (next - at) put L classes room_classes v old ∙ h.classes_written v old
+            | inr new' ↦
+                filled-inside at (next - at) put L classes room_classes v new' (omega arith)
+                ∙ put-at_control
+                ∙ sym (get_or-per_unit p.len_of p.chars (classes_of p) h.index (v - at) 0 L (classes_long p h.has_units h.per_char) control-fits (omega (arith, h.begins)))
+                ∙ ap (class_at (per_unit p.len_of p.chars (classes_of p))) (sym (offset v new'))
+          ];
+          unread = λ v above. ap (λ (cs : List BidiClass). class_at cs v) classes_are ∙ filled-above at (next - at) put L classes room_classes v (omega arith) ∙ h.unread v (omega arith);
+          cut = cut;
+        }
+
+    pub control-removed : is_kept (class_at p.original at) ≡ false → IsReadTo p next now now_levels now_classes runs run
+    control-removed gone = control-read runs run (IsCutTo-removed p.len_of p.chars (stored p) (levels_of p) h.index runs run.start run.last_level (ap is_kept (sym control-class) ∙ gone) h.cut)
+
+    pub control-kept : (now_runs : List (ℕ × ℕ)) (now_run : OpenRun) → is_kept (class_at p.original at) ≡ true → now_runs ≡ runs_before run.last_level level run.start at runs
+        → now_run ≡ record { start = run_start run.last_level level run.start at; last_level = Some level } → IsReadTo p next now now_levels now_classes now_runs now_run
+    control-kept now_runs now_run kept runs_are run_is =
+        control-read now_runs now_run
+        (subst (λ (r : OpenRun). IsCutTo p.len_of p.chars (stored p) (levels_of p) (h.index + 1) now_runs r.start r.last_level) (sym run_is)
+        (subst (λ (rs : List (ℕ × ℕ)). IsCutTo p.len_of p.chars (stored p) (levels_of p) (h.index + 1) rs (run_start run.last_level level run.start at) (Some level)) (sym runs_are)
+        (subst (λ (u : ℕ). IsCutTo p.len_of p.chars (stored p) (levels_of p) (h.index + 1) (runs_before run.last_level level run.start u runs) (run_start run.last_level level run.start u) (Some level)) (sym h.begins)
+        (IsCutTo-kept p.len_of p.chars (stored p) (levels_of p) h.index runs run.start run.last_level level (ap is_kept (sym control-class) ∙ kept) level-at_control h.cut))))
+
+-- ---- the start and the end of a paragraph
+
+pub read-start : (p : Paragraph) → HasUnits p.len_of → is_per_char ghosts.eq p.len_of p.chars p.original ≡ true → (stack : State) (levels : List ℕ) (classes : List BidiClass) (runs : List (ℕ × ℕ)) (run : OpenRun) → stack ≡ start p.level
+    → length levels ≡ length p.original → classes ≡ p.original → runs ≡ [] → run ≡ record { start = 0; last_level = None } → IsReadTo p 0 stack levels classes runs run
+unfolding state_at
+read-start p has_units whole stack levels classes runs run new long same none first =
+    let per_char = IsPerChar-from_is_per_char ghosts.eq class_test p.len_of has_units p.chars p.original whole in
+    let units = original_long p has_units per_char in
+    record {
+      has_units = has_units;
+      per_char = per_char;
+      index = 0;
+      begins = sym (place-zero p.len_of p.chars);
+      within = omega arith;
+      machine = new;
+      levels_long = long ∙ units;
+      classes_long = ap length same ∙ units;
+      levels_written = λ v below. absurd (omega arith);
+      classes_written = λ v below. absurd (omega arith);
+      unread = λ v above. ap (λ (cs : List BidiClass). class_at cs v) same;
+      cut =
+          subst (λ (r : OpenRun). IsCutTo p.len_of p.chars (stored p) (levels_of p) 0 runs r.start r.last_level) (sym first)
+          (subst (λ (rs : List (ℕ × ℕ)). IsCutTo p.len_of p.chars (stored p) (levels_of p) 0 rs 0 None) (sym none) (IsCutTo-start p.len_of p.chars (stored p) (levels_of p)));
+    }
+
+module _ (p : Paragraph) (at : ℕ) (stack : State) (levels : List ℕ) (classes : List BidiClass) (runs : List (ℕ × ℕ)) (run : OpenRun) (h : IsReadTo p at stack levels classes runs run) (past : length p.original ≤ at) where
+  all_read : h.index ≡ length (stored p)
+  all_read =
+      let long = original_long p h.has_units h.per_char in
+      let count = stored_long p h.has_units h.per_char in
+      elim (cases_lt h.index (length p.chars)) [
+        | inl fewer ↦ absurd (omega (arith, h.begins, place-lt p.len_of p.chars h.has_units h.index (length p.chars) fewer fewer, place-end p.len_of p.chars (length p.chars) (omega arith)))
+        | inr upto ↦ omega (arith, h.within)
+      ]
+
+  pub read-levels : levels ≡ per_unit p.len_of p.chars (levels_of p)
+  read-levels =
+      let whole = length-per_unit p.len_of p.chars (levels_of p) (levels_long p h.has_units h.per_char) in
+      ext_get_or 0 levels (per_unit p.len_of p.chars (levels_of p)) (h.levels_long ∙ sym whole) (λ u below. h.levels_written u (omega (arith, h.levels_long, original_long p h.has_units h.per_char)))
+
+  pub read-classes : classes ≡ per_unit p.len_of p.chars (classes_of p)
+  read-classes =
+      let whole = length-per_unit p.len_of p.chars (classes_of p) (classes_long p h.has_units h.per_char) in
+      ext_get_or L classes (per_unit p.len_of p.chars (classes_of p)) (h.classes_long ∙ sym whole) (λ u below. h.classes_written u (omega (arith, h.classes_long, original_long p h.has_units h.per_char)))
+
+  -- the last run ends with the text
+  pub read-runs : (units : ℕ) → units ≡ length p.original → 0 < units → runs ++ (run.start, units) ∷ [] ≡ level_run_ranges p.len_of p.chars (stored p) (levels_of p)
+  read-runs units is some =
+      let long = original_long p h.has_units h.per_char in
+      let count = stored_long p h.has_units h.per_char in
+      ap (λ n. runs ++ (run.start, n) ∷ []) (is ∙ long)
+      ∙ IsCutTo-end p.len_of p.chars (stored p) (levels_of p) h.index runs run.start run.last_level all_read (omega (arith, text_len-some p.len_of p.chars (omega arith))) h.cut
+
+  pub read-no_runs : length p.original ≡ 0 → runs ≡ level_run_ranges p.len_of p.chars (stored p) (levels_of p)
+  read-no_runs none =
+      let long = original_long p h.has_units h.per_char in
+      let count = stored_long p h.has_units h.per_char in
+      IsCutTo-none p.len_of p.chars (stored p) (levels_of p) h.index runs run.start run.last_level all_read (omega (arith, length-le-text_len p.len_of h.has_units p.chars)) h.cut
