@@ -1,21 +1,20 @@
 -- The explicit pass by stretches: where no control comes the status stands still, so the characters there have one level and are under one override.
-use Rattle.std.proofs.Common.{◌≡◌, ℕ, zero, suc, ◌+◌, ◌-◌, ◌<◌, ◌≤◌, ◌^◌, Bool, true, false, not, ◌||◌, cond, eqb, List, [], ◌∷◌, ◌++◌, length, get_or, map, take, drop, Option, Some, None, unwrap_or, refl, sym, ap, subst, ◌∙◌, arith, inl, inr, length-append, length-take, length-drop, eq-eqb}
+use Rattle.std.proofs.Common.{◌≡◌, ℕ, zero, suc, ◌+◌, ◌-◌, ◌<◌, ◌≤◌, ◌^◌, Bool, true, false, not, ◌||◌, List, [], ◌∷◌, ◌++◌, length, get_or, map, take, drop, Option, Some, None, unwrap_or, refl, sym, ap, subst, ◌∙◌, arith, inl, inr, length-append, length-take, length-drop, eq-eqb}
 use Rattle.std.specs.Prelude.{if◌then◌else◌, replicate}
-use Rattle.std.proofs.lemmas.Bool.{cases_Bool, cases_lt, cases_eq, cond-true, cond-false, or_parts, both_ways}
+use Rattle.std.proofs.lemmas.Bool.{cases_Bool, cases_lt, cases_eq, cond-false, or_parts, both_ways}
 use Rattle.std.proofs.lemmas.List.{drop-drop, ext_get_or, length-map, length-replicate, get_or-map, get_or-take, get_or-drop, get_or_append_left, get_or-append_right, get_or-replicate}
 use Rattle.bidi_base.specs.declared.char_data.BidiClass.{BidiClass}
 use Rattle.bidi_base.specs.declared.char_data.BidiClass.TheVariants.{L, BN, B, LRE, LRO, RLE, RLO, PDF}
 use Rattle.bidi_base.specs.Classes.{is_kept, is_kept_in_place, is_opener, is_paragraph_separator, is_pdf, is_pdi, is_removed}
-use Rattle.bidi_base.specs.Explicit.{explicit_levels, processing_classes}
 use Rattle.bidi_base.specs.Places.{class_at}
 use Rattle.bidi_base.specs.Search.{IsFirst}
 use Rattle.bidi_base.specs.Sequences.{is_kept_at, level_at}
-use Rattle.bidi_base.specs.StatusMachine.{Entry, State, start, closed, opened, step, state_at, counted, IsWithinDepth, IsPoppable}
-use Rattle.bidi_base.specs.Text.{is_boundary, place, text_len, is_per_char, per_char, per_unit, IsPerChar}
+use Rattle.bidi_base.specs.StatusMachine.{Entry, State, start, closed, opened, step, state_at}
+use Rattle.bidi_base.specs.Text.{is_boundary, place, text_len, is_per_char, per_unit, IsPerChar}
 use Rattle.bidi_base.proofs.ExplicitLemmas.{length-explicit_levels, length-processing_classes, level_at-explicit_levels, class_at-processing_classes}
 use Rattle.bidi_base.proofs.PerUnit.{length-per_char, length-per_unit, get_or-per_unit}
 use Rattle.bidi_base.proofs.PlaceLemmas.{is_boundary-place, place-end, place-le, place-lt, place-mono, place-more, place-zero, UnitOf, unit_of}
-use Rattle.bidi_base.proofs.StatusBounds.{state_at-more, state_at-IsPoppable, closed-IsWithinDepth, closed-counted}
+use Rattle.bidi_base.proofs.StatusBounds.{state_at-more}
 use Rattle.bidi_base.proofs.StatusMachine.{answer_level-explicit_level}
 use Rattle.bidi_base.proofs.TextLemmas.{HasUnits, length-le-text_len}
 use Rattle.bidi_base.proofs.UnitsLemmas.{length-from_IsPerChar, per_unit-from_IsPerChar, IsPerChar-from_is_per_char}

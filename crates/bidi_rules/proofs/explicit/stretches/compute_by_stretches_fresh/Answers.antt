@@ -1,8 +1,7 @@
-use Rattle.std.proofs.Common.{◌≡◌, ℕ, List, ◌∷◌, [], ◌++◌, length, map, refl, ap, sym, ◌∙◌, arith}
+use Rattle.std.proofs.Common.{◌≡◌, ℕ, List, ◌∷◌, [], ◌++◌, length, map, refl, ap, ◌∙◌, arith}
 use Rattle.std.proofs.lemmas.List.{map-append}
 use Rattle.std.specs.declared.ops.Range.{Range}
 use Rattle.bidi_base.specs.Units.{bounds}
-use Rattle.bidi_base.specs.declared.char_data.BidiClass.{BidiClass}
 use Rattle.bidi_rules.specs.ExplicitStretches.{Paragraph}
 use Rattle.bidi_rules.proofs.ExplicitStretches.{read-start, read-levels, read-classes, read-runs, read-no_runs}
 use Rattle.bidi_rules.proofs.explicit.stretches.compute_by_stretches_fresh.Goals as goal

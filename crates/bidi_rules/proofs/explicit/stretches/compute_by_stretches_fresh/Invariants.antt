@@ -1,5 +1,5 @@
 -- The units so far are read.
-use Rattle.std.proofs.Common.{◌-◌, ◌≤◌, map}
+use Rattle.std.proofs.Common.{◌-◌, map}
 use Rattle.bidi_base.specs.Units.{bounds}
 use Rattle.bidi_rules.specs.ExplicitStretches.{IsReadTo}
 use Rattle.bidi_rules.proofs.explicit.stretches.compute_by_stretches_fresh.Given as goal

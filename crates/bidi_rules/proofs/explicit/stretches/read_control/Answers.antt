@@ -1,6 +1,5 @@
-use Rattle.std.proofs.Common.{◌≡◌, ℕ, List, ◌<◌, map, length, sym, ap, ◌∙◌, arith}
+use Rattle.std.proofs.Common.{◌<◌, map, sym, ◌∙◌, arith}
 use Rattle.bidi_base.specs.Units.{bounds}
-use Rattle.bidi_base.specs.declared.char_data.BidiClass.{BidiClass}
 use Rattle.bidi_rules.specs.ExplicitStretches.{Paragraph}
 use Rattle.bidi_rules.specs.Status.{seen}
 use Rattle.bidi_rules.proofs.ExplicitStretches.{control-begins, control-can, control-kept, control-removed, control-some}
