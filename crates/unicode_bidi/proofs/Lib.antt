@@ -14,6 +14,7 @@ pub mod PutUnits
 pub mod RunText
 pub mod SequenceUnits
 pub mod SequencesInPlace
+pub mod Skimmed
 pub mod StoredLine
 pub mod TextOfLine
 pub mod TextRead
