@@ -19,5 +19,6 @@ pub mod StoredLine
 pub mod TextOfLine
 pub mod TextRead
 pub mod Undecided
+pub mod WalkSteps
 pub mod WholeText
 pub mod WrittenRuns
