@@ -1,11 +1,11 @@
 -- Characters on which nothing depends, read one after another.
-use Rattle.std.proofs.Common.{suc, ◌≡◌, ℕ, ◌+◌, ◌-◌, ◌<◌, ◌≤◌, Bool, true, false, List, [], ◌∷◌, ◌++◌, length, take, drop, map, Option, Some, None, set, inl, inr, refl, sym, ap, subst, ◌∙◌, arith, add-one, append_assoc, length-append, length-take}
+use Rattle.std.proofs.Common.{suc, ◌≡◌, ℕ, ◌+◌, ◌-◌, ◌<◌, ◌≤◌, true, false, List, [], ◌∷◌, ◌++◌, length, take, drop, map, Some, set, inl, inr, refl, sym, ap, subst, ◌∙◌, arith, add-one, append_assoc, length-take}
 use Rattle.std.specs.Prelude.{replicate}
-use Rattle.std.proofs.Math.Seq.{take-append_seam, drop-append_seam, take-suc-set}
-use Rattle.std.proofs.lemmas.List.{append-nil, map-append, length-map, take-take, take-append-le, take-append-drop, length-replicate}
+use Rattle.std.proofs.Math.Seq.{drop-append_seam, take-suc-set}
+use Rattle.std.proofs.lemmas.List.{append-nil, map-append, length-map, take-append-le, take-append-drop}
 use Rattle.std.proofs.lemmas.Bool.{cases_lt, both_ways}
 use Rattle.std.proofs.lemmas.Bool.Decides.{nat_tests}
-use Rattle.std.proofs.lemmas.List.Elements.{All-nil, All-append, All-head, All-tail, All-push}
+use Rattle.std.proofs.lemmas.List.Elements.{All-nil, All-append, All-push}
 use Rattle.std.proofs.lemmas.List.Sums.{sum_by-append, sum_by-cons}
 use Rattle.bidi_base.specs.declared.char_data.BidiClass.{BidiClass}
 use Rattle.bidi_base.specs.Source.{Source}
@@ -16,7 +16,7 @@ use Rattle.bidi_base.proofs.PerUnit.{per_unit-push, per_unit-append}
 use Rattle.unicode_bidi.specs.declared.class_set.ClassSet.{ClassSet}
 use Rattle.unicode_bidi.specs.declared.first_walk.Met.{Met}
 use Rattle.unicode_bidi.specs.ClassSet.{has}
-use Rattle.unicode_bidi.specs.FirstWalk.{ahead, AreIdle, AreWritten, IsSkimmed, IsMet}
+use Rattle.unicode_bidi.specs.FirstWalk.{ahead, AreWritten, IsSkimmed, IsMet}
 
 -- ---- what is ahead of a boundary
 

@@ -1,19 +1,17 @@
 -- The walk over a text from one character to the next on which something depends.
-use Rattle.std.proofs.Common.{◌≡◌, ℕ, ◌+◌, ◌<◌, ◌≤◌, false, List, [], ◌∷◌, ◌++◌, length, take, drop, map, refl, sym, ap, subst, ◌∙◌, arith, append_assoc, length-append, length-drop, length-take, Option}
+use Rattle.std.proofs.Common.{◌≡◌, ℕ, ◌+◌, ◌≤◌, false, List, [], ◌∷◌, ◌++◌, length, take, drop, map, refl, sym, ap, subst, ◌∙◌, arith, append_assoc, length-append, length-drop, length-take, Option}
 use Rattle.std.specs.Prelude.{All, replicate}
 use Rattle.std.specs.declared.ops.Range.{Range}
 use Rattle.std.proofs.Math.Seq.{take-append_seam, drop-append_seam}
-use Rattle.std.proofs.lemmas.List.{append-nil, map-append, length-map, take-take, drop-drop, take-append-drop}
+use Rattle.std.proofs.lemmas.List.{append-nil, map-append, length-map, take-take, drop-drop}
 use Rattle.std.proofs.lemmas.List.Elements.{All-head, All-tail, All-weaker}
 use Rattle.std.proofs.lemmas.List.Sums.{sum_by-append, sum_by-cons}
 use Rattle.bidi_base.specs.declared.char_data.BidiClass.{BidiClass}
-use Rattle.bidi_base.specs.Classes.{is_paragraph_separator}
 use Rattle.bidi_base.specs.Source.{Source}
 use Rattle.bidi_base.specs.Text.{text_len, place, per_unit}
-use Rattle.bidi_base.proofs.TextLemmas.{HasUnits, length-le-text_len}
+use Rattle.bidi_base.proofs.TextLemmas.{HasUnits}
 use Rattle.bidi_base.proofs.PerUnit.{per_unit-append, length-per_unit}
 use Rattle.bidi_base.proofs.PlaceLemmas.{CharTurn, char_turn_of, char_index-place, place-le, place-le-back, place-end}
-use Rattle.bidi_base.proofs.ReadingLemmas.{char_units}
 use Rattle.unicode_bidi.specs.declared.class_set.ClassSet.{ClassSet}
 use Rattle.unicode_bidi.specs.declared.first_walk.Met.{Met}
 use Rattle.unicode_bidi.specs.declared.first_walk.Reading.{Reading}

@@ -1,6 +1,6 @@
 // One walk over a text: the class of each character, with each FSI resolved (X5c), and the
 // paragraphs (P1) with their levels (P2, P3).
-ghost use Rattle.std.specs.Prelude.{◌≡◌, ℕ, ◌+◌, ◌<◌, ◌≤◌, ◌&&◌, ◌↔◌, if◌then◌else◌, true, false, ◌++◌, length, take, drop, replicate, OnOk, IfOk, MatchOption, IsTrue, All, Some};
+ghost use Rattle.std.specs.Prelude.{◌≡◌, ℕ, ◌+◌, ◌<◌, ◌≤◌, ◌&&◌, if◌then◌else◌, true, false, ◌++◌, length, take, drop, replicate, OnOk, IfOk, MatchOption, IsTrue, All, Some};
 ghost use Rattle.std.specs.Option.{is_some};
 ghost use Rattle.bidi_base.specs.declared.char_data.BidiClass.{BidiClass};
 ghost use Rattle.bidi_base.specs.Classes.{is_strong as is_strong_class};
@@ -385,7 +385,10 @@ fn next_minded<D: BidiDataSource, T: TextSource>(
         let end = block_end(text, start);
         let block = text.subrange(start..end);
         if let Some(met) = read_block(data_source, block, &mut classes[start..], minded) {
-            return Some(Met { start: start + met.start, ..met });
+            return Some(Met {
+                start: start + met.start,
+                ..met
+            });
         }
         at = end;
     }

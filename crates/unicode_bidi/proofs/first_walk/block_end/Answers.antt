@@ -1,5 +1,5 @@
-use Rattle.std.proofs.Common.{◌≡◌, ◌∙◌, ◌<◌, ℕ, List, true, false, refl, sym, ap, arith}
-use Rattle.bidi_base.specs.Text.{text_len, is_boundary}
+use Rattle.std.proofs.Common.{◌≡◌, ◌∙◌, ◌<◌, false, sym, ap, arith}
+use Rattle.bidi_base.specs.Text.{is_boundary}
 use Rattle.unicode_bidi.proofs.Skimmed.{is_boundary-end, inside-lt}
 use Rattle.unicode_bidi.proofs.first_walk.block_end.Given.{Over}
 use Rattle.unicode_bidi.proofs.first_walk.block_end.Goals as goal

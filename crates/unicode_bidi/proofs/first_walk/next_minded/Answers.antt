@@ -1,9 +1,9 @@
-use Rattle.std.proofs.Common.{◌≡◌, ◌∙◌, ◌+◌, ◌-◌, ◌≤◌, ◌++◌, ℕ, List, true, length, take, drop, refl, sym, ap, subst, arith, rules, length-take, length-drop}
+use Rattle.std.proofs.Common.{◌≡◌, ◌-◌, ◌≤◌, ℕ, List, length, take, drop, refl, ap, subst, arith, rules, length-take, length-drop}
 use Rattle.bidi_base.specs.declared.char_data.BidiClass.{BidiClass}
-use Rattle.bidi_base.specs.Text.{is_boundary, text_len, IsLine}
+use Rattle.bidi_base.specs.Text.{text_len, IsLine}
 use Rattle.bidi_base.proofs.TextLemmas.{is_boundary-le}
 use Rattle.bidi_base.proofs.PlaceLemmas.{text_len-subrange}
-use Rattle.unicode_bidi.specs.FirstWalk.{ahead, IsSkimmed, IsMet}
+use Rattle.unicode_bidi.specs.FirstWalk.{ahead, IsSkimmed}
 use Rattle.unicode_bidi.proofs.Skimmed.{IsSkimmed-start, IsSkimmed-on, is_boundary-skimmed, within-skimmed, IsMet-within, IsSkimmed-block, IsMet-block}
 use Rattle.unicode_bidi.proofs.first_walk.next_minded.Goals as goal
 
@@ -83,8 +83,17 @@ read_block-requires g c =
     let block : List ℕ = g.T.TextSource.characters c.subrange-block.result in
     let part : List BidiClass = take (length c.skim-start.new.classes - c.skim-start.result) (drop c.skim-start.result c.skim-start.new.classes) in
     let room : text_len len block ≤ length part =
-    omega (arith, ap (text_len len) c.subrange-block.ensures, text_len-subrange len units cs c.skim-start.result c.block_end-end.result line, is_boundary-le len cs c.block_end-end.result line.ends,
-    length-take (length c.skim-start.new.classes - c.skim-start.result) (drop c.skim-start.result c.skim-start.new.classes), length-drop c.skim-start.result c.skim-start.new.classes, c.requires.sized, c.loop-at.auto.classes, c.skim-start.auto.classes) in
+    omega (
+      arith,
+      ap (text_len len) c.subrange-block.ensures,
+      text_len-subrange len units cs c.skim-start.result c.block_end-end.result line,
+      is_boundary-le len cs c.block_end-end.result line.ends,
+      length-take (length c.skim-start.new.classes - c.skim-start.result) (drop c.skim-start.result c.skim-start.new.classes),
+      length-drop c.skim-start.result c.skim-start.new.classes,
+      c.requires.sized,
+      c.loop-at.auto.classes,
+      c.skim-start.auto.classes,
+    ) in
     room
 
 pub overflow_add-result : goal.overflow_add-result
@@ -99,8 +108,14 @@ overflow_add-result g c =
     let begins =
     is_boundary-skimmed source len c.args.minded (ahead len cs from) from c.skim-start.result c.args.classes.now c.skim-start.new.classes skimmed units cs c.requires.begins refl in
     let line : IsLine len cs c.skim-start.result c.block_end-end.result = record { ordered = c.block_end-end.ensures.order; begins = begins; ends = c.block_end-end.ensures.boundary } in
-    omega (arith, IsMet-within source len c.args.minded (g.T.TextSource.characters c.subrange-block.result) 0 c.in-Some.met _ _ c.in-Some.ensures, ap (text_len len) c.subrange-block.ensures,
-    text_len-subrange len units cs c.skim-start.result c.block_end-end.result line, c.block_end-end.ensures.order, c.block_end-end.type_inv)
+    omega (
+      arith,
+      IsMet-within source len c.args.minded (g.T.TextSource.characters c.subrange-block.result) 0 c.in-Some.met _ _ c.in-Some.ensures,
+      ap (text_len len) c.subrange-block.ensures,
+      text_len-subrange len units cs c.skim-start.result c.block_end-end.result line,
+      c.block_end-end.ensures.order,
+      c.block_end-end.type_inv,
+    )
 
 pub returns-in-Some : goal.returns-in-Some
 returns-in-Some g c =
@@ -120,8 +135,17 @@ returns-in-Some g c =
     let block : List ℕ = g.T.TextSource.characters c.subrange-block.result in
     let part : List BidiClass = take (length c.skim-start.new.classes - c.skim-start.result) (drop c.skim-start.result c.skim-start.new.classes) in
     let room : text_len len block ≤ length part =
-    omega (arith, ap (text_len len) c.subrange-block.ensures, text_len-subrange len units cs c.skim-start.result c.block_end-end.result line, is_boundary-le len cs c.block_end-end.result line.ends,
-    length-take (length c.skim-start.new.classes - c.skim-start.result) (drop c.skim-start.result c.skim-start.new.classes), length-drop c.skim-start.result c.skim-start.new.classes, c.requires.sized, c.loop-at.auto.classes, c.skim-start.auto.classes) in
+    omega (
+      arith,
+      ap (text_len len) c.subrange-block.ensures,
+      text_len-subrange len units cs c.skim-start.result c.block_end-end.result line,
+      is_boundary-le len cs c.block_end-end.result line.ends,
+      length-take (length c.skim-start.new.classes - c.skim-start.result) (drop c.skim-start.result c.skim-start.new.classes),
+      length-drop c.skim-start.result c.skim-start.new.classes,
+      c.requires.sized,
+      c.loop-at.auto.classes,
+      c.skim-start.auto.classes,
+    ) in
     let room : text_len len block ≤ length c.read_block.new.classes = omega (arith, room, c.read_block.auto.classes) in
     IsMet-block source len c.args.minded (ahead len cs from) from c.skim-start.result c.args.classes.now c.skim-start.new.classes skimmed units cs c.requires.begins refl block c.block_end-end.result line c.subrange-block.ensures part c.read_block.new.classes _ inside room c.in-Some.met c.in-Some.ensures
 
@@ -143,8 +167,17 @@ loop-at-preserved g c =
     let block : List ℕ = g.T.TextSource.characters c.subrange-block.result in
     let part : List BidiClass = take (length c.skim-start.new.classes - c.skim-start.result) (drop c.skim-start.result c.skim-start.new.classes) in
     let room : text_len len block ≤ length part =
-    omega (arith, ap (text_len len) c.subrange-block.ensures, text_len-subrange len units cs c.skim-start.result c.block_end-end.result line, is_boundary-le len cs c.block_end-end.result line.ends,
-    length-take (length c.skim-start.new.classes - c.skim-start.result) (drop c.skim-start.result c.skim-start.new.classes), length-drop c.skim-start.result c.skim-start.new.classes, c.requires.sized, c.loop-at.auto.classes, c.skim-start.auto.classes) in
+    omega (
+      arith,
+      ap (text_len len) c.subrange-block.ensures,
+      text_len-subrange len units cs c.skim-start.result c.block_end-end.result line,
+      is_boundary-le len cs c.block_end-end.result line.ends,
+      length-take (length c.skim-start.new.classes - c.skim-start.result) (drop c.skim-start.result c.skim-start.new.classes),
+      length-drop c.skim-start.result c.skim-start.new.classes,
+      c.requires.sized,
+      c.loop-at.auto.classes,
+      c.skim-start.auto.classes,
+    ) in
     let room : text_len len block ≤ length c.read_block.new.classes = omega (arith, room, c.read_block.auto.classes) in
     IsSkimmed-block source len c.args.minded (ahead len cs from) from c.skim-start.result c.args.classes.now c.skim-start.new.classes skimmed units cs c.requires.begins refl block c.block_end-end.result line c.subrange-block.ensures part c.read_block.new.classes _ inside room c.in_default.ensures
 
@@ -158,4 +191,3 @@ returns g c =
     let within = within-skimmed source len c.args.minded (ahead len cs from) from c.loop-at.at c.args.classes.now c.loop-at.classes c.loop-at.invariant units cs c.requires.begins refl in
     let end : c.loop-at.at ≡ text_len len cs = omega (arith, within, c.loop-at-test.false, c.requires.sized, c.loop-at.auto.classes) in
     subst (λ n. IsSkimmed source len c.args.minded (ahead len cs from) from n c.args.classes.now c.loop-at.classes) end c.loop-at.invariant
-

@@ -2,8 +2,7 @@ use Rattle.std.proofs.Common.{◌≡◌, ◌∙◌, ◌+◌, ◌++◌, ℕ, List
 use Rattle.std.specs.Prelude.{replicate}
 use Rattle.std.specs.Iterator.{IsFinite}
 use Rattle.std.proofs.lemmas.List.{length_push}
-use Rattle.bidi_base.specs.declared.char_data.BidiClass.{BidiClass}
-use Rattle.bidi_base.specs.Text.{place, text_len}
+use Rattle.bidi_base.specs.Text.{place}
 use Rattle.bidi_base.proofs.PlaceLemmas.{CharTurn, index_turn, index_end, place-end}
 use Rattle.unicode_bidi.specs.ClassSet.{has}
 use Rattle.unicode_bidi.specs.FirstWalk.{IsSkimmed}

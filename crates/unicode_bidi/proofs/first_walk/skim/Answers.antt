@@ -1,6 +1,5 @@
-use Rattle.std.proofs.Common.{◌≡◌, ◌∙◌, ◌≤◌, ◌+◌, ◌<◌, ℕ, List, Some, length, refl, sym, ap, arith}
-use Rattle.bidi_base.specs.Text.{text_len, ascii_at}
-use Rattle.unicode_bidi.proofs.Skimmed.{IsSkimmed-start, IsSkimmed-ascii, ascii-fits}
+use Rattle.std.proofs.Common.{◌∙◌, refl, sym, ap}
+use Rattle.unicode_bidi.proofs.Skimmed.{IsSkimmed-start, IsSkimmed-ascii}
 use Rattle.unicode_bidi.proofs.first_walk.skim.Goals as goal
 
 pub loop-at-init : goal.loop-at-init

@@ -1,9 +1,8 @@
-use Rattle.std.proofs.Common.{not, ◌≡◌, ◌∙◌, ◌+◌, ◌∷◌, [], ◌++◌, ℕ, ◌<◌, ◌≤◌, List, false, ◌⊎◌, inl, inr, length, drop, true, refl, sym, ap, subst, arith}
+use Rattle.std.proofs.Common.{not, ◌≡◌, ◌∙◌, ◌+◌, ◌∷◌, [], ◌++◌, ℕ, ◌<◌, List, ◌⊎◌, inl, inr, length, drop, true, refl, sym, ap, subst, arith}
 use Rattle.std.specs.Option.{is_none}
 use Rattle.std.specs.declared.ops.Range.{Range}
 use Rattle.std.proofs.lemmas.Bool.{cases_Bool}
 use Rattle.std.proofs.lemmas.List.{with_items_is}
-use Rattle.bidi_base.specs.declared.char_data.BidiClass.{BidiClass}
 use Rattle.bidi_base.specs.Text.{place, is_boundary}
 use Rattle.bidi_base.proofs.PlaceLemmas.{is_boundary-place, place-end, place-le}
 use Rattle.unicode_bidi.specs.FirstWalk.{IsFresh, IsClosed}
