@@ -385,8 +385,9 @@ fn next_minded<D: BidiDataSource, T: TextSource>(
         let end = block_end(text, start);
         let block = text.subrange(start..end);
         if let Some(met) = read_block(data_source, block, &mut classes[start..], minded) {
+            let place = start + met.start;
             return Some(Met {
-                start: start + met.start,
+                start: place,
                 ..met
             });
         }

@@ -96,8 +96,8 @@ read_block-requires g c =
     ) in
     room
 
-pub overflow_add-result : goal.overflow_add-result
-overflow_add-result g c =
+pub overflow_add-place : goal.overflow_add-place
+overflow_add-place g c =
     let source = g.D.BidiDataSource.source c.args.data_source.now in
     let len = g.T.TextSource.units in
     let units = g.met.T.TextSource.has_units in
