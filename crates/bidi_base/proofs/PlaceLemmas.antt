@@ -221,7 +221,7 @@ pub record CharTurn (len_of : ℕ → ℕ) (chars : List ℕ) (n at c : ℕ) : T
   pub after : place len_of chars (n + 1) ≡ at + len_of c
   pub fits : at + len_of c ≤ text_len len_of chars
 
-char_turn_of : (len_of : ℕ → ℕ) (chars : List ℕ) (n at c : ℕ) → at ≡ place len_of chars n → drop n chars ≡ c ∷ drop (n + 1) chars → CharTurn len_of chars n at c
+pub char_turn_of : (len_of : ℕ → ℕ) (chars : List ℕ) (n at c : ℕ) → at ≡ place len_of chars n → drop n chars ≡ c ∷ drop (n + 1) chars → CharTurn len_of chars n at c
 char_turn_of len_of chars n at c here next =
     let below : n < length chars = omega (arith, ap length next, length-drop n chars) in
     let is_char : get_or chars n 0 ≡ c = cons_head (get_or chars n 0) c (drop (suc n) chars) (drop (n + 1) chars) (sym (drop-cons chars n 0 below) ∙ next) in

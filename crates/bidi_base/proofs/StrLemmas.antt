@@ -1,18 +1,20 @@
 -- A text of UTF-8 as a list of characters: `chars bs`, with `len_utf8` for the lengths.
-use Rattle.std.proofs.Common.{◌≡◌, ℕ, ◌+◌, ◌-◌, ◌≤◌, Bool, true, false, ◌&&◌, List, [], ◌∷◌, ◌++◌, length, take, drop, Option, Some, None, option_map, slice_get, refl, sym, ◌∙◌, ap, arith, subst, length-append, length-take, length-drop}
+use Rattle.std.proofs.Common.{◌≡◌, ℕ, ◌+◌, ◌-◌, ◌≤◌, Bool, true, false, ◌&&◌, List, [], ◌∷◌, ◌++◌, length, take, drop, Option, Some, None, option_map, slice_get, refl, sym, ◌∙◌, ap, arith, subst, length-append, length-take, length-drop, get_or, get_or-drop, ◌<◌, if◌then◌else◌, inl, inr}
 use Rattle.std.specs.Prelude.{slice_range}
-use Rattle.std.specs.Char.{encode_utf8, len_utf8}
+use Rattle.std.specs.Char.{encode_utf8, len_utf8, is_ascii}
 use Rattle.std.specs.Str.{chars, IsUtf8, IsCharBoundary, encode_utf8_all, all_scalars}
 use Rattle.std.specs.Str.Iter.{char_indices_steps, char_indices_rest, char_indices_offset}
 use Rattle.std.specs.declared.str.CharIndices.{CharIndices}
 use Rattle.std.specs.Iterator.{AlwaysYields}
 use Rattle.std.proofs.lemmas.List.{take-append-drop}
 use Rattle.std.proofs.lemmas.List.Sums.{sum_by-cons}
-use Rattle.std.proofs.lemmas.Str.{encodes-chars, encodes-append, chars-append, scalars-chars, length-encode, len_utf8_bounds, chars_past_char, chars-nil, IsUtf8-past_char, IsUtf8-take, IsCharBoundary-at_seam}
+use Rattle.std.proofs.lemmas.Str.{encodes-chars, encodes-append, chars-append, scalars-chars, length-encode, len_utf8_bounds, chars_past_char, chars-nil, IsUtf8-past_char, IsUtf8-take, IsUtf8-drop, IsCharBoundary-at_seam, IsCharBoundary-before_ascii, byte_from_char, char_from_byte}
+use Rattle.std.proofs.lemmas.Bool.{cases_Bool, cases_lt}
+use Rattle.std.proofs.lemmas.Bool.Decides.{nat_tests}
 use Rattle.std.proofs.lemmas.Iterator.{YieldsList}
 use Rattle.std.proofs.lemmas.Iterator.Splits.{YieldsList-from_shown_while}
-use Rattle.bidi_base.specs.Text.{text_len, char_indices, char_indices_from, indices_lengths_from, char_at, is_boundary, subrange, IsLine}
-use Rattle.bidi_base.proofs.TextLemmas.{HasUnits, cut_at, char_at-append, subrange-middle, char_at-None, char_at-zero}
+use Rattle.bidi_base.specs.Text.{text_len, char_indices, char_indices_from, indices_lengths_from, char_at, ascii_of, ascii_at, is_boundary, subrange, IsLine}
+use Rattle.bidi_base.proofs.TextLemmas.{HasUnits, cut_at, char_at-append, subrange-middle, char_at-None, char_at-end, char_at-zero}
 
 pub has_units : HasUnits len_utf8
 has_units c = (len_utf8_bounds c).0
@@ -118,6 +120,49 @@ pub char_at-read : (bs rest : List ℕ) (i : ℕ) (o : Option ℕ) → IsUtf8 bs
 char_at-read bs rest i o u b e is =
     sym (char_at-from_str bs i u b ∙ char_at-zero len_utf8 (chars (drop i bs))
     ∙ ap (λ x. option_map (λ c. (c, len_utf8 c)) (slice_get (chars x) 0)) (sym e) ∙ ap (option_map (λ c. (c, len_utf8 c))) (sym is))
+
+-- ---- a byte below 128 is a whole character, and no other byte begins one
+
+abbrev pub ascii_byte : ℕ → Option ℕ
+ascii_byte b = if is_ascii b then Some b else None
+
+ascii_low : (b c : ℕ) → c < 128 → b ≡ c → ascii_of (Some (c, len_utf8 c)) ≡ ascii_byte b
+ascii_low b c low same = grind (arith, nat_tests)
+
+ascii_high : (b c : ℕ) → 128 ≤ c → 128 ≤ b → ascii_of (Some (c, len_utf8 c)) ≡ ascii_byte b
+ascii_high b c high past = grind (arith, nat_tests)
+
+ascii_first : (bs cs : List ℕ) → encode_utf8_all cs ≡ bs → 0 < length bs → ascii_of (char_at len_utf8 cs 0) ≡ ascii_byte (get_or bs 0 0)
+ascii_first bs [] e some = absurd (omega (arith, ap length e))
+ascii_first bs (c ∷ cs) e some = elim (cases_lt c 128) [
+  | inl low ↦ ascii_low (get_or bs 0 0) c low (byte_from_char bs (encode_utf8_all cs) c (sym e) low)
+  | inr high ↦ elim (cases_lt (get_or bs 0 0) 128) [
+    | inl below ↦ absurd (omega (arith, char_from_byte bs (encode_utf8_all cs) c (sym e) below some))
+    | inr past ↦ ascii_high (get_or bs 0 0) c high past
+  ]
+]
+
+ascii_at-boundary : (bs : List ℕ) (i : ℕ) → IsUtf8 bs → IsCharBoundary bs i → i < length bs → ascii_at len_utf8 (chars bs) i ≡ ascii_byte (get_or bs i 0)
+ascii_at-boundary bs i u b within =
+    let here : i + 0 ≡ i = omega arith in
+    ap ascii_of (char_at-from_str bs i u b)
+    ∙ ascii_first (drop i bs) (chars (drop i bs)) (encodes-chars (drop i bs) (IsUtf8-drop bs i u b)) (omega (arith, length-drop i bs))
+    ∙ ap ascii_byte (get_or-drop i bs 0 0 ∙ ap (λ (n : ℕ). get_or bs n 0) here)
+
+pub ascii_at-byte : (bs : List ℕ) (i : ℕ) → IsUtf8 bs → i < length bs → ascii_at len_utf8 (chars bs) i ≡ ascii_byte (get_or bs i 0)
+ascii_at-byte bs i u within = elim (cases_lt (get_or bs i 0) 128) [
+  | inl low ↦ ascii_at-boundary bs i u (IsCharBoundary-before_ascii bs i within low) within
+  | inr high ↦ elim (cases_Bool (is_boundary len_utf8 (chars bs) i)) [
+    | inl b ↦ ascii_at-boundary bs i u (IsCharBoundary-from_is_boundary bs i u b) within
+    | inr inside ↦ ap ascii_of (char_at-None len_utf8 has_units (chars bs) i inside) ∙ sym (none (get_or bs i 0) high)
+  ]
+]
+  where
+    none : (b : ℕ) → 128 ≤ b → ascii_byte b ≡ None
+    none b high = grind (arith, nat_tests)
+
+pub ascii_at-past : (bs : List ℕ) (i : ℕ) → IsUtf8 bs → length bs ≤ i → ascii_at len_utf8 (chars bs) i ≡ None
+ascii_at-past bs i u past = ap ascii_of (char_at-end len_utf8 has_units (chars bs) i (omega (arith, text_len-chars bs u)))
 
 -- ---- what `Utf8IndexLenIter` has left
 

@@ -1,11 +1,11 @@
 -- Units of UTF-16 as a list of characters: `utf16_text us`, with `utf16_len` for the lengths.
 use Rattle.std.proofs.Common.{zero, suc, ◌≡◌, ◌==◌, ℕ, ◌+◌, ◌-◌, ◌≤◌, Bool, true, false, ◌&&◌, ◌||◌, nat_le, nat_lt, if◌then◌else◌}
-use Rattle.std.proofs.Common.{List, [], ◌∷◌, ◌++◌, length, take, drop, get_or, Option, Some, None, MatchOption, inl, inr, refl, sym, ◌∙◌, ap, subst, arith, length-take, length-drop, get_or-drop}
+use Rattle.std.proofs.Common.{List, [], ◌∷◌, ◌++◌, length, take, drop, get_or, Option, Some, None, MatchOption, inl, inr, refl, sym, ◌∙◌, ap, subst, arith, length-take, length-drop, get_or-drop, drop-cons, ◌<◌}
 use Rattle.std.specs.Prelude.{slice_range}
 use Rattle.std.proofs.lemmas.Bool.{cases_Bool, false_from_ne_true}
 use Rattle.std.proofs.lemmas.Bool.Decides.{nat_tests}
 use Rattle.std.proofs.lemmas.List.Sums.{sum_by-cons}
-use Rattle.bidi_base.specs.Text.{text_len, char_at, is_boundary, subrange, IsLine}
+use Rattle.bidi_base.specs.Text.{text_len, char_at, ascii_of, ascii_at, is_boundary, subrange, IsLine}
 use Rattle.bidi_base.specs.Utf16.{is_pair, pair_char, lone_char, utf16_text, utf16_len, splits_pair, IsFirst}
 use Rattle.bidi_base.proofs.TextLemmas.{HasUnits, is_boundary-le, char_at-append, char_at-None, char_at-end, subrange-middle}
 
@@ -181,3 +181,34 @@ NoPairAt-from_splits_pair us i e n is = false_from_ne_true _ (λ p. true_false _
 pub char_at-first : (us : List ℕ) (o : Option (ℕ × ℕ)) → MatchOption o (us ≡ []) (λ p. IsFirst us p.0 p.1) → o ≡ char_at utf16_len (utf16_text us) 0
 char_at-first us None h = ap (λ x. char_at utf16_len (utf16_text x) 0) (sym h)
 char_at-first us (Some p) h = ap (λ n. Some (p.0, n)) h.long ∙ ap (λ cs. char_at utf16_len cs 0) (sym h.text)
+
+-- ---- a unit below 128 is a whole character, and no other unit begins an ASCII one
+
+abbrev pub ascii_unit : ℕ → Option ℕ
+ascii_unit u = if nat_lt u 128 then Some u else None
+
+ascii_lone : (u : ℕ) → ascii_of (Some (lone_char u, utf16_len (lone_char u))) ≡ ascii_unit u
+ascii_lone u = grind (arith, nat_tests)
+
+ascii_pair : (u v c : ℕ) → is_pair u v ≡ true → 0x10000 ≤ c → ascii_of (Some (c, utf16_len c)) ≡ ascii_unit u
+ascii_pair u v c e high = grind (arith, nat_tests)
+
+ascii_first : (u : ℕ) (us : List ℕ) → ascii_of (char_at utf16_len (utf16_text (u ∷ us)) 0) ≡ ascii_unit u
+ascii_first u [] = ascii_lone u
+ascii_first u (v ∷ us) = elim (cases_Bool (is_pair u v)) [
+  | inl p ↦ ap (λ cs. ascii_of (char_at utf16_len cs 0)) (text_pair u v us p) ∙ ascii_pair u v (pair_char u v) p (omega arith)
+  | inr n ↦ ap (λ cs. ascii_of (char_at utf16_len cs 0)) (text_lone u v us n) ∙ ascii_lone u
+]
+
+pub ascii_at-unit : (us : List ℕ) (i : ℕ) → i < length us → ascii_at utf16_len (utf16_text us) i ≡ ascii_unit (get_or us i 0)
+ascii_at-unit us i within = elim (cases_Bool (splits_pair us i)) [
+  | inl inside ↦ ap ascii_of (char_at-inside us i inside) ∙ sym (second (get_or us (pair_at us i inside).first 0) (get_or us i 0) (pair_at us i inside).pair)
+  | inr apart ↦ ap ascii_of (char_at-cut us i (omega arith) (NoPairAt-from_splits_pair us i apart))
+      ∙ ap (λ x. ascii_of (char_at utf16_len (utf16_text x) 0)) (drop-cons us i 0 within) ∙ ascii_first (get_or us i 0) (drop (suc i) us)
+]
+  where
+    second : (u v : ℕ) → is_pair u v ≡ true → ascii_unit v ≡ None
+    second u v e = grind (arith, nat_tests)
+
+pub ascii_at-past : (us : List ℕ) (i : ℕ) → length us ≤ i → ascii_at utf16_len (utf16_text us) i ≡ None
+ascii_at-past us i past = ap ascii_of (char_at-past us i past)

@@ -1,5 +1,6 @@
 -- A text is a list of characters, and an encoding gives each character a length in code units.
 use Rattle.std.specs.Prelude.{◌≡◌, ℕ, ◌+◌, ◌-◌, ◌≤◌, Bool, true, ◌&&◌, ◌||◌, ◌==◌, nat_le, nat_lt, if◌then◌else◌, List, [], ◌∷◌, length, take, drop, get_or, map, zip, flat_map, replicate, sum_by, count_by, Option, Some, None, slice_range, IsTrue}
+use Rattle.std.specs.Char.{is_ascii}
 use Rattle.std.specs.List.{list_all}
 use Rattle.std.specs.Iterator.{Count, IsFinite, AlwaysYields}
 
@@ -31,6 +32,14 @@ indices_lengths len_of chars = indices_lengths_from len_of 0 chars
 abbrev pub char_at : (ℕ → ℕ) → List ℕ → ℕ → Option (ℕ × ℕ)
 char_at len_of [] u = None
 char_at len_of (c ∷ cs) u = if u == 0 then Some (c, len_of c) else (if nat_lt u (len_of c) then None else char_at len_of cs (u - len_of c))
+
+abbrev pub ascii_of : Option (ℕ × ℕ) → Option ℕ
+ascii_of None = None
+ascii_of (Some p) = if is_ascii p.0 && p.1 == 1 then Some p.0 else None
+
+-- the ASCII character, one unit long, that begins at unit u; `None` where none begins or another one does
+abbrev pub ascii_at : (ℕ → ℕ) → List ℕ → ℕ → Option ℕ
+ascii_at len_of chars u = ascii_of (char_at len_of chars u)
 
 -- u is a place, or the text's length
 abbrev pub is_boundary : (ℕ → ℕ) → List ℕ → ℕ → Bool

@@ -5,7 +5,7 @@
 
 ghost use Rattle.std.specs.Prelude.{◌≡◌, ℕ, ◌≤◌, ◌↔◌, List, IsTrue};
 ghost use Rattle.std.specs.List.{list_all};
-ghost use Rattle.bidi_base.specs.Text.{text_len, char_indices, indices_lengths, char_at, is_boundary, IsLine, subrange, all_same, is_per_char as is_per_char_of, Gives};
+ghost use Rattle.bidi_base.specs.Text.{text_len, char_indices, indices_lengths, char_at, ascii_at, is_boundary, IsLine, subrange, all_same, is_per_char as is_per_char_of, Gives};
 
 use std::ops::Range;
 
@@ -69,6 +69,17 @@ pub trait TextSource: Copy {
         ensures { result ≡ is_boundary units (characters self.now) index }
     {
         index == self.len() || self.char_at(index).is_some()
+    }
+
+    /// The ASCII character that begins at a unit, if it is one unit long. `None` where none begins or
+    /// another one does.
+    fn ascii_at(&self, index: usize) -> Option<u8>
+        ensures { result ≡ ascii_at units (characters self.now) index }
+    {
+        match self.char_at(index) {
+            Some((c, 1)) if c.is_ascii() => Some(c as u8),
+            _ => None,
+        }
     }
 
     /// A character is at least one unit long.

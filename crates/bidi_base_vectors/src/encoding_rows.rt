@@ -92,6 +92,8 @@ fn units_of_utf16(rt: HostRuntime) -> Result<(), Fail> {
         places.as_slice(),
         [(0, '\u{5D0}'), (1, '\u{10000}'), (3, 'a')].as_slice()
     );
+    assert_eq!(rt; text.ascii_at(2), None);
+    assert_eq!(rt; text.ascii_at(3), Some(b'a'));
     let lengths: Vec<(usize, usize)> = Utf16IndexLenIter::new(&units).collect(rt.alloc())?;
     assert_eq!(rt; lengths.as_slice(), [(0, 1), (1, 2), (3, 1)].as_slice());
     assert_eq!(rt;
@@ -111,6 +113,8 @@ fn lists_of_characters(rt: HostRuntime) -> Result<(), Fail> {
     assert_eq!(rt; CharsText::char_len('\u{10000}'), 1);
     assert_eq!(rt; text.char_at(1), Some(('\u{10000}', 1)));
     assert_eq!(rt; text.char_at(3), None);
+    assert_eq!(rt; text.ascii_at(1), None);
+    assert_eq!(rt; text.ascii_at(2), Some(b'a'));
     assert!(rt; text.is_boundary(2) && text.is_boundary(3) && !text.is_boundary(4));
     let walks = walked(rt.alloc(), text)?;
     assert_eq!(rt; walks.characters.as_slice(), list.as_slice());

@@ -34,6 +34,8 @@ fn places(rt: HostRuntime) -> Result<(), Fail> {
         assert_eq!(rt; text.char_at(index), character, "at {index}");
         assert_eq!(rt; text.is_boundary(index), is_boundary, "at {index}");
     }
+    assert_eq!(rt; text.ascii_at(0), None);
+    assert_eq!(rt; text.ascii_at(2), Some(b'a'));
     for ((start, end), whole) in LINES {
         assert_eq!(rt; is_line(text, &(start..end)), whole, "{start}..{end}");
     }

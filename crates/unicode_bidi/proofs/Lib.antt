@@ -14,9 +14,11 @@ pub mod PutUnits
 pub mod RunText
 pub mod SequenceUnits
 pub mod SequencesInPlace
+pub mod Skimmed
 pub mod StoredLine
 pub mod TextOfLine
 pub mod TextRead
 pub mod Undecided
+pub mod WalkSteps
 pub mod WholeText
 pub mod WrittenRuns

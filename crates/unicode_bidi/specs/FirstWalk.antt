@@ -1,14 +1,18 @@
 -- What the walk over a text holds of the isolates that are open, and what one more character does to it.
-use Rattle.std.specs.Prelude.{◌≡◌, ℕ, ◌+◌, ◌-◌, Bool, not, ◌&&◌, ◌||◌, ◌==◌, nat_lt, if◌then◌else◌, List, [], ◌∷◌, ◌++◌, Option, Some, None, unwrap_or}
+use Rattle.std.specs.Prelude.{◌≡◌, ℕ, ◌+◌, ◌-◌, Bool, false, not, ◌&&◌, ◌||◌, ◌==◌, nat_lt, if◌then◌else◌, List, [], ◌∷◌, ◌++◌, take, drop, map, All, Option, Some, None, unwrap_or}
 use Rattle.std.specs.Option.{is_some, is_none}
 use Rattle.std.specs.declared.ops.Range.{Range}
 use Rattle.bidi_base.specs.declared.char_data.BidiClass.{BidiClass}
 use Rattle.bidi_base.specs.Classes.{is_strong, is_initiator, is_pdi, is_paragraph_separator}
 use Rattle.bidi_base.specs.Isolates.{level_by, resolved_fsi}
 use Rattle.bidi_base.specs.Reading.{innermost, outer, is_fsi, filled}
+use Rattle.bidi_base.specs.Source.{Source}
+use Rattle.bidi_base.specs.Text.{text_len, char_index, per_unit}
 use Rattle.unicode_bidi.specs.ClassSet.{has}
 use Rattle.unicode_bidi.specs.ParagraphFlags.{is_counted, with_class, flags_of}
 use Rattle.unicode_bidi.specs.ParagraphInfo.{ranges_of, levels_of}
+use Rattle.unicode_bidi.specs.declared.class_set.ClassSet.{ClassSet}
+use Rattle.unicode_bidi.specs.declared.first_walk.Met.{Met}
 use Rattle.unicode_bidi.specs.declared.first_walk.Reading.{Reading}
 use Rattle.unicode_bidi.specs.declared.first_walk.Undecided.{Undecided}
 use Rattle.unicode_bidi.specs.declared.paragraph_flags.ParagraphFlags.{ParagraphFlags}
@@ -74,3 +78,34 @@ pub record IsClosed (base : Option ℕ) (r : Reading) (end : ℕ) (old : List Pa
   pub ranges : ranges_of new ≡ ranges_of old ++ (r.start, end) ∷ []
   pub levels : levels_of new ≡ levels_of old ++ unwrap_or base (level_by r.deciding) ∷ []
   pub flags : new_flags ≡ old_flags ++ r.flags ∷ []
+
+-- the characters from a boundary on
+abbrev pub ahead : (ℕ → ℕ) → List ℕ → ℕ → List ℕ
+ahead len_of chars u = drop (char_index len_of chars u) chars
+
+-- on the class of none of these characters anything depends
+abbrev pub AreIdle : Source → ClassSet → List ℕ → Type 0
+AreIdle source minded cs = All (λ c. has minded (source.class_of c) ≡ false) cs
+
+-- from one unit up to another these characters were read: their classes were written, and what stands before is as it was
+pub record AreWritten (source : Source) (len_of : ℕ → ℕ) (read : List ℕ) (from to : ℕ) (old new : List BidiClass) : Type 0 where
+  pub long : to ≡ from + text_len len_of read
+  pub classes : take to new ≡ take from old ++ per_unit len_of read (map source.class_of read)
+
+-- the first of the characters that come were read, and nothing depends on them
+pub record IsSkimmed (source : Source) (len_of : ℕ → ℕ) (minded : ClassSet) (coming : List ℕ) (from to : ℕ) (old new : List BidiClass) : Type 0 where
+  pub read : List ℕ
+  pub rest : List ℕ
+  pub joined : coming ≡ read ++ rest
+  pub idle : AreIdle source minded read
+  pub written : AreWritten source len_of read from to old new
+
+-- they were read up to one on whose class something may depend
+pub record IsMet (source : Source) (len_of : ℕ → ℕ) (minded : ClassSet) (coming : List ℕ) (from : ℕ) (met : Met) (old new : List BidiClass) : Type 0 where
+  pub read : List ℕ
+  pub rest : List ℕ
+  pub joined : coming ≡ read ++ met.c ∷ rest
+  pub idle : AreIdle source minded read
+  pub begins : met.start ≡ from + text_len len_of read
+  pub class : met.class ≡ source.class_of met.c
+  pub written : AreWritten source len_of (read ++ met.c ∷ []) from (met.start + len_of met.c) old new

@@ -1,6 +1,6 @@
 // One walk over a text: the class of each character, with each FSI resolved (X5c), and the
 // paragraphs (P1) with their levels (P2, P3).
-ghost use Rattle.std.specs.Prelude.{◌≡◌, ℕ, ◌+◌, ◌<◌, ◌≤◌, ◌&&◌, if◌then◌else◌, true, false, ◌++◌, length, take, drop, replicate, OnOk, IfOk, All, Some};
+ghost use Rattle.std.specs.Prelude.{◌≡◌, ℕ, ◌+◌, ◌<◌, ◌≤◌, ◌&&◌, if◌then◌else◌, true, false, ◌++◌, length, take, drop, replicate, OnOk, IfOk, MatchOption, IsTrue, All, Some};
 ghost use Rattle.std.specs.Option.{is_some};
 ghost use Rattle.bidi_base.specs.declared.char_data.BidiClass.{BidiClass};
 ghost use Rattle.bidi_base.specs.Classes.{is_strong as is_strong_class};
@@ -8,9 +8,9 @@ ghost use Rattle.bidi_base.specs.Isolates.{level_by, resolved_fsi};
 ghost use Rattle.bidi_base.specs.Reading.{outer, filled};
 ghost use Rattle.bidi_base.specs.Paragraphs.{begins_with_line_feed, ranges_from};
 ghost use Rattle.bidi_base.specs.Stored.{text_classes, paragraph_levels};
-ghost use Rattle.bidi_base.specs.Text.{place as place_of, per_unit};
+ghost use Rattle.bidi_base.specs.Text.{place as place_of, text_len, per_unit, is_boundary as is_boundary_of};
 ghost use Rattle.unicode_bidi.specs.ClassSet.{has};
-ghost use Rattle.unicode_bidi.specs.FirstWalk.{waiting, deciding_after, classes_after, wants_strong, minds, IsFresh, IsReadBy, IsClosed};
+ghost use Rattle.unicode_bidi.specs.FirstWalk.{waiting, deciding_after, classes_after, wants_strong, minds, ahead, IsFresh, IsReadBy, IsClosed, IsSkimmed, IsMet};
 ghost use Rattle.unicode_bidi.specs.declared.first_walk.Reading.{Reading};
 ghost use Rattle.unicode_bidi.specs.ParagraphInfo.{ranges_of, levels_of};
 ghost use Rattle.unicode_bidi.specs.ParagraphFlags.{paragraph_flags};
@@ -283,6 +283,119 @@ fn write<T: TextSource>(classes: &mut [BidiClass], start: usize, c: char, class:
     }
 }
 
+// A character that was read, on whose class something depends.
+#[derive(Clone, Copy)]
+struct Met {
+    start: usize,
+    c: char,
+    class: BidiClass,
+}
+
+// Writes the classes of ASCII characters, each one unit long, that come one after another from a place
+// on, as far as nothing depends on them. Answers where the first other character begins.
+#[inline(never)]
+fn skim<D: BidiDataSource, T: TextSource>(
+    data_source: &D,
+    text: T,
+    classes: &mut [BidiClass],
+    from: usize,
+    minded: ClassSet,
+) -> usize
+    requires sized { length classes.old ≡ text_len T.units (T.characters text) }
+    requires begins { IsTrue (is_boundary_of T.units (T.characters text) from) }
+    ensures { IsSkimmed (D.source data_source.now) T.units minded (ahead T.units (T.characters text) from) from result classes.old classes.new }
+{
+    let mut at = from;
+    while at < classes.len() {
+        let Some(byte) = text.ascii_at(at) else {
+            break;
+        };
+        let class = data_source.bidi_class(char::from(byte));
+        if minded.has(class) {
+            break;
+        }
+        classes[at] = class;
+        at += 1;
+    }
+    at
+}
+
+// How many units are read without another look at what is ASCII.
+const BLOCK: usize = 256;
+
+// The end of the block of characters that begins at a place.
+fn block_end<T: TextSource>(text: T, from: usize) -> usize
+    requires { from ≤ text_len T.units (T.characters text) }
+    ensures order { from ≤ result }
+    ensures goes_on { from < text_len T.units (T.characters text) → from < result }
+    ensures boundary { IsTrue (is_boundary_of T.units (T.characters text) result) }
+{
+    let len = text.len();
+    if len - from <= BLOCK {
+        return len;
+    }
+    let mut end = from + BLOCK;
+    while !text.is_boundary(end) {
+        end += 1;
+    }
+    end
+}
+
+// Writes the classes of a text's characters, up to one on which something depends, and answers it.
+#[inline(never)]
+fn read_block<D: BidiDataSource, T: TextSource>(
+    data_source: &D,
+    block: T,
+    classes: &mut [BidiClass],
+    minded: ClassSet,
+) -> Option<Met>
+    requires { text_len T.units (T.characters block) ≤ length classes.old }
+    ensures { MatchOption result
+        (IsSkimmed (D.source data_source.now) T.units minded (T.characters block) 0 (text_len T.units (T.characters block)) classes.old classes.new)
+        (λ met. IsMet (D.source data_source.now) T.units minded (T.characters block) 0 met classes.old classes.new) }
+{
+    for (start, c) in block.char_indices() {
+        let class = data_source.bidi_class(c);
+        write::<T>(classes, start, c, class);
+        if minded.has(class) {
+            return Some(Met { start, c, class });
+        }
+    }
+    None
+}
+
+// Writes the classes of the characters from a place on, up to one on which something depends, and
+// answers it.
+fn next_minded<D: BidiDataSource, T: TextSource>(
+    data_source: &D,
+    text: T,
+    classes: &mut [BidiClass],
+    from: usize,
+    minded: ClassSet,
+) -> Option<Met>
+    requires sized { length classes.old ≡ text_len T.units (T.characters text) }
+    requires begins { IsTrue (is_boundary_of T.units (T.characters text) from) }
+    ensures { MatchOption result
+        (IsSkimmed (D.source data_source.now) T.units minded (ahead T.units (T.characters text) from) from (text_len T.units (T.characters text)) classes.old classes.new)
+        (λ met. IsMet (D.source data_source.now) T.units minded (ahead T.units (T.characters text) from) from met classes.old classes.new) }
+{
+    let mut at = from;
+    while at < classes.len() {
+        let start = skim(data_source, text, classes, at, minded);
+        let end = block_end(text, start);
+        let block = text.subrange(start..end);
+        if let Some(met) = read_block(data_source, block, &mut classes[start..], minded) {
+            let place = start + met.start;
+            return Some(Met {
+                start: place,
+                ..met
+            });
+        }
+        at = end;
+    }
+    None
+}
+
 // Whether a text goes on, at a character's place or at its end, with a line feed that separates
 // paragraphs.
 fn goes_on_with_line_feed<D: BidiDataSource, T: TextSource>(
@@ -351,14 +464,11 @@ pub(crate) fn walk<D: BidiDataSource, T: TextSource>(
         flags: Vec::new(alloc),
     };
     let mut minded = walk.reading.minded();
-    for (start, c) in text.char_indices() {
-        let class = data_source.bidi_class(c);
-        write::<T>(classes, start, c, class);
-        if minded.has(class) {
-            let end = start + T::char_len(c);
-            let ends = ends_paragraph(data_source, text, split, c, class, end);
-            minded = walk.meet(classes, class, start..end, ends)?;
-        }
+    let mut at = 0;
+    while let Some(met) = next_minded(data_source, text, classes, at, minded) {
+        at = met.start + T::char_len(met.c);
+        let ends = ends_paragraph(data_source, text, split, met.c, met.class, at);
+        minded = walk.meet(classes, met.class, met.start..at, ends)?;
     }
     let end = text.len();
     if split.is_none() || walk.reading.start < end {

@@ -151,6 +151,11 @@ impl<'t> TextSource for CharsText<'t> {
         }
     }
 
+    fn ascii_at(&self, index: usize) -> Option<u8> {
+        let c = *self.list.get(index)?;
+        if c.is_ascii() { Some(c as u8) } else { None }
+    }
+
     fn subrange(self, range: Range<usize>) -> CharsText<'t> {
         let list = self.list();
         CharsText::new(&list[range])

@@ -99,6 +99,11 @@ impl<'t> TextSource for StrText<'t> {
         }
     }
 
+    fn ascii_at(&self, index: usize) -> Option<u8> {
+        let byte = *self.as_str().as_bytes().get(index)?;
+        if byte.is_ascii() { Some(byte) } else { None }
+    }
+
     fn subrange(self, range: Range<usize>) -> StrText<'t> {
         let text = self.as_str();
         StrText::new(&text[range])

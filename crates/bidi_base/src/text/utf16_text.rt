@@ -221,6 +221,11 @@ impl<'t> TextSource for Utf16Text<'t> {
         first_char(&units[index..])
     }
 
+    fn ascii_at(&self, index: usize) -> Option<u8> {
+        let unit = *self.units().get(index)?;
+        if unit < 0x80 { Some(unit as u8) } else { None }
+    }
+
     fn subrange(self, range: Range<usize>) -> Utf16Text<'t> {
         let units = self.units();
         Utf16Text::new(&units[range])

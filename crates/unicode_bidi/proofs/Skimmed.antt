@@ -1,0 +1,267 @@
+-- Characters on which nothing depends, read one after another.
+use Rattle.std.proofs.Common.{suc, ◌≡◌, ℕ, ◌+◌, ◌-◌, ◌<◌, ◌≤◌, true, false, List, [], ◌∷◌, ◌++◌, length, take, drop, map, Some, set, inl, inr, refl, sym, ap, subst, ◌∙◌, arith, add-one, append_assoc, length-take}
+use Rattle.std.specs.Prelude.{replicate}
+use Rattle.std.proofs.Math.Seq.{drop-append_seam, take-suc-set}
+use Rattle.std.proofs.lemmas.List.{append-nil, map-append, length-map, take-append-le, take-append-drop}
+use Rattle.std.proofs.lemmas.Bool.{cases_lt, both_ways}
+use Rattle.std.proofs.lemmas.Bool.Decides.{nat_tests}
+use Rattle.std.proofs.lemmas.List.Elements.{All-nil, All-append, All-push}
+use Rattle.std.proofs.lemmas.List.Sums.{sum_by-append, sum_by-cons}
+use Rattle.bidi_base.specs.declared.char_data.BidiClass.{BidiClass}
+use Rattle.bidi_base.specs.Source.{Source}
+use Rattle.bidi_base.specs.Text.{text_len, char_at, ascii_of, ascii_at, char_index, is_boundary, subrange, per_unit, IsLine}
+use Rattle.bidi_base.proofs.TextLemmas.{HasUnits, char_at-append, char_index-append, is_boundary-append, cut_at}
+use Rattle.bidi_base.proofs.PlaceLemmas.{text_len-subrange}
+use Rattle.bidi_base.proofs.PerUnit.{per_unit-push, per_unit-append}
+use Rattle.unicode_bidi.specs.declared.class_set.ClassSet.{ClassSet}
+use Rattle.unicode_bidi.specs.declared.first_walk.Met.{Met}
+use Rattle.unicode_bidi.specs.ClassSet.{has}
+use Rattle.unicode_bidi.specs.FirstWalk.{ahead, AreWritten, IsSkimmed, IsMet}
+
+-- ---- what is ahead of a boundary
+
+-- a text is what stands before a boundary and what is ahead of it
+pub record AheadOf (len_of : ℕ → ℕ) (chars : List ℕ) (u : ℕ) : Type 0 where
+  pub front : List ℕ
+  pub joined : chars ≡ front ++ ahead len_of chars u
+  pub long : text_len len_of front ≡ u
+
+module _ (len_of : ℕ → ℕ) (units : HasUnits len_of) where
+  pub ahead-append : (xs ys : List ℕ) → ahead len_of (xs ++ ys) (text_len len_of xs) ≡ ys
+  ahead-append xs ys = ap (λ n. drop n (xs ++ ys)) (char_index-append len_of units xs ys) ∙ drop-append_seam xs ys
+
+  pub ahead_of : (chars : List ℕ) (u : ℕ) → is_boundary len_of chars u ≡ true → AheadOf len_of chars u
+  ahead_of chars u b =
+      let w = cut_at len_of chars u b in
+      let back : ahead len_of chars u ≡ w.back = ap (λ cs. ahead len_of cs u) w.joined ∙ ap (ahead len_of (w.front ++ w.back)) (sym w.long) ∙ ahead-append w.front w.back in
+      record { front = w.front; joined = w.joined ∙ ap (λ cs. w.front ++ cs) (sym back); long = w.long }
+
+pub is_boundary-end : (len_of : ℕ → ℕ) (chars : List ℕ) → is_boundary len_of chars (text_len len_of chars) ≡ true
+is_boundary-end len_of chars = ap (λ cs. is_boundary len_of cs (text_len len_of chars)) (sym (append-nil chars)) ∙ is_boundary-append len_of chars []
+
+-- what is no boundary is not the end
+pub inside-lt : (len_of : ℕ → ℕ) (chars : List ℕ) (u : ℕ) → is_boundary len_of chars u ≡ false → u ≤ text_len len_of chars → u < text_len len_of chars
+inside-lt len_of chars u inside le = elim (cases_lt u (text_len len_of chars)) [
+  | inl lt ↦ lt
+  | inr ge ↦
+      let end : u ≡ text_len len_of chars = omega arith in
+      absurd (both_ways (is_boundary len_of chars u) inside (ap (is_boundary len_of chars) end ∙ is_boundary-end len_of chars))
+]
+
+-- an ASCII character, one unit long, begins what comes
+pub record AsciiNext (len_of : ℕ → ℕ) (coming : List ℕ) (c : ℕ) : Type 0 where
+  pub tail : List ℕ
+  pub next : coming ≡ c ∷ tail
+  pub one : len_of c ≡ 1
+
+ascii_next : (len_of : ℕ → ℕ) (coming : List ℕ) (c : ℕ) → ascii_of (char_at len_of coming 0) ≡ Some c → AsciiNext len_of coming c
+ascii_next len_of [] c e = absurd (cc e)
+ascii_next len_of (d ∷ ds) c e =
+    let w = is_that d (len_of d) c e in
+    record { tail = ds; next = ap (λ x. x ∷ ds) w.0; one = ap len_of (sym w.0) ∙ w.1 }
+  where
+    is_that : (d l c : ℕ) → ascii_of (Some (d, l)) ≡ Some c → (d ≡ c) × (l ≡ 1)
+    is_that d l c e = grind (arith, nat_tests)
+
+module _ (source : Source) (len_of : ℕ → ℕ) (minded : ClassSet) where
+  abbrev classes_of : List ℕ → List BidiClass
+  classes_of cs = map source.class_of cs
+
+  -- ---- one character, and some characters, more
+
+  pub AreWritten-push : (read : List ℕ) (from at c : ℕ) (old new after : List BidiClass) → AreWritten source len_of read from at old new
+      → take (at + len_of c) after ≡ take at new ++ replicate (len_of c) (source.class_of c) → AreWritten source len_of (read ++ c ∷ []) from (at + len_of c) old after
+  AreWritten-push read from at c old new after h is = record {
+    long = omega (arith, h.long, sum_by-append len_of read (c ∷ []), sum_by-cons len_of c []);
+    classes =
+        is ∙ ap (λ us. us ++ replicate (len_of c) (source.class_of c)) h.classes
+        ∙ append_assoc (take from old) (per_unit len_of read (classes_of read)) (replicate (len_of c) (source.class_of c))
+        ∙ ap (λ us. take from old ++ us)
+        (sym (per_unit-push len_of read (classes_of read) c (source.class_of c) (length-map read source.class_of)) ∙ ap (per_unit len_of (read ++ c ∷ [])) (sym (map-append source.class_of read (c ∷ []))));
+  }
+
+  AreWritten-join : (xs ys : List ℕ) (from at to : ℕ) (old new after : List BidiClass) → AreWritten source len_of xs from at old new → AreWritten source len_of ys at to new after → AreWritten source len_of (xs ++ ys) from to old after
+  AreWritten-join xs ys from at to old new after h k = record {
+    long = omega (arith, h.long, k.long, sum_by-append len_of xs ys);
+    classes =
+        k.classes ∙ ap (λ us. us ++ per_unit len_of ys (classes_of ys)) h.classes
+        ∙ append_assoc (take from old) (per_unit len_of xs (classes_of xs)) (per_unit len_of ys (classes_of ys))
+        ∙ ap (λ us. take from old ++ us) (sym (per_unit-append len_of xs ys (classes_of xs) (classes_of ys) (length-map xs source.class_of)) ∙ ap (per_unit len_of (xs ++ ys)) (sym (map-append source.class_of xs ys)));
+  }
+
+  -- where the units from `at` on were handed on
+  AreWritten-part : (read : List ℕ) (at to : ℕ) (old part new tail : List BidiClass) → at ≤ length old → to ≤ length new → AreWritten source len_of read 0 to part new → AreWritten source len_of read at (at + to) old (take at old ++ (new ++ tail))
+  AreWritten-part read at to old part new tail inside room h = record {
+    long = omega (arith, h.long);
+    classes =
+        ap (λ n. take (n + to) (take at old ++ (new ++ tail))) (sym long) ∙ take_past (take at old) (new ++ tail) to
+        ∙ ap (λ us. take at old ++ us) (take-append-le to new tail room ∙ h.classes);
+  }
+    where
+      long : length (take at old) ≡ at
+      long = omega (arith, length-take at old)
+
+      take_past : (xs ys : List BidiClass) (n : ℕ) → take (length xs + n) (xs ++ ys) ≡ xs ++ take n ys
+      take_past [] ys n = let e : 0 + n ≡ n = omega arith in ap (λ m. take m ys) e
+      take_past (x ∷ xs) ys n = let e : length (x ∷ xs) + n ≡ suc (length xs + n) = omega arith in ap (λ m. take m (x ∷ xs ++ ys)) e ∙ ap (λ us. x ∷ us) (take_past xs ys n)
+
+  -- it begins in what came
+  pub IsMet-within : (coming : List ℕ) (from : ℕ) (met : Met) (old new : List BidiClass) → IsMet source len_of minded coming from met old new → met.start ≤ from + text_len len_of coming
+  IsMet-within coming from met old new h = omega (arith, h.begins, ap (text_len len_of) h.joined, sum_by-append len_of h.read (met.c ∷ h.rest))
+
+  unfoldable pub IsSkimmed-start : (coming : List ℕ) (at : ℕ) (classes : List BidiClass) → IsSkimmed source len_of minded coming at at classes classes
+  IsSkimmed-start coming at classes = record {
+    read = [];
+    rest = coming;
+    joined = refl;
+    idle = All-nil (λ c. has minded (source.class_of c) ≡ false);
+    written = record { long = omega arith; classes = sym (append-nil (take at classes)) };
+  }
+
+  module _ (coming : List ℕ) (from at : ℕ) (old new : List BidiClass) (h : IsSkimmed source len_of minded coming from at old new) where
+    unfoldable pub IsSkimmed-more : (c : ℕ) (rest : List ℕ) (to : ℕ) (after : List BidiClass) → h.rest ≡ c ∷ rest → has minded (source.class_of c) ≡ false → to ≡ at + len_of c
+        → take to after ≡ take at new ++ replicate (len_of c) (source.class_of c) → IsSkimmed source len_of minded coming from to old after
+    IsSkimmed-more c rest to after next idle end is = record {
+      read = h.read ++ c ∷ [];
+      rest = rest;
+      joined = h.joined ∙ ap (λ cs. h.read ++ cs) next ∙ sym (append_assoc h.read (c ∷ []) rest);
+      idle = All-push (λ c. has minded (source.class_of c) ≡ false) h.read c h.idle idle;
+      written =
+          subst (λ n. AreWritten source len_of (h.read ++ c ∷ []) from n old after) (sym end)
+          (AreWritten-push h.read from at c old new after h.written (subst (λ n. take n after ≡ take at new ++ replicate (len_of c) (source.class_of c)) end is));
+    }
+
+    pub IsMet-next : (met : Met) (rest : List ℕ) (after : List BidiClass) → h.rest ≡ met.c ∷ rest → met.start ≡ at → met.class ≡ source.class_of met.c
+        → take (met.start + len_of met.c) after ≡ take met.start new ++ replicate (len_of met.c) met.class → IsMet source len_of minded coming from met old after
+    IsMet-next met rest after next start class is = record {
+      read = h.read;
+      rest = rest;
+      joined = h.joined ∙ ap (λ cs. h.read ++ cs) next;
+      idle = h.idle;
+      begins = start ∙ h.written.long;
+      class = class;
+      written =
+          subst (λ n. AreWritten source len_of (h.read ++ met.c ∷ []) from (n + len_of met.c) old after) (sym start)
+          (AreWritten-push h.read from at met.c old new after h.written
+          (ap (λ n. take (n + len_of met.c) after) (sym start) ∙ is ∙ ap (λ n. take n new ++ replicate (len_of met.c) met.class) start ∙ ap (λ k. take at new ++ replicate (len_of met.c) k) class));
+    }
+
+    pub IsSkimmed-join : (to : ℕ) (after : List BidiClass) → IsSkimmed source len_of minded h.rest at to new after → IsSkimmed source len_of minded coming from to old after
+    IsSkimmed-join to after k = record {
+      read = h.read ++ k.read;
+      rest = k.rest;
+      joined = h.joined ∙ ap (λ cs. h.read ++ cs) k.joined ∙ sym (append_assoc h.read k.read k.rest);
+      idle = All-append (λ c. has minded (source.class_of c) ≡ false) h.read k.read h.idle k.idle;
+      written = AreWritten-join h.read k.read from at to old new after h.written k.written;
+    }
+
+    pub IsMet-join : (met : Met) (after : List BidiClass) → IsMet source len_of minded h.rest at met new after → IsMet source len_of minded coming from met old after
+    IsMet-join met after k = record {
+      read = h.read ++ k.read;
+      rest = k.rest;
+      joined = h.joined ∙ ap (λ cs. h.read ++ cs) k.joined ∙ sym (append_assoc h.read k.read (met.c ∷ k.rest));
+      idle = All-append (λ c. has minded (source.class_of c) ≡ false) h.read k.read h.idle k.idle;
+      begins = omega (arith, k.begins, h.written.long, sum_by-append len_of h.read k.read);
+      class = k.class;
+      written =
+          subst (λ cs. AreWritten source len_of cs from (met.start + len_of met.c) old after) (sym (append_assoc h.read k.read (met.c ∷ [])))
+          (AreWritten-join h.read (k.read ++ met.c ∷ []) from at (met.start + len_of met.c) old new after h.written k.written);
+    }
+
+    -- what has not come yet is ahead
+    module _ (units : HasUnits len_of) (chars : List ℕ) (begins : is_boundary len_of chars from ≡ true) (is_ahead : coming ≡ ahead len_of chars from) where
+      passed : List ℕ
+      passed = (ahead_of len_of units chars from begins).front ++ h.read
+
+      split : chars ≡ passed ++ h.rest
+      unfolding passed
+      split =
+          let w = ahead_of len_of units chars from begins in
+          w.joined ∙ ap (λ cs. w.front ++ cs) (sym is_ahead ∙ h.joined) ∙ sym (append_assoc w.front h.read h.rest)
+
+      passed_long : text_len len_of passed ≡ at
+      unfolding passed
+      passed_long =
+          let w = ahead_of len_of units chars from begins in
+          omega (arith, sum_by-append len_of w.front h.read, w.long, h.written.long)
+
+      pub is_boundary-skimmed : is_boundary len_of chars at ≡ true
+      is_boundary-skimmed = ap (λ cs. is_boundary len_of cs at) split ∙ ap (is_boundary len_of (passed ++ h.rest)) (sym passed_long) ∙ is_boundary-append len_of passed h.rest
+
+      pub ahead-skimmed : ahead len_of chars at ≡ h.rest
+      ahead-skimmed = ap (λ cs. ahead len_of cs at) split ∙ ap (ahead len_of (passed ++ h.rest)) (sym passed_long) ∙ ahead-append len_of units passed h.rest
+
+      pub char_at-skimmed : char_at len_of chars at ≡ char_at len_of h.rest 0
+      char_at-skimmed = ap (λ cs. char_at len_of cs at) split ∙ ap (char_at len_of (passed ++ h.rest)) (sym passed_long) ∙ char_at-append len_of units passed h.rest
+
+      -- the next of them were read too
+      pub IsSkimmed-on : (to : ℕ) (after : List BidiClass) → IsSkimmed source len_of minded (ahead len_of chars at) at to new after → IsSkimmed source len_of minded coming from to old after
+      IsSkimmed-on to after k = IsSkimmed-join to after (subst (λ cs. IsSkimmed source len_of minded cs at to new after) ahead-skimmed k)
+
+      pub fits-skimmed : at + text_len len_of h.rest ≡ text_len len_of chars
+      fits-skimmed = omega (arith, ap (text_len len_of) split, sum_by-append len_of passed h.rest, passed_long)
+
+      -- an ASCII character that comes
+      pub ascii-skimmed : (c : ℕ) → Some c ≡ ascii_at len_of chars at → AsciiNext len_of h.rest c
+      ascii-skimmed c e = ascii_next len_of h.rest c (ap ascii_of (sym char_at-skimmed) ∙ sym e)
+
+      pub ascii-fits : (c : ℕ) → Some c ≡ ascii_at len_of chars at → at + 1 ≤ text_len len_of chars
+      ascii-fits c e =
+          let w = ascii-skimmed c e in
+          omega (arith, fits-skimmed, ap (text_len len_of) w.next, sum_by-cons len_of c w.tail, w.one)
+
+      pub IsSkimmed-ascii : (c : ℕ) (is : Some c ≡ ascii_at len_of chars at) (class : BidiClass) → class ≡ source.class_of c → has minded class ≡ false → length new ≡ text_len len_of chars
+          → IsSkimmed source len_of minded coming from (at + 1) old (set new at class)
+      IsSkimmed-ascii c is class is_class idle long =
+          let w = ascii-skimmed c is in
+          let fits = ascii-fits c is in
+          IsSkimmed-more c w.tail (at + 1) (set new at class) w.next (ap (has minded) (sym is_class) ∙ idle) (ap (λ n. at + n) (sym w.one))
+          (written fits ∙ ap (λ k. take at new ++ k ∷ []) is_class ∙ ap (λ n. take at new ++ replicate n (source.class_of c)) (sym w.one))
+        where
+          written : at + 1 ≤ text_len len_of chars → take (at + 1) (set new at class) ≡ take at new ++ class ∷ []
+          written fits = rw add-one (take-suc-set new at class (omega arith))
+
+      pub within-skimmed : at ≤ text_len len_of chars
+      within-skimmed = omega (arith, fits-skimmed)
+
+      -- a block of what comes, read into the units from `at` on
+      module _ (block : List ℕ) (to : ℕ) (line : IsLine len_of chars at to) (is_block : block ≡ subrange len_of chars at to) (part written tail : List BidiClass) (inside : at ≤ length new) (room : text_len len_of block ≤ length written) where
+        behind : List ℕ
+        behind = drop (char_index len_of chars to - char_index len_of chars at) (ahead len_of chars at)
+
+        block_first : h.rest ≡ block ++ behind
+        unfolding behind
+        block_first = sym ahead-skimmed ∙ sym (take-append-drop (char_index len_of chars to - char_index len_of chars at) (ahead len_of chars at)) ∙ ap (λ cs. cs ++ behind) (sym is_block)
+
+        block_long : at + text_len len_of block ≡ to
+        block_long = omega (arith, ap (text_len len_of) is_block, text_len-subrange len_of units chars at to line, line.ordered)
+
+        pub IsSkimmed-block : IsSkimmed source len_of minded block 0 (text_len len_of block) part written → IsSkimmed source len_of minded coming from to old (take at new ++ (written ++ tail))
+        IsSkimmed-block k =
+            IsSkimmed-join to (take at new ++ (written ++ tail)) (record {
+              read = k.read;
+              rest = k.rest ++ behind;
+              joined = block_first ∙ ap (λ cs. cs ++ behind) k.joined ∙ append_assoc k.read k.rest behind;
+              idle = k.idle;
+              written =
+                  subst (λ n. AreWritten source len_of k.read at n new (take at new ++ (written ++ tail))) block_long
+                  (AreWritten-part k.read at (text_len len_of block) new part written tail inside room k.written);
+            })
+
+        pub IsMet-block : (met : Met) → IsMet source len_of minded block 0 met part written
+            → IsMet source len_of minded coming from (record { start = at + met.start; c = met.c; class = met.class }) old (take at new ++ (written ++ tail))
+        IsMet-block met k =
+            let sum : at + (met.start + len_of met.c) ≡ (at + met.start) + len_of met.c = omega arith in
+            let fits : met.start + len_of met.c ≤ length written =
+            omega (arith, k.written.long, ap (text_len len_of) k.joined, sum_by-append len_of k.read (met.c ∷ k.rest), sum_by-append len_of k.read (met.c ∷ []), sum_by-cons len_of met.c k.rest, sum_by-cons len_of met.c [], room) in
+            IsMet-join (record { start = at + met.start; c = met.c; class = met.class }) (take at new ++ (written ++ tail)) (record {
+              read = k.read;
+              rest = k.rest ++ behind;
+              joined = block_first ∙ ap (λ cs. cs ++ behind) k.joined ∙ append_assoc k.read (met.c ∷ k.rest) behind;
+              idle = k.idle;
+              begins = omega (arith, k.begins);
+              class = k.class;
+              written =
+                  subst (λ n. AreWritten source len_of (k.read ++ met.c ∷ []) at n new (take at new ++ (written ++ tail))) sum
+                  (AreWritten-part (k.read ++ met.c ∷ []) at (met.start + len_of met.c) new part written tail inside fits k.written);
+            })
