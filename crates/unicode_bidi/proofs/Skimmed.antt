@@ -1,5 +1,5 @@
 -- Characters on which nothing depends, read one after another.
-use Rattle.std.proofs.Common.{suc, ◌≡◌, ℕ, ◌+◌, ◌-◌, ◌<◌, ◌≤◌, true, false, List, [], ◌∷◌, ◌++◌, length, take, drop, map, Some, set, inl, inr, refl, sym, ap, subst, ◌∙◌, arith, add-one, append_assoc, length-take}
+use Rattle.std.proofs.Common.{suc, ◌≡◌, ℕ, ◌+◌, ◌-◌, ◌<◌, ◌≤◌, true, false, List, [], ◌∷◌, ◌++◌, length, take, drop, map, Some, set, inl, inr, refl, sym, ap, subst, ◌∙◌, arith, add-one, append_assoc, length-take, length-drop}
 use Rattle.std.specs.Prelude.{replicate}
 use Rattle.std.proofs.Math.Seq.{drop-append_seam, take-suc-set}
 use Rattle.std.proofs.lemmas.List.{append-nil, map-append, length-map, take-append-le, take-append-drop}
@@ -10,7 +10,7 @@ use Rattle.std.proofs.lemmas.List.Sums.{sum_by-append, sum_by-cons}
 use Rattle.bidi_base.specs.declared.char_data.BidiClass.{BidiClass}
 use Rattle.bidi_base.specs.Source.{Source}
 use Rattle.bidi_base.specs.Text.{text_len, char_at, ascii_of, ascii_at, char_index, is_boundary, subrange, per_unit, IsLine}
-use Rattle.bidi_base.proofs.TextLemmas.{HasUnits, char_at-append, char_index-append, is_boundary-append, cut_at}
+use Rattle.bidi_base.proofs.TextLemmas.{HasUnits, char_at-append, char_index-append, is_boundary-append, is_boundary-le, cut_at}
 use Rattle.bidi_base.proofs.PlaceLemmas.{text_len-subrange}
 use Rattle.bidi_base.proofs.PerUnit.{per_unit-push, per_unit-append}
 use Rattle.unicode_bidi.specs.declared.class_set.ClassSet.{ClassSet}
@@ -265,3 +265,38 @@ module _ (source : Source) (len_of : ℕ → ℕ) (minded : ClassSet) where
                   subst (λ n. AreWritten source len_of (k.read ++ met.c ∷ []) at n new (take at new ++ (written ++ tail))) sum
                   (AreWritten-part (k.read ++ met.c ∷ []) at (met.start + len_of met.c) new part written tail inside fits k.written);
             })
+
+-- ---- one turn of the walk to the next character on which something depends
+
+module _ (source : Source) (len_of : ℕ → ℕ) (minded : ClassSet) (units : HasUnits len_of) (chars : List ℕ) (from at start : ℕ) (old now new : List BidiClass) (begins : is_boundary len_of chars from ≡ true)
+    (h : IsSkimmed source len_of minded (ahead len_of chars from) from at old now) (k : IsSkimmed source len_of minded (ahead len_of chars at) at start now new) where
+  skimmed : IsSkimmed source len_of minded (ahead len_of chars from) from start old new
+  skimmed = IsSkimmed-on source len_of minded (ahead len_of chars from) from at old now h units chars begins refl start new k
+
+  pub start-within : start ≤ text_len len_of chars
+  start-within = within-skimmed source len_of minded (ahead len_of chars from) from start old new skimmed units chars begins refl
+
+  -- a block begins there
+  module _ (end : ℕ) (order : start ≤ end) (boundary : is_boundary len_of chars end ≡ true) where
+    pub block-line : IsLine len_of chars start end
+    block-line = record { ordered = order; begins = is_boundary-skimmed source len_of minded (ahead len_of chars from) from start old new skimmed units chars begins refl; ends = boundary }
+
+    module _ (block : List ℕ) (is_block : block ≡ subrange len_of chars start end) where
+      pub block-long : start + text_len len_of block ≡ end
+      block-long = omega (arith, ap (text_len len_of) is_block, text_len-subrange len_of units chars start end block-line, order)
+
+      pub block-room : length new ≡ text_len len_of chars → text_len len_of block ≤ length (take (length new - start) (drop start new))
+      block-room long = omega (arith, block-long, is_boundary-le len_of chars end boundary, length-take (length new - start) (drop start new), length-drop start new)
+
+      module _ (part written tail : List BidiClass) (long : length new ≡ text_len len_of chars) (room : text_len len_of block ≤ length written) where
+        inside : start ≤ length new
+        inside = omega (arith, long, start-within)
+
+        pub IsSkimmed-turn : IsSkimmed source len_of minded block 0 (text_len len_of block) part written → IsSkimmed source len_of minded (ahead len_of chars from) from end old (take start new ++ (written ++ tail))
+        IsSkimmed-turn =
+            IsSkimmed-block source len_of minded (ahead len_of chars from) from start old new skimmed units chars begins refl block end block-line is_block part written tail inside room
+
+        pub IsMet-turn : (met : Met) → IsMet source len_of minded block 0 met part written
+            → IsMet source len_of minded (ahead len_of chars from) from (record { start = start + met.start; c = met.c; class = met.class }) old (take start new ++ (written ++ tail))
+        IsMet-turn =
+            IsMet-block source len_of minded (ahead len_of chars from) from start old new skimmed units chars begins refl block end block-line is_block part written tail inside room
