@@ -1,7 +1,7 @@
 -- A line that is analysed as one paragraph, as a list of characters.
-use Rattle.std.proofs.Common.{◌≡◌, ℕ, ◌-◌, ◌++◌, false, List, [], ◌∷◌, length, map, flat_map, Option, refl, ap, subst, ◌∙◌, arith, append-nil}
-use Rattle.std.specs.Prelude.{slice_range, All}
-use Rattle.std.proofs.lemmas.List.{take_all, length-map, get_or-map}
+use Rattle.std.proofs.Common.{◌≡◌, ℕ, ◌++◌, false, List, [], ◌∷◌, length, map, flat_map, Option, refl, ap, subst, ◌∙◌, arith, append-nil}
+use Rattle.std.specs.Prelude.{All}
+use Rattle.std.proofs.lemmas.List.{length-map, get_or-map}
 use Rattle.bidi_base.specs.declared.char_data.BidiClass.{BidiClass}
 use Rattle.bidi_base.specs.Analysed.{IsAnalysis}
 use Rattle.bidi_base.specs.Isolates.{paragraph_level, stored_classes}

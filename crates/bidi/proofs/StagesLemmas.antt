@@ -7,7 +7,7 @@ use Rattle.std.proofs.lemmas.List.Sorted.{All-permutation}
 use Rattle.bidi_base.specs.declared.char_data.BidiClass.{BidiClass}
 use Rattle.bidi_base.specs.declared.char_data.BidiClass.TheVariants.{L}
 use Rattle.bidi_base.specs.Classes.{is_kept, is_l_or_r, is_weak_resolved}
-use Rattle.bidi_base.specs.Places.{indexes, at_places, first_or}
+use Rattle.bidi_base.specs.Places.{indexes, at_places}
 use Rattle.bidi_base.specs.Sequences.{RunSequence}
 use Rattle.bidi_base.proofs.ResolvedLemmas.{length-weak_classes}
 use Rattle.bidi_base.proofs.StoredLemmas.{length-at_places}

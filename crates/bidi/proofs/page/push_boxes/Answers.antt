@@ -1,4 +1,4 @@
-use Rattle.std.proofs.Common.{◌∙◌, ◌++◌, ◌∷◌, [], List, ℕ, flat_map, string_bytes, ap, sym}
+use Rattle.std.proofs.Common.{◌∙◌, ◌++◌, List, ℕ, flat_map, string_bytes, ap, sym}
 use Rattle.std.specs.List.{range_with_len}
 use Rattle.std.proofs.lemmas.List.{flat_map_more}
 use Rattle.bidi.specs.Pages.{box_at}
