@@ -343,7 +343,7 @@ fn block_end<T: TextSource>(text: T, from: usize) -> usize
 
 // Writes the classes of a text's characters, up to one on which something depends, and answers it.
 #[inline(never)]
-fn read_block<D: BidiDataSource, T: TextSource>(
+fn read_to_minded<D: BidiDataSource, T: TextSource>(
     data_source: &D,
     block: T,
     classes: &mut [BidiClass],
@@ -384,7 +384,7 @@ fn next_minded<D: BidiDataSource, T: TextSource>(
         let start = skim(data_source, text, classes, at, minded);
         let end = block_end(text, start);
         let block = text.subrange(start..end);
-        if let Some(met) = read_block(data_source, block, &mut classes[start..], minded) {
+        if let Some(met) = read_to_minded(data_source, block, &mut classes[start..], minded) {
             let place = start + met.start;
             return Some(Met {
                 start: place,

@@ -19,19 +19,19 @@ subrange-block-requires g c =
     block-line _ _ _ g.met.T.TextSource.has_units (g.T.TextSource.characters c.args.text) _ _ _ _ _ _ c.requires.begins c.loop-at.invariant c.skim-start.ensures
     c.block_end-end.result c.block_end-end.ensures.order c.block_end-end.ensures.boundary
 
-pub slice_bounds-read_block-count : goal.slice_bounds-read_block-count
-slice_bounds-read_block-count g c =
+pub slice_bounds-read_to_minded-count : goal.slice_bounds-read_to_minded-count
+slice_bounds-read_to_minded-count g c =
     let within = start-within _ _ _ g.met.T.TextSource.has_units (g.T.TextSource.characters c.args.text) _ _ _ _ _ _ c.requires.begins c.loop-at.invariant c.skim-start.ensures in
     omega (arith, within, c.requires.sized, c.loop-at.auto.classes, c.skim-start.auto.classes)
 
-pub slice_bounds-read_block-start : goal.slice_bounds-read_block-start
-slice_bounds-read_block-start g c =
+pub slice_bounds-read_to_minded-start : goal.slice_bounds-read_to_minded-start
+slice_bounds-read_to_minded-start g c =
     let within = start-within _ _ _ g.met.T.TextSource.has_units (g.T.TextSource.characters c.args.text) _ _ _ _ _ _ c.requires.begins c.loop-at.invariant c.skim-start.ensures in
     let inside : c.skim-start.result ≤ length c.skim-start.new.classes = omega (arith, within, c.requires.sized, c.loop-at.auto.classes, c.skim-start.auto.classes) in
     search rules
 
-pub read_block-requires : goal.read_block-requires
-read_block-requires g c =
+pub read_to_minded-requires : goal.read_to_minded-requires
+read_to_minded-requires g c =
     block-room _ _ _ g.met.T.TextSource.has_units (g.T.TextSource.characters c.args.text) _ _ _ _ _ _ c.requires.begins c.loop-at.invariant c.skim-start.ensures
     c.block_end-end.result c.block_end-end.ensures.order c.block_end-end.ensures.boundary _ c.subrange-block.ensures (c.skim-start.auto.classes ∙ c.loop-at.auto.classes ∙ c.requires.sized)
 
@@ -47,7 +47,7 @@ returns-in-Some g c =
     c.block_end-end.result c.block_end-end.ensures.order c.block_end-end.ensures.boundary _ c.subrange-block.ensures (c.skim-start.auto.classes ∙ c.loop-at.auto.classes ∙ c.requires.sized) in
     IsMet-turn _ _ _ g.met.T.TextSource.has_units (g.T.TextSource.characters c.args.text) _ _ _ _ _ _ c.requires.begins c.loop-at.invariant c.skim-start.ensures
     c.block_end-end.result c.block_end-end.ensures.order c.block_end-end.ensures.boundary _ c.subrange-block.ensures
-    _ c.read_block.new.classes _ (c.skim-start.auto.classes ∙ c.loop-at.auto.classes ∙ c.requires.sized) (omega (arith, room, c.read_block.auto.classes)) c.in-Some.met c.in-Some.ensures
+    _ c.read_to_minded.new.classes _ (c.skim-start.auto.classes ∙ c.loop-at.auto.classes ∙ c.requires.sized) (omega (arith, room, c.read_to_minded.auto.classes)) c.in-Some.met c.in-Some.ensures
 
 pub loop-at-preserved : goal.loop-at-preserved
 loop-at-preserved g c =
@@ -55,7 +55,7 @@ loop-at-preserved g c =
     c.block_end-end.result c.block_end-end.ensures.order c.block_end-end.ensures.boundary _ c.subrange-block.ensures (c.skim-start.auto.classes ∙ c.loop-at.auto.classes ∙ c.requires.sized) in
     IsSkimmed-turn _ _ _ g.met.T.TextSource.has_units (g.T.TextSource.characters c.args.text) _ _ _ _ _ _ c.requires.begins c.loop-at.invariant c.skim-start.ensures
     c.block_end-end.result c.block_end-end.ensures.order c.block_end-end.ensures.boundary _ c.subrange-block.ensures
-    _ c.read_block.new.classes _ (c.skim-start.auto.classes ∙ c.loop-at.auto.classes ∙ c.requires.sized) (omega (arith, room, c.read_block.auto.classes)) c.in_default.ensures
+    _ c.read_to_minded.new.classes _ (c.skim-start.auto.classes ∙ c.loop-at.auto.classes ∙ c.requires.sized) (omega (arith, room, c.read_to_minded.auto.classes)) c.in_default.ensures
 
 pub returns : goal.returns
 returns g c =
