@@ -198,6 +198,9 @@ module _ (source : Source) (len_of : ℕ → ℕ) (minded : ClassSet) where
       pub IsSkimmed-on : (to : ℕ) (after : List BidiClass) → IsSkimmed source len_of minded (ahead len_of chars at) at to new after → IsSkimmed source len_of minded coming from to old after
       IsSkimmed-on to after k = IsSkimmed-join to after (subst (λ cs. IsSkimmed source len_of minded cs at to new after) ahead-skimmed k)
 
+      pub IsMet-on : (met : Met) (after : List BidiClass) → IsMet source len_of minded (ahead len_of chars at) at met new after → IsMet source len_of minded coming from met old after
+      IsMet-on met after k = IsMet-join met after (subst (λ cs. IsMet source len_of minded cs at met new after) ahead-skimmed k)
+
       pub fits-skimmed : at + text_len len_of h.rest ≡ text_len len_of chars
       fits-skimmed = omega (arith, ap (text_len len_of) split, sum_by-append len_of passed h.rest, passed_long)
 
@@ -210,16 +213,21 @@ module _ (source : Source) (len_of : ℕ → ℕ) (minded : ClassSet) where
           let w = ascii-skimmed c e in
           omega (arith, fits-skimmed, ap (text_len len_of) w.next, sum_by-cons len_of c w.tail, w.one)
 
-      pub IsSkimmed-ascii : (c : ℕ) (is : Some c ≡ ascii_at len_of chars at) (class : BidiClass) → class ≡ source.class_of c → has minded class ≡ false → length new ≡ text_len len_of chars
-          → IsSkimmed source len_of minded coming from (at + 1) old (set new at class)
-      IsSkimmed-ascii c is class is_class idle long =
-          let w = ascii-skimmed c is in
-          let fits = ascii-fits c is in
-          IsSkimmed-more c w.tail (at + 1) (set new at class) w.next (ap (has minded) (sym is_class) ∙ idle) (ap (λ n. at + n) (sym w.one))
-          (written fits ∙ ap (λ k. take at new ++ k ∷ []) is_class ∙ ap (λ n. take at new ++ replicate n (source.class_of c)) (sym w.one))
-        where
-          written : at + 1 ≤ text_len len_of chars → take (at + 1) (set new at class) ≡ take at new ++ class ∷ []
-          written fits = rw add-one (take-suc-set new at class (omega arith))
+      module _ (c : ℕ) (is : Some c ≡ ascii_at len_of chars at) (class : BidiClass) (is_class : class ≡ source.class_of c) (long : length new ≡ text_len len_of chars) where
+        one_more : take (at + 1) (set new at class) ≡ take at new ++ class ∷ []
+        one_more = let fits = ascii-fits c is in rw add-one (take-suc-set new at class (omega arith))
+
+        pub IsSkimmed-ascii : has minded class ≡ false → IsSkimmed source len_of minded coming from (at + 1) old (set new at class)
+        IsSkimmed-ascii idle =
+            let w = ascii-skimmed c is in
+            IsSkimmed-more c w.tail (at + 1) (set new at class) w.next (ap (has minded) (sym is_class) ∙ idle) (ap (λ n. at + n) (sym w.one))
+            (one_more ∙ ap (λ k. take at new ++ k ∷ []) is_class ∙ ap (λ n. take at new ++ replicate n (source.class_of c)) (sym w.one))
+
+        pub IsMet-ascii : IsMet source len_of minded coming from (record { start = at; c = c; class = class }) old (set new at class)
+        IsMet-ascii =
+            let w = ascii-skimmed c is in
+            IsMet-next (record { start = at; c = c; class = class }) w.tail (set new at class) w.next refl is_class
+            (ap (λ n. take (at + n) (set new at class)) w.one ∙ one_more ∙ ap (λ n. take at new ++ replicate n class) (sym w.one))
 
       pub within-skimmed : at ≤ text_len len_of chars
       within-skimmed = omega (arith, fits-skimmed)

@@ -292,32 +292,37 @@ struct Met {
 }
 
 // Writes the classes of ASCII characters, each one unit long, that come one after another from a place
-// on, as far as nothing depends on them. Answers where the first other character begins.
+// on, up to one on which something depends, and answers it. The place goes on to where another
+// character begins.
 #[inline(never)]
 fn skim<D: BidiDataSource, T: TextSource>(
     data_source: &D,
     text: T,
     classes: &mut [BidiClass],
-    from: usize,
+    at: &mut usize,
     minded: ClassSet,
-) -> usize
+) -> Option<Met>
     requires sized { length classes.old ≡ text_len T.units (T.characters text) }
-    requires begins { IsTrue (is_boundary_of T.units (T.characters text) from) }
-    ensures { IsSkimmed (D.source data_source.now) T.units minded (ahead T.units (T.characters text) from) from result classes.old classes.new }
+    requires begins { IsTrue (is_boundary_of T.units (T.characters text) at.old) }
+    ensures { MatchOption result
+        (IsSkimmed (D.source data_source.now) T.units minded (ahead T.units (T.characters text) at.old) at.old at.new classes.old classes.new)
+        (λ met. IsMet (D.source data_source.now) T.units minded (ahead T.units (T.characters text) at.old) at.old met classes.old classes.new) }
 {
-    let mut at = from;
-    while at < classes.len() {
-        let Some(byte) = text.ascii_at(at) else {
+    let mut start = *at;
+    while start < classes.len() {
+        let Some(byte) = text.ascii_at(start) else {
             break;
         };
-        let class = data_source.bidi_class(char::from(byte));
+        let c = char::from(byte);
+        let class = data_source.bidi_class(c);
+        classes[start] = class;
         if minded.has(class) {
-            break;
+            return Some(Met { start, c, class });
         }
-        classes[at] = class;
-        at += 1;
+        start += 1;
     }
-    at
+    *at = start;
+    None
 }
 
 // How many units are read without another look at what is ASCII.
@@ -343,7 +348,7 @@ fn block_end<T: TextSource>(text: T, from: usize) -> usize
 
 // Writes the classes of a text's characters, up to one on which something depends, and answers it.
 #[inline(never)]
-fn read_block<D: BidiDataSource, T: TextSource>(
+fn read_to_minded<D: BidiDataSource, T: TextSource>(
     data_source: &D,
     block: T,
     classes: &mut [BidiClass],
@@ -381,11 +386,13 @@ fn next_minded<D: BidiDataSource, T: TextSource>(
 {
     let mut at = from;
     while at < classes.len() {
-        let start = skim(data_source, text, classes, at, minded);
-        let end = block_end(text, start);
-        let block = text.subrange(start..end);
-        if let Some(met) = read_block(data_source, block, &mut classes[start..], minded) {
-            let place = start + met.start;
+        if let Some(met) = skim(data_source, text, classes, &mut at, minded) {
+            return Some(met);
+        }
+        let end = block_end(text, at);
+        let block = text.subrange(at..end);
+        if let Some(met) = read_to_minded(data_source, block, &mut classes[at..], minded) {
+            let place = at + met.start;
             return Some(Met {
                 start: place,
                 ..met

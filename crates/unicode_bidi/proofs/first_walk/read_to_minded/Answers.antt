@@ -7,9 +7,9 @@ use Rattle.bidi_base.proofs.PlaceLemmas.{CharTurn, index_turn, index_end, place-
 use Rattle.unicode_bidi.specs.ClassSet.{has}
 use Rattle.unicode_bidi.specs.FirstWalk.{IsSkimmed}
 use Rattle.unicode_bidi.proofs.Skimmed.{IsSkimmed-start, IsSkimmed-more, IsMet-next}
-use Rattle.unicode_bidi.proofs.first_walk.read_block.Given.{Over}
-use Rattle.unicode_bidi.proofs.first_walk.read_block.Goals as goal
-use Rattle.unicode_bidi.proofs.first_walk.read_block.Goals.{In-Some}
+use Rattle.unicode_bidi.proofs.first_walk.read_to_minded.Given.{Over}
+use Rattle.unicode_bidi.proofs.first_walk.read_to_minded.Goals as goal
+use Rattle.unicode_bidi.proofs.first_walk.read_to_minded.Goals.{In-Some}
 
 pub loop-start-init : goal.loop-start-init
 unfolding IsSkimmed-start

@@ -1,7 +1,7 @@
 use Rattle.std.proofs.Common.{◌≡◌, length, drop}
 use Rattle.bidi_base.specs.Text.{place}
 use Rattle.unicode_bidi.specs.FirstWalk.{IsSkimmed}
-use Rattle.unicode_bidi.proofs.first_walk.read_block.Given as goal
+use Rattle.unicode_bidi.proofs.first_walk.read_to_minded.Given as goal
 
 abbrev pub invariant-loop-start : goal.invariant-loop-start
 invariant-loop-start g l =
