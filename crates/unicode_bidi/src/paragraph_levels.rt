@@ -47,7 +47,7 @@ pub(crate) struct LevelResolver {
     classes: Vec<BidiClass>,
     /// The level runs.
     runs: LevelRunVec,
-    /// The isolating run sequences. The runs of each take memory anew.
+    /// The isolating run sequences. The runs of each that has several take memory anew.
     sequences: IsolatingRunSequenceVec,
     neutrals: NeutralResolver,
 }

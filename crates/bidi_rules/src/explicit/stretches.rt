@@ -1,7 +1,7 @@
 //! The explicit pass by stretches: between two controls the status stands still, so all units there
 //! get one level, and are under one override.
 
-ghost use Rattle.std.specs.Prelude.{◌≡◌, ℕ, ◌-◌, ◌<◌, ◌≤◌, ◌^◌, false, None, Some, [], length, map, IsTrue, OnOk, IfOk};
+ghost use Rattle.std.specs.Prelude.{◌≡◌, ◌-◌, ◌<◌, ◌≤◌, false, None, Some, [], length, map, IsTrue, OnOk, IfOk};
 ghost use Rattle.bidi_base.specs.declared.char_data.BidiClass.TheVariants.{L};
 ghost use Rattle.bidi_base.specs.Explicit.{explicit_levels, processing_classes as processing_classes_of};
 ghost use Rattle.bidi_base.specs.Places.{class_at};
@@ -200,7 +200,8 @@ fn read_control<T: TextSource, S: Ledger>(
     Ok(next)
 }
 
-/// The same as [`compute`](super::compute), by stretches.
+/// The same as [`compute`](super::compute), where a stretch of units without controls is read at once,
+/// and the length of a character is asked for at controls alone.
 pub fn compute_by_stretches<T: TextSource>(
     text: T,
     para_level: Level,

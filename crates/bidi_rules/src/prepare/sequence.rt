@@ -7,13 +7,15 @@ ghost use Rattle.bidi_base.specs.Units.{bounds, are_ordered, is_run_sequence};
 use super::LevelRun;
 use bidi_base::char_data::BidiClass;
 use bidi_base::text::{TextSource, is_line};
+use smallvec::SmallVec;
 use std::alloc::{AllocError, Global};
 
 /// An isolating run sequence (BD13): one or more level runs in text order, and the classes that
 /// hold at its start and at its end (X10), each L or R.
 #[derive(PartialEq, Debug, Drop)]
 pub struct IsolatingRunSequence {
-    runs: Vec<LevelRun>,
+    /// Most sequences have one run, which takes no memory of its own.
+    runs: SmallVec<LevelRun, 1>,
     sos: BidiClass,
     eos: BidiClass,
     pub ghost well_formed: { IsTrue (is_run_sequence (map bounds runs.items) sos eos) },
@@ -34,7 +36,11 @@ impl IsolatingRunSequence {
         if runs.is_empty() || !are_in_order(&runs) || !is_side(sos) || !is_side(eos) {
             return None;
         }
-        Some(IsolatingRunSequence { runs, sos, eos })
+        Some(IsolatingRunSequence {
+            runs: SmallVec::from_vec(runs),
+            sos,
+            eos,
+        })
     }
 
     /// A sequence of one run.
@@ -49,7 +55,7 @@ impl IsolatingRunSequence {
         requires eos { IsTrue (is_l_or_r eos) }
         ensures { IfOk result (λ s. joined s ≡ record { runs = bounds run ∷ []; sos = sos; eos = eos }) }
     {
-        let mut runs = Vec::new(alloc);
+        let mut runs = SmallVec::new(alloc);
         runs.push(run)?;
         Ok(IsolatingRunSequence { runs, sos, eos })
     }
@@ -91,7 +97,7 @@ impl IsolatingRunSequence {
     pub fn fits<T: TextSource>(&self, text: T) -> bool
         ensures { IsTrue result ↔ AreLines T.units (T.characters text) (map bounds (runs_of self.now)) }
     {
-        for run in &self.runs {
+        for run in self.runs() {
             if !is_line(text, run) {
                 return false;
             }
@@ -106,10 +112,11 @@ impl IsolatingRunSequence {
         requires to { pos ≤ (get_or (map bounds (runs_of self.now)) run (0, 0)).1 }
         ensures { forwards_left result ≡ units_from (map bounds (runs_of self.now)) pos run }
     {
+        let runs = self.runs();
         ForwardsFrom {
             at: pos,
-            end: self.runs[run].end,
-            later: &self.runs[run + 1..],
+            end: runs[run].end,
+            later: &runs[run + 1..],
         }
     }
 
@@ -121,10 +128,11 @@ impl IsolatingRunSequence {
         requires to { pos ≤ (get_or (map bounds (runs_of self.now)) run (0, 0)).1 }
         ensures { backwards_left result ≡ units_below (map bounds (runs_of self.now)) pos run }
     {
+        let runs = self.runs();
         BackwardsFrom {
-            start: self.runs[run].start,
+            start: runs[run].start,
             at: pos,
-            earlier: &self.runs[..run],
+            earlier: &runs[..run],
         }
     }
 }

@@ -25,15 +25,15 @@ returns-then-not-is_line g c = (
   λ h. absurd (both_ways false refl h),
   λ all. absurd
       (both_ways c.is_line.result c.if-not-is_line.true
-      (c.is_line.ensures.1 (one_of g.T.TextSource.units (g.T.TextSource.characters c.args.text) c.args.self.now.runs.items c.deref-run-items.result.now c.loop-run.run-index _ c.deref-run-items.ensures.value c.loop-run-test.true all))),
+      (c.is_line.ensures.1 (one_of g.T.TextSource.units (g.T.TextSource.characters c.args.text) c.args.self.now.runs.items c.runs-run-items.result.now c.loop-run.run-index _ c.runs-run-items.ensures c.loop-run-test.true all))),
 )
 
 pub loop-run-preserved : goal.loop-run-preserved
 loop-run-preserved g c =
-    All-more (λ (r : Range ℕ). IsLine g.T.TextSource.units (g.T.TextSource.characters c.args.text) r.start r.end) c.deref-run-items.result.now c.loop-run.run-index _ c.loop-run-test.true c.loop-run.invariant (c.is_line.ensures.0 c.if-not-is_line.false)
+    All-more (λ (r : Range ℕ). IsLine g.T.TextSource.units (g.T.TextSource.characters c.args.text) r.start r.end) c.runs-run-items.result.now c.loop-run.run-index _ c.loop-run-test.true c.loop-run.invariant (c.is_line.ensures.0 c.if-not-is_line.false)
 
 pub returns : goal.returns
 returns g c = (
-  λ _. all_of g.T.TextSource.units (g.T.TextSource.characters c.args.text) c.args.self.now.runs.items c.deref-run-items.result.now c.loop-run.run-index c.deref-run-items.ensures.value c.loop-run-test.false c.loop-run.invariant,
+  λ _. all_of g.T.TextSource.units (g.T.TextSource.characters c.args.text) c.args.self.now.runs.items c.runs-run-items.result.now c.loop-run.run-index c.runs-run-items.ensures c.loop-run-test.false c.loop-run.invariant,
   λ _. refl,
 )
