@@ -292,8 +292,8 @@ struct Met {
 }
 
 // Writes the classes of ASCII characters, each one unit long, that come one after another from a place
-// on, up to one on which something depends, and answers it. The place goes on to where another
-// character begins.
+// on, up to one on which something depends, and answers it. Where none comes, the place goes on to the
+// first other character, or to the end.
 #[inline(never)]
 fn skim<D: BidiDataSource, T: TextSource>(
     data_source: &D,
