@@ -6,6 +6,7 @@ pub mod FlagsLemmas
 pub mod FlatPasses
 pub mod FoundLaws
 pub mod IdleClasses
+pub mod KnownClasses
 pub mod LevelPasses
 pub mod LineUnits
 pub mod LineText

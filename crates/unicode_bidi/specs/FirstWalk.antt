@@ -1,5 +1,5 @@
 -- What the walk over a text holds of the isolates that are open, and what one more character does to it.
-use Rattle.std.specs.Prelude.{◌≡◌, ℕ, ◌+◌, ◌-◌, Bool, false, not, ◌&&◌, ◌||◌, ◌==◌, nat_lt, if◌then◌else◌, List, [], ◌∷◌, ◌++◌, take, drop, map, All, Option, Some, None, unwrap_or}
+use Rattle.std.specs.Prelude.{◌≡◌, ℕ, ◌+◌, ◌-◌, Bool, false, not, ◌&&◌, ◌||◌, ◌==◌, nat_lt, if◌then◌else◌, List, [], ◌∷◌, ◌++◌, take, drop, get_or, map, All, Option, Some, None, unwrap_or}
 use Rattle.std.specs.Option.{is_some, is_none}
 use Rattle.std.specs.declared.ops.Range.{Range}
 use Rattle.bidi_base.specs.declared.char_data.BidiClass.{BidiClass}
@@ -78,6 +78,10 @@ pub record IsClosed (base : Option ℕ) (r : Reading) (end : ℕ) (old : List Pa
   pub ranges : ranges_of new ≡ ranges_of old ++ (r.start, end) ∷ []
   pub levels : levels_of new ≡ levels_of old ++ unwrap_or base (level_by r.deciding) ∷ []
   pub flags : new_flags ≡ old_flags ++ r.flags ∷ []
+
+-- what is known of the classes of the first characters is what the source says
+abbrev pub AreKnown : Source → List (Option BidiClass) → Type 0
+AreKnown source known = (k : ℕ) (c : BidiClass) → get_or known k None ≡ Some c → c ≡ source.class_of k
 
 -- the characters from a boundary on
 abbrev pub ahead : (ℕ → ℕ) → List ℕ → ℕ → List ℕ

@@ -10,7 +10,7 @@ ghost use Rattle.bidi_base.specs.Paragraphs.{begins_with_line_feed, ranges_from}
 ghost use Rattle.bidi_base.specs.Stored.{text_classes, paragraph_levels};
 ghost use Rattle.bidi_base.specs.Text.{place as place_of, text_len, per_unit, is_boundary as is_boundary_of};
 ghost use Rattle.unicode_bidi.specs.ClassSet.{has};
-ghost use Rattle.unicode_bidi.specs.FirstWalk.{waiting, deciding_after, classes_after, wants_strong, minds, ahead, IsFresh, IsReadBy, IsClosed, IsSkimmed, IsMet};
+ghost use Rattle.unicode_bidi.specs.FirstWalk.{waiting, deciding_after, classes_after, wants_strong, minds, ahead, IsFresh, IsReadBy, IsClosed, IsSkimmed, IsMet, AreKnown};
 ghost use Rattle.unicode_bidi.specs.declared.first_walk.Reading.{Reading};
 ghost use Rattle.unicode_bidi.specs.ParagraphInfo.{ranges_of, levels_of};
 ghost use Rattle.unicode_bidi.specs.ParagraphFlags.{paragraph_flags};
@@ -291,32 +291,57 @@ struct Met {
     class: BidiClass,
 }
 
+// The classes of the characters below 0x100 that the data source was asked for.
+type KnownClasses = [Option<BidiClass>; 256];
+
+// The class of a character below 0x100. The data source is asked for it once.
+fn class_of_byte<D: BidiDataSource>(
+    data_source: &D,
+    known: &mut KnownClasses,
+    byte: u8,
+) -> BidiClass
+    requires { AreKnown (D.source data_source.now) known.old }
+    ensures class { result ≡ (D.source data_source.now).class_of byte }
+    ensures known { AreKnown (D.source data_source.now) known.new }
+{
+    let at = usize::from(byte);
+    if let Some(class) = known[at] {
+        return class;
+    }
+    let class = data_source.bidi_class(char::from(byte));
+    known[at] = Some(class);
+    class
+}
+
 // Writes the classes of ASCII characters, each one unit long, that come one after another from a place
 // on, up to one on which something depends, and answers it. Where none comes, the place goes on to the
 // first other character, or to the end.
 #[inline(never)]
 fn skim<D: BidiDataSource, T: TextSource>(
     data_source: &D,
+    known: &mut KnownClasses,
     text: T,
     classes: &mut [BidiClass],
     at: &mut usize,
     minded: ClassSet,
 ) -> Option<Met>
+    requires known { AreKnown (D.source data_source.now) known.old }
     requires sized { length classes.old ≡ text_len T.units (T.characters text) }
     requires begins { IsTrue (is_boundary_of T.units (T.characters text) at.old) }
-    ensures { MatchOption result
+    ensures met { MatchOption result
         (IsSkimmed (D.source data_source.now) T.units minded (ahead T.units (T.characters text) at.old) at.old at.new classes.old classes.new)
         (λ met. IsMet (D.source data_source.now) T.units minded (ahead T.units (T.characters text) at.old) at.old met classes.old classes.new) }
+    ensures known { AreKnown (D.source data_source.now) known.new }
 {
     let mut start = *at;
     while start < classes.len() {
         let Some(byte) = text.ascii_at(start) else {
             break;
         };
-        let c = char::from(byte);
-        let class = data_source.bidi_class(c);
+        let class = class_of_byte(data_source, known, byte);
         classes[start] = class;
         if minded.has(class) {
+            let c = char::from(byte);
             return Some(Met { start, c, class });
         }
         start += 1;
@@ -373,6 +398,7 @@ fn read_to_minded<D: BidiDataSource, T: TextSource>(
 // answers it.
 fn next_minded<D: BidiDataSource, T: TextSource>(
     data_source: &D,
+    known: &mut KnownClasses,
     text: T,
     classes: &mut [BidiClass],
     from: usize,
@@ -380,13 +406,15 @@ fn next_minded<D: BidiDataSource, T: TextSource>(
 ) -> Option<Met>
     requires sized { length classes.old ≡ text_len T.units (T.characters text) }
     requires begins { IsTrue (is_boundary_of T.units (T.characters text) from) }
-    ensures { MatchOption result
+    requires known { AreKnown (D.source data_source.now) known.old }
+    ensures met { MatchOption result
         (IsSkimmed (D.source data_source.now) T.units minded (ahead T.units (T.characters text) from) from (text_len T.units (T.characters text)) classes.old classes.new)
         (λ met. IsMet (D.source data_source.now) T.units minded (ahead T.units (T.characters text) from) from met classes.old classes.new) }
+    ensures known { AreKnown (D.source data_source.now) known.new }
 {
     let mut at = from;
     while at < classes.len() {
-        if let Some(met) = skim(data_source, text, classes, &mut at, minded) {
+        if let Some(met) = skim(data_source, known, text, classes, &mut at, minded) {
             return Some(met);
         }
         let end = block_end(text, at);
@@ -471,8 +499,9 @@ pub(crate) fn walk<D: BidiDataSource, T: TextSource>(
         flags: Vec::new(alloc),
     };
     let mut minded = walk.reading.minded();
+    let mut known = [None; 256];
     let mut at = 0;
-    while let Some(met) = next_minded(data_source, text, classes, at, minded) {
+    while let Some(met) = next_minded(data_source, &mut known, text, classes, at, minded) {
         at = met.start + T::char_len(met.c);
         let ends = ends_paragraph(data_source, text, split, met.c, met.class, at);
         minded = walk.meet(classes, met.class, met.start..at, ends)?;

@@ -5,65 +5,67 @@ use Rattle.unicode_bidi.proofs.Skimmed.{IsSkimmed-start, is_boundary-skimmed, wi
 use Rattle.unicode_bidi.proofs.first_walk.next_minded.Goals as goal
 
 pub loop-at-init : goal.loop-at-init
-loop-at-init g c = IsSkimmed-start _ _ _ _ _ _
+loop-at-init g c = (c.requires.known, IsSkimmed-start _ _ _ _ _ _)
 
 pub skim-requires-clause-begins : goal.skim-requires-clause-begins
-skim-requires-clause-begins g c = is_boundary-skimmed _ _ _ _ _ _ _ _ c.loop-at.invariant g.met.T.TextSource.has_units (g.T.TextSource.characters c.args.text) c.requires.begins refl
+skim-requires-clause-begins g c = is_boundary-skimmed _ _ _ _ _ _ _ _ c.loop-at.invariant.1 g.met.T.TextSource.has_units (g.T.TextSource.characters c.args.text) c.requires.begins refl
 
-pub returns-in-Some : goal.returns-in-Some
-returns-in-Some g c =
-    IsMet-on _ _ _ _ _ _ _ _ c.loop-at.invariant g.met.T.TextSource.has_units (g.T.TextSource.characters c.args.text) c.requires.begins refl c.in-Some.met c.skim.new.classes c.in-Some.ensures
+pub returns-in-Some-clause-met : goal.returns-in-Some-clause-met
+returns-in-Some-clause-met g c =
+    IsMet-on _ _ _ _ _ _ _ _ c.loop-at.invariant.1 g.met.T.TextSource.has_units (g.T.TextSource.characters c.args.text) c.requires.begins refl c.in-Some.met c.skim.new.classes c.in-Some.ensures.met
 
 pub block_end-end-requires : goal.block_end-end-requires
 block_end-end-requires g c =
-    start-within _ _ _ g.met.T.TextSource.has_units (g.T.TextSource.characters c.args.text) _ _ _ _ _ _ c.requires.begins c.loop-at.invariant c.in_default.ensures
+    start-within _ _ _ g.met.T.TextSource.has_units (g.T.TextSource.characters c.args.text) _ _ _ _ _ _ c.requires.begins c.loop-at.invariant.1 c.in_default.ensures.met
 
 pub subrange-block-requires : goal.subrange-block-requires
 subrange-block-requires g c =
-    block-line _ _ _ g.met.T.TextSource.has_units (g.T.TextSource.characters c.args.text) _ _ _ _ _ _ c.requires.begins c.loop-at.invariant c.in_default.ensures
+    block-line _ _ _ g.met.T.TextSource.has_units (g.T.TextSource.characters c.args.text) _ _ _ _ _ _ c.requires.begins c.loop-at.invariant.1 c.in_default.ensures.met
     c.block_end-end.result c.block_end-end.ensures.order c.block_end-end.ensures.boundary
 
 pub slice_bounds-read_to_minded-count : goal.slice_bounds-read_to_minded-count
 slice_bounds-read_to_minded-count g c =
-    let within = start-within _ _ _ g.met.T.TextSource.has_units (g.T.TextSource.characters c.args.text) _ _ _ _ _ _ c.requires.begins c.loop-at.invariant c.in_default.ensures in
+    let within = start-within _ _ _ g.met.T.TextSource.has_units (g.T.TextSource.characters c.args.text) _ _ _ _ _ _ c.requires.begins c.loop-at.invariant.1 c.in_default.ensures.met in
     omega (arith, within, c.requires.sized, c.loop-at.auto.classes, c.skim.auto.classes)
 
 pub slice_bounds-read_to_minded-start : goal.slice_bounds-read_to_minded-start
 slice_bounds-read_to_minded-start g c =
-    let within = start-within _ _ _ g.met.T.TextSource.has_units (g.T.TextSource.characters c.args.text) _ _ _ _ _ _ c.requires.begins c.loop-at.invariant c.in_default.ensures in
+    let within = start-within _ _ _ g.met.T.TextSource.has_units (g.T.TextSource.characters c.args.text) _ _ _ _ _ _ c.requires.begins c.loop-at.invariant.1 c.in_default.ensures.met in
     let inside : c.skim.new.at ≤ length c.skim.new.classes = omega (arith, within, c.requires.sized, c.loop-at.auto.classes, c.skim.auto.classes) in
     search rules
 
 pub read_to_minded-requires : goal.read_to_minded-requires
 read_to_minded-requires g c =
-    block-room _ _ _ g.met.T.TextSource.has_units (g.T.TextSource.characters c.args.text) _ _ _ _ _ _ c.requires.begins c.loop-at.invariant c.in_default.ensures
+    block-room _ _ _ g.met.T.TextSource.has_units (g.T.TextSource.characters c.args.text) _ _ _ _ _ _ c.requires.begins c.loop-at.invariant.1 c.in_default.ensures.met
     c.block_end-end.result c.block_end-end.ensures.order c.block_end-end.ensures.boundary _ c.subrange-block.ensures (c.skim.auto.classes ∙ c.loop-at.auto.classes ∙ c.requires.sized)
 
 pub overflow_add-place : goal.overflow_add-place
 overflow_add-place g c =
-    let long = block-long _ _ _ g.met.T.TextSource.has_units (g.T.TextSource.characters c.args.text) _ _ _ _ _ _ c.requires.begins c.loop-at.invariant c.in_default.ensures
+    let long = block-long _ _ _ g.met.T.TextSource.has_units (g.T.TextSource.characters c.args.text) _ _ _ _ _ _ c.requires.begins c.loop-at.invariant.1 c.in_default.ensures.met
     c.block_end-end.result c.block_end-end.ensures.order c.block_end-end.ensures.boundary _ c.subrange-block.ensures in
     omega (arith, IsMet-within _ _ _ _ 0 c.in-Some-read_to_minded.met _ _ c.in-Some-read_to_minded.ensures, long, c.block_end-end.type_inv)
 
-pub returns-in-Some-read_to_minded : goal.returns-in-Some-read_to_minded
-returns-in-Some-read_to_minded g c =
-    let room = block-room _ _ _ g.met.T.TextSource.has_units (g.T.TextSource.characters c.args.text) _ _ _ _ _ _ c.requires.begins c.loop-at.invariant c.in_default.ensures
+pub returns-in-Some-read_to_minded-clause-met : goal.returns-in-Some-read_to_minded-clause-met
+returns-in-Some-read_to_minded-clause-met g c =
+    let room = block-room _ _ _ g.met.T.TextSource.has_units (g.T.TextSource.characters c.args.text) _ _ _ _ _ _ c.requires.begins c.loop-at.invariant.1 c.in_default.ensures.met
     c.block_end-end.result c.block_end-end.ensures.order c.block_end-end.ensures.boundary _ c.subrange-block.ensures (c.skim.auto.classes ∙ c.loop-at.auto.classes ∙ c.requires.sized) in
-    IsMet-turn _ _ _ g.met.T.TextSource.has_units (g.T.TextSource.characters c.args.text) _ _ _ _ _ _ c.requires.begins c.loop-at.invariant c.in_default.ensures
+    IsMet-turn _ _ _ g.met.T.TextSource.has_units (g.T.TextSource.characters c.args.text) _ _ _ _ _ _ c.requires.begins c.loop-at.invariant.1 c.in_default.ensures.met
     c.block_end-end.result c.block_end-end.ensures.order c.block_end-end.ensures.boundary _ c.subrange-block.ensures
     _ c.read_to_minded.new.classes _ (c.skim.auto.classes ∙ c.loop-at.auto.classes ∙ c.requires.sized) (omega (arith, room, c.read_to_minded.auto.classes)) c.in-Some-read_to_minded.met c.in-Some-read_to_minded.ensures
 
 pub loop-at-preserved : goal.loop-at-preserved
 loop-at-preserved g c =
-    let room = block-room _ _ _ g.met.T.TextSource.has_units (g.T.TextSource.characters c.args.text) _ _ _ _ _ _ c.requires.begins c.loop-at.invariant c.in_default.ensures
-    c.block_end-end.result c.block_end-end.ensures.order c.block_end-end.ensures.boundary _ c.subrange-block.ensures (c.skim.auto.classes ∙ c.loop-at.auto.classes ∙ c.requires.sized) in
-    IsSkimmed-turn _ _ _ g.met.T.TextSource.has_units (g.T.TextSource.characters c.args.text) _ _ _ _ _ _ c.requires.begins c.loop-at.invariant c.in_default.ensures
-    c.block_end-end.result c.block_end-end.ensures.order c.block_end-end.ensures.boundary _ c.subrange-block.ensures
-    _ c.read_to_minded.new.classes _ (c.skim.auto.classes ∙ c.loop-at.auto.classes ∙ c.requires.sized) (omega (arith, room, c.read_to_minded.auto.classes)) c.in_default-read_to_minded.ensures
+    let room = block-room _ _ _ g.met.T.TextSource.has_units (g.T.TextSource.characters c.args.text) _ _ _ _ _ _ c.requires.begins c.loop-at.invariant.1 c.in_default.ensures.met
+    c.block_end-end.result c.block_end-end.ensures.order c.block_end-end.ensures.boundary _ c.subrange-block.ensures (c.skim.auto.classes ∙ c.loop-at.auto.classes ∙ c.requires.sized) in (
+      c.in_default.ensures.known,
+      IsSkimmed-turn _ _ _ g.met.T.TextSource.has_units (g.T.TextSource.characters c.args.text) _ _ _ _ _ _ c.requires.begins c.loop-at.invariant.1 c.in_default.ensures.met
+          c.block_end-end.result c.block_end-end.ensures.order c.block_end-end.ensures.boundary _ c.subrange-block.ensures
+          _ c.read_to_minded.new.classes _ (c.skim.auto.classes ∙ c.loop-at.auto.classes ∙ c.requires.sized) (omega (arith, room, c.read_to_minded.auto.classes)) c.in_default-read_to_minded.ensures,
+    )
 
-pub returns : goal.returns
-returns g c =
+pub returns-clause-met : goal.returns-clause-met
+returns-clause-met g c =
     let cs : List ℕ = g.T.TextSource.characters c.args.text in
-    let within = within-skimmed _ _ _ _ _ _ _ _ c.loop-at.invariant g.met.T.TextSource.has_units cs c.requires.begins refl in
+    let within = within-skimmed _ _ _ _ _ _ _ _ c.loop-at.invariant.1 g.met.T.TextSource.has_units cs c.requires.begins refl in
     let end : c.loop-at.at ≡ text_len g.T.TextSource.units cs = omega (arith, within, c.loop-at-test.false, c.requires.sized, c.loop-at.auto.classes) in
-    subst (λ n. IsSkimmed (g.D.BidiDataSource.source c.args.data_source.now) g.T.TextSource.units c.args.minded (ahead g.T.TextSource.units cs c.args.from) c.args.from n c.args.classes.now c.loop-at.classes) end c.loop-at.invariant
+    subst (λ n. IsSkimmed (g.D.BidiDataSource.source c.args.data_source.now) g.T.TextSource.units c.args.minded (ahead g.T.TextSource.units cs c.args.from) c.args.from n c.args.classes.now c.loop-at.classes) end c.loop-at.invariant.1

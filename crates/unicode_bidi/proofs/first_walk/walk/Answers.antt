@@ -7,6 +7,7 @@ use Rattle.bidi_base.specs.Text.{place, is_boundary}
 use Rattle.bidi_base.proofs.PlaceLemmas.{is_boundary-place, place-end, place-le}
 use Rattle.unicode_bidi.specs.FirstWalk.{IsFresh, IsClosed}
 use Rattle.unicode_bidi.specs.SplitRule.{ends_after}
+use Rattle.unicode_bidi.proofs.KnownClasses.{AreKnown-none}
 use Rattle.unicode_bidi.specs.declared.first_walk.TextReading.{TextReading}
 use Rattle.unicode_bidi.proofs.TextRead.{seen, same_range, open_within, depth-le, start-le, drawn-is, IsTextRead-more, IsTextDone-close, IsRead, IsRead-start, IsRead-on, IsRead-stop, IsRead-last, IsRead-none, IsTextDone-none, IsAnswer, IsTextDone-answer}
 use Rattle.unicode_bidi.proofs.WalkSteps.{IsAt, IsAt-met, IsRead-end}
@@ -24,6 +25,7 @@ loop-met-init g c = (
   },
   c.minded-minded.ensures,
   refl,
+  AreKnown-none (g.D.BidiDataSource.source c.args.data_source.now) 256,
 )
 
 pub next_minded-requires-clause-begins : goal.next_minded-requires-clause-begins
@@ -38,7 +40,7 @@ met_at : (g : Over) (c : In-Some g)
     → IsAt (g.D.BidiDataSource.source c.args.data_source.now) g.T.TextSource.units (g.T.TextSource.characters c.args.text) c.args.split c.args.base c.in-Some.met (seen c.next_minded.new.classes c.loop-met.walk) c.loop-met.walk.reading
 met_at g c =
     IsAt-met _ _ (g.T.TextSource.characters c.args.text) g.met.T.TextSource.has_units c.args.split c.args.base c.loop-met.at (seen c.loop-met.classes c.loop-met.walk) c.loop-met.walk.reading c.loop-met.minded c.next_minded.new.classes
-    c.loop-met.invariant.0 c.loop-met.invariant.1 c.next_minded.auto.classes c.in-Some.met c.in-Some.ensures
+    c.loop-met.invariant.0 c.loop-met.invariant.1 c.next_minded.auto.classes c.in-Some.met c.in-Some.ensures.met
 
 pub overflow_add-at : goal.overflow_add-at
 overflow_add-at g c =
@@ -95,7 +97,7 @@ loop-met-smaller g c =
     let old = seen c.next_minded.new.classes c.loop-met.walk in
     let m = met_at g (goal.at.loop-met-smaller g c).In-Some in
     let w = m.turn in
-    omega (arith, w.fits, units c.in-Some.met.c, c.char_len.ensures, c.in-Some.ensures.begins, c.loop-met.invariant.0.read.read.sized, c.loop-met.auto.classes)
+    omega (arith, w.fits, units c.in-Some.met.c, c.char_len.ensures, c.in-Some.ensures.met.begins, c.loop-met.invariant.0.read.read.sized, c.loop-met.auto.classes)
 
 pub loop-met-preserved : goal.loop-met-preserved
 loop-met-preserved g c =
@@ -138,6 +140,7 @@ loop-met-preserved g c =
       record { index = n + 1; within = omega (arith, w.within); here = end; read = read },
       c.in_ok-minded.ensures.minded,
       c.meet.ensures.base ∙ c.loop-met.invariant.2,
+      c.in-Some.ensures.known,
     )
 
 pub close-requires : goal.close-requires
@@ -149,7 +152,7 @@ close-requires g c =
     let base = c.args.base in
     let reading = c.loop-met.walk.reading in
     let old = seen c.next_minded.new.classes c.loop-met.walk in
-    let h = IsRead-end _ _ cs units c.args.split base c.loop-met.at (seen c.loop-met.classes c.loop-met.walk) reading c.loop-met.minded c.next_minded.new.classes c.loop-met.invariant.0 c.loop-met.invariant.1 c.next_minded.auto.classes c.in_default.ensures in
+    let h = IsRead-end _ _ cs units c.args.split base c.loop-met.at (seen c.loop-met.classes c.loop-met.walk) reading c.loop-met.minded c.next_minded.new.classes c.loop-met.invariant.0 c.loop-met.invariant.1 c.next_minded.auto.classes c.in_default.ensures.met in
     omega (arith, start-le source len cs base (length cs) h.done h.current old reading h.read, place-le len cs (length cs), c.len-end.ensures)
 
 answered : (g : Over) (c : goal.After-drop-walk-2 g) → IsAnswer (g.D.BidiDataSource.source c.args.data_source.now) g.T.TextSource.units (g.T.TextSource.characters c.args.text) c.args.split c.args.base (seen c.next_minded.new.classes c.if-is_none.walk)
@@ -164,7 +167,7 @@ answered g c =
     let n : ℕ = length cs in
     let split = c.args.split in
     let h =
-    IsRead-end _ _ cs units c.args.split base c.loop-met.at (seen c.loop-met.classes c.loop-met.walk) reading c.loop-met.minded c.next_minded.new.classes c.loop-met.invariant.0 c.loop-met.invariant.1 c.next_minded.auto.classes c.in_default.ensures in
+    IsRead-end _ _ cs units c.args.split base c.loop-met.at (seen c.loop-met.classes c.loop-met.walk) reading c.loop-met.minded c.next_minded.new.classes c.loop-met.invariant.0 c.loop-met.invariant.1 c.next_minded.auto.classes c.in_default.ensures.met in
     let end : c.len-end.result ≡ place len cs n = c.len-end.ensures ∙ sym (place-end len cs n (omega arith)) in
     elim c.if-is_none.branch [
       | then-is_none+in_ok-close w ↦

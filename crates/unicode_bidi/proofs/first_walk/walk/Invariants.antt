@@ -1,7 +1,7 @@
 use Rattle.std.proofs.Common.{◌≡◌, ◌-◌, length}
 use Rattle.bidi_base.specs.declared.char_data.BidiClass.{BidiClass}
 use Rattle.unicode_bidi.specs.ClassSet.{has}
-use Rattle.unicode_bidi.specs.FirstWalk.{minds}
+use Rattle.unicode_bidi.specs.FirstWalk.{minds, AreKnown}
 use Rattle.unicode_bidi.proofs.TextRead.{seen}
 use Rattle.unicode_bidi.proofs.WalkSteps.{IsWalked}
 use Rattle.unicode_bidi.proofs.first_walk.walk.Given as goal
@@ -11,6 +11,7 @@ invariant-loop-met g l =
     IsWalked (g.D.BidiDataSource.source l.data_source) g.T.TextSource.units (g.T.TextSource.characters l.fn.text) l.split l.fn.base l.at (seen l.classes l.walk) l.walk.reading
     × ((c : BidiClass) → has l.minded c ≡ minds l.walk.reading c)
     × (l.walk.base ≡ l.fn.base)
+    × AreKnown (g.D.BidiDataSource.source l.fn.data_source) l.known
 
 abbrev pub decreases-loop-met : goal.decreases-loop-met
 decreases-loop-met g l = length l.initial.classes - l.at
