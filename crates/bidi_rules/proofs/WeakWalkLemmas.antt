@@ -1,16 +1,17 @@
 -- The steps of the walk over numbers, by stretches of units.
-use Rattle.std.proofs.Common.{◌≡◌, ℕ, zero, suc, ◌+◌, ◌-◌, ◌<◌, ◌≤◌, Bool, true, false, ◌&&◌, List, [], ◌∷◌, ◌++◌, length, get_or, map, drop, replicate, refl, sym, ap, subst, ◌∙◌, arith, inl, inr, append-nil, append_assoc, length-append}
+use Rattle.std.proofs.Common.{◌≡◌, ℕ, zero, suc, ◌+◌, ◌-◌, ◌<◌, ◌≤◌, Bool, true, false, ◌&&◌, List, [], ◌∷◌, ◌++◌, length, get_or, map, take, drop, reverse, replicate, refl, sym, ap, subst, ◌∙◌, arith, inl, inr, append-nil, append_assoc, length-append, length-drop, get_or-drop}
 use Rattle.std.specs.Prelude.{All}
 use Rattle.std.specs.List.{range_with_len}
 use Rattle.std.proofs.lemmas.Bool.{cases_Bool, cases_lt, both_ways, and_from, and_left, and_right}
-use Rattle.std.proofs.lemmas.List.{map-append}
+use Rattle.std.proofs.lemmas.List.{map-append, reverse-append, take_more}
 use Rattle.std.proofs.lemmas.List.FromFn.{length-range_with_len}
 use Rattle.std.specs.declared.ops.Range.{Range}
 use Rattle.bidi_base.specs.declared.char_data.BidiClass.{BidiClass}
 use Rattle.bidi_base.specs.declared.char_data.BidiClass.TheVariants.{L, AL, EN, ET, AN, BN, ON}
-use Rattle.bidi_base.specs.Classes.{is_l, is_kept_in_place}
-use Rattle.bidi_base.specs.Places.{at_places, class_at}
+use Rattle.bidi_base.specs.Classes.{is_l, is_strong, is_kept_in_place}
+use Rattle.bidi_base.specs.Places.{at_places, class_at, nearest}
 use Rattle.bidi_base.specs.Units.{are_ordered, bounds, in_runs}
+use Rattle.bidi_base.proofs.PlacesLemmas.{nearest-more}
 use Rattle.bidi_base.proofs.StoredLemmas.{at_places-append}
 use Rattle.bidi_rules.specs.declared.implicit.weak.numbers.Walk.{Walk}
 use Rattle.bidi_rules.specs.declared.implicit.weak.steps.Before.{Before}
@@ -373,6 +374,32 @@ IsUnderWay-passes p now w i run h fits starts ends inside other asked =
           (IsUnderWay-unseen p now w i h (i + 1) (omega arith) (omega arith)
           (λ k from below. let same : k ≡ i = omega arith in and_right (in_runs p.runs k) (is_kept_in_place (class_at p.old k)) (ap (λ (u : ℕ). is_kept_in_place (class_at p.old u)) same ∙ gone)))
     ]
+
+-- the nearest strong class, where one more unit is passed
+nearest-unit : (now : List BidiClass) (i m : ℕ) (strong : BidiClass) → i + m < length now
+    → nearest is_strong (reverse (take (suc m) (drop i now))) strong ≡ strong_up_to (nearest is_strong (reverse (take m (drop i now))) strong) (class_at now (i + m))
+nearest-unit now i m strong fits =
+    let passed = take m (drop i now) in
+    let c = get_or (drop i now) m L in
+    let next : suc m ≡ m + 1 = omega arith in
+    let more : reverse (take (suc m) (drop i now)) ≡ c ∷ reverse passed =
+    ap (λ (n : ℕ). reverse (take n (drop i now))) next ∙ ap (λ (cs : List BidiClass). reverse cs) (take_more (drop i now) m L (omega (arith, length-drop i now))) ∙ reverse-append passed (c ∷ []) in
+    ap (λ (cs : List BidiClass). nearest is_strong cs strong) more ∙ nearest-more is_strong c (reverse passed) strong ∙ ap (strong_up_to (nearest is_strong (reverse passed) strong)) (get_or-drop i now m L)
+
+-- units that are passed over, one behind another
+pub IsUnderWay-passes_all : (p : Pass) (now : List BidiClass) (w : Walk) (i run n : ℕ) → IsUnderWay p now w i → run < length p.runs → (get_or p.runs run (0, 0)).0 ≤ i → i + n ≤ (get_or p.runs run (0, 0)).1 → i + n ≤ length now
+    → is_other w.before ≡ true → ((k : ℕ) → i ≤ k → k < i + n → is_asked (class_at now k) ≡ false)
+    → IsUnderWay p now (record { strong = nearest is_strong (reverse (take n (drop i now))) w.strong; before = w.before; first = w.first; first_run = w.first_run }) (i + n)
+IsUnderWay-passes_all p now w i run zero h fits starts ends inside other none =
+    let same : i ≡ i + 0 = omega arith in
+    subst (IsUnderWay p now w) same h
+IsUnderWay-passes_all p now w i run (suc m) h fits starts ends inside other none =
+    let so_far = IsUnderWay-passes_all p now w i run m h fits starts (omega arith) (omega arith) other (λ k from below. none k from (omega arith)) in
+    let long = so_far.long in
+    let next : i + m + 1 ≡ i + suc m = omega arith in
+    IsUnderWay-same p now now _ _ (i + suc m) refl (nearest-unit now i m w.strong (omega arith)) refl refl refl
+    (subst (IsUnderWay p now _) next
+    (IsUnderWay-passes p now _ (i + m) run so_far fits (omega arith) (omega arith) (omega arith) other (none (i + m) (omega arith) (omega arith))))
 
 -- ---- over the runs, one behind another
 

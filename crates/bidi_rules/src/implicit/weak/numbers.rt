@@ -2,7 +2,9 @@
 //! rules give a class that stands on several units what they give it where it stands on one; only a
 //! separator between numbers has to be one character.
 
-ghost use Rattle.std.specs.Prelude.{◌≡◌, ℕ, ◌+◌, ◌-◌, ◌*◌, ◌<◌, ◌≤◌, true, false, not, ◌&&◌, length, map, min, drop, get_or, IsTrue};
+ghost use Rattle.std.specs.Prelude.{◌≡◌, ℕ, ◌+◌, ◌-◌, ◌*◌, ◌<◌, ◌≤◌, true, false, not, ◌&&◌, length, map, min, drop, find, get_or, reverse, IsTrue};
+ghost use Rattle.std.specs.List.{position_or_len};
+ghost use Rattle.bidi_base.specs.Classes.{is_strong};
 ghost use Rattle.bidi_base.specs.Places.{class_at};
 ghost use Rattle.bidi_base.specs.Text.{text_len, IsPerChar};
 ghost use Rattle.bidi_base.specs.Units.{bounds, are_ordered, units_in_runs, AreLines};
@@ -16,6 +18,7 @@ use super::{part_of, write_over_runs_counted};
 use crate::implicit::is_kept_in_place;
 use crate::prepare::{LevelRun, Steps};
 use bidi_base::char_data::BidiClass::{self, AN, EN, ET, ON};
+use bidi_base::classes::is_strong;
 use bidi_base::text::TextSource;
 use std::sync::ledger::Ledger;
 
@@ -113,7 +116,7 @@ impl Walk {
         while at < end {
             steps.tick();
             if self.passes_over(classes[at]) {
-                at = self.pass_over(classes, at, end, steps);
+                at = self.pass_over(classes, at, end);
                 continue;
             }
             let next = self.stretch_end(text, classes, at, end, steps);
@@ -134,13 +137,7 @@ impl Walk {
 
     /// Passes over the units from `at` on, the first one and those behind it that ask for nothing, below
     /// `end`. Answers where they end.
-    fn pass_over<S: Ledger>(
-        &mut self,
-        classes: &[BidiClass],
-        at: usize,
-        end: usize,
-        steps: &mut Steps<S>,
-    ) -> usize
+    fn pass_over(&mut self, classes: &[BidiClass], at: usize, end: usize) -> usize
         requires other { is_other self.old.before ≡ true }
         requires first { is_asked (class_at classes.now at) ≡ false }
         requires some { at < end }
@@ -150,18 +147,10 @@ impl Walk {
         ensures other { is_other self.new.before ≡ true }
         ensures first_run { self.new.first_run ≡ self.old.first_run }
         ensures passes { Passes at result end self.old self.new classes.now }
-        ensures steps { steps.new ≡ steps.old + min (result - at) (end - (at + 1)) }
     {
-        self.strong = strong_up_to(self.strong, classes[at]);
-        for unit in at + 1..end {
-            steps.tick();
-            let class = classes[unit];
-            if is_asked(class) {
-                return unit;
-            }
-            self.strong = strong_up_to(self.strong, class);
-        }
-        end
+        let next = at + 1 + before_asked(&classes[at + 1..end]);
+        self.strong = last_strong(&classes[at..next]).unwrap_or(self.strong);
+        next
     }
 
     /// The end of the stretch that begins at the unit `at`: units of one class, below `end`. Where one
@@ -278,6 +267,28 @@ fn is_asked(class: BidiClass) -> bool
     ensures { result ≡ is_asked class }
 {
     matches!(class, EN | AN | ET)
+}
+
+/// How many of these classes stand before the first that asks, or all of them.
+fn before_asked(classes: &[BidiClass]) -> usize
+    ensures count { result ≡ position_or_len is_asked classes.now }
+    ensures within { result ≤ length classes.now }
+{
+    classes
+        .iter()
+        .take_while(|class| !is_asked(**class))
+        .count()
+}
+
+/// The last strong class of these.
+fn last_strong(classes: &[BidiClass]) -> Option<BidiClass>
+    ensures { result ≡ find is_strong (reverse classes.now) }
+{
+    classes
+        .iter()
+        .rev()
+        .copied()
+        .find(|class| is_strong(*class))
 }
 
 /// The end of the units from `at` on that have the class of the first, below `end`.

@@ -1,30 +1,34 @@
-use Rattle.std.proofs.Common.{refl, sym, ◌∙◌, arith}
-use Rattle.bidi_rules.proofs.WeakWalkLemmas.{IsUnderWay-passes}
+use Rattle.std.proofs.Common.{◌≡◌, ◌+◌, ◌-◌, ◌<◌, ◌≤◌, ℕ, false, take, drop, unwrap_or, refl, sym, ap, subst, ◌∙◌, arith, inl, inr, length-take, length-drop, get_or-take, get_or-drop}
+use Rattle.std.proofs.lemmas.Bool.{cases_lt}
+use Rattle.std.proofs.lemmas.List.Sums.{fails_before_first}
+use Rattle.bidi_base.specs.declared.char_data.BidiClass.TheVariants.{L}
+use Rattle.bidi_base.specs.Places.{class_at}
+use Rattle.bidi_rules.specs.WeakPass.{is_asked}
+use Rattle.bidi_rules.specs.WeakWalk.{IsUnderWay}
+use Rattle.bidi_rules.proofs.WeakWalkLemmas.{IsUnderWay-same, IsUnderWay-passes_all}
 use Rattle.bidi_rules.proofs.implicit.weak.numbers.Walk.pass_over.Goals as goal
 
-pub loop-unit-init : goal.loop-unit-init
-loop-unit-init g c =
+pub returns-clause-passes : goal.returns-clause-passes
+returns-clause-passes c p run fits starts ends h =
     let i = c.args.at in
-    record {
-      other = c.requires.other;
-      first_run = refl;
-      passes = λ p run fits starts ends h.
-          rw c.strong_up_to-self.ensures
-          (IsUnderWay-passes p c.args.classes.now c.args.self.now i run h fits starts (omega (arith, c.requires.some)) (omega (arith, c.requires.some, c.requires.inside, h.long)) c.requires.other c.requires.first);
-      steps = omega arith;
-    }
-
-pub loop-unit-preserved : goal.loop-unit-preserved
-loop-unit-preserved g c =
-    let i = c.loop-unit.unit in
-    let inv = c.loop-unit.invariant in
-    record {
-      other = inv.other;
-      first_run = inv.first_run;
-      passes = λ p run fits starts ends h.
-          let so_far = inv.passes p run fits starts ends h in
-          rw c.strong_up_to-self-in-loop-unit.ensures
-          (IsUnderWay-passes p c.args.classes.now c.loop-unit.self i run so_far fits (omega (arith, c.loop-unit.auto.unit)) (omega (arith, c.loop-unit-test.true)) (omega (arith, c.loop-unit-test.true, c.requires.inside, so_far.long)) inv.other
-          (sym c.is_asked.ensures ∙ c.if-is_asked.false));
-      steps = omega arith;
-    }
+    let end = c.args.end in
+    let now = c.args.classes.now in
+    let w = c.args.self.now in
+    let more = c.before_asked.result in
+    let n = i + 1 + more - i in
+    let to : i + n ≡ i + 1 + more = omega arith in
+    let part = take (end - (i + 1)) (drop (i + 1) now) in
+    let within : i + 1 + more ≤ end =
+    omega (arith, c.before_asked.ensures.within, length-take (end - (i + 1)) (drop (i + 1) now), length-drop (i + 1) now, c.requires.some) in
+    let none : (k : ℕ) → i ≤ k → k < i + n → is_asked (class_at now k) ≡ false =
+    λ k from below. elim (cases_lt k (i + 1)) [
+      | inl first ↦ let same : k ≡ i = omega arith in ap (λ (u : ℕ). is_asked (class_at now u)) same ∙ c.requires.first
+      | inr behind ↦
+          let j = k - (i + 1) in
+          let place : i + 1 + j ≡ k = omega arith in
+          let read = get_or-take (end - (i + 1)) (drop (i + 1) now) j L (omega arith) ∙ get_or-drop (i + 1) now j L ∙ ap (class_at now) place in
+          ap is_asked (sym read) ∙ fails_before_first is_asked part j L (omega (arith, c.before_asked.ensures.count))
+    ] in
+    IsUnderWay-same p now now _ _ (i + 1 + more) refl (c.unwrap_or-self.ensures ∙ ap (λ o. unwrap_or o w.strong) c.last_strong.ensures) refl refl refl
+    (subst (IsUnderWay p now _) to
+    (IsUnderWay-passes_all p now w i run n h fits starts (omega arith) (omega (arith, c.requires.inside)) c.requires.other none))

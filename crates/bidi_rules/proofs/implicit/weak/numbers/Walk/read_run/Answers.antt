@@ -127,7 +127,7 @@ loop-at-preserved-then-passes_over g c =
           let at_index : (get_or p.runs c.args.run (0, 0) ≡ get_or runs c.args.run (0, 0)) = ap (λ (rs : List (ℕ × ℕ)). get_or rs c.args.run (0, 0)) same in
           e.passes p c.args.run (omega (arith, ap (λ (rs : List (ℕ × ℕ)). length rs) same, c.requires.run, length-map c.args.runs.now bounds)) (omega (arith, ap (λ (r : ℕ × ℕ). r.0) at_index, inv.starts)) (omega (arith, ap (λ (r : ℕ × ℕ). r.1) at_index, inv.end))
           (inv.reads p same len begin);
-      at_least = omega (arith, inv.at_least, c.tick.ensures, e.steps);
-      at_most = omega (arith, inv.at_most, inv.starts, c.tick.ensures, some, e.steps, further);
-      ended = λ end. omega (arith, inv.at_most, inv.starts, inv.end, c.tick.ensures, some, e.within, e.steps, further);
+      at_least = omega (arith, inv.at_least, c.tick.ensures);
+      at_most = omega (arith, inv.at_most, inv.starts, c.tick.ensures, some, further);
+      ended = λ end. omega (arith, inv.at_most, inv.starts, inv.end, c.tick.ensures, some, e.within, further);
     }
