@@ -266,7 +266,7 @@ fn fill(classes: &mut [BidiClass], start: usize, end: usize, class: BidiClass)
 fn is_asked(class: BidiClass) -> bool
     ensures { result ≡ is_asked class }
 {
-    matches!(class, EN | AN | ET)
+    is_number(class) | (class == ET)
 }
 
 /// How many of these classes stand before the first that asks, or all of them.
