@@ -1,5 +1,5 @@
 -- A whole text as a line.
-use Rattle.std.proofs.Common.{◌≡◌, ℕ, ◌++◌, arith, List, [], ◌∷◌, refl, ap, sym, ◌∙◌, true, append-nil, IsTrue}
+use Rattle.std.proofs.Common.{◌≡◌, ℕ, arith, List, [], ◌∷◌, refl, ap, sym, ◌∙◌, append-nil, IsTrue}
 use Rattle.bidi_base.specs.Text.{text_len, is_boundary, IsLine}
 use Rattle.bidi_base.proofs.TextLemmas.{is_boundary-append}
 

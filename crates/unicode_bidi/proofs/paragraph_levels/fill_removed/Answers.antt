@@ -1,7 +1,6 @@
-use Rattle.std.proofs.Common.{◌≡◌, ◌∙◌, ◌+◌, ◌-◌, ◌<◌, ◌≤◌, ℕ, List, length, not, false, true, sym, ap, subst, arith}
+use Rattle.std.proofs.Common.{◌≡◌, ◌+◌, ◌-◌, ℕ, List, length, not, ap, subst, arith}
 use Rattle.bidi_base.specs.declared.char_data.BidiClass.{BidiClass}
 use Rattle.bidi_base.specs.Classes.{is_removed}
-use Rattle.bidi_base.specs.Places.{class_at}
 use Rattle.bidi_base.specs.Search.{IsFirst}
 use Rattle.unicode_bidi.proofs.FilledUnits.{AreFilled, AreFilled-start, AreFilled-kept_row, AreFilled-removed}
 use Rattle.unicode_bidi.proofs.paragraph_levels.fill_removed.Goals as goal
