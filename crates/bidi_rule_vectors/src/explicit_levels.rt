@@ -12,7 +12,7 @@ use bidi_base::text::{StrText, is_per_char};
 use bidi_plain::plain::{Explicit, PlainSequence, explicit_levels, sequences};
 use bidi_rule_rows::conditions::has_initiator;
 use bidi_rule_rows::units::{Sequence, ends_of, per_unit};
-use bidi_rules::explicit::{compute, compute_by_stretches};
+use bidi_rules::explicit::compute;
 use bidi_rules::prepare::{
     IsolatingRunSequence, LevelRun, isolating_run_sequences, not_removed_by_x9, removed_by_x9,
 };
@@ -143,42 +143,6 @@ fn prepare(
     Ok((found, sequences))
 }
 
-// Sees that the pass by stretches finds the same levels, classes and level runs.
-fn agree_by_stretches(
-    rt: &(impl AllocGlobal + Abort),
-    para_level: Level,
-    text: StrText,
-    original_classes: &[BidiClass],
-    levels: &[Level],
-    classes: &[BidiClass],
-    runs: &[(usize, usize)],
-) -> Result<(), Fail>
-    requires { para_level ≤ 125 }
-{
-    assert!(rt; is_per_char(text, original_classes));
-    let mut found_levels = vec![in rt.alloc(); Level::new(77)?; original_classes.len()]?;
-    let mut found_classes = Vec::from_slice(rt.alloc(), original_classes)?;
-    let mut found_runs = Vec::new(rt.alloc());
-    compute_by_stretches(
-        text,
-        para_level,
-        original_classes,
-        found_levels.as_mut_slice(),
-        found_classes.as_mut_slice(),
-        &mut found_runs,
-    )?;
-    let found_runs = ends_of(rt.alloc(), found_runs.as_slice())?;
-    same(rt, "levels by stretches", found_levels.as_slice(), levels);
-    same(
-        rt,
-        "classes by stretches",
-        found_classes.as_slice(),
-        classes,
-    );
-    same(rt, "runs by stretches", found_runs.as_slice(), runs);
-    Ok(())
-}
-
 /// What the passes in place leave on the units of a text: levels, classes, level runs and sequences.
 #[derive(Drop)]
 pub struct Prepared {
@@ -210,15 +174,6 @@ impl Prepared {
             levels.as_mut_slice(),
             classes.as_mut_slice(),
             has_isolate_controls,
-        )?;
-        agree_by_stretches(
-            rt,
-            para_level,
-            text,
-            original.as_slice(),
-            levels.as_slice(),
-            classes.as_slice(),
-            runs.as_slice(),
         )?;
         Ok(Prepared {
             levels,

@@ -1,8 +1,12 @@
 -- The character that begins at a boundary, and where it ends.
-use Rattle.std.proofs.Common.{◌≡◌, ℕ, ◌+◌, ◌<◌, ◌≤◌, true, List, length, get_or, Option, Some, None, sym, ap, ◌∙◌, arith, inl, inr}
+use Rattle.std.proofs.Common.{◌≡◌, ℕ, ◌+◌, ◌-◌, ◌<◌, ◌≤◌, true, List, length, get_or, Option, Some, None, sym, ap, ◌∙◌, arith, inl, inr}
 use Rattle.std.proofs.lemmas.Bool.{cases_lt}
-use Rattle.bidi_base.specs.Text.{char_at, char_index, is_boundary, place, text_len}
-use Rattle.bidi_base.proofs.PlaceLemmas.{char_at-place, place-char_index, place-end, place-more, place-more-le}
+use Rattle.bidi_base.specs.declared.char_data.BidiClass.{BidiClass}
+use Rattle.bidi_base.specs.declared.char_data.BidiClass.TheVariants.{L}
+use Rattle.bidi_base.specs.Places.{class_at}
+use Rattle.bidi_base.specs.Text.{char_at, char_index, is_boundary, place, text_len, IsPerChar}
+use Rattle.bidi_base.proofs.PerUnit.{get_or-per_unit}
+use Rattle.bidi_base.proofs.PlaceLemmas.{char_at-place, char_index-le, char_index-place, is_boundary-place, place-char_index, place-end, place-le-back, place-mono, place-more, place-more-le, place-zero}
 use Rattle.bidi_base.proofs.TextLemmas.{HasUnits}
 
 module _ (len_of : ℕ → ℕ) (h : HasUnits len_of) (chars : List ℕ) where
@@ -43,3 +47,54 @@ module _ (len_of : ℕ → ℕ) (h : HasUnits len_of) (chars : List ℕ) where
 
   pub never-None : (u k : ℕ) → char_at len_of chars u ≡ None → k < length chars → u ≡ place len_of chars k → ⊥
   never-None u k e within there = some_none (get_or chars k 0, len_of (get_or chars k 0)) (sym (char_at-place len_of h chars k 0 within) ∙ ap (char_at len_of chars) (sym there) ∙ e)
+
+  pub index-zero : char_index len_of chars 0 ≡ 0
+  index-zero = ap (char_index len_of chars) (sym (place-zero len_of chars)) ∙ char_index-place len_of chars h 0 (omega arith)
+
+  -- boundaries in order have indexes in order
+  pub index-le : (u v : ℕ) → is_boundary len_of chars u ≡ true → is_boundary len_of chars v ≡ true → u ≤ v → char_index len_of chars u ≤ char_index len_of chars v
+  index-le u v first last order =
+      place-le-back len_of chars h (char_index len_of chars u) (char_index len_of chars v) (char_index-le len_of chars u) (omega (arith, place-char_index len_of h chars u first, place-char_index len_of h chars v last))
+
+  pub index-lt : (u v : ℕ) → is_boundary len_of chars u ≡ true → is_boundary len_of chars v ≡ true → u < v → char_index len_of chars u < char_index len_of chars v
+  index-lt u v first last order = elim (cases_lt (char_index len_of chars u) (char_index len_of chars v)) [
+    | inl less ↦ less
+    | inr past ↦ absurd (omega (arith, place-char_index len_of h chars u first, place-char_index len_of h chars v last, place-mono len_of chars (char_index len_of chars v) (char_index len_of chars u) past))
+  ]
+
+  -- one character more on the way to a boundary
+  pub record Goes (classes : List BidiClass) (at next to : ℕ) : Type 0 where
+    pub some : at < next
+    pub within : next ≤ to
+    pub begins : is_boundary len_of chars next ≡ true
+    pub index : char_index len_of chars next ≡ char_index len_of chars at + 1
+    pub same : (u : ℕ) → at ≤ u → u < next → class_at classes u ≡ class_at classes at
+
+  pub goes : (classes : List BidiClass) (at next to : ℕ) → IsPerChar len_of chars classes → is_boundary len_of chars at ≡ true → is_boundary len_of chars to ≡ true → at < to → to ≤ text_len len_of chars
+      → ((k : ℕ) → k < length chars → at ≡ place len_of chars k → next ≡ place len_of chars (k + 1)) → Goes classes at next to
+  goes classes at next to whole begins ends order inside is =
+      let b = begins_at at begins (omega arith) in
+      let there : next ≡ place len_of chars (b.index + 1) = is b.index b.within b.there in
+      let more = place-more len_of chars b.index 0 b.within in
+      let some = h (get_or chars b.index 0) in
+      let last = place-char_index len_of h chars to ends in
+      let below : b.index < char_index len_of chars to = elim (cases_lt b.index (char_index len_of chars to)) [
+        | inl less ↦ less
+        | inr past ↦ absurd (omega (arith, b.there, last, place-mono len_of chars (char_index len_of chars to) b.index past))
+      ] in
+      let up = place-mono len_of chars (b.index + 1) (char_index len_of chars to) (omega arith) in
+      let unit : (j : ℕ) → j < len_of (get_or chars b.index 0) → class_at classes (place len_of chars b.index + j) ≡ get_or whole.0 b.index L =
+      λ j inside. ap (λ (cs : List BidiClass). class_at cs (place len_of chars b.index + j)) whole.2 ∙ get_or-per_unit len_of chars whole.0 b.index j 0 L whole.1 b.within inside in
+      let at_is : at ≡ place len_of chars b.index + 0 = omega (arith, b.there) in
+      record {
+        some = omega (arith, b.there);
+        within = omega (arith, there, last);
+        begins = ap (is_boundary len_of chars) there ∙ is_boundary-place len_of chars (b.index + 1);
+        index =
+            ap (char_index len_of chars) there
+            ∙ char_index-place len_of chars h (b.index + 1) (omega (arith, b.within))
+            ∙ ap (λ k. k + 1) (sym (ap (char_index len_of chars) b.there ∙ char_index-place len_of chars h b.index (omega (arith, b.within))));
+        same = λ u above upto.
+            let u_is : u ≡ place len_of chars b.index + (u - at) = omega (arith, b.there) in
+            ap (class_at classes) u_is ∙ unit (u - at) (omega (arith, b.there, there)) ∙ sym (ap (class_at classes) at_is ∙ unit 0 (omega arith));
+      }

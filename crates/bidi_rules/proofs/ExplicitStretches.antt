@@ -1,8 +1,8 @@
 -- The explicit pass by stretches: where no control comes the status stands still, so the characters there have one level and are under one override.
-use Rattle.std.proofs.Common.{◌≡◌, ℕ, zero, suc, ◌+◌, ◌-◌, ◌<◌, ◌≤◌, ◌^◌, Bool, true, false, not, ◌||◌, List, [], ◌∷◌, ◌++◌, length, get_or, map, take, drop, Option, Some, None, unwrap_or, refl, sym, ap, subst, ◌∙◌, arith, inl, inr, length-append, length-take, length-drop, eq-eqb}
+use Rattle.std.proofs.Common.{◌≡◌, ℕ, zero, suc, ◌+◌, ◌-◌, ◌<◌, ◌≤◌, ◌^◌, Bool, true, false, not, ◌||◌, List, [], ◌∷◌, ◌++◌, length, get_or, take, drop, Option, Some, None, unwrap_or, refl, sym, ap, subst, ◌∙◌, arith, inl, inr, length-take, eq-eqb}
 use Rattle.std.specs.Prelude.{if◌then◌else◌, replicate}
-use Rattle.std.proofs.lemmas.Bool.{cases_Bool, cases_lt, cases_eq, cond-false, or_parts, both_ways}
-use Rattle.std.proofs.lemmas.List.{drop-drop, ext_get_or, length-map, length-replicate, get_or-map, get_or-take, get_or-drop, get_or_append_left, get_or-append_right, get_or-replicate}
+use Rattle.std.proofs.lemmas.Bool.{cases_Bool, cases_lt, cases_eq, cond-false, cond-true, or_parts, both_ways}
+use Rattle.std.proofs.lemmas.List.{ext_get_or, length-replicate, get_or-take, get_or-drop, get_or_append_left, get_or-append_right, get_or-replicate}
 use Rattle.bidi_base.specs.declared.char_data.BidiClass.{BidiClass}
 use Rattle.bidi_base.specs.declared.char_data.BidiClass.TheVariants.{L, BN, B, LRE, LRO, RLE, RLO, PDF}
 use Rattle.bidi_base.specs.Classes.{is_kept, is_kept_in_place, is_opener, is_paragraph_separator, is_pdf, is_pdi, is_removed}
@@ -10,10 +10,10 @@ use Rattle.bidi_base.specs.Places.{class_at}
 use Rattle.bidi_base.specs.Search.{IsFirst}
 use Rattle.bidi_base.specs.Sequences.{is_kept_at, level_at}
 use Rattle.bidi_base.specs.StatusMachine.{Entry, State, start, closed, opened, step, state_at}
-use Rattle.bidi_base.specs.Text.{is_boundary, place, text_len, is_per_char, per_unit, IsPerChar}
+use Rattle.bidi_base.specs.Text.{char_index, is_boundary, place, text_len, is_per_char, per_unit, IsPerChar}
 use Rattle.bidi_base.proofs.ExplicitLemmas.{length-explicit_levels, length-processing_classes, level_at-explicit_levels, class_at-processing_classes}
 use Rattle.bidi_base.proofs.PerUnit.{length-per_char, length-per_unit, get_or-per_unit}
-use Rattle.bidi_base.proofs.PlaceLemmas.{is_boundary-place, place-end, place-le, place-lt, place-mono, place-more, place-zero, UnitOf, unit_of}
+use Rattle.bidi_base.proofs.PlaceLemmas.{char_index-place, is_boundary-place, place-end, place-le, place-lt, place-mono, place-more, place-zero, UnitOf, unit_of}
 use Rattle.bidi_base.proofs.StatusBounds.{state_at-more}
 use Rattle.bidi_base.proofs.StatusMachine.{answer_level-explicit_level}
 use Rattle.bidi_base.proofs.TextLemmas.{HasUnits, length-le-text_len}
@@ -22,7 +22,7 @@ use Rattle.bidi_base.specs.contracts.char_data.BidiClassPartialEq.TheImpl.{ghost
 use Rattle.bidi_base.specs.Units.{level_run_ranges}
 use Rattle.bidi_base.proofs.PerCharTests.{class_test}
 use Rattle.bidi_rules.specs.ExplicitPass.{IsCutTo, filled, differs, runs_before, run_start}
-use Rattle.bidi_rules.specs.ExplicitStretches.{is_control, put_over, overridden, IsOverridden, Paragraph, stored, levels_of, classes_of, IsReadTo}
+use Rattle.bidi_rules.specs.ExplicitStretches.{is_control, overridden, IsOverridden, Paragraph, stored, levels_of, classes_of, IsReadTo}
 use Rattle.bidi_rules.specs.declared.explicit.stretches.OpenRun.{OpenRun}
 use Rattle.bidi_rules.proofs.ExplicitUnits.{CanRead, can_read, length-filled, processing_class-is, level_at as level_of_next, put_at, next_at, text_len-some}
 use Rattle.bidi_rules.proofs.RunCutting.{IsCutTo-start, IsCutTo-removed, IsCutTo-kept, IsCutTo-end, IsCutTo-none}
@@ -54,37 +54,45 @@ module _ {X : Type 0} (from len : ℕ) (row units : List X) (d : X) (fits : from
 filled-inside : {X : Type 0} (from len : ℕ) (x d : X) (units : List X) → from + len ≤ length units → (k : ℕ) → from ≤ k → k < from + len → get_or (filled from len x units) k d ≡ x
 filled-inside from len x d units fits k a b = part-inside from len (replicate len x) units d fits (length-replicate len x) k a b ∙ get_or-replicate len (k - from) x d (omega arith)
 
-overridden_part : (override : Option BidiClass) (put : BidiClass) (from to : ℕ) (old row : List BidiClass) → override ≡ Some put → from ≤ to → to ≤ length old → row ≡ map (put_over put) (take (to - from) (drop from old))
-    → IsOverridden override from to old (take from old ++ (row ++ drop (from + (to - from)) old))
-overridden_part override put from to old row some order fits is =
-    let len : ℕ = to - from in
-    let part : List BidiClass = take len (drop from old) in
-    let part_long : length part ≡ len = omega (arith, length-take len (drop from old), length-drop from old) in
-    let row_long : length row ≡ len = ap length is ∙ length-map part (put_over put) ∙ part_long in
-    let room : from + len ≤ length old = omega arith in
-    record {
-      inside = λ u a b.
-          let at : from + (u - from) ≡ u = omega arith in
-          part-inside from len row old L room row_long u a (omega arith)
-          ∙ ap (λ (r : List BidiClass). get_or r (u - from) L) is
-          ∙ get_or-map (put_over put) part (u - from) L L (omega arith)
-          ∙ ap (put_over put) (get_or-take len (drop from old) (u - from) L (omega arith) ∙ get_or-drop from old (u - from) L ∙ ap (class_at old) at)
-          ∙ ap (λ (o : Option BidiClass). overridden o (class_at old u)) (sym some);
-      below = λ u a. part-below from len row old L room row_long u a;
-      above = λ u a. part-above from len row old L room row_long u (omega arith);
-      long = omega (arith, length-append (take from old) (row ++ drop (from + len) old), length-append row (drop (from + len) old), length-take from old, length-drop (from + len) old);
-    }
-
 filled-below : {X : Type 0} (from len : ℕ) (x d : X) (units : List X) → from + len ≤ length units → (k : ℕ) → k < from → get_or (filled from len x units) k d ≡ get_or units k d
 filled-below from len x d units fits k a = part-below from len (replicate len x) units d fits (length-replicate len x) k a
 
 filled-above : {X : Type 0} (from len : ℕ) (x d : X) (units : List X) → from + len ≤ length units → (k : ℕ) → from + len ≤ k → get_or (filled from len x units) k d ≡ get_or units k d
 filled-above from len x d units fits k a = part-above from len (replicate len x) units d fits (length-replicate len x) k a
 
-pub IsOverridden-part : (override : Option BidiClass) (put : BidiClass) (from to : ℕ) (old row : List BidiClass) → override ≡ Some put → from ≤ to → to ≤ length old → row ≡ map (put_over put) (take (to - from) (drop from old))
-    → IsOverridden override from to old (take from old ++ (row ++ drop (to - from) (drop from old)))
-IsOverridden-part override put from to old row some order fits is =
-    rw (drop-drop (to - from) from old) (overridden_part override put from to old row some order fits is)
+-- an override is put on one unit after another
+pub IsOverridden-none : (override : Option BidiClass) (from : ℕ) (classes : List BidiClass) → IsOverridden override from from classes classes
+IsOverridden-none override from classes = record {
+  inside = λ u above below. absurd (omega arith);
+  below = λ u below. refl;
+  above = λ u above. refl;
+  long = refl;
+}
+
+module _ (put : BidiClass) (from at next : ℕ) (old now : List BidiClass) (h : IsOverridden (Some put) from at old now) (begun : from ≤ at) (order : at ≤ next) where
+  pub IsOverridden-spared : ((u : ℕ) → at ≤ u → u < next → is_kept_in_place (class_at old u) ≡ false) → IsOverridden (Some put) from next old now
+  IsOverridden-spared spared = record {
+    inside = λ u above below. elim (cases_lt u at) [
+      | inl done ↦ h.inside u above done
+      | inr new ↦ h.above u new ∙ sym (cond-false (is_kept_in_place (class_at old u)) put (class_at old u) (spared u new below))
+    ];
+    below = h.below;
+    above = λ u above. h.above u (omega arith);
+    long = h.long;
+  }
+
+  pub IsOverridden-more : next ≤ length old → ((u : ℕ) → at ≤ u → u < next → is_kept_in_place (class_at old u) ≡ true) → IsOverridden (Some put) from next old (filled at (next - at) put now)
+  IsOverridden-more room kept =
+      let fits : at + (next - at) ≤ length now = omega (arith, h.long) in
+      record {
+        inside = λ u above below. elim (cases_lt u at) [
+          | inl done ↦ filled-below at (next - at) put L now fits u done ∙ h.inside u above done
+          | inr new ↦ filled-inside at (next - at) put L now fits u new (omega arith) ∙ sym (cond-true (is_kept_in_place (class_at old u)) put (class_at old u) (kept u new below))
+        ];
+        below = λ u below. filled-below at (next - at) put L now fits u (omega arith) ∙ h.below u below;
+        above = λ u above. filled-above at (next - at) put L now fits u (omega arith) ∙ h.above u (omega arith);
+        long = length-filled at (next - at) put now fits ∙ h.long;
+      }
 
 -- ---- a class that is no control
 
@@ -273,6 +281,13 @@ module _ (p : Paragraph) (has_units : HasUnits p.len_of) (whole : IsPerChar p.le
         ∙ class-plain (class_at (stored p) k) (closed (class_at (stored p) k) (state_at p.level (stored p) k)).top.status.override (plain k above below)
         ∙ ap (λ (s : State). overridden s.top.status.override (class_at (stored p) k)) (closed-still k above below)
 
+-- as many characters are read as begin below the unit
+pub read-index : (p : Paragraph) (u : ℕ) (stack : State) (levels : List ℕ) (classes : List BidiClass) (runs : List (ℕ × ℕ)) (run : OpenRun) (h : IsReadTo p u stack levels classes runs run) → char_index p.len_of p.chars u ≡ h.index
+read-index p u stack levels classes runs run h = ap (char_index p.len_of p.chars) h.begins ∙ char_index-place p.len_of p.chars h.has_units h.index h.within
+
+pub read-begins : (p : Paragraph) (u : ℕ) (stack : State) (levels : List ℕ) (classes : List BidiClass) (runs : List (ℕ × ℕ)) (run : OpenRun) → IsReadTo p u stack levels classes runs run → is_boundary p.len_of p.chars u ≡ true
+read-begins p u stack levels classes runs run h = ap (is_boundary p.len_of p.chars) h.begins ∙ is_boundary-place p.len_of p.chars h.index
+
 -- ---- a stretch is read
 
 module _ (p : Paragraph) (from to : ℕ) (stack : State) (levels : List ℕ) (classes : List BidiClass) (runs : List (ℕ × ℕ)) (run : OpenRun) (h : IsReadTo p from stack levels classes runs run)
@@ -401,12 +416,15 @@ module _ (p : Paragraph) (at : ℕ) (stack : State) (levels : List ℕ) (classes
       can_read p.len_of p.chars p.level (stored p) h.index stack (class_at p.original at) low (omega (arith, control-fits, stored_long p h.has_units h.per_char))
       (omega (arith, stored_long p h.has_units h.per_char, length-le-text_len p.len_of h.has_units p.chars, original_long p h.has_units h.per_char)) control-class h.machine
 
-  pub control-begins : is_boundary p.len_of p.chars at ≡ true
-  control-begins = ap (is_boundary p.len_of p.chars) h.begins ∙ is_boundary-place p.len_of p.chars h.index
-
   -- where it ends
   abbrev pub Ends : ℕ → Type 0
   Ends next = (k : ℕ) → k < length p.chars → at ≡ place p.len_of p.chars k → next ≡ place p.len_of p.chars (k + 1)
+
+  pub control-index : (next : ℕ) → Ends next → char_index p.len_of p.chars next ≡ char_index p.len_of p.chars at + 1
+  control-index next ends =
+      ap (char_index p.len_of p.chars) (ends h.index control-fits h.begins)
+      ∙ char_index-place p.len_of p.chars h.has_units (h.index + 1) (omega (arith, control-fits))
+      ∙ ap (λ k. k + 1) (sym (read-index p at stack levels classes runs run h))
 
   pub control-some : (next : ℕ) → Ends next → at < next
   control-some next ends = omega (arith, ends h.index control-fits h.begins, h.begins, place-lt p.len_of p.chars h.has_units h.index (h.index + 1) (omega arith) control-fits)
@@ -509,6 +527,9 @@ module _ (p : Paragraph) (at : ℕ) (stack : State) (levels : List ℕ) (classes
         | inl fewer ↦ absurd (omega (arith, h.begins, place-lt p.len_of p.chars h.has_units h.index (length p.chars) fewer fewer, place-end p.len_of p.chars (length p.chars) (omega arith)))
         | inr upto ↦ omega (arith, h.within)
       ]
+
+  pub read-all : char_index p.len_of p.chars at ≡ length p.chars
+  read-all = read-index p at stack levels classes runs run h ∙ all_read ∙ stored_long p h.has_units h.per_char
 
   pub read-levels : levels ≡ per_unit p.len_of p.chars (levels_of p)
   read-levels =

@@ -1,7 +1,7 @@
 //! Explicit levels and directions (X1 to X8), and level runs (BD7), in place over the units of one
 //! paragraph.
 
-ghost use Rattle.std.specs.Prelude.{◌≡◌, ℕ, ◌+◌, ◌*◌, ◌≤◌, ◌||◌, [], if◌then◌else◌, length, map, unwrap_or, IsTrue, OnOk, IfOk};
+ghost use Rattle.std.specs.Prelude.{◌≡◌, ℕ, ◌+◌, ◌*◌, ◌-◌, ◌≤◌, ◌||◌, [], if◌then◌else◌, length, map, unwrap_or, IsTrue, OnOk, IfOk};
 ghost use Rattle.bidi_base.specs.declared.char_data.BidiClass.TheVariants.{L, BN};
 ghost use Rattle.bidi_base.specs.Classes.{is_paragraph_separator, is_removed};
 ghost use Rattle.bidi_base.specs.Explicit.{explicit_levels, processing_classes as processing_classes_of};
@@ -20,7 +20,7 @@ use status::StatusStack;
 use std::alloc::{AllocError, Global};
 use std::marker::Brand;
 use std::sync::ledger::{Blank, Ledger};
-pub use stretches::compute_by_stretches;
+use stretches::{OpenRun, is_control, read_control, read_stretch};
 
 // The level of a character, where `level` holds at its place (X8).
 fn own_level(para_level: Level, class: BidiClass, level: Level) -> Level
@@ -72,27 +72,29 @@ fn fill_few<X: Copy>(units: &mut [X], start: usize, len: usize, value: X)
     }
 }
 
-// Writes the level and the class of a character to each of its units. Most characters have few, which
-// are written one by one.
-fn write(
-    levels: &mut [Level],
-    classes: &mut [BidiClass],
-    start: usize,
-    len: usize,
-    level: Level,
-    class: BidiClass,
-)
-    requires levels { start + len ≤ length levels.old }
-    requires classes { start + len ≤ length classes.old }
-    ensures levels { levels.new ≡ filled start len level levels.old }
-    ensures classes { classes.new ≡ filled start len class classes.old }
+// Writes a level to the units from one up to another. A few are written one by one.
+fn write_level(levels: &mut [Level], from: usize, to: usize, level: Level)
+    requires ordered { from ≤ to }
+    requires within { to ≤ length levels.old }
+    ensures { levels.new ≡ filled from (to - from) level levels.old }
 {
-    if len <= 3 {
-        fill_few(levels, start, len, level);
-        fill_few(classes, start, len, class);
+    if to - from <= 3 {
+        fill_few(levels, from, to - from, level);
     } else {
-        levels[start..start + len].fill(level);
-        classes[start..start + len].fill(class);
+        levels[from..to].fill(level);
+    }
+}
+
+// The same of a class.
+fn write_class(classes: &mut [BidiClass], from: usize, to: usize, class: BidiClass)
+    requires ordered { from ≤ to }
+    requires within { to ≤ length classes.old }
+    ensures { classes.new ≡ filled from (to - from) class classes.old }
+{
+    if to - from <= 3 {
+        fill_few(classes, from, to - from, class);
+    } else {
+        classes[from..to].fill(class);
     }
 }
 
@@ -215,30 +217,41 @@ pub fn compute_counted<T: TextSource, S: Ledger>(
     ensures at_least { OnOk result (steps.old + length (T.characters text) ≤ steps.new) }
     ensures at_most { OnOk result (steps.new ≤ steps.old + 4 * length (T.characters text)) }
 {
-    let units = text.len();
+    let units = original_classes.len();
     let mut stack = StatusStack::new(para_level);
-    let mut run_start = 0;
-    let mut last_level = None;
-    for (start, len) in text.indices_lengths() {
+    let mut run = OpenRun::new();
+    let mut at = 0;
+    while at < units {
         steps.tick();
-        let class = original_classes[start];
-        let status = stack.read(class, steps);
-        let level = own_level(para_level, class, status.level);
-        write(
-            levels,
-            processing_classes,
-            start,
-            len,
-            level,
-            own_class(class, status.override_class),
-        );
-        if not_removed_by_x9(&class) {
-            run_start = cut_run(runs, run_start, start, last_level, level)?;
-            last_level = Some(level);
-        }
+        at = if is_control(original_classes[at]) {
+            read_control(
+                text,
+                para_level,
+                original_classes,
+                at,
+                &mut stack,
+                levels,
+                processing_classes,
+                runs,
+                &mut run,
+                steps,
+            )?
+        } else {
+            read_stretch(
+                text,
+                original_classes,
+                at,
+                stack.top(),
+                levels,
+                processing_classes,
+                runs,
+                &mut run,
+                steps,
+            )?
+        };
     }
     if units > 0 {
-        runs.push(run_start..units)?;
+        runs.push(run.start..units)?;
     }
     Ok(())
 }

@@ -84,7 +84,8 @@ impl LevelResolver {
         self.classes.extend_from_slice(original_classes)?;
         self.runs.clear();
         self.sequences.clear();
-        explicit::compute_by_stretches(
+        explicit::compute(
+            alloc,
             paragraph.text,
             paragraph.level,
             original_classes,

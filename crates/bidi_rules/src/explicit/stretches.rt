@@ -1,32 +1,29 @@
 //! The explicit pass by stretches: between two controls the status stands still, so all units there
 //! get one level, and are under one override.
 
-ghost use Rattle.std.specs.Prelude.{◌≡◌, ◌-◌, ◌<◌, ◌≤◌, false, None, Some, [], length, map, IsTrue, OnOk, IfOk};
-ghost use Rattle.bidi_base.specs.declared.char_data.BidiClass.TheVariants.{L};
-ghost use Rattle.bidi_base.specs.Explicit.{explicit_levels, processing_classes as processing_classes_of};
+ghost use Rattle.std.specs.Prelude.{◌≡◌, ℕ, ◌+◌, ◌*◌, ◌-◌, ◌<◌, ◌≤◌, false, None, Some, length, map, IsTrue, OnOk, IfOk};
 ghost use Rattle.bidi_base.specs.Places.{class_at};
+ghost use Rattle.bidi_base.specs.Search.{IsFirst};
 ghost use Rattle.bidi_base.specs.StatusMachine.{State};
-ghost use Rattle.bidi_base.specs.Text.{is_per_char, per_char, per_unit, text_len};
-ghost use Rattle.bidi_base.specs.Units.{bounds, level_run_ranges};
-ghost use Rattle.bidi_rules.specs.ExplicitPass.{filled, runs_before, run_start as run_start_after};
-ghost use Rattle.bidi_rules.specs.ExplicitStretches.{is_control, put_over, IsOverridden, IsReadTo, ReadsStretch};
-ghost use Rattle.bidi_rules.specs.Status.{seen};
+ghost use Rattle.bidi_base.specs.Text.{char_index, is_boundary, place, text_len, IsPerChar};
+ghost use Rattle.bidi_base.specs.Units.{bounds};
+ghost use Rattle.bidi_rules.specs.ExplicitPass.{runs_before, run_start as run_start_after};
+ghost use Rattle.bidi_rules.specs.ExplicitStretches.{is_control, IsOverridden, IsReadTo, ReadsStretch};
+ghost use Rattle.bidi_rules.specs.Status.{entry_count, seen};
 
 use super::status::{StatusEntry, StatusStack};
-use super::{cut_run, fill_few, own_class, own_level, write};
+use super::{cut_run, own_class, own_level, write_class, write_level};
 use crate::characters::end_of;
 use crate::prepare::{LevelRunVec, Steps, not_removed_by_x9};
 use bidi_base::char_data::BidiClass::{self, B, BN, FSI, LRE, LRI, LRO, PDF, PDI, RLE, RLI, RLO};
 use bidi_base::level::Level;
-use bidi_base::search::{ClassTest, first_passing};
+use bidi_base::search::ClassTest;
 use bidi_base::text::TextSource;
 use std::alloc::AllocError;
-use std::marker::Brand;
-use std::sync::ledger::{Blank, Ledger};
+use std::sync::ledger::Ledger;
 
-// Whether a class changes the status, or has another level than it. The test has no branch, so that
-// many units are tested at once.
-fn is_control(class: BidiClass) -> bool
+/// Whether a class changes the status, or has another level than it.
+pub fn is_control(class: BidiClass) -> bool
     ensures { result ≡ is_control class }
 {
     let embedding = (class == LRE) | (class == RLE) | (class == LRO) | (class == RLO);
@@ -62,16 +59,16 @@ impl ClassTest for Kept {
 
 /// The level run that no later one has ended yet.
 #[derive(Clone, Copy, Debug)]
-struct OpenRun {
+pub struct OpenRun {
     /// Its first unit.
-    start: usize,
+    pub start: usize,
     /// The level of the last kept character.
     last_level: Option<Level>,
 }
 
 impl OpenRun {
     /// The run at the start of a paragraph.
-    fn new() -> OpenRun
+    pub fn new() -> OpenRun
         ensures { result ≡ record { start = 0; last_level = None } }
     {
         OpenRun {
@@ -91,53 +88,107 @@ impl OpenRun {
     }
 }
 
-// What stands in the place of a class once an override puts another on it, which spares BN.
-fn put_over(class: BidiClass, put: BidiClass) -> BidiClass
-    ensures { result ≡ put_over put class }
+// The unit behind the character that begins at a unit. To go there is a step.
+fn step_over<T: TextSource, S: Ledger>(text: T, start: usize, steps: &mut Steps<S>) -> usize
+    requires begins { IsTrue (is_boundary T.units (T.characters text) start) }
+    requires inside { start < text_len T.units (T.characters text) }
+    requires fits { text_len T.units (T.characters text) ≤ usize.MAX }
+    ensures end { (k : ℕ) → k < length (T.characters text) → start ≡ place T.units (T.characters text) k → result ≡ place T.units (T.characters text) (k + 1) }
+    ensures steps { steps.new ≡ steps.old + 1 }
 {
-    if class == BN { BN } else { put }
+    steps.tick();
+    end_of(text, start)
 }
 
-// Puts the class of an override on classes.
-fn put_override(classes: &mut [BidiClass], put: BidiClass)
-    ensures { classes.new ≡ map (put_over put) classes.old }
-{
-    for class in classes {
-        *class = put_over(*class, put);
-    }
-}
-
-// Writes the level of a stretch. A short one is written unit by unit.
-fn write_level(levels: &mut [Level], from: usize, to: usize, level: Level)
+// The next character from a unit on, and below another, whose class passes a test. Each character that
+// is passed over is a step.
+fn next_passing<T: TextSource, C: ClassTest, S: Ledger>(
+    test: C,
+    text: T,
+    classes: &[BidiClass],
+    from: usize,
+    to: usize,
+    steps: &mut Steps<S>,
+) -> usize
+    requires long { length classes.now ≡ text_len T.units (T.characters text) }
+    requires classes { IsPerChar T.units (T.characters text) classes.now }
+    requires begins { IsTrue (is_boundary T.units (T.characters text) from) }
+    requires ends { IsTrue (is_boundary T.units (T.characters text) to) }
     requires ordered { from ≤ to }
-    requires within { to ≤ length levels.old }
-    ensures { levels.new ≡ filled from (to - from) level levels.old }
+    requires within { to ≤ length classes.now }
+    ensures first { IsFirst (C.test test) classes.now from to result }
+    ensures begins { IsTrue (is_boundary T.units (T.characters text) result) }
+    ensures steps { steps.new + char_index T.units (T.characters text) from ≡ steps.old + char_index T.units (T.characters text) result }
 {
-    if to - from <= 3 {
-        fill_few(levels, from, to - from, level);
-    } else {
-        levels[from..to].fill(level);
+    let mut at = from;
+    while at < to && !test.passes(classes[at]) {
+        at = step_over(text, at, steps);
+    }
+    at
+}
+
+// Puts the class of an override on the characters of a stretch without controls, and spares BN (X6).
+// Each of them is a step.
+fn put_override<T: TextSource, S: Ledger>(
+    text: T,
+    original_classes: &[BidiClass],
+    classes: &mut [BidiClass],
+    from: usize,
+    to: usize,
+    put: BidiClass,
+    steps: &mut Steps<S>,
+)
+    requires long { length original_classes.now ≡ text_len T.units (T.characters text) }
+    requires classes { length classes.old ≡ length original_classes.now }
+    requires text { IsPerChar T.units (T.characters text) original_classes.now }
+    requires begins { IsTrue (is_boundary T.units (T.characters text) from) }
+    requires ends { IsTrue (is_boundary T.units (T.characters text) to) }
+    requires ordered { from ≤ to }
+    requires within { to ≤ length original_classes.now }
+    requires unread { (u : ℕ) → from ≤ u → class_at classes.old u ≡ class_at original_classes.now u }
+    ensures put { IsOverridden (Some put) from to classes.old classes.new }
+    ensures steps { steps.new + char_index T.units (T.characters text) from ≡ steps.old + char_index T.units (T.characters text) to }
+{
+    let mut at = from;
+    while at < to {
+        let next = step_over(text, at, steps);
+        if Kept.passes(original_classes[at]) {
+            write_class(classes, at, next, put);
+        }
+        at = next;
     }
 }
 
-// Writes the classes of a stretch without controls, if an override is over it (X6).
-fn write_override(
+// Writes the classes of a stretch without controls, if an override is over it.
+fn write_override<T: TextSource, S: Ledger>(
+    text: T,
+    original_classes: &[BidiClass],
     classes: &mut [BidiClass],
     from: usize,
     to: usize,
     override_class: Option<BidiClass>,
+    steps: &mut Steps<S>,
 )
+    requires long { length original_classes.now ≡ text_len T.units (T.characters text) }
+    requires classes { length classes.old ≡ length original_classes.now }
+    requires text { IsPerChar T.units (T.characters text) original_classes.now }
+    requires begins { IsTrue (is_boundary T.units (T.characters text) from) }
+    requires ends { IsTrue (is_boundary T.units (T.characters text) to) }
     requires ordered { from ≤ to }
-    requires within { to ≤ length classes.old }
-    ensures { IsOverridden override_class from to classes.old classes.new }
+    requires within { to ≤ length original_classes.now }
+    requires unread { (u : ℕ) → from ≤ u → class_at classes.old u ≡ class_at original_classes.now u }
+    ensures put { IsOverridden override_class from to classes.old classes.new }
+    ensures at_least { steps.old ≤ steps.new }
+    ensures at_most { steps.new ≤ steps.old + (char_index T.units (T.characters text) to - char_index T.units (T.characters text) from) }
 {
     if let Some(put) = override_class {
-        put_override(&mut classes[from..to], put);
+        put_override(text, original_classes, classes, from, to, put, steps);
     }
 }
 
-// Reads the units from `from` up to the next control, and answers where that is.
-fn read_stretch(
+/// Reads the characters from a unit up to the next control, and answers where that is.
+pub fn read_stretch<T: TextSource, S: Ledger>(
+    text: T,
     original_classes: &[BidiClass],
     from: usize,
     status: StatusEntry,
@@ -145,26 +196,49 @@ fn read_stretch(
     classes: &mut [BidiClass],
     runs: &mut LevelRunVec,
     run: &mut OpenRun,
+    steps: &mut Steps<S>,
 ) -> Result<usize, AllocError>
     requires inside { from < length original_classes.now }
     requires plain { is_control (class_at original_classes.now from) ≡ false }
+    requires long { length original_classes.now ≡ text_len T.units (T.characters text) }
+    requires text { IsPerChar T.units (T.characters text) original_classes.now }
+    requires begins { IsTrue (is_boundary T.units (T.characters text) from) }
     requires levels { length levels.old ≡ length original_classes.now }
     requires classes { length classes.old ≡ length original_classes.now }
-    ensures some { IfOk result (λ to. from < to) }
+    requires unread { (u : ℕ) → from ≤ u → class_at classes.old u ≡ class_at original_classes.now u }
     ensures read { (stack : State) → seen status ≡ stack.top → IfOk result (λ to. ReadsStretch original_classes.now from to stack levels.old classes.old (map bounds runs.old.items) run.old levels.new classes.new (map bounds runs.new.items) run.new) }
+    ensures some { IfOk result (λ to. from < to) }
+    ensures more { IfOk result (λ to. char_index T.units (T.characters text) from < char_index T.units (T.characters text) to) }
+    ensures at_least { IfOk result (λ to. steps.old + char_index T.units (T.characters text) to ≤ steps.new + char_index T.units (T.characters text) from) }
+    ensures at_most { IfOk result (λ to. steps.new + 3 * char_index T.units (T.characters text) from ≤ steps.old + 3 * char_index T.units (T.characters text) to) }
 {
-    let to = first_passing(Control, original_classes, from, original_classes.len());
+    let to = next_passing(
+        Control,
+        text,
+        original_classes,
+        from,
+        original_classes.len(),
+        steps,
+    );
     write_level(levels, from, to, status.level);
-    write_override(classes, from, to, status.override_class);
-    let first_kept = first_passing(Kept, original_classes, from, to);
+    write_override(
+        text,
+        original_classes,
+        classes,
+        from,
+        to,
+        status.override_class,
+        steps,
+    );
+    let first_kept = next_passing(Kept, text, original_classes, from, to, steps);
     if first_kept < to {
         run.meet(runs, first_kept, status.level)?;
     }
     Ok(to)
 }
 
-// Reads the control that begins at a unit. Answers where the next character begins.
-fn read_control<T: TextSource, S: Ledger>(
+/// Reads the control that begins at a unit. Answers where the next character begins.
+pub fn read_control<T: TextSource, S: Ledger>(
     text: T,
     para_level: Level,
     original_classes: &[BidiClass],
@@ -180,111 +254,25 @@ fn read_control<T: TextSource, S: Ledger>(
     requires inside { start < length original_classes.now }
     requires long { length original_classes.now ≡ text_len T.units (T.characters text) }
     requires read { IsReadTo (record { len_of = T.units; chars = T.characters text; level = para_level; original = original_classes.now }) start stack.old levels.old classes.old (map bounds runs.old.items) run.old }
-    ensures { IfOk result (λ next. (start < next) × IsReadTo (record { len_of = T.units; chars = T.characters text; level = para_level; original = original_classes.now }) next stack.new levels.new classes.new (map bounds runs.new.items) run.new) }
+    ensures read { IfOk result (λ next. IsReadTo (record { len_of = T.units; chars = T.characters text; level = para_level; original = original_classes.now }) next stack.new levels.new classes.new (map bounds runs.new.items) run.new) }
+    ensures some { IfOk result (λ next. start < next) }
+    ensures one { IfOk result (λ next. char_index T.units (T.characters text) next ≡ char_index T.units (T.characters text) start + 1) }
+    ensures at_least { IfOk result (λ _. steps.old ≤ steps.new) }
+    ensures at_most { IfOk result (λ _. steps.new + entry_count stack.new ≤ steps.old + entry_count stack.old + 1) }
 {
     let class = original_classes[start];
     let status = stack.read(class, steps);
     let level = own_level(para_level, class, status.level);
     let next = end_of(text, start);
-    write(
-        levels,
+    write_level(levels, start, next, level);
+    write_class(
         classes,
         start,
-        next - start,
-        level,
+        next,
         own_class(class, status.override_class),
     );
     if not_removed_by_x9(&class) {
         run.meet(runs, start, level)?;
     }
     Ok(next)
-}
-
-/// The same as [`compute`](super::compute), where a stretch of units without controls is read at once,
-/// and the length of a character is asked for at controls alone.
-pub fn compute_by_stretches<T: TextSource>(
-    text: T,
-    para_level: Level,
-    original_classes: &[BidiClass],
-    levels: &mut [Level],
-    processing_classes: &mut [BidiClass],
-    runs: &mut LevelRunVec,
-) -> Result<(), AllocError>
-    requires explicit { para_level ≤ 125 }
-    requires original { IsTrue (is_per_char ⟦<BidiClass as PartialEq>⟧.eq T.units (T.characters text) original_classes.now) }
-    requires levels { length levels.old ≡ length original_classes.now }
-    requires processing { processing_classes.old ≡ original_classes.now }
-    requires runs { runs.old.items ≡ [] }
-    ensures levels { let stored = per_char L T.units (T.characters text) original_classes.now in OnOk result (levels.new ≡ per_unit T.units (T.characters text) (explicit_levels para_level stored)) }
-    ensures classes { let stored = per_char L T.units (T.characters text) original_classes.now in OnOk result (processing_classes.new ≡ per_unit T.units (T.characters text) (processing_classes_of para_level stored)) }
-    ensures runs { let stored = per_char L T.units (T.characters text) original_classes.now in OnOk result (map bounds runs.new.items ≡ level_run_ranges T.units (T.characters text) stored (explicit_levels para_level stored)) }
-{
-    compute_by_stretches_fresh::<T, Brand>(
-        text,
-        para_level,
-        original_classes,
-        levels,
-        processing_classes,
-        runs,
-        Blank::new(1),
-    )
-}
-
-// The same by a new count of steps, which the status stack wants.
-fn compute_by_stretches_fresh<T: TextSource, S: Ledger>(
-    text: T,
-    para_level: Level,
-    original_classes: &[BidiClass],
-    levels: &mut [Level],
-    processing_classes: &mut [BidiClass],
-    runs: &mut LevelRunVec,
-    blank: Blank,
-) -> Result<(), AllocError>
-    requires explicit { para_level ≤ 125 }
-    requires original { IsTrue (is_per_char ⟦<BidiClass as PartialEq>⟧.eq T.units (T.characters text) original_classes.now) }
-    requires levels { length levels.old ≡ length original_classes.now }
-    requires processing { processing_classes.old ≡ original_classes.now }
-    requires runs { runs.old.items ≡ [] }
-    requires name { blank.name ≡ S.name }
-    requires parts { blank.parts ≡ S.parts }
-    requires one { blank.parts ≡ 1 }
-    ensures levels { let stored = per_char L T.units (T.characters text) original_classes.now in OnOk result (levels.new ≡ per_unit T.units (T.characters text) (explicit_levels para_level stored)) }
-    ensures classes { let stored = per_char L T.units (T.characters text) original_classes.now in OnOk result (processing_classes.new ≡ per_unit T.units (T.characters text) (processing_classes_of para_level stored)) }
-    ensures runs { let stored = per_char L T.units (T.characters text) original_classes.now in OnOk result (map bounds runs.new.items ≡ level_run_ranges T.units (T.characters text) stored (explicit_levels para_level stored)) }
-{
-    let mut steps = Steps::<S>::new(blank);
-    let units = original_classes.len();
-    let mut stack = StatusStack::new(para_level);
-    let mut run = OpenRun::new();
-    let mut at = 0;
-    while at < units {
-        at = if is_control(original_classes[at]) {
-            read_control(
-                text,
-                para_level,
-                original_classes,
-                at,
-                &mut stack,
-                levels,
-                processing_classes,
-                runs,
-                &mut run,
-                &mut steps,
-            )?
-        } else {
-            read_stretch(
-                original_classes,
-                at,
-                stack.top(),
-                levels,
-                processing_classes,
-                runs,
-                &mut run,
-            )?
-        };
-    }
-    if units > 0 {
-        runs.push(run.start..units)?;
-    }
-    Ok(())
 }

@@ -1,15 +1,74 @@
-use Rattle.std.proofs.Common.{◌<◌, set, get_or, length, ap, ◌∙◌, arith}
-use Rattle.std.proofs.lemmas.List.{get_or_default}
-use Rattle.std.proofs.lemmas.List.Edits.{map_over_more}
-use Rattle.bidi_base.specs.declared.char_data.BidiClass.TheVariants.{L}
-use Rattle.bidi_rules.specs.ExplicitStretches.{put_over}
+-- One character after another: their units have one class, which is BN or takes the override.
+use Rattle.std.proofs.Common.{◌≡◌, ℕ, ◌+◌, ◌<◌, ◌≤◌, List, Some, sym, ap, subst, ◌∙◌, arith}
+use Rattle.bidi_base.specs.declared.char_data.BidiClass.{BidiClass}
+use Rattle.bidi_base.specs.Classes.{is_kept_in_place}
+use Rattle.bidi_base.specs.Places.{class_at}
+use Rattle.bidi_base.specs.Text.{char_index}
+use Rattle.bidi_rules.specs.ExplicitStretches.{IsOverridden}
+use Rattle.bidi_rules.proofs.CharEnds.{Goes, goes}
+use Rattle.bidi_rules.proofs.ExplicitStretches.{IsOverridden-none, IsOverridden-more, IsOverridden-spared}
+use Rattle.bidi_rules.proofs.explicit.stretches.put_override.Given.{Over}
 use Rattle.bidi_rules.proofs.explicit.stretches.put_override.Goals as goal
+use Rattle.bidi_rules.proofs.explicit.stretches.put_override.Goals.{After-step_over-next}
 
-pub loop-class-preserved : goal.loop-class-preserved
-loop-class-preserved c =
-    let now = c.loop-class.class-items in
-    let i = c.loop-class.class-index in
-    let x = get_or now i L in
-    let within : i < length now = omega arith in
-    ap (set now i) c.put_over.ensures
-    ∙ map_over_more (put_over c.args.put) c.args.classes.now now i x c.loop-class-test.true c.loop-class.invariant (get_or_default now i L x within)
+next : (g : Over) (c : After-step_over-next g) → Goes g.T.TextSource.units g.met.T.TextSource.has_units (g.T.TextSource.characters c.args.text) c.args.original_classes.now c.loop-at.at c.step_over-next.result c.args.to
+next g c =
+    goes g.T.TextSource.units g.met.T.TextSource.has_units (g.T.TextSource.characters c.args.text) c.args.original_classes.now c.loop-at.at c.step_over-next.result c.args.to
+    c.requires.text c.loop-at.invariant.3 c.requires.ends c.loop-at-test.true (omega (arith, c.requires.within, c.requires.long)) c.step_over-next.ensures.end
+
+-- the class of its units before the override
+was : (g : Over) (c : After-step_over-next g) (u : ℕ) → c.loop-at.at ≤ u → u < c.step_over-next.result → class_at c.args.classes.now u ≡ class_at c.args.original_classes.now c.loop-at.at
+was g c u above below = c.requires.unread u (omega (arith, c.loop-at.invariant.0)) ∙ (next g c).same u above below
+
+pub write_class-requires-clause-ordered : goal.write_class-requires-clause-ordered
+write_class-requires-clause-ordered g c =
+    let on = next g (goal.at.write_class-requires-clause-ordered g c).After-step_over-next in
+    omega (arith, on.some)
+
+pub write_class-requires-clause-within : goal.write_class-requires-clause-within
+write_class-requires-clause-within g c =
+    let on = next g (goal.at.write_class-requires-clause-within g c).After-step_over-next in
+    omega (arith, on.within, c.loop-at.invariant.2.long, c.requires.classes, c.requires.within)
+
+pub loop-at-init : goal.loop-at-init
+loop-at-init g c = (omega arith, c.requires.ordered, IsOverridden-none (Some c.args.put) c.args.from c.args.classes.now, c.requires.begins, omega arith)
+
+pub loop-at-smaller-then-passes : goal.loop-at-smaller-then-passes
+loop-at-smaller-then-passes g c =
+    let on = next g (goal.at.loop-at-smaller-then-passes g c).After-step_over-next in
+    omega (arith, on.some, on.within)
+
+pub loop-at-smaller : goal.loop-at-smaller
+loop-at-smaller g c =
+    let on = next g (goal.at.loop-at-smaller g c).After-step_over-next in
+    omega (arith, on.some, on.within)
+
+pub loop-at-preserved-then-passes : goal.loop-at-preserved-then-passes
+loop-at-preserved-then-passes g c =
+    let a = goal.at.loop-at-preserved-then-passes g c in
+    let on = next g a.After-step_over-next in (
+      omega (arith, on.some, c.loop-at.invariant.0),
+      on.within,
+      subst (λ (cs : List BidiClass). IsOverridden (Some c.args.put) c.args.from c.step_over-next.result c.args.classes.now cs) (sym c.write_class.ensures)
+          (IsOverridden-more c.args.put c.args.from c.loop-at.at c.step_over-next.result c.args.classes.now c.loop-at.classes c.loop-at.invariant.2 c.loop-at.invariant.0 (omega (arith, on.some)) (omega (arith, on.within, c.requires.within, c.requires.classes))
+          (λ u above below. ap is_kept_in_place (was g a.After-step_over-next u above below) ∙ sym c.passes.ensures ∙ c.if-passes.true)),
+      on.begins,
+      omega (arith, on.index, c.step_over-next.ensures.steps, c.loop-at.invariant.4),
+    )
+
+pub loop-at-preserved : goal.loop-at-preserved
+loop-at-preserved g c =
+    let a = goal.at.loop-at-preserved g c in
+    let on = next g a.After-step_over-next in (
+      omega (arith, on.some, c.loop-at.invariant.0),
+      on.within,
+      IsOverridden-spared c.args.put c.args.from c.loop-at.at c.step_over-next.result c.args.classes.now c.loop-at.classes c.loop-at.invariant.2 c.loop-at.invariant.0 (omega (arith, on.some))
+          (λ u above below. ap is_kept_in_place (was g a.After-step_over-next u above below) ∙ sym c.passes.ensures ∙ c.if-passes.false),
+      on.begins,
+      omega (arith, on.index, c.step_over-next.ensures.steps, c.loop-at.invariant.4),
+    )
+
+pub returns-clause-steps : goal.returns-clause-steps
+returns-clause-steps g c =
+    let same : c.loop-at.at ≡ c.args.to = omega (arith, c.loop-at.invariant.1) in
+    c.loop-at.invariant.4 ∙ ap (λ u. c.args.steps.now + char_index g.T.TextSource.units (g.T.TextSource.characters c.args.text) u) same

@@ -1,7 +1,18 @@
--- The override is put on the classes so far.
-use Rattle.std.proofs.Common.{◌≡◌, ◌++◌, map, take, drop}
-use Rattle.bidi_rules.specs.ExplicitStretches.{put_over}
+-- The override is put on the characters so far, and each was a step.
+use Rattle.std.proofs.Common.{◌≡◌, ◌+◌, ◌-◌, ◌≤◌, true, Some}
+use Rattle.bidi_base.specs.Text.{char_index, is_boundary}
+use Rattle.bidi_rules.specs.ExplicitStretches.{IsOverridden}
 use Rattle.bidi_rules.proofs.explicit.stretches.put_override.Given as goal
 
-abbrev pub invariant-loop-class : goal.invariant-loop-class
-invariant-loop-class l = l.class-items ≡ map (put_over l.put) (take l.class-index l.fn.classes) ++ drop l.class-index l.fn.classes
+abbrev pub invariant-loop-at : goal.invariant-loop-at
+invariant-loop-at g l =
+    let len_of = g.T.TextSource.units in
+    let chars = g.T.TextSource.characters l.fn.text in
+    (l.from ≤ l.at)
+    × (l.at ≤ l.to)
+    × IsOverridden (Some l.put) l.from l.at l.fn.classes l.classes
+    × (is_boundary len_of chars l.at ≡ true)
+    × (l.steps + char_index len_of chars l.from ≡ l.fn.steps + char_index len_of chars l.at)
+
+abbrev pub decreases-loop-at : goal.decreases-loop-at
+decreases-loop-at g l = l.to - l.at

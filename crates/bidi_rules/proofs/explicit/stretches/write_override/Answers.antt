@@ -1,6 +1,7 @@
-use Rattle.bidi_rules.proofs.ExplicitStretches.{IsOverridden-part}
+use Rattle.std.proofs.Common.{arith}
+use Rattle.bidi_rules.proofs.CharEnds.{index-le}
 use Rattle.bidi_rules.proofs.explicit.stretches.write_override.Goals as goal
 
-pub returns-in-Some : goal.returns-in-Some
-returns-in-Some c =
-    IsOverridden-part c.args.override_class c.in-Some.put c.args.from c.args.to c.args.classes.now c.put_override.new.classes c.in-Some.is c.requires.ordered c.requires.within c.put_override.ensures
+pub returns-in-Some-clause-at_least : goal.returns-in-Some-clause-at_least
+returns-in-Some-clause-at_least g c =
+    omega (arith, c.put_override.ensures.steps, index-le g.T.TextSource.units g.met.T.TextSource.has_units (g.T.TextSource.characters c.args.text) c.args.from c.args.to c.requires.begins c.requires.ends c.requires.ordered)

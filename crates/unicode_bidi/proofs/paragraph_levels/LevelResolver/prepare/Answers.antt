@@ -14,8 +14,8 @@ use Rattle.unicode_bidi.proofs.FilledUnits.{initiators-stored}
 use Rattle.unicode_bidi.proofs.FoundLaws.{stored-is_per_char}
 use Rattle.unicode_bidi.proofs.paragraph_levels.LevelResolver.prepare.Goals as goal
 
-pub compute_by_stretches-requires-clause-original : goal.compute_by_stretches-requires-clause-original
-compute_by_stretches-requires-clause-original g c =
+pub compute-requires-clause-original : goal.compute-requires-clause-original
+compute-requires-clause-original g c =
     let class_of = (g.D.BidiDataSource.source c.args.paragraph.now.data_source.now).class_of in
     stored-is_per_char g.T.TextSource.units (g.T.TextSource.characters c.args.paragraph.now.text) class_of c.args.paragraph.now.original_classes.now c.args.paragraph.now.stored
 
@@ -36,7 +36,7 @@ join_level_runs-requires-clause-levels g c =
     let cs : List ℕ = g.T.TextSource.characters c.args.paragraph.now.text in
     let stored = per_char L len cs c.args.paragraph.now.original_classes.now in
     let levels = explicit_levels c.args.paragraph.now.level stored in
-    ap (is_per_char level_eq len cs) c.in_ok-compute_by_stretches.ensures.levels ∙ is_per_char-per_unit level_eq level_test len cs levels (length-explicit_levels c.args.paragraph.now.level stored ∙ length-per_char L len cs c.args.paragraph.now.original_classes.now)
+    ap (is_per_char level_eq len cs) c.in_ok-compute.ensures.levels ∙ is_per_char-per_unit level_eq level_test len cs levels (length-explicit_levels c.args.paragraph.now.level stored ∙ length-per_char L len cs c.args.paragraph.now.original_classes.now)
 
 pub join_level_runs-requires-clause-runs : goal.join_level_runs-requires-clause-runs
 join_level_runs-requires-clause-runs g c =
@@ -44,9 +44,9 @@ join_level_runs-requires-clause-runs g c =
     let cs : List ℕ = g.T.TextSource.characters c.args.paragraph.now.text in
     let stored = per_char L len cs c.args.paragraph.now.original_classes.now in
     let levels = explicit_levels c.args.paragraph.now.level stored in
-    let read : per_char 0 len cs c.compute_by_stretches.new.levels ≡ levels =
-    ap (per_char 0 len cs) c.in_ok-compute_by_stretches.ensures.levels ∙ per_char-per_unit len g.met.T.TextSource.has_units 0 cs levels (length-explicit_levels c.args.paragraph.now.level stored ∙ length-per_char L len cs c.args.paragraph.now.original_classes.now) in
-    ap (map bounds) c.as_slice.ensures.value ∙ c.in_ok-compute_by_stretches.ensures.runs ∙ ap (level_run_ranges len cs stored) (sym read)
+    let read : per_char 0 len cs c.compute.new.levels ≡ levels =
+    ap (per_char 0 len cs) c.in_ok-compute.ensures.levels ∙ per_char-per_unit len g.met.T.TextSource.has_units 0 cs levels (length-explicit_levels c.args.paragraph.now.level stored ∙ length-per_char L len cs c.args.paragraph.now.original_classes.now) in
+    ap (map bounds) c.as_slice.ensures.value ∙ c.in_ok-compute.ensures.runs ∙ ap (level_run_ranges len cs stored) (sym read)
 
 pub returns-clause-sequences : goal.returns-clause-sequences
 returns-clause-sequences g c =
@@ -54,6 +54,6 @@ returns-clause-sequences g c =
     let cs : List ℕ = g.T.TextSource.characters c.args.paragraph.now.text in
     let stored = per_char L len cs c.args.paragraph.now.original_classes.now in
     let levels = explicit_levels c.args.paragraph.now.level stored in
-    let read : per_char 0 len cs c.compute_by_stretches.new.levels ≡ levels =
-    ap (per_char 0 len cs) c.in_ok-compute_by_stretches.ensures.levels ∙ per_char-per_unit len g.met.T.TextSource.has_units 0 cs levels (length-explicit_levels c.args.paragraph.now.level stored ∙ length-per_char L len cs c.args.paragraph.now.original_classes.now) in
+    let read : per_char 0 len cs c.compute.new.levels ≡ levels =
+    ap (per_char 0 len cs) c.in_ok-compute.ensures.levels ∙ per_char-per_unit len g.met.T.TextSource.has_units 0 cs levels (length-explicit_levels c.args.paragraph.now.level stored ∙ length-per_char L len cs c.args.paragraph.now.original_classes.now) in
     subst (λ (ls : List ℕ). OnOk c.join_level_runs.result (sequences_in len cs stored c.join_level_runs.new.out.items ≡ sequences c.args.paragraph.now.level stored ls)) read c.join_level_runs.ensures.sequences

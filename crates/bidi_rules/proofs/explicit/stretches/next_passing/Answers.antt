@@ -1,0 +1,31 @@
+-- The units of a character have one class, so a test of its first unit tells of all.
+use Rattle.std.proofs.Common.{sym, ap, ◌∙◌, arith, inl, inr}
+use Rattle.std.proofs.lemmas.Bool.{cases_lt}
+use Rattle.bidi_rules.proofs.CharEnds.{Goes, goes}
+use Rattle.bidi_rules.proofs.explicit.stretches.next_passing.Given.{Over}
+use Rattle.bidi_rules.proofs.explicit.stretches.next_passing.Goals as goal
+use Rattle.bidi_rules.proofs.explicit.stretches.next_passing.Goals.{After-step_over-at}
+
+-- the character that is passed over
+next : (g : Over) (c : After-step_over-at g) → Goes g.T.TextSource.units g.met.T.TextSource.has_units (g.T.TextSource.characters c.args.text) c.args.classes.now c.loop-at.at c.step_over-at.result c.args.to
+next g c =
+    goes g.T.TextSource.units g.met.T.TextSource.has_units (g.T.TextSource.characters c.args.text) c.args.classes.now c.loop-at.at c.step_over-at.result c.args.to
+    c.requires.classes c.loop-at.invariant.3 c.requires.ends c.loop-at-test.true (omega (arith, c.requires.within, c.requires.long)) c.step_over-at.ensures.end
+
+pub loop-at-smaller : goal.loop-at-smaller
+loop-at-smaller g c =
+    let on = next g c in
+    omega (arith, on.some, on.within)
+
+pub loop-at-preserved : goal.loop-at-preserved
+loop-at-preserved g c =
+    let on = next g c in (
+      omega (arith, on.some),
+      on.within,
+      λ k above below. elim (cases_lt k c.loop-at.at) [
+        | inl old ↦ c.loop-at.invariant.2 k above old
+        | inr new ↦ ap (g.C.ClassTest.test c.args.test) (on.same k new below) ∙ sym c.passes.ensures ∙ c.if-not-passes.true
+      ],
+      on.begins,
+      omega (arith, on.index, c.step_over-at.ensures.steps),
+    )
