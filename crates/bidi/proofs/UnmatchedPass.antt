@@ -2,7 +2,7 @@
 use Rattle.std.proofs.Common.{◌≡◌, ℕ, zero, suc, ◌+◌, ◌<◌, ◌≤◌, Bool, true, false, not, ◌||◌, ◌&&◌, cond, leb, List, [], ◌∷◌, ◌++◌, length, get_or, set, map, find, Option, Some, None, refl, sym, ap, subst, ◌∙◌, arith, ◌-◌, inl, inr, eq-eqb, length-append}
 use Rattle.std.specs.Prelude.{is_some, is_none}
 use Rattle.std.specs.List.{list_any, range_with_len}
-use Rattle.std.proofs.lemmas.Bool.{cases_Bool, cases_eq, cond-false, and_left, and_right, le-leb, leb-true, or_right, and_parts, and_from, eqb-true, cases_lt, false_from_ne_true}
+use Rattle.std.proofs.lemmas.Bool.{cases_Bool, cases_eq, cond-false, and_left, and_right, le-leb, leb-true, or_right, and_parts, and_from, eqb-true, cases_lt, false_from_ne_true, or_parts}
 use Rattle.std.proofs.lemmas.List.{length-set, get_or-set_same, get_or-set_other, get_or_append_left, get_or_push}
 use Rattle.std.proofs.lemmas.List.FromFn.{fill_by_all}
 use Rattle.bidi_base.specs.declared.char_data.BidiClass.{BidiClass}
@@ -119,12 +119,6 @@ any_range-some test low (suc n) k from below e = elim (cases_eq k low) [
 holds_number-true : (o : Option ℕ) (n : ℕ) → holds_number o n ≡ true → o ≡ Some n
 holds_number-true None n e = absurd (cc e)
 holds_number-true (Some m) n e = ap Some (eqb-true m n e)
-
--- neither of two that do not pass
-or_parts : (a b : Bool) → (a || b) ≡ false → (a ≡ false) × (b ≡ false)
-or_parts false false e = (refl, refl)
-or_parts true b e = absurd (cc e)
-or_parts false true e = absurd (cc e)
 
 module _ (classes : List BidiClass) where
   -- what the character p closes, by the openers before it

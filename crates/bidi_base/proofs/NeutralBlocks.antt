@@ -14,16 +14,17 @@ use Rattle.bidi_base.proofs.NeutralLemmas.{nearest_direction-more}
 use Rattle.bidi_base.proofs.InPlace.{IsRewritten, IsRewritten-keep}
 use Rattle.bidi_base.proofs.Blocks.{IsBlock, read_later, look-drop, look-take, answer, IsRewritten-filled, IsRewritten-past}
 
-passes : (d c : BidiClass) (cs : List BidiClass) → is_neutral c ≡ true → nearest_direction d (c ∷ cs) ≡ nearest_direction d cs
-passes d B cs e = refl
-passes d S cs e = refl
-passes d WS cs e = refl
-passes d ON cs e = refl
-passes d LRI cs e = refl
-passes d RLI cs e = refl
-passes d FSI cs e = refl
-passes d PDI cs e = refl
-passes d _ cs e = absurd (cc e)
+-- a neutral is looked past
+pub past_neutral : (d c : BidiClass) (cs : List BidiClass) → is_neutral c ≡ true → nearest_direction d (c ∷ cs) ≡ nearest_direction d cs
+past_neutral d B cs e = refl
+past_neutral d S cs e = refl
+past_neutral d WS cs e = refl
+past_neutral d ON cs e = refl
+past_neutral d LRI cs e = refl
+past_neutral d RLI cs e = refl
+past_neutral d FSI cs e = refl
+past_neutral d PDI cs e = refl
+past_neutral d _ cs e = absurd (cc e)
 
 -- a class with a direction needs no other
 directed : (c x y : BidiClass) → has_direction c ≡ true → unwrap_or (as_direction c) x ≡ unwrap_or (as_direction c) y
@@ -86,10 +87,10 @@ module _ (e sos eos : BidiClass) where
         let room = block.room in
         let place : start + k + 1 + (n - suc k) ≡ start + n = omega arith in
         let before : nearest_direction sos (reverse (take (start + k) old)) ≡ left =
-        look-take is_neutral (nearest_direction sos) (passes sos) old start k (omega arith) (λ j less. block.inside j (omega arith)) ∙ sym (h.is_left fits)
+        look-take is_neutral (nearest_direction sos) (past_neutral sos) old start k (omega arith) (λ j less. block.inside j (omega arith)) ∙ sym (h.is_left fits)
         in
         let after : nearest_direction eos (drop (start + k + 1) old) ≡ right =
-        look-drop is_neutral (nearest_direction eos) (passes eos) old (start + k + 1) (n - suc k) (omega arith)
+        look-drop is_neutral (nearest_direction eos) (past_neutral eos) old (start + k + 1) (n - suc k) (omega arith)
         (λ j less. subst (λ (p : ℕ). is_neutral (get_or old p L) ≡ true) (omega arith) (block.inside (k + 1 + j) (omega arith)))
         ∙ ap (λ (p : ℕ). nearest_direction eos (drop p old)) place ∙ right_near
         in

@@ -7,7 +7,7 @@ use Rattle.bidi_base.specs.declared.char_data.BidiClass.TheVariants.{L, R, EN, A
 use Rattle.bidi_base.specs.Classes.{as_direction, is_neutral, is_weak_resolved, same_class}
 use Rattle.bidi_base.specs.Neutral.{nearest_direction, n1_rule, n1_n2}
 use Rattle.bidi_base.specs.Places.{in_context}
-use Rattle.bidi_base.proofs.NeutralBlocks.{common}
+use Rattle.bidi_base.proofs.NeutralBlocks.{common, past_neutral}
 use Rattle.bidi_base.proofs.NeutralLemmas.{nearest_direction-more}
 
 -- a neutral has no direction, and what W7 leaves without one is a neutral
@@ -33,9 +33,6 @@ directed-other AN d e = refl
 directed-other _ d e = absurd (cc e)
 
 -- neutrals are looked past
-past_neutral : (d c : BidiClass) (cs : List BidiClass) → is_neutral c ≡ true → nearest_direction d (c ∷ cs) ≡ nearest_direction d cs
-past_neutral d c cs h = nearest_direction-more d c cs ∙ ap (λ (o : Option BidiClass). unwrap_or o (nearest_direction d cs)) (neutral-none c h)
-
 past_neutrals : (d : BidiClass) (cs after : List BidiClass) → list_all is_neutral cs ≡ true → nearest_direction d (cs ++ after) ≡ nearest_direction d after
 past_neutrals d [] after h = refl
 past_neutrals d (c ∷ cs) after h =

@@ -166,7 +166,7 @@ resolving-strong d (x ∷ xs) s e = elim (cases_Bool (ends_by (kind_of x) d)) [
 ]
 
 -- a direction that was found stays
-resolved-strong : (s : BidiClass) → is_strong s ≡ true → is_fsi (resolved_fsi (Some s)) ≡ false
+pub resolved-strong : (s : BidiClass) → is_strong s ≡ true → is_fsi (resolved_fsi (Some s)) ≡ false
 resolved-strong L e = refl
 resolved-strong R e = refl
 resolved-strong AL e = refl

@@ -1,10 +1,7 @@
 -- A fold that looks at every element is the test whether one of them passes.
 use Rattle.std.proofs.Common.{◌≡◌, Bool, true, false, ◌||◌, List, [], ◌∷◌, refl, ◌∙◌}
 use Rattle.std.specs.List.{fold, list_any}
-
-or_assoc : (a b c : Bool) → ((a || b) || c) ≡ (a || (b || c))
-or_assoc true b c = refl
-or_assoc false b c = refl
+use Rattle.std.proofs.Math.Bool.{or_assoc}
 
 or_false : (a : Bool) → a ≡ (a || false)
 or_false true = refl

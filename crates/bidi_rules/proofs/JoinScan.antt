@@ -5,7 +5,7 @@ use Rattle.std.specs.List.{list_all, range_with_len}
 use Rattle.std.proofs.lemmas.Bool.{cases_Bool, cases_lt, and_parts, and_from, cond-true, cond-false}
 use Rattle.std.proofs.lemmas.List.{map-append}
 use Rattle.bidi_base.specs.declared.char_data.BidiClass.{BidiClass}
-use Rattle.bidi_base.specs.declared.char_data.BidiClass.TheVariants.{L, R, EN, AN, BN}
+use Rattle.bidi_base.specs.declared.char_data.BidiClass.TheVariants.{L, R, EN, AN}
 use Rattle.bidi_base.specs.Classes.{as_direction, is_kept_in_place, is_l_or_r, is_neutral, is_weak_resolved, same_class, stands_for}
 use Rattle.bidi_base.specs.Neutral.{nearest_direction, n1_n2}
 use Rattle.bidi_base.specs.Places.{at_places, class_at}
@@ -18,6 +18,7 @@ use Rattle.bidi_rules.specs.JoinPass.{settled, side_before, Unjoined, IsJoined}
 use Rattle.bidi_rules.specs.PairWalk.{opposite_of}
 use Rattle.bidi_rules.specs.WeakWalk.{is_seen, IsWrittenOver}
 use Rattle.bidi_rules.proofs.Marks.{marked, marked-parts, at_marked-same, at_marked-all}
+use Rattle.bidi_rules.proofs.PairPlaces.{directed-kept}
 
 -- ---- classes
 
@@ -169,10 +170,6 @@ module _ (mark : ℕ → Bool) (p : BidiClass → Bool) (old : List BidiClass) w
 
   pub at_marked-each : (low high : ℕ) → ((k : ℕ) → low ≤ k → k < high → mark k ≡ true → p (class_at old k) ≡ true) → list_all p (at_places L old (marked mark low high)) ≡ true
   at_marked-each low high h = each low (high - low) (λ k from below is. h k from (omega arith) is)
-
-directed-kept : (c d : BidiClass) → as_direction c ≡ Some d → is_kept_in_place c ≡ true
-directed-kept BN d e = absurd (cc e)
-directed-kept _ d e = refl
 
 length-at : (xs : List BidiClass) (us : List ℕ) → length (at_places L xs us) ≡ length us
 length-at xs [] = refl

@@ -6,7 +6,7 @@ use Rattle.std.specs.declared.ops.Range.{Range}
 use Rattle.std.proofs.lemmas.List.{length-map}
 use Rattle.std.proofs.lemmas.Bool.{cases_Bool, cases_lt, both_ways, and_parts, and_from, and_left, cond-true, cond-false}
 use Rattle.bidi_base.specs.declared.char_data.BidiClass.{BidiClass}
-use Rattle.bidi_base.specs.declared.char_data.BidiClass.TheVariants.{L, BN}
+use Rattle.bidi_base.specs.declared.char_data.BidiClass.TheVariants.{L}
 use Rattle.bidi_base.specs.Classes.{as_direction, is_kept_in_place, is_neutral, is_weak_resolved}
 use Rattle.bidi_base.specs.Neutral.{n1_n2}
 use Rattle.bidi_base.specs.Places.{at_places, class_at}
@@ -19,6 +19,7 @@ use Rattle.bidi_rules.specs.WeakWalk.{is_seen, IsWrittenOver}
 use Rattle.bidi_rules.proofs.InRuns.{in_runs-at, in_runs-drop, start_or, start_or-past, gap_before, gap_after, next_start}
 use Rattle.bidi_rules.proofs.Marks.{marked, marked-parts, marked-one, at_marked-same, at_marked-all}
 use Rattle.bidi_rules.proofs.WrittenOver.{IsWrittenOver-same_test}
+use Rattle.bidi_rules.proofs.PairPlaces.{directed-kept}
 
 module _ (e eos : BidiClass) (mark : ℕ → Bool) (old answers : List BidiClass) where
   -- the units below `at` are read; of those from `first` on the marked ones are neutrals, which wait, and `left` is the direction before them
@@ -127,10 +128,6 @@ IsScanned-start e sos eos mark old at none = record {
   order = omega arith;
   long = refl;
 }
-
-directed-kept : (c d : BidiClass) → as_direction c ≡ Some d → is_kept_in_place c ≡ true
-directed-kept BN d e = absurd (cc e)
-directed-kept _ d e = refl
 
 module _ (e sos eos : BidiClass) (runs : List (Range ℕ)) (old : List BidiClass) where
   abbrev rs : List (ℕ × ℕ)

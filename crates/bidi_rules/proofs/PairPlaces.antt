@@ -26,7 +26,7 @@ stands-kept : (d c : BidiClass) → stands_for d c ≡ true → is_kept_in_place
 stands-kept d BN h = absurd (cc h)
 stands-kept d _ h = refl
 
-directed-kept : (c d : BidiClass) → as_direction c ≡ Some d → is_kept_in_place c ≡ true
+pub directed-kept : (c d : BidiClass) → as_direction c ≡ Some d → is_kept_in_place c ≡ true
 directed-kept BN d e = absurd (cc e)
 directed-kept _ d e = refl
 

@@ -25,6 +25,7 @@ use Rattle.bidi_rules.specs.NeutralPass.{kept_among, placed_bracket, placed_brac
 use Rattle.bidi_rules.proofs.CharEnds.{begins_at}
 use Rattle.bidi_rules.proofs.Gathered.{placed-append, placed-one}
 use Rattle.bidi_rules.proofs.KeptRuns.{kept_so_far-end}
+use Rattle.bidi_rules.proofs.WalkLemmas.{between-first}
 
 -- ranges of numbers in two parts
 pub between-parts : (low mid high : ℕ) → low ≤ mid → mid ≤ high → between low high ≡ between low mid ++ between mid high
@@ -32,9 +33,6 @@ between-parts low mid high a b =
     let count : high - low ≡ (mid - low) + (high - mid) = omega arith in
     let place : low + (mid - low) ≡ mid = omega arith in
     ap (range_with_len low) count ∙ range_with_len-append low (mid - low) (high - mid) ∙ ap (λ k. between low mid ++ range_with_len k (high - mid)) place
-
-pub between-first : (low high : ℕ) → low < high → between low high ≡ low ∷ between (low + 1) high
-between-first low high some = let count : high - low ≡ suc (high - (low + 1)) = omega arith in ap (range_with_len low) count
 
 module _ (len_of : ℕ → ℕ) (chars : List ℕ) (source : Source) (units : List BidiClass) where
   abbrev at_unit : ℕ → List Bracket

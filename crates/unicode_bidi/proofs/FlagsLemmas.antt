@@ -12,6 +12,7 @@ use Rattle.unicode_bidi.specs.ClassSet.{with, any_of}
 use Rattle.unicode_bidi.specs.ParagraphFlags.{is_counted, with_class, with_classes, flags_of}
 use Rattle.unicode_bidi.specs.declared.paragraph_flags.ParagraphFlags.{ParagraphFlags}
 use Rattle.unicode_bidi.proofs.ClassSets.{any_of-with, any_of-empty}
+use Rattle.std.proofs.Math.Bool.{or_assoc}
 
 pub with_classes-push : (flags : ParagraphFlags) (classes : List BidiClass) (c : BidiClass) → with_classes flags (classes ++ c ∷ []) ≡ with_class (with_classes flags classes) c
 with_classes-push flags [] c = refl
@@ -24,10 +25,6 @@ IsOfCounted test = (c : BidiClass) → is_counted c ≡ false → test c ≡ fal
 or_false : (a b : Bool) → b ≡ false → a ≡ (a || b)
 or_false true b e = refl
 or_false false b e = sym e
-
-or_assoc : (a b c : Bool) → ((a || b) || c) ≡ (a || (b || c))
-or_assoc true b c = refl
-or_assoc false b c = refl
 
 module _ (test : BidiClass → Bool) (of_counted : IsOfCounted test) where
   one_more : (flags : ParagraphFlags) (c : BidiClass) → any_of (with_class flags c).met test ≡ (any_of flags.met test || test c)

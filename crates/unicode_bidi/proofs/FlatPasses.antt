@@ -28,13 +28,7 @@ use Rattle.bidi_rules.specs.declared.prepare.lent.LentSequence.{LentSequence}
 use Rattle.unicode_bidi.proofs.FilledUnits.{per_unit-replicate}
 use Rattle.unicode_bidi.proofs.LevelPasses.{AreResolvedTo, AreResolvedTo-start}
 use Rattle.unicode_bidi.proofs.SequencesInPlace.{IsNext, IsNext-at}
-
-pub direction_of-is_l_or_r : (level : ℕ) → is_l_or_r (direction_of level) ≡ true
-direction_of-is_l_or_r level = by_parity (is_odd level)
-  where
-    by_parity : (odd : Bool) → is_l_or_r (cond odd R L) ≡ true
-    by_parity true = refl
-    by_parity false = refl
+use Rattle.bidi_base.proofs.NeutralLemmas.{direction_of-l_or_r}
 
 -- the runs of a sequence that is lent, with its ends
 abbrev pub lent : LentSequence → JoinedRuns
@@ -91,7 +85,7 @@ module _ (len_of : ℕ → ℕ) (h : HasUnits len_of) (chars : List ℕ) (source
     pub joined-IsNext : IsNext source (map bracket_of chars) stored (explicit_levels paragraph stored) (explicit_classes paragraph stored) [] (characters_of len_of chars stored j)
     joined-IsNext =
         subst (λ (r : JoinedRuns). IsNext source (map bracket_of chars) stored (explicit_levels paragraph stored) (explicit_classes paragraph stored) [] (characters_of len_of chars stored r)) (sym same)
-        (IsNext-at paragraph stored (characters_of len_of chars stored whole ∷ []) sequences-whole source (map bracket_of chars) 0 (characters_of len_of chars stored whole) (omega arith) (direction_of-is_l_or_r paragraph))
+        (IsNext-at paragraph stored (characters_of len_of chars stored whole ∷ []) sequences-whole source (map bracket_of chars) 0 (characters_of len_of chars stored whole) (omega arith) (direction_of-l_or_r paragraph))
 
     pub joined-AreLines : AreLines len_of chars j.runs
     joined-AreLines =

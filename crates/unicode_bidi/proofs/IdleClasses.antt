@@ -2,7 +2,7 @@
 use Rattle.std.proofs.Common.{◌≡◌, ℕ, ◌-◌, Bool, true, false, not, ◌&&◌, ◌||◌, ◌==◌, nat_lt, cond, List, [], Option, Some, None, refl, sym, ap, ◌∙◌, arith, inl, inr, lt-ltb}
 use Rattle.std.specs.Option.{is_some, is_none}
 use Rattle.std.specs.declared.ops.Range.{Range}
-use Rattle.std.proofs.lemmas.Bool.{cases_Bool, cases_eq, both_ways, cond-false}
+use Rattle.std.proofs.lemmas.Bool.{cases_Bool, cases_eq, both_ways, cond-false, or_parts}
 use Rattle.bidi_base.specs.declared.char_data.BidiClass.{BidiClass}
 use Rattle.bidi_base.specs.Classes.{is_strong, is_initiator, is_pdi, is_paragraph_separator}
 use Rattle.bidi_base.specs.Isolates.{resolved_fsi}
@@ -13,10 +13,6 @@ use Rattle.unicode_bidi.specs.ParagraphFlags.{is_counted, with_class}
 use Rattle.unicode_bidi.specs.declared.first_walk.Reading.{Reading}
 use Rattle.unicode_bidi.specs.declared.first_walk.Undecided.{Undecided}
 use Rattle.unicode_bidi.proofs.ClassSets.{with-same}
-
-or_none : (a b : Bool) → (a || b) ≡ false → (a ≡ false) × (b ≡ false)
-or_none true b e = absurd (both_ways true e refl)
-or_none false b e = (refl, e)
 
 and_other : (a b : Bool) → (a && b) ≡ false → a ≡ true → b ≡ false
 and_other true b e k = e
@@ -37,22 +33,22 @@ weak false none = refl
 module _ (r : Reading) (c : BidiClass) (range : Range ℕ) (idle : minds r c ≡ false) (empty : r.depth ≡ 0 → r.undecided.items ≡ []) where
   parts : (is_paragraph_separator c || is_initiator c) ≡ false
       × (((is_counted c && not (has r.flags.met c)) || ((is_strong c && wants_strong r) || (is_pdi c && nat_lt 0 r.depth))) ≡ false)
-  parts = or_none (is_paragraph_separator c || is_initiator c) ((is_counted c && not (has r.flags.met c)) || ((is_strong c && wants_strong r) || (is_pdi c && nat_lt 0 r.depth))) idle
+  parts = or_parts (is_paragraph_separator c || is_initiator c) ((is_counted c && not (has r.flags.met c)) || ((is_strong c && wants_strong r) || (is_pdi c && nat_lt 0 r.depth))) idle
 
   others : (is_counted c && not (has r.flags.met c)) ≡ false × (((is_strong c && wants_strong r) || (is_pdi c && nat_lt 0 r.depth)) ≡ false)
-  others = or_none (is_counted c && not (has r.flags.met c)) ((is_strong c && wants_strong r) || (is_pdi c && nat_lt 0 r.depth)) parts.1
+  others = or_parts (is_counted c && not (has r.flags.met c)) ((is_strong c && wants_strong r) || (is_pdi c && nat_lt 0 r.depth)) parts.1
 
   last : (is_strong c && wants_strong r) ≡ false × ((is_pdi c && nat_lt 0 r.depth) ≡ false)
-  last = or_none (is_strong c && wants_strong r) (is_pdi c && nat_lt 0 r.depth) others.1
+  last = or_parts (is_strong c && wants_strong r) (is_pdi c && nat_lt 0 r.depth) others.1
 
   pub idle-separator : is_paragraph_separator c ≡ false
-  idle-separator = (or_none (is_paragraph_separator c) (is_initiator c) parts.0).0
+  idle-separator = (or_parts (is_paragraph_separator c) (is_initiator c) parts.0).0
 
   no_initiator : is_initiator c ≡ false
-  no_initiator = (or_none (is_paragraph_separator c) (is_initiator c) parts.0).1
+  no_initiator = (or_parts (is_paragraph_separator c) (is_initiator c) parts.0).1
 
   settled : is_strong c ≡ true → (is_some (waiting r.depth r.undecided.items) ≡ false) × ((r.depth == 0 && is_none r.deciding) ≡ false)
-  settled strong = or_none (is_some (waiting r.depth r.undecided.items)) (r.depth == 0 && is_none r.deciding) (and_other (is_strong c) (wants_strong r) last.0 strong)
+  settled strong = or_parts (is_some (waiting r.depth r.undecided.items)) (r.depth == 0 && is_none r.deciding) (and_other (is_strong c) (wants_strong r) last.0 strong)
 
   none_open : is_pdi c ≡ true → r.depth ≡ 0
   none_open pdi = elim (cases_eq r.depth 0) [

@@ -16,7 +16,7 @@ use Rattle.bidi_base.specs.Isolates.{resolved_fsi, stored_classes}
 use Rattle.bidi_base.specs.Places.{class_at}
 use Rattle.bidi_base.specs.Reading.{innermost, outer, opened_by, decided_by, is_fsi}
 use Rattle.bidi_base.proofs.ReadingLemmas.{outer-take, innermost-All}
-use Rattle.bidi_base.proofs.StoredSteps.{onto_later, open_initiators, open_initiators-push, open_initiators-below, met_by, length-met_by, stored_classes-push, length-stored_classes}
+use Rattle.bidi_base.proofs.StoredSteps.{onto_later, open_initiators, open_initiators-push, open_initiators-below, met_by, length-met_by, stored_classes-push, length-stored_classes, resolved-strong}
 use Rattle.unicode_bidi.proofs.ClassSets.{apart_eqb}
 use Rattle.unicode_bidi.specs.FirstWalk.{at_depth, waiting, depth_after, undecided_after, deciding_after}
 use Rattle.unicode_bidi.specs.declared.first_walk.Undecided.{Undecided}
@@ -183,12 +183,6 @@ initiator-weak _ e = absurd (both_ways false refl e)
 pdi-weak : (c : BidiClass) → is_pdi c ≡ true → is_strong c ≡ false
 pdi-weak PDI e = refl
 pdi-weak _ e = absurd (both_ways false refl e)
-
-resolved-is_fsi : (c : BidiClass) → is_strong c ≡ true → is_fsi (resolved_fsi (Some c)) ≡ false
-resolved-is_fsi L e = refl
-resolved-is_fsi R e = refl
-resolved-is_fsi AL e = refl
-resolved-is_fsi _ e = absurd (both_ways false refl e)
 
 pub met_by-weak : (c : BidiClass) (o : Option ℕ) (stored : List BidiClass) → is_strong c ≡ false → met_by c o stored ≡ stored
 met_by-weak c None stored weak = refl
@@ -357,7 +351,7 @@ module _ (units : ℕ → Range ℕ) (cs : List BidiClass) (c : BidiClass) where
           let here : is_fsi (class_at met q) ≡ false = elim (cases_Bool (is_fsi (class_at stored q))) [
             | inl fsi ↦
                 ap (λ (st : List BidiClass). is_fsi (class_at st q)) (cond-true (is_strong c && is_fsi (class_at stored q)) (set stored q (resolved_fsi (Some c))) stored (and_from (is_strong c) (is_fsi (class_at stored q)) strong fsi))
-                ∙ ap is_fsi (get_or-set_same stored q (resolved_fsi (Some c)) L inside) ∙ resolved-is_fsi c strong
+                ∙ ap is_fsi (get_or-set_same stored q (resolved_fsi (Some c)) L inside) ∙ resolved-strong c strong
             | inr other ↦
                 ap (λ (st : List BidiClass). is_fsi (class_at st q)) (cond-false (is_strong c && is_fsi (class_at stored q)) (set stored q (resolved_fsi (Some c))) stored (and_none (is_strong c) (is_fsi (class_at stored q)) other)) ∙ other
           ] in

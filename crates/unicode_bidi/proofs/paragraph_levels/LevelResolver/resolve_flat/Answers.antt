@@ -5,9 +5,10 @@ use Rattle.std.proofs.lemmas.List.{length-map}
 use Rattle.bidi_base.specs.Classes.{is_l_or_r}
 use Rattle.bidi_base.specs.Isolates.{stored_classes}
 use Rattle.bidi_rules.specs.Joining.{characters_of}
-use Rattle.unicode_bidi.proofs.FlatPasses.{direction_of-is_l_or_r, lent, lent-whole, joined-AreLines, joined-IsNext, joined-sequences, levels-whole, whole-AreResolvedTo}
+use Rattle.unicode_bidi.proofs.FlatPasses.{lent, lent-whole, joined-AreLines, joined-IsNext, joined-sequences, levels-whole, whole-AreResolvedTo}
 use Rattle.unicode_bidi.proofs.LevelPasses.{AreResolvedTo-per_char, AreResolvedTo-long, AreWeakTo-from, AreWeakTo-resolved, AreResolvedTo-more, AreLevels-all}
 use Rattle.unicode_bidi.proofs.paragraph_levels.LevelResolver.resolve_flat.Goals as goal
+use Rattle.bidi_base.proofs.NeutralLemmas.{direction_of-l_or_r}
 
 pub new-sequence-requires : goal.new-sequence-requires
 new-sequence-requires g c =
@@ -25,7 +26,7 @@ new-sequence-requires g c =
     (c.as_mut_slice-classes.ensures.value ∙ c.in_ok-copy_flat.ensures) in
     let units_long = AreResolvedTo-long len h cs source given.bracket_of para [] units fits begun in
     let some : 0 < length units = omega (arith, units_long, c.requires.long, c.requires.some) in
-    let side : is_l_or_r c.bidi_class-side.result ≡ true = ap is_l_or_r c.bidi_class-side.ensures ∙ direction_of-is_l_or_r para in
+    let side : is_l_or_r c.bidi_class-side.result ≡ true = ap is_l_or_r c.bidi_class-side.ensures ∙ direction_of-l_or_r para in
     and_from _ _ (and_from _ _ (lt-ltb 0 (length units) some) refl) (and_from _ _ side side)
 
 pub resolve_weak_lent-requires-clause-per_char : goal.resolve_weak_lent-requires-clause-per_char
