@@ -1,18 +1,17 @@
 -- A paragraph in which nothing opens a level: the passes over its one run.
-use Rattle.std.proofs.Common.{◌≡◌, ℕ, ◌-◌, Bool, true, false, cond, List, [], ◌∷◌, length, map, Option, refl, sym, ap, subst, ◌∙◌, arith}
+use Rattle.std.proofs.Common.{◌≡◌, ℕ, ◌-◌, true, List, [], ◌∷◌, length, map, Option, sym, ap, subst, ◌∙◌, arith}
 use Rattle.std.specs.Prelude.{replicate, filter}
 use Rattle.std.specs.declared.ops.Range.{Range}
 use Rattle.std.specs.List.{range_with_len}
 use Rattle.std.proofs.lemmas.List.{append-nil}
 use Rattle.std.proofs.lemmas.List.Elements.{All-cons, All-nil}
 use Rattle.bidi_base.specs.declared.char_data.BidiClass.{BidiClass}
-use Rattle.bidi_base.specs.declared.char_data.BidiClass.TheVariants.{L, R}
+use Rattle.bidi_base.specs.declared.char_data.BidiClass.TheVariants.{L}
 use Rattle.bidi_base.specs.declared.data_source.BidiMatchedOpeningBracket.{BidiMatchedOpeningBracket}
-use Rattle.bidi_base.specs.Classes.{is_l_or_r}
 use Rattle.bidi_base.specs.Explicit.{explicit_levels, explicit_classes, processing_classes}
 use Rattle.bidi_base.specs.Flat.{is_flat, hidden, whole_run}
 use Rattle.bidi_base.specs.Isolates.{stored_classes}
-use Rattle.bidi_base.specs.Levels.{is_odd, direction_of}
+use Rattle.bidi_base.specs.Levels.{direction_of}
 use Rattle.bidi_base.specs.Places.{between}
 use Rattle.bidi_base.specs.Sequences.{RunSequence, has_places, is_kept_at, kept_places, sequences}
 use Rattle.bidi_base.specs.Text.{IsLine, is_boundary, char_index, text_len, per_unit, per_char}

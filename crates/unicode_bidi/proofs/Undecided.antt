@@ -10,7 +10,7 @@ use Rattle.std.proofs.lemmas.Bool.{cases_Bool, both_ways, and_from, cond-true, c
 use Rattle.std.proofs.lemmas.List.{append-nil, length-take-le, length-map}
 use Rattle.std.proofs.lemmas.List.Elements.{All-nil, All-cons, All-head, All-tail, All-take}
 use Rattle.bidi_base.specs.declared.char_data.BidiClass.{BidiClass}
-use Rattle.bidi_base.specs.declared.char_data.BidiClass.TheVariants.{L, R, AL, LRI, RLI, FSI, PDI}
+use Rattle.bidi_base.specs.declared.char_data.BidiClass.TheVariants.{L, LRI, RLI, FSI, PDI}
 use Rattle.bidi_base.specs.Classes.{is_strong, is_initiator, is_pdi}
 use Rattle.bidi_base.specs.Isolates.{resolved_fsi, stored_classes}
 use Rattle.bidi_base.specs.Places.{class_at}
