@@ -2,7 +2,7 @@
 //! rules give a class that stands on several units what they give it where it stands on one; only a
 //! separator between numbers has to be one character.
 
-ghost use Rattle.std.specs.Prelude.{◌≡◌, ℕ, ◌+◌, ◌-◌, ◌*◌, ◌<◌, ◌≤◌, true, false, not, ◌&&◌, length, map, min, drop, find, get_or, reverse, IsTrue};
+ghost use Rattle.std.specs.Prelude.{◌≡◌, ℕ, ◌+◌, ◌-◌, ◌*◌, ◌<◌, ◌≤◌, true, false, not, ◌&&◌, length, map, min, drop, take, find, get_or, reverse, IsTrue};
 ghost use Rattle.std.specs.List.{position_or_len};
 ghost use Rattle.bidi_base.specs.Classes.{is_strong};
 ghost use Rattle.bidi_base.specs.Places.{class_at};
@@ -75,7 +75,9 @@ fn has_numbers(runs: &[LevelRun], classes: &[BidiClass]) -> bool
     runs.iter().any(|run| is_number_in(part_of(classes, run)))
 }
 
-/// Whether one of the classes is a number. All are looked at, many at once.
+/// Whether one of the classes is a number. All are looked at, many at once, which the compiler sees
+/// only where this stands by itself.
+#[inline(never)]
 fn is_number_in(classes: &[BidiClass]) -> bool
     ensures { result ≡ is_any_of is_number classes.now }
 {
@@ -274,10 +276,44 @@ fn before_asked(classes: &[BidiClass]) -> usize
     ensures count { result ≡ position_or_len is_asked classes.now }
     ensures within { result ≤ length classes.now }
 {
+    let idle = WIDE * idle_pieces(classes);
+    idle + before_near(&classes[idle..])
+}
+
+/// The same, one by one.
+fn before_near(classes: &[BidiClass]) -> usize
+    ensures count { result ≡ position_or_len is_asked classes.now }
+    ensures within { result ≤ length classes.now }
+{
     classes
         .iter()
         .take_while(|class| !is_asked(**class))
         .count()
+}
+
+/// How many units are tested at once.
+const WIDE: usize = 32;
+
+/// How many pieces of that many classes come before the first in which one asks.
+fn idle_pieces(classes: &[BidiClass]) -> usize
+    ensures within { result * 32 ≤ length classes.now }
+    ensures idle { (k : ℕ) → k < result → is_any_of is_asked (take 32 (drop (k * 32) classes.now)) ≡ false }
+{
+    classes
+        .chunks_exact(WIDE)
+        .take_while(|piece| !is_asked_in(piece))
+        .count()
+}
+
+/// Whether one of the classes asks. All are looked at, many at once, which the compiler sees only where
+/// this stands by itself.
+#[inline(never)]
+fn is_asked_in(classes: &[BidiClass]) -> bool
+    ensures { result ≡ is_any_of is_asked classes.now }
+{
+    classes
+        .iter()
+        .fold(false, |found, class| found | is_asked(*class))
 }
 
 /// The last strong class of these.

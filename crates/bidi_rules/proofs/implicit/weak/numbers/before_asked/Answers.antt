@@ -1,0 +1,56 @@
+use Rattle.std.proofs.Common.{◌≡◌, ℕ, ◌+◌, ◌-◌, ◌*◌, ◌/◌, ◌%◌, ◌<◌, false, List, length, get_or, take, drop, sym, ap, ◌∙◌, arith, inl, inr, length-take, length-drop, get_or-take, get_or-drop}
+use Rattle.std.proofs.Math.Nat.{mod-lt}
+use Rattle.std.proofs.lemmas.Nat.{div-add-mod'}
+use Rattle.std.proofs.lemmas.Bool.{cases_lt, both_ways, false_from_ne_true}
+use Rattle.std.proofs.lemmas.List.Folds.{list_any_at}
+use Rattle.std.proofs.lemmas.List.Sums.{fails_before_first, passes_at_first, position_or_len_is}
+use Rattle.std.specs.List.{list_any}
+use Rattle.bidi_base.specs.declared.char_data.BidiClass.{BidiClass}
+use Rattle.bidi_base.specs.declared.char_data.BidiClass.TheVariants.{L}
+use Rattle.bidi_base.specs.Places.{class_at}
+use Rattle.bidi_rules.specs.WeakPass.{is_asked}
+use Rattle.bidi_rules.specs.WeakWalk.{is_any_of}
+use Rattle.bidi_rules.proofs.FoldAny.{fold_any}
+use Rattle.bidi_rules.proofs.implicit.weak.numbers.before_asked.Goals as goal
+
+-- where no class of a piece asks, this one does not
+idle_at : (piece : List BidiClass) (k : ℕ) → is_any_of is_asked piece ≡ false → k < length piece → is_asked (get_or piece k L) ≡ false
+idle_at piece k none inside = false_from_ne_true _ (λ e. both_ways (list_any is_asked piece) (sym (fold_any is_asked piece) ∙ none) (list_any_at is_asked piece k L inside e))
+
+pub returns-clause-count : goal.returns-clause-count
+returns-clause-count c =
+    let xs = c.args.classes.now in
+    let n = c.idle_pieces-idle.result in
+    let rest = take (length xs - 32 * n) (drop (32 * n) xs) in
+    let more = c.before_near.result in
+    let count = c.before_near.ensures.count in
+    let within = c.before_near.ensures.within in
+    let whole = c.idle_pieces-idle.ensures.within in
+    let left = length-drop (32 * n) xs in
+    let size = length-take (length xs - 32 * n) (drop (32 * n) xs) in
+    let at : (j : ℕ) → j < length xs - 32 * n → class_at rest j ≡ class_at xs (32 * n + j) =
+    λ j below. get_or-take (length xs - 32 * n) (drop (32 * n) xs) j L below ∙ get_or-drop (32 * n) xs j L in
+    let front : (k : ℕ) → k < 32 * n → is_asked (class_at xs k) ≡ false =
+    λ k below.
+    let j = k / 32 in
+    let i = k % 32 in
+    let split : j * 32 + i ≡ k = div-add-mod' k 32 in
+    let short : i < 32 = mod-lt k (omega arith) in
+    let earlier : j < n = omega (arith, split, below) in
+    let piece = drop (j * 32) xs in
+    let long = length-take 32 piece in
+    let behind = length-drop (j * 32) xs in
+    let read = get_or-take 32 piece i L short ∙ get_or-drop (j * 32) xs i L ∙ ap (class_at xs) split in
+    ap is_asked (sym read) ∙ idle_at (take 32 piece) i (c.idle_pieces-idle.ensures.idle j earlier) (omega (arith, long, behind, short, earlier, whole)) in
+    sym (position_or_len_is is_asked xs (32 * n + more) L (omega (arith, within, size, left, whole))
+    (λ k below. elim (cases_lt k (32 * n)) [
+      | inl inside ↦ front k inside
+      | inr behind ↦
+          let j = k - 32 * n in
+          let place : 32 * n + j ≡ k = omega arith in
+          let read = at j (omega (arith, below, behind, within, size, left)) ∙ ap (class_at xs) place in
+          ap is_asked (sym read) ∙ fails_before_first is_asked rest j L (omega (arith, below, count))
+    ])
+    (λ inside.
+    let read = at more (omega (arith, inside)) in
+    ap is_asked (sym read) ∙ ap (λ (k : ℕ). is_asked (class_at rest k)) count ∙ passes_at_first is_asked rest L (omega (arith, inside, count, size, left, whole))))
