@@ -3,7 +3,7 @@ use Rattle.std.proofs.Common.{◌≡◌, ℕ, suc, ◌+◌, ◌<◌, ◌≤◌, 
 use Rattle.std.specs.Prelude.{slice_range, codes}
 use Rattle.std.specs.List.{list_all, onto_first, prefix_len}
 use Rattle.std.specs.Char.{len_utf8}
-use Rattle.std.proofs.lemmas.Bool.{cond-false}
+use Rattle.std.proofs.lemmas.Bool.{cond-false, and_parts}
 use Rattle.std.proofs.lemmas.List.{length-map}
 use Rattle.std.proofs.lemmas.List.Sums.{sum_by-append}
 use Rattle.bidi_base.specs.declared.char_data.BidiClass.{BidiClass}
@@ -54,15 +54,11 @@ first_test : (a b : Bool) → (not a && b) ≡ true → a ≡ false
 first_test true b e = absurd (cc e)
 first_test false b e = refl
 
-rest_test : (a b : Bool) → (a && b) ≡ true → b ≡ true
-rest_test true b e = e
-rest_test false b e = absurd (cc e)
-
 -- so it is one piece
 pub one_piece : (source : Source) (c : ℕ) (chars : List ℕ) → has_none source (c ∷ chars) ≡ true → paragraphs_of (each_separator source) (c ∷ chars) ≡ (c ∷ chars) ∷ []
 one_piece source c [] none = cond-false (is_paragraph_separator (source.class_of c)) _ _ (first_test (is_paragraph_separator (source.class_of c)) true none)
 one_piece source c (d ∷ chars) none =
-    let rest : has_none source (d ∷ chars) ≡ true = rest_test (not (is_paragraph_separator (source.class_of c))) (has_none source (d ∷ chars)) none in
+    let rest : has_none source (d ∷ chars) ≡ true = (and_parts (not (is_paragraph_separator (source.class_of c))) (has_none source (d ∷ chars)) none).1 in
     cond-false (is_paragraph_separator (source.class_of c)) _ _ (first_test (is_paragraph_separator (source.class_of c)) (has_none source (d ∷ chars)) none)
     ∙ ap (onto_first c) (one_piece source d chars rest)
 

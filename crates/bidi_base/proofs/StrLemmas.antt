@@ -1,6 +1,7 @@
 -- A text of UTF-8 as a list of characters: `chars bs`, with `len_utf8` for the lengths.
-use Rattle.std.proofs.Common.{◌≡◌, ℕ, ◌+◌, ◌-◌, ◌≤◌, Bool, true, false, ◌&&◌, List, [], ◌∷◌, ◌++◌, length, take, drop, Option, Some, None, option_map, slice_get, refl, sym, ◌∙◌, ap, arith, subst, length-append, length-take, length-drop, get_or, get_or-drop, ◌<◌, if◌then◌else◌, inl, inr}
+use Rattle.std.proofs.Common.{◌≡◌, ℕ, ◌+◌, ◌-◌, ◌≤◌, Bool, true, false, ◌&&◌, List, [], ◌∷◌, ◌++◌, length, take, drop, Option, Some, None, option_map, slice_get, refl, sym, ◌∙◌, ap, arith, subst, append-nil, length-append, length-take, length-drop, get_or, get_or-drop, ◌<◌, if◌then◌else◌, inl, inr}
 use Rattle.std.specs.Prelude.{slice_range}
+use Rattle.std.proofs.Math.Seq.{take-append_seam, drop-append_seam}
 use Rattle.std.specs.Char.{encode_utf8, len_utf8, is_ascii}
 use Rattle.std.specs.Str.{chars, IsUtf8, IsCharBoundary, encode_utf8_all, all_scalars}
 use Rattle.std.specs.Str.Iter.{char_indices_steps, char_indices_rest, char_indices_offset}
@@ -8,8 +9,8 @@ use Rattle.std.specs.declared.str.CharIndices.{CharIndices}
 use Rattle.std.specs.Iterator.{AlwaysYields}
 use Rattle.std.proofs.lemmas.List.{take-append-drop}
 use Rattle.std.proofs.lemmas.List.Sums.{sum_by-cons}
-use Rattle.std.proofs.lemmas.Str.{encodes-chars, encodes-append, chars-append, scalars-chars, length-encode, len_utf8_bounds, chars_past_char, chars-nil, IsUtf8-past_char, IsUtf8-take, IsUtf8-drop, IsCharBoundary-at_seam, IsCharBoundary-before_ascii, byte_from_char, char_from_byte}
-use Rattle.std.proofs.lemmas.Bool.{cases_Bool, cases_lt}
+use Rattle.std.proofs.lemmas.Str.{encodes-chars, encodes-append, chars-append, scalars-chars, length-encode, len_utf8_bounds, chars_past_char, chars-nil, IsUtf8-past_char, IsUtf8-take, IsUtf8-drop, IsCharBoundary-at_seam, IsCharBoundary-before_ascii, IsCharBoundary-from_take, byte_from_char, char_from_byte}
+use Rattle.std.proofs.lemmas.Bool.{cases_Bool, cases_lt, and_parts}
 use Rattle.std.proofs.lemmas.Bool.Decides.{nat_tests}
 use Rattle.std.proofs.lemmas.Iterator.{YieldsList}
 use Rattle.std.proofs.lemmas.Iterator.Splits.{YieldsList-from_shown_while}
@@ -27,6 +28,13 @@ text_len-encodes (c ∷ cs) = omega (arith, sum_by-cons len_utf8 c cs, text_len-
 pub text_len-chars : (bs : List ℕ) → IsUtf8 bs → text_len len_utf8 (chars bs) ≡ length bs
 text_len-chars bs u = text_len-encodes (chars bs) ∙ ap length (encodes-chars bs u)
 
+-- one more character
+pub chars-push : (text front : List ℕ) (c : ℕ) → IsUtf8 text → IsUtf8 front → text ≡ front ++ encode_utf8 c → chars text ≡ chars front ++ c ∷ []
+chars-push text front c u v e =
+    let back : drop (length front) text ≡ encode_utf8 c = ap (drop (length front)) e ∙ drop-append_seam front (encode_utf8 c) in
+    let w : IsUtf8 (encode_utf8 c) = subst IsUtf8 back (IsUtf8-drop text (length front) u (IsCharBoundary-from_take text (length front) u (omega (arith, ap length e, length-append front (encode_utf8 c))) (subst IsUtf8 (sym (ap (take (length front)) e ∙ take-append_seam front (encode_utf8 c))) v))) in
+    ap chars e ∙ chars-append front (encode_utf8 c) v ∙ ap (λ l. chars front ++ l) (chars_past_char (encode_utf8 c) [] c w (sym (append-nil (encode_utf8 c))) ∙ ap (λ l. c ∷ l) chars-nil)
+
 -- a text that is cut at a boundary is cut between two characters
 chars_cut : (bs : List ℕ) (i : ℕ) → IsUtf8 bs → IsCharBoundary bs i → chars bs ≡ chars (take i bs) ++ chars (drop i bs)
 chars_cut bs i u b = ap chars (sym (take-append-drop i bs)) ∙ chars-append (take i bs) (drop i bs) (IsUtf8-take bs i u b)
@@ -34,12 +42,9 @@ chars_cut bs i u b = ap chars (sym (take-append-drop i bs)) ∙ chars-append (ta
 text_len-front : (bs : List ℕ) (i : ℕ) → IsUtf8 bs → IsCharBoundary bs i → text_len len_utf8 (chars (take i bs)) ≡ i
 text_len-front bs i u b = omega (arith, text_len-chars (take i bs) (IsUtf8-take bs i u b), length-take i bs, b.0)
 
-and_right : (a b : Bool) → (a && b) ≡ true → b ≡ true
-and_right a b e = grind arith
-
 scalars_back : (xs ys : List ℕ) → all_scalars (xs ++ ys) ≡ true → all_scalars ys ≡ true
 scalars_back [] ys e = e
-scalars_back (x ∷ xs) ys e = scalars_back xs ys (and_right _ _ e)
+scalars_back (x ∷ xs) ys e = scalars_back xs ys (and_parts _ _ e).1
 
 pub IsCharBoundary-from_is_boundary : (bs : List ℕ) (i : ℕ) → IsUtf8 bs → is_boundary len_utf8 (chars bs) i ≡ true → IsCharBoundary bs i
 IsCharBoundary-from_is_boundary bs i u e =

@@ -7,14 +7,14 @@ use Rattle.std.proofs.lemmas.List.{map-append}
 use Rattle.bidi_base.specs.declared.char_data.BidiClass.{BidiClass}
 use Rattle.bidi_base.specs.declared.char_data.BidiClass.TheVariants.{L, R, EN, AN}
 use Rattle.bidi_base.specs.Classes.{as_direction, is_kept_in_place, is_l_or_r, is_neutral, is_weak_resolved, same_class, stands_for}
-use Rattle.bidi_base.specs.Neutral.{nearest_direction, n1_n2}
+use Rattle.bidi_base.specs.Neutral.{nearest_direction, n1_n2, n2_rule}
 use Rattle.bidi_base.specs.Places.{at_places, class_at}
 use Rattle.bidi_base.specs.Units.{in_runs}
 use Rattle.bidi_base.proofs.NeutralBlocks.{common}
 use Rattle.bidi_base.proofs.NeutralLemmas.{nearest_direction-more}
 use Rattle.bidi_base.proofs.NeutralStretches.{n1_n2-neutrals, n1_n2-directed, n1_n2-last}
 use Rattle.bidi_base.proofs.StoredLemmas.{at_places-append}
-use Rattle.bidi_rules.specs.JoinPass.{settled, side_before, Unjoined, IsJoined}
+use Rattle.bidi_rules.specs.JoinPass.{side_before, Unjoined, IsJoined}
 use Rattle.bidi_rules.specs.PairWalk.{opposite_of}
 use Rattle.bidi_rules.specs.WeakWalk.{is_seen, IsWrittenOver}
 use Rattle.bidi_rules.proofs.Marks.{marked, marked-parts, at_marked-same, at_marked-all}
@@ -49,17 +49,17 @@ sides_apart L = refl
 sides_apart R = refl
 sides_apart _ = refl
 
-settled-neutral : (e c : BidiClass) → is_neutral c ≡ true → settled e c ≡ e
+settled-neutral : (e c : BidiClass) → is_neutral c ≡ true → n2_rule e c ≡ e
 settled-neutral e c h = cond-true (is_neutral c) e c h
 
-settled-directed : (e c d : BidiClass) → as_direction c ≡ Some d → settled e c ≡ c
+settled-directed : (e c d : BidiClass) → as_direction c ≡ Some d → n2_rule e c ≡ c
 settled-directed e L d h = refl
 settled-directed e R d h = refl
 settled-directed e EN d h = refl
 settled-directed e AN d h = refl
 settled-directed e _ d h = absurd (cc h)
 
-settled-opposite : (e : BidiClass) → settled e (opposite_of e) ≡ opposite_of e
+pub settled-opposite : (e : BidiClass) → n2_rule e (opposite_of e) ≡ opposite_of e
 settled-opposite L = refl
 settled-opposite _ = refl
 
@@ -85,22 +85,22 @@ module _ (e eos : BidiClass) (side : is_l_or_r e ≡ true) where
   common_opposite : common e o o ≡ o
   common_opposite = cond-true (same_class o o) o e (same_opposite e)
 
-  map-settled : (cs : List BidiClass) → list_all is_neutral cs ≡ true → map (settled e) cs ≡ replicate (length cs) e
+  map-settled : (cs : List BidiClass) → list_all is_neutral cs ≡ true → map (n2_rule e) cs ≡ replicate (length cs) e
   map-settled [] h = refl
   map-settled (c ∷ cs) h =
       let parts = and_parts (is_neutral c) (list_all is_neutral cs) h in
-      ap (λ (x : BidiClass). x ∷ map (settled e) cs) (settled-neutral e c parts.0) ∙ ap (λ (xs : List BidiClass). e ∷ xs) (map-settled cs parts.1)
+      ap (λ (x : BidiClass). x ∷ map (n2_rule e) cs) (settled-neutral e c parts.0) ∙ ap (λ (xs : List BidiClass). e ∷ xs) (map-settled cs parts.1)
 
-  map-opposite : (n : ℕ) → map (settled e) (replicate n o) ≡ replicate n o
+  map-opposite : (n : ℕ) → map (n2_rule e) (replicate n o) ≡ replicate n o
   map-opposite zero = refl
-  map-opposite (suc n) = ap (λ (x : BidiClass). x ∷ map (settled e) (replicate n o)) (settled-opposite e) ∙ ap (λ (xs : List BidiClass). o ∷ xs) (map-opposite n)
+  map-opposite (suc n) = ap (λ (x : BidiClass). x ∷ map (n2_rule e) (replicate n o)) (settled-opposite e) ∙ ap (λ (xs : List BidiClass). o ∷ xs) (map-opposite n)
 
   twice : (b : Bool) → not b ≡ true → b ≡ false
   twice true h = cc
   twice false h = refl
 
   -- behind the embedding direction, up to the next class for the opposite one
-  quiet-rest : (cs rest : List BidiClass) → list_all is_quiet cs ≡ true → n1_n2 e e eos (cs ++ rest) ≡ map (settled e) cs ++ n1_n2 e e eos rest
+  quiet-rest : (cs rest : List BidiClass) → list_all is_quiet cs ≡ true → n1_n2 e e eos (cs ++ rest) ≡ map (n2_rule e) cs ++ n1_n2 e e eos rest
   quiet-rest [] rest h = refl
   quiet-rest (c ∷ cs) rest h =
       let parts = and_parts (is_quiet c) (list_all is_quiet cs) h in
@@ -111,24 +111,24 @@ module _ (e eos : BidiClass) (side : is_l_or_r e ≡ true) where
         | inl directed ↦
             n1_n2-directed e e e eos c (cs ++ rest) directed
             ∙ ap (λ (x : BidiClass). x ∷ tail) (sym (settled-directed e c e directed))
-            ∙ ap (λ (xs : List BidiClass). settled e c ∷ xs) more
+            ∙ ap (λ (xs : List BidiClass). n2_rule e c ∷ xs) more
         | inr neutral ↦
             n1_n2-neutrals e e eos (c ∷ []) (cs ++ rest) (and_from (is_neutral c) true neutral refl)
             ∙ ap (λ (x : BidiClass). x ∷ tail) (same_e (nearest_direction eos (cs ++ rest)) ∙ sym (settled-neutral e c neutral))
-            ∙ ap (λ (xs : List BidiClass). settled e c ∷ xs) more
+            ∙ ap (λ (xs : List BidiClass). n2_rule e c ∷ xs) more
       ]
 
   near : (d c : BidiClass) (rest : List BidiClass) → as_direction c ≡ Some d → nearest_direction eos (c ∷ rest) ≡ d
   near d c rest is = nearest_direction-more eos c rest ∙ ap (λ (p : Option BidiClass). unwrap_or p (nearest_direction eos rest)) is
 
   -- neutrals that waited, before the embedding direction
-  turned : (cs rest : List BidiClass) (c : BidiClass) → list_all is_neutral cs ≡ true → as_direction c ≡ Some e → n1_n2 e o eos (cs ++ c ∷ rest) ≡ map (settled e) cs ++ n1_n2 e e eos (c ∷ rest)
+  turned : (cs rest : List BidiClass) (c : BidiClass) → list_all is_neutral cs ≡ true → as_direction c ≡ Some e → n1_n2 e o eos (cs ++ c ∷ rest) ≡ map (n2_rule e) cs ++ n1_n2 e e eos (c ∷ rest)
   turned cs rest c h is =
       n1_n2-neutrals e o eos cs (c ∷ rest) h
       ∙ ap (λ (x : BidiClass). replicate (length cs) (common e o x) ++ n1_n2 e o eos (c ∷ rest)) (near e c rest is)
       ∙ ap (λ (x : BidiClass). replicate (length cs) x ++ n1_n2 e o eos (c ∷ rest)) common_apart
       ∙ ap (λ (xs : List BidiClass). xs ++ n1_n2 e o eos (c ∷ rest)) (sym (map-settled cs h))
-      ∙ ap (λ (xs : List BidiClass). map (settled e) cs ++ xs) (n1_n2-directed e o e eos c rest is ∙ sym (n1_n2-directed e e e eos c rest is))
+      ∙ ap (λ (xs : List BidiClass). map (n2_rule e) cs ++ xs) (n1_n2-directed e o e eos c rest is ∙ sym (n1_n2-directed e e e eos c rest is))
 
   -- neutrals between two of the opposite direction
   between_two : (cs rest : List BidiClass) (c : BidiClass) → list_all is_neutral cs ≡ true → as_direction c ≡ Some o → n1_n2 e o eos (cs ++ c ∷ rest) ≡ replicate (length cs) o ++ n1_n2 e o eos (c ∷ rest)
@@ -138,7 +138,7 @@ module _ (e eos : BidiClass) (side : is_l_or_r e ≡ true) where
       ∙ ap (λ (x : BidiClass). replicate (length cs) x ++ n1_n2 e o eos (c ∷ rest)) common_opposite
 
   -- a stretch of the opposite direction, whatever stands before it
-  stretch : (left : BidiClass) (c : BidiClass) (cs rest : List BidiClass) → list_all (stands_for o) (c ∷ cs) ≡ true → n1_n2 e left eos (c ∷ cs ++ rest) ≡ map (settled e) (c ∷ cs) ++ n1_n2 e o eos rest
+  stretch : (left : BidiClass) (c : BidiClass) (cs rest : List BidiClass) → list_all (stands_for o) (c ∷ cs) ≡ true → n1_n2 e left eos (c ∷ cs ++ rest) ≡ map (n2_rule e) (c ∷ cs) ++ n1_n2 e o eos rest
   stretch left c [] rest h =
       let is = opposite-directed e c (and_parts (stands_for o c) true h).0 in
       n1_n2-directed e left o eos c rest is ∙ ap (λ (x : BidiClass). x ∷ n1_n2 e o eos rest) (sym (settled-directed e c o is))
@@ -147,7 +147,7 @@ module _ (e eos : BidiClass) (side : is_l_or_r e ≡ true) where
       let is = opposite-directed e c parts.0 in
       n1_n2-directed e left o eos c (d ∷ cs ++ rest) is
       ∙ ap (λ (x : BidiClass). x ∷ n1_n2 e o eos (d ∷ cs ++ rest)) (sym (settled-directed e c o is))
-      ∙ ap (λ (xs : List BidiClass). settled e c ∷ xs) (stretch o d cs rest parts.1)
+      ∙ ap (λ (xs : List BidiClass). n2_rule e c ∷ xs) (stretch o d cs rest parts.1)
 
   -- what waits at the end
   last-waiting : (cs : List BidiClass) → list_all is_neutral cs ≡ true → n1_n2 e o eos cs ≡ replicate (length cs) (common e o eos)
@@ -175,6 +175,20 @@ length-at : (xs : List BidiClass) (us : List ℕ) → length (at_places L xs us)
 length-at xs [] = refl
 length-at xs (u ∷ us) = ap suc (length-at xs us)
 
+-- a unit keeps its class, or has one that was written over some units
+pub own-after : (mark : ℕ → Bool) (d : BidiClass) (from to : ℕ) (old now new : List BidiClass) → IsWrittenOver mark d from to now new → ((k : ℕ) → (class_at now k ≡ class_at old k) ⊎ (class_at now k ≡ d))
+    → (k : ℕ) → (class_at new k ≡ class_at old k) ⊎ (class_at new k ≡ d)
+own-after mark d from to old now new w own k = elim (cases_Bool (mark k)) [
+  | inr plain ↦ stays (w.failing k plain)
+  | inl seen ↦ elim (cases_lt k from) [
+    | inl low ↦ stays (w.below k low)
+    | inr high ↦ elim (cases_lt k to) [ inl within ↦ inr (w.inside k high within seen) | inr past ↦ stays (w.above k past) ]
+  ]
+]
+  where
+    stays : class_at new k ≡ class_at now k → (class_at new k ≡ class_at old k) ⊎ (class_at new k ≡ d)
+    stays e = elim (own k) [ inl same ↦ inl (e ∙ same) | inr is ↦ inr (e ∙ is) ]
+
 -- ---- the steps of the walk
 
 module _ (s : Unjoined) where
@@ -197,7 +211,7 @@ module _ (s : Unjoined) where
   rest_of waits low = n1_n2 e (side_before s waits) s.eos (at_old low size)
 
   abbrev done_with : List BidiClass → ℕ → List BidiClass
-  done_with now high = map (settled e) (at_places L now (marked mark 0 high))
+  done_with now high = map (n2_rule e) (at_places L now (marked mark 0 high))
 
   abbrev goal : List BidiClass
   goal = n1_n2 e s.sos s.eos (at_old 0 size)
@@ -205,22 +219,23 @@ module _ (s : Unjoined) where
   split : (xs : List BidiClass) (low mid high : ℕ) → low ≤ mid → mid ≤ high → at_places L xs (marked mark low high) ≡ at_places L xs (marked mark low mid) ++ at_places L xs (marked mark mid high)
   split xs low mid high a b = ap (at_places L xs) (marked-parts mark low mid high a b) ∙ at_places-append L xs (marked mark low mid) (marked mark mid high)
 
-  done-more : (now : List BidiClass) (done to : ℕ) → done ≤ to → done_with now to ≡ done_with now done ++ map (settled e) (at_places L now (marked mark done to))
-  done-more now done to a = ap (map (settled e)) (split now 0 done to (omega arith) a) ∙ map-append (settled e) (at_places L now (marked mark 0 done)) (at_places L now (marked mark done to))
+  done-more : (now : List BidiClass) (done to : ℕ) → done ≤ to → done_with now to ≡ done_with now done ++ map (n2_rule e) (at_places L now (marked mark done to))
+  done-more now done to a = ap (map (n2_rule e)) (split now 0 done to (omega arith) a) ∙ map-append (n2_rule e) (at_places L now (marked mark 0 done)) (at_places L now (marked mark done to))
 
   -- ---- a step that leaves the units of `now` from `done` on as they are, and reads those up to `to`
   read : (now : List BidiClass) (waits after : Bool) (done at to : ℕ) → done ≤ to → to ≤ size → IsJoined s now waits done at
-      → rest_of waits done ≡ map (settled e) (at_old done to) ++ rest_of after to → IsJoined s now after to to
+      → rest_of waits done ≡ map (n2_rule e) (at_old done to) ++ rest_of after to → IsJoined s now after to to
   read now waits after done at to a b j step = record {
     written =
         ap (λ (xs : List BidiClass). xs ++ rest_of after to) (done-more now done to a)
-        ∙ append_assoc (done_with now done) (map (settled e) (at_places L now (marked mark done to))) (rest_of after to)
-        ∙ ap (λ (xs : List BidiClass). done_with now done ++ (map (settled e) xs ++ rest_of after to)) (at_marked-same mark now s.old done to (λ k from below is. j.unwritten k from))
+        ∙ append_assoc (done_with now done) (map (n2_rule e) (at_places L now (marked mark done to))) (rest_of after to)
+        ∙ ap (λ (xs : List BidiClass). done_with now done ++ (map (n2_rule e) xs ++ rest_of after to)) (at_marked-same mark now s.old done to (λ k from below is. j.unwritten k from))
         ∙ ap (λ (xs : List BidiClass). done_with now done ++ xs) (sym step)
         ∙ j.written;
     waiting = λ k from below seen. absurd (omega arith);
     unwritten = λ k from. j.unwritten k (omega arith);
     unseen = j.unseen;
+    own = j.own;
     order = omega arith;
     long = j.long;
   }
@@ -234,6 +249,7 @@ module _ (s : Unjoined) where
         waiting = λ k from below is. elim (cases_lt k at) [ inl earlier ↦ j.waiting k from earlier is | inr later ↦ more k later below is ];
         unwritten = j.unwritten;
         unseen = j.unseen;
+        own = j.own;
         order = omega arith;
         long = j.long;
       }
@@ -276,7 +292,7 @@ module _ (s : Unjoined) where
       read now true false done at at j.order (omega arith) j
       (ap (n1_n2 e against s.eos) (split s.old done at size j.order (omega arith) ∙ ap (λ (xs : List BidiClass). at_old done at ++ xs) first)
       ∙ turned e s.eos s.side (at_old done at) (at_old (at + 1) size) (class_at s.old at) (waited now true done at j) is
-      ∙ ap (λ (xs : List BidiClass). map (settled e) (at_old done at) ++ n1_n2 e e s.eos xs) (sym first))
+      ∙ ap (λ (xs : List BidiClass). map (n2_rule e) (at_old done at) ++ n1_n2 e e s.eos xs) (sym first))
 
   -- the opposite direction comes, and is written to what waits
   pub IsJoined-settled : (now new : List BidiClass) (done at : ℕ) → at < size → in_runs s.runs at ≡ true → as_direction (class_at s.old at) ≡ Some against → IsWrittenOver mark against done at now new → IsJoined s now true done at
@@ -290,9 +306,9 @@ module _ (s : Unjoined) where
       record {
         written =
             ap (λ (xs : List BidiClass). xs ++ tail) (done-more new done at j.order)
-            ∙ append_assoc (done_with new done) (map (settled e) (at_places L new (marked mark done at))) tail
-            ∙ ap (λ (xs : List BidiClass). map (settled e) xs ++ (map (settled e) (at_places L new (marked mark done at)) ++ tail)) (at_marked-same mark new now 0 done (λ k from below seen. w.below k below))
-            ∙ ap (λ (xs : List BidiClass). done_with now done ++ (map (settled e) xs ++ tail)) there
+            ∙ append_assoc (done_with new done) (map (n2_rule e) (at_places L new (marked mark done at))) tail
+            ∙ ap (λ (xs : List BidiClass). map (n2_rule e) xs ++ (map (n2_rule e) (at_places L new (marked mark done at)) ++ tail)) (at_marked-same mark new now 0 done (λ k from below seen. w.below k below))
+            ∙ ap (λ (xs : List BidiClass). done_with now done ++ (map (n2_rule e) xs ++ tail)) there
             ∙ ap (λ (xs : List BidiClass). done_with now done ++ (xs ++ tail)) (map-opposite e s.eos s.side (length cs))
             ∙ ap (λ (xs : List BidiClass). done_with now done ++ xs)
             (ap (λ (xs : List BidiClass). row ++ n1_n2 e against s.eos xs) first
@@ -303,6 +319,7 @@ module _ (s : Unjoined) where
         waiting = λ k from below seen. absurd (omega arith);
         unwritten = λ k from. w.above k from ∙ j.unwritten k (let order = j.order in omega arith);
         unseen = λ k plain. w.failing k plain ∙ j.unseen k plain;
+        own = own-after mark against done at s.old now new w j.own;
         order = omega arith;
         long = w.long ∙ j.long;
       }
@@ -319,7 +336,7 @@ module _ (s : Unjoined) where
       (ap (n1_n2 e (side_before s waits) s.eos) (split s.old at to size (omega arith) fits ∙ ap (λ (xs : List BidiClass). xs ++ at_old to size) parts)
       ∙ stretch e s.eos s.side (side_before s waits) (class_at s.old at) (at_old (at + 1) to) (at_old to size)
       (ap (list_all (stands_for against)) (sym parts) ∙ at_marked-each mark (stands_for against) s.old at to (λ k from below is'. all k from below))
-      ∙ ap (λ (xs : List BidiClass). map (settled e) xs ++ rest_of true to) (sym parts))
+      ∙ ap (λ (xs : List BidiClass). map (n2_rule e) xs ++ rest_of true to) (sym parts))
 
   -- ---- the end
 
@@ -337,7 +354,7 @@ module _ (s : Unjoined) where
   finished-embedding now done is j =
       let cs = at_old done size in
       done-more now done size j.order
-      ∙ ap (λ (xs : List BidiClass). done_with now done ++ map (settled e) xs) (at_marked-same mark now s.old done size (λ k from below seen. j.unwritten k from))
+      ∙ ap (λ (xs : List BidiClass). done_with now done ++ map (n2_rule e) xs) (at_marked-same mark now s.old done size (λ k from below seen. j.unwritten k from))
       ∙ ap (λ (xs : List BidiClass). done_with now done ++ xs)
       (map-settled e s.eos s.side cs (waited now true done size j)
       ∙ sym (last-waiting e s.eos s.side cs (waited now true done size j) ∙ ap (λ (x : BidiClass). replicate (length cs) (common e against x)) is ∙ ap (replicate (length cs)) (common_apart e s.eos s.side)))
@@ -349,8 +366,8 @@ module _ (s : Unjoined) where
       let cs = at_old done size in
       let row = replicate (length cs) against in
       done-more new done size j.order
-      ∙ ap (λ (xs : List BidiClass). map (settled e) xs ++ map (settled e) (at_places L new (marked mark done size))) (at_marked-same mark new now 0 done (λ k from below seen. w.below k below))
-      ∙ ap (λ (xs : List BidiClass). done_with now done ++ map (settled e) xs)
+      ∙ ap (λ (xs : List BidiClass). map (n2_rule e) xs ++ map (n2_rule e) (at_places L new (marked mark done size))) (at_marked-same mark new now 0 done (λ k from below seen. w.below k below))
+      ∙ ap (λ (xs : List BidiClass). done_with now done ++ map (n2_rule e) xs)
       (at_marked-all mark new against done size (λ k from below seen. w.inside k from below seen) ∙ ap (λ n. replicate n against) (sym (length-at s.old (marked mark done size))))
       ∙ ap (λ (xs : List BidiClass). done_with now done ++ xs)
       (map-opposite e s.eos s.side (length cs)

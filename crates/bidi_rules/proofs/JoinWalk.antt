@@ -1,20 +1,20 @@
 -- The walk for N1 over the runs of a sequence.
-use Rattle.std.proofs.Common.{◌≡◌, ℕ, suc, ◌+◌, ◌<◌, ◌≤◌, Bool, true, false, ◌&&◌, List, length, map, get_or, drop, Option, Some, None, refl, sym, ap, subst, ◌∙◌, arith, add-one, inl, inr}
+use Rattle.std.proofs.Common.{◌≡◌, ℕ, suc, ◌+◌, ◌<◌, ◌≤◌, Bool, true, false, ◌&&◌, List, length, map, get_or, drop, Option, Some, None, refl, sym, ap, subst, ◌∙◌, arith, add-one, inl, inr, ◌⊎◌}
 use Rattle.std.specs.Option.{is_some}
 use Rattle.std.proofs.lemmas.Bool.{cases_Bool, both_ways, and_parts, and_from, and_left}
 use Rattle.bidi_base.specs.declared.char_data.BidiClass.{BidiClass}
 use Rattle.bidi_base.specs.declared.char_data.BidiClass.TheVariants.{L, R, EN, AN, BN}
 use Rattle.bidi_base.specs.Classes.{as_direction, has_direction, is_kept_in_place, is_l_or_r, stands_for}
-use Rattle.bidi_base.specs.Neutral.{n1_n2}
+use Rattle.bidi_base.specs.Neutral.{n1_n2, n2_rule}
 use Rattle.bidi_base.specs.Places.{at_places, class_at}
 use Rattle.bidi_base.specs.Units.{in_runs}
 use Rattle.bidi_base.proofs.NeutralStretches.{undirected-neutral}
-use Rattle.bidi_rules.specs.JoinPass.{settled, side_before, units_of, Unjoined, IsAtOpposite, IsJoined, IsUnderWay}
+use Rattle.bidi_rules.specs.JoinPass.{side_before, units_of, Unjoined, IsAtOpposite, IsJoined, IsUnderWay}
 use Rattle.bidi_rules.specs.PairWalk.{opposite_of}
 use Rattle.bidi_rules.specs.WeakWalk.{is_seen, IsWrittenOver}
 use Rattle.bidi_rules.specs.declared.implicit.neutral.directions.Join.{Join}
 use Rattle.bidi_rules.proofs.InRuns.{in_runs-at, in_runs-drop, start_or, gap_before, gap_after, next_start}
-use Rattle.bidi_rules.proofs.JoinScan.{opposite-directed, IsJoined-more, IsJoined-quiet, IsJoined-turned, IsJoined-settled, IsJoined-stretch, finished-quiet, finished-embedding, finished-opposite, at_marked-changed}
+use Rattle.bidi_rules.proofs.JoinScan.{opposite-directed, own-after, IsJoined-more, IsJoined-quiet, IsJoined-turned, IsJoined-settled, IsJoined-stretch, finished-quiet, finished-embedding, finished-opposite, at_marked-changed}
 use Rattle.bidi_rules.proofs.WrittenOver.{IsWrittenOver-same_test}
 
 undirected : (c : BidiClass) → has_direction c ≡ false → as_direction c ≡ None
@@ -139,6 +139,7 @@ module _ (s : Unjoined) where
       waiting = λ k from below seen. absurd (both_ways (is_seen s.runs s.old k) (and_left (in_runs s.runs k) (is_kept_in_place (class_at s.old k)) (gap_before 0 s.runs k size s.ordered below)) seen);
       unwritten = λ k from. refl;
       unseen = λ k plain. refl;
+      own = λ k. inl refl;
       order = omega arith;
       long = refl;
     };
@@ -147,10 +148,11 @@ module _ (s : Unjoined) where
 
   -- ---- behind the last run
 
-  -- the classes that N1 leaves, once what waits is settled by the direction at the end
+  -- the classes that N1 leaves for N2, once what waits is settled by the direction at the end
   pub record IsFinished (new : List BidiClass) : Type 0 where
-    pub answers : map (settled s.e) (at_places L new (units_of s 0 size)) ≡ n1_n2 s.e s.sos s.eos (at_places L s.old (units_of s 0 size))
+    pub answers : map (n2_rule s.e) (at_places L new (units_of s 0 size)) ≡ n1_n2 s.e s.sos s.eos (at_places L s.old (units_of s 0 size))
     pub unseen : (k : ℕ) → is_seen s.runs s.old k ≡ false → class_at new k ≡ class_at s.old k
+    pub own : (k : ℕ) → (class_at new k ≡ class_at s.old k) ⊎ (class_at new k ≡ opposite_of s.e)
 
   not-opposite : (e c : BidiClass) → is_l_or_r e ≡ true → is_l_or_r c ≡ true → stands_for (opposite_of e) c ≡ false → c ≡ e
   not-opposite L L a b h = refl
@@ -175,6 +177,7 @@ module _ (s : Unjoined) where
       | inr no' ↦ finished-quiet s now u.done (subst (λ (b : Bool). IsJoined s now b u.done size) no' u.joined)
     ];
     unseen = u.joined.unseen;
+    own = u.joined.own;
   }
 
   pub IsFinished-opposite : (now new : List BidiClass) (w : Join) → is_l_or_r s.eos ≡ true → stands_for (opposite_of s.e) s.eos ≡ true
@@ -190,26 +193,27 @@ module _ (s : Unjoined) where
         record {
           answers = finished-opposite s now new u.done (is-opposite s.e s.eos side is) over j;
           unseen = λ k plain. over.failing k plain ∙ j.unseen k plain;
+          own = own-after (is_seen s.runs s.old) (opposite_of s.e) u.done size s.old now new over j.own;
         }
     | inr no' ↦
         subst IsFinished (sym (idle no'))
-        (record { answers = finished-quiet s now u.done (subst (λ (b : Bool). IsJoined s now b u.done size) no' u.joined); unseen = u.joined.unseen })
+        (record { answers = finished-quiet s now u.done (subst (λ (b : Bool). IsJoined s now b u.done size) no' u.joined); unseen = u.joined.unseen; own = u.joined.own })
   ]
 
   -- N2 is done
-  pub IsFinished-settled : (now new : List BidiClass) → IsFinished now → ((u : ℕ) → in_runs s.runs u ≡ true → class_at new u ≡ settled s.e (class_at now u)) → at_places L new (units_of s 0 size) ≡ n1_n2 s.e s.sos s.eos (at_places L s.old (units_of s 0 size))
+  pub IsFinished-settled : (now new : List BidiClass) → IsFinished now → ((u : ℕ) → in_runs s.runs u ≡ true → class_at new u ≡ n2_rule s.e (class_at now u)) → at_places L new (units_of s 0 size) ≡ n1_n2 s.e s.sos s.eos (at_places L s.old (units_of s 0 size))
   IsFinished-settled now new f changed =
-      at_marked-changed (is_seen s.runs s.old) (settled s.e) new now 0 size (λ k a b seen. changed k (and_parts (in_runs s.runs k) (is_kept_in_place (class_at s.old k)) seen).0) ∙ f.answers
+      at_marked-changed (is_seen s.runs s.old) (n2_rule s.e) new now 0 size (λ k a b seen. changed k (and_parts (in_runs s.runs k) (is_kept_in_place (class_at s.old k)) seen).0) ∙ f.answers
 
-  removed_stays : (e c : BidiClass) → is_kept_in_place c ≡ false → settled e c ≡ c
+  removed_stays : (e c : BidiClass) → is_kept_in_place c ≡ false → n2_rule e c ≡ c
   removed_stays e BN h = refl
   removed_stays e _ h = absurd (cc h)
 
-  pub IsFinished-others : (now new : List BidiClass) → IsFinished now → ((u : ℕ) → in_runs s.runs u ≡ true → class_at new u ≡ settled s.e (class_at now u)) → ((u : ℕ) → in_runs s.runs u ≡ false → class_at new u ≡ class_at now u)
+  pub IsFinished-others : (now new : List BidiClass) → IsFinished now → ((u : ℕ) → in_runs s.runs u ≡ true → class_at new u ≡ n2_rule s.e (class_at now u)) → ((u : ℕ) → in_runs s.runs u ≡ false → class_at new u ≡ class_at now u)
       → (u : ℕ) → is_seen s.runs s.old u ≡ false → class_at new u ≡ class_at s.old u
   IsFinished-others now new f changed same u plain = elim (cases_Bool (in_runs s.runs u)) [
     | inl inside ↦
-        changed u inside ∙ ap (settled s.e) (f.unseen u plain)
+        changed u inside ∙ ap (n2_rule s.e) (f.unseen u plain)
         ∙ removed_stays s.e (class_at s.old u) (elim (cases_Bool (is_kept_in_place (class_at s.old u))) [
           | inl kept ↦ absurd (both_ways (is_seen s.runs s.old u) plain (and_from (in_runs s.runs u) (is_kept_in_place (class_at s.old u)) inside kept))
           | inr gone ↦ gone

@@ -17,6 +17,7 @@ pub mod NeutralScan
 pub mod NeutralSteps
 pub mod NeutralUnits
 pub mod OneDirection
+mod Settled
 pub mod PairPlaces
 pub mod PairSteps
 pub mod PassOverText

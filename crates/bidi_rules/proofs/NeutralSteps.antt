@@ -1,22 +1,23 @@
--- The steps of N0 to N2 over a sequence, one after the other.
-use Rattle.std.proofs.Common.{◌≡◌, ℕ, ◌+◌, ◌<◌, ◌≤◌, true, false, ◌&&◌, ltb, List, [], ◌∷◌, length, map, find, slice_get, Option, Some, None, refl, sym, ap, subst, ◌∙◌, arith}
+-- The steps of N0 and N1 over a sequence, one after the other.
+use Rattle.std.proofs.Common.{◌≡◌, ℕ, zero, suc, ◌+◌, ◌<◌, ◌≤◌, Bool, true, false, ◌&&◌, ltb, if◌then◌else◌, List, [], ◌∷◌, length, get_or, map, find, slice_get, Option, Some, None, refl, sym, ap, subst, ◌∙◌, arith, inl, inr, ◌⊎◌}
 use Rattle.std.specs.Prelude.{All}
 use Rattle.std.specs.List.{list_all}
 use Rattle.std.specs.declared.ops.Range.{Range}
-use Rattle.std.proofs.lemmas.Bool.{and_parts, and_left, and_right}
-use Rattle.std.proofs.lemmas.List.{nil_from_length}
+use Rattle.std.proofs.lemmas.Bool.{cases_Bool, cases_lt, cond-true, cond-false, and_parts, and_left, and_right}
+use Rattle.std.proofs.lemmas.List.{nil_from_length, length-map, get_or-map, get_or_past}
+use Rattle.std.proofs.lemmas.List.FromFn.{length-range_with_len, get_or-range_with_len}
 use Rattle.std.proofs.lemmas.List.Elements.{All-weaker}
 use Rattle.bidi_base.specs.declared.char_data.BidiClass.{BidiClass}
-use Rattle.bidi_base.specs.declared.char_data.BidiClass.TheVariants.{L, BN}
+use Rattle.bidi_base.specs.declared.char_data.BidiClass.TheVariants.{L, R, BN}
 use Rattle.bidi_base.specs.declared.data_source.BidiMatchedOpeningBracket.{BidiMatchedOpeningBracket}
 use Rattle.bidi_base.specs.Brackets.{bracket_pairs}
-use Rattle.bidi_base.specs.Classes.{is_l_or_r, is_kept_in_place, is_weak_resolved}
+use Rattle.bidi_base.specs.Classes.{is_l_or_r, is_kept_in_place, is_neutral, is_weak_resolved}
 use Rattle.bidi_base.specs.Levels.{direction_of}
-use Rattle.bidi_base.specs.Neutral.{n0, n1_rule, n1_n2, neutral_classes}
-use Rattle.bidi_base.specs.Places.{at_places, class_at, first_or}
+use Rattle.bidi_base.specs.Neutral.{n0, n1_rule, n1_n2, n2_rule, neutral_classes}
+use Rattle.bidi_base.specs.Places.{at_places, class_at, first_or, indexes}
 use Rattle.bidi_base.specs.Sequences.{level_at}
 use Rattle.bidi_base.specs.Source.{Source}
-use Rattle.bidi_base.specs.Text.{place, text_len, is_per_char, per_unit, IsLine}
+use Rattle.bidi_base.specs.Text.{place, text_len, is_per_char, per_unit, IsLine, IsPerChar}
 use Rattle.bidi_base.specs.Units.{bounds, are_ordered, in_runs, kept_in_place, units_in_runs, AreLines}
 use Rattle.bidi_base.proofs.NeutralLemmas.{n0-resolved}
 use Rattle.bidi_base.proofs.PermutationLemmas.{Ascends}
@@ -30,10 +31,13 @@ use Rattle.bidi_base.proofs.TextLemmas.{HasUnits, is_boundary-le}
 use Rattle.bidi_base.proofs.UnitsLemmas.{IsPerChar-from_is_per_char, is_per_char-from_IsPerChar, length-from_IsPerChar}
 use Rattle.bidi_rules.specs.declared.prepare.lent.LentSequence.{LentSequence}
 use Rattle.bidi_rules.specs.NeutralPass.{seen_units, values_of, pairs_in, IsPaired, IsReady}
+use Rattle.bidi_rules.specs.PairWalk.{opposite_of}
 use Rattle.bidi_rules.specs.RunSequence.{lent_runs, lent_sos, lent_eos}
 use Rattle.bidi_rules.specs.WeakWalk.{is_seen}
 use Rattle.bidi_rules.proofs.FirstKept.{first_kept-is, first-Some, first-None}
 use Rattle.bidi_rules.proofs.SeenUnits.{kept_in_place-alike, ruled-places, ruled-IsPerChar, seen-every}
+use Rattle.bidi_rules.proofs.JoinScan.{settled-opposite, at_marked-changed}
+use Rattle.bidi_rules.proofs.PassOverText.{IsPerChar-alike, alike_class, in_runs-alike}
 use Rattle.bidi_rules.proofs.Spots.{Ascends-within}
 use Rattle.bidi_rules.proofs.KeptRuns.{kept_in_place-Ascends}
 use Rattle.bidi_rules.proofs.WalkLemmas.{is_run_sequence-ordered}
@@ -95,6 +99,59 @@ module _ (len_of : ℕ → ℕ) (h : HasUnits len_of) (chars : List ℕ) (runs :
       no_places [] e = refl
       no_places (k ∷ ks) e = absurd (cc e)
 
+-- classes that are changed one by one, at some places
+abbrev at_marks : (ℕ → Bool) → (BidiClass → BidiClass) → List BidiClass → List BidiClass
+at_marks mark f cs = map (λ k. if mark k then f (class_at cs k) else class_at cs k) (indexes cs)
+
+length-at_marks : (mark : ℕ → Bool) (f : BidiClass → BidiClass) (cs : List BidiClass) → length (at_marks mark f cs) ≡ length cs
+length-at_marks mark f cs = length-map (indexes cs) (λ k. if mark k then f (class_at cs k) else class_at cs k) ∙ length-range_with_len 0 (length cs)
+
+at_marks-at : (mark : ℕ → Bool) (f : BidiClass → BidiClass) → f L ≡ L → (cs : List BidiClass) (k : ℕ) → class_at (at_marks mark f cs) k ≡ (if mark k then f (class_at cs k) else class_at cs k)
+at_marks-at mark f stays cs k = elim (cases_lt k (length cs)) [
+  | inl inside ↦
+      let there : k < length (indexes cs) = omega (arith, inside, length-range_with_len 0 (length cs)) in
+      let here : get_or (indexes cs) k 0 ≡ k = get_or-range_with_len 0 (length cs) k 0 inside ∙ (let same : 0 + k ≡ k = omega arith in same) in
+      get_or-map (λ k. if mark k then f (class_at cs k) else class_at cs k) (indexes cs) k 0 L there ∙ ap (λ j. if mark j then f (class_at cs j) else class_at cs j) here
+  | inr past ↦
+      let none : class_at cs k ≡ L = get_or_past cs k L past in
+      get_or_past (at_marks mark f cs) k L (omega (arith, past, length-at_marks mark f cs)) ∙ sym (ap (λ (c : BidiClass). if mark k then f c else c) none ∙ either (mark k))
+]
+  where
+    either : (b : Bool) → (if b then f L else L) ≡ L
+    either true = stays
+    either false = refl
+
+at_places-changed : (f : BidiClass → BidiClass) → f L ≡ L → (cs : List BidiClass) (ps : List ℕ) → at_places L (map f cs) ps ≡ map f (at_places L cs ps)
+at_places-changed f stays cs [] = refl
+at_places-changed f stays cs (p ∷ ps) = ap (λ (c : BidiClass). c ∷ at_places L (map f cs) ps) (at cs p) ∙ ap (λ (xs : List BidiClass). f (class_at cs p) ∷ xs) (at_places-changed f stays cs ps)
+  where
+    at : (xs : List BidiClass) (k : ℕ) → class_at (map f xs) k ≡ f (class_at xs k)
+    at [] k = sym stays
+    at (x ∷ xs) zero = refl
+    at (x ∷ xs) (suc k) = at xs k
+
+-- a class that N2 makes the opposite direction is that direction
+opposite-from : (e c : BidiClass) → is_l_or_r e ≡ true → n2_rule e c ≡ opposite_of e → c ≡ opposite_of e
+opposite-from e c side is = elim (cases_Bool (is_neutral c)) [
+  | inl neutral ↦ absurd (apart e side (sym (cond-true (is_neutral c) e c neutral) ∙ is))
+  | inr other ↦ sym (cond-false (is_neutral c) e c other) ∙ is
+]
+  where
+    apart : (e : BidiClass) → is_l_or_r e ≡ true → e ≡ opposite_of e → ⊥
+    apart L side is = cc is
+    apart R side is = cc is
+    apart _ side is = cc side
+
+-- two classes that were alike, and have become that direction or stay, are alike if N2 makes them so
+same_from : (e c d x y : BidiClass) → is_l_or_r e ≡ true → c ≡ d → (x ≡ c) ⊎ (x ≡ opposite_of e) → (y ≡ d) ⊎ (y ≡ opposite_of e) → n2_rule e x ≡ n2_rule e y → x ≡ y
+same_from e c d x y side same own other alike = elim own [
+  | inl stays ↦ elim other [
+    | inl stays' ↦ stays ∙ same ∙ sym stays'
+    | inr turned ↦ opposite-from e x side (alike ∙ ap (n2_rule e) turned ∙ settled-opposite e) ∙ sym turned
+  ]
+  | inr turned ↦ turned ∙ sym (opposite-from e y side (sym alike ∙ ap (n2_rule e) turned ∙ settled-opposite e))
+]
+
 -- and then N1 and N2
 pub length-resolved : (e sos eos : BidiClass) (source classes : List BidiClass) (pairs : List (ℕ × ℕ)) → length (n1_n2 e sos eos (n0 e sos source pairs classes)) ≡ length classes
 length-resolved e sos eos source classes pairs = length-in_context (n1_rule e sos eos) [] (n0 e sos source pairs classes) ∙ length-n0 e sos source pairs classes
@@ -111,12 +168,13 @@ neutral_classes-none level sos eos source brackets =
 
 -- ---- the end
 
--- the classes after the steps, over the units
-pub record IsResolved (len_of : ℕ → ℕ) (chars : List ℕ) (source : Source) (levels : List ℕ) (original old new : List BidiClass) (runs : List (Range ℕ)) (sos eos : BidiClass) : Type 0 where
+-- the classes after the steps, over the units: N2 alone is left
+pub record IsUpToN1 (len_of : ℕ → ℕ) (chars : List ℕ) (source : Source) (levels : List ℕ) (original old new : List BidiClass) (runs : List (Range ℕ)) (sos eos : BidiClass) : Type 0 where
   pub kept : let read = kept_in_place len_of chars old (map bounds runs) in
       let places = map (place len_of chars) read in
-      at_places L new places
-      ≡ neutral_classes (level_at levels (first_or 0 places)) sos eos (at_places L original places) (map source.bracket_of (at_places 0 chars read)) (at_places L old places)
+      let level = level_at levels (first_or 0 places) in
+      map (n2_rule (direction_of level)) (at_places L new places)
+      ≡ neutral_classes level sos eos (at_places L original places) (map source.bracket_of (at_places 0 chars read)) (at_places L old places)
   pub removed : (u : ℕ) → class_at old u ≡ BN → class_at new u ≡ BN
   pub outside : (u : ℕ) → in_runs (map bounds runs) u ≡ false → class_at new u ≡ class_at old u
   pub per_char : is_per_char class_eq len_of chars new ≡ true
@@ -148,8 +206,19 @@ module _ (len_of : ℕ → ℕ) (h : HasUnits len_of) (chars : List ℕ) (source
       ap (list_all is_weak_resolved) p.paired ∙ n0-resolved e sos sources (bracket_pairs classes (map source.bracket_of (at_places 0 chars read))) classes side ready.side ready.resolved in
       seen-every len_of h chars mid p.per_char rs ready.lines ready.ordered mid-within is_weak_resolved (ap (λ (ks : List ℕ). list_all is_weak_resolved (values_of L len_of chars mid ks)) same_read ∙ all) u seen
 
-  module _ (eos : BidiClass) (new : List BidiClass) (long : length new ≡ length mid) (directed : at_places L new (seen_units rs mid) ≡ n1_n2 e sos eos (at_places L mid (seen_units rs mid)))
-      (others : (u : ℕ) → is_seen rs mid u ≡ false → class_at new u ≡ class_at mid u) where
+  module _ (side : is_l_or_r e ≡ true) (eos : BidiClass) (new : List BidiClass) (long : length new ≡ length mid)
+      (joined : map (n2_rule e) (at_places L new (seen_units rs mid)) ≡ n1_n2 e sos eos (at_places L mid (seen_units rs mid)))
+      (others : (u : ℕ) → is_seen rs mid u ≡ false → class_at new u ≡ class_at mid u) (own : (u : ℕ) → (class_at new u ≡ class_at mid u) ⊎ (class_at new u ≡ opposite_of e)) where
+    -- with N2
+    abbrev settled : List BidiClass
+    settled = at_marks (is_seen rs mid) (n2_rule e) new
+
+    directed : at_places L settled (seen_units rs mid) ≡ n1_n2 e sos eos (at_places L mid (seen_units rs mid))
+    directed = at_marked-changed (is_seen rs mid) (n2_rule e) settled new 0 (length mid) (λ u from below seen. at_marks-at (is_seen rs mid) (n2_rule e) refl new u ∙ cond-true (is_seen rs mid u) (n2_rule e (class_at new u)) (class_at new u) seen) ∙ joined
+
+    settled-others : (u : ℕ) → is_seen rs mid u ≡ false → class_at settled u ≡ class_at mid u
+    settled-others u plain = at_marks-at (is_seen rs mid) (n2_rule e) refl new u ∙ cond-false (is_seen rs mid u) (n2_rule e (class_at new u)) (class_at new u) plain ∙ others u plain
+
     rule_keeps : (cs : List BidiClass) → length (n1_n2 e sos eos cs) ≡ length cs
     rule_keeps cs = length-in_context (n1_rule e sos eos) [] cs
 
@@ -159,39 +228,63 @@ module _ (len_of : ℕ → ℕ) (h : HasUnits len_of) (chars : List ℕ) (source
     unseen : (u : ℕ) → is_seen rs old u ≡ false → class_at new u ≡ class_at old u
     unseen u plain = others u (same_seen u ∙ plain) ∙ p.others u plain
 
-    -- N1 and N2 over the units then
-    pub IsResolved-paired : (levels : List ℕ) (first : ℕ) → Some first ≡ find (λ u. is_kept_in_place (class_at old u)) (units_in_runs rs) → e ≡ direction_of (level_at levels first) → IsResolved len_of chars source levels original old new runs sos eos
-    IsResolved-paired levels first found is =
+    settled-IsPerChar : IsPerChar len_of chars settled
+    settled-IsPerChar =
+        ruled-IsPerChar len_of h chars mid p.per_char rs ready.lines ready.ordered mid-within (n1_n2 e sos eos) rule_keeps rule_commutes settled directed (length-at_marks (is_seen rs mid) (n2_rule e) new ∙ long) settled-others
+
+    even : (k : ℕ) → k < length chars → (u : ℕ) → place len_of chars k ≤ u → u < place len_of chars (k + 1) → class_at new u ≡ class_at new (place len_of chars k)
+    even k fits u from below =
+        let first = place len_of chars k in
+        let same : class_at mid u ≡ class_at mid first = alike_class len_of h chars mid p.per_char k u fits from below in
+        let alike : is_seen rs mid u ≡ is_seen rs mid first =
+        ap (λ b. b && is_kept_in_place (class_at mid u)) (in_runs-alike len_of h chars rs ready.lines k u from below) ∙ ap (λ c. in_runs rs first && is_kept_in_place c) same in
+        elim (cases_Bool (is_seen rs mid first)) [
+          | inl here ↦
+              let answer = λ (v : ℕ) (seen : is_seen rs mid v ≡ true). at_marks-at (is_seen rs mid) (n2_rule e) refl new v ∙ cond-true (is_seen rs mid v) (n2_rule e (class_at new v)) (class_at new v) seen in
+              same_from e (class_at mid u) (class_at mid first) (class_at new u) (class_at new first) side same (own u) (own first)
+              (sym (answer u (alike ∙ here)) ∙ alike_class len_of h chars settled settled-IsPerChar k u fits from below ∙ answer first here)
+          | inr gone ↦ others u (alike ∙ gone) ∙ same ∙ sym (others first gone)
+        ]
+
+    -- N1 over the units then
+    pub IsUpToN1-paired : (levels : List ℕ) (first : ℕ) → Some first ≡ find (λ u. is_kept_in_place (class_at old u)) (units_in_runs rs) → e ≡ direction_of (level_at levels first) → IsUpToN1 len_of chars source levels original old new runs sos eos
+    IsUpToN1-paired levels first found is =
         let read = kept_in_place len_of chars old rs in
         let places = map (place len_of chars) read in
         let sources = values_of L len_of chars original read in
         let brackets = map source.bracket_of (at_places 0 chars read) in
         let classes = values_of L len_of chars old read in
-        let ruled : at_places L new places ≡ n1_n2 e sos eos (at_places L mid places) =
-        subst (λ (ks : List ℕ). at_places L new (map (place len_of chars) ks) ≡ n1_n2 e sos eos (at_places L mid (map (place len_of chars) ks))) same_read
-        (ruled-places len_of h chars mid p.per_char rs ready.lines ready.ordered mid-within (n1_n2 e sos eos) rule_keeps rule_commutes new directed) in
+        let everywhere = map (n2_rule e) new in
+        let ruled : at_places L everywhere places ≡ n1_n2 e sos eos (at_places L mid places) =
+        subst (λ (ks : List ℕ). at_places L everywhere (map (place len_of chars) ks) ≡ n1_n2 e sos eos (at_places L mid (map (place len_of chars) ks))) same_read
+        (ruled-places len_of h chars mid p.per_char rs ready.lines ready.ordered mid-within (n1_n2 e sos eos) rule_keeps rule_commutes everywhere
+        (at_places-changed (n2_rule e) refl new (seen_units rs mid) ∙ joined)) in
+        let level_is : direction_of (level_at levels (first_or 0 places)) ≡ e = ap (λ (u : ℕ). direction_of (level_at levels u)) (first-is len_of h chars runs sos old ready first found) ∙ sym is in
         record {
-          kept = ruled
+          kept = ap (λ (d : BidiClass). map (n2_rule d) (at_places L new places)) level_is
+              ∙ sym (at_places-changed (n2_rule e) refl new places)
+              ∙ ruled
               ∙ ap (n1_n2 e sos eos) p.paired
               ∙ neutral_classes-is e sos eos (level_at levels first) sources classes brackets is
               ∙ ap (λ u. neutral_classes (level_at levels u) sos eos sources brackets classes) (sym (first-is len_of h chars runs sos old ready first found));
           removed = λ u gone. unseen u (and_right (in_runs rs u) (is_kept_in_place (class_at old u)) (ap is_kept_in_place gone)) ∙ gone;
           outside = λ u out. unseen u (and_left (in_runs rs u) (is_kept_in_place (class_at old u)) out);
           per_char = is_per_char-from_IsPerChar class_eq class_test len_of chars new
-              (ruled-IsPerChar len_of h chars mid p.per_char rs ready.lines ready.ordered mid-within (n1_n2 e sos eos) rule_keeps rule_commutes new directed long others);
+              (IsPerChar-alike len_of chars new (long ∙ length-from_IsPerChar len_of chars mid p.per_char) even);
         }
 
 -- without a character that is read nothing is to be done
-pub IsResolved-none : (len_of : ℕ → ℕ) (h : HasUnits len_of) (chars : List ℕ) (source : Source) (levels : List ℕ) (original old : List BidiClass) (runs : List (Range ℕ)) (sos eos : BidiClass) → IsReady len_of chars runs sos old
-    → None ≡ find (λ u. is_kept_in_place (class_at old u)) (units_in_runs (map bounds runs)) → IsResolved len_of chars source levels original old old runs sos eos
-IsResolved-none len_of h chars source levels original old runs sos eos ready found =
+pub IsUpToN1-none : (len_of : ℕ → ℕ) (h : HasUnits len_of) (chars : List ℕ) (source : Source) (levels : List ℕ) (original old : List BidiClass) (runs : List (Range ℕ)) (sos eos : BidiClass) → IsReady len_of chars runs sos old
+    → None ≡ find (λ u. is_kept_in_place (class_at old u)) (units_in_runs (map bounds runs)) → IsUpToN1 len_of chars source levels original old old runs sos eos
+IsUpToN1-none len_of h chars source levels original old runs sos eos ready found =
     let none = none-read len_of h chars runs sos old ready found in
     record {
       kept = subst
           (λ (read : List ℕ).
           let places = map (place len_of chars) read in
-          at_places L old places
-          ≡ neutral_classes (level_at levels (first_or 0 places)) sos eos (at_places L original places) (map source.bracket_of (at_places 0 chars read)) (at_places L old places))
+          let level = level_at levels (first_or 0 places) in
+          map (n2_rule (direction_of level)) (at_places L old places)
+          ≡ neutral_classes level sos eos (at_places L original places) (map source.bracket_of (at_places 0 chars read)) (at_places L old places))
           (sym none) (sym (neutral_classes-none (level_at levels 0) sos eos [] []));
       removed = λ u is. is;
       outside = λ u out. refl;
@@ -199,8 +292,8 @@ IsResolved-none len_of h chars source levels original old runs sos eos ready fou
     }
 
 -- at the sequence itself
-pub IsResolved-sequence : (len_of : ℕ → ℕ) (chars : List ℕ) (source : Source) (levels : List ℕ) (original old new : List BidiClass) (sequence : LentSequence) (runs : List (Range ℕ)) (sos eos : BidiClass) → runs ≡ lent_runs sequence
-    → sos ≡ lent_sos sequence → eos ≡ lent_eos sequence → IsResolved len_of chars source levels original old new runs sos eos → IsResolved len_of chars source levels original old new (lent_runs sequence) (lent_sos sequence) (lent_eos sequence)
-IsResolved-sequence len_of chars source levels original old new sequence runs sos eos runs_are sos_is eos_is r =
-    subst (λ (rs : List (Range ℕ)). IsResolved len_of chars source levels original old new rs (lent_sos sequence) (lent_eos sequence)) runs_are
-    (subst (λ (s : BidiClass). IsResolved len_of chars source levels original old new runs s (lent_eos sequence)) sos_is (subst (IsResolved len_of chars source levels original old new runs sos) eos_is r))
+pub IsUpToN1-sequence : (len_of : ℕ → ℕ) (chars : List ℕ) (source : Source) (levels : List ℕ) (original old new : List BidiClass) (sequence : LentSequence) (runs : List (Range ℕ)) (sos eos : BidiClass) → runs ≡ lent_runs sequence
+    → sos ≡ lent_sos sequence → eos ≡ lent_eos sequence → IsUpToN1 len_of chars source levels original old new runs sos eos → IsUpToN1 len_of chars source levels original old new (lent_runs sequence) (lent_sos sequence) (lent_eos sequence)
+IsUpToN1-sequence len_of chars source levels original old new sequence runs sos eos runs_are sos_is eos_is r =
+    subst (λ (rs : List (Range ℕ)). IsUpToN1 len_of chars source levels original old new rs (lent_sos sequence) (lent_eos sequence)) runs_are
+    (subst (λ (s : BidiClass). IsUpToN1 len_of chars source levels original old new runs s (lent_eos sequence)) sos_is (subst (IsUpToN1 len_of chars source levels original old new runs sos) eos_is r))

@@ -1,17 +1,18 @@
--- A sequence in which each class is a neutral or one direction, which stands at its ends too: that direction is written to all.
+-- A sequence in which each class is a neutral or one direction, which stands at its ends too: N2 alone is left.
 use Rattle.std.proofs.Common.{◌≡◌, ℕ, ◌+◌, ◌<◌, ◌≤◌, Bool, true, false, ◌&&◌, List, [], ◌∷◌, length, map, find, Option, Some, refl, sym, ap, subst, ◌∙◌, arith, inl, inr}
 use Rattle.std.specs.Prelude.{filter, All}
 use Rattle.std.specs.List.{list_all}
 use Rattle.std.specs.declared.ops.Range.{Range}
 use Rattle.std.proofs.lemmas.Bool.{cases_Bool, and_parts, and_from, and_left, and_right, cond-true, cond-false}
+use Rattle.std.proofs.lemmas.List.{length-map}
 use Rattle.std.proofs.lemmas.List.Elements.{All-head, All-tail, All-nil, All-cons, All-map}
 use Rattle.bidi_base.specs.declared.char_data.BidiClass.{BidiClass}
 use Rattle.bidi_base.specs.declared.char_data.BidiClass.TheVariants.{L, R, EN, AN}
 use Rattle.bidi_base.specs.declared.data_source.BidiMatchedOpeningBracket.{BidiMatchedOpeningBracket}
 use Rattle.bidi_base.specs.Brackets.{bracket_pairs}
-use Rattle.bidi_base.specs.Classes.{is_l_or_r, is_kept_in_place, is_weak_resolved, same_class}
+use Rattle.bidi_base.specs.Classes.{is_l_or_r, is_kept_in_place, is_neutral, is_weak_resolved, same_class}
 use Rattle.bidi_base.specs.Levels.{direction_of}
-use Rattle.bidi_base.specs.Neutral.{neutral_classes}
+use Rattle.bidi_base.specs.Neutral.{n2_rule, neutral_classes}
 use Rattle.bidi_base.specs.Places.{at_places, class_at, first_or}
 use Rattle.bidi_base.specs.Sequences.{level_at}
 use Rattle.bidi_base.specs.Source.{Source}
@@ -24,7 +25,7 @@ use Rattle.bidi_base.proofs.UnitsLemmas.{is_per_char-from_IsPerChar, length-from
 use Rattle.bidi_rules.specs.NeutralPass.{turns_from, values_of, IsReady}
 use Rattle.bidi_rules.specs.WeakWalk.{is_seen, IsWrittenOver}
 use Rattle.bidi_rules.proofs.Spots.{length-values_of}
-use Rattle.bidi_rules.proofs.NeutralSteps.{IsResolved, first-is, length-resolved, neutral_classes-is}
+use Rattle.bidi_rules.proofs.NeutralSteps.{IsUpToN1, first-is, length-resolved, neutral_classes-is}
 use Rattle.bidi_rules.proofs.NeutralUnits.{places_in_runs}
 use Rattle.bidi_rules.proofs.PassOverText.{IsPerChar-alike, alike_class, in_runs-alike, in_runs-within}
 
@@ -51,12 +52,17 @@ module _ (e : BidiClass) (side : is_l_or_r e ≡ true) where
         (goes_with-from e (class_at units p) side parts.0 (All-head (λ u. turns_from e (class_at units u) ≡ false) p ps a))
         (all_go ps parts.1 (All-tail (λ u. turns_from e (class_at units u) ≡ false) p ps a))
 
-    all_same : (ps : List ℕ) → All (λ u. class_at units u ≡ e) ps → list_all (same_class e) (at_places L units ps) ≡ true
-    all_same [] a = refl
-    all_same (p ∷ ps) a =
-        and_from (same_class e (class_at units p)) (list_all (same_class e) (at_places L units ps))
-        (ap (same_class e) (All-head (λ u. class_at units u ≡ e) p ps a) ∙ itself e side)
-        (all_same ps (All-tail (λ u. class_at units u ≡ e) p ps a))
+  -- N2 gives the direction to all
+  taken : (e c : BidiClass) → goes_with e c ≡ true → n2_rule e c ≡ e
+  taken L L goes = refl
+  taken R R goes = refl
+  taken e c goes = cond-true (is_neutral c) e c goes
+
+  all_same : (cs : List BidiClass) → list_all (goes_with e) cs ≡ true → list_all (same_class e) (map (n2_rule e) cs) ≡ true
+  all_same [] h = refl
+  all_same (c ∷ cs) h =
+      let parts = and_parts (goes_with e c) (list_all (goes_with e) cs) h in
+      and_from (same_class e (n2_rule e c)) (list_all (same_class e) (map (n2_rule e) cs)) (ap (same_class e) (taken e c parts.0) ∙ itself e side) (all_same cs parts.1)
 
 -- what holds of each character that is read
 read_each : (test within : ℕ → Bool) (P : ℕ → Type 0) → ((k : ℕ) → within k ≡ true → test k ≡ true → P k) → (ks : List ℕ) → All (λ k. within k ≡ true) ks → All P (filter test ks)
@@ -84,45 +90,29 @@ module _ (len_of : ℕ → ℕ) (h : HasUnits len_of) (chars : List ℕ) (runs :
   size = length-from_IsPerChar len_of chars old ready.per_char
 
   -- a property of the units at which a character is read
-  at_read : (P : ℕ → Type 0) → ((u : ℕ) → in_runs rs u ≡ true → is_kept_in_place (class_at old u) ≡ true → P u) → All P places
+  pub at_read : (P : ℕ → Type 0) → ((u : ℕ) → in_runs rs u ≡ true → is_kept_in_place (class_at old u) ≡ true → P u) → All P places
   unfolding kept_in_place
   at_read P holds =
       All-map P (place len_of chars) read
       (read_each (λ k. is_kept_in_place (class_at old (place len_of chars k))) (λ k. in_runs rs (place len_of chars k)) (λ k. P (place len_of chars k))
       (λ k inside reads. holds (place len_of chars k) inside reads) (chars_in_runs len_of chars rs) (places_in_runs len_of h chars rs ready.lines))
 
-  module _ (e : BidiClass) (side : is_l_or_r e ≡ true) (keeps : (u : ℕ) → in_runs rs u ≡ true → turns_from e (class_at old u) ≡ false) (new : List BidiClass)
-      (w : IsWrittenOver (is_seen rs old) e 0 (length old) old new) where
-    written : (u : ℕ) → is_seen rs old u ≡ true → class_at new u ≡ e
-    written u seen = w.inside u (omega arith) (omega (arith, size, in_runs-within len_of h chars rs ready.lines u (and_parts (in_runs rs u) (is_kept_in_place (class_at old u)) seen).0)) seen
-
-    kept-one : (level : ℕ) (source : List BidiClass) (brackets : List (Option BidiMatchedOpeningBracket)) → e ≡ direction_of level → at_places L new places ≡ neutral_classes level e e source brackets (at_places L old places)
+  -- N0 and N1 have nothing to do
+  module _ (e : BidiClass) (side : is_l_or_r e ≡ true) (keeps : (u : ℕ) → in_runs rs u ≡ true → turns_from e (class_at old u) ≡ false) where
+    kept-one : (level : ℕ) (source : List BidiClass) (brackets : List (Option BidiMatchedOpeningBracket)) → e ≡ direction_of level
+        → map (n2_rule (direction_of level)) (at_places L old places) ≡ neutral_classes level e e source brackets (at_places L old places)
     kept-one level source brackets is =
         let classes = values_of L len_of chars old read in
-        same_lists e side (at_places L new places) (neutral_classes level e e source brackets classes)
-        (all_same e side new places (at_read (λ u. class_at new u ≡ e) (λ u inside reads. written u (and_from (in_runs rs u) (is_kept_in_place (class_at old u)) inside reads))))
-        (neutral_classes-one e side level source brackets classes is (all_go e side old places ready.resolved (at_read (λ u. turns_from e (class_at old u) ≡ false) (λ u inside reads. keeps u inside))))
-        (length-values_of len_of chars L new read
-        ∙ sym (ap length (sym (neutral_classes-is e e e level source classes brackets is)) ∙ length-resolved e e e source classes (bracket_pairs classes brackets) ∙ length-values_of len_of chars L old read))
+        let all = all_go e side old places ready.resolved (at_read (λ u. turns_from e (class_at old u) ≡ false) (λ u inside reads. keeps u inside)) in
+        ap (λ (d : BidiClass). map (n2_rule d) classes) (sym is)
+        ∙ same_lists e side (map (n2_rule e) classes) (neutral_classes level e e source brackets classes)
+        (all_same e side classes all)
+        (neutral_classes-one e side level source brackets classes is all)
+        (length-map classes (n2_rule e) ∙ sym (ap length (sym (neutral_classes-is e e e level source classes brackets is)) ∙ length-resolved e e e source classes (bracket_pairs classes brackets)))
 
-    even : (k : ℕ) → k < length chars → (u : ℕ) → place len_of chars k ≤ u → u < place len_of chars (k + 1) → class_at new u ≡ class_at new (place len_of chars k)
-    even k fits u from below =
-        let first = place len_of chars k in
-        let same : class_at old u ≡ class_at old first = alike_class len_of h chars old ready.per_char k u fits from below in
-        let alike : is_seen rs old u ≡ is_seen rs old first =
-        ap (λ b. b && is_kept_in_place (class_at old u)) (in_runs-alike len_of h chars rs ready.lines k u from below) ∙ ap (λ c. in_runs rs first && is_kept_in_place c) same in
-        elim (cases_Bool (is_seen rs old first)) [
-          | inl here ↦ written u (alike ∙ here) ∙ sym (written first here)
-          | inr gone ↦ w.failing u (alike ∙ gone) ∙ same ∙ sym (w.failing first gone)
-        ]
-
-    IsPerChar-one : IsPerChar len_of chars new
-    IsPerChar-one = IsPerChar-alike len_of chars new (w.long ∙ size) even
-
-    -- the steps have given the direction to all
-    pub IsResolved-one : (source : Source) (levels : List ℕ) (original : List BidiClass) (eos : BidiClass) (first : ℕ) → sos ≡ e → eos ≡ e → Some first ≡ find (λ u. is_kept_in_place (class_at old u)) (units_in_runs rs)
-        → e ≡ direction_of (level_at levels first) → IsResolved len_of chars source levels original old new runs sos eos
-    IsResolved-one source levels original eos first sos_is eos_is found is =
+    pub IsUpToN1-one : (source : Source) (levels : List ℕ) (original : List BidiClass) (eos : BidiClass) (first : ℕ) → sos ≡ e → eos ≡ e → Some first ≡ find (λ u. is_kept_in_place (class_at old u)) (units_in_runs rs)
+        → e ≡ direction_of (level_at levels first) → IsUpToN1 len_of chars source levels original old old runs sos eos
+    IsUpToN1-one source levels original eos first sos_is eos_is found is =
         let at : first_or 0 places ≡ first = first-is len_of h chars runs sos old ready first found in
         let brackets = map source.bracket_of (at_places 0 chars read) in
         let sources = at_places L original places in
@@ -130,7 +120,7 @@ module _ (len_of : ℕ → ℕ) (h : HasUnits len_of) (chars : List ℕ) (runs :
           kept = kept-one (level_at levels (first_or 0 places)) sources brackets (is ∙ ap (λ (u : ℕ). direction_of (level_at levels u)) (sym at))
               ∙ ap (λ (s : BidiClass). neutral_classes (level_at levels (first_or 0 places)) s e sources brackets (at_places L old places)) (sym sos_is)
               ∙ ap (λ (s : BidiClass). neutral_classes (level_at levels (first_or 0 places)) sos s sources brackets (at_places L old places)) (sym eos_is);
-          removed = λ u gone. w.failing u (and_right (in_runs rs u) (is_kept_in_place (class_at old u)) (ap is_kept_in_place gone)) ∙ gone;
-          outside = λ u out. w.failing u (and_left (in_runs rs u) (is_kept_in_place (class_at old u)) out);
-          per_char = is_per_char-from_IsPerChar class_eq class_test len_of chars new IsPerChar-one;
+          removed = λ u gone. gone;
+          outside = λ u out. refl;
+          per_char = is_per_char-from_IsPerChar class_eq class_test len_of chars old ready.per_char;
         }

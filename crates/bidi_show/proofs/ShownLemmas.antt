@@ -61,13 +61,6 @@ module _ (source : Source) (front : List ℕ) (c : ℕ) where
   pub without_separator-other : is_paragraph_separator (source.class_of c) ≡ false → without_separator source (front ++ c ∷ []) ≡ front ++ c ∷ []
   without_separator-other closes = rw (ends_with_separator-last source front c, closes)
 
--- the characters of a text of which the last one was read
-pub chars-last : (text front : List ℕ) (c : ℕ) → IsUtf8 text → IsUtf8 front → text ≡ front ++ encode_utf8 c → chars text ≡ chars front ++ c ∷ []
-chars-last text front c u v e =
-    let back : drop (length front) text ≡ encode_utf8 c = ap (drop (length front)) e ∙ drop-append_seam front (encode_utf8 c) in
-    let w : IsUtf8 (encode_utf8 c) = subst IsUtf8 back (IsUtf8-drop text (length front) u (IsCharBoundary-from_take text (length front) u (omega (arith, ap length e, length-append front (encode_utf8 c))) (subst IsUtf8 (sym (ap (take (length front)) e ∙ take-append_seam front (encode_utf8 c))) v))) in
-    ap chars e ∙ chars-append front (encode_utf8 c) v ∙ ap (λ l. chars front ++ l) (chars_past_char (encode_utf8 c) [] c w (sym (append-nil (encode_utf8 c))) ∙ ap (λ l. c ∷ l) chars-nil)
-
 -- it is a front of the paragraph
 pub record IsFront (source : Source) (piece : List ℕ) : Type 0 where
   pub many : ℕ

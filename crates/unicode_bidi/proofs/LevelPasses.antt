@@ -14,7 +14,8 @@ use Rattle.bidi_base.specs.Isolates.{stored_classes}
 use Rattle.bidi_base.specs.Explicit.{explicit_levels, explicit_classes, processing_classes}
 use Rattle.bidi_base.specs.Sequences.{RunSequence, level_at, has_places, sequences}
 use Rattle.bidi_base.specs.Weak.{weak_classes}
-use Rattle.bidi_base.specs.Neutral.{neutral_classes}
+use Rattle.bidi_base.specs.Levels.{direction_of}
+use Rattle.bidi_base.specs.Neutral.{n2_rule, neutral_classes}
 use Rattle.bidi_base.specs.Implicit.{implicit_level}
 use Rattle.bidi_base.specs.Stored.{AreResolved}
 use Rattle.bidi_base.specs.Text.{text_len, place, is_per_char, per_unit, per_char}
@@ -158,7 +159,8 @@ module _ (len_of : ℕ → ℕ) (h : HasUnits len_of) (chars : List ℕ) (source
 
     -- N0 to N2
     pub AreResolvedTo-more : (old new original : List BidiClass) (unit_levels : List ℕ) → original ≡ per_unit len_of chars stored → unit_levels ≡ per_unit len_of chars levels → AreWeakTo seqs s old
-        → at_places L new (map (place len_of chars) (kept_in_place len_of chars old runs)) ≡ neutral_classes (level_at unit_levels (first_or 0 (map (place len_of chars) (kept_in_place len_of chars old runs)))) s.sos s.eos
+        → map (n2_rule (direction_of (level_at unit_levels (first_or 0 (map (place len_of chars) (kept_in_place len_of chars old runs)))))) (at_places L new (map (place len_of chars) (kept_in_place len_of chars old runs)))
+        ≡ neutral_classes (level_at unit_levels (first_or 0 (map (place len_of chars) (kept_in_place len_of chars old runs)))) s.sos s.eos
         (at_places L original (map (place len_of chars) (kept_in_place len_of chars old runs))) (map bracket_of (at_places 0 chars (kept_in_place len_of chars old runs))) (at_places L old (map (place len_of chars) (kept_in_place len_of chars old runs)))
         → ((u : ℕ) → class_at old u ≡ BN → class_at new u ≡ BN) → ((u : ℕ) → in_runs runs u ≡ false → class_at new u ≡ class_at old u) → is_per_char class_eq len_of chars new ≡ true
         → AreResolvedTo (seqs ++ members s ∷ []) new
@@ -172,12 +174,14 @@ module _ (len_of : ℕ → ℕ) (h : HasUnits len_of) (chars : List ℕ) (source
         let inside = kept_in_runs-within len_of h chars stored runs in
         let level = level_at levels (first_or 0 ps) in
         let own = at_places L now.values ps in
-        let answer : at_places L values ps ≡ neutral_classes level s.sos s.eos (at_places L source ps) (at_places None brackets ps) own =
-        sym (at_places-place len_of h chars L values new ps new_long is inside)
-        ∙ subst (λ (rs : List ℕ). at_places L new (map (place len_of chars) rs) ≡ neutral_classes (level_at unit_levels (first_or 0 (map (place len_of chars) rs))) s.sos s.eos
+        let level_is = level_at-first len_of h chars levels unit_levels ps (length-explicit_levels paragraph stored ∙ stored_long) levels_is inside in
+        let answer : map (n2_rule (direction_of level)) (at_places L values ps) ≡ neutral_classes level s.sos s.eos (at_places L source ps) (at_places None brackets ps) own =
+        ap (map (n2_rule (direction_of level))) (sym (at_places-place len_of h chars L values new ps new_long is inside))
+        ∙ ap (λ (n : ℕ). map (n2_rule (direction_of n)) (at_places L new (map (place len_of chars) ps))) (sym level_is)
+        ∙ subst (λ (rs : List ℕ). map (n2_rule (direction_of (level_at unit_levels (first_or 0 (map (place len_of chars) rs))))) (at_places L new (map (place len_of chars) rs)) ≡ neutral_classes (level_at unit_levels (first_or 0 (map (place len_of chars) rs))) s.sos s.eos
         (at_places L original (map (place len_of chars) rs)) (map bracket_of (at_places 0 chars rs)) (at_places L old (map (place len_of chars) rs))) read kept
         ∙ ap (λ n. neutral_classes n s.sos s.eos (at_places L original (map (place len_of chars) ps)) (map bracket_of (at_places 0 chars ps)) (at_places L old (map (place len_of chars) ps)))
-        (level_at-first len_of h chars levels unit_levels ps (length-explicit_levels paragraph stored ∙ stored_long) levels_is inside)
+        level_is
         ∙ ap (λ (cs : List BidiClass). neutral_classes level s.sos s.eos cs (map bracket_of (at_places 0 chars ps)) (at_places L old (map (place len_of chars) ps))) (at_places-place len_of h chars L stored original ps stored_long original_is inside)
         ∙ neutral_classes-source (at_places L stored ps) (at_places L source ps) (marks-stored_classes source ps) level s.sos s.eos (map bracket_of (at_places 0 chars ps)) (at_places L old (map (place len_of chars) ps))
         ∙ ap (λ (bs : List (Option BidiMatchedOpeningBracket)). neutral_classes level s.sos s.eos (at_places L source ps) bs (at_places L old (map (place len_of chars) ps))) (at_places-map bracket_of None chars ps inside)

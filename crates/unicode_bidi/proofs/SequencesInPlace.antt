@@ -1,20 +1,21 @@
 -- The sequences of a paragraph, resolved in place one after another: what the classes of its characters say once some of them are.
-use Rattle.std.proofs.Common.{◌≡◌, ℕ, zero, suc, ◌+◌, ◌<◌, Bool, true, false, not, cond, eqb, lt-ltb, List, [], ◌∷◌, ◌++◌, length, get_or, take, append-nil, Option, None, refl, sym, ap, subst, ◌∙◌, arith, inl, inr}
-use Rattle.std.specs.Prelude.{filter, nat_lt}
+use Rattle.std.proofs.Common.{◌≡◌, ℕ, zero, suc, ◌+◌, ◌<◌, Bool, true, false, not, cond, eqb, lt-ltb, List, [], ◌∷◌, ◌++◌, length, map, get_or, take, append-nil, Option, None, refl, sym, ap, subst, ◌∙◌, arith, inl, inr}
+use Rattle.std.specs.Prelude.{filter, nat_lt, if◌then◌else◌}
 use Rattle.std.specs.List.{list_all}
 use Rattle.std.proofs.lemmas.Bool.{cases_Bool, cases_eq, cond-true, cond-false, cond_both, both_ways, and_parts, and_from, not-true}
 use Rattle.std.proofs.lemmas.Grind.{flat_map-append}
 use Rattle.std.proofs.lemmas.List.Sums.{sum_by-append, count_by-le-length}
 use Rattle.bidi_base.specs.declared.char_data.BidiClass.{BidiClass}
-use Rattle.bidi_base.specs.declared.char_data.BidiClass.TheVariants.{L, BN}
+use Rattle.bidi_base.specs.declared.char_data.BidiClass.TheVariants.{L, R, EN, AN, BN}
 use Rattle.bidi_base.specs.declared.data_source.BidiMatchedOpeningBracket.{BidiMatchedOpeningBracket}
-use Rattle.bidi_base.specs.Classes.{has_direction, is_kept, is_l_or_r, is_kept_in_place, is_removed, is_weak_resolved}
+use Rattle.bidi_base.specs.Classes.{has_direction, is_kept, is_l_or_r, is_kept_in_place, is_neutral, is_removed, is_weak_resolved}
 use Rattle.bidi_base.specs.Places.{class_at, at_places, first_or}
 use Rattle.bidi_base.specs.Explicit.{explicit_class, explicit_levels, explicit_classes, processing_class, processing_classes}
 use Rattle.bidi_base.specs.Sequences.{RunSequence, is_kept_at, level_at, has_places, sequences}
 use Rattle.bidi_base.specs.Weak.{weak_classes}
-use Rattle.bidi_base.specs.Neutral.{neutral_classes}
-use Rattle.bidi_base.specs.Implicit.{implicit_level, implicit_levels}
+use Rattle.bidi_base.specs.Levels.{is_odd, direction_of}
+use Rattle.bidi_base.specs.Neutral.{n2_rule, neutral_classes}
+use Rattle.bidi_base.specs.Implicit.{added_at_odd, added_at_even, implicit_level, implicit_levels}
 use Rattle.bidi_base.specs.Stored.{resolved_levels, AreResolved}
 use Rattle.bidi_base.proofs.ExplicitLemmas.{class_at-explicit_classes, class_at-processing_classes, length-processing_classes}
 use Rattle.bidi_base.proofs.MatchLevelsLemmas.{sequence-one_level}
@@ -27,9 +28,9 @@ is_kept_in_place-kept : (c : BidiClass) → is_kept c ≡ true → is_kept_in_pl
 is_kept_in_place-kept BN h = absurd (cc h)
 is_kept_in_place-kept _ h = refl
 
-is_kept_in_place-directed : (c : BidiClass) → has_direction c ≡ true → is_kept_in_place c ≡ true
-is_kept_in_place-directed BN h = absurd (cc h)
-is_kept_in_place-directed _ h = refl
+is_kept_in_place-directed : (e c : BidiClass) → has_direction (n2_rule e c) ≡ true → is_kept_in_place c ≡ true
+is_kept_in_place-directed e BN h = absurd (cc h)
+is_kept_in_place-directed e _ h = refl
 
 is_kept_in_place-resolved : (c : BidiClass) → is_weak_resolved c ≡ true → is_kept_in_place c ≡ true
 is_kept_in_place-resolved BN h = absurd (cc h)
@@ -41,20 +42,24 @@ module _ (source : List BidiClass) (brackets : List (Option BidiMatchedOpeningBr
   resolved_classes s =
       neutral_classes (level_at levels (first_or 0 s.places)) s.sos s.eos (at_places L source s.places) (at_places None brackets s.places) (weak_classes s.sos (at_places L classes s.places))
 
-  -- they stand at the places of each of some sequences
+  -- the direction of a sequence
+  abbrev own_direction : RunSequence → BidiClass
+  own_direction s = direction_of (level_at levels (first_or 0 s.places))
+
+  -- they stand at the places of each of some sequences, but for N2
   abbrev pub AreNeutral : List BidiClass → List RunSequence → Type 0
   AreNeutral now [] = Unit {0}
-  AreNeutral now (s ∷ seqs) = (at_places L now s.places ≡ resolved_classes s) × AreNeutral now seqs
+  AreNeutral now (s ∷ seqs) = (map (n2_rule (own_direction s)) (at_places L now s.places) ≡ resolved_classes s) × AreNeutral now seqs
 
   AreNeutral-kept : (now other : List BidiClass) (seqs : List RunSequence) → ((p : ℕ) → 0 < times_in (places_of seqs) p → class_at other p ≡ class_at now p) → AreNeutral now seqs → AreNeutral other seqs
   AreNeutral-kept now other [] agree h = h
   AreNeutral-kept now other (s ∷ seqs) agree h =
       let joined : (p : ℕ) → times_in (places_of (s ∷ seqs)) p ≡ times_in s.places p + times_in (places_of seqs) p = λ p. sum_by-append (λ q. cond (eqb q p) 1 0) s.places (places_of seqs) in (
-        at_places-agree L other now s.places (λ p there. agree p (omega (arith, joined p))) ∙ h.0,
+        ap (map (n2_rule (own_direction s))) (at_places-agree L other now s.places (λ p there. agree p (omega (arith, joined p)))) ∙ h.0,
         AreNeutral-kept now other seqs (λ p there. agree p (omega (arith, joined p))) h.1,
       )
 
-  AreNeutral-push : (now : List BidiClass) (seqs : List RunSequence) (s : RunSequence) → AreNeutral now seqs → at_places L now s.places ≡ resolved_classes s → AreNeutral now (seqs ++ s ∷ [])
+  AreNeutral-push : (now : List BidiClass) (seqs : List RunSequence) (s : RunSequence) → AreNeutral now seqs → map (n2_rule (own_direction s)) (at_places L now s.places) ≡ resolved_classes s → AreNeutral now (seqs ++ s ∷ [])
   AreNeutral-push now [] s h e = (e, tt)
   AreNeutral-push now (r ∷ seqs) s h e = (h.0, AreNeutral-push now seqs s h.1 e)
 
@@ -102,6 +107,12 @@ module _ (source : List BidiClass) (brackets : List (Option BidiMatchedOpeningBr
         let parts = and_parts (test c) (list_all test cs) h in
         and_from (is_kept_in_place c) (list_all is_kept_in_place cs) (reads c parts.0) (all_read test reads cs parts.1)
 
+    all_kept : (e : BidiClass) (cs : List BidiClass) → list_all has_direction (map (n2_rule e) cs) ≡ true → list_all is_kept_in_place cs ≡ true
+    all_kept e [] h = refl
+    all_kept e (c ∷ cs) h =
+        let parts = and_parts (has_direction (n2_rule e c)) (list_all has_direction (map (n2_rule e) cs)) h in
+        and_from (is_kept_in_place c) (list_all is_kept_in_place cs) (is_kept_in_place-directed e c parts.0) (all_kept e cs parts.1)
+
     weak_resolved : list_all is_weak_resolved (weak_classes s.sos (at_places L classes s.places)) ≡ true
     weak_resolved = weak_classes-resolved s.sos (at_places L classes s.places) next.sos (list_all-at_places is_kept L classes s.places (λ p there. next.explicit p there))
 
@@ -128,18 +139,18 @@ module _ (source : List BidiClass) (brackets : List (Option BidiMatchedOpeningBr
         ∙ sum_by-append (λ q. cond (eqb q p) 1 0) (places_of seqs) s.places
 
     pub IsUnderWay-more : (old new : List BidiClass) → IsWeakNext seqs s old → length new ≡ length old → StaysElsewhere s.places old new
-        → at_places L new s.places ≡ neutral_classes (level_at levels (first_or 0 s.places)) s.sos s.eos (at_places L source s.places) (at_places None brackets s.places) (at_places L old s.places)
+        → map (n2_rule (own_direction s)) (at_places L new s.places) ≡ neutral_classes (level_at levels (first_or 0 s.places)) s.sos s.eos (at_places L source s.places) (at_places None brackets s.places) (at_places L old s.places)
         → IsUnderWay (seqs ++ s ∷ []) new
     IsUnderWay-more old new h long stays neutral =
         let level : ℕ = level_at levels (first_or 0 s.places) in
         let own_source = at_places L source s.places in
         let own_brackets = at_places None brackets s.places in
-        let answer : at_places L new s.places ≡ resolved_classes s = neutral ∙ ap (neutral_classes level s.sos s.eos own_source own_brackets) h.weak in
-        let directed : list_all has_direction (at_places L new s.places) ≡ true =
+        let answer : map (n2_rule (own_direction s)) (at_places L new s.places) ≡ resolved_classes s = neutral ∙ ap (neutral_classes level s.sos s.eos own_source own_brackets) h.weak in
+        let directed : list_all has_direction (map (n2_rule (own_direction s)) (at_places L new s.places)) ≡ true =
         ap (list_all has_direction) answer ∙ neutral_classes-directed level s.sos s.eos own_source own_brackets (weak_classes s.sos (at_places L classes s.places)) next.sos weak_resolved in
         record {
           long = long ∙ h.long;
-          read = read_after old new h.read stays (all_read has_direction is_kept_in_place-directed (at_places L new s.places) directed);
+          read = read_after old new h.read stays (all_kept (own_direction s) (at_places L new s.places) directed);
           done = AreNeutral-push new seqs s (AreNeutral-kept old new seqs (λ p there. stays p (none_of p there)) h.done) answer;
           rest = λ p within kept none.
               let both = places_push p in
@@ -147,6 +158,35 @@ module _ (source : List BidiClass) (brackets : List (Option BidiMatchedOpeningBr
         }
 
   -- ---- the levels
+
+  -- N2 changes no level: neither a neutral nor the direction of its level adds to it
+  implicit_level-n2 : (level : ℕ) (c : BidiClass) → implicit_level level (n2_rule (direction_of level) c) ≡ implicit_level level c
+  implicit_level-n2 level c = elim (cases_Bool (is_neutral c)) [
+    | inl neutral ↦ ap (implicit_level level) (cond-true (is_neutral c) (direction_of level) c neutral) ∙ ap (λ n. level + n) (nothing_added level c neutral)
+    | inr other ↦ ap (implicit_level level) (cond-false (is_neutral c) (direction_of level) c other)
+  ]
+    where
+      added : Bool → BidiClass → ℕ
+      added odd c = if odd then added_at_odd c else added_at_even c
+
+      none : (odd : Bool) (c : BidiClass) → is_neutral c ≡ true → added odd (if odd then R else L) ≡ added odd c
+      none true L neutral = absurd (cc neutral)
+      none true EN neutral = absurd (cc neutral)
+      none true AN neutral = absurd (cc neutral)
+      none true _ neutral = refl
+      none false R neutral = absurd (cc neutral)
+      none false EN neutral = absurd (cc neutral)
+      none false AN neutral = absurd (cc neutral)
+      none false _ neutral = refl
+
+      nothing_added : (level : ℕ) (c : BidiClass) → is_neutral c ≡ true → added (is_odd level) (direction_of level) ≡ added (is_odd level) c
+      nothing_added level c neutral = none (is_odd level) c neutral
+
+  implicit_levels-n2 : (level : ℕ) (cs : List BidiClass) → implicit_levels level cs ≡ implicit_levels level (map (n2_rule (direction_of level)) cs)
+  implicit_levels-n2 level [] = refl
+  implicit_levels-n2 level (c ∷ cs) =
+      ap {B = List ℕ} (λ n. n ∷ implicit_levels level cs) (sym (implicit_level-n2 level c))
+      ∙ ap {B = List ℕ} (λ ns. implicit_level level (n2_rule (direction_of level) c) ∷ ns) (implicit_levels-n2 level cs)
 
   implicit_levels-at : (level : ℕ) (new : List ℕ) (now : List BidiClass) (ps : List ℕ) → ((p : ℕ) → 0 < times_in ps p → level_at new p ≡ implicit_level level (class_at now p)) → at_places 0 new ps ≡ implicit_levels level (at_places L now ps)
   implicit_levels-at level new now [] each = refl
@@ -166,7 +206,9 @@ module _ (source : List BidiClass) (brackets : List (Option BidiMatchedOpeningBr
   AreResolved-from new now (s ∷ seqs) h one implicit =
       let level : ℕ = level_at levels (first_or 0 s.places) in
       let joined : (p : ℕ) → times_in (places_of (s ∷ seqs)) p ≡ times_in s.places p + times_in (places_of seqs) p = λ p. sum_by-append (λ q. cond (eqb q p) 1 0) s.places (places_of seqs) in (
-        implicit_levels-at level new now s.places (λ p there. implicit p (omega (arith, there, joined p)) ∙ ap (λ n. implicit_level n (class_at now p)) (one 0 s (omega arith) p there)) ∙ ap (implicit_levels level) h.0,
+        implicit_levels-at level new now s.places (λ p there. implicit p (omega (arith, there, joined p)) ∙ ap (λ n. implicit_level n (class_at now p)) (one 0 s (omega arith) p there))
+            ∙ implicit_levels-n2 level (at_places L now s.places)
+            ∙ ap (implicit_levels level) h.0,
         AreResolved-from new now seqs h.1 (λ k d within. one (suc k) d (omega arith)) (λ p there. implicit p (omega (arith, there, joined p))),
       )
 

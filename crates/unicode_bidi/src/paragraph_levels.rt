@@ -121,7 +121,8 @@ impl LevelResolver {
     }
 
     /// Finds the levels of all characters that X9 keeps, in a paragraph that is not empty and in which
-    /// nothing opens a level. It is one level run, and one sequence.
+    /// nothing opens a level. It is one level run, and one sequence. N2 is left out, as its levels are the
+    /// same with and without it.
     fn resolve_flat<D: BidiDataSource, T: TextSource>(
         &mut self,
         paragraph: &ClassifiedParagraph<D, T>,
@@ -145,7 +146,7 @@ impl LevelResolver {
         let side = paragraph.level.bidi_class();
         let sequence = LentSequence::new(&runs, side, side);
         resolve_weak_lent(paragraph.text, sequence, classes);
-        self.neutrals.resolve_lent(
+        self.neutrals.resolve_up_to_n1(
             paragraph.text,
             paragraph.data_source,
             sequence,
@@ -177,10 +178,10 @@ impl LevelResolver {
         let classes = self.classes.as_mut_slice();
         for sequence in &self.sequences {
             resolve_weak(paragraph.text, sequence, classes);
-            self.neutrals.resolve(
+            self.neutrals.resolve_up_to_n1(
                 paragraph.text,
                 paragraph.data_source,
-                sequence,
+                sequence.lend(),
                 levels,
                 paragraph.original_classes,
                 classes,

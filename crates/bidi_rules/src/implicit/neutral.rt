@@ -1,6 +1,6 @@
 //! The neutrals in place (N0 to N2).
 //!
-//! A sequence with one direction alone takes it as it stands. Of others the brackets are found, and
+//! In a sequence with one direction alone N2 is all there is to do. Of others the brackets are found, and
 //! then all is resolved where it stands. So all memory is taken before the first class is written.
 
 ghost use Rattle.std.specs.Prelude.{◌≡◌, ℕ, List, [], ◌∷◌, ◌++◌, false, length, map, IsTrue, OnOk, OnErr, Option};
@@ -8,7 +8,8 @@ ghost use Rattle.std.specs.List.{list_all};
 ghost use Rattle.bidi_base.specs.declared.char_data.BidiClass.TheVariants.{L, BN};
 ghost use Rattle.bidi_base.specs.declared.data_source.BidiMatchedOpeningBracket.{BidiMatchedOpeningBracket};
 ghost use Rattle.bidi_base.specs.Classes.{is_l_or_r, is_weak_resolved};
-ghost use Rattle.bidi_base.specs.Neutral.{n0, neutral_classes};
+ghost use Rattle.bidi_base.specs.Levels.{direction_of};
+ghost use Rattle.bidi_base.specs.Neutral.{n0, n2_rule, neutral_classes};
 ghost use Rattle.bidi_base.specs.Places.{at_places, class_at, first_or};
 ghost use Rattle.bidi_base.specs.Sequences.{level_at};
 ghost use Rattle.bidi_base.specs.Text.{is_per_char, place, text_len, IsLine};
@@ -24,7 +25,6 @@ mod nearest;
 mod one_direction;
 mod pairs;
 
-use super::weak::write_over_runs;
 use crate::prepare::{IsolatingRunSequence, LentSequence, LevelRun};
 use bidi_base::brackets::{Bracket, find_pairs};
 use bidi_base::char_data::BidiClass;
@@ -33,7 +33,7 @@ use bidi_base::level::Level;
 use bidi_base::search::first_passing;
 use bidi_base::text::TextSource;
 use class_tests::OtherNeutral;
-use directions::{Directions, resolve_directions};
+use directions::{Directions, resolve_opposite, settle_rest};
 use nearest::first_kept;
 use one_direction::stands_alone;
 use pairs::resolve_pairs;
@@ -116,6 +116,47 @@ impl NeutralResolver {
         ensures refused { OnErr result (processing_classes.new ≡ processing_classes.old) }
     {
         let runs = sequence.runs();
+        let Some(first) = first_kept(runs, processing_classes) else {
+            return Ok(());
+        };
+        let embedding = levels[first].bidi_class();
+        self.resolve_up_to_n1(
+            text,
+            data_source,
+            sequence,
+            levels,
+            original_classes,
+            processing_classes,
+        )?;
+        settle_rest(embedding, runs, processing_classes);
+        Ok(())
+    }
+
+    /// The same but for N2: what it would give the embedding direction stays a neutral. The levels are
+    /// the same, since neither adds to them (I1, I2).
+    pub fn resolve_up_to_n1<D: BidiDataSource, T: TextSource>(
+        &mut self,
+        text: T,
+        data_source: &D,
+        sequence: LentSequence<'_>,
+        levels: &[Level],
+        original_classes: &[BidiClass],
+        processing_classes: &mut [BidiClass],
+    ) -> Result<(), AllocError>
+        requires per_char { IsTrue (is_per_char ⟦<BidiClass as PartialEq>⟧.eq T.units (T.characters text) processing_classes.old) }
+        requires fits { AreLines T.units (T.characters text) (map bounds (lent_runs sequence)) }
+        requires levels { length levels.now ≡ length processing_classes.old }
+        requires original { length original_classes.now ≡ length processing_classes.old }
+        requires resolved { let places = map (place T.units (T.characters text)) (kept_in_place T.units (T.characters text) processing_classes.old (map bounds (lent_runs sequence))) in IsTrue (list_all is_weak_resolved (at_places L processing_classes.old places)) }
+        ensures kept { let indexes = kept_in_place T.units (T.characters text) processing_classes.old (map bounds (lent_runs sequence.entry)) in let places = map (place T.units (T.characters text)) indexes in let level = level_at levels.now (first_or 0 places) in
+            OnOk result (map (n2_rule (direction_of level)) (at_places L processing_classes.new places) ≡ neutral_classes level (lent_sos sequence.entry) (lent_eos sequence.entry)
+            (at_places L original_classes.now places) (map (D.source data_source.now).bracket_of (at_places 0 (T.characters text) indexes)) (at_places L processing_classes.old places)) }
+        ensures removed { (u : ℕ) → class_at processing_classes.old u ≡ BN → class_at processing_classes.new u ≡ BN }
+        ensures outside { (u : ℕ) → in_runs (map bounds (lent_runs sequence.entry)) u ≡ false → class_at processing_classes.new u ≡ class_at processing_classes.old u }
+        ensures per_char { IsTrue (is_per_char ⟦<BidiClass as PartialEq>⟧.eq T.units (T.characters text) processing_classes.new) }
+        ensures refused { OnErr result (processing_classes.new ≡ processing_classes.old) }
+    {
+        let runs = sequence.runs();
         let sos = sequence.sos();
         let Some(first) = first_kept(runs, processing_classes) else {
             return Ok(());
@@ -128,8 +169,6 @@ impl NeutralResolver {
             eos,
         };
         if stands_alone(directions, runs, processing_classes) {
-            let end = processing_classes.len();
-            write_over_runs(runs, processing_classes, 0, end, embedding);
             return Ok(());
         }
         self.resolve_brackets(
@@ -140,7 +179,7 @@ impl NeutralResolver {
             original_classes,
             processing_classes,
         )?;
-        resolve_directions(directions, runs, processing_classes);
+        resolve_opposite(directions, runs, processing_classes);
         Ok(())
     }
 

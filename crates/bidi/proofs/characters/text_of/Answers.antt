@@ -2,7 +2,7 @@ use Rattle.std.proofs.Common.{◌∙◌, ◌++◌, ◌∷◌, [], List, ℕ, ap,
 use Rattle.std.proofs.lemmas.List.{take_more, take_all}
 use Rattle.std.proofs.lemmas.Str.{chars-nil, IsUtf8-string_bytes}
 use Rattle.std.specs.Str.{chars}
-use Rattle.bidi.proofs.CharactersLemmas.{chars-push}
+use Rattle.bidi_base.proofs.StrLemmas.{chars-push}
 use Rattle.bidi.proofs.characters.text_of.Goals as goal
 
 pub loop-c-init : goal.loop-c-init

@@ -1,12 +1,12 @@
 //! N1 and N2 over the units of a sequence.
 
-ghost use Rattle.std.specs.Prelude.{◌≡◌, ℕ, ◌<◌, ◌≤◌, true, false, length, map, get_or, drop, All, IsTrue};
+ghost use Rattle.std.specs.Prelude.{◌≡◌, ◌⊎◌, ℕ, ◌<◌, ◌≤◌, true, false, length, map, get_or, drop, All, IsTrue};
 ghost use Rattle.bidi_base.specs.Classes.{is_l_or_r, is_weak_resolved, stands_for};
-ghost use Rattle.bidi_base.specs.Neutral.{n1_n2};
+ghost use Rattle.bidi_base.specs.Neutral.{n1_n2, n2_rule};
 ghost use Rattle.bidi_base.specs.Places.{at_places, class_at};
 ghost use Rattle.bidi_base.specs.declared.char_data.BidiClass.TheVariants.{L};
 ghost use Rattle.bidi_base.specs.Units.{bounds, are_ordered, in_runs};
-ghost use Rattle.bidi_rules.specs.JoinPass.{settled, IsAtOpposite, IsJoined, IsUnderWay, Unjoined};
+ghost use Rattle.bidi_rules.specs.JoinPass.{IsAtOpposite, IsJoined, IsUnderWay, Unjoined};
 ghost use Rattle.bidi_rules.specs.NeutralPass.{seen_units};
 ghost use Rattle.bidi_rules.specs.PairWalk.{opposite_of};
 ghost use Rattle.bidi_rules.specs.WeakWalk.{is_seen, IsWrittenOver};
@@ -39,21 +39,19 @@ pub fn opposite_of(direction: BidiClass) -> BidiClass
     }
 }
 
-/// N1 and N2: neutrals take the direction on both their sides, where sos and eos stand at the ends,
-/// and the embedding direction where the two differ. Units count as characters would: a class that
+/// N1 for the direction against the embedding one: neutrals that stand between two of it take it, where
+/// sos and eos stand at the ends. All others stay, for N2. Units count as characters would: a class that
 /// stands several times in a row is seen as one.
-///
-/// Only the direction against the embedding one is looked for: neutrals that do not stand between two
-/// of it take the embedding direction.
-pub fn resolve_directions(directions: Directions, runs: &[LevelRun], classes: &mut [BidiClass])
+pub fn resolve_opposite(directions: Directions, runs: &[LevelRun], classes: &mut [BidiClass])
     requires side { IsTrue (is_l_or_r directions.embedding) }
     requires sos { IsTrue (is_l_or_r directions.sos) }
     requires eos { IsTrue (is_l_or_r directions.eos) }
     requires ordered { IsTrue (are_ordered (map bounds runs.now)) }
     requires inside { All (λ r. r.1 ≤ length classes.old) (map bounds runs.now) }
     requires resolved { (u : ℕ) → is_seen (map bounds runs.now) classes.old u ≡ true → is_weak_resolved (class_at classes.old u) ≡ true }
-    ensures kept { let units = seen_units (map bounds runs.now) classes.old in at_places L classes.new units ≡ n1_n2 directions.embedding directions.sos directions.eos (at_places L classes.old units) }
+    ensures kept { let units = seen_units (map bounds runs.now) classes.old in map (n2_rule directions.embedding) (at_places L classes.new units) ≡ n1_n2 directions.embedding directions.sos directions.eos (at_places L classes.old units) }
     ensures others { (u : ℕ) → is_seen (map bounds runs.now) classes.old u ≡ false → class_at classes.new u ≡ class_at classes.old u }
+    ensures own { (u : ℕ) → (class_at classes.new u ≡ class_at classes.old u) ⊎ (class_at classes.new u ≡ opposite_of directions.embedding) }
 {
     let opposite = opposite_of(directions.embedding);
     let mut join = Join {
@@ -69,7 +67,6 @@ pub fn resolve_directions(directions: Directions, runs: &[LevelRun], classes: &m
         let end = classes.len();
         join.settle(runs, classes, end);
     }
-    settle_rest(directions.embedding, runs, classes);
 }
 
 /// What a walk for N1 knows of the units that it has read.
@@ -185,9 +182,9 @@ impl Join {
 }
 
 /// N2: the neutrals of some runs take the embedding direction.
-fn settle_rest(embedding: BidiClass, runs: &[LevelRun], classes: &mut [BidiClass])
+pub fn settle_rest(embedding: BidiClass, runs: &[LevelRun], classes: &mut [BidiClass])
     requires { All (λ r. r.1 ≤ length classes.old) (map bounds runs.now) }
-    ensures changed { (u : ℕ) → in_runs (map bounds runs.now) u ≡ true → class_at classes.new u ≡ settled embedding (class_at classes.old u) }
+    ensures changed { (u : ℕ) → in_runs (map bounds runs.now) u ≡ true → class_at classes.new u ≡ n2_rule embedding (class_at classes.old u) }
     ensures same { (u : ℕ) → in_runs (map bounds runs.now) u ≡ false → class_at classes.new u ≡ class_at classes.old u }
     ensures long { length classes.new ≡ length classes.old }
 {
@@ -199,7 +196,7 @@ fn settle_rest(embedding: BidiClass, runs: &[LevelRun], classes: &mut [BidiClass
 /// The same of one run.
 fn settle_run(embedding: BidiClass, run: &LevelRun, classes: &mut [BidiClass])
     requires { run.now.end ≤ length classes.old }
-    ensures changed { (u : ℕ) → run.now.start ≤ u → u < run.now.end → class_at classes.new u ≡ settled embedding (class_at classes.old u) }
+    ensures changed { (u : ℕ) → run.now.start ≤ u → u < run.now.end → class_at classes.new u ≡ n2_rule embedding (class_at classes.old u) }
     ensures below { (u : ℕ) → u < run.now.start → class_at classes.new u ≡ class_at classes.old u }
     ensures above { (u : ℕ) → run.now.end ≤ u → class_at classes.new u ≡ class_at classes.old u }
 {
@@ -210,7 +207,7 @@ fn settle_run(embedding: BidiClass, run: &LevelRun, classes: &mut [BidiClass])
 
 /// What N2 makes of a class that N1 left.
 fn settled(embedding: BidiClass, class: BidiClass) -> BidiClass
-    ensures { result ≡ settled embedding class }
+    ensures { result ≡ n2_rule embedding class }
 {
     if is_neutral(class) { embedding } else { class }
 }

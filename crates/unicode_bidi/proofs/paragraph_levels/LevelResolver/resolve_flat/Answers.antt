@@ -69,8 +69,8 @@ resolve_weak_lent-requires-clause-fits g c =
     let next = joined-IsNext len h cs source given.bracket_of para fits flat s same in
     lines
 
-pub resolve_lent-requires-clause-fits : goal.resolve_lent-requires-clause-fits
-resolve_lent-requires-clause-fits g c =
+pub resolve_up_to_n1-requires-clause-fits : goal.resolve_up_to_n1-requires-clause-fits
+resolve_up_to_n1-requires-clause-fits g c =
     let len = g.T.TextSource.units in
     let h = g.met.T.TextSource.has_units in
     let cs : List ℕ = g.T.TextSource.characters c.args.paragraph.now.text in
@@ -92,8 +92,8 @@ resolve_lent-requires-clause-fits g c =
     let next = joined-IsNext len h cs source given.bracket_of para fits flat s same in
     lines
 
-pub resolve_lent-requires-clause-levels : goal.resolve_lent-requires-clause-levels
-resolve_lent-requires-clause-levels g c =
+pub resolve_up_to_n1-requires-clause-levels : goal.resolve_up_to_n1-requires-clause-levels
+resolve_up_to_n1-requires-clause-levels g c =
     let len = g.T.TextSource.units in
     let h = g.met.T.TextSource.has_units in
     let cs : List ℕ = g.T.TextSource.characters c.args.paragraph.now.text in
@@ -109,8 +109,8 @@ resolve_lent-requires-clause-levels g c =
     let units_long = AreResolvedTo-long len h cs source given.bracket_of para [] units fits begun in
     omega (arith, c.requires.long, c.fill.auto.self, c.resolve_weak_lent.auto.processing_classes, units_long)
 
-pub resolve_lent-requires-clause-resolved : goal.resolve_lent-requires-clause-resolved
-resolve_lent-requires-clause-resolved g c =
+pub resolve_up_to_n1-requires-clause-resolved : goal.resolve_up_to_n1-requires-clause-resolved
+resolve_up_to_n1-requires-clause-resolved g c =
     let len = g.T.TextSource.units in
     let h = g.met.T.TextSource.has_units in
     let cs : List ℕ = g.T.TextSource.characters c.args.paragraph.now.text in
@@ -151,7 +151,7 @@ resolve_levels-requires-clause-lengths g c =
     whole-AreResolvedTo len h cs source given.bracket_of para fits flat c.args.paragraph.now.original_classes.now units c.args.paragraph.now.stored
     (c.as_mut_slice-classes.ensures.value ∙ c.in_ok-copy_flat.ensures) in
     let units_long = AreResolvedTo-long len h cs source given.bracket_of para [] units fits begun in
-    omega (arith, c.requires.long, c.fill.auto.self, c.resolve_weak_lent.auto.processing_classes, c.resolve_lent.auto.processing_classes, units_long)
+    omega (arith, c.requires.long, c.fill.auto.self, c.resolve_weak_lent.auto.processing_classes, c.resolve_up_to_n1.auto.processing_classes, units_long)
 
 pub returns-clause-per_char : goal.returns-clause-per_char
 returns-clause-per_char g c =
@@ -180,10 +180,10 @@ returns-clause-per_char g c =
     c.resolve_weak_lent.ensures.outside c.resolve_weak_lent.ensures.per_char in
     let levels_are = levels-whole len h cs source given.bracket_of para fits flat c.args.levels.now c.fill.new.self c.requires.long (c.fill.ensures.after (λ y e. e)) in
     let resolved =
-    AreResolvedTo-more len h cs source given.bracket_of para fits [] s lines next now c.resolve_lent.new.processing_classes c.args.paragraph.now.original_classes.now c.fill.new.self
-    c.args.paragraph.now.stored levels_are weak c.in_ok-resolve_lent.ensures.kept c.in_ok-resolve_lent.ensures.removed c.in_ok-resolve_lent.ensures.outside c.in_ok-resolve_lent.ensures.per_char in
+    AreResolvedTo-more len h cs source given.bracket_of para fits [] s lines next now c.resolve_up_to_n1.new.processing_classes c.args.paragraph.now.original_classes.now c.fill.new.self
+    c.args.paragraph.now.stored levels_are weak c.in_ok-resolve_up_to_n1.ensures.kept c.in_ok-resolve_up_to_n1.ensures.removed c.in_ok-resolve_up_to_n1.ensures.outside c.in_ok-resolve_up_to_n1.ensures.per_char in
     let all =
-    AreLevels-all len h cs source given.bracket_of para (characters_of len cs (stored_classes source) s ∷ []) c.resolve_lent.new.processing_classes c.fill.new.self c.resolve_levels.new.levels
+    AreLevels-all len h cs source given.bracket_of para (characters_of len cs (stored_classes source) s ∷ []) c.resolve_up_to_n1.new.processing_classes c.fill.new.self c.resolve_levels.new.levels
     fits levels_are (joined-sequences len h cs source given.bracket_of para fits flat s same) resolved c.resolve_levels.ensures.levels in
     all.even
 
@@ -214,9 +214,9 @@ returns-clause-resolved g c =
     c.resolve_weak_lent.ensures.outside c.resolve_weak_lent.ensures.per_char in
     let levels_are = levels-whole len h cs source given.bracket_of para fits flat c.args.levels.now c.fill.new.self c.requires.long (c.fill.ensures.after (λ y e. e)) in
     let resolved =
-    AreResolvedTo-more len h cs source given.bracket_of para fits [] s lines next now c.resolve_lent.new.processing_classes c.args.paragraph.now.original_classes.now c.fill.new.self
-    c.args.paragraph.now.stored levels_are weak c.in_ok-resolve_lent.ensures.kept c.in_ok-resolve_lent.ensures.removed c.in_ok-resolve_lent.ensures.outside c.in_ok-resolve_lent.ensures.per_char in
+    AreResolvedTo-more len h cs source given.bracket_of para fits [] s lines next now c.resolve_up_to_n1.new.processing_classes c.args.paragraph.now.original_classes.now c.fill.new.self
+    c.args.paragraph.now.stored levels_are weak c.in_ok-resolve_up_to_n1.ensures.kept c.in_ok-resolve_up_to_n1.ensures.removed c.in_ok-resolve_up_to_n1.ensures.outside c.in_ok-resolve_up_to_n1.ensures.per_char in
     let all =
-    AreLevels-all len h cs source given.bracket_of para (characters_of len cs (stored_classes source) s ∷ []) c.resolve_lent.new.processing_classes c.fill.new.self c.resolve_levels.new.levels
+    AreLevels-all len h cs source given.bracket_of para (characters_of len cs (stored_classes source) s ∷ []) c.resolve_up_to_n1.new.processing_classes c.fill.new.self c.resolve_levels.new.levels
     fits levels_are (joined-sequences len h cs source given.bracket_of para fits flat s same) resolved c.resolve_levels.ensures.levels in
     all.resolved

@@ -1,16 +1,29 @@
 -- The passes one after another.
-use Rattle.std.proofs.Common.{◌∙◌, List, ℕ, length, map, ap, sym, subst, arith}
-use Rattle.std.specs.List.{All}
+use Rattle.std.proofs.Common.{◌≡◌, ◌∙◌, ◌++◌, ◌∷◌, [], List, ℕ, true, length, map, ap, sym, subst, arith}
+use Rattle.std.specs.List.{All, list_all}
+use Rattle.std.specs.declared.ops.Range.{Range}
 use Rattle.std.proofs.lemmas.List.{length-map}
 use Rattle.bidi_base.specs.declared.char_data.BidiClass.TheVariants.{L}
+use Rattle.bidi_base.specs.Explicit.{explicit_levels, explicit_classes}
 use Rattle.bidi_base.specs.Isolates.{stored_classes}
-use Rattle.bidi_base.specs.Text.{per_char}
-use Rattle.bidi_base.specs.Units.{AreLines}
+use Rattle.bidi_base.specs.Classes.{is_weak_resolved}
+use Rattle.bidi_base.specs.Places.{at_places}
+use Rattle.bidi_base.specs.Text.{place, per_char}
+use Rattle.bidi_base.specs.Units.{bounds, kept_in_place, AreLines}
 use Rattle.bidi_base.proofs.PerUnit.{length-per_unit}
 use Rattle.bidi_base.proofs.StoredSteps.{length-stored_classes}
-use Rattle.bidi_rules.specs.RunSequence.{run_bounds, joined, sequences_in}
-use Rattle.unicode_bidi.proofs.LevelPasses.{AreResolvedTo, AreResolvedTo-start, AreResolvedTo-per_char, AreResolvedTo-long, AreWeakTo-from, AreWeakTo-resolved, AreResolvedTo-more, prepared, prepared-next, prepared-lines, prepared-more, prepared-long, prepared-low, sequences_before, AreLevels-from}
+use Rattle.bidi_rules.specs.Joining.{JoinedRuns, characters_of}
+use Rattle.bidi_rules.specs.RunSequence.{run_bounds, runs, sos, eos, joined, sequences_in, lent_runs, lent_sos, lent_eos}
+use Rattle.bidi_rules.specs.declared.prepare.lent.LentSequence.{LentSequence}
+use Rattle.bidi_rules.specs.declared.prepare.sequence.IsolatingRunSequence.{IsolatingRunSequence}
+use Rattle.unicode_bidi.proofs.FlatPasses.{lent}
+use Rattle.unicode_bidi.proofs.LevelPasses.{AreResolvedTo, AreWeakTo, AreResolvedTo-start, AreResolvedTo-per_char, AreResolvedTo-long, AreWeakTo-from, AreWeakTo-resolved, AreResolvedTo-more, prepared, prepared-next, prepared-lines, prepared-more, prepared-long, prepared-low, sequences_before, AreLevels-from}
+use Rattle.unicode_bidi.proofs.SequencesInPlace.{IsNext}
 use Rattle.unicode_bidi.proofs.paragraph_levels.LevelResolver.resolve_nested.Goals as goal
+
+-- a sequence that is lent has its runs and ends
+lent-joined : (l : LentSequence) (s : IsolatingRunSequence) → lent_runs l ≡ runs s → lent_sos l ≡ sos s → lent_eos l ≡ eos s → lent l ≡ joined s
+lent-joined l s runs_are sos_is eos_is = λ i. record { runs = ap (map bounds) runs_are i; sos = sos_is i; eos = eos_is i }
 
 pub prepare-requires : goal.prepare-requires
 prepare-requires g c =
@@ -60,8 +73,8 @@ resolve_weak-requires-clause-fits g c =
     let line = prepared-lines len h cs source given.bracket_of para original levels out ready k s within c.sequence-item.is in
     line
 
-pub resolve-requires-clause-levels : goal.resolve-requires-clause-levels
-resolve-requires-clause-levels g c =
+pub resolve_up_to_n1-requires-clause-levels : goal.resolve_up_to_n1-requires-clause-levels
+resolve_up_to_n1-requires-clause-levels g c =
     let len = g.T.TextSource.units in
     let h = g.met.T.TextSource.has_units in
     let cs : List ℕ = g.T.TextSource.characters c.args.paragraph.now.text in
@@ -82,8 +95,8 @@ resolve-requires-clause-levels g c =
       c.resolve_weak.auto.processing_classes,
     )
 
-pub resolve-requires-clause-original : goal.resolve-requires-clause-original
-resolve-requires-clause-original g c =
+pub resolve_up_to_n1-requires-clause-original : goal.resolve_up_to_n1-requires-clause-original
+resolve_up_to_n1-requires-clause-original g c =
     let len = g.T.TextSource.units in
     let h = g.met.T.TextSource.has_units in
     let cs : List ℕ = g.T.TextSource.characters c.args.paragraph.now.text in
@@ -98,8 +111,8 @@ resolve-requires-clause-original g c =
       c.resolve_weak.auto.processing_classes,
     )
 
-pub resolve-requires-clause-resolved : goal.resolve-requires-clause-resolved
-resolve-requires-clause-resolved g c =
+pub resolve_up_to_n1-requires-clause-resolved : goal.resolve_up_to_n1-requires-clause-resolved
+resolve_up_to_n1-requires-clause-resolved g c =
     let len = g.T.TextSource.units in
     let h = g.met.T.TextSource.has_units in
     let cs : List ℕ = g.T.TextSource.characters c.args.paragraph.now.text in
@@ -122,7 +135,9 @@ resolve-requires-clause-resolved g c =
     let weak =
     AreWeakTo-from len h cs source given.bracket_of para fits before (joined s) line next c.loop-sequence.classes c.resolve_weak.new.processing_classes c.loop-sequence.invariant c.resolve_weak.ensures.kept c.resolve_weak.ensures.removed c.resolve_weak.ensures.outside
     c.resolve_weak.ensures.per_char in
-    AreWeakTo-resolved len h cs source given.bracket_of para fits before (joined s) line next c.resolve_weak.new.processing_classes weak
+    let now = c.resolve_weak.new.processing_classes in
+    subst (λ (rs : List (Range ℕ)). list_all is_weak_resolved (at_places L now (map (place len cs) (kept_in_place len cs now (map bounds rs)))) ≡ true) (sym c.lend.ensures.runs)
+    (AreWeakTo-resolved len h cs source given.bracket_of para fits before (joined s) line next now weak)
 
 pub loop-sequence-preserved : goal.loop-sequence-preserved
 loop-sequence-preserved g c =
@@ -149,9 +164,15 @@ loop-sequence-preserved g c =
     AreWeakTo-from len h cs source given.bracket_of para fits before (joined s) line next c.loop-sequence.classes c.resolve_weak.new.processing_classes c.loop-sequence.invariant c.resolve_weak.ensures.kept c.resolve_weak.ensures.removed c.resolve_weak.ensures.outside
     c.resolve_weak.ensures.per_char in
     let more = prepared-more len h cs source given.bracket_of para original levels out ready k s within c.sequence-item.is in
-    subst (λ ss. AreResolvedTo len h cs source given.bracket_of para ss c.resolve.new.processing_classes) (sym more)
-    (AreResolvedTo-more len h cs source given.bracket_of para fits before (joined s) line next c.resolve_weak.new.processing_classes c.resolve.new.processing_classes original levels c.args.paragraph.now.stored ready.levels_is weak
-    c.in_ok-resolve.ensures.kept c.in_ok-resolve.ensures.removed c.in_ok-resolve.ensures.outside c.in_ok-resolve.ensures.per_char)
+    let j : JoinedRuns = lent c.lend.result in
+    let same : j ≡ joined s = lent-joined c.lend.result s c.lend.ensures.runs c.lend.ensures.sos c.lend.ensures.eos in
+    let lent_line = subst (λ (r : JoinedRuns). AreLines len cs r.runs) (sym same) line in
+    let lent_next = subst (λ (r : JoinedRuns). IsNext source (map given.bracket_of cs) (stored_classes source) (explicit_levels para (stored_classes source)) (explicit_classes para (stored_classes source)) before (characters_of len cs (stored_classes source) r)) (sym same) next in
+    let lent_weak = subst (λ (r : JoinedRuns). AreWeakTo len h cs source given.bracket_of para before r c.resolve_weak.new.processing_classes) (sym same) weak in
+    subst (λ ss. AreResolvedTo len h cs source given.bracket_of para ss c.resolve_up_to_n1.new.processing_classes) (sym more)
+    (subst (λ (r : JoinedRuns). AreResolvedTo len h cs source given.bracket_of para (before ++ characters_of len cs (stored_classes source) r ∷ []) c.resolve_up_to_n1.new.processing_classes) same
+    (AreResolvedTo-more len h cs source given.bracket_of para fits before j lent_line lent_next c.resolve_weak.new.processing_classes c.resolve_up_to_n1.new.processing_classes original levels c.args.paragraph.now.stored ready.levels_is lent_weak
+    c.in_ok-resolve_up_to_n1.ensures.kept c.in_ok-resolve_up_to_n1.ensures.removed c.in_ok-resolve_up_to_n1.ensures.outside c.in_ok-resolve_up_to_n1.ensures.per_char))
 
 pub resolve_levels-requires-clause-lengths : goal.resolve_levels-requires-clause-lengths
 resolve_levels-requires-clause-lengths g c =

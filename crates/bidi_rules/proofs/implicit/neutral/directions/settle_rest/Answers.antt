@@ -5,18 +5,18 @@ use Rattle.bidi_base.specs.declared.char_data.BidiClass.{BidiClass}
 use Rattle.bidi_base.specs.Classes.{is_neutral}
 use Rattle.bidi_base.specs.Places.{class_at}
 use Rattle.bidi_base.specs.Units.{bounds, in_runs}
-use Rattle.bidi_rules.specs.JoinPass.{settled}
+use Rattle.bidi_base.specs.Neutral.{n2_rule}
 use Rattle.bidi_rules.proofs.InRuns.{in_run, in_run-inside, in_run-true, in_runs-more}
 use Rattle.bidi_rules.proofs.KeptRuns.{no_range}
 use Rattle.bidi_rules.proofs.implicit.neutral.directions.settle_rest.Goals as goal
 
 -- a class that has changed stays
-settled-twice : (e c : BidiClass) → settled e (settled e c) ≡ settled e c
+settled-twice : (e c : BidiClass) → n2_rule e (n2_rule e c) ≡ n2_rule e c
 settled-twice e c = elim (cases_Bool (is_neutral c)) [
   | inl yes' ↦
       let is = cond-true (is_neutral c) e c yes' in
-      ap (settled e) is ∙ elim (cases_Bool (is_neutral e)) [ inl own ↦ cond-true (is_neutral e) e e own | inr other ↦ cond-false (is_neutral e) e e other ] ∙ sym is
-  | inr no' ↦ ap (settled e) (cond-false (is_neutral c) e c no')
+      ap (n2_rule e) is ∙ elim (cases_Bool (is_neutral e)) [ inl own ↦ cond-true (is_neutral e) e e own | inr other ↦ cond-false (is_neutral e) e e other ] ∙ sym is
+  | inr no' ↦ ap (n2_rule e) (cond-false (is_neutral c) e c no')
 ]
 
 pub settle_run-requires : goal.settle_run-requires
@@ -54,8 +54,8 @@ loop-run-preserved c =
             let w = in_run-true r u within in
             c.settle_run.ensures.changed u (omega (arith, w.0, from_is)) (omega (arith, w.1, to_is))
             ∙ elim (cases_Bool (in_runs (take i (map bounds runs)) u)) [
-              | inl before ↦ ap (settled c.args.embedding) (c.loop-run.invariant.changed u before) ∙ settled-twice c.args.embedding (class_at old u)
-              | inr fresh ↦ ap (settled c.args.embedding) (c.loop-run.invariant.same u fresh)
+              | inl before ↦ ap (n2_rule c.args.embedding) (c.loop-run.invariant.changed u before) ∙ settled-twice c.args.embedding (class_at old u)
+              | inr fresh ↦ ap (n2_rule c.args.embedding) (c.loop-run.invariant.same u fresh)
             ]
         | inr out ↦ outside u out
             ∙ elim (or_cases (in_runs (take i (map bounds runs)) u) (in_run r u) (sym (more u) ∙ inside)) [

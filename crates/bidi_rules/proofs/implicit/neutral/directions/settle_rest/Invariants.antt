@@ -2,11 +2,11 @@
 use Rattle.std.proofs.Common.{◌≡◌, ℕ, true, false, map, take}
 use Rattle.bidi_base.specs.Places.{class_at}
 use Rattle.bidi_base.specs.Units.{bounds, in_runs}
-use Rattle.bidi_rules.specs.JoinPass.{settled}
+use Rattle.bidi_base.specs.Neutral.{n2_rule}
 use Rattle.bidi_rules.proofs.implicit.neutral.directions.settle_rest.Given as goal
 
 abbrev pub invariant-loop-run : goal.invariant-loop-run
 invariant-loop-run l = record {
-  changed : (u : ℕ) → in_runs (take l.run-index (map bounds l.runs)) u ≡ true → class_at l.classes u ≡ settled l.embedding (class_at l.fn.classes u);
+  changed : (u : ℕ) → in_runs (take l.run-index (map bounds l.runs)) u ≡ true → class_at l.classes u ≡ n2_rule l.embedding (class_at l.fn.classes u);
   same : (u : ℕ) → in_runs (take l.run-index (map bounds l.runs)) u ≡ false → class_at l.classes u ≡ class_at l.fn.classes u;
 }

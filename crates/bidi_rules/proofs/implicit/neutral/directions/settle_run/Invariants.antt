@@ -1,12 +1,12 @@
 -- The units so far are changed.
 use Rattle.std.proofs.Common.{◌≡◌, ℕ, ◌<◌, ◌≤◌}
 use Rattle.bidi_base.specs.Places.{class_at}
-use Rattle.bidi_rules.specs.JoinPass.{settled}
+use Rattle.bidi_base.specs.Neutral.{n2_rule}
 use Rattle.bidi_rules.proofs.implicit.neutral.directions.settle_run.Given as goal
 
 abbrev pub invariant-loop-unit : goal.invariant-loop-unit
 invariant-loop-unit l = record {
-  changed : (u : ℕ) → l.run.start ≤ u → u < l.unit → u < l.run.end → class_at l.classes u ≡ settled l.embedding (class_at l.fn.classes u);
+  changed : (u : ℕ) → l.run.start ≤ u → u < l.unit → u < l.run.end → class_at l.classes u ≡ n2_rule l.embedding (class_at l.fn.classes u);
   below : (u : ℕ) → u < l.run.start → class_at l.classes u ≡ class_at l.fn.classes u;
   rest : (u : ℕ) → l.unit ≤ u → class_at l.classes u ≡ class_at l.fn.classes u;
   past : (u : ℕ) → l.run.end ≤ u → class_at l.classes u ≡ class_at l.fn.classes u;

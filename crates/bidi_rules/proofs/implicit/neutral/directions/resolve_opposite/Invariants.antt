@@ -4,7 +4,7 @@ use Rattle.bidi_base.specs.Units.{bounds}
 use Rattle.bidi_rules.specs.JoinPass.{IsUnderWay, Unjoined}
 use Rattle.bidi_rules.specs.PairWalk.{opposite_of}
 use Rattle.bidi_rules.proofs.InRuns.{start_or}
-use Rattle.bidi_rules.proofs.implicit.neutral.directions.resolve_directions.Given as goal
+use Rattle.bidi_rules.proofs.implicit.neutral.directions.resolve_opposite.Given as goal
 
 abbrev pub invariant-loop-run : goal.invariant-loop-run
 invariant-loop-run l =

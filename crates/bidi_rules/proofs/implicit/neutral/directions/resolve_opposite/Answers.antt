@@ -9,9 +9,9 @@ use Rattle.bidi_rules.specs.PairWalk.{opposite_of}
 use Rattle.bidi_rules.specs.declared.implicit.neutral.directions.Join.{Join}
 use Rattle.bidi_rules.specs.WeakWalk.{is_seen, IsWrittenOver}
 use Rattle.bidi_rules.proofs.InRuns.{start_or, start_or-at, start_or-past}
-use Rattle.bidi_rules.proofs.JoinWalk.{IsUnderWay-start, IsUnderWay-gap, IsFinished, IsFinished-embedding, IsFinished-opposite, IsFinished-settled, IsFinished-others}
-use Rattle.bidi_rules.proofs.implicit.neutral.directions.resolve_directions.Goals as goal
-use Rattle.bidi_rules.proofs.implicit.neutral.directions.resolve_directions.Goals.{After-settle_rest, then-stands_for, else-stands_for}
+use Rattle.bidi_rules.proofs.JoinWalk.{IsUnderWay-start, IsUnderWay-gap, IsFinished, IsFinished-embedding, IsFinished-opposite}
+use Rattle.bidi_rules.proofs.implicit.neutral.directions.resolve_opposite.Goals as goal
+use Rattle.bidi_rules.proofs.implicit.neutral.directions.resolve_opposite.Goals.{After-loop-run, After-stands_for-2}
 
 -- the direction that stands before the first unit
 before_first : (e sos : BidiClass) → is_l_or_r e ≡ true → is_l_or_r sos ≡ true → (if stands_for (opposite_of e) sos then opposite_of e else e) ≡ sos
@@ -64,7 +64,7 @@ loop-run-preserved c =
           (subst (λ (rs : List (ℕ × ℕ)). IsUnderWay s c.read_run.new.classes c.read_run.new.self (start_or rs (i + 1) (length s.old))) runs_are gap);
     }
 
-abbrev sequence : After-settle_rest → Unjoined
+abbrev sequence : After-loop-run → Unjoined
 sequence c = record {
   runs = map bounds c.args.runs.now;
   e = c.args.directions.embedding;
@@ -76,35 +76,50 @@ sequence c = record {
   resolved = c.requires.resolved;
 }
 
-finished : (c : After-settle_rest) → IsFinished (sequence c) c.if-stands_for.classes
-finished c =
-    let s = sequence c in
-    let d = c.args.directions in
+-- the runs are read
+read : (c : After-loop-run) → IsUnderWay (sequence c) c.loop-run.classes c.loop-run.join (length c.args.classes.now)
+read c =
+    let runs = map bounds c.args.runs.now in
+    let size = length c.args.classes.now in
+    subst (IsUnderWay (sequence c) c.loop-run.classes c.loop-run.join) (start_or-past runs c.loop-run.run size (omega (arith, c.loop-run-test.false, length-map c.args.runs.now bounds)))
+    (c.loop-run.invariant.reads (sequence c) refl refl refl refl)
+
+asked : (c : After-stands_for-2) → c.stands_for-2.result ≡ stands_for (opposite_of c.args.directions.embedding) c.args.directions.eos
+asked c = c.stands_for-2.ensures ∙ ap (λ (x : BidiClass). stands_for x c.args.directions.eos) c.opposite_of-opposite.ensures
+
+-- the direction at the end is the opposite one
+turned : (c : goal.After-classes-then-stands_for-1) → IsFinished (sequence (goal.at.returns-then-stands_for-clause-kept c).After-loop-run) c.settle.new.classes
+turned c =
     let runs = map bounds c.args.runs.now in
     let mid = c.loop-run.classes in
     let w = c.loop-run.join in
     let inv = c.loop-run.invariant in
-    let size = length c.args.classes.now in
-    let u : IsUnderWay s mid w size =
-    subst (IsUnderWay s mid w) (start_or-past runs c.loop-run.run size (omega (arith, c.loop-run-test.false, length-map c.args.runs.now bounds))) (inv.reads s refl refl refl refl) in
-    let asked : c.stands_for-2.result ≡ stands_for (opposite_of d.embedding) d.eos = c.stands_for-2.ensures ∙ ap (λ (x : BidiClass). stands_for x d.eos) c.opposite_of-opposite.ensures in
-    elim c.if-stands_for.branch [
-      | then-stands_for b ↦
-          let new = b.settle.new.classes in
-          subst (IsFinished s) (sym b.classes-is)
-          (IsFinished-opposite s mid new w c.requires.eos (sym asked ∙ b.if-stands_for.true)
-          (λ waiting. subst (λ (n : ℕ). IsWrittenOver (is_seen (drop w.first_run runs) mid) (opposite_of d.embedding) w.first n mid new) inv.long
-          (subst (λ (x : BidiClass). IsWrittenOver (is_seen (drop w.first_run runs) mid) x w.first (length mid) mid new) inv.opposite (b.settle.ensures.held waiting)))
-          b.settle.ensures.idle u)
-      | else-stands_for b ↦ subst (IsFinished s) (sym b.classes-is) (IsFinished-embedding s mid w c.requires.eos (sym asked ∙ b.if-stands_for.false) u)
-    ]
+    let before = (goal.at.returns-then-stands_for-clause-kept c).After-loop-run in
+    IsFinished-opposite (sequence before) mid c.settle.new.classes w c.requires.eos (sym (asked (goal.at.returns-then-stands_for-clause-kept c).After-stands_for-2) ∙ c.if-stands_for.true)
+    (λ waiting. subst (λ (n : ℕ). IsWrittenOver (is_seen (drop w.first_run runs) mid) (opposite_of c.args.directions.embedding) w.first n mid c.settle.new.classes) inv.long
+    (subst (λ (x : BidiClass). IsWrittenOver (is_seen (drop w.first_run runs) mid) x w.first (length mid) mid c.settle.new.classes) inv.opposite (c.settle.ensures.held waiting)))
+    c.settle.ensures.idle (read before)
 
-pub returns-clause-kept : goal.returns-clause-kept
-returns-clause-kept c =
-    let after = (goal.at.returns-clause-kept c).After-settle_rest in
-    IsFinished-settled (sequence after) after.if-stands_for.classes after.settle_rest.new.classes (finished after) after.settle_rest.ensures.changed
+pub returns-then-stands_for-clause-kept : goal.returns-then-stands_for-clause-kept
+returns-then-stands_for-clause-kept c = (turned c).answers
 
-pub returns-clause-others : goal.returns-clause-others
-returns-clause-others c =
-    let after = (goal.at.returns-clause-others c).After-settle_rest in
-    IsFinished-others (sequence after) after.if-stands_for.classes after.settle_rest.new.classes (finished after) after.settle_rest.ensures.changed after.settle_rest.ensures.same
+pub returns-then-stands_for-clause-others : goal.returns-then-stands_for-clause-others
+returns-then-stands_for-clause-others c = (turned c).unseen
+
+pub returns-then-stands_for-clause-own : goal.returns-then-stands_for-clause-own
+returns-then-stands_for-clause-own c = (turned c).own
+
+-- or the embedding one
+kept : (c : goal.Else-stands_for) → IsFinished (sequence (goal.at.returns-else-stands_for-clause-kept c).After-loop-run) c.loop-run.classes
+kept c =
+    let before = (goal.at.returns-else-stands_for-clause-kept c).After-loop-run in
+    IsFinished-embedding (sequence before) c.loop-run.classes c.loop-run.join c.requires.eos (sym (asked (goal.at.returns-else-stands_for-clause-kept c).After-stands_for-2) ∙ c.if-stands_for.false) (read before)
+
+pub returns-else-stands_for-clause-kept : goal.returns-else-stands_for-clause-kept
+returns-else-stands_for-clause-kept c = (kept c).answers
+
+pub returns-else-stands_for-clause-others : goal.returns-else-stands_for-clause-others
+returns-else-stands_for-clause-others c = (kept c).unseen
+
+pub returns-else-stands_for-clause-own : goal.returns-else-stands_for-clause-own
+returns-else-stands_for-clause-own c = (kept c).own
