@@ -66,15 +66,16 @@ pub fn first_passing<T: ClassTest>(test: T, classes: &[BidiClass], from: usize, 
     if from < to && test.passes(classes[from]) {
         return from;
     }
+    // Units from `to` on are tested with the others, and never answered.
     let mut at = from;
-    while to - at >= 16 {
+    while at < to && classes.len() - at >= 16 {
         if let Some(found) = first_of_sixteen(test, classes, at) {
-            return found;
+            return found.min(to);
         }
         at += 16;
     }
     while at < to && !test.passes(classes[at]) {
         at += 1;
     }
-    at
+    at.min(to)
 }

@@ -1,12 +1,12 @@
 -- W1 over units, one after another.
-use Rattle.std.proofs.Common.{◌≡◌, ℕ, zero, suc, ◌+◌, ◌-◌, ◌<◌, ◌≤◌, Bool, true, false, List, [], ◌∷◌, ◌++◌, length, map, get_or, set, take, drop, subst, refl, sym, ap, ◌∙◌, arith, inl, inr, append_assoc, append-nil, length-set, length-take, length-drop, get_or-set_same, get_or-set_other}
+use Rattle.std.proofs.Common.{◌≡◌, ℕ, zero, suc, ◌+◌, ◌-◌, ◌<◌, ◌≤◌, Bool, true, false, ◌||◌, List, [], ◌∷◌, ◌++◌, length, map, get_or, set, take, drop, subst, refl, sym, ap, ◌∙◌, arith, inl, inr, append_assoc, append-nil, length-set, length-take, length-drop, get_or-set_same, get_or-set_other}
 use Rattle.std.specs.Prelude.{All, filter, min, slice_range}
-use Rattle.std.specs.List.{list_any, range_with_len}
+use Rattle.std.specs.List.{fold, list_any, range_with_len}
 use Rattle.std.specs.declared.ops.Range.{Range}
 use Rattle.std.proofs.lemmas.List.{get_or-take, get_or-drop}
 use Rattle.std.proofs.lemmas.List.Elements.{All-nil, All-cons, All-head, All-tail}
 use Rattle.std.proofs.lemmas.List.Folds.{list_any_at}
-use Rattle.std.proofs.lemmas.Bool.{cases_eq, cases_Bool, both_ways, and_parts, and_left, or_cases, or_parts}
+use Rattle.std.proofs.lemmas.Bool.{cases_eq, cases_Bool, both_ways, and_parts, and_left, or_cases, or_from, or_parts}
 use Rattle.bidi_base.specs.Units.{are_ordered, bounds, in_runs}
 use Rattle.bidi_base.specs.declared.char_data.BidiClass.{BidiClass}
 use Rattle.bidi_base.specs.declared.char_data.BidiClass.TheVariants.{L, NSM, LRI, RLI, FSI, PDI}
@@ -146,6 +146,18 @@ is_any-none test (r ∷ runs) units within none u inside =
           in_part test units r.start r.end u (All-head (λ (q : ℕ × ℕ). q.1 ≤ length units) (bounds r) (map bounds runs) within) ends.0 ends.1 (sym (fold_any test (part_of units (bounds r))) ∙ parts.0)
       | inr later ↦ is_any-none test runs units (All-tail (λ (q : ℕ × ℕ). q.1 ≤ length units) (bounds r) (map bounds runs) within) parts.1 u later
     ]
+
+-- what fails a test that asks for more fails the other
+is_any_of-weaker : (f g : BidiClass → Bool) → ((c : BidiClass) → f c ≡ false → g c ≡ false) → (cs : List BidiClass) (a b : Bool) → (a ≡ false → b ≡ false) → fold (λ found class. found || f class) a cs ≡ false → fold (λ found class. found || g class) b cs ≡ false
+is_any_of-weaker f g w [] a b before none = before none
+is_any_of-weaker f g w (c ∷ cs) a b before none =
+    is_any_of-weaker f g w cs (a || f c) (b || g c) (λ h. let parts = or_parts a (f c) h in or_from b (g c) (before parts.0) (w c parts.1)) none
+
+pub is_any-weaker : (f g : BidiClass → Bool) → ((c : BidiClass) → f c ≡ false → g c ≡ false) → (runs : List (Range ℕ)) (units : List BidiClass) → is_any f runs units ≡ false → is_any g runs units ≡ false
+is_any-weaker f g w [] units none = refl
+is_any-weaker f g w (r ∷ runs) units none =
+    let parts = or_parts (is_any_of f (part_of units (bounds r))) (is_any f runs units) none in
+    or_from (is_any_of g (part_of units (bounds r))) (is_any g runs units) (is_any_of-weaker f g w (part_of units (bounds r)) false false (λ h. h) parts.0) (is_any-weaker f g w runs units parts.1)
 
 -- so of the units that are seen
 pub All-seen : (P : ℕ → Type 0) (runs : List (ℕ × ℕ)) (units : List BidiClass) → ((u : ℕ) → in_runs runs u ≡ true → P u) → All P (seen_units runs units)

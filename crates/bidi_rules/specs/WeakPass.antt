@@ -1,8 +1,8 @@
 -- The weak types in passes from the front: W1, and W2 to W7 in one walk, which holds back what waits for the next character to decide; first over characters, then over units.
-use Rattle.std.specs.Prelude.{ℕ, zero, suc, ◌-◌, Bool, true, false, if◌then◌else◌, List, [], ◌∷◌, ◌++◌, replicate}
+use Rattle.std.specs.Prelude.{ℕ, zero, suc, ◌-◌, Bool, true, false, ◌||◌, if◌then◌else◌, List, [], ◌∷◌, ◌++◌, replicate}
 use Rattle.bidi_base.specs.declared.char_data.BidiClass.{BidiClass}
 use Rattle.bidi_base.specs.declared.char_data.BidiClass.TheVariants.{L, R, AL, EN, ES, ET, AN, CS, NSM, ON}
-use Rattle.bidi_base.specs.Classes.{is_strong, is_al, is_l}
+use Rattle.bidi_base.specs.Classes.{is_strong, is_al, is_l, is_nsm}
 use Rattle.bidi_base.specs.Weak.{carried}
 use Rattle.bidi_rules.specs.declared.implicit.weak.steps.Before.{Before}
 use Rattle.bidi_rules.specs.declared.implicit.weak.steps.Before.TheVariants.{Other, European, EuropeanTerminators, Arabic, Terminators, EuropeanSeparator, ArabicSeparator}
@@ -139,6 +139,10 @@ abbrev pub is_number : BidiClass → Bool
 is_number EN = true
 is_number AN = true
 is_number _ = false
+
+-- a nonspacing mark, or a number
+abbrev pub is_mark_or_number : BidiClass → Bool
+is_mark_or_number c = is_nsm c || is_number c
 
 -- a class that asks for what stands around it, or makes others ask, where nothing stands before
 abbrev pub is_asked : BidiClass → Bool

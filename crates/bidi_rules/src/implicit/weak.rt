@@ -1,14 +1,16 @@
 //! The weak types in place (W1 to W7).
 
-ghost use Rattle.std.specs.Prelude.{◌≡◌, ℕ, ◌+◌, ◌-◌, ◌*◌, ◌<◌, ◌≤◌, true, false, ◌&&◌, nat_lt, length, map, drop, get_or, if◌then◌else◌, IsTrue};
-ghost use Rattle.bidi_base.specs.Classes.{is_kept_in_place};
+ghost use Rattle.std.specs.Prelude.{◌≡◌, ℕ, ◌+◌, ◌-◌, ◌*◌, ◌<◌, ◌≤◌, true, false, ◌&&◌, nat_lt, List, length, map, drop, get_or, if◌then◌else◌, IsTrue};
+ghost use Rattle.bidi_base.specs.Classes.{is_kept_in_place, is_l_or_r};
 ghost use Rattle.bidi_base.specs.Places.{at_places, class_at};
-ghost use Rattle.bidi_base.specs.Text.{IsLine, is_per_char, place, text_len};
+ghost use Rattle.bidi_base.specs.Text.{IsLine, is_per_char, place, text_len, IsPerChar};
 ghost use Rattle.bidi_base.specs.Units.{bounds, are_ordered, chars_in_runs, in_runs, kept_in_place, units_in_runs, AreLines};
-ghost use Rattle.bidi_base.specs.Weak.{weak_classes};
+ghost use Rattle.bidi_base.specs.Weak.{carried, weak_classes};
+ghost use Rattle.bidi_base.specs.declared.char_data.BidiClass.{BidiClass};
 ghost use Rattle.bidi_base.specs.declared.char_data.BidiClass.TheVariants.{L, BN};
 ghost use Rattle.bidi_rules.specs.RunSequence.{lent_runs, lent_sos, runs as runs_of, sos as sos_of};
-ghost use Rattle.bidi_rules.specs.WeakWalk.{count_below, is_seen, part_of, IsWrittenOver};
+ghost use Rattle.bidi_rules.specs.WeakPass.{is_mark_or_number};
+ghost use Rattle.bidi_rules.specs.WeakWalk.{count_below, is_any, is_any_of, is_seen, len_at, part_of, IsMarked, IsWalked, IsWrittenOver};
 
 mod left_over;
 mod marks;
@@ -17,11 +19,11 @@ mod steps;
 
 use super::is_kept_in_place;
 use crate::prepare::{IsolatingRunSequence, LentSequence, LevelRun, Steps};
-use bidi_base::char_data::BidiClass;
+use bidi_base::char_data::BidiClass::{self, NSM};
 use bidi_base::text::TextSource;
 use left_over::change;
 use marks::resolve_marks;
-use numbers::resolve_numbers;
+use numbers::{is_number, resolve_numbers};
 use std::marker::Brand;
 use std::sync::ledger::{Blank, Ledger};
 
@@ -227,7 +229,54 @@ fn resolve_weak_lent_counted<T: TextSource, S: Ledger>(
 {
     let runs = sequence.runs();
     let sos = sequence.sos();
-    resolve_marks(runs, sos, processing_classes, steps);
-    resolve_numbers(text, runs, sos, processing_classes, steps);
+    resolve_marks_and_numbers(text, runs, sos, processing_classes, steps);
     change(runs, processing_classes, steps);
+}
+
+/// W1, and W2, W4, W5 and W7 behind it, which ask for nonspacing marks and numbers alone.
+fn resolve_marks_and_numbers<T: TextSource, S: Ledger>(
+    text: T,
+    runs: &[LevelRun],
+    sos: BidiClass,
+    classes: &mut [BidiClass],
+    steps: &mut Steps<S>,
+)
+    requires ordered { IsTrue (are_ordered (map bounds runs.now)) }
+    requires lines { AreLines T.units (T.characters text) (map bounds runs.now) }
+    requires per_char { IsPerChar T.units (T.characters text) classes.old }
+    requires sos { IsTrue (is_l_or_r sos) }
+    ensures walked { (marked : List BidiClass) × IsMarked (map bounds runs.now) (carried sos) classes.old marked × IsWalked (len_at T.units (T.characters text)) (map bounds runs.now) sos marked classes.new }
+    ensures at_least { steps.old ≤ steps.new }
+    ensures at_most { steps.new ≤ steps.old + 6 * length (units_in_runs (map bounds runs.now)) }
+{
+    if has_marks_or_numbers(runs, classes) {
+        resolve_marks(runs, sos, classes, steps);
+        resolve_numbers(text, runs, sos, classes, steps);
+    }
+}
+
+/// Whether a nonspacing mark or a number stands in the runs.
+fn has_marks_or_numbers(runs: &[LevelRun], classes: &[BidiClass]) -> bool
+    ensures { result ≡ is_any is_mark_or_number runs.now classes.now }
+{
+    runs.iter()
+        .any(|run| is_mark_or_number_in(part_of(classes, run)))
+}
+
+/// Whether one of the classes is that of a nonspacing mark or a number. All are looked at, many at once,
+/// which the compiler sees only where this stands by itself.
+#[inline(never)]
+fn is_mark_or_number_in(classes: &[BidiClass]) -> bool
+    ensures { result ≡ is_any_of is_mark_or_number classes.now }
+{
+    classes
+        .iter()
+        .fold(false, |found, class| found | is_mark_or_number(*class))
+}
+
+/// Whether a class is that of a nonspacing mark or a number.
+fn is_mark_or_number(class: BidiClass) -> bool
+    ensures { result ≡ is_mark_or_number class }
+{
+    (class == NSM) | is_number(class)
 }

@@ -6,7 +6,6 @@ use Rattle.bidi_base.proofs.search.first_passing.Given as goal
 abbrev pub invariant-loop-at : goal.invariant-loop-at
 invariant-loop-at g l = record {
   begins : l.from ≤ l.at;
-  ends : l.at ≤ l.to;
   before : (k : ℕ) → l.from ≤ k → k < l.at → g.T.ClassTest.test l.test (class_at l.classes k) ≡ false;
 }
 
@@ -16,7 +15,6 @@ decreases-loop-at g l = l.to - l.at
 abbrev pub invariant-loop-at-2 : goal.invariant-loop-at-2
 invariant-loop-at-2 g l = record {
   begins : l.from ≤ l.at;
-  ends : l.at ≤ l.to;
   before : (k : ℕ) → l.from ≤ k → k < l.at → g.T.ClassTest.test l.test (class_at l.classes k) ≡ false;
 }
 

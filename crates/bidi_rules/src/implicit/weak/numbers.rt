@@ -87,7 +87,7 @@ fn is_number_in(classes: &[BidiClass]) -> bool
 }
 
 /// Whether a class is a European or Arabic number.
-fn is_number(class: BidiClass) -> bool
+pub fn is_number(class: BidiClass) -> bool
     ensures { result ≡ is_number class }
 {
     (class == EN) | (class == AN)

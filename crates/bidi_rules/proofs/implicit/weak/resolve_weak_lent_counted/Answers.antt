@@ -15,7 +15,7 @@ use Rattle.bidi_rules.specs.WeakPass.{left_over}
 use Rattle.bidi_rules.specs.WeakWalk.{len_at, IsMarked, IsWalked}
 use Rattle.bidi_rules.proofs.CountBelow.{characters-at_most}
 use Rattle.bidi_rules.proofs.WalkLemmas.{is_run_sequence-ordered}
-use Rattle.bidi_rules.proofs.WeakText.{IsResolved, IsResolved-passes, lines-within, marked-IsPerChar}
+use Rattle.bidi_rules.proofs.WeakText.{IsResolved, IsResolved-passes, lines-within}
 use Rattle.bidi_rules.proofs.implicit.weak.resolve_weak_lent_counted.Goals as goal
 
 -- what the steps over the runs `read` of a sequence stand on
@@ -39,25 +39,13 @@ resolved len_of h chars sequence read sos runs_are sos_is old c1 c2 c3 w marks n
     (subst (λ (s : BidiClass). IsResolved len_of chars (map bounds read) s old c3) sos_is
     (IsResolved-passes len_of h chars (map bounds read) w.lines w.ordered sos old w.per c1 marks c2 c3 numbers changed same long))
 
-pub resolve_marks-requires-clause-within : goal.resolve_marks-requires-clause-within
-resolve_marks-requires-clause-within g c =
-    let len_of = g.T.TextSource.units in
-    let chars : List ℕ = g.T.TextSource.characters c.args.text in
-    let h = g.met.T.TextSource.has_units in
-    let old = c.args.processing_classes.now in
-    let read = c.runs-runs.result.now in
-    let w = ready len_of h chars c.args.sequence read old c.runs-runs.ensures c.requires.fits c.requires.per_char in
-    lines-within len_of h chars (map bounds read) w.lines w.ordered c.sos-sos.result old w.per
+pub resolve_marks_and_numbers-requires-clause-lines : goal.resolve_marks_and_numbers-requires-clause-lines
+resolve_marks_and_numbers-requires-clause-lines g c =
+    (ready g.T.TextSource.units g.met.T.TextSource.has_units (g.T.TextSource.characters c.args.text) c.args.sequence c.runs-runs.result.now c.args.processing_classes.now c.runs-runs.ensures c.requires.fits c.requires.per_char).lines
 
-pub resolve_numbers-requires-clause-per_char : goal.resolve_numbers-requires-clause-per_char
-resolve_numbers-requires-clause-per_char g c =
-    let len_of = g.T.TextSource.units in
-    let chars : List ℕ = g.T.TextSource.characters c.args.text in
-    let h = g.met.T.TextSource.has_units in
-    let old = c.args.processing_classes.now in
-    let read = c.runs-runs.result.now in
-    let w = ready len_of h chars c.args.sequence read old c.runs-runs.ensures c.requires.fits c.requires.per_char in
-    marked-IsPerChar len_of h chars (map bounds read) w.lines w.ordered c.sos-sos.result old w.per c.resolve_marks.new.classes c.resolve_marks.ensures.marked
+pub resolve_marks_and_numbers-requires-clause-per_char : goal.resolve_marks_and_numbers-requires-clause-per_char
+resolve_marks_and_numbers-requires-clause-per_char g c =
+    (ready g.T.TextSource.units g.met.T.TextSource.has_units (g.T.TextSource.characters c.args.text) c.args.sequence c.runs-runs.result.now c.args.processing_classes.now c.runs-runs.ensures c.requires.fits c.requires.per_char).per
 
 pub change-requires-clause-within : goal.change-requires-clause-within
 change-requires-clause-within g c =
@@ -67,7 +55,8 @@ change-requires-clause-within g c =
     let old = c.args.processing_classes.now in
     let read = c.runs-runs.result.now in
     let w = ready len_of h chars c.args.sequence read old c.runs-runs.ensures c.requires.fits c.requires.per_char in
-    rw (c.resolve_numbers.ensures.walked.long, c.resolve_marks.ensures.marked.long) (lines-within len_of h chars (map bounds read) w.lines w.ordered c.sos-sos.result old w.per)
+    let done = c.resolve_marks_and_numbers.ensures.walked in
+    rw (done.2.long, done.1.long) (lines-within len_of h chars (map bounds read) w.lines w.ordered c.sos-sos.result old w.per)
 
 pub returns : goal.returns
 returns g c =
@@ -78,14 +67,15 @@ returns g c =
     let read = c.runs-runs.result.now in
     let w = ready len_of h chars c.args.sequence read old c.runs-runs.ensures c.requires.fits c.requires.per_char in
     let e = c.change.ensures in
-    let r = resolved len_of h chars c.args.sequence read c.sos-sos.result c.runs-runs.ensures c.sos-sos.ensures old c.resolve_marks.new.classes c.resolve_numbers.new.classes c.change.new.classes w
-    c.resolve_marks.ensures.marked c.resolve_numbers.ensures.walked e.changed e.same e.long in
+    let s = c.resolve_marks_and_numbers in
+    let done = s.ensures.walked in
+    let r = resolved len_of h chars c.args.sequence read c.sos-sos.result c.runs-runs.ensures c.sos-sos.ensures old done.0 s.new.classes c.change.new.classes w done.1 done.2 e.changed e.same e.long in
     let few = characters-at_most len_of h chars (map bounds read) w.lines in
     record {
       kept = r.kept;
       removed = r.removed;
       outside = r.outside;
       per_char = r.per_char;
-      at_least = rw (← c.runs-runs.ensures) (omega (arith, few, c.resolve_marks.ensures.at_least, c.resolve_numbers.ensures.at_least, e.at_least));
-      at_most = rw (← c.runs-runs.ensures) (omega (arith, c.resolve_marks.ensures.at_most, c.resolve_numbers.ensures.at_most, e.at_most));
+      at_least = rw (← c.runs-runs.ensures) (omega (arith, few, s.ensures.at_least, e.at_least));
+      at_most = rw (← c.runs-runs.ensures) (omega (arith, s.ensures.at_most, e.at_most));
     }
