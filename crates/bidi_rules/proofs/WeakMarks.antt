@@ -1,12 +1,12 @@
 -- W1 over units, one after another.
-use Rattle.std.proofs.Common.{◌≡◌, ℕ, zero, suc, ◌+◌, ◌-◌, ◌<◌, ◌≤◌, Bool, true, false, ◌||◌, List, [], ◌∷◌, ◌++◌, length, map, get_or, set, take, drop, subst, refl, sym, ap, ◌∙◌, arith, inl, inr, append_assoc, append-nil, length-set, length-take, length-drop, get_or-set_same, get_or-set_other}
+use Rattle.std.proofs.Common.{◌≡◌, ℕ, zero, suc, ◌+◌, ◌-◌, ◌*◌, ◌/◌, ◌<◌, ◌≤◌, Bool, true, false, List, [], ◌∷◌, ◌++◌, length, map, get_or, set, take, drop, subst, refl, sym, ap, ◌∙◌, arith, inl, inr, append_assoc, append-nil, length-set, length-take, length-drop, get_or-set_same, get_or-set_other}
 use Rattle.std.specs.Prelude.{All, filter, min, slice_range}
-use Rattle.std.specs.List.{fold, list_any, range_with_len}
+use Rattle.std.specs.List.{list_any, range_with_len}
 use Rattle.std.specs.declared.ops.Range.{Range}
 use Rattle.std.proofs.lemmas.List.{get_or-take, get_or-drop}
 use Rattle.std.proofs.lemmas.List.Elements.{All-nil, All-cons, All-head, All-tail}
 use Rattle.std.proofs.lemmas.List.Folds.{list_any_at}
-use Rattle.std.proofs.lemmas.Bool.{cases_eq, cases_Bool, both_ways, and_parts, and_left, or_cases, or_from, or_parts}
+use Rattle.std.proofs.lemmas.Bool.{cases_eq, cases_Bool, both_ways, and_parts, and_left, or_cases, or_parts}
 use Rattle.bidi_base.specs.Units.{are_ordered, bounds, in_runs}
 use Rattle.bidi_base.specs.declared.char_data.BidiClass.{BidiClass}
 use Rattle.bidi_base.specs.declared.char_data.BidiClass.TheVariants.{L, NSM, LRI, RLI, FSI, PDI}
@@ -15,7 +15,7 @@ use Rattle.bidi_base.specs.Places.{at_places, class_at}
 use Rattle.bidi_base.specs.Weak.{carried}
 use Rattle.bidi_base.proofs.StoredLemmas.{at_places-append}
 use Rattle.bidi_rules.specs.WeakPass.{marked, after_w1}
-use Rattle.bidi_rules.specs.WeakWalk.{is_seen, part_of, is_any, is_any_of, seen_from, seen_units, AreMarked, IsMarked}
+use Rattle.bidi_rules.specs.WeakWalk.{is_seen, part_of, is_any, is_any_of, wide_part_of, is_any_wide, seen_from, seen_units, AreMarked, IsMarked}
 use Rattle.bidi_rules.proofs.FoldAny.{fold_any}
 use Rattle.bidi_rules.proofs.InRuns.{in_run, in_run-true, start_or, start_within, gap_before, gap_after, next_start}
 use Rattle.bidi_rules.proofs.Marks.{marked-none, marked-parts, marked-empty, marked-one, at_marked-same}
@@ -121,43 +121,46 @@ module _ (runs : List (ℕ × ℕ)) (sos : BidiClass) (old : List BidiClass) whe
 
 -- ---- where no class passes a test
 
-in_part : (test : BidiClass → Bool) (units : List BidiClass) (start end u : ℕ) → end ≤ length units → start ≤ u → u < end → list_any test (part_of units (start, end)) ≡ false → test (class_at units u) ≡ false
+in_part : (test : BidiClass → Bool) (units : List BidiClass) (start end u : ℕ) → end ≤ length units → start ≤ u → u < end → list_any test (slice_range units start end) ≡ false → test (class_at units u) ≡ false
 in_part test units start end u fits from below none =
-    let top : min end (length units) ≡ end = omega arith in
-    let bottom : min start end ≡ start = omega arith in
     let part = take (end - start) (drop start units) in
-    let is : part_of units (start, end) ≡ part = ap (λ e. slice_range units (min start e) e) top ∙ ap (λ s. slice_range units s end) bottom in
     let at : start + (u - start) ≡ u = omega arith in
     let read : get_or part (u - start) L ≡ class_at units u = get_or-take (end - start) (drop start units) (u - start) L (omega arith) ∙ get_or-drop start units (u - start) L ∙ ap (class_at units) at in
     elim (cases_Bool (test (class_at units u))) [
       | inl passes ↦
-          absurd (both_ways (list_any test part) (ap (list_any test) (sym is) ∙ none)
+          absurd (both_ways (list_any test part) none
           (list_any_at test part (u - start) L (omega (arith, length-take (end - start) (drop start units), length-drop start units)) (ap test read ∙ passes)))
       | inr fails ↦ fails
     ]
 
-pub is_any-none : (test : BidiClass → Bool) (runs : List (Range ℕ)) (units : List BidiClass) → All (λ r. r.1 ≤ length units) (map bounds runs) → is_any test runs units ≡ false → (u : ℕ) → in_runs (map bounds runs) u ≡ true → test (class_at units u) ≡ false
-is_any-none test [] units within none u inside = absurd (both_ways false refl inside)
-is_any-none test (r ∷ runs) units within none u inside =
-    let parts = or_parts (is_any_of test (part_of units (bounds r))) (is_any test runs units) none in
+-- none passes in parts of the runs that have all their units
+none_in : (part : List BidiClass → ℕ × ℕ → List BidiClass) (test : BidiClass → Bool) (units : List BidiClass)
+    → ((r : ℕ × ℕ) (u : ℕ) → r.1 ≤ length units → r.0 ≤ u → u < r.1 → list_any test (part units r) ≡ false → test (class_at units u) ≡ false)
+    → (runs : List (Range ℕ)) → All (λ r. r.1 ≤ length units) (map bounds runs) → list_any (λ run. is_any_of test (part units (bounds run))) runs ≡ false → (u : ℕ) → in_runs (map bounds runs) u ≡ true → test (class_at units u) ≡ false
+none_in part test units at [] within none u inside = absurd (both_ways false refl inside)
+none_in part test units at (r ∷ runs) within none u inside =
+    let parts = or_parts (is_any_of test (part units (bounds r))) (list_any (λ run. is_any_of test (part units (bounds run))) runs) none in
     elim (or_cases (in_run (bounds r) u) (in_runs (map bounds runs) u) inside) [
       | inl here ↦
           let ends = in_run-true (bounds r) u here in
-          in_part test units r.start r.end u (All-head (λ (q : ℕ × ℕ). q.1 ≤ length units) (bounds r) (map bounds runs) within) ends.0 ends.1 (sym (fold_any test (part_of units (bounds r))) ∙ parts.0)
-      | inr later ↦ is_any-none test runs units (All-tail (λ (q : ℕ × ℕ). q.1 ≤ length units) (bounds r) (map bounds runs) within) parts.1 u later
+          at (bounds r) u (All-head (λ (q : ℕ × ℕ). q.1 ≤ length units) (bounds r) (map bounds runs) within) ends.0 ends.1 (sym (fold_any test (part units (bounds r))) ∙ parts.0)
+      | inr later ↦ none_in part test units at runs (All-tail (λ (q : ℕ × ℕ). q.1 ≤ length units) (bounds r) (map bounds runs) within) parts.1 u later
     ]
 
--- what fails a test that asks for more fails the other
-is_any_of-weaker : (f g : BidiClass → Bool) → ((c : BidiClass) → f c ≡ false → g c ≡ false) → (cs : List BidiClass) (a b : Bool) → (a ≡ false → b ≡ false) → fold (λ found class. found || f class) a cs ≡ false → fold (λ found class. found || g class) b cs ≡ false
-is_any_of-weaker f g w [] a b before none = before none
-is_any_of-weaker f g w (c ∷ cs) a b before none =
-    is_any_of-weaker f g w cs (a || f c) (b || g c) (λ h. let parts = or_parts a (f c) h in or_from b (g c) (before parts.0) (w c parts.1)) none
+pub is_any-none : (test : BidiClass → Bool) (runs : List (Range ℕ)) (units : List BidiClass) → All (λ r. r.1 ≤ length units) (map bounds runs) → is_any test runs units ≡ false → (u : ℕ) → in_runs (map bounds runs) u ≡ true → test (class_at units u) ≡ false
+is_any-none test runs units within none = none_in part_of test units at runs within none
+  where
+    at : (r : ℕ × ℕ) (u : ℕ) → r.1 ≤ length units → r.0 ≤ u → u < r.1 → list_any test (part_of units r) ≡ false → test (class_at units u) ≡ false
+    at r u fits from below none = in_part test units (min r.0 (min r.1 (length units))) (min r.1 (length units)) u (omega arith) (omega arith) (omega arith) none
 
-pub is_any-weaker : (f g : BidiClass → Bool) → ((c : BidiClass) → f c ≡ false → g c ≡ false) → (runs : List (Range ℕ)) (units : List BidiClass) → is_any f runs units ≡ false → is_any g runs units ≡ false
-is_any-weaker f g w [] units none = refl
-is_any-weaker f g w (r ∷ runs) units none =
-    let parts = or_parts (is_any_of f (part_of units (bounds r))) (is_any f runs units) none in
-    or_from (is_any_of g (part_of units (bounds r))) (is_any g runs units) (is_any_of-weaker f g w (part_of units (bounds r)) false false (λ h. h) parts.0) (is_any-weaker f g w runs units parts.1)
+pub is_any_wide-none : (test : BidiClass → Bool) (runs : List (Range ℕ)) (units : List BidiClass) → All (λ r. r.1 ≤ length units) (map bounds runs) → is_any_wide test runs units ≡ false → (u : ℕ) → in_runs (map bounds runs) u ≡ true → test (class_at units u) ≡ false
+is_any_wide-none test runs units within none = none_in wide_part_of test units at runs within none
+  where
+    at : (r : ℕ × ℕ) (u : ℕ) → r.1 ≤ length units → r.0 ≤ u → u < r.1 → list_any test (wide_part_of units r) ≡ false → test (class_at units u) ≡ false
+    at r u fits from below none =
+        let end = min r.1 (length units) in
+        let start = min r.0 end in
+        in_part test units start (min (start + (end - start + 31) / 32 * 32) (length units)) u (omega arith) (omega arith) (omega arith) none
 
 -- so of the units that are seen
 pub All-seen : (P : ℕ → Type 0) (runs : List (ℕ × ℕ)) (units : List BidiClass) → ((u : ℕ) → in_runs runs u ≡ true → P u) → All P (seen_units runs units)
@@ -180,9 +183,9 @@ after_w1-none units (u ∷ us) mark none =
     own NSM h = absurd (cc h)
     own _ h = refl
 
-pub IsMarked-none : (runs : List (Range ℕ)) (sos : BidiClass) (old : List BidiClass) → All (λ r. r.1 ≤ length old) (map bounds runs) → is_any is_nsm runs old ≡ false → IsMarked (map bounds runs) sos old old
-IsMarked-none runs sos old within none = record {
-  answers = sym (after_w1-none old (seen_units (map bounds runs) old) sos (All-seen (λ u. is_nsm (class_at old u) ≡ false) (map bounds runs) old (is_any-none is_nsm runs old within none)));
+pub IsMarked-none : (runs : List (Range ℕ)) (sos : BidiClass) (old : List BidiClass) → ((u : ℕ) → in_runs (map bounds runs) u ≡ true → is_nsm (class_at old u) ≡ false) → IsMarked (map bounds runs) sos old old
+IsMarked-none runs sos old none = record {
+  answers = sym (after_w1-none old (seen_units (map bounds runs) old) sos (All-seen (λ u. is_nsm (class_at old u) ≡ false) (map bounds runs) old none));
   unseen = λ k h. refl;
   kept = λ k. refl;
   long = refl;

@@ -20,7 +20,7 @@ use Rattle.bidi_rules.specs.WeakPass.{is_asked, is_other, strengthened, strong_u
 use Rattle.bidi_rules.specs.WeakWalk.{is_seen, is_any, seen_units, IsWrittenOver, Pass, seen, units, IsUnderWay, IsStretch, IsWalked}
 use Rattle.bidi_rules.proofs.InRuns.{in_runs-at, in_runs-drop, start_or, start_within, gap_before, gap_after, next_start}
 use Rattle.bidi_rules.proofs.Marks.{marked-none, marked-parts, marked-empty, marked-full, at_marked-same, at_marked-all}
-use Rattle.bidi_rules.proofs.WeakMarks.{is_any-none, All-seen}
+use Rattle.bidi_rules.proofs.WeakMarks.{All-seen}
 use Rattle.bidi_rules.proofs.WeakUnits.{walked-plain, row-joins, row-waits, row-decides}
 use Rattle.bidi_rules.proofs.WrittenOver.{IsWrittenOver-same_test}
 
@@ -417,9 +417,9 @@ module _ (p : Pass) (ordered : are_ordered p.runs ≡ true) (within : All (λ (r
       (λ k from below. and_left (in_runs p.runs k) (is_kept_in_place (class_at p.old k)) (gap_after 0 index p.runs k (length p.old) ordered fits from below)))
 
 -- where no number stands nothing is written
-pub IsWalked-none : (len : ℕ → ℕ) (runs : List (Range ℕ)) (sos : BidiClass) (old : List BidiClass) → All (λ r. r.1 ≤ length old) (map bounds runs) → is_any is_number runs old ≡ false → IsWalked len (map bounds runs) sos old old
-IsWalked-none len runs sos old within none = record {
-  answers = sym (walked-plain old len (seen_units (map bounds runs) old) (All-seen (λ u. is_number (class_at old u) ≡ false) (map bounds runs) old (is_any-none is_number runs old within none)) sos Other 0 refl);
+pub IsWalked-none : (len : ℕ → ℕ) (runs : List (Range ℕ)) (sos : BidiClass) (old : List BidiClass) → ((u : ℕ) → in_runs (map bounds runs) u ≡ true → is_number (class_at old u) ≡ false) → IsWalked len (map bounds runs) sos old old
+IsWalked-none len runs sos old none = record {
+  answers = sym (walked-plain old len (seen_units (map bounds runs) old) (All-seen (λ u. is_number (class_at old u) ≡ false) (map bounds runs) old none) sos Other 0 refl);
   unseen = λ k h. refl;
   long = refl;
 }

@@ -1,5 +1,5 @@
 -- The weak passes over units in place: what each has done once it read some units of a slice.
-use Rattle.std.specs.Prelude.{◌≡◌, ℕ, ◌+◌, ◌-◌, ◌<◌, ◌≤◌, Bool, true, false, ◌&&◌, ◌||◌, if◌then◌else◌, List, ◌++◌, length, map, filter, get_or, min, slice_range, sum_by}
+use Rattle.std.specs.Prelude.{◌≡◌, ℕ, ◌+◌, ◌-◌, ◌*◌, ◌/◌, ◌<◌, ◌≤◌, Bool, true, false, ◌&&◌, ◌||◌, if◌then◌else◌, List, ◌++◌, length, map, filter, get_or, min, slice_range, sum_by}
 use Rattle.std.specs.List.{fold, list_any}
 use Rattle.std.specs.Option.{option_map_or}
 use Rattle.std.specs.declared.ops.Range.{Range}
@@ -36,6 +36,16 @@ is_any_of test classes = fold (λ found class. found || test class) false classe
 -- one in some ranges passes the test
 abbrev pub is_any : (BidiClass → Bool) → List (Range ℕ) → List BidiClass → Bool
 is_any test runs units = list_any (λ run. is_any_of test (part_of units (bounds run))) runs
+
+-- the classes of a range, and of the units behind it up to a multiple of 32 in all
+abbrev pub wide_part_of : List BidiClass → ℕ × ℕ → List BidiClass
+wide_part_of units r =
+    let end = min r.1 (length units) in
+    let start = min r.0 end in
+    slice_range units start (min (start + (end - start + 31) / 32 * 32) (length units))
+
+abbrev pub is_any_wide : (BidiClass → Bool) → List (Range ℕ) → List BidiClass → Bool
+is_any_wide test runs units = list_any (λ run. is_any_of test (wide_part_of units (bounds run))) runs
 
 -- the seen units from `low` up to `high`, and all of them
 abbrev pub seen_from : List (ℕ × ℕ) → List BidiClass → ℕ → ℕ → List ℕ

@@ -10,7 +10,7 @@ ghost use Rattle.bidi_base.specs.declared.char_data.BidiClass.{BidiClass};
 ghost use Rattle.bidi_base.specs.declared.char_data.BidiClass.TheVariants.{L, BN};
 ghost use Rattle.bidi_rules.specs.RunSequence.{lent_runs, lent_sos, runs as runs_of, sos as sos_of};
 ghost use Rattle.bidi_rules.specs.WeakPass.{is_mark_or_number};
-ghost use Rattle.bidi_rules.specs.WeakWalk.{count_below, is_any, is_any_of, is_seen, len_at, part_of, IsMarked, IsWalked, IsWrittenOver};
+ghost use Rattle.bidi_rules.specs.WeakWalk.{count_below, is_any_of, is_any_wide, is_seen, len_at, part_of, wide_part_of, IsMarked, IsWalked, IsWrittenOver};
 
 mod left_over;
 mod marks;
@@ -255,12 +255,27 @@ fn resolve_marks_and_numbers<T: TextSource, S: Ledger>(
     }
 }
 
-/// Whether a nonspacing mark or a number stands in the runs.
+/// Whether a nonspacing mark or a number stands in the runs, or a little behind one.
 fn has_marks_or_numbers(runs: &[LevelRun], classes: &[BidiClass]) -> bool
-    ensures { result ≡ is_any is_mark_or_number runs.now classes.now }
+    ensures { result ≡ is_any_wide is_mark_or_number runs.now classes.now }
 {
     runs.iter()
-        .any(|run| is_mark_or_number_in(part_of(classes, run)))
+        .any(|run| is_mark_or_number_in(wide_part_of(classes, run)))
+}
+
+/// How many units are looked at together.
+const WIDE: usize = 32;
+
+/// The classes of a run's units, as far as there are any, and of those behind it up to the next multiple
+/// of [`WIDE`] in all, so that no unit is looked at by itself.
+fn wide_part_of<'c>(classes: &'c [BidiClass], run: &LevelRun) -> &'c [BidiClass]
+    ensures { result.now ≡ wide_part_of classes.now (bounds run.now) }
+{
+    let end = run.end.min(classes.len());
+    let start = run.start.min(end);
+    let units = (end - start + (WIDE - 1)) / WIDE * WIDE;
+    let wide_end = (start + units).min(classes.len());
+    &classes[start..wide_end]
 }
 
 /// Whether one of the classes is that of a nonspacing mark or a number. All are looked at, many at once,

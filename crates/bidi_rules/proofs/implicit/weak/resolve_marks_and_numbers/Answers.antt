@@ -1,13 +1,14 @@
 -- Where neither a mark nor a number stands, nothing is written.
-use Rattle.std.proofs.Common.{◌≡◌, ℕ, false, List, map, sym, ◌∙◌}
+use Rattle.std.proofs.Common.{◌≡◌, ℕ, true, List, map, sym, ◌∙◌}
 use Rattle.std.proofs.lemmas.Bool.{or_parts}
 use Rattle.bidi_base.specs.declared.char_data.BidiClass.{BidiClass}
 use Rattle.bidi_base.specs.Classes.{is_nsm}
-use Rattle.bidi_base.specs.Units.{bounds}
+use Rattle.bidi_base.specs.Places.{class_at}
+use Rattle.bidi_base.specs.Units.{bounds, in_runs}
 use Rattle.bidi_base.specs.Weak.{carried}
 use Rattle.bidi_rules.specs.WeakPass.{is_number, is_mark_or_number}
 use Rattle.bidi_rules.specs.WeakWalk.{len_at}
-use Rattle.bidi_rules.proofs.WeakMarks.{is_any-weaker, IsMarked-none}
+use Rattle.bidi_rules.proofs.WeakMarks.{is_any_wide-none, IsMarked-none}
 use Rattle.bidi_rules.proofs.WeakText.{lines-within, marked-IsPerChar}
 use Rattle.bidi_rules.proofs.WeakWalkLemmas.{IsWalked-none}
 use Rattle.bidi_rules.proofs.implicit.weak.resolve_marks_and_numbers.Goals as goal
@@ -31,7 +32,6 @@ returns-else-has_marks_or_numbers-clause-walked g c =
     let runs = c.args.runs.now in
     let old = c.args.classes.now in
     let within = lines-within len_of g.met.T.TextSource.has_units chars (map bounds runs) c.requires.lines c.requires.ordered c.args.sos old c.requires.per_char in
-    let none = sym c.has_marks_or_numbers.ensures ∙ c.if-has_marks_or_numbers.false in
-    let no_mark = is_any-weaker is_mark_or_number is_nsm (λ x h. (or_parts (is_nsm x) (is_number x) h).0) runs old none in
-    let no_number = is_any-weaker is_mark_or_number is_number (λ x h. (or_parts (is_nsm x) (is_number x) h).1) runs old none in
-    (old, IsMarked-none runs (carried c.args.sos) old within no_mark, IsWalked-none (len_at len_of chars) runs c.args.sos old within no_number)
+    let none = is_any_wide-none is_mark_or_number runs old within (sym c.has_marks_or_numbers.ensures ∙ c.if-has_marks_or_numbers.false) in
+    let each = λ (u : ℕ) (inside : in_runs (map bounds runs) u ≡ true). or_parts (is_nsm (class_at old u)) (is_number (class_at old u)) (none u inside) in
+    (old, IsMarked-none runs (carried c.args.sos) old (λ u inside. (each u inside).0), IsWalked-none (len_at len_of chars) runs c.args.sos old (λ u inside. (each u inside).1))

@@ -13,6 +13,8 @@ use Rattle.bidi_rules.specs.WeakWalk.{count_below, is_seen, len_at, settled_to, 
 use Rattle.bidi_rules.specs.declared.implicit.weak.numbers.Walk.{Walk}
 use Rattle.bidi_rules.proofs.CountBelow.{count_below-all, count_below-monotone, count_below-within, count_settled-monotone, WaitsBelow-idle, WaitsBelow-later}
 use Rattle.bidi_rules.proofs.InRuns.{next_start, run_some, start_or, start_or-at, start_or-past}
+use Rattle.bidi_rules.specs.WeakPass.{is_number}
+use Rattle.bidi_rules.proofs.WeakMarks.{is_any-none}
 use Rattle.bidi_rules.proofs.WeakText.{IsWhole-line}
 use Rattle.bidi_rules.proofs.WeakWalkLemmas.{IsUnderWay-first_run, IsUnderWay-next_run, IsWrittenOver-settled, IsWalked-settled, IsWalked-none}
 use Rattle.bidi_rules.proofs.implicit.weak.numbers.resolve_numbers.Goals as goal
@@ -117,7 +119,8 @@ returns-then-not-has_numbers-clause-walked g c =
     let len_of = g.T.TextSource.units in
     let chars : List ℕ = g.T.TextSource.characters c.args.text in
     let old = c.args.classes.now in
-    IsWalked-none (len_at len_of chars) c.args.runs.now c.args.sos old (within len_of chars (map bounds c.args.runs.now) old c.requires.lines c.requires.per_char) (sym c.has_numbers.ensures ∙ c.if-not-has_numbers.true)
+    IsWalked-none (len_at len_of chars) c.args.runs.now c.args.sos old
+    (is_any-none is_number c.args.runs.now old (within len_of chars (map bounds c.args.runs.now) old c.requires.lines c.requires.per_char) (sym c.has_numbers.ensures ∙ c.if-not-has_numbers.true))
 
 -- all runs are read
 record AreRead (runs : List (ℕ × ℕ)) (w : Walk) (n steps first : ℕ) : Type 0 where
