@@ -14,8 +14,8 @@ use std::alloc::{AllocError, Global};
 /// hold at its start and at its end (X10), each L or R.
 #[derive(PartialEq, Debug, Drop)]
 pub struct IsolatingRunSequence {
-    /// Most sequences have one run, which takes no memory of its own.
-    runs: SmallVec<LevelRun, 1>,
+    /// Most sequences have one run or two, which take no memory of their own.
+    runs: SmallVec<LevelRun, 2>,
     sos: BidiClass,
     eos: BidiClass,
     pub ghost well_formed: { IsTrue (is_run_sequence (map bounds runs.items) sos eos) },
