@@ -199,24 +199,3 @@ module _ (s : Unjoined) where
         subst IsFinished (sym (idle no'))
         (record { answers = finished-quiet s now u.done (subst (λ (b : Bool). IsJoined s now b u.done size) no' u.joined); unseen = u.joined.unseen; own = u.joined.own })
   ]
-
-  -- N2 is done
-  pub IsFinished-settled : (now new : List BidiClass) → IsFinished now → ((u : ℕ) → in_runs s.runs u ≡ true → class_at new u ≡ n2_rule s.e (class_at now u)) → at_places L new (units_of s 0 size) ≡ n1_n2 s.e s.sos s.eos (at_places L s.old (units_of s 0 size))
-  IsFinished-settled now new f changed =
-      at_marked-changed (is_seen s.runs s.old) (n2_rule s.e) new now 0 size (λ k a b seen. changed k (and_parts (in_runs s.runs k) (is_kept_in_place (class_at s.old k)) seen).0) ∙ f.answers
-
-  removed_stays : (e c : BidiClass) → is_kept_in_place c ≡ false → n2_rule e c ≡ c
-  removed_stays e BN h = refl
-  removed_stays e _ h = absurd (cc h)
-
-  pub IsFinished-others : (now new : List BidiClass) → IsFinished now → ((u : ℕ) → in_runs s.runs u ≡ true → class_at new u ≡ n2_rule s.e (class_at now u)) → ((u : ℕ) → in_runs s.runs u ≡ false → class_at new u ≡ class_at now u)
-      → (u : ℕ) → is_seen s.runs s.old u ≡ false → class_at new u ≡ class_at s.old u
-  IsFinished-others now new f changed same u plain = elim (cases_Bool (in_runs s.runs u)) [
-    | inl inside ↦
-        changed u inside ∙ ap (n2_rule s.e) (f.unseen u plain)
-        ∙ removed_stays s.e (class_at s.old u) (elim (cases_Bool (is_kept_in_place (class_at s.old u))) [
-          | inl kept ↦ absurd (both_ways (is_seen s.runs s.old u) plain (and_from (in_runs s.runs u) (is_kept_in_place (class_at s.old u)) inside kept))
-          | inr gone ↦ gone
-        ])
-    | inr out ↦ same u out ∙ f.unseen u plain
-  ]

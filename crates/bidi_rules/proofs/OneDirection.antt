@@ -1,9 +1,9 @@
 -- A sequence in which each class is a neutral or one direction, which stands at its ends too: N2 alone is left.
-use Rattle.std.proofs.Common.{◌≡◌, ℕ, ◌+◌, ◌<◌, ◌≤◌, Bool, true, false, ◌&&◌, List, [], ◌∷◌, length, map, find, Option, Some, refl, sym, ap, subst, ◌∙◌, arith, inl, inr}
+use Rattle.std.proofs.Common.{◌≡◌, ℕ, Bool, true, false, List, [], ◌∷◌, length, map, find, Option, Some, refl, sym, ap, subst, ◌∙◌, inl, inr}
 use Rattle.std.specs.Prelude.{filter, All}
 use Rattle.std.specs.List.{list_all}
 use Rattle.std.specs.declared.ops.Range.{Range}
-use Rattle.std.proofs.lemmas.Bool.{cases_Bool, and_parts, and_from, and_left, and_right, cond-true, cond-false}
+use Rattle.std.proofs.lemmas.Bool.{cases_Bool, and_parts, and_from, cond-true, cond-false}
 use Rattle.std.proofs.lemmas.List.{length-map}
 use Rattle.std.proofs.lemmas.List.Elements.{All-head, All-tail, All-nil, All-cons, All-map}
 use Rattle.bidi_base.specs.declared.char_data.BidiClass.{BidiClass}
@@ -16,18 +16,15 @@ use Rattle.bidi_base.specs.Neutral.{n2_rule, neutral_classes}
 use Rattle.bidi_base.specs.Places.{at_places, class_at, first_or}
 use Rattle.bidi_base.specs.Sequences.{level_at}
 use Rattle.bidi_base.specs.Source.{Source}
-use Rattle.bidi_base.specs.Text.{place, text_len, IsPerChar}
+use Rattle.bidi_base.specs.Text.{place, text_len}
 use Rattle.bidi_base.specs.Units.{bounds, chars_in_runs, in_runs, kept_in_place, units_in_runs}
 use Rattle.bidi_base.proofs.OneDirection.{goes_with, itself, neutral_classes-one, same_lists}
 use Rattle.bidi_base.proofs.PerCharTests.{class_eq, class_test}
 use Rattle.bidi_base.proofs.TextLemmas.{HasUnits}
 use Rattle.bidi_base.proofs.UnitsLemmas.{is_per_char-from_IsPerChar, length-from_IsPerChar}
 use Rattle.bidi_rules.specs.NeutralPass.{turns_from, values_of, IsReady}
-use Rattle.bidi_rules.specs.WeakWalk.{is_seen, IsWrittenOver}
-use Rattle.bidi_rules.proofs.Spots.{length-values_of}
 use Rattle.bidi_rules.proofs.NeutralSteps.{IsUpToN1, first-is, length-resolved, neutral_classes-is}
 use Rattle.bidi_rules.proofs.NeutralUnits.{places_in_runs}
-use Rattle.bidi_rules.proofs.PassOverText.{IsPerChar-alike, alike_class, in_runs-alike, in_runs-within}
 
 goes_with-from : (e c : BidiClass) → is_l_or_r e ≡ true → is_weak_resolved c ≡ true → turns_from e c ≡ false → goes_with e c ≡ true
 goes_with-from L L s h k = refl
@@ -85,9 +82,6 @@ module _ (len_of : ℕ → ℕ) (h : HasUnits len_of) (chars : List ℕ) (runs :
 
   abbrev places : List ℕ
   places = map (place len_of chars) read
-
-  size : length old ≡ text_len len_of chars
-  size = length-from_IsPerChar len_of chars old ready.per_char
 
   -- a property of the units at which a character is read
   pub at_read : (P : ℕ → Type 0) → ((u : ℕ) → in_runs rs u ≡ true → is_kept_in_place (class_at old u) ≡ true → P u) → All P places

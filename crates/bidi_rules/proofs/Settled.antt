@@ -1,5 +1,5 @@
 -- N2 over the units of a sequence, once N0 and N1 are done.
-use Rattle.std.proofs.Common.{◌≡◌, ℕ, ◌+◌, ◌<◌, ◌≤◌, true, false, List, [], ◌∷◌, length, map, find, Option, None, refl, sym, ap, subst, ◌∙◌, inl, inr}
+use Rattle.std.proofs.Common.{◌≡◌, ℕ, ◌+◌, ◌<◌, ◌≤◌, true, false, List, [], ◌∷◌, length, map, find, None, refl, sym, ap, subst, ◌∙◌, inl, inr}
 use Rattle.std.specs.Prelude.{All}
 use Rattle.std.specs.declared.ops.Range.{Range}
 use Rattle.std.proofs.lemmas.Bool.{cases_Bool}
@@ -12,7 +12,7 @@ use Rattle.bidi_base.specs.Neutral.{n2_rule, neutral_classes}
 use Rattle.bidi_base.specs.Places.{at_places, class_at, first_or}
 use Rattle.bidi_base.specs.Sequences.{level_at}
 use Rattle.bidi_base.specs.Source.{Source}
-use Rattle.bidi_base.specs.Text.{place, text_len, is_per_char, IsPerChar}
+use Rattle.bidi_base.specs.Text.{place, is_per_char, IsPerChar}
 use Rattle.bidi_base.specs.Units.{bounds, in_runs, kept_in_place, units_in_runs}
 use Rattle.bidi_base.proofs.PerCharTests.{class_eq, class_test}
 use Rattle.bidi_base.proofs.TextLemmas.{HasUnits}

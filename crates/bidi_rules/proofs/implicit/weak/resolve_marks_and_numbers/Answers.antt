@@ -1,7 +1,6 @@
 -- Where neither a mark nor a number stands, nothing is written.
 use Rattle.std.proofs.Common.{◌≡◌, ℕ, true, List, map, sym, ◌∙◌}
 use Rattle.std.proofs.lemmas.Bool.{or_parts}
-use Rattle.bidi_base.specs.declared.char_data.BidiClass.{BidiClass}
 use Rattle.bidi_base.specs.Classes.{is_nsm}
 use Rattle.bidi_base.specs.Places.{class_at}
 use Rattle.bidi_base.specs.Units.{bounds, in_runs}

@@ -1,16 +1,15 @@
-use Rattle.std.proofs.Common.{◌≡◌, ◌<◌, ◌≤◌, ℕ, List, length, get_or, map, find, Option, Some, refl, sym, ap, subst, ◌∙◌, arith}
+use Rattle.std.proofs.Common.{◌≡◌, ◌<◌, ◌≤◌, ℕ, List, length, get_or, map, find, Some, refl, sym, ap, subst, ◌∙◌, arith}
 use Rattle.std.specs.Prelude.{All}
 use Rattle.std.specs.declared.ops.Range.{Range}
 use Rattle.std.proofs.lemmas.List.{get_or_default}
 use Rattle.bidi_base.specs.Classes.{is_kept_in_place}
 use Rattle.bidi_base.specs.Levels.{direction_of}
-use Rattle.bidi_base.specs.Places.{class_at, first_or}
+use Rattle.bidi_base.specs.Places.{class_at}
 use Rattle.bidi_base.specs.Sequences.{level_at}
-use Rattle.bidi_base.specs.Text.{place}
-use Rattle.bidi_base.specs.Units.{bounds, in_runs, kept_in_place, units_in_runs}
+use Rattle.bidi_base.specs.Units.{bounds, in_runs, units_in_runs}
 use Rattle.bidi_rules.specs.NeutralPass.{IsReady}
 use Rattle.bidi_rules.specs.RunSequence.{lent_runs, lent_sos, lent_eos}
-use Rattle.bidi_rules.proofs.NeutralSteps.{IsReady-sequence, IsUpToN1, IsUpToN1-none, runs-within, first-is, first-within}
+use Rattle.bidi_rules.proofs.NeutralSteps.{IsReady-sequence, IsUpToN1, runs-within, first-is, first-within}
 use Rattle.bidi_rules.proofs.Settled.{kept-none, IsResolved, IsResolved-settled}
 use Rattle.bidi_rules.proofs.implicit.neutral.NeutralResolver.resolve_lent.Given.{Over}
 use Rattle.bidi_rules.proofs.implicit.neutral.NeutralResolver.resolve_lent.Goals as goal
