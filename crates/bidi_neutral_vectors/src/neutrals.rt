@@ -217,6 +217,34 @@ fn resolve(
     Ok(())
 }
 
+// Resolves the neutrals of a sequence whose runs are lent, with N2 or without it.
+fn resolve_lent(
+    rt: &(impl AllocGlobal + Abort),
+    text: StrText,
+    source: &TableBidiData,
+    sequence: &IsolatingRunSequence,
+    levels: &[Level],
+    original: &[BidiClass],
+    classes: &mut [BidiClass],
+    has_n2: bool,
+) -> Result<(), Fail> {
+    assert!(rt; sequence.fits(text));
+    assert!(rt; is_per_char(text, classes));
+    assert!(rt; levels.len() == classes.len());
+    assert!(rt; original.len() == classes.len());
+    if !are_left_or_removed(classes) {
+        return Err(Fail::from("a class that the weak types do not leave"));
+    }
+    let mut resolver = NeutralResolver::new(rt.alloc());
+    let lent = sequence.lend();
+    if has_n2 {
+        resolver.resolve_lent(text, source, lent, levels, original, classes)?;
+    } else {
+        resolver.resolve_up_to_n1(text, source, lent, levels, original, classes)?;
+    }
+    Ok(())
+}
+
 // The same, which sees that a refusal leaves the classes.
 fn resolve_units(
     rt: &(impl AllocGlobal + Abort),
@@ -429,6 +457,33 @@ fn number_behind_a_left_to_right_letter(rt: HostRuntime) -> Result<(), Fail> {
         let mut levels = [Level::new_explicit(level)?; 3];
         assert_eq!(rt; resolve_levels(&[L, L, L], &mut levels).number(), level);
         assert_eq!(rt; levels, [Level::new_explicit(level)?; 3]);
+    }
+    Ok(())
+}
+
+// N1 gives the opposite direction to a neutral between two of it. N2 gives the embedding direction to the
+// others, which stay without it.
+#[test]
+fn neutrals_with_n2_and_without(rt: HostRuntime) -> Result<(), Fail> {
+    let sequence = sequence_of(rt.alloc(), &[(0, 7)], L, L)?.ok_or("a sequence")?;
+    let source = sample()?;
+    let original = [R, ON, R, ON, L, ON, L];
+    for (has_n2, wanted) in [
+        (false, [R, R, R, ON, L, ON, L]),
+        (true, [R, R, R, L, L, L, L]),
+    ] {
+        let mut classes = original;
+        resolve_lent(
+            &rt,
+            StrText::new("abcdefg"),
+            &source,
+            &sequence,
+            &[Level::ltr(); 7],
+            &original,
+            &mut classes,
+            has_n2,
+        )?;
+        assert_eq!(rt; classes, wanted);
     }
     Ok(())
 }

@@ -37,8 +37,12 @@ found g c =
 
 within : (g : Over) (c : In-Some g) → c.in-Some.first < length c.args.levels.now
 within g c =
-    omega (arith, c.requires.levels, first-within g.T.TextSource.units g.met.T.TextSource.has_units (g.T.TextSource.characters c.args.text) (lent_runs c.args.sequence) (lent_sos c.args.sequence) c.args.processing_classes.now
-    (ready g (goal.at.bounds-levels-first g c).After-runs-runs) c.in-Some.first (found g c))
+    omega (
+      arith,
+      c.requires.levels,
+      first-within g.T.TextSource.units g.met.T.TextSource.has_units (g.T.TextSource.characters c.args.text) (lent_runs c.args.sequence) (lent_sos c.args.sequence) c.args.processing_classes.now
+          (ready g (goal.at.bounds-levels-first g c).After-runs-runs) c.in-Some.first (found g c),
+    )
 
 pub bounds-levels-first : goal.bounds-levels-first
 bounds-levels-first g c = within g c

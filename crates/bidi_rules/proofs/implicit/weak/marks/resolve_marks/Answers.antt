@@ -66,7 +66,7 @@ returns-clause-marked g c =
     (subst (λ (u : ℕ). AreMarked runs (carried c.args.sos) old c.loop-run.classes c.loop-run.mark u) (start_or-past runs c.loop-run.run-index (length old) (omega (arith, length-map c.args.runs.now bounds))) c.loop-run.invariant.0)
 
 pub returns-then-not-has_marks-clause-marked : goal.returns-then-not-has_marks-clause-marked
-returns-then-not-has_marks-clause-marked g c = 
+returns-then-not-has_marks-clause-marked g c =
     IsMarked-none c.args.runs.now (carried c.args.sos) c.args.classes.now (is_any-none is_nsm c.args.runs.now c.args.classes.now c.requires.within (sym c.has_marks.ensures ∙ c.if-not-has_marks.true))
 
 pub returns-clause-at_most : goal.returns-clause-at_most
