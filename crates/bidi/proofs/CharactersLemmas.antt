@@ -1,5 +1,5 @@
 -- Texts to which something is appended.
-use Rattle.std.proofs.Common.{◌≡◌, List, ◌++◌, Result, Ok, Err, OnOk, is_ok}
+use Rattle.std.proofs.Common.{◌≡◌, ℕ, List, ◌++◌, Result, Ok, Err, OnOk, is_ok}
 use Rattle.std.specs.Prelude.{if◌then◌else◌}
 
 -- what holds once a text was appended

@@ -13,7 +13,8 @@ use Rattle.bidi_base.specs.declared.data_source.BidiMatchedOpeningBracket.{BidiM
 use Rattle.bidi_base.specs.Brackets.{max_open_brackets, counted_brackets, bracket_pairs, pairs_of}
 use Rattle.bidi_base.specs.FoundBrackets.{brackets_from, found_brackets, ArePairsOf}
 use Rattle.bidi_base.specs.Places.{find_last}
-use Rattle.bidi_base.proofs.BracketSearch.{AreWithin, AreWithin-opening, AreWithin-pair, IsAt, IsAt-start, IsAt-opening, IsAt-unmatched, IsAt-pair, IsAt-full, IsAt-end}
+use Rattle.bidi_base.specs.PairSearch.{AreWithin, IsAt}
+use Rattle.bidi_base.proofs.BracketSearch.{AreWithin-opening, AreWithin-pair, IsAt-start, IsAt-opening, IsAt-unmatched, IsAt-pair, IsAt-full, IsAt-end}
 use Rattle.bidi_base.proofs.Lists.{cases_Option}
 use Rattle.bidi_base.proofs.PlacesLemmas.{find_last-index}
 

@@ -12,7 +12,8 @@ use Rattle.bidi_base.specs.declared.char_data.BidiClass.{BidiClass}
 use Rattle.bidi_base.specs.declared.data_source.BidiMatchedOpeningBracket.{BidiMatchedOpeningBracket}
 use Rattle.bidi_base.specs.Brackets.{counted_brackets, bracket_at, is_opening, is_closing, is_same_bracket, is_taken, is_available, partner, closed_pairs, bracket_limit, pairs_of, bracket_pairs, IsBehindOrWithin, AreNestedPairs}
 use Rattle.bidi_base.proofs.PlacesLemmas.{find_last-range_with_len}
-use Rattle.bidi_base.proofs.PairsLemmas.{closed_before, closed_before-more, with_closing-none, with_closing-other, with_closing-pair, bracket_pairs-in_order}
+use Rattle.bidi_base.specs.PairSearch.{closed_before}
+use Rattle.bidi_base.proofs.PairsLemmas.{closed_before-more, with_closing-none, with_closing-other, with_closing-pair, bracket_pairs-in_order}
 use Rattle.bidi_base.proofs.Lists.{find-passes, find-index, cases_Option}
 
 -- pairs found one at an index, where each stands rightly to those before

@@ -10,14 +10,7 @@ use Rattle.bidi_base.specs.Places.{in_context}
 use Rattle.bidi_base.proofs.NeutralBlocks.{common, past_neutral}
 use Rattle.bidi_base.proofs.NeutralLemmas.{nearest_direction-more}
 
--- a neutral has no direction, and what W7 leaves without one is a neutral
-neutral-none : (c : BidiClass) → is_neutral c ≡ true → as_direction c ≡ None
-neutral-none L h = absurd (cc h)
-neutral-none R h = absurd (cc h)
-neutral-none EN h = absurd (cc h)
-neutral-none AN h = absurd (cc h)
-neutral-none _ h = refl
-
+-- what W7 leaves without a direction is a neutral
 pub undirected-neutral : (c : BidiClass) → is_weak_resolved c ≡ true → as_direction c ≡ None → is_neutral c ≡ true
 undirected-neutral L h e = absurd (cc e)
 undirected-neutral R h e = absurd (cc e)

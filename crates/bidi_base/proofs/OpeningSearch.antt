@@ -4,14 +4,11 @@ use Rattle.std.proofs.lemmas.List.{length-reverse, get_or-reverse}
 use Rattle.bidi_base.specs.declared.data_source.BidiMatchedOpeningBracket.{BidiMatchedOpeningBracket}
 use Rattle.bidi_base.specs.Places.{find_last}
 use Rattle.bidi_base.specs.Brackets.{bracket_at, is_opening, is_same_bracket}
-use Rattle.bidi_base.proofs.PairsLemmas.{IsUnderWay, IsUnderWay-entry}
+use Rattle.bidi_base.specs.PairSearch.{opening_of, IsUnderWay}
+use Rattle.bidi_base.proofs.PairsLemmas.{IsUnderWay-entry}
 use Rattle.bidi_base.proofs.Lists.{find-map, find-same, map-reverse}
 
 -- the opening character of a bracket
-abbrev pub opening_of : Option BidiMatchedOpeningBracket → ℕ
-opening_of None = 0
-opening_of (Some b) = b.opening
-
 find_last-same : (p q : ℕ → Bool) (xs : List ℕ) → ((k : ℕ) → k < length xs → p (get_or xs k 0) ≡ q (get_or xs k 0)) → find_last p xs ≡ find_last q xs
 find_last-same p q xs same = find-same p q (reverse xs) 0 (λ k below.
     let inside : k < length xs = omega (arith, length-reverse xs) in

@@ -1,5 +1,5 @@
 -- Bracket pairs in one pass from the front: what is closed and what waits at each place, and what the pass has found at its end.
-use Rattle.std.proofs.Common.{◌≡◌, ℕ, zero, suc, ◌+◌, ◌-◌, ◌<◌, ◌≤◌, Bool, true, false, not, ◌&&◌, ◌||◌, eqb, ltb, leb, List, [], ◌∷◌, ◌++◌, length, get_or, take, reverse, filter, filter_map, find, fold, Option, Some, None, option_map, unwrap_or, refl, sym, ap, subst, ◌∙◌, ◌⊎◌, arith, inl, inr, append-nil, append_assoc, add-one, ne_eqb, lt-ltb, le-ltb}
+use Rattle.std.proofs.Common.{◌≡◌, ℕ, zero, suc, ◌+◌, ◌-◌, ◌<◌, ◌≤◌, Bool, true, false, not, ◌&&◌, ◌||◌, eqb, ltb, leb, List, [], ◌∷◌, ◌++◌, length, get_or, take, reverse, filter, filter_map, find, fold, Option, Some, None, unwrap_or, refl, sym, ap, subst, ◌∙◌, ◌⊎◌, arith, inl, inr, append-nil, append_assoc, add-one, ne_eqb, lt-ltb, le-ltb}
 use Rattle.std.specs.Prelude.{⊤}
 use Rattle.std.specs.List.{range_with_len, AllByRecursion}
 use Rattle.std.specs.Option.{option_or}
@@ -11,14 +11,11 @@ use Rattle.bidi_base.specs.declared.char_data.BidiClass.{BidiClass}
 use Rattle.bidi_base.specs.declared.data_source.BidiMatchedOpeningBracket.{BidiMatchedOpeningBracket}
 use Rattle.bidi_base.specs.Places.{between, indexes, find_last}
 use Rattle.bidi_base.specs.Brackets.{max_open_brackets, counted_brackets, bracket_at, is_opening, is_closing, is_same_bracket, is_taken, is_available, available, partner, with_closing, closed_pairs, bracket_limit, pairs_of, bracket_pairs, ArePairsWithin}
+use Rattle.bidi_base.specs.PairSearch.{closed_before, IsUnderWay}
 use Rattle.bidi_base.proofs.PlacesLemmas.{range_with_len-more, find-between-is, find-between-is_None, find_last-range_with_len}
 use Rattle.bidi_base.proofs.BracketsLemmas.{AllClosedBefore, available-opening, available-pair, available-other}
 use Rattle.bidi_base.proofs.Lists.{find-filter, filter-reverse, filter_map-same, option_or-None, cases_Option}
 use Rattle.std.proofs.Math.Bool.{and-true, or-false, and-false}
-
--- the pairs that are closed before j
-abbrev pub closed_before : List (Option BidiMatchedOpeningBracket) → ℕ → List (ℕ × ℕ)
-closed_before brackets j = fold (with_closing brackets) [] (range_with_len 0 j)
 
 -- each pair begins before it ends, and ends before j
 abbrev pub AreInOrder : ℕ → List (ℕ × ℕ) → Type 0
@@ -206,12 +203,7 @@ module _ (brackets : List (Option BidiMatchedOpeningBracket)) where
       let above : i < get_or is k 0 = (let g = AreWaiting-get j (i + 1) is k h.2 (omega arith) in omega (arith, g.1)) in
       rw (lt-ltb i (get_or is k 0) above, AreWaiting-below j (i + 1) is k h.2 (omega arith)) refl
 
-  -- the pass has read what stands before j: the stack holds what waits there, and had room for each opening
-  pub record IsUnderWay (j : ℕ) (waiting : List ℕ) : Type 0 where
-    pub waits : waiting ≡ available brackets (closed_before brackets j) j
-    pub room : (k : ℕ) → k < j → is_opening (bracket_at brackets k) ≡ true → length (available brackets (closed_before brackets k) k) < max_open_brackets
-
-  pub IsUnderWay-start : IsUnderWay 0 []
+  pub IsUnderWay-start : IsUnderWay brackets 0 []
   unfolding available
   IsUnderWay-start = record { waits = refl; room = λ k below. absurd (omega arith) }
 
@@ -223,7 +215,7 @@ module _ (brackets : List (Option BidiMatchedOpeningBracket)) where
   closing_or_opening None h = refl
   closing_or_opening (Some b) h = not-true b.is_open h
 
-  room_more : (j : ℕ) (waiting : List ℕ) → IsUnderWay j waiting → (is_opening (bracket_at brackets j) ≡ true → length waiting < max_open_brackets)
+  room_more : (j : ℕ) (waiting : List ℕ) → IsUnderWay brackets j waiting → (is_opening (bracket_at brackets j) ≡ true → length waiting < max_open_brackets)
       → (k : ℕ) → k < j + 1 → is_opening (bracket_at brackets k) ≡ true → length (available brackets (closed_before brackets k) k) < max_open_brackets
   room_more j waiting h last k below opening = elim (cases_lt k j) [
     | inl before ↦ h.room k before opening
@@ -232,21 +224,21 @@ module _ (brackets : List (Option BidiMatchedOpeningBracket)) where
         rw (here, ← h.waits) (last (rw here at opening))
   ]
 
-  same_after : (j : ℕ) (waiting : List ℕ) → IsUnderWay j waiting → is_opening (bracket_at brackets j) ≡ false → closed_before brackets (j + 1) ≡ closed_before brackets j → IsUnderWay (j + 1) waiting
+  same_after : (j : ℕ) (waiting : List ℕ) → IsUnderWay brackets j waiting → is_opening (bracket_at brackets j) ≡ false → closed_before brackets (j + 1) ≡ closed_before brackets j → IsUnderWay brackets (j + 1) waiting
   same_after j waiting h other same = record {
     waits = h.waits ∙ sym (available-other brackets (closed_before brackets j) j (closed_before-closed j) other) ∙ ap (λ (ps : List (ℕ × ℕ)). available brackets ps (j + 1)) (sym same);
     room = room_more j waiting h (λ opening. absurd (both_ways (is_opening (bracket_at brackets j)) other opening));
   }
 
   -- no opening and no closing
-  pub IsUnderWay-other : (j : ℕ) (waiting : List ℕ) → IsUnderWay j waiting → is_opening (bracket_at brackets j) ≡ false → is_closing (bracket_at brackets j) ≡ false
-      → IsUnderWay (j + 1) waiting × (closed_before brackets (j + 1) ≡ closed_before brackets j)
+  pub IsUnderWay-other : (j : ℕ) (waiting : List ℕ) → IsUnderWay brackets j waiting → is_opening (bracket_at brackets j) ≡ false → is_closing (bracket_at brackets j) ≡ false
+      → IsUnderWay brackets (j + 1) waiting × (closed_before brackets (j + 1) ≡ closed_before brackets j)
   IsUnderWay-other j waiting h no_opening no_closing =
       let same = closed_before-more j ∙ with_closing-other (closed_before brackets j) j no_closing in (same_after j waiting h no_opening same, same)
 
   -- an opening goes on top
-  pub IsUnderWay-opening : (j : ℕ) (waiting : List ℕ) → IsUnderWay j waiting → is_opening (bracket_at brackets j) ≡ true → length waiting < max_open_brackets
-      → IsUnderWay (j + 1) (waiting ++ j ∷ []) × (closed_before brackets (j + 1) ≡ closed_before brackets j)
+  pub IsUnderWay-opening : (j : ℕ) (waiting : List ℕ) → IsUnderWay brackets j waiting → is_opening (bracket_at brackets j) ≡ true → length waiting < max_open_brackets
+      → IsUnderWay brackets (j + 1) (waiting ++ j ∷ []) × (closed_before brackets (j + 1) ≡ closed_before brackets j)
   IsUnderWay-opening j waiting h opening few =
       let same = closed_before-more j ∙ with_closing-other (closed_before brackets j) j (opening_or_closing (bracket_at brackets j) opening) in (
         record {
@@ -256,23 +248,23 @@ module _ (brackets : List (Option BidiMatchedOpeningBracket)) where
         same,
       )
 
-  partner-waiting : (j : ℕ) (waiting : List ℕ) → IsUnderWay j waiting
+  partner-waiting : (j : ℕ) (waiting : List ℕ) → IsUnderWay brackets j waiting
       → partner brackets (closed_before brackets j) j ≡ find_last (λ i. is_same_bracket (bracket_at brackets i) (bracket_at brackets j)) waiting
   partner-waiting j waiting h =
       partner-available (closed_before brackets j) j ∙ ap (find_last (λ i. is_same_bracket (bracket_at brackets i) (bracket_at brackets j))) (sym h.waits)
 
   -- a closing without an opening changes nothing
-  pub IsUnderWay-unmatched : (j : ℕ) (waiting : List ℕ) → IsUnderWay j waiting → is_closing (bracket_at brackets j) ≡ true
+  pub IsUnderWay-unmatched : (j : ℕ) (waiting : List ℕ) → IsUnderWay brackets j waiting → is_closing (bracket_at brackets j) ≡ true
       → find_last (λ i. is_same_bracket (bracket_at brackets i) (bracket_at brackets j)) waiting ≡ None
-      → IsUnderWay (j + 1) waiting × (closed_before brackets (j + 1) ≡ closed_before brackets j)
+      → IsUnderWay brackets (j + 1) waiting × (closed_before brackets (j + 1) ≡ closed_before brackets j)
   IsUnderWay-unmatched j waiting h closing none =
       let same = closed_before-more j ∙ with_closing-none (closed_before brackets j) j (partner-waiting j waiting h ∙ none) in
       (same_after j waiting h (closing_or_opening (bracket_at brackets j) closing) same, same)
 
   -- a closing pairs with the entry at k, and takes away all from there on
-  pub IsUnderWay-pair : (j : ℕ) (waiting : List ℕ) (k : ℕ) → IsUnderWay j waiting → is_closing (bracket_at brackets j) ≡ true → k < length waiting
+  pub IsUnderWay-pair : (j : ℕ) (waiting : List ℕ) (k : ℕ) → IsUnderWay brackets j waiting → is_closing (bracket_at brackets j) ≡ true → k < length waiting
       → find_last (λ i. is_same_bracket (bracket_at brackets i) (bracket_at brackets j)) waiting ≡ Some (get_or waiting k 0)
-      → IsUnderWay (j + 1) (take k waiting) × (closed_before brackets (j + 1) ≡ closed_before brackets j ++ (get_or waiting k 0, j) ∷ [])
+      → IsUnderWay brackets (j + 1) (take k waiting) × (closed_before brackets (j + 1) ≡ closed_before brackets j ++ (get_or waiting k 0, j) ∷ [])
   IsUnderWay-pair j waiting k h closing fits found =
       let i = get_or waiting k 0 in
       let other = closing_or_opening (bracket_at brackets j) closing in
@@ -287,7 +279,7 @@ module _ (brackets : List (Option BidiMatchedOpeningBracket)) where
         same,
       )
 
-  pub IsUnderWay-entry : (j : ℕ) (waiting : List ℕ) (k : ℕ) → IsUnderWay j waiting → k < length waiting → IsWaiting j (get_or waiting k 0)
+  pub IsUnderWay-entry : (j : ℕ) (waiting : List ℕ) (k : ℕ) → IsUnderWay brackets j waiting → k < length waiting → IsWaiting j (get_or waiting k 0)
   IsUnderWay-entry j waiting k h fits =
       let waiting_all : AreWaiting j 0 waiting = subst (AreWaiting j 0) (sym h.waits) (available-waiting j) in (AreWaiting-get j 0 waiting k waiting_all fits).0
 
@@ -304,13 +296,13 @@ module _ (brackets : List (Option BidiMatchedOpeningBracket)) where
       let place : k + (n - k) ≡ n = omega arith in
       ap (λ (m : ℕ). available brackets (closed_before brackets m) k) (sym place) ∙ available-at k (n - k)
 
-  has_room : (j n k : ℕ) (waiting : List ℕ) → IsUnderWay j waiting → j ≤ n → k < j → overflows (closed_before brackets n) k ≡ false
+  has_room : (j n k : ℕ) (waiting : List ℕ) → IsUnderWay brackets j waiting → j ≤ n → k < j → overflows (closed_before brackets n) k ≡ false
   has_room j n k waiting h inside below = elim (cases_Bool (is_opening (bracket_at brackets k))) [
     | inl opening ↦ and_right _ _ (lt-leb max_open_brackets (length (available brackets (closed_before brackets n) k)) (rw (stack_at k n (omega arith)) (h.room k below opening)))
     | inr other ↦ and_left _ _ other
   ]
 
-  has_none : (j n : ℕ) (waiting : List ℕ) → IsUnderWay j waiting → j ≤ n → is_opening (bracket_at brackets j) ≡ true → max_open_brackets ≤ length waiting → overflows (closed_before brackets n) j ≡ true
+  has_none : (j n : ℕ) (waiting : List ℕ) → IsUnderWay brackets j waiting → j ≤ n → is_opening (bracket_at brackets j) ≡ true → max_open_brackets ≤ length waiting → overflows (closed_before brackets n) j ≡ true
   has_none j n waiting h inside opening full = and_from _ _ opening (le-leb max_open_brackets (length (available brackets (closed_before brackets n) j)) (rw (stack_at j n inside, ← h.waits) full))
 
   opening-within : (j : ℕ) → is_opening (bracket_at brackets j) ≡ true → j < length brackets
@@ -322,7 +314,7 @@ module _ (brackets : List (Option BidiMatchedOpeningBracket)) where
       within (b ∷ bs) (suc k) e = omega (arith, within bs k e)
 
   -- the limit is where the pass ends
-  limit_is : (j : ℕ) (waiting : List ℕ) → IsUnderWay j waiting → j ≤ length brackets → HasEnded j waiting → bracket_limit brackets (closed_pairs brackets) ≡ j
+  limit_is : (j : ℕ) (waiting : List ℕ) → IsUnderWay brackets j waiting → j ≤ length brackets → HasEnded j waiting → bracket_limit brackets (closed_pairs brackets) ≡ j
   unfolding bracket_limit closed_pairs
   limit_is j waiting h inside ended =
       let n = length brackets in
@@ -360,7 +352,7 @@ module _ (brackets : List (Option BidiMatchedOpeningBracket)) where
       ∙ find_below j i (closed_before brackets j) (closed_before-closed j)
 
   -- what the pass has found are the pairs
-  pub pairs_of-found : (j : ℕ) (waiting : List ℕ) → IsUnderWay j waiting → j ≤ length brackets → HasEnded j waiting
+  pub pairs_of-found : (j : ℕ) (waiting : List ℕ) → IsUnderWay brackets j waiting → j ≤ length brackets → HasEnded j waiting
       → pairs_of brackets ≡ filter_map (λ i. find (λ (p : ℕ × ℕ). eqb p.0 i) (closed_before brackets j)) (indexes brackets)
   unfolding pairs_of closed_pairs
   pairs_of-found j waiting h inside ended =
@@ -385,10 +377,6 @@ module _ (brackets : List (Option BidiMatchedOpeningBracket)) where
       All-from_recursion (λ (p : ℕ × ℕ). (p.0 < p.1) × (p.1 < n)) (pairs_of brackets)
       (filter_map-All (λ (p : ℕ × ℕ). (p.0 < p.1) × (p.1 < n)) (λ i. find (λ (p : ℕ × ℕ). eqb p.0 i && ltb p.1 limit) (closed_before brackets n))
       (λ i p e. find_in_order n (λ q. eqb q.0 i && ltb q.1 limit) (closed_before brackets n) p (closed_before-in_order n) e) (indexes brackets))
-
--- the closings of the openings, each at its index: none where the opening has no pair
-abbrev pub closing_in : List (ℕ × ℕ) → ℕ → Option ℕ
-closing_in pairs i = option_map (λ (p : ℕ × ℕ). p.1) (find (λ (p : ℕ × ℕ). eqb p.0 i) pairs)
 
 -- the counted brackets, one a class
 pub length-counted_brackets : (classes : List BidiClass) (brackets : List (Option BidiMatchedOpeningBracket)) → length brackets ≡ length classes → length (counted_brackets classes brackets) ≡ length classes

@@ -18,6 +18,7 @@ pub mod Matching
 pub mod Neutral
 pub mod Openers
 pub mod Order
+pub mod PairSearch
 pub mod Paragraphs
 pub mod Places
 pub mod Reading

@@ -1,13 +1,16 @@
 //! The bracket pairs of an isolating run sequence (BD14 to BD16), over its kept characters alone: an
 //! index counts the characters that X9 leaves.
 
-ghost use Rattle.std.specs.Prelude.{◌≡◌, ◌==◌, ◌<◌, nat_lt, false, [], ◌∷◌, ◌++◌, length, filter, slice_get, IsTrue, OnOk, IfOk, IfSome, IfNone};
-ghost use Rattle.bidi_base.specs.Brackets.{max_open_brackets};
+ghost use Rattle.std.specs.Prelude.{◌≡◌, ◌==◌, ◌<◌, nat_lt, true, false, List, [], ◌∷◌, ◌++◌, length, filter, slice_get, Option, IsTrue, OnOk, IfOk, IfSome, IfNone};
+ghost use Rattle.bidi_base.specs.declared.data_source.BidiMatchedOpeningBracket.{BidiMatchedOpeningBracket};
+ghost use Rattle.bidi_base.specs.declared.brackets.Bracket.{Bracket};
+ghost use Rattle.bidi_base.specs.Brackets.{max_open_brackets, pairs_of};
+ghost use Rattle.bidi_base.specs.PairSearch.{closed_slots, AreWithin, IsAt};
 ghost use Rattle.bidi_base.specs.Places.{find_last};
 ghost use Rattle.bidi_base.specs.FoundBrackets.{ArePairsOf};
 
 use arrayvec::ArrayVec;
-use std::alloc::AllocError;
+use std::alloc::{AllocError, Global};
 
 /// How many openings may wait for their closings at once (BD16).
 const MAX_OPEN_BRACKETS: usize = 63;
@@ -65,18 +68,90 @@ fn search(brackets: &[Bracket], pairs: &mut Vec<(usize, usize)>) -> Result<(), A
 {
     let mut waiting: ArrayVec<Waiting, MAX_OPEN_BRACKETS> = ArrayVec::new();
     for bracket in brackets {
-        if bracket.is_open {
-            let had_room = open(bracket, &mut waiting, pairs)?;
-            if !had_room {
-                break;
-            }
-        } else if let Some(entry) = topmost(waiting.as_slice(), bracket.opening) {
-            pairs[waiting.as_slice()[entry].pair].1 = bracket.index;
-            waiting.truncate(entry);
+        let goes_on = read(bracket, &mut waiting, pairs)?;
+        if !goes_on {
+            break;
         }
     }
     drop_unclosed(pairs);
     Ok(())
+}
+
+/// A search for the bracket pairs of a sequence (BD16) that takes one bracket after another, and keeps its
+/// memory from sequence to sequence.
+#[derive(Debug, Drop)]
+pub struct PairSearch {
+    waiting: ArrayVec<Waiting, MAX_OPEN_BRACKETS>,
+    pairs: Vec<(usize, usize)>,
+    /// Whether an opening found no room on the stack.
+    is_over: bool,
+}
+
+impl PairSearch {
+    ghost use Rattle.bidi_base.specs.PairSearch.{HasRead};
+
+    /// A search that has read no bracket yet. No memory is taken.
+    pub fn new(alloc: Global) -> PairSearch
+        ensures { HasRead result [] }
+    {
+        PairSearch {
+            waiting: ArrayVec::new(),
+            pairs: Vec::new(alloc),
+            is_over: false,
+        }
+    }
+
+    /// Begins anew.
+    pub fn clear(&mut self)
+        ensures { HasRead self.new [] }
+    {
+        self.waiting.clear();
+        self.pairs.clear();
+        self.is_over = false;
+    }
+
+    /// Reads the next bracket of the sequence that counts. Refused only where there is no memory for a
+    /// pair; the search may then have read anything.
+    pub fn read(&mut self, bracket: &Bracket) -> Result<(), AllocError>
+        requires { (before : List Bracket) × HasRead self.old before }
+        ensures { (before : List Bracket) → HasRead self.old before → OnOk result (HasRead self.new (before ++ bracket.now ∷ [])) }
+    {
+        if !self.is_over {
+            let goes_on = read(bracket, &mut self.waiting, &mut self.pairs)?;
+            self.is_over = !goes_on;
+        }
+        Ok(())
+    }
+
+    /// The pairs of the brackets that were read, as [`find_pairs`] finds them. Nothing may be read behind it
+    /// until the search begins anew.
+    pub fn finish(&mut self) -> &[(usize, usize)]
+        ensures { (all : List Bracket) → HasRead self.old all → ArePairsOf all result.now }
+    {
+        drop_unclosed(&mut self.pairs);
+        self.pairs.as_slice()
+    }
+}
+
+/// Reads a bracket. Answers whether the search goes on behind it.
+fn read(
+    bracket: &Bracket,
+    waiting: &mut ArrayVec<Waiting, MAX_OPEN_BRACKETS>,
+    pairs: &mut Vec<(usize, usize)>,
+) -> Result<bool, AllocError>
+    requires { AreWithin (length pairs.old.items) waiting.old.items }
+    ensures within { OnOk result (AreWithin (length pairs.new.items) waiting.new.items) }
+    ensures goes_on { IfOk result (λ more. more ≡ true → (counted : List (Option BidiMatchedOpeningBracket)) (rest : List Bracket) → IsAt counted pairs.old.items waiting.old.items (bracket.now ∷ rest) → IsAt counted pairs.new.items waiting.new.items rest) }
+    ensures ended { IfOk result (λ more. more ≡ false → (counted : List (Option BidiMatchedOpeningBracket)) (rest : List Bracket) → IsAt counted pairs.old.items waiting.old.items (bracket.now ∷ rest) → closed_slots pairs.new.items ≡ pairs_of counted) }
+{
+    if bracket.is_open {
+        return open(bracket, waiting, pairs);
+    }
+    if let Some(entry) = topmost(waiting.as_slice(), bracket.opening) {
+        pairs[waiting.as_slice()[entry].pair].1 = bracket.index;
+        waiting.truncate(entry);
+    }
+    Ok(true)
 }
 
 /// An opening comes, if there is room for it on the stack. Answers whether there is: the search ends

@@ -1,5 +1,6 @@
 //! Bracket pairs (BD16), neutrals (N0 to N2) and what follows from them, over lists and in place.
 
+use bidi_base::brackets::{Bracket, PairSearch};
 use bidi_base::char_data::BidiClass::{
     self, AL, AN, BN, CS, EN, ES, ET, L, LRI, NSM, ON, PDF, R, RLE,
 };
@@ -334,6 +335,25 @@ fn pairs_of_lists(rt: HostRuntime) -> Result<(), Fail> {
         let found = pairs(rt.alloc(), classes, brackets.as_slice())?;
         same(name, found.as_slice(), wanted)?;
     }
+    Ok(())
+}
+
+#[test]
+fn pairs_one_by_one(rt: HostRuntime) -> Result<(), Fail> {
+    let mut search = PairSearch::new(rt.alloc());
+    search.read(&Bracket {
+        index: 1,
+        opening: '(',
+        is_open: true,
+    })?;
+    search.read(&Bracket {
+        index: 4,
+        opening: '(',
+        is_open: false,
+    })?;
+    assert_eq!(rt; search.finish(), [(1, 4)].as_slice());
+    search.clear();
+    assert!(rt; search.finish().is_empty());
     Ok(())
 }
 

@@ -1,9 +1,9 @@
 -- The walk for N1 over the runs of a sequence.
 use Rattle.std.proofs.Common.{◌≡◌, ℕ, suc, ◌+◌, ◌<◌, ◌≤◌, Bool, true, false, ◌&&◌, List, length, map, get_or, drop, Option, Some, None, refl, sym, ap, subst, ◌∙◌, arith, add-one, inl, inr, ◌⊎◌}
 use Rattle.std.specs.Option.{is_some}
-use Rattle.std.proofs.lemmas.Bool.{cases_Bool, both_ways, and_parts, and_from, and_left}
+use Rattle.std.proofs.lemmas.Bool.{cases_Bool, both_ways, and_parts, and_left}
 use Rattle.bidi_base.specs.declared.char_data.BidiClass.{BidiClass}
-use Rattle.bidi_base.specs.declared.char_data.BidiClass.TheVariants.{L, R, EN, AN, BN}
+use Rattle.bidi_base.specs.declared.char_data.BidiClass.TheVariants.{L, R, EN, AN}
 use Rattle.bidi_base.specs.Classes.{as_direction, has_direction, is_kept_in_place, is_l_or_r, stands_for}
 use Rattle.bidi_base.specs.Neutral.{n1_n2, n2_rule}
 use Rattle.bidi_base.specs.Places.{at_places, class_at}
@@ -14,7 +14,7 @@ use Rattle.bidi_rules.specs.PairWalk.{opposite_of}
 use Rattle.bidi_rules.specs.WeakWalk.{is_seen, IsWrittenOver}
 use Rattle.bidi_rules.specs.declared.implicit.neutral.directions.Join.{Join}
 use Rattle.bidi_rules.proofs.InRuns.{in_runs-at, in_runs-drop, start_or, gap_before, gap_after, next_start}
-use Rattle.bidi_rules.proofs.JoinScan.{opposite-directed, own-after, IsJoined-more, IsJoined-quiet, IsJoined-turned, IsJoined-settled, IsJoined-stretch, finished-quiet, finished-embedding, finished-opposite, at_marked-changed}
+use Rattle.bidi_rules.proofs.JoinScan.{opposite-directed, own-after, IsJoined-more, IsJoined-quiet, IsJoined-turned, IsJoined-settled, IsJoined-stretch, finished-quiet, finished-embedding, finished-opposite}
 use Rattle.bidi_rules.proofs.WrittenOver.{IsWrittenOver-same_test}
 
 undirected : (c : BidiClass) → has_direction c ≡ false → as_direction c ≡ None

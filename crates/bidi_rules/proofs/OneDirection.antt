@@ -16,12 +16,12 @@ use Rattle.bidi_base.specs.Neutral.{n2_rule, neutral_classes}
 use Rattle.bidi_base.specs.Places.{at_places, class_at, first_or}
 use Rattle.bidi_base.specs.Sequences.{level_at}
 use Rattle.bidi_base.specs.Source.{Source}
-use Rattle.bidi_base.specs.Text.{place, text_len}
+use Rattle.bidi_base.specs.Text.{place}
 use Rattle.bidi_base.specs.Units.{bounds, chars_in_runs, in_runs, kept_in_place, units_in_runs}
 use Rattle.bidi_base.proofs.OneDirection.{goes_with, itself, neutral_classes-one, same_lists}
 use Rattle.bidi_base.proofs.PerCharTests.{class_eq, class_test}
 use Rattle.bidi_base.proofs.TextLemmas.{HasUnits}
-use Rattle.bidi_base.proofs.UnitsLemmas.{is_per_char-from_IsPerChar, length-from_IsPerChar}
+use Rattle.bidi_base.proofs.UnitsLemmas.{is_per_char-from_IsPerChar}
 use Rattle.bidi_rules.specs.NeutralPass.{turns_from, values_of, IsReady}
 use Rattle.bidi_rules.proofs.NeutralSteps.{IsUpToN1, first-is, length-resolved, neutral_classes-is}
 use Rattle.bidi_rules.proofs.NeutralUnits.{places_in_runs}

@@ -15,6 +15,7 @@ use Rattle.bidi_base.specs.Neutral.{n0}
 use Rattle.bidi_base.specs.declared.brackets.Bracket.{Bracket}
 use Rattle.bidi_rules.specs.declared.implicit.neutral.NeutralResolver.{NeutralResolver}
 use Rattle.bidi_base.specs.FoundBrackets.{brackets_from}
+use Rattle.bidi_base.specs.PairSearch.{HasRead}
 use Rattle.bidi_rules.specs.WeakWalk.{is_seen}
 
 -- the characters among those with these indexes that the pass takes as kept, where `units` has the class of each unit
@@ -47,8 +48,7 @@ unit_brackets len_of chars source units low high = flat_map (unit_bracket len_of
 
 -- a resolver that has gathered nothing
 pub record HasGatheredNothing (r : NeutralResolver) : Type 0 where
-  pub brackets : r.brackets.items ≡ []
-  pub pairs : r.pairs.items ≡ []
+  pub read : HasRead r.search []
 
 -- a number, or the direction other than this one
 abbrev pub turns_from : BidiClass → BidiClass → Bool

@@ -14,7 +14,9 @@ ghost use Rattle.bidi_base.specs.Places.{at_places, class_at, first_or};
 ghost use Rattle.bidi_base.specs.Sequences.{level_at};
 ghost use Rattle.bidi_base.specs.Text.{is_per_char, place, text_len, IsLine};
 ghost use Rattle.bidi_base.specs.Units.{bounds, in_runs, kept_in_place, AreLines};
+ghost use Rattle.bidi_base.specs.declared.brackets.Bracket.{Bracket};
 ghost use Rattle.bidi_base.specs.FoundBrackets.{brackets_from};
+ghost use Rattle.bidi_base.specs.PairSearch.{HasRead};
 ghost use Rattle.bidi_rules.specs.NeutralPass.{pairs_in, placed_brackets, HasGatheredNothing, IsPaired, IsReady};
 ghost use Rattle.bidi_rules.specs.RunSequence.{lent_runs, lent_sos, lent_eos, runs as runs_of, sos as sos_of, eos as eos_of};
 
@@ -26,7 +28,7 @@ mod one_direction;
 mod pairs;
 
 use crate::prepare::{IsolatingRunSequence, LentSequence, LevelRun};
-use bidi_base::brackets::{Bracket, find_pairs};
+use bidi_base::brackets::{Bracket, PairSearch};
 use bidi_base::char_data::BidiClass;
 use bidi_base::data_source::BidiDataSource;
 use bidi_base::level::Level;
@@ -42,10 +44,8 @@ use std::alloc::{AllocError, Global};
 /// Resolves the neutrals of one sequence after another, and keeps its memory from each to the next.
 #[derive(Debug, Drop)]
 pub struct NeutralResolver {
-    /// The brackets of the sequence that count, by the units at which they begin.
-    brackets: Vec<Bracket>,
-    /// The bracket pairs, by these units.
-    pairs: Vec<(usize, usize)>,
+    /// The brackets of a sequence that count, and their pairs, by the units at which they begin.
+    search: PairSearch,
 }
 
 impl NeutralResolver {
@@ -54,8 +54,7 @@ impl NeutralResolver {
         ensures { HasGatheredNothing result }
     {
         NeutralResolver {
-            brackets: Vec::new(alloc),
-            pairs: Vec::new(alloc),
+            search: PairSearch::new(alloc),
         }
     }
 
@@ -201,19 +200,12 @@ impl NeutralResolver {
         ensures refused { OnErr result (classes.new ≡ classes.old) }
     {
         self.gather(text, data_source, runs, classes)?;
-        find_pairs(self.brackets.as_slice(), &mut self.pairs)?;
-        resolve_pairs(
-            text,
-            directions,
-            runs,
-            original_classes,
-            self.pairs.as_slice(),
-            classes,
-        );
+        let pairs = self.search.finish();
+        resolve_pairs(text, directions, runs, original_classes, pairs, classes);
         Ok(())
     }
 
-    /// Gathers the brackets of a sequence that count, by the units at which they begin.
+    /// Reads the brackets of a sequence that count, by the units at which they begin.
     fn gather<D: BidiDataSource, T: TextSource>(
         &mut self,
         text: T,
@@ -223,17 +215,17 @@ impl NeutralResolver {
     ) -> Result<(), AllocError>
         requires lines { AreLines T.units (T.characters text) (map bounds runs.now) }
         requires long { length classes.now ≡ text_len T.units (T.characters text) }
-        ensures { OnOk result (self.new.brackets.items ≡ placed_brackets T.units (T.characters text) (D.source data_source.now) classes.now
-            (kept_in_place T.units (T.characters text) classes.now (map bounds runs.now))) }
+        ensures { OnOk result (HasRead self.new.search (placed_brackets T.units (T.characters text) (D.source data_source.now) classes.now
+            (kept_in_place T.units (T.characters text) classes.now (map bounds runs.now)))) }
     {
-        self.brackets.clear();
+        self.search.clear();
         for run in runs {
             self.gather_run(text, data_source, run, classes)?;
         }
         Ok(())
     }
 
-    /// Gathers those of a run behind what was gathered before.
+    /// Reads those of a run behind what was read before.
     fn gather_run<D: BidiDataSource, T: TextSource>(
         &mut self,
         text: T,
@@ -243,8 +235,9 @@ impl NeutralResolver {
     ) -> Result<(), AllocError>
         requires line { IsLine T.units (T.characters text) run.now.start run.now.end }
         requires long { length classes.now ≡ text_len T.units (T.characters text) }
-        ensures { OnOk result (self.new.brackets.items ≡ self.old.brackets.items ++ placed_brackets T.units (T.characters text) (D.source data_source.now) classes.now
-            (kept_in_place T.units (T.characters text) classes.now (bounds run.now ∷ []))) }
+        requires read { (before : List Bracket) × HasRead self.old.search before }
+        ensures { (before : List Bracket) → HasRead self.old.search before → OnOk result (HasRead self.new.search (before ++ placed_brackets T.units (T.characters text) (D.source data_source.now) classes.now
+            (kept_in_place T.units (T.characters text) classes.now (bounds run.now ∷ [])))) }
     {
         let end = run.end;
         let mut at = first_passing(OtherNeutral, classes, run.start, end);
@@ -257,18 +250,19 @@ impl NeutralResolver {
         Ok(())
     }
 
-    /// Takes a character that begins at a unit, of class ON, if it is a bracket.
+    /// Reads a character that begins at a unit, of class ON, if it is a bracket.
     fn push<D: BidiDataSource>(
         &mut self,
         data_source: &D,
         at: usize,
         c: char,
     ) -> Result<(), AllocError>
-        ensures { OnOk result (self.new.brackets.items ≡ self.old.brackets.items
-            ++ brackets_from at ((D.source data_source.now).bracket_of c ∷ [])) }
+        requires { (before : List Bracket) × HasRead self.old.search before }
+        ensures { (before : List Bracket) → HasRead self.old.search before → OnOk result (HasRead self.new.search (before
+            ++ brackets_from at ((D.source data_source.now).bracket_of c ∷ []))) }
     {
         if let Some(bracket) = data_source.bidi_matched_opening_bracket(c) {
-            self.brackets.push(Bracket {
+            self.search.read(&Bracket {
                 index: at,
                 opening: bracket.opening,
                 is_open: bracket.is_open,

@@ -1,5 +1,5 @@
-use Rattle.std.proofs.Common.{◌∷◌, ◌++◌, ℕ, List, [], map, take, get_or, sym, ap, ◌∙◌}
-use Rattle.bidi_base.specs.declared.brackets.Bracket.{Bracket}
+use Rattle.std.proofs.Common.{◌∷◌, ℕ, List, [], map, take, get_or, sym, ap, subst, ◌∙◌}
+use Rattle.bidi_base.specs.PairSearch.{HasRead}
 use Rattle.bidi_base.specs.Source.{Source}
 use Rattle.bidi_base.specs.Units.{bounds, kept_in_place}
 use Rattle.bidi_rules.specs.NeutralPass.{placed_brackets}
@@ -12,7 +12,7 @@ loop-run-init g c =
     let len_of = g.T.TextSource.units in
     let chars : List ℕ = g.T.TextSource.characters c.args.text in
     let source : Source = g.D.BidiDataSource.source c.args.data_source.now in
-    c.clear.ensures.items ∙ ap (placed_brackets len_of chars source c.args.classes.now) (sym (kept_in_place-none len_of chars c.args.classes.now))
+    subst (HasRead c.clear.new.self) (ap (placed_brackets len_of chars source c.args.classes.now) (sym (kept_in_place-none len_of chars c.args.classes.now))) c.clear.ensures
 
 pub gather_run-requires-clause-line : goal.gather_run-requires-clause-line
 gather_run-requires-clause-line g c =
@@ -27,6 +27,9 @@ loop-run-preserved g c =
     let i = c.loop-run.run-index in
     let run = get_or c.args.runs.now i no_range in
     let before = kept_in_place len_of chars units (map bounds (take i c.args.runs.now)) in
-    c.in_ok-gather_run.ensures
-    ∙ ap (λ (bs : List Bracket). bs ++ placed_brackets len_of chars source units (kept_in_place len_of chars units (bounds run ∷ []))) c.loop-run.invariant
-    ∙ sym (ap (placed_brackets len_of chars source units) (kept_in_place-more len_of chars units c.args.runs.now i c.loop-run-test.true) ∙ placed-append len_of chars source units before (kept_in_place len_of chars units (bounds run ∷ [])))
+    subst (HasRead c.gather_run.new.self.search)
+    (sym (ap (placed_brackets len_of chars source units) (kept_in_place-more len_of chars units c.args.runs.now i c.loop-run-test.true) ∙ placed-append len_of chars source units before (kept_in_place len_of chars units (bounds run ∷ []))))
+    (c.in_ok-gather_run.ensures (placed_brackets len_of chars source units before) c.loop-run.invariant)
+
+pub gather_run-requires-clause-read : goal.gather_run-requires-clause-read
+gather_run-requires-clause-read g c = (_, c.loop-run.invariant)

@@ -1,5 +1,6 @@
--- The brackets of the runs so far are gathered.
-use Rattle.std.proofs.Common.{◌≡◌, map, take}
+-- The brackets of the runs so far are read.
+use Rattle.std.proofs.Common.{map, take}
+use Rattle.bidi_base.specs.PairSearch.{HasRead}
 use Rattle.bidi_base.specs.Units.{bounds, kept_in_place}
 use Rattle.bidi_rules.specs.NeutralPass.{placed_brackets}
 use Rattle.bidi_rules.proofs.implicit.neutral.NeutralResolver.gather.Given as goal
@@ -8,4 +9,4 @@ abbrev pub invariant-loop-run : goal.invariant-loop-run
 invariant-loop-run g l =
     let len_of = g.T.TextSource.units in
     let chars = g.T.TextSource.characters l.fn.text in
-    l.self.brackets.items ≡ placed_brackets len_of chars (g.D.BidiDataSource.source l.data_source) l.classes (kept_in_place len_of chars l.classes (map bounds (take l.run-index l.runs)))
+    HasRead l.self.search (placed_brackets len_of chars (g.D.BidiDataSource.source l.data_source) l.classes (kept_in_place len_of chars l.classes (map bounds (take l.run-index l.runs))))

@@ -1,4 +1,4 @@
-use Rattle.std.proofs.Common.{◌≡◌, ℕ, List, [], ◌∷◌, ◌++◌, Option, refl, sym, ap, ◌∙◌, arith, append-nil, append_assoc, true}
+use Rattle.std.proofs.Common.{◌≡◌, ℕ, List, [], ◌∷◌, ◌++◌, Option, refl, sym, ap, subst, ◌∙◌, arith, append-nil, append_assoc, true}
 use Rattle.std.specs.Option.{option_map_or}
 use Rattle.bidi_base.specs.declared.brackets.Bracket.{Bracket}
 use Rattle.bidi_base.specs.declared.char_data.BidiClass.{BidiClass}
@@ -7,10 +7,12 @@ use Rattle.bidi_base.specs.declared.data_source.BidiMatchedOpeningBracket.{BidiM
 use Rattle.bidi_base.specs.Brackets.{counted_bracket}
 use Rattle.bidi_base.specs.Classes.{same_class}
 use Rattle.bidi_base.specs.FoundBrackets.{brackets_from}
+use Rattle.bidi_base.specs.PairSearch.{HasRead}
 use Rattle.bidi_base.specs.Places.{class_at}
 use Rattle.bidi_base.specs.Source.{Source}
 use Rattle.bidi_base.proofs.TextLemmas.{is_boundary-le}
 use Rattle.bidi_rules.specs.NeutralPass.{unit_bracket, unit_brackets}
+use Rattle.bidi_rules.specs.declared.implicit.neutral.NeutralResolver.{NeutralResolver}
 use Rattle.bidi_rules.proofs.UnitBrackets.{unit_brackets-none, unit_brackets-more, unit_brackets-line}
 use Rattle.bidi_rules.proofs.implicit.neutral.NeutralResolver.gather_run.Goals as goal
 use Rattle.bidi_rules.proofs.implicit.neutral.NeutralResolver.gather_run.Goals.{in-Some+in_ok-push, in_default}
@@ -30,13 +32,17 @@ loop-at-init g c =
     let chars : List ℕ = g.T.TextSource.characters c.args.text in
     let source : Source = g.D.BidiDataSource.source c.args.data_source.now in
     let f = c.first_passing-at.ensures in
-    let items = c.args.self.now.brackets.items in
     record {
       begins = f.begins;
       ends = f.ends;
       here = f.at;
-      held = sym (ap (λ (bs : List Bracket). items ++ bs) (unit_brackets-none g.T.TextSource.units chars source c.args.classes.now c.args.run.now.start c.first_passing-at.result f.before) ∙ append-nil items);
+      held = λ before h.
+          subst (HasRead c.args.self.now.search)
+          (sym (ap (λ (bs : List Bracket). before ++ bs) (unit_brackets-none g.T.TextSource.units chars source c.args.classes.now c.args.run.now.start c.first_passing-at.result f.before) ∙ append-nil before)) h;
     }
+
+pub push-requires : goal.push-requires
+push-requires g c = (_, c.loop-at.invariant.held c.requires.read.0 c.requires.read.1)
 
 -- a character of class ON
 counted : (c : BidiClass) (o : Option BidiMatchedOpeningBracket) (u : ℕ) → same_class ON c ≡ true → brackets_from u (o ∷ []) ≡ brackets_from u (counted_bracket c o ∷ [])
@@ -53,32 +59,37 @@ loop-at-preserved g c =
     let i = c.loop-at.invariant in
     let f = c.first_passing-at-in-loop-at.ensures in
     let more = unit_brackets-more len_of chars source units c.args.run.now.start at c.first_passing-at-in-loop-at.result i.begins (omega (arith, f.begins)) f.before in
-    let items = c.args.self.now.brackets.items in
     let so_far = unit_brackets len_of chars source units c.args.run.now.start at in
-    let one : List Bracket → List Bracket = λ bs. c.loop-at.self.brackets.items ++ bs in
+    let own = unit_bracket len_of chars source units at in
     let from : Option (ℕ × ℕ) → List Bracket = λ o. option_map_or (λ e. brackets_from at (counted_bracket (class_at units at) (source.bracket_of e.0) ∷ [])) o [] in
-    let gathered : c.match-char_at.self.brackets.items ≡ c.loop-at.self.brackets.items ++ unit_bracket len_of chars source units at =
-    elim c.match-char_at.branch [
+    let gathered : (before : List Bracket) → HasRead c.loop-at.self.search before → HasRead c.match-char_at.self.search (before ++ own) =
+    λ before h. elim c.match-char_at.branch [
       | in-Some+in_ok-push w ↦
-          ap (λ r. r.brackets.items) w.self-is
-          ∙ w.in_ok-push.ensures
-          ∙ ap one (counted (class_at units at) (source.bracket_of w.in-Some.c) at (i.here c.loop-at-test.true) ∙ ap from (sym w.in-Some.is ∙ c.char_at.ensures))
-      | in_default w ↦ ap (λ r. r.brackets.items) w.self-is ∙ sym (append-nil c.loop-at.self.brackets.items) ∙ ap (λ o. one (from o)) w.in_default.ensures
+          subst (λ (r : NeutralResolver). HasRead r.search (before ++ own)) (sym w.self-is)
+          (subst (λ (bs : List Bracket). HasRead w.push.new.self.search (before ++ bs))
+          (counted (class_at units at) (source.bracket_of w.in-Some.c) at (i.here c.loop-at-test.true) ∙ ap from (sym w.in-Some.is ∙ c.char_at.ensures))
+          (w.in_ok-push.ensures before h))
+      | in_default w ↦
+          subst (λ (r : NeutralResolver). HasRead r.search (before ++ own)) (sym w.self-is)
+          (subst (HasRead c.loop-at.self.search) (sym (append-nil before) ∙ ap (λ o. before ++ from o) w.in_default.ensures) h)
     ] in
     record {
       begins = omega (arith, f.begins, i.begins);
       ends = f.ends;
       here = f.at;
-      held = gathered ∙ ap (λ (bs : List Bracket). bs ++ unit_bracket len_of chars source units at) i.held ∙ append_assoc items so_far (unit_bracket len_of chars source units at) ∙ ap (λ (bs : List Bracket). items ++ bs) (sym more);
+      held = λ before h.
+          subst (HasRead c.match-char_at.self.search) (append_assoc before so_far own ∙ ap (λ (bs : List Bracket). before ++ bs) (sym more)) (gathered (before ++ so_far) (i.held before h));
     }
 
 pub returns : goal.returns
 returns g c =
     let len_of = g.T.TextSource.units in
-    let h = g.met.T.TextSource.has_units in
+    let h-units = g.met.T.TextSource.has_units in
     let chars : List ℕ = g.T.TextSource.characters c.args.text in
     let source : Source = g.D.BidiDataSource.source c.args.data_source.now in
     let run = c.args.run.now in
     let i = c.loop-at.invariant in
     let end : c.loop-at.at ≡ run.end = omega (arith, i.ends, c.loop-at-test.false) in
-    i.held ∙ ap (λ (bs : List Bracket). c.args.self.now.brackets.items ++ bs) (ap (unit_brackets len_of chars source c.args.classes.now run.start) end ∙ unit_brackets-line len_of chars source c.args.classes.now h run.start run.end c.requires.line)
+    λ before h.
+    subst (λ (bs : List Bracket). HasRead c.loop-at.self.search (before ++ bs))
+    (ap (unit_brackets len_of chars source c.args.classes.now run.start) end ∙ unit_brackets-line len_of chars source c.args.classes.now h-units run.start run.end c.requires.line) (i.held before h)

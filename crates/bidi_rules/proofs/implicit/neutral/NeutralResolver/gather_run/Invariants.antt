@@ -1,5 +1,7 @@
--- The brackets of the units that came are gathered.
-use Rattle.std.proofs.Common.{◌≡◌, ◌-◌, ◌<◌, ◌≤◌, ◌++◌, true}
+-- The brackets of the units that came are read.
+use Rattle.std.proofs.Common.{◌≡◌, ◌-◌, ◌<◌, ◌≤◌, ◌++◌, List, true}
+use Rattle.bidi_base.specs.declared.brackets.Bracket.{Bracket}
+use Rattle.bidi_base.specs.PairSearch.{HasRead}
 use Rattle.bidi_base.specs.Classes.{same_class}
 use Rattle.bidi_base.specs.Places.{class_at}
 use Rattle.bidi_base.specs.declared.char_data.BidiClass.TheVariants.{ON}
@@ -15,7 +17,7 @@ invariant-loop-at g l =
       begins : l.run.start ≤ l.at;
       ends : l.at ≤ l.end;
       here : l.at < l.end → same_class ON (class_at l.classes l.at) ≡ true;
-      held : l.self.brackets.items ≡ l.fn.self.brackets.items ++ unit_brackets len_of chars source l.classes l.run.start l.at;
+      held : (before : List Bracket) → HasRead l.fn.self.search before → HasRead l.self.search (before ++ unit_brackets len_of chars source l.classes l.run.start l.at);
     }
 
 abbrev pub decreases-loop-at : goal.decreases-loop-at

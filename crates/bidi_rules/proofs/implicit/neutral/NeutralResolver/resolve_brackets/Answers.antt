@@ -1,4 +1,4 @@
-use Rattle.std.proofs.Common.{ℕ, List, ◌∙◌}
+use Rattle.std.proofs.Common.{ℕ, List, refl}
 use Rattle.bidi_base.specs.Source.{Source}
 use Rattle.bidi_rules.specs.NeutralPass.{pairs_in}
 use Rattle.bidi_rules.proofs.Gathered.{pairs-nested, pairs-placed}
@@ -18,8 +18,7 @@ resolve_pairs-requires-clause-pairs g c =
     let source : Source = g.D.BidiDataSource.source c.args.data_source.now in (
       pairs_in len_of chars source c.args.classes.now c.args.runs.now,
       pairs-nested len_of chars source c.args.runs.now c.args.classes.now,
-      c.as_slice-2.ensures.value
-          ∙ pairs-placed len_of g.met.T.TextSource.has_units chars source c.args.runs.now c.args.directions.sos c.args.classes.now c.requires.ready c.as_slice.result.now c.find_pairs.new.pairs.items (c.as_slice.ensures.value ∙ c.in_ok-gather.ensures) c.in_ok-find_pairs.ensures,
+      pairs-placed len_of g.met.T.TextSource.has_units chars source c.args.runs.now c.args.directions.sos c.args.classes.now c.requires.ready _ c.finish-pairs.result.now refl (c.finish-pairs.ensures _ c.in_ok-gather.ensures),
     )
 
 pub returns-clause-paired : goal.returns-clause-paired
@@ -28,5 +27,4 @@ returns-clause-paired g c =
     let chars : List ℕ = g.T.TextSource.characters c.args.text in
     let source : Source = g.D.BidiDataSource.source c.args.data_source.now in
     c.resolve_pairs.ensures (pairs_in len_of chars source c.args.classes.now c.args.runs.now) (pairs-nested len_of chars source c.args.runs.now c.args.classes.now)
-    (c.as_slice-2.ensures.value
-    ∙ pairs-placed len_of g.met.T.TextSource.has_units chars source c.args.runs.now c.args.directions.sos c.args.classes.now c.requires.ready c.as_slice.result.now c.find_pairs.new.pairs.items (c.as_slice.ensures.value ∙ c.in_ok-gather.ensures) c.in_ok-find_pairs.ensures)
+    (pairs-placed len_of g.met.T.TextSource.has_units chars source c.args.runs.now c.args.directions.sos c.args.classes.now c.requires.ready _ c.finish-pairs.result.now refl (c.finish-pairs.ensures _ c.in_ok-gather.ensures))

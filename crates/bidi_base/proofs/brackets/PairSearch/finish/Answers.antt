@@ -1,0 +1,10 @@
+-- Whether the search goes on or is over, the pairs are those of the brackets read.
+use Rattle.std.proofs.Common.{◌∙◌}
+use Rattle.bidi_base.specs.Brackets.{counted_brackets, bracket_pairs}
+use Rattle.bidi_base.specs.FoundBrackets.{found_brackets}
+use Rattle.bidi_base.proofs.BracketSearch.{HasRead-end}
+use Rattle.bidi_base.proofs.brackets.PairSearch.finish.Goals as goal
+
+pub returns : goal.returns
+unfolding found_brackets bracket_pairs
+returns c = λ all read classes brackets is. c.as_slice.ensures.value ∙ c.drop_unclosed.ensures ∙ HasRead-end c.args.self.now all read (counted_brackets classes brackets) is
