@@ -1,7 +1,7 @@
 -- The opener that a character closes, by the openers that are open before it: it is the one whose match that character is (BD9, BD11).
 use Rattle.std.proofs.Common.{◌≡◌, ℕ, suc, ◌+◌, ◌-◌, ◌<◌, Bool, true, false, ◌||◌, cond, List, [], ◌∷◌, length, find, Option, Some, None, refl, sym, ap, subst, ◌∙◌, arith, inl, inr}
 use Rattle.std.specs.Prelude.{filter}
-use Rattle.std.proofs.lemmas.Bool.{cases_Bool, cond-true, cond-false, and_parts, and_from, and_left, false_from_ne_true}
+use Rattle.std.proofs.lemmas.Bool.{cases_Bool, cond-true, cond-false, and_parts, and_from, false_from_ne_true}
 use Rattle.bidi_base.specs.declared.char_data.BidiClass.{BidiClass}
 use Rattle.bidi_base.specs.Classes.{is_embedding, is_opener, is_pdf}
 use Rattle.bidi_base.specs.Places.{class_at}
@@ -13,7 +13,7 @@ use Rattle.bidi_base.proofs.IsolatesLemmas.{initiators_apart, matching_pdi-IsLea
 use Rattle.bidi_base.proofs.EmbeddingsLemmas.{is_level_with-each, is_level_with-same, is_level_with-refl}
 use Rattle.bidi_base.proofs.ReadStack.{read_closed, IsReadStack}
 use Rattle.bidi_base.proofs.OpenMatches.{IsReadStack-match, IsReadStack-matched}
-use Rattle.bidi_base.proofs.OpenersStack.{openers_read, closed_by, below_embedding, left_at, Leaves, closes_isolate, closes_embedding, closes_nothing, leaves_at, IsPushed, openers_read-IsPushed, embedding_apart, pdf_apart, initiators-IsReadStack, is_inside-parts, is_inside-sooner, same_inside, level-Leaves, level-IsReadStack}
+use Rattle.bidi_base.proofs.OpenersStack.{openers_read, closed_by, below_embedding, left_at, Leaves, leaves_at, IsPushed, openers_read-IsPushed, pdf_apart, initiators-IsReadStack, is_inside-parts, is_inside-sooner, same_inside, level-Leaves, level-IsReadStack}
 use Rattle.bidi.specs.Matches.{closer_of}
 
 -- the innermost opener, if that is an embedding or an override
@@ -60,7 +60,7 @@ module _ (classes : List BidiClass) where
     pub closes : closer_of classes q ≡ Some p
 
   levels_apart : (q k : ℕ) → is_embedding_level_with classes q k ≡ true → is_pdf_level_with classes q k ≡ false
-  levels_apart q k e = and_left _ _ (embedding_apart (class_at classes k) (and_parts (is_embedding (class_at classes k)) _ e).0).1
+  levels_apart q k e = grind arith
 
   -- the embeddings level with q that are open before p, where q and p stand inside the same isolates
   level_stack : (p q : ℕ) → q < p → p < length classes → ((r : ℕ) → r < length classes → is_inside classes r q ≡ is_inside classes r p)
@@ -141,15 +141,7 @@ module _ (classes : List BidiClass) where
 
   top_from : (p q : ℕ) (stack left rest : List ℕ) → is_pdf (class_at classes p) ≡ true → Leaves classes p stack left
       → filter (is_embedding_level_with classes q) stack ≡ q ∷ rest → filter (is_embedding_level_with classes q) left ≡ rest → top_embedding classes stack ≡ Some q
-  top_from p q stack left rest pdf (closes_isolate _ x pdi first) e f = absurd (pdf_apart _ pdf pdi)
-  top_from p q stack left rest pdf (closes_embedding x below _ other) e f = elim (cases_Bool (is_embedding_level_with classes q x)) [
-    | inl level ↦
-        let here : x ∷ filter (is_embedding_level_with classes q) below ≡ q ∷ rest = sym (cond-true (is_embedding_level_with classes q x) _ _ level) ∙ e in
-        let same : x ≡ q = cc here in
-        cond-false (is_initiator_at classes x) _ _ other ∙ ap Some same
-    | inr apart ↦ absurd (not_longer q rest (sym e ∙ cond-false (is_embedding_level_with classes q x) _ _ apart ∙ f))
-  ]
-  top_from p q stack left rest pdf (closes_nothing _ flat top) e f = absurd (not_longer q rest (sym e ∙ f))
+  top_from p q stack left rest pdf h0 e f = grind (arith, not_longer)
 
   matched_embedding : (p q : ℕ) → is_embedding (class_at classes q) ≡ true → closing_pdf classes q ≡ Some p → closed_opener classes p (openers_read classes p) ≡ Some q
   unfolding closed_opener closing_pdf
@@ -170,11 +162,7 @@ module _ (classes : List BidiClass) where
       ∙ top_from p q (openers_read classes p) (left_at classes p) on_top.0 parts.0 (leaves_at classes p) on_top.1 left
 
   pub IsCloser-closed_opener : (p q : ℕ) → is_opener (class_at classes q) ≡ true → closer_of classes q ≡ Some p → closed_opener classes p (openers_read classes p) ≡ Some q
-  IsCloser-closed_opener p q opener e = elim (cases_Bool (is_initiator_at classes q)) [
-    | inl opens ↦ matched_isolate p q opens (sym (cond-true (is_initiator_at classes q) _ _ opens) ∙ e)
-    | inr other ↦
-        matched_embedding p q (sym (ap (λ b. b || is_embedding (class_at classes q)) other) ∙ opener) (sym (cond-false (is_initiator_at classes q) _ _ other) ∙ e)
-  ]
+  IsCloser-closed_opener p q opener e = grind (arith, matched_isolate, matched_embedding)
 
   -- a match stands behind what it closes, in the line
   pub closer_of-within : (q m : ℕ) → closer_of classes q ≡ Some m → (q < m) × (m < length classes)

@@ -1,15 +1,15 @@
 -- The findings of a line, one character more.
-use Rattle.std.proofs.Common.{◌≡◌, ℕ, suc, ◌+◌, ◌<◌, Bool, false, List, [], ◌∷◌, ◌++◌, Option, Some, None, length, get_or, take, map, refl, sym, ap, ◌∙◌, arith, append_assoc}
+use Rattle.std.proofs.Common.{◌≡◌, ℕ, suc, ◌+◌, ◌<◌, Bool, false, List, [], ◌∷◌, ◌++◌, Option, Some, None, length, get_or, take, map, refl, ap, ◌∙◌, arith, append_assoc}
+use Rattle.std.proofs.lemmas.Grind.{common_steps}
 use Rattle.std.specs.Prelude.{filter_map}
 use Rattle.std.specs.List.{range_with_len, cons_option}
 use Rattle.std.specs.Option.{option_to_list}
-use Rattle.std.proofs.lemmas.List.{get_or-map, get_or_default, take_more, flat_map_more}
+use Rattle.std.proofs.lemmas.List.{get_or-map, get_or_default}
 use Rattle.std.proofs.lemmas.List.FromFn.{get_or-map-range_with_len}
 use Rattle.std.proofs.lemmas.List.Elements.{filter_map-append}
 use Rattle.bidi_base.proofs.PlacesLemmas.{range_with_len-more}
 use Rattle.bidi_base.specs.declared.char_data.BidiClass.{BidiClass}
-use Rattle.bidi_base.specs.declared.char_data.BidiClass.TheVariants.{L}
-use Rattle.bidi_base.specs.Places.{indexes, class_at}
+use Rattle.bidi_base.specs.Places.{indexes}
 use Rattle.bidi.specs.Findings.{finding_of, finding_at, finding_line, report_of}
 use Rattle.bidi.specs.Matches.{is_unmatched}
 use Rattle.bidi.specs.declared.finding.Finding.{Finding}
@@ -33,19 +33,8 @@ pub more_findings : (class_of : ℕ → BidiClass) (any : Bool) (number : ℕ) (
     → old ≡ before ++ filter_map (finding_at any number (map class_of line) line) (range_with_len 0 p) → new ≡ old ++ option_to_list found
     → new ≡ before ++ filter_map (finding_at any number (map class_of line) line) (range_with_len 0 (p + 1))
 more_findings class_of any number line p c class flags found before old new fits here class_is flags_are found_is old_is new_is =
-    let findings : ℕ → Option Finding = finding_at any number (map class_of line) line in
-    let flag : get_or flags p false ≡ is_unmatched (map class_of line) p =
-    ap (λ (l : List Bool). get_or l p false) flags_are ∙ get_or-map-range_with_len (is_unmatched (map class_of line)) 0 (length line) p p false fits (omega arith) in
-    let char : c ≡ get_or line p 0 = here ∙ get_or_default line p c 0 fits in
-    let class_here : class ≡ class_at (map class_of line) p = class_is ∙ ap class_of here ∙ sym (get_or-map class_of line p c L fits) in
-    let this : found ≡ findings p =
-    found_is ∙ ap (λ b. finding_of any number p b class c) flag ∙ ap (λ k. finding_of any number p (is_unmatched (map class_of line) p) k c) class_here
-    ∙ ap (finding_of any number p (is_unmatched (map class_of line) p) (class_at (map class_of line) p)) char in
-    new_is ∙ ap (λ l. l ++ option_to_list found) old_is ∙ append_assoc before (filter_map findings (range_with_len 0 p)) (option_to_list found)
-    ∙ ap (λ o. before ++ (filter_map findings (range_with_len 0 p) ++ option_to_list o)) this
-    ∙ ap (λ l. before ++ l) (sym (filter_map-range findings p))
+    grind (arith, get_or-map-range_with_len, get_or_default, get_or-map, append_assoc, filter_map-range)
 
 -- the report of findings, one finding more
 pub report_of-more : (name : List ℕ) (findings : List Finding) (i : ℕ) (d : Finding) → i < length findings → report_of name (take i findings) ++ finding_line name (get_or findings i d) ≡ report_of name (take (i + 1) findings)
-report_of-more name findings i d within =
-    flat_map_more (finding_line name) [] (take i findings) (get_or findings i d) ∙ ap (report_of name) (sym (take_more findings i d within))
+report_of-more name findings i d within = grind (arith, common_steps)

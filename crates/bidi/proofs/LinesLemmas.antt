@@ -1,8 +1,7 @@
 -- The first line of a text, character by character.
-use Rattle.std.proofs.Common.{◌≡◌, ℕ, suc, ◌+◌, ◌<◌, true, false, List, [], ◌∷◌, ◌++◌, length, get_or, take, drop, refl, sym, ap, subst, ◌∙◌, arith, drop-cons, add-one}
+use Rattle.std.proofs.Common.{◌≡◌, ℕ, suc, ◌+◌, ◌<◌, true, false, List, [], ◌∷◌, ◌++◌, length, get_or, take, drop, refl, sym, ap, ◌∙◌, arith, drop-cons, add-one}
 use Rattle.std.specs.List.{onto_first}
-use Rattle.std.proofs.lemmas.Bool.{cond-true, cond-false}
-use Rattle.std.proofs.lemmas.List.{take_more, take_all, drop_all}
+use Rattle.std.proofs.lemmas.List.{take_more, drop_all}
 use Rattle.bidi_base.specs.Paragraphs.{SplitTest, cut_after}
 
 -- characters put before the first of some lines
@@ -35,25 +34,12 @@ module _ (ends : SplitTest) (chars : List ℕ) (n c : ℕ) (fits : n < length ch
   with_it = take_more chars n c fits ∙ ap (λ x. take n chars ++ x ∷ []) (sym here)
 
   pub IsUnbroken-more : ends c (drop (n + 1) chars) ≡ false → IsUnbroken ends chars n → IsUnbroken ends chars (n + 1)
-  IsUnbroken-more goes h = record {
-    whole = h.whole ∙ ap (λ cs. onto_front (take n chars) (cut_after ends cs)) from_here
-        ∙ ap (onto_front (take n chars)) (cond-false (ends c (drop (n + 1) chars)) _ _ goes)
-        ∙ onto_front-more (take n chars) c (cut_after ends (drop (n + 1) chars))
-        ∙ ap (λ cs. onto_front cs (cut_after ends (drop (n + 1) chars))) (sym with_it);
-  }
+  IsUnbroken-more goes h = grind (arith, from_here, onto_front-more, with_it)
 
   -- the next one ends it
   pub IsUnbroken-ended : ends c (drop (n + 1) chars) ≡ true → IsUnbroken ends chars n → cut_after ends chars ≡ take (n + 1) chars ∷ cut_after ends (drop (n + 1) chars)
-  IsUnbroken-ended stops h =
-      h.whole ∙ ap (λ cs. onto_front (take n chars) (cut_after ends cs)) from_here
-      ∙ ap (onto_front (take n chars)) (cond-true (ends c (drop (n + 1) chars)) _ _ stops)
-      ∙ onto_front-line (take n chars) (c ∷ []) (cut_after ends (drop (n + 1) chars))
-      ∙ ap (λ line. line ∷ cut_after ends (drop (n + 1) chars)) (sym with_it)
+  IsUnbroken-ended stops h = grind (arith, from_here, onto_front-line, with_it)
 
 -- the text's end does
 pub IsUnbroken-whole : (ends : SplitTest) (chars : List ℕ) (n : ℕ) → n ≡ length chars → 0 < n → IsUnbroken ends chars n → cut_after ends chars ≡ take n chars ∷ cut_after ends (drop n chars)
-IsUnbroken-whole ends chars n all some h =
-    let rest : drop n chars ≡ [] = drop_all n chars (omega arith) in
-    h.whole ∙ ap (λ cs. onto_front (take n chars) (cut_after ends cs)) rest
-    ∙ onto_front-none (take n chars) (subst (λ (cs : List ℕ). 0 < length cs) (sym (take_all n chars (omega arith))) (omega arith))
-    ∙ ap (λ cs. take n chars ∷ cut_after ends cs) (sym rest)
+IsUnbroken-whole ends chars n all some h = grind (arith, drop_all, onto_front-none)

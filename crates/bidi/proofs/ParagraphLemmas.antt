@@ -1,6 +1,7 @@
 -- The lines of a paragraph, read in a text of UTF-8 whose classes and levels are known, are those of its characters.
 use Rattle.std.proofs.Common.{◌≡◌, ℕ, suc, ◌+◌, ◌<◌, ◌≤◌, Bool, true, false, not, ◌&&◌, List, [], ◌∷◌, ◌++◌, Option, Some, None, length, get_or, map, flat_map, refl, sym, ap, ap₂, ◌∙◌, arith, append_assoc, append-nil, length-append}
-use Rattle.std.specs.Prelude.{slice_range, codes}
+use Rattle.std.proofs.lemmas.Grind.{common_steps}
+use Rattle.std.specs.Prelude.{codes}
 use Rattle.std.specs.List.{list_all, onto_first, prefix_len}
 use Rattle.std.specs.Char.{len_utf8}
 use Rattle.std.proofs.lemmas.Bool.{cond-false, and_parts}
@@ -13,7 +14,7 @@ use Rattle.bidi_base.specs.Classes.{is_paragraph_separator}
 use Rattle.bidi_base.specs.Display.{visual_runs}
 use Rattle.bidi_base.specs.Isolates.{paragraph_level, stored_classes}
 use Rattle.bidi_base.specs.Layout.{lines_of}
-use Rattle.bidi_base.specs.Line.{levels_of_line, line_levels, line_levels_after}
+use Rattle.bidi_base.specs.Line.{line_levels, line_levels_after}
 use Rattle.bidi_base.specs.Order.{visual_order}
 use Rattle.bidi_base.specs.Paragraphs.{paragraphs_of, each_separator, ranges_from}
 use Rattle.bidi_base.specs.Source.{Source}
@@ -51,8 +52,7 @@ own_chars-none source (c ∷ chars) = by_test (not (is_paragraph_separator (sour
     by_test false e rest = rw e
 
 first_test : (a b : Bool) → (not a && b) ≡ true → a ≡ false
-first_test true b e = absurd (cc e)
-first_test false b e = refl
+first_test a b e = grind arith
 
 -- so it is one piece
 pub one_piece : (source : Source) (c : ℕ) (chars : List ℕ) → has_none source (c ∷ chars) ≡ true → paragraphs_of (each_separator source) (c ∷ chars) ≡ (c ∷ chars) ∷ []
@@ -83,13 +83,9 @@ module _ (source : Source) (view : View) (own : List ℕ) (classes : List BidiCl
   char_levels : per_char 0 len_utf8 own levels ≡ stored_levels source base own
   char_levels = ap (per_char 0 len_utf8 own) is_levels ∙ per_char-per_unit len_utf8 has_units 0 own (stored_levels source base own) (length-stored_levels source base own)
 
-  -- the line that goes from one character up to another
-  abbrev line_at : List BidiClass → List ℕ → ℕ → ℕ → List ℕ
-  line_at ks ls i j = shown_line source view.plain (slice_range own i j) (levels_of_line level ks ls i j) ++ codes "\n"
-
   one_line : (start end i j : ℕ) → char_index len_utf8 own start ≡ i → char_index len_utf8 own end ≡ j → shown_in source view.plain text level (start, end) ≡ shown_range source view own (i, j)
   unfolding shown_levels
-  one_line start end i j first last = ap₂ (line_at (per_char L len_utf8 own classes) (per_char 0 len_utf8 own levels)) first last ∙ ap₂ (λ ks ls. line_at ks ls i j) char_classes char_levels
+  one_line start end i j first last = grind (arith, char_classes, char_levels)
 
   lines_from : (front : List ℕ) (pieces : List (List ℕ)) → own ≡ front ++ joined pieces
       → flat_map (shown_in source view.plain text level) (ranges_from len_utf8 (text_len len_utf8 front) pieces) ≡ flat_map (shown_range source view own) (ranges_from one_unit (length front) pieces)
@@ -137,11 +133,7 @@ empty-line source view = refl
 
 pub nothing-shown : (source : Source) (view : View) (own : List ℕ) → own ≡ [] → codes "\n" ≡ shown_paragraph source view own
 unfolding shown_paragraph
-nothing-shown source view own e = by_width view.width ∙ ap (shown_paragraph source view) (sym e)
-  where
-    by_width : (width : Option ℕ) → codes "\n" ≡ flat_map (shown_range source view []) (shown_ranges width [])
-    by_width None = sym (append-nil (shown_range source view [] (0, 0)) ∙ empty-line source view)
-    by_width (Some width) = sym (append-nil (shown_range source view [] (0, 0)) ∙ empty-line source view)
+nothing-shown source view own e = grind (arith, empty-line)
 
 -- ---- what is known of the paragraphs of a text without separators
 
@@ -156,11 +148,11 @@ module _ (source : Source) (base : Option ℕ) (own : List ℕ) (none : has_none
 
   pub own-classes : 0 < length own → classes ≡ per_unit len_utf8 own (stored_classes (map source.class_of own))
   unfolding text_classes
-  own-classes some = h.classes ∙ ap (λ pieces. per_unit len_utf8 own (text_classes source pieces)) (pieces-one some) ∙ ap (per_unit len_utf8 own) (append-nil (stored_classes (map source.class_of own)))
+  own-classes some = grind (arith, pieces-one, append-nil)
 
   pub own-levels : 0 < length own → levels ≡ per_unit len_utf8 own (stored_levels source base own)
   unfolding text_levels
-  own-levels some = h.levels ∙ ap (λ pieces. per_unit len_utf8 own (text_levels source base pieces)) (pieces-one some) ∙ ap (per_unit len_utf8 own) (append-nil (stored_levels source base own))
+  own-levels some = grind (arith, pieces-one, append-nil)
 
   -- the first of them
   pub record IsWhole (p : ParagraphInfo) : Type 0 where
@@ -171,36 +163,8 @@ module _ (source : Source) (base : Option ℕ) (own : List ℕ) (none : has_none
 
   pub whole : (p : ParagraphInfo) → 1 ≤ length ps → p ≡ get_or ps 0 p → IsWhole p
   unfolding paragraph_levels
-  whole p is_some is = by_chars own refl
-    where
-      found : (qs : List ParagraphInfo) → 1 ≤ length qs → p ≡ get_or qs 0 p → (r : ℕ × ℕ) (l : ℕ) → ranges_of qs ≡ r ∷ [] → levels_of qs ≡ l ∷ [] → (◌≡◌ {A = ℕ × ℕ} ((range_of p).start, (range_of p).end) r) × (level_of p ≡ l)
-      found [] some is r l e f = absurd (omega arith)
-      found (q ∷ qs) some is r l e f =
-          let at : p ≡ q = is in
-          let e' : ◌≡◌ {A = ℕ × ℕ} (q.range.start, q.range.end) r = cc in
-          let f' : level_of q ≡ l = cc in (
-            ap (λ (x : ParagraphInfo). (x.range.start, x.range.end)) at ∙ e',
-            ap level_of at ∙ f',
-          )
-
-      by_chars : (cs : List ℕ) → own ≡ cs → IsWhole p
-      by_chars [] e =
-          let no_ranges : ranges_of ps ≡ [] = h.ranges ∙ ap (λ l. ranges_from len_utf8 0 (paragraphs_of (each_separator source) l)) e in
-          absurd (omega (arith, ap length no_ranges, length-map {B = ℕ × ℕ} ps (λ (p : ParagraphInfo). (p.range.start, p.range.end))))
-      by_chars (c ∷ cs) e =
-          let some : 0 < length own = omega (arith, ap length e) in
-          let is_range : ranges_of ps ≡ (0, text_len len_utf8 own) ∷ [] = h.ranges ∙ ap (ranges_from len_utf8 0) (pieces-one some) ∙ ap (λ (n : ℕ). (0, n) ∷ []) (omega arith) in
-          let is_level : levels_of ps ≡ paragraph_level base (map source.class_of own) ∷ [] = h.paragraph_levels ∙ ap (paragraph_levels source base) (pieces-one some) in
-          let w = found ps is_some is (0, text_len len_utf8 own) (paragraph_level base (map source.class_of own)) is_range is_level in
-          record { some = some; first = ap (λ (r : ℕ × ℕ). r.0) w.0; last = ap (λ (r : ℕ × ℕ). r.1) w.0; own_level = w.1 }
+  whole p is_some is = grind (arith, common_steps, pieces-one)
 
   -- where there is none the text is empty
   pub nothing : length ps ≡ 0 → own ≡ []
-  nothing few = by_chars own refl
-    where
-      by_chars : (cs : List ℕ) → own ≡ cs → own ≡ []
-      by_chars [] e = e
-      by_chars (c ∷ cs) e =
-          let some : 0 < length own = omega (arith, ap length e) in
-          let is_range : ranges_of ps ≡ (0, 0 + text_len len_utf8 own) ∷ [] = h.ranges ∙ ap (ranges_from len_utf8 0) (pieces-one some) in
-          absurd (omega (arith, few, ap length is_range, length-map {B = ℕ × ℕ} ps (λ (p : ParagraphInfo). (p.range.start, p.range.end))))
+  nothing few = grind (arith, common_steps, pieces-one)

@@ -25,16 +25,11 @@ module _ (source : Source) (base : Option ℕ) (chars : List ℕ) (classes : Lis
     (h : IsAnalysis source base false (record { len_of = one_unit; chars = chars; classes = classes; levels = levels }) ranges own) where
   pub alone-classes : classes ≡ stored_classes (map source.class_of chars)
   unfolding text_classes
-  alone-classes =
-      let long : length (stored_classes (map source.class_of chars) ++ []) ≡ length chars =
-      ap length (append-nil (stored_classes (map source.class_of chars))) ∙ length-stored_classes (map source.class_of chars) ∙ length-map chars source.class_of in
-      h.classes ∙ per_unit-one_unit chars (stored_classes (map source.class_of chars) ++ []) long ∙ append-nil (stored_classes (map source.class_of chars))
+  alone-classes = grind (arith, append-nil, length-stored_classes, length-map, per_unit-one_unit)
 
   pub alone-levels : levels ≡ stored_levels source base chars
   unfolding text_levels
-  alone-levels =
-      let long : length (stored_levels source base chars ++ []) ≡ length chars = ap length (append-nil (stored_levels source base chars)) ∙ length-stored_levels source base chars in
-      h.levels ∙ per_unit-one_unit chars (stored_levels source base chars ++ []) long ∙ append-nil (stored_levels source base chars)
+  alone-levels = grind (arith, append-nil, length-stored_levels, per_unit-one_unit)
 
   pub alone-level : first_or 0 own ≡ paragraph_level base (map source.class_of chars)
   unfolding paragraph_levels

@@ -1,8 +1,9 @@
 -- The rows that sequences write.
-use Rattle.std.proofs.Common.{◌≡◌, ℕ, ◌+◌, ◌-◌, ◌<◌, true, List, [], ◌∷◌, ◌++◌, Option, Some, length, get_or, map, zip, take, flat_map, refl, sym, ap, subst, ◌∙◌, arith}
+use Rattle.std.proofs.Common.{◌≡◌, ℕ, ◌+◌, ◌-◌, ◌<◌, true, List, [], ◌∷◌, ◌++◌, Option, Some, length, get_or, map, zip, take, flat_map, refl, sym, ap, ◌∙◌, arith}
+use Rattle.std.proofs.lemmas.Grind.{common_steps}
 use Rattle.std.specs.Prelude.{slice_set, All}
 use Rattle.std.specs.List.{list_all}
-use Rattle.std.proofs.lemmas.List.{length-set, length-map, take_more, flat_map_more}
+use Rattle.std.proofs.lemmas.List.{length-set, length-map}
 use Rattle.std.proofs.lemmas.List.Sorted.{All-permutation}
 use Rattle.bidi_base.specs.declared.char_data.BidiClass.{BidiClass}
 use Rattle.bidi_base.specs.declared.char_data.BidiClass.TheVariants.{L}
@@ -19,7 +20,7 @@ use Rattle.bidi_base.proofs.StoredSteps.{length-stored_classes}
 use Rattle.bidi_base.proofs.VisualOrderLemmas.{all_below}
 use Rattle.bidi_lines.proofs.LineInText.{length-line}
 use Rattle.bidi_lines.proofs.Ordered.{visual_order-is}
-use Rattle.bidi.specs.Stages.{written, weak_in, own_line_levels, StagesFrom}
+use Rattle.bidi.specs.Stages.{written, weak_in, StagesFrom}
 use Rattle.bidi.specs.declared.stages.Stages.{Stages}
 
 pub written-append : (row : List (Option BidiClass)) (xs ys : List (ℕ × BidiClass)) → written row (xs ++ ys) ≡ written (written row xs) ys
@@ -32,7 +33,7 @@ length-written row (x ∷ xs) = length-written (slice_set row x.0 (Some x.1)) xs
 
 pub length-weak_in : (classes : List BidiClass) (s : RunSequence) → length (weak_in classes s) ≡ length s.places
 unfolding weak_in
-length-weak_in classes s = length-weak_classes s.sos (at_places L classes s.places) ∙ length-at_places L classes s.places
+length-weak_in classes s = grind (arith, length-weak_classes, length-at_places)
 
 pub weak_in-resolved : (classes : List BidiClass) (s : RunSequence) → is_l_or_r s.sos ≡ true → list_all is_kept (at_places L classes s.places) ≡ true → list_all is_weak_resolved (weak_in classes s) ≡ true
 unfolding weak_in
@@ -41,13 +42,7 @@ weak_in-resolved classes s sos kept = weak_classes-resolved s.sos (at_places L c
 -- one more sequence
 pub written-more : (f : RunSequence → List BidiClass) (row old : List (Option BidiClass)) (seqs : List RunSequence) (i : ℕ) (s d : RunSequence) → i < length seqs → s ≡ get_or seqs i d
     → row ≡ written old (flat_map (λ t. zip t.places (f t)) (take i seqs)) → written row (zip s.places (f s)) ≡ written old (flat_map (λ t. zip t.places (f t)) (take (i + 1) seqs))
-written-more f row old seqs i s d within is so_far =
-    let entries : RunSequence → List (ℕ × BidiClass) = λ t. zip t.places (f t) in
-    ap (λ (r : List (Option BidiClass)). written r (entries s)) so_far
-    ∙ sym (written-append old (flat_map entries (take i seqs)) (entries s))
-    ∙ ap (λ (t : RunSequence). written old (flat_map entries (take i seqs) ++ entries t)) is
-    ∙ ap (written old) (flat_map_more entries [] (take i seqs) (get_or seqs i d))
-    ∙ ap (λ (ts : List RunSequence). written old (flat_map entries ts)) (sym (take_more seqs i d within))
+written-more f row old seqs i s d within is so_far = grind (arith, common_steps, written-append)
 
 -- ---- what is shown of a paragraph
 
@@ -63,6 +58,4 @@ module _ (source : Source) (chars : List ℕ) (paragraph : ℕ) (stored : List �
       ap length from.line_levels ∙ length-line paragraph (stored_classes (map source.class_of chars)) stored 0 (length chars) (long ∙ sym many) (omega arith) (omega arith) ∙ (let all : length chars - 0 ≡ length chars = omega arith in all)
 
   pub order-within : All (λ p. p < length chars) s.order.items
-  order-within =
-      subst (λ (order : List ℕ). All (λ p. p < length chars) order) (sym from.order)
-      (subst (λ (n : ℕ). All (λ p. p < n) (visual_order (own_line_levels source chars paragraph stored))) (ap length (sym from.line_levels) ∙ line_levels-long) (order-below (own_line_levels source chars paragraph stored)))
+  order-within = grind (arith, line_levels-long, order-below)

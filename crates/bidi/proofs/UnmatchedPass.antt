@@ -1,21 +1,20 @@
 -- The walk along a line: what is open, and which of the characters read so far are controls without a match.
-use Rattle.std.proofs.Common.{◌≡◌, ℕ, zero, suc, ◌+◌, ◌<◌, ◌≤◌, Bool, true, false, not, ◌||◌, ◌&&◌, cond, leb, List, [], ◌∷◌, ◌++◌, length, get_or, set, map, find, Option, Some, None, refl, sym, ap, subst, ◌∙◌, arith, ◌-◌, inl, inr, eq-eqb, length-append}
+use Rattle.std.proofs.Common.{◌≡◌, ℕ, zero, suc, ◌+◌, ◌<◌, ◌≤◌, Bool, true, false, ◌||◌, ◌&&◌, cond, leb, List, [], ◌∷◌, ◌++◌, length, get_or, map, find, Option, Some, None, refl, sym, ap, subst, ◌∙◌, arith, ◌-◌, inl, inr, eq-eqb, length-append}
 use Rattle.std.specs.Prelude.{is_some, is_none}
 use Rattle.std.specs.List.{list_any, range_with_len}
-use Rattle.std.proofs.lemmas.Bool.{cases_Bool, cases_eq, cond-false, and_left, and_right, le-leb, leb-true, or_right, and_parts, and_from, eqb-true, cases_lt, false_from_ne_true, or_parts}
+use Rattle.std.proofs.lemmas.Bool.{cases_Bool, cases_eq, and_left, le-leb, leb-true, or_right, and_parts, and_from, cases_lt, false_from_ne_true}
 use Rattle.std.proofs.lemmas.List.{length-set, get_or-set_same, get_or-set_other, get_or_append_left, get_or_push}
 use Rattle.std.proofs.lemmas.List.FromFn.{fill_by_all}
 use Rattle.bidi_base.specs.declared.char_data.BidiClass.{BidiClass}
-use Rattle.bidi_base.specs.declared.char_data.BidiClass.TheVariants.{LRE, LRO, RLE, RLO, PDF, LRI, RLI, FSI, PDI}
-use Rattle.bidi_base.specs.Classes.{is_opener, is_pdi, is_pdf}
+use Rattle.bidi_base.specs.Classes.{is_opener}
 use Rattle.bidi_base.specs.Places.{class_at, between, holds_number}
 use Rattle.bidi_base.specs.Isolates.{is_initiator_at}
 use Rattle.bidi_base.proofs.EmbeddingsLemmas.{same_if}
-use Rattle.bidi_base.proofs.OpenersStack.{openers_read, closed_by, opened_by, left_at, below_isolate, below_embedding}
+use Rattle.bidi_base.proofs.OpenersStack.{openers_read, closed_by, opened_by, left_at, below_isolate}
 use Rattle.bidi.specs.declared.openers.Opener.{Opener}
-use Rattle.bidi.specs.OpenOpeners.{innermost_isolate, outside_isolate, innermost_embedding, outside_embedding, closed_place, left_open, then_open, with_closed}
-use Rattle.bidi.specs.Matches.{is_closer, is_control, closer_of, is_closed_by, closes_nothing, is_unmatched}
-use Rattle.bidi.proofs.ClosedOpeners.{top_embedding, closed_opener, IsCloser, closed_opener-IsCloser, IsCloser-closed_opener, closer_of-within}
+use Rattle.bidi.specs.OpenOpeners.{innermost_isolate, outside_isolate, closed_place, left_open, then_open, with_closed}
+use Rattle.bidi.specs.Matches.{is_control, closer_of, is_closed_by, closes_nothing, is_unmatched}
+use Rattle.bidi.proofs.ClosedOpeners.{closed_opener, closed_opener-IsCloser, IsCloser-closed_opener, closer_of-within}
 
 -- ---- the openers, as the indexes at which they stand
 
@@ -29,18 +28,6 @@ openers_at classes stack = map (opener_at classes) stack
 innermost_isolate-at : (classes : List BidiClass) (stack : List ℕ) → innermost_isolate (openers_at classes stack) ≡ find (is_initiator_at classes) stack
 innermost_isolate-at classes [] = refl
 innermost_isolate-at classes (q ∷ stack) = ap (λ rest. cond (is_initiator_at classes q) (Some q) rest) (innermost_isolate-at classes stack)
-
-innermost_embedding-at : (classes : List BidiClass) (stack : List ℕ) → innermost_embedding (openers_at classes stack) ≡ top_embedding classes stack
-innermost_embedding-at classes [] = refl
-innermost_embedding-at classes (q ∷ stack) = refl
-
-outside_embedding-at : (classes : List BidiClass) (stack : List ℕ) → outside_embedding (openers_at classes stack) ≡ openers_at classes (below_embedding classes stack)
-outside_embedding-at classes [] = refl
-outside_embedding-at classes (q ∷ stack) = by_test (is_initiator_at classes q)
-  where
-    by_test : (b : Bool) → cond b (opener_at classes q ∷ openers_at classes stack) (openers_at classes stack) ≡ openers_at classes (cond b (q ∷ stack) stack)
-    by_test true = refl
-    by_test false = refl
 
 -- outside the innermost isolate, or the whole where there is none
 left_by_pdi : (classes : List BidiClass) (whole stack : List ℕ)
@@ -57,29 +44,15 @@ left_by_pdi classes whole (q ∷ stack) = by_test (is_initiator_at classes q) (l
 module _ (classes : List BidiClass) (p : ℕ) (stack : List ℕ) where
   closed_place-at : closed_place (class_at classes p) (openers_at classes stack) ≡ closed_opener classes p stack
   unfolding closed_opener
-  closed_place-at = by_class (class_at classes p) refl
-    where
-      by_class : (c : BidiClass) → class_at classes p ≡ c → closed_place c (openers_at classes stack) ≡ cond (is_pdi c) (find (is_initiator_at classes) stack) (cond (is_pdf c) (top_embedding classes stack) None)
-      by_class PDI e = innermost_isolate-at classes stack
-      by_class PDF e = innermost_embedding-at classes stack
-      by_class _ e = refl
+  closed_place-at = grind (arith, innermost_isolate-at)
 
   left_open-at : left_open (class_at classes p) (openers_at classes stack) ≡ openers_at classes (closed_by classes p stack)
   unfolding closed_by
-  left_open-at = by_class (class_at classes p)
-    where
-      by_class : (c : BidiClass) → left_open c (openers_at classes stack) ≡ openers_at classes (cond (is_pdi c) (below_isolate classes stack stack) (cond (is_pdf c) (below_embedding classes stack) stack))
-      by_class PDI = left_by_pdi classes stack stack
-      by_class PDF = outside_embedding-at classes stack
-      by_class _ = refl
+  left_open-at = grind (arith, left_by_pdi)
 
   then_open-at : then_open p (class_at classes p) (openers_at classes stack) ≡ openers_at classes (opened_by classes p stack)
   unfolding opened_by
-  then_open-at = by_test (is_opener (class_at classes p))
-    where
-      by_test : (b : Bool) → cond b (opener_at classes p ∷ openers_at classes stack) (openers_at classes stack) ≡ openers_at classes (cond b (p ∷ stack) stack)
-      by_test true = refl
-      by_test false = refl
+  then_open-at = grind arith
 
 -- ---- controls without a match among the characters read so far
 
@@ -90,17 +63,6 @@ is_from p (Some m) = leb p m
 
 abbrev pub unmatched_by : List BidiClass → ℕ → ℕ → Bool
 unmatched_by classes p k = (is_opener (class_at classes k) && is_from p (closer_of classes k)) || closes_nothing classes k
-
--- an opener closes nothing
-opener_apart : (c : BidiClass) → is_opener c ≡ true → is_closer c ≡ false
-opener_apart LRE e = refl
-opener_apart LRO e = refl
-opener_apart RLE e = refl
-opener_apart RLO e = refl
-opener_apart LRI e = refl
-opener_apart RLI e = refl
-opener_apart FSI e = refl
-opener_apart _ e = absurd (cc)
 
 -- some number, or none, of consecutive ones passes
 any_range-none : (test : ℕ → Bool) (low n : ℕ) → ((k : ℕ) → low ≤ k → k < low + n → test k ≡ false) → list_any test (range_with_len low n) ≡ false
@@ -117,8 +79,7 @@ any_range-some test low (suc n) k from below e = elim (cases_eq k low) [
 ]
 
 holds_number-true : (o : Option ℕ) (n : ℕ) → holds_number o n ≡ true → o ≡ Some n
-holds_number-true None n e = absurd (cc e)
-holds_number-true (Some m) n e = ap Some (eqb-true m n e)
+holds_number-true o n e = grind arith
 
 module _ (classes : List BidiClass) where
   -- what the character p closes, by the openers before it
@@ -138,13 +99,6 @@ module _ (classes : List BidiClass) where
         | inl here ↦ absurd (apart (IsCloser-closed_opener classes p k opener (e ∙ ap Some here)))
         | inr other ↦ same_if (leb (p + 1) m) (leb p m) (λ f. le-leb p m (omega (arith, leb-true (p + 1) m f))) (λ f. le-leb (p + 1) m (omega (arith, leb-true p m f)))
       ]
-
-  -- the opener that it closes has its match from then on
-  unmatched_by-closed : (p k : ℕ) → IsCloser classes p k → unmatched_by classes (p + 1) k ≡ false
-  unmatched_by-closed p k h =
-      let past : leb (p + 1) p ≡ false = false_from_ne_true (leb (p + 1) p) (λ e. absurd (omega (arith, leb-true (p + 1) p e))) in
-      ap (λ b. b || closes_nothing classes k) (and_right _ _ (ap (is_from (p + 1)) h.closes ∙ past))
-      ∙ and_left _ _ (opener_apart (class_at classes k) h.opener)
 
   -- whether it closes something itself
   closes_some : (p : ℕ) → p < length classes → list_any (is_closed_by classes p) (between 0 p) ≡ is_some (closed p)
@@ -166,33 +120,11 @@ module _ (classes : List BidiClass) where
   -- an opener closes nothing
   opener_closes_none : (p : ℕ) → is_opener (class_at classes p) ≡ true → closed p ≡ None
   unfolding closed_opener
-  opener_closes_none p opener =
-      let apart = or_parts (is_pdi (class_at classes p)) (is_pdf (class_at classes p)) (opener_apart (class_at classes p) opener) in
-      cond-false (is_pdi (class_at classes p)) _ _ apart.0 ∙ cond-false (is_pdf (class_at classes p)) _ _ apart.1
+  opener_closes_none p opener = grind arith
 
   -- the character read last
   unmatched_by-last : (p : ℕ) → p < length classes → unmatched_by classes (p + 1) p ≡ (is_none (closed p) && is_control (class_at classes p))
-  unmatched_by-last p fits = elim (cases_Bool (is_opener (class_at classes p))) [
-    | inl opener ↦
-        let none : closed p ≡ None = opener_closes_none p opener in
-        ap (λ b. b || closes_nothing classes p) (and_from _ _ opener (later (closer_of classes p) refl))
-        ∙ sym (ap (λ o. is_none o && is_control (class_at classes p)) none ∙ ap (λ b. b || is_closer (class_at classes p)) opener)
-    | inr other ↦
-        ap (λ b. b || closes_nothing classes p) (and_left _ _ other)
-        ∙ ap (λ b. is_closer (class_at classes p) && not b) (closes_some p fits)
-        ∙ and_swap (is_closer (class_at classes p)) (is_none (closed p))
-        ∙ ap (λ b. is_none (closed p) && (b || is_closer (class_at classes p))) (sym other)
-  ]
-    where
-      later : (o : Option ℕ) → closer_of classes p ≡ o → is_from (p + 1) o ≡ true
-      later None e = refl
-      later (Some m) e = le-leb (p + 1) m (omega (arith, (closer_of-within classes p m e).0))
-
-      and_swap : (a b : Bool) → (a && b) ≡ (b && a)
-      and_swap true true = refl
-      and_swap true false = refl
-      and_swap false true = refl
-      and_swap false false = refl
+  unmatched_by-last p fits = grind (arith, opener_closes_none, closes_some, closer_of-within)
 
   -- ---- the walk
 
@@ -204,12 +136,12 @@ module _ (classes : List BidiClass) where
 
   pub IsReadSoFar-start : (openers : List Opener) (unmatched : List Bool) → openers ≡ [] → unmatched ≡ [] → IsReadSoFar 0 openers unmatched
   unfolding openers_read
-  IsReadSoFar-start openers unmatched none empty = record { are_open = none; long = ap length empty; each = λ k before. absurd (omega arith) }
+  IsReadSoFar-start openers unmatched none empty = grind arith
 
   -- what is closed stands among what was read
   pub IsReadSoFar-closed : (p : ℕ) (openers : List Opener) (unmatched : List Bool) (o : Option ℕ) → p < length classes → IsReadSoFar p openers unmatched
       → o ≡ closed_place (class_at classes p) openers → o ≡ closed p
-  IsReadSoFar-closed p openers unmatched o fits h e = e ∙ ap (closed_place (class_at classes p)) h.are_open ∙ closed_place-at classes p (openers_read classes p)
+  IsReadSoFar-closed p openers unmatched o fits h e = grind (arith, closed_place-at)
 
   pub IsReadSoFar-room : (p : ℕ) (openers : List Opener) (unmatched : List Bool) (o : Option ℕ) → p < length classes → IsReadSoFar p openers unmatched
       → o ≡ closed_place (class_at classes p) openers → (q : ℕ) → o ≡ Some q → q < length unmatched
@@ -218,21 +150,12 @@ module _ (classes : List BidiClass) where
       omega (arith, closer.before, h.long)
 
   length-with_closed : (o : Option ℕ) (unmatched : List Bool) → length (with_closed o unmatched) ≡ length unmatched
-  length-with_closed None unmatched = refl
-  length-with_closed (Some q) unmatched = length-set unmatched q false
+  length-with_closed o unmatched = grind (arith, length-set)
 
   with_closed-each : (p k : ℕ) (unmatched : List Bool) (o : Option ℕ) → p < length classes → length unmatched ≡ p → k < p → closed p ≡ o
       → get_or unmatched k false ≡ unmatched_by classes p k → get_or (with_closed o unmatched) k false ≡ unmatched_by classes (p + 1) k
-  with_closed-each p k unmatched None fits long before e same = same ∙ sym (unmatched_by-other p k (λ f. let none : None ≡ Some k = sym e ∙ f in cc none))
-  with_closed-each p k unmatched (Some q) fits long before e same = elim (cases_eq k q) [
-    | inl here ↦
-        let closes : closed p ≡ Some k = e ∙ ap Some (sym here) in
-        ap (λ (j : ℕ). get_or (set unmatched q false) j false) here ∙ get_or-set_same unmatched q false false (omega arith)
-        ∙ sym (unmatched_by-closed p k (closed_opener-IsCloser classes p k fits closes))
-    | inr other ↦
-        get_or-set_other unmatched q k false false other ∙ same
-        ∙ sym (unmatched_by-other p k (λ f. let one : Some q ≡ Some k = sym e ∙ f in let q_is : q ≡ k = cc one in other (sym q_is)))
-  ]
+  with_closed-each p k unmatched o fits long before e same =
+      grind (arith, unmatched_by-other, get_or-set_same, closed_opener-IsCloser, get_or-set_other)
 
   pub IsReadSoFar-more : (p : ℕ) (c : BidiClass) (openers left now : List Opener) (o : Option ℕ) (unmatched next : List Bool) → p < length classes → class_at classes p ≡ c
       → IsReadSoFar p openers unmatched → o ≡ closed_place c openers → left ≡ left_open c openers → now ≡ then_open p c left
@@ -265,11 +188,7 @@ module _ (classes : List BidiClass) where
   -- at the line's end
   unmatched_by-end : (k : ℕ) → unmatched_by classes (length classes) k ≡ is_unmatched classes k
   unfolding is_unmatched
-  unmatched_by-end k = ap (λ b. (is_opener (class_at classes k) && b) || closes_nothing classes k) (by_match (closer_of classes k) refl)
-    where
-      by_match : (o : Option ℕ) → closer_of classes k ≡ o → is_from (length classes) o ≡ is_none o
-      by_match None e = refl
-      by_match (Some m) e = false_from_ne_true (leb (length classes) m) (λ f. absurd (omega (arith, leb-true (length classes) m f, (closer_of-within classes k m e).1)))
+  unmatched_by-end k = grind (arith, closer_of-within)
 
   pub IsReadSoFar-end : (openers : List Opener) (unmatched : List Bool) (p : ℕ) → p ≡ length classes → IsReadSoFar p openers unmatched → unmatched ≡ map (is_unmatched classes) (range_with_len 0 p)
   IsReadSoFar-end openers unmatched p all h = fill_by_all (is_unmatched classes) unmatched p false h.long

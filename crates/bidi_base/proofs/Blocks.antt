@@ -1,5 +1,6 @@
 -- A block of classes that pass a test: what is seen over it, and how a pass that rewrites block by block goes on.
-use Rattle.std.proofs.Common.{◌≡◌, ℕ, zero, suc, ◌+◌, ◌-◌, ◌<◌, ◌≤◌, Bool, true, false, List, [], ◌∷◌, ◌++◌, length, get_or, take, drop, replicate, reverse, refl, sym, ap, subst, ◌∙◌, arith, inl, inr, append-nil, add-one, length-take, length-drop, length-append, drop-drop, get_or-take, get_or-drop}
+use Rattle.std.proofs.Common.{◌≡◌, ℕ, zero, suc, ◌+◌, ◌-◌, ◌<◌, ◌≤◌, Bool, true, false, List, [], ◌∷◌, ◌++◌, length, get_or, take, drop, replicate, reverse, refl, sym, ap, subst, ◌∙◌, arith, inl, inr, length-take, length-drop, length-append, drop-drop, get_or-take, get_or-drop}
+use Rattle.std.proofs.lemmas.Grind.{common_steps}
 use Rattle.std.proofs.lemmas.Bool.{cases_lt}
 use Rattle.std.proofs.lemmas.List.{length-replicate, get_or-replicate, drop_more, drop_all, take_rest, ext_get_or, length-take-le, get_or-append_right}
 use Rattle.std.proofs.lemmas.List.Sums.{prefix_len_passes, prefix_len_stops, prefix_len-le-length}
@@ -19,21 +20,7 @@ pub record IsBlock (test : BidiClass → Bool) (xs : List BidiClass) (i n : ℕ)
   pub behind : i + n < length xs → test (get_or xs (i + n) L) ≡ false
 
 pub IsBlock-prefix_len : (test : BidiClass → Bool) (xs : List BidiClass) (i n : ℕ) → i ≤ length xs → n ≡ prefix_len test (drop i xs) → IsBlock test xs i n
-IsBlock-prefix_len test xs i n fits is =
-    let long : length (drop i xs) ≡ length xs - i = length-drop i xs in
-    let few : n ≤ length (drop i xs) = subst (λ (m : ℕ). m ≤ length (drop i xs)) (sym is) (prefix_len-le-length test (drop i xs)) in
-    record { room = omega arith; inside = inside_by; behind = behind_by }
-  where
-    inside_by : (k : ℕ) → k < n → test (get_or xs (i + k) L) ≡ true
-    inside_by k below =
-        ap test (sym (get_or-drop i xs k L)) ∙ prefix_len_passes test (drop i xs) k L (subst (λ (m : ℕ). k < m) is below)
-
-    behind_by : i + n < length xs → test (get_or xs (i + n) L) ≡ false
-    behind_by more =
-        let m = prefix_len test (drop i xs) in
-        let long : length (drop i xs) ≡ length xs - i = length-drop i xs in
-        let short : m < length (drop i xs) = omega (arith, is) in
-        ap test (ap (λ (k : ℕ). get_or xs (i + k) L) is ∙ sym (get_or-drop i xs m L)) ∙ prefix_len_stops test (drop i xs) L short
+IsBlock-prefix_len test xs i n fits is = grind (arith, length-drop, prefix_len-le-length, get_or-drop, prefix_len_passes, prefix_len_stops)
 
 -- the same from what a pass counts, behind i nothing being written yet
 pub IsBlock-counted : (test : BidiClass → Bool) (old now : List BidiClass) (i n : ℕ) → i ≤ length old → drop i now ≡ drop i old → n ≡ prefix_len test (take (length now - i) (drop i now)) → IsBlock test old i n
@@ -69,7 +56,7 @@ drop_later : (xs ys : List BidiClass) (i n : ℕ) → drop i xs ≡ drop i ys �
 drop_later xs ys i n e = sym (drop-drop n i xs) ∙ ap (drop n) e ∙ drop-drop n i ys
 
 pub read_later : (xs ys : List BidiClass) (i k : ℕ) → drop i xs ≡ drop i ys → get_or xs (i + k) L ≡ get_or ys (i + k) L
-read_later xs ys i k e = sym (get_or-drop i xs k L) ∙ ap (λ (zs : List BidiClass). get_or zs k L) e ∙ get_or-drop i ys k L
+read_later xs ys i k e = grind (arith, get_or-drop)
 
 module _ (rule : List BidiClass → BidiClass → List BidiClass → BidiClass) where
   -- the rule's answer at k, in the list as it was
@@ -77,10 +64,7 @@ module _ (rule : List BidiClass → BidiClass → List BidiClass → BidiClass) 
   answer old k = rule (reverse (take k old)) (get_or old k L) (drop (k + 1) old)
 
   pub answer_is : (old : List BidiClass) (k : ℕ) → k < length old → get_or (in_context rule [] old) k L ≡ answer old k
-  answer_is old k fits =
-      get_or-in_context rule [] old k L L fits
-      ∙ ap (λ (before : List BidiClass). rule before (get_or old k L) (drop (suc k) old)) (append-nil (reverse (take k old)))
-      ∙ ap (λ n. rule (reverse (take k old)) (get_or old k L) (drop n old)) (sym (add-one k))
+  answer_is old k fits = grind (arith, common_steps, get_or-in_context)
 
   -- the n classes from i on now are the rule's answers
   pub IsRewritten-block : (old now now1 : List BidiClass) (i n : ℕ) → IsRewritten rule old now i → i + n ≤ length old → take i now1 ≡ take i now → drop (i + n) now1 ≡ drop (i + n) old
@@ -101,9 +85,7 @@ module _ (rule : List BidiClass → BidiClass → List BidiClass → BidiClass) 
       ]
 
       each : (k : ℕ) → k < length (take (i + n) now1) → get_or (take (i + n) now1) k L ≡ get_or (take (i + n) (in_context rule [] old)) k L
-      each k below =
-          let inner : k < i + n = omega (arith, length-take-le (i + n) now1 (omega arith)) in
-          get_or-take (i + n) now1 k L inner ∙ at k inner ∙ sym (get_or-take (i + n) (in_context rule [] old) k L inner)
+      each k below = grind (arith, length-take-le, get_or-take, at)
 
   -- a block that was written over by one class
   pub IsRewritten-filled : (old now : List BidiClass) (i n m : ℕ) (y : BidiClass) → IsRewritten rule old now i → i + n ≤ length old → m ≡ n

@@ -1,7 +1,7 @@
 -- Brackets pair alike where their indexes are other numbers that rise with them, as places do.
 use Rattle.std.proofs.Common.{◌≡◌, ℕ, zero, suc, ◌+◌, ◌-◌, ◌<◌, ◌≤◌, Bool, ltb, eqb, List, [], ◌∷◌, ◌++◌, map, length, get_or, slice_get, take, set, filter, Option, Some, None, refl, sym, ap, subst, ◌∙◌, arith, inl, inr}
 use Rattle.std.specs.Prelude.{replicate}
-use Rattle.std.proofs.lemmas.Bool.{cases_Bool, cases_lt, lt-ltb, le-ltb, cond-true, cond-false}
+use Rattle.std.proofs.lemmas.Bool.{cases_Bool, cases_lt, cond-true, cond-false}
 use Rattle.std.proofs.lemmas.List.{length-map, map-set, map_push, get_or-map, get_or_default}
 use Rattle.std.proofs.lemmas.List.Elements.{All-nil}
 use Rattle.std.proofs.lemmas.Option.{slice_get-get_or}
@@ -52,13 +52,7 @@ module _ (f : ℕ → ℕ) (rises : (i j : ℕ) → i < j → f i < f j) where
   both p = (f p.0, f p.1)
 
   same_order : (i j : ℕ) → ltb (f i) (f j) ≡ ltb i j
-  same_order i j = elim (cases_lt i j) [
-    | inl less ↦ lt-ltb (f i) (f j) (rises i j less) ∙ sym (lt-ltb i j less)
-    | inr past ↦ elim (cases_lt j i) [
-      | inl more ↦ le-ltb (f i) (f j) (omega (arith, rises j i more)) ∙ sym (le-ltb i j past)
-      | inr same ↦ let e : i ≡ j = omega arith in le-ltb (f i) (f j) (omega (arith, ap f e)) ∙ sym (le-ltb i j past)
-    ]
-  ]
+  same_order i j = grind arith
 
   abbrev is_pair : ℕ × ℕ → Bool
   is_pair p = ltb p.0 p.1

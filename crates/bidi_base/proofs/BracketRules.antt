@@ -1,8 +1,9 @@
 -- N0 pair by pair: what a pair takes, and which characters take it.
-use Rattle.std.proofs.Common.{◌≡◌, ℕ, zero, suc, ◌+◌, ◌-◌, ◌<◌, ◌≤◌, Bool, true, false, ◌&&◌, ◌||◌, cond, eqb, ltb, leb, List, [], ◌∷◌, map, length, get_or, take, drop, reverse, slice_range, replicate, find, filter_map, Option, Some, None, option_map, is_some, refl, sym, ap, subst, ◌∙◌, arith, inl, inr, length-take, length-drop}
+use Rattle.std.proofs.Common.{◌≡◌, ℕ, zero, suc, ◌+◌, ◌-◌, ◌<◌, ◌≤◌, Bool, true, false, ◌&&◌, ◌||◌, cond, eqb, ltb, leb, List, [], ◌∷◌, map, length, get_or, take, drop, reverse, slice_range, replicate, find, filter_map, Option, Some, None, option_map, is_some, refl, sym, ap, ◌∙◌, arith, inl, inr, length-take, length-drop}
+use Rattle.std.proofs.lemmas.Grind.{common_steps}
 use Rattle.std.specs.List.{list_all, list_any, prefix_len}
 use Rattle.std.specs.Option.{option_map_or}
-use Rattle.std.proofs.lemmas.Bool.{cases_lt, cases_order, cases_Bool, lt-ltb, le-ltb, eq-eqb, ne_eqb, lt-leb, le-leb}
+use Rattle.std.proofs.lemmas.Bool.{cases_Bool, lt-leb, le-leb}
 use Rattle.std.proofs.lemmas.List.{take_rest}
 use Rattle.std.proofs.lemmas.List.FromFn.{fill_by_all, length-map-range_with_len, get_or-map-range_with_len}
 use Rattle.std.proofs.lemmas.List.Sums.{prefix_len-le-length, fold_more}
@@ -12,7 +13,7 @@ use Rattle.bidi_base.specs.declared.char_data.BidiClass.TheVariants.{L}
 use Rattle.bidi_base.specs.Classes.{as_direction, is_nsm, same_class}
 use Rattle.bidi_base.specs.Places.{class_at, indexes}
 use Rattle.bidi_base.specs.Neutral.{nearest_direction, directions_between, pair_direction, is_mark_after, goes_with_pair, with_pair, n0_pair, n0}
-use Rattle.bidi_base.proofs.Lists.{cases_Option, put_mid-inside, put_mid-before, put_mid-after, length-put_mid}
+use Rattle.bidi_base.proofs.Lists.{cases_Option, put_mid-after, length-put_mid}
 
 -- a test of the directions, as one of the classes
 pub any_direction : (test : BidiClass → Bool) (cs : List BidiClass) → list_any test (filter_map as_direction cs) ≡ list_any (λ c. option_map_or test (as_direction c) false) cs
@@ -45,25 +46,13 @@ list_all-front p (x ∷ xs) (suc n) fits = elim (cases_Bool (p x)) [
 ]
   where
     same_test : (n m : ℕ) → leb n m ≡ leb (suc n) (1 + m)
-    same_test n m = elim (cases_lt m n) [
-      | inl less ↦ lt-leb n m less ∙ sym (lt-leb (suc n) (1 + m) (omega arith))
-      | inr more ↦ le-leb n m more ∙ sym (le-leb (suc n) (1 + m) (omega arith))
-    ]
+    same_test n m = grind arith
 
 -- k is a mark after b where it lies within the marks that begin there
 is_mark_after-prefix_len : (source : List BidiClass) (b k : ℕ) → b < length source → k < length source
     → is_mark_after source b k ≡ (ltb b k && ltb k (b + 1 + prefix_len is_nsm (drop (b + 1) source)))
 unfolding is_mark_after
-is_mark_after-prefix_len source b k inside fits = elim (cases_lt b k) [
-  | inl after ↦ rw (lt-ltb b k after, list_all-front is_nsm (drop (b + 1) source) (k + 1 - (b + 1)) (omega (arith, length-drop (b + 1) source))) (same_place (prefix_len is_nsm (drop (b + 1) source)))
-  | inr before ↦ rw (le-ltb b k before) refl
-]
-  where
-    same_place : (m : ℕ) → leb (k + 1 - (b + 1)) m ≡ ltb k (b + 1 + m)
-    same_place m = elim (cases_lt k (b + 1 + m)) [
-      | inl less ↦ le-leb (k + 1 - (b + 1)) m (omega arith) ∙ sym (lt-ltb k (b + 1 + m) less)
-      | inr more ↦ lt-leb (k + 1 - (b + 1)) m (omega arith) ∙ sym (le-ltb k (b + 1 + m) more)
-    ]
+is_mark_after-prefix_len source b k inside fits = grind (arith, list_all-front, length-drop)
 
 -- the classes once one bracket and the marks after it have taken a direction
 abbrev pub with_bracket : List BidiClass → ℕ → List BidiClass → BidiClass → List BidiClass
@@ -75,7 +64,7 @@ pub with_bracket-filled : (source classes ys : List BidiClass) (b m : ℕ) (d : 
     → put_mid b (b + 1 + m - b) classes ys ≡ with_bracket source b classes d
 with_bracket-filled source classes ys b m d long inside counted filled =
     let marks : m ≡ prefix_len is_nsm (drop (b + 1) source) = counted ∙ ap (prefix_len is_nsm) (take_rest source (b + 1)) in
-    let few : m ≤ length (drop (b + 1) source) = subst (λ (n : ℕ). n ≤ length (drop (b + 1) source)) (sym marks) (prefix_len-le-length is_nsm (drop (b + 1) source)) in
+    let few : m ≤ length (drop (b + 1) source) = grind (arith, prefix_len-le-length) in
     let room : b + (1 + m) ≤ length classes = omega (arith, length-drop (b + 1) source) in
     let same : b + 1 + m - b ≡ 1 + m = omega arith in
     let part : length (take (b + 1 + m - b) (drop b classes)) ≡ 1 + m = omega (arith, length-take (b + 1 + m - b) (drop b classes), length-drop b classes) in
@@ -87,17 +76,10 @@ with_bracket-filled source classes ys b m d long inside counted filled =
   where
     at : (k : ℕ) → b + (1 + m) ≤ length classes → k < length classes
         → get_or (put_mid b (1 + m) classes (replicate (1 + m) d)) k L ≡ cond (eqb k b || (ltb b k && ltb k (b + 1 + m))) d (class_at classes k)
-    at k room fits = elim (cases_order k b) [
-      | inl here ↦ rw (eq-eqb k b here) (put_mid-inside b (1 + m) classes d L k room (omega arith) (omega arith))
-      | inr (inl before) ↦ rw (ne_eqb k b (λ e. omega arith), le-ltb b k (omega arith)) (put_mid-before b (1 + m) classes d L k (omega arith) before)
-      | inr (inr after) ↦ elim (cases_lt k (b + 1 + m)) [
-        | inl mark ↦ rw (ne_eqb k b (λ e. omega arith), lt-ltb b k after, lt-ltb k (b + 1 + m) mark) (put_mid-inside b (1 + m) classes d L k room (omega arith) (omega arith))
-        | inr past ↦ rw (ne_eqb k b (λ e. omega arith), lt-ltb b k after, le-ltb k (b + 1 + m) past) (put_mid-after b (1 + m) classes d L k room (omega arith))
-      ]
-    ]
+    at k room fits = grind (arith, common_steps, put_mid-after)
 
 pub length-with_bracket : (source classes : List BidiClass) (b : ℕ) (d : BidiClass) → length (with_bracket source b classes d) ≡ length classes
-length-with_bracket source classes b d = length-map-range_with_len (λ k. cond (eqb k b || is_mark_after source b k) d (class_at classes k)) 0 (length classes)
+length-with_bracket source classes b d = grind (arith, length-map-range_with_len)
 
 twice : (a b s t : Bool) (d x : BidiClass) → cond (b || t) d (cond (a || s) d x) ≡ cond (((a || b) || s) || t) d x
 twice a b s t d x = grind arith
@@ -124,7 +106,7 @@ n0_pair-Some e sos source classes pair d is = rw (is, with_bracket-both source c
 
 pub n0_pair-None : (e sos : BidiClass) (source classes : List BidiClass) (pair : ℕ × ℕ) → pair_direction e sos classes pair ≡ None → n0_pair e sos source classes pair ≡ classes
 unfolding n0_pair
-n0_pair-None e sos source classes pair is = ap (λ (o : Option BidiClass). option_map_or (with_pair source pair classes) o classes) is
+n0_pair-None e sos source classes pair is = grind arith
 
 pub n0-none : (e sos : BidiClass) (source classes : List BidiClass) → n0 e sos source [] classes ≡ classes
 unfolding n0

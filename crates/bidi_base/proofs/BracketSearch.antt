@@ -1,9 +1,10 @@
 -- The search for bracket pairs over the brackets of a sequence alone: a stack of openings, each with the place of its pair in the list of pairs.
-use Rattle.std.proofs.Common.{◌≡◌, ℕ, zero, suc, ◌+◌, ◌-◌, ◌<◌, ◌≤◌, Bool, true, false, not, cond, eqb, ltb, List, [], ◌∷◌, ◌++◌, map, length, get_or, take, drop, set, filter, filter_map, find, Option, Some, None, option_map, unwrap_or, refl, sym, ap, subst, ◌∙◌, ◌⊎◌, arith, inl, inr, add-one, append-nil, append_assoc, length-set, eqb-true, eq-eqb, ne_eqb, lt-ltb, le-ltb}
+use Rattle.std.proofs.Common.{◌≡◌, ℕ, zero, suc, ◌+◌, ◌-◌, ◌<◌, ◌≤◌, Bool, true, false, not, cond, eqb, ltb, List, [], ◌∷◌, ◌++◌, map, length, get_or, take, drop, set, filter, filter_map, find, Option, Some, None, option_map, unwrap_or, refl, sym, ap, subst, ◌∙◌, ◌⊎◌, arith, inl, inr, add-one, append-nil, append_assoc, eqb-true, lt-ltb, le-ltb}
+use Rattle.std.proofs.lemmas.Grind.{common_steps}
 use Rattle.std.specs.List.{range_with_len, slice_get}
 use Rattle.std.proofs.lemmas.Bool.{cases_lt, cases_Bool, both_ways}
-use Rattle.std.proofs.lemmas.List.{length-map, length-append, map_push, take-map, get_or-map, drop_more, drop_all}
-use Rattle.std.proofs.lemmas.List.Elements.{All-append, All-cons, All-nil, All-take, filter-append, filter_map-append}
+use Rattle.std.proofs.lemmas.List.{length-map, map_push, take-map, get_or-map, drop_more, drop_all}
+use Rattle.std.proofs.lemmas.List.Elements.{All-nil, filter-append, filter_map-append}
 use Rattle.std.proofs.lemmas.List.Folds.{find-append}
 use Rattle.std.proofs.lemmas.Option.{slice_get-get_or}
 use Rattle.bidi_base.specs.declared.data_source.BidiMatchedOpeningBracket.{BidiMatchedOpeningBracket}
@@ -19,7 +20,7 @@ use Rattle.bidi_base.specs.declared.brackets.PairSearch.{PairSearch}
 use Rattle.bidi_base.specs.declared.brackets.Waiting.{Waiting}
 use Rattle.bidi_base.specs.FoundBrackets.{brackets_from}
 use Rattle.bidi_base.specs.PairSearch.{closed_before, opening_of, opens, openings, pair_at, entry_of, closed_slots, AreWithin, IsPairing, IsAt, HasRead}
-use Rattle.bidi_base.proofs.Lists.{find-passes, find-index, filter_map-same, option_or-None, cases_Option}
+use Rattle.bidi_base.proofs.Lists.{find-passes, find-index, filter_map-same, cases_Option}
 
 -- the numbers from `low` on below i that pass a test
 module _ (p : ℕ → Bool) (i : ℕ) where
@@ -27,8 +28,7 @@ module _ (p : ℕ → Bool) (i : ℕ) where
   below low = filter p (range_with_len low (i - low))
 
   below_next : (low : ℕ) → low < i → below low ≡ cond (p low) (low ∷ below (low + 1)) (below (low + 1))
-  below_next low less =
-      let long : i - low ≡ suc (i - (low + 1)) = omega arith in ap (λ n. filter p (range_with_len low n)) long
+  below_next low less = grind arith
 
   below_none : (low : ℕ) → low ≡ i → below low ≡ []
   below_none low here = let none : i - low ≡ 0 = omega arith in ap (λ n. filter p (range_with_len low n)) none
@@ -65,16 +65,10 @@ get_at p i low (suc n) d passes from to = elim (cases_lt low i) [
 ]
 
 pub AreWithin-opening : (slots : List (ℕ × ℕ)) (p : ℕ × ℕ) (waiting : List Waiting) (e : Waiting) → AreWithin (length slots) waiting → e.pair ≡ length slots → AreWithin (length (slots ++ p ∷ [])) (waiting ++ e ∷ [])
-AreWithin-opening slots p waiting e h is =
-    let longer : length (slots ++ p ∷ []) ≡ length slots + 1 = length-append slots (p ∷ []) in
-    let fits : e.pair < length (slots ++ p ∷ []) = omega arith in
-    All-append (λ (w : Waiting). w.pair < length (slots ++ p ∷ [])) waiting (e ∷ [])
-    (λ k d below. let one = h k d below in omega (arith, one))
-    (All-cons (λ (w : Waiting). w.pair < length (slots ++ p ∷ [])) e [] fits (All-nil (λ (w : Waiting). w.pair < length (slots ++ p ∷ []))))
+AreWithin-opening slots p waiting e h is = grind (arith, common_steps)
 
 pub AreWithin-pair : (slots : List (ℕ × ℕ)) (i k : ℕ) (p : ℕ × ℕ) (waiting : List Waiting) → AreWithin (length slots) waiting → AreWithin (length (set slots i p)) (take k waiting)
-AreWithin-pair slots i k p waiting h =
-    All-take (λ (w : Waiting). w.pair < length (set slots i p)) k waiting (λ m d below. let one = h m d below in omega (arith, one, length-set slots i p))
+AreWithin-pair slots i k p waiting h = grind (arith, common_steps)
 
 module _ (counted : List (Option BidiMatchedOpeningBracket)) where
   openings_more : (j : ℕ) → openings counted (j + 1) ≡ openings counted j ++ cond (opens counted j) (j ∷ []) []
@@ -86,7 +80,7 @@ module _ (counted : List (Option BidiMatchedOpeningBracket)) where
       ∙ ap (λ (k : ℕ). openings counted j ++ cond (opens counted k) (k ∷ []) []) place
 
   openings_same : (j : ℕ) → opens counted j ≡ false → openings counted (j + 1) ≡ openings counted j
-  openings_same j other = openings_more j ∙ ap (λ b. openings counted j ++ cond b (j ∷ []) []) other ∙ append-nil (openings counted j)
+  openings_same j other = grind (arith, openings_more, append-nil)
 
   openings_new : (j : ℕ) → opens counted j ≡ true → openings counted (j + 1) ≡ openings counted j ++ j ∷ []
   openings_new j opening = openings_more j ∙ ap (λ b. openings counted j ++ cond b (j ∷ []) []) opening
@@ -108,7 +102,7 @@ module _ (counted : List (Option BidiMatchedOpeningBracket)) where
   -- a place that is passed over
   same_slots : (slots : List (ℕ × ℕ)) (j : ℕ) → slots ≡ map (pair_at (closed_before counted j)) (openings counted j) → opens counted j ≡ false → closed_before counted (j + 1) ≡ closed_before counted j
       → slots ≡ map (pair_at (closed_before counted (j + 1))) (openings counted (j + 1))
-  same_slots slots j found other same = found ∙ ap (map (pair_at (closed_before counted j))) (sym (openings_same j other)) ∙ ap (λ (ps : List (ℕ × ℕ)). map (pair_at ps) (openings counted (j + 1))) (sym same)
+  same_slots slots j found other same = grind (arith, openings_same)
 
   IsPairing-none : (slots : List (ℕ × ℕ)) (waiting : List Waiting) (j : ℕ) → IsPairing counted slots waiting j → j < length counted → bracket_at counted j ≡ None → IsPairing counted slots waiting (j + 1)
   IsPairing-none slots waiting j h fits is =
@@ -144,9 +138,7 @@ module _ (counted : List (Option BidiMatchedOpeningBracket)) where
   -- the search over the entries is one over the openings
   search_is : (slots : List (ℕ × ℕ)) (waiting : List Waiting) (j : ℕ) (b : BidiMatchedOpeningBracket) (h : IsPairing counted slots waiting j) → bracket_at counted j ≡ Some b
       → find_last (λ (e : Waiting). eqb e.opening b.opening) waiting ≡ option_map (entry_of counted) (find_last (λ i. is_same_bracket (bracket_at counted i) (bracket_at counted j)) h.places)
-  search_is slots waiting j b h is =
-      let q : Waiting → Bool = λ e. eqb e.opening b.opening in
-      ap (find_last q) h.entries ∙ find_last-entries counted (entry_of counted) q j h.places b h.under_way is (λ i. refl)
+  search_is slots waiting j b h is = grind (arith, find_last-entries)
 
   IsPairing-unmatched : (slots : List (ℕ × ℕ)) (waiting : List Waiting) (j : ℕ) (b : BidiMatchedOpeningBracket) → IsPairing counted slots waiting j → j < length counted → bracket_at counted j ≡ Some b
       → b.is_open ≡ false → find_last (λ (e : Waiting). eqb e.opening b.opening) waiting ≡ None → IsPairing counted slots waiting (j + 1)
@@ -168,11 +160,10 @@ module _ (counted : List (Option BidiMatchedOpeningBracket)) where
 
   -- the closing that a new pair gives
   closing_new : (pairs : List (ℕ × ℕ)) (i j : ℕ) → find (λ (p : ℕ × ℕ). eqb p.0 i) pairs ≡ None → pair_at (pairs ++ (i, j) ∷ []) i ≡ (i, j)
-  closing_new pairs i j free = rw (find-append (λ (p : ℕ × ℕ). eqb p.0 i) pairs ((i, j) ∷ []), free, eq-eqb i i refl) refl
+  closing_new pairs i j free = grind (arith, find-append)
 
   closing_other : (pairs : List (ℕ × ℕ)) (i j k : ℕ) → (k ≡ i → ⊥) → pair_at pairs k ≡ pair_at (pairs ++ (i, j) ∷ []) k
-  closing_other pairs i j k other =
-      rw (find-append (λ (p : ℕ × ℕ). eqb p.0 k) pairs ((i, j) ∷ []), ne_eqb i k (λ e. other (sym e)), option_or-None (find (λ (p : ℕ × ℕ). eqb p.0 k) pairs)) refl
+  closing_other pairs i j k other = grind (arith, find-append)
 
   -- the opening that a search over the entries finds
   found_opening : (slots : List (ℕ × ℕ)) (waiting : List Waiting) (j k : ℕ) (b : BidiMatchedOpeningBracket) (h : IsPairing counted slots waiting j) → bracket_at counted j ≡ Some b → k < length h.places
@@ -379,12 +370,10 @@ module _ (before : List Bracket) (b : Bracket) where
   joined rest = append_assoc before (b ∷ []) rest
 
   not_false : (more : Bool) → not more ≡ false → more ≡ true
-  not_false true e = refl
-  not_false false e = absurd (cc e)
+  not_false more e = grind arith
 
   not_true : (more : Bool) → not more ≡ true → more ≡ false
-  not_true true e = absurd (cc e)
-  not_true false e = refl
+  not_true more e = grind arith
 
   pub HasRead-next : (s t : PairSearch) → HasRead s before → s.is_over ≡ false → AreWithin (length t.pairs.items) t.waiting.items → (more : Bool) → t.is_over ≡ not more
       → (more ≡ true → (counted : List (Option BidiMatchedOpeningBracket)) (rest : List Bracket) → IsAt counted s.pairs.items s.waiting.items (b ∷ rest) → IsAt counted t.pairs.items t.waiting.items rest)

@@ -1,11 +1,10 @@
 -- What the paragraphs of a text are where a carriage return and the line feed after it stay together.
-use Rattle.std.proofs.Common.{◌≡◌, ℕ, Bool, true, false, not, ◌&&◌, ◌||◌, ◌==◌, List, [], ◌∷◌, refl, sym, ap, subst, ◌∙◌, inl, inr, arith}
+use Rattle.std.proofs.Common.{◌≡◌, ℕ, true, false, not, ◌&&◌, ◌==◌, List, [], ◌∷◌, refl, sym, subst, inl, inr, arith}
 use Rattle.std.specs.Prelude.{All}
 use Rattle.std.specs.List.{onto_first}
 use Rattle.std.proofs.lemmas.List.Elements.{All-nil, All-cons, All-head, All-tail}
 use Rattle.std.proofs.lemmas.Bool.{cases_Bool, and_parts}
-use Rattle.std.proofs.lemmas.Bool.Decides.{nat_tests}
-use Rattle.bidi_base.specs.CrLf.{is_line_feed_alone, has_unpaired_separator, AreCrLfParagraphRanges}
+use Rattle.bidi_base.specs.CrLf.{has_unpaired_separator, AreCrLfParagraphRanges}
 use Rattle.bidi_base.specs.Paragraphs.{SplitTest, cut_after, begins_with_line_feed, cr_lf_together, paragraphs_of, ranges_from}
 use Rattle.bidi_base.specs.Source.{Source}
 use Rattle.bidi_base.proofs.ParagraphsLemmas.{is_stop, Ends, cut_after-ended, cut_after-partition, cut_after-lines, cut_after-AllButLast, cut_after-All}
@@ -23,9 +22,7 @@ module _ (source : Source) where
 
   -- a character that is no separator
   longer : (c : ℕ) (p : List ℕ) → is_stop source c ≡ false → Holds p → Holds (c ∷ p)
-  longer c [] on h = refl
-  longer c (d ∷ p) on h =
-      ap (λ (b : Bool). (b && not (c == 0x0D && is_line_feed_alone source (d ∷ p))) || has_unpaired_separator source (d ∷ p)) on ∙ h
+  longer c p on h = grind arith
 
   onto : (c : ℕ) (ps : List (List ℕ)) → is_stop source c ≡ false → All Holds ps → All Holds (onto_first c ps)
   onto c [] on h = All-cons Holds (c ∷ []) [] refl (All-nil Holds)
@@ -33,32 +30,14 @@ module _ (source : Source) where
 
   -- a line feed that is a separator ends its paragraph
   line_feed-ends : (d : ℕ) (cs : List ℕ) → begins_with_line_feed source (d ∷ cs) ≡ true → ends d cs ≡ true
-  line_feed-ends d cs e =
-      let parts = and_parts (d == 0x0A) (is_stop source d) e in
-      let other : (d == 0x0D) ≡ false = no_return d parts.0 in
-      rw (parts.1, other) refl
-    where
-      no_return : (d : ℕ) → (d == 0x0A) ≡ true → (d == 0x0D) ≡ false
-      no_return d is = grind (arith, nat_tests)
+  line_feed-ends d cs e = grind arith
 
   -- a separator that ends none is a carriage return before such a line feed
   pair-of : (c : ℕ) (after : List ℕ) → is_stop source c ≡ true → ends c after ≡ false → ((c == 0x0D) ≡ true) × (begins_with_line_feed source after ≡ true)
-  pair-of c after stop on = both (is_stop source c) (c == 0x0D) (begins_with_line_feed source after) stop on
-    where
-      both : (a x y : Bool) → a ≡ true → (a && not (x && y)) ≡ false → (x ≡ true) × (y ≡ true)
-      both true true true e f = (refl, refl)
-      both true true false e f = absurd (cc f)
-      both true false y e f = absurd (cc f)
-      both false x y e f = absurd (cc e)
+  pair-of c after stop on = grind arith
 
   pair-Holds : (c d : ℕ) → (c == 0x0D) ≡ true → begins_with_line_feed source (d ∷ []) ≡ true → Holds (c ∷ d ∷ [])
-  pair-Holds c d e f = none (is_stop source c) (c == 0x0D) (begins_with_line_feed source (d ∷ [])) e f
-    where
-      none : (b x y : Bool) → x ≡ true → y ≡ true → ((b && not (x && (y && true))) || false) ≡ false
-      none true true true e f = refl
-      none true true false e f = absurd (cc f)
-      none true false y e f = absurd (cc e)
-      none false x y e f = refl
+  pair-Holds c d e f = grind arith
 
   together-undivided : (chars : List ℕ) → All Holds (cut_after ends chars)
   together-undivided [] = All-nil Holds

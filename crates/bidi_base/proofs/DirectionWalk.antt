@@ -1,11 +1,10 @@
 -- The base direction of a text in one walk, which counts the isolates that are open.
-use Rattle.std.proofs.Common.{◌≡◌, ◌↔◌, ℕ, zero, suc, ◌+◌, ◌-◌, ◌≤◌, Bool, true, false, ◌&&◌, cond, if◌then◌else◌, List, [], ◌∷◌, drop, map, find, Option, Some, None, is_some, refl, sym, ap, ◌∙◌, ◌⊎◌, inl, inr, arith}
+use Rattle.std.proofs.Common.{◌≡◌, ◌↔◌, ℕ, ◌+◌, ◌-◌, ◌≤◌, Bool, true, false, ◌&&◌, cond, if◌then◌else◌, List, [], ◌∷◌, drop, map, find, Option, Some, None, is_some, refl, ap, ◌∙◌, ◌⊎◌, inl, inr, arith}
 use Rattle.std.specs.Prelude.{option_and_then}
 use Rattle.std.specs.List.{onto_first}
 use Rattle.std.specs.Option.{option_or}
-use Rattle.std.proofs.lemmas.Bool.{cond-true, cond-false, and_from, and_left, and_right, cases_Bool}
+use Rattle.std.proofs.lemmas.Bool.{cases_Bool}
 use Rattle.bidi_base.specs.declared.char_data.BidiClass.{BidiClass}
-use Rattle.bidi_base.specs.declared.char_data.BidiClass.TheVariants.{B, LRI, RLI, FSI, PDI}
 use Rattle.bidi_base.specs.declared.char_data.Direction.{Direction}
 use Rattle.bidi_base.specs.declared.char_data.Direction.TheVariants.{Rtl, Mixed}
 use Rattle.bidi_base.specs.Classes.{is_strong, is_initiator, is_pdi, is_paragraph_separator}
@@ -24,15 +23,6 @@ direction_from full d [] = Mixed
 direction_from full d (c ∷ cs) =
     cond (is_strong c && is_zero d) (direction_by (Some c))
     (cond (is_paragraph_separator c) (cond full (direction_from full 0 cs) Mixed) (direction_from full (depth_by (kind_of c) d) cs))
-
--- what a pass counts
-pub depth_by-counted : (c : BidiClass) (d : ℕ) → (if is_initiator c then d + 1 else if is_pdi c then d - 1 else d) ≡ depth_by (kind_of c) d
-depth_by-counted LRI d = let more : d + 1 ≡ suc d = omega arith in more
-depth_by-counted RLI d = let more : d + 1 ≡ suc d = omega arith in more
-depth_by-counted FSI d = let more : d + 1 ≡ suc d = omega arith in more
-depth_by-counted PDI zero = let none : 0 - 1 ≡ 0 = omega arith in none
-depth_by-counted PDI (suc d) = let less : suc d - 1 ≡ d = omega arith in less
-depth_by-counted _ d = refl
 
 -- ---- pieces of a list of classes
 
@@ -113,12 +103,7 @@ full_direction d (c ∷ cs) = elim (cases_Bool (is_strong c && is_zero d)) [
 pub direction_from-is : (source : Source) (chars : List ℕ) (full : Bool)
     → direction_from full 0 (map source.class_of chars) ≡ (if full then full_base_direction (map (map source.class_of) (paragraphs_of (each_separator source) chars)) else base_direction (map (map source.class_of) (paragraphs_of (each_separator source) chars)))
 unfolding base_direction full_base_direction found_in
-direction_from-is source chars true =
-    sym (full_direction 0 (map source.class_of chars)) ∙ ap direction_by (sym (found_from (map source.class_of chars))) ∙ ap (λ ps. direction_by (found_in ps)) (sym (pieces-map source chars))
-direction_from-is source chars false =
-    sym (first_direction 0 (map source.class_of chars)) ∙ ap direction_by (sym (deciding_class-from (first_piece (map source.class_of chars))))
-    ∙ ap (λ (cs : List BidiClass). direction_by (deciding_class cs)) (sym (first_or-pieces (map source.class_of chars)))
-    ∙ ap (λ ps. direction_by (deciding_class (first_or [] ps))) (sym (pieces-map source chars))
+direction_from-is source chars full = grind (arith, full_direction, found_from, pieces-map, first_direction, deciding_class-from, first_or-pieces)
 
 -- the base direction is right to left exactly if the first paragraph's own level is 1
 pub base_direction-Rtl : (paragraphs : List (List BidiClass)) → (base_direction paragraphs ≡ Rtl) ↔ (paragraph_level None (first_or [] paragraphs) ≡ 1)
@@ -127,57 +112,23 @@ base_direction-Rtl paragraphs = direction_by-Rtl (deciding_class (first_or [] pa
 
 -- ---- one character of the walk
 
-is_zero-one : (d : ℕ) → d ≡ 0 → is_zero d ≡ true
-is_zero-one zero e = refl
-is_zero-one (suc d) e = absurd (omega arith)
-
-is_zero-none : (d : ℕ) → (d ≡ 0 → ⊥) → is_zero d ≡ false
-is_zero-none zero h = absurd (h refl)
-is_zero-none (suc d) h = refl
-
-separator_weak : (c : BidiClass) → is_paragraph_separator c ≡ true → is_strong c ≡ false
-separator_weak B e = refl
-separator_weak _ e = absurd (cc e)
-
 module _ (f : ℕ → BidiClass) (chars : List ℕ) (n c : ℕ) (class : BidiClass) (next : drop n chars ≡ c ∷ drop (n + 1) chars) (is : class ≡ f c) (d : ℕ) where
-  direction_step : (full : Bool) → direction_from full d (map f (drop n chars))
-      ≡ cond (is_strong class && is_zero d) (direction_by (Some class)) (cond (is_paragraph_separator class) (cond full (direction_from full 0 (map f (drop (n + 1) chars))) Mixed) (direction_from full (depth_by (kind_of class) d) (map f (drop (n + 1) chars))))
-  direction_step full =
-      ap (λ (cs : List ℕ). direction_from full d (map f cs)) next
-      ∙ ap (λ (x : BidiClass). direction_from full d (x ∷ map f (drop (n + 1) chars))) (sym is)
-
   -- it decides
   pub direction-decided : (full : Bool) → d ≡ 0 → is_strong class ≡ true → direction_by (Some class) ≡ direction_from full d (map f (drop n chars))
-  direction-decided full none strong = sym (direction_step full ∙ cond-true (is_strong class && is_zero d) _ _ (and_from (is_strong class) (is_zero d) strong (is_zero-one d none)))
-
-  weak : is_paragraph_separator class ≡ true → (is_strong class && is_zero d) ≡ false
-  weak separator = and_left (is_strong class) (is_zero d) (separator_weak class separator)
+  direction-decided full none strong = grind arith
 
   -- it ends the first paragraph
   pub direction-ended : (full : Bool) → full ≡ false → is_paragraph_separator class ≡ true → Mixed ≡ direction_from full d (map f (drop n chars))
-  direction-ended full first separator =
-      sym (direction_step full ∙ cond-false (is_strong class && is_zero d) _ _ (weak separator) ∙ cond-true (is_paragraph_separator class) _ _ separator ∙ cond-false full _ _ first)
+  direction-ended full first separator = grind arith
 
   -- it ends another one
   pub direction-next : (full : Bool) → full ≡ true → is_paragraph_separator class ≡ true → direction_from full d (map f (drop n chars)) ≡ direction_from full 0 (map f (drop (n + 1) chars))
-  direction-next full all separator =
-      direction_step full ∙ cond-false (is_strong class && is_zero d) _ _ (weak separator) ∙ cond-true (is_paragraph_separator class) _ _ separator ∙ cond-true full _ _ all
+  direction-next full all separator = grind arith
 
   -- it goes on
   pub direction-on : (full : Bool) (e : ℕ) → e ≡ (if is_initiator class then d + 1 else if is_pdi class then d - 1 else d) → (is_strong class ≡ false) ⊎ (d ≡ 0 → ⊥) → is_paragraph_separator class ≡ false
       → direction_from full d (map f (drop n chars)) ≡ direction_from full e (map f (drop (n + 1) chars))
-  direction-on full e counted undecided other =
-      direction_step full ∙ cond-false (is_strong class && is_zero d) _ _ (open_or_weak undecided) ∙ cond-false (is_paragraph_separator class) _ _ other
-      ∙ ap (λ (k : ℕ). direction_from full k (map f (drop (n + 1) chars))) (sym (counted ∙ depth_by-counted class d))
-    where
-      open_or_weak : (is_strong class ≡ false) ⊎ (d ≡ 0 → ⊥) → (is_strong class && is_zero d) ≡ false
-      open_or_weak (inl none) = and_left (is_strong class) (is_zero d) none
-      open_or_weak (inr deep) = and_right (is_strong class) (is_zero d) (is_zero-none d deep)
+  direction-on full e counted undecided other = grind arith
 
 pub depth-le : (class : BidiClass) (d n : ℕ) → d ≤ n → (if is_initiator class then d + 1 else if is_pdi class then d - 1 else d) ≤ n + 1
-depth-le class d n order = by_tests (is_initiator class) (is_pdi class)
-  where
-    by_tests : (b p : Bool) → cond b (d + 1) (cond p (d - 1) d) ≤ n + 1
-    by_tests true p = omega arith
-    by_tests false true = omega arith
-    by_tests false false = omega arith
+depth-le class d n order = grind arith

@@ -1,25 +1,23 @@
 -- A paragraph in which no embedding and no isolate begins: one level, and one sequence of all that X9 keeps.
-use Rattle.std.proofs.Common.{◌≡◌, ℕ, zero, suc, ◌+◌, ◌-◌, ◌<◌, ◌≤◌, Bool, true, false, not, ◌||◌, cond, List, [], ◌∷◌, length, get_or, map, max, find, Option, Some, None, unwrap_or, refl, sym, ap, subst, ◌∙◌, arith, inl, inr, append-nil, ltb, eqb, ne_eqb, eq-eqb, option_map, drop}
-use Rattle.std.specs.Prelude.{replicate, filter, flat_map, zip}
+use Rattle.std.proofs.Common.{◌≡◌, ℕ, zero, suc, ◌+◌, ◌-◌, ◌<◌, ◌≤◌, Bool, true, false, not, cond, List, [], ◌∷◌, length, get_or, map, max, find, Option, Some, None, refl, sym, ap, subst, ◌∙◌, arith, inl, inr, append-nil, ltb, drop}
+use Rattle.std.proofs.lemmas.Grind.{common_steps}
+use Rattle.std.specs.Prelude.{replicate, filter, zip}
 use Rattle.std.specs.List.{list_any, range_with_len}
-use Rattle.std.proofs.lemmas.Bool.{cases_Bool, cases_lt, both_ways, or_parts, or_from, and_left, not-true, cond-true, cond-false, false_from_ne_true, lt-ltb, ltb-true}
+use Rattle.std.proofs.lemmas.Bool.{cases_Bool, both_ways, or_parts, cond-true, cond-false}
 use Rattle.std.proofs.lemmas.List.{ext_get_or, length-map, get_or-map, get_or_past, get_or-replicate, length-replicate}
 use Rattle.std.proofs.lemmas.List.Folds.{list_any_at}
 use Rattle.std.proofs.lemmas.List.Sorted.{IsPermutation-refl}
 use Rattle.bidi_base.specs.declared.char_data.BidiClass.{BidiClass}
-use Rattle.bidi_base.specs.declared.char_data.BidiClass.TheVariants.{L, BN, FSI}
+use Rattle.bidi_base.specs.declared.char_data.BidiClass.TheVariants.{L, BN}
 use Rattle.bidi_base.specs.declared.data_source.BidiMatchedOpeningBracket.{BidiMatchedOpeningBracket}
-use Rattle.bidi_base.specs.Classes.{is_initiator, is_embedding, is_opener, is_kept, is_kept_in_place, is_paragraph_separator, is_removed}
+use Rattle.bidi_base.specs.Classes.{is_initiator, is_embedding, is_opener, is_kept, is_kept_in_place, is_removed}
 use Rattle.bidi_base.specs.Levels.{direction_of}
 use Rattle.bidi_base.specs.Places.{chain, class_at, at_places, first_or, last_or, indexes}
 use Rattle.bidi_base.specs.Isolates.{stored_class, stored_classes, is_inside}
 use Rattle.bidi_base.specs.Embeddings.{is_embedded, is_open_at, open_at}
-use Rattle.bidi_base.specs.Explicit.{Status, status_inside, status_at, explicit_level, explicit_class, explicit_levels, explicit_classes, processing_class, processing_classes}
-use Rattle.bidi_base.specs.Sequences.{RunSequence, has_places, is_kept_at, is_first, kept_places, level_at, level_or, have_one_level, kept_before, next_kept, resumed_at, successor, start_class, end_class, sequence_from, sequences}
-use Rattle.bidi_base.specs.Weak.{weak_classes}
-use Rattle.bidi_base.specs.Brackets.{bracket_pairs}
-use Rattle.bidi_base.specs.Neutral.{n0, n1_n2, neutral_classes}
-use Rattle.bidi_base.specs.Implicit.{implicit_level, implicit_levels}
+use Rattle.bidi_base.specs.Explicit.{status_inside, status_at, explicit_level, explicit_class, explicit_levels, explicit_classes, processing_class, processing_classes}
+use Rattle.bidi_base.specs.Sequences.{has_places, is_kept_at, is_first, kept_places, level_at, level_or, have_one_level, kept_before, next_kept, resumed_at, successor, start_class, end_class, sequence_from, sequences}
+use Rattle.bidi_base.specs.Neutral.{neutral_classes}
 use Rattle.bidi_base.specs.Stored.{resolved_levels, sequence_levels, AreResolved, level_in, filled_levels, levels_in}
 use Rattle.bidi_base.specs.Flat.{is_flat, whole_run, run_levels, kept_of, filled_with}
 use Rattle.bidi_base.proofs.ChainLemmas.{chain-None, filter_range-none, filter_range-agree, filter_chain_from}
@@ -38,8 +36,7 @@ opens_nothing : (c : BidiClass) → is_opener c ≡ false → (is_initiator c �
 opens_nothing c h = or_parts (is_initiator c) (is_embedding c) h
 
 stored_class-flat : (classes : List BidiClass) (q : ℕ) (c : BidiClass) → is_opener c ≡ false → stored_class classes q c ≡ c
-stored_class-flat classes q FSI h = absurd (cc h)
-stored_class-flat classes q _ h = refl
+stored_class-flat classes q c h = grind arith
 
 -- ---- what stands at the kept places
 
@@ -71,14 +68,8 @@ at_places-kept {X} d (c ∷ classes) (x ∷ xs) long =
     ∙ ap (at_places d xs) (filter_range-agree (λ p. is_kept_at (c ∷ classes) (p + 1)) (is_kept_at classes) 0 (length classes) (λ p from below. is_kept_at-later c classes p))
     ∙ at_places-kept d classes xs (omega arith) in
     elim (cases_Bool (is_kept c)) [
-      | inl kept ↦
-          ap (at_places d (x ∷ xs)) (cond-true (is_kept c) (0 ∷ filter (is_kept_at (c ∷ classes)) (range_with_len (0 + 1) (length classes))) (filter (is_kept_at (c ∷ classes)) (range_with_len (0 + 1) (length classes))) kept)
-          ∙ ap (λ (ys : List X). x ∷ ys) rest
-          ∙ sym (cond-true (is_kept c) (x ∷ kept_of classes xs) (kept_of classes xs) kept)
-      | inr gone ↦
-          ap (at_places d (x ∷ xs)) (cond-false (is_kept c) (0 ∷ filter (is_kept_at (c ∷ classes)) (range_with_len (0 + 1) (length classes))) (filter (is_kept_at (c ∷ classes)) (range_with_len (0 + 1) (length classes))) gone)
-          ∙ rest
-          ∙ sym (cond-false (is_kept c) (x ∷ kept_of classes xs) (kept_of classes xs) gone)
+      | inl kept ↦ grind arith
+      | inr gone ↦ grind arith
     ]
 
 pub kept_of-classes : (classes : List BidiClass) → kept_of classes classes ≡ filter is_kept classes
@@ -103,14 +94,6 @@ kept_of-replicate {X} (c ∷ classes) x = elim (cases_Bool (is_kept c)) [
 zip-nil : (ps : List ℕ) → zip {K = ℕ} {X = ℕ} ps [] ≡ []
 zip-nil [] = refl
 zip-nil (p ∷ ps) = refl
-
-level_in-other : (p l q : ℕ) (table : List (ℕ × ℕ)) → p < q → level_in ((p, l) ∷ table) q ≡ level_in table q
-level_in-other p l q table before =
-    ap (λ (o : Option (ℕ × ℕ)). unwrap_or (option_map (λ e. e.1) o) 0) (cond-false (eqb p q) (Some (p, l)) (find (λ (e : ℕ × ℕ). eqb e.0 q) table) (ne_eqb p q (λ e. omega arith)))
-
-level_in-same : (p l : ℕ) (table : List (ℕ × ℕ)) → level_in ((p, l) ∷ table) p ≡ l
-level_in-same p l table =
-    ap (λ (o : Option (ℕ × ℕ)). unwrap_or (option_map (λ e. e.1) o) 0) (cond-true (eqb p p) (Some (p, l)) (find (λ (e : ℕ × ℕ). eqb e.0 p) table) (eq-eqb p p refl))
 
 filled_levels-lists : (test : ℕ → Bool) (table : List (ℕ × ℕ)) (low before : ℕ) (classes : List BidiClass) (levels : List ℕ)
     → ((k : ℕ) → k < length classes → test (low + k) ≡ is_kept_at classes k)
@@ -146,13 +129,12 @@ filled_levels-lists test table low before (c ∷ classes) levels kept same = eli
 
     parts : (ls : List ℕ) → ((q : ℕ) → low ≤ q → level_in table q ≡ level_in (zip (low ∷ filter test rest) ls) q)
         → (level_in table low ≡ first_or 0 ls) × ((q : ℕ) → low + 1 ≤ q → level_in table q ≡ level_in (zip (filter test rest) (drop 1 ls)) q)
-    parts [] agree = (agree low (omega arith), λ q from. agree q (omega arith) ∙ ap (λ t. level_in t q) (sym (zip-nil (filter test rest))))
-    parts (l ∷ ls) agree =
-        (agree low (omega arith) ∙ level_in-same low l (zip (filter test rest) ls), λ q from. agree q (omega arith) ∙ level_in-other low l q (zip (filter test rest) ls) (omega arith))
+    parts [] agree = grind (arith, zip-nil)
+    parts (l ∷ ls) agree = grind arith
 
 -- where nothing is removed
 nothing_gone : (c : BidiClass) (classes : List BidiClass) → list_any is_removed (c ∷ classes) ≡ false → (is_kept c ≡ true) × (list_any is_removed classes ≡ false)
-nothing_gone c classes h = let parts = or_parts (is_removed c) (list_any is_removed classes) h in (ap not parts.0, parts.1)
+nothing_gone c classes h = grind arith
 
 pub kept_of-all : {X : Type 0} (classes : List BidiClass) (xs : List X) → list_any is_removed classes ≡ false → length xs ≡ length classes → kept_of classes xs ≡ xs
 kept_of-all [] [] h long = refl
@@ -172,8 +154,7 @@ filled_with-all before (c ∷ classes) (l ∷ levels) h long =
 
 -- what the passes over units read: all but BN, which stands for what is removed
 read_kept : (c : BidiClass) → is_removed c ≡ false → is_kept_in_place c ≡ true
-read_kept BN h = absurd (cc h)
-read_kept _ h = refl
+read_kept c h = grind arith
 
 read_of-kept : (classes : List BidiClass) → filter is_kept_in_place (map (λ c. cond (is_removed c) BN c) classes) ≡ filter is_kept classes
 read_of-kept [] = refl
@@ -194,15 +175,10 @@ read_of-kept (c ∷ classes) =
 -- one level a character
 pub length-run_levels : (level : ℕ) (classes : List BidiClass) (brackets : List (Option BidiMatchedOpeningBracket)) → length (run_levels level classes brackets) ≡ length classes
 unfolding neutral_classes
-length-run_levels level classes brackets =
-    let d = direction_of level in
-    let weak = weak_classes d classes in
-    let first = n0 d d classes (bracket_pairs weak brackets) weak in
-    length-map (n1_n2 d d d first) (implicit_level level) ∙ length-in_context _ [] first ∙ length-n0 d d classes (bracket_pairs weak brackets) weak ∙ length-weak_classes d classes
+length-run_levels level classes brackets = grind (arith, length-map, length-in_context, length-n0, length-weak_classes)
 
 no_places : (ps : List ℕ) → ltb 0 (length ps) ≡ false → ps ≡ []
-no_places [] h = refl
-no_places (p ∷ ps) h = absurd (both_ways (ltb 0 (suc (length ps))) h (lt-ltb 0 (suc (length ps)) (omega arith)))
+no_places ps h = grind (arith, common_steps)
 
 last_within : (test : ℕ → Bool) (low m d bound : ℕ) → low + m ≤ bound → d < bound → last_or d (filter test (range_with_len low m)) < bound
 last_within test low zero d bound fits below = below
@@ -217,10 +193,7 @@ last_within test low (suc m) d bound fits below = elim (cases_Bool (test low)) [
 
 module _ (classes : List BidiClass) (flat : is_flat classes ≡ true) where
   pub opener_at-flat : (p : ℕ) → is_opener (class_at classes p) ≡ false
-  opener_at-flat p = elim (cases_lt p (length classes)) [
-    | inl within ↦ false_from_ne_true _ (λ opens. both_ways (list_any is_opener classes) (not-true _ flat) (list_any_at is_opener classes p L within opens))
-    | inr past ↦ ap is_opener (get_or_past classes p L past)
-  ]
+  opener_at-flat p = grind (arith, list_any_at, get_or_past)
 
   -- no FSI is there to be resolved
   pub stored_classes-flat : stored_classes classes ≡ classes
@@ -232,33 +205,20 @@ module _ (classes : List BidiClass) (flat : is_flat classes ≡ true) where
 
   none_open : (p q : ℕ) → is_open_at classes q p ≡ false
   unfolding is_open_at is_inside is_embedded
-  none_open p q =
-      let none = opens_nothing (class_at classes q) (opener_at-flat q) in
-      or_from _ _ (and_left _ _ (and_left _ _ none.0)) (and_left _ _ (and_left _ _ (and_left _ _ none.1)))
+  none_open p q = grind (arith, opener_at-flat)
 
   module _ (paragraph : ℕ) where
     status_at-flat : (p : ℕ) → status_at paragraph classes p ≡ record { level = paragraph; override = None }
     unfolding status_at status_inside open_at
-    status_at-flat p =
-        ap (λ (openers : List ℕ). status_inside (record { level = paragraph; override = None }) (map (class_at classes) openers)) (filter_range-none (λ q. is_open_at classes q p) 0 (p - 0) (λ q from below. none_open p q))
+    status_at-flat p = grind (arith, filter_range-none, none_open)
 
     pub explicit_level-flat : (p : ℕ) → explicit_level paragraph classes p ≡ paragraph
     unfolding explicit_level
-    explicit_level-flat p = ap (λ (status : Status). cond (is_paragraph_separator (class_at classes p)) paragraph status.level) (status_at-flat p) ∙ either (is_paragraph_separator (class_at classes p))
-      where
-        either : (b : Bool) → cond {A = ℕ} b paragraph paragraph ≡ paragraph
-        either true = refl
-        either false = refl
+    explicit_level-flat p = grind (arith, status_at-flat)
 
     pub explicit_class-flat : (p : ℕ) → explicit_class paragraph classes p ≡ class_at classes p
     unfolding explicit_class
-    explicit_class-flat p =
-        ap (λ (status : Status). cond (is_paragraph_separator (class_at classes p) || is_removed (class_at classes p)) (class_at classes p) (unwrap_or status.override (class_at classes p))) (status_at-flat p)
-        ∙ either (is_paragraph_separator (class_at classes p) || is_removed (class_at classes p))
-      where
-        either : (b : Bool) → cond b (class_at classes p) (class_at classes p) ≡ class_at classes p
-        either true = refl
-        either false = refl
+    explicit_class-flat p = grind (arith, status_at-flat)
 
     -- the levels and the classes after X1 to X8
     pub explicit_levels-flat : explicit_levels paragraph classes ≡ replicate (length classes) paragraph
@@ -395,40 +355,20 @@ module _ (classes : List BidiClass) (flat : is_flat classes ≡ true) where
 
       sequence-flat : sequence_from paragraph classes levels first ≡ whole_run paragraph classes
       unfolding sequence_from
-      sequence-flat =
-          ap (λ (ps : List ℕ). record { places = ps; sos = start_class paragraph classes levels first; eos = end_class paragraph classes levels (last_or first ps) }) (sym kept_places-from)
-          ∙ ap (λ (c : BidiClass). record { places = kept_places classes; sos = c; eos = end_class paragraph classes levels (last_or first (kept_places classes)) }) (start_class-flat first first_within)
-          ∙ ap (λ (c : BidiClass). record { places = kept_places classes; sos = direction_of paragraph; eos = c }) (end_class-flat (last_or first (kept_places classes)) (last_kept-within first first_within))
+      sequence-flat = grind (arith, kept_places-from, start_class-flat, first_within, end_class-flat, last_kept-within)
 
       some_kept : (ps : List ℕ) × (kept_places classes ≡ first ∷ ps)
-      some_kept = (chain (successor classes levels) (length classes - 1) (successor classes levels first), kept_places-from ∙ chain-some (length classes) (omega (arith, first_within)))
-        where
-          chain-some : (n : ℕ) → 0 < n → chain (successor classes levels) n (Some first) ≡ first ∷ chain (successor classes levels) (n - 1) (successor classes levels first)
-          chain-some zero some = absurd (omega arith)
-          chain-some (suc n) some = let same : n ≡ suc n - 1 = omega arith in ap (λ k. first ∷ chain (successor classes levels) k (successor classes levels first)) same
+      some_kept = grind (arith, kept_places-from)
 
     pub sequences-flat : sequences paragraph classes levels ≡ filter has_places (whole_run paragraph classes ∷ [])
     unfolding sequences
-    sequences-flat = by_first first_kept refl
-      where
-        by_first : (o : Option ℕ) → first_kept ≡ o → map (sequence_from paragraph classes levels) (filter (is_first classes levels) (kept_places classes)) ≡ filter has_places (whole_run paragraph classes ∷ [])
-        by_first None e =
-            ap (λ (ps : List ℕ). map (sequence_from paragraph classes levels) (filter (is_first classes levels) ps)) (kept_places-none e)
-            ∙ sym (ap (λ (ps : List ℕ). filter has_places (record { places = ps; sos = direction_of paragraph; eos = direction_of paragraph } ∷ [])) (kept_places-none e))
-        by_first (Some first) e =
-            ap (map (sequence_from paragraph classes levels)) (starts-flat first e)
-            ∙ ap (λ (s : RunSequence). s ∷ []) (sequence-flat first e)
-            ∙ sym (cond-true (has_places (whole_run paragraph classes)) (whole_run paragraph classes ∷ []) [] (ap (λ (ps : List ℕ). ltb 0 (length ps)) (some_kept first e).1 ∙ lt-ltb 0 _ (omega arith)))
+    sequences-flat = grind (arith, kept_places-none, starts-flat, sequence-flat, some_kept)
 
     -- ---- what it gives
 
     -- the first kept character has the paragraph level
     first_level-flat : 0 < length (kept_places classes) → level_at levels (first_or 0 (kept_places classes)) ≡ paragraph
-    first_level-flat some = by_first first_kept refl
-      where
-        by_first : (o : Option ℕ) → first_kept ≡ o → level_at levels (first_or 0 (kept_places classes)) ≡ paragraph
-        by_first None e = absurd (omega (arith, ap length (kept_places-none e), some))
-        by_first (Some first) e = ap (λ (ps : List ℕ). level_at levels (first_or 0 ps)) (some_kept first e).1 ∙ level_at-flat first (first_within first e)
+    first_level-flat some = grind (arith, kept_places-none, some_kept, level_at-flat, first_within)
 
     module _ (brackets : List (Option BidiMatchedOpeningBracket)) where
       -- the classes and the brackets of what is kept, and the levels that they give
@@ -437,21 +377,11 @@ module _ (classes : List BidiClass) (flat : is_flat classes ≡ true) where
 
       pub resolved_levels-flat : 0 < length (kept_places classes) → resolved_levels classes brackets levels (explicit_classes paragraph classes) (whole_run paragraph classes) ≡ kept_levels
       unfolding resolved_levels
-      resolved_levels-flat some =
-          let d = direction_of paragraph in
-          let from = at_places L classes (kept_places classes) in
-          let pairs = at_places None brackets (kept_places classes) in
-          ap (λ n. implicit_levels n (neutral_classes n d d from pairs (weak_classes d (at_places L (explicit_classes paragraph classes) (kept_places classes))))) (first_level-flat some)
-          ∙ ap (λ (cs : List BidiClass). implicit_levels paragraph (neutral_classes paragraph d d from pairs (weak_classes d (at_places L cs (kept_places classes))))) explicit_classes-flat
+      resolved_levels-flat some = grind (arith, first_level-flat, explicit_classes-flat)
 
       -- a list that has those levels at the kept places has what the rules give each sequence
       pub AreResolved-flat : (new : List ℕ) → at_places 0 new (kept_places classes) ≡ kept_levels → AreResolved classes brackets levels (explicit_classes paragraph classes) new (sequences paragraph classes levels)
-      AreResolved-flat new is =
-          subst (AreResolved classes brackets levels (explicit_classes paragraph classes) new) (sym sequences-flat) (by_places (has_places (whole_run paragraph classes)) refl)
-        where
-          by_places : (b : Bool) → has_places (whole_run paragraph classes) ≡ b → AreResolved classes brackets levels (explicit_classes paragraph classes) new (cond b (whole_run paragraph classes ∷ []) [])
-          by_places true some = (is ∙ sym (resolved_levels-flat (ltb-true 0 (length (kept_places classes)) some)), tt)
-          by_places false none = tt
+      AreResolved-flat new is = grind (arith, sequences-flat, resolved_levels-flat)
 
       -- the levels of the paragraph, as a pass leaves them: those of what is kept, and then what X9 removed filled
       pub levels_in-flat_written : (resolved new : List ℕ) → at_places 0 resolved (kept_places classes) ≡ kept_levels → length new ≡ length classes
@@ -465,25 +395,12 @@ module _ (classes : List BidiClass) (flat : is_flat classes ≡ true) where
 
       -- the same by lists alone
       pub kept_levels-lists : length brackets ≡ length classes → kept_levels ≡ run_levels paragraph (filter is_kept classes) (kept_of classes brackets)
-      kept_levels-lists long =
-          ap (λ (cs : List BidiClass). run_levels paragraph cs (at_places None brackets (kept_places classes))) (at_places-kept L classes classes refl ∙ kept_of-classes classes)
-          ∙ ap (run_levels paragraph (filter is_kept classes)) (at_places-kept None classes brackets long)
+      kept_levels-lists long = grind (arith, at_places-kept, kept_of-classes)
 
       -- the levels of the paragraph
       pub levels_in-flat : levels_in paragraph classes brackets ≡ filled_levels (zip (kept_places classes) kept_levels) 0 paragraph classes
       unfolding levels_in sequence_levels
-      levels_in-flat =
-          ap (λ (stored : List BidiClass). filled_levels (flat_map (sequence_levels classes brackets (explicit_levels paragraph stored) (explicit_classes paragraph stored)) (sequences paragraph stored (explicit_levels paragraph stored))) 0 paragraph stored) stored_classes-flat
-          ∙ ap (λ (seqs : List RunSequence). filled_levels (flat_map entries seqs) 0 paragraph classes) sequences-flat
-          ∙ ap (λ (table : List (ℕ × ℕ)). filled_levels table 0 paragraph classes) (by_places (has_places (whole_run paragraph classes)) refl)
-        where
-          entries : RunSequence → List (ℕ × ℕ)
-          entries = sequence_levels classes brackets levels (explicit_classes paragraph classes)
-
-          by_places : (b : Bool) → has_places (whole_run paragraph classes) ≡ b → flat_map entries (cond b (whole_run paragraph classes ∷ []) []) ≡ zip (kept_places classes) kept_levels
-          by_places true some =
-              append-nil (entries (whole_run paragraph classes)) ∙ ap (zip (kept_places classes)) (resolved_levels-flat (ltb-true 0 (length (kept_places classes)) some))
-          by_places false none = ap (λ (ps : List ℕ). zip ps kept_levels) (sym (no_places (kept_places classes) none))
+      levels_in-flat = grind (arith, stored_classes-flat, sequences-flat, append-nil, resolved_levels-flat, no_places)
 
       pub levels_in-flat_lists : length brackets ≡ length classes → levels_in paragraph classes brackets ≡ filled_with paragraph classes (run_levels paragraph (filter is_kept classes) (kept_of classes brackets))
       unfolding kept_places

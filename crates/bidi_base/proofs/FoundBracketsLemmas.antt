@@ -1,6 +1,6 @@
 -- The brackets of a sequence, gathered one character after the other.
-use Rattle.std.proofs.Common.{◌≡◌, ℕ, suc, ◌+◌, ◌<◌, List, [], ◌∷◌, ◌++◌, length, get_or, take, Option, Some, None, sym, ap, ◌∙◌, arith}
-use Rattle.std.proofs.lemmas.List.{length-take-le, take_more}
+use Rattle.std.proofs.Common.{◌≡◌, ℕ, suc, ◌+◌, ◌<◌, List, [], ◌∷◌, ◌++◌, length, get_or, take, Option, Some, None, ap, ◌∙◌, arith}
+use Rattle.std.proofs.lemmas.Grind.{common_steps}
 use Rattle.bidi_base.specs.declared.char_data.BidiClass.{BidiClass}
 use Rattle.bidi_base.specs.declared.data_source.BidiMatchedOpeningBracket.{BidiMatchedOpeningBracket}
 use Rattle.bidi_base.specs.Brackets.{counted_bracket, counted_brackets}
@@ -31,21 +31,10 @@ brackets_from-push k (Some x ∷ brackets) b =
 pub found_brackets-push : (classes : List BidiClass) (brackets : List (Option BidiMatchedOpeningBracket)) (c : BidiClass) (b : Option BidiMatchedOpeningBracket) → length brackets ≡ length classes
     → found_brackets (classes ++ c ∷ []) (brackets ++ b ∷ []) ≡ found_brackets classes brackets ++ brackets_from (length classes) (counted_bracket c b ∷ [])
 unfolding found_brackets
-found_brackets-push classes brackets c b h =
-    ap (brackets_from 0) (counted_brackets-push classes brackets c b h)
-    ∙ brackets_from-push 0 (counted_brackets classes brackets) (counted_bracket c b)
-    ∙ ap (λ (n : ℕ). brackets_from 0 (counted_brackets classes brackets) ++ brackets_from n (counted_bracket c b ∷ []))
-    (let place : 0 + length (counted_brackets classes brackets) ≡ length classes = omega (arith, length-counted_brackets classes brackets h) in place)
+found_brackets-push classes brackets c b h = grind (arith, counted_brackets-push, brackets_from-push, length-counted_brackets)
 
 -- the same of the first characters
 pub found_brackets-more : (classes : List BidiClass) (brackets : List (Option BidiMatchedOpeningBracket)) (i : ℕ) (d : BidiClass) → length brackets ≡ length classes → i < length classes
     → found_brackets (take (i + 1) classes) (take (i + 1) brackets) ≡ found_brackets (take i classes) (take i brackets) ++ brackets_from i (counted_bracket (get_or classes i d)
     (get_or brackets i None) ∷ [])
-found_brackets-more classes brackets i d h inside =
-    let size : length (take i classes) ≡ i = length-take-le i classes (omega arith) in
-    let same : length (take i brackets) ≡ length (take i classes) = length-take-le i brackets (omega arith) ∙ sym size in
-    let c = get_or classes i d in
-    let b = get_or brackets i None in
-    rw (take_more classes i d inside, take_more brackets i None (omega arith))
-    (found_brackets-push (take i classes) (take i brackets) c b same
-    ∙ ap (λ (n : ℕ). found_brackets (take i classes) (take i brackets) ++ brackets_from n (counted_bracket c b ∷ [])) size)
+found_brackets-more classes brackets i d h inside = grind (arith, common_steps, found_brackets-push)

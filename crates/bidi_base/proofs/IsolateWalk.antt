@@ -1,18 +1,16 @@
 -- Isolates in one walk from the front, which counts those that are open: the matching PDI (BD9), the deciding character (P2), and what an FSI becomes (X5c).
-use Rattle.std.proofs.Common.{◌≡◌, ℕ, zero, suc, ◌+◌, ◌-◌, ◌<◌, ◌≤◌, Bool, true, false, not, ◌&&◌, ◌||◌, cond, ltb, List, [], ◌∷◌, ◌++◌, length, take, drop, map, find, Option, Some, None, unwrap_or, option_map, refl, sym, ap, ◌∙◌, arith, inl, inr, eq-eqb, ne_eqb, lt-ltb, le-ltb, length-drop}
-use Rattle.std.specs.Prelude.{slice_range}
+use Rattle.std.proofs.Common.{◌≡◌, ℕ, zero, suc, ◌+◌, ◌-◌, ◌<◌, ◌≤◌, Bool, true, false, not, ◌&&◌, ◌||◌, cond, ltb, List, [], ◌∷◌, ◌++◌, length, take, drop, map, find, Option, Some, None, unwrap_or, option_map, refl, sym, ap, ◌∙◌, arith, inl, inr, lt-ltb, le-ltb, length-drop}
 use Rattle.std.specs.List.{range_with_len, list_any}
 use Rattle.std.proofs.lemmas.List.{get_or-drop, take_more}
 use Rattle.std.proofs.lemmas.Bool.{cases_Bool, and_left, and_right, or_from}
 use Rattle.bidi_base.specs.declared.char_data.BidiClass.{BidiClass}
 use Rattle.bidi_base.specs.declared.char_data.BidiClass.TheVariants.{L, LRI, RLI, FSI, PDI}
-use Rattle.bidi_base.specs.Classes.{is_strong, is_initiator, is_pdi}
+use Rattle.bidi_base.specs.Classes.{is_strong, is_initiator}
 use Rattle.bidi_base.specs.Places.{class_at, count_between}
 use Rattle.bidi_base.specs.Matching.{is_closed_at, is_before, match_of}
 use Rattle.bidi_base.specs.Isolates.{is_initiator_at, is_pdi_at, matching_pdi, is_inside, is_isolated, deciding_class, isolated_classes, resolved_fsi, stored_class, stored_classes}
 use Rattle.bidi_base.proofs.MatchingLemmas.{count_between-more, count_between-none}
-use Rattle.std.proofs.Math.Bool.{or-false, not-not}
-use Rattle.bidi_base.proofs.Lists.{cases_Option}
+use Rattle.std.proofs.Math.Bool.{or-false}
 
 -- what a character does to the number of open isolates
 pub data Kind : Type 0 where
@@ -38,18 +36,7 @@ closes_one closing = true
 closes_one neither = false
 
 pub is_initiator-kind : (c : BidiClass) → is_initiator c ≡ opens_one (kind_of c)
-is_initiator-kind LRI = refl
-is_initiator-kind RLI = refl
-is_initiator-kind FSI = refl
-is_initiator-kind PDI = refl
-is_initiator-kind _ = refl
-
-pub is_pdi-kind : (c : BidiClass) → is_pdi c ≡ closes_one (kind_of c)
-is_pdi-kind LRI = refl
-is_pdi-kind RLI = refl
-is_pdi-kind FSI = refl
-is_pdi-kind PDI = refl
-is_pdi-kind _ = refl
+is_initiator-kind c = grind arith
 
 -- the number of open isolates after a character, where d are open before it
 abbrev pub depth_by : Kind → ℕ → ℕ
@@ -121,36 +108,24 @@ record IsUnder (classes : List BidiClass) (q p d : ℕ) : Type 0 where
   later : q < p
   counts : count_between (is_initiator_at classes) (q + 1) p ≡ count_between (is_pdi_at classes) (q + 1) p + d
 
-counted : (b c : Bool) → b ≡ c → cond {A = ℕ} b 1 0 ≡ cond c 1 0
-counted b c e = ap (λ (x : Bool). cond {A = ℕ} x 1 0) e
-
 module _ (classes : List BidiClass) (q p d : ℕ) (x : BidiClass) (here : class_at classes p ≡ x) (h : IsUnder classes q p d) where
   openings_more : count_between (is_initiator_at classes) (q + 1) (p + 1) ≡ count_between (is_initiator_at classes) (q + 1) p + cond (opens_one (kind_of x)) 1 0
-  openings_more =
-      let more : count_between (is_initiator_at classes) (q + 1) (p + 1) ≡ count_between (is_initiator_at classes) (q + 1) p + cond (is_initiator_at classes p) 1 0 = count_between-more (is_initiator_at classes) (q + 1) p (omega (arith, h.later)) in
-      let same : cond {A = ℕ} (is_initiator_at classes p) 1 0 ≡ cond (opens_one (kind_of x)) 1 0 = counted (is_initiator_at classes p) (opens_one (kind_of x)) (ap is_initiator here ∙ is_initiator-kind x) in
-      omega arith
+  openings_more = grind (arith, count_between-more)
 
   closings_more : count_between (is_pdi_at classes) (q + 1) (p + 1) ≡ count_between (is_pdi_at classes) (q + 1) p + cond (closes_one (kind_of x)) 1 0
-  closings_more =
-      let more : count_between (is_pdi_at classes) (q + 1) (p + 1) ≡ count_between (is_pdi_at classes) (q + 1) p + cond (is_pdi_at classes p) 1 0 = count_between-more (is_pdi_at classes) (q + 1) p (omega (arith, h.later)) in
-      let same : cond {A = ℕ} (is_pdi_at classes p) 1 0 ≡ cond (closes_one (kind_of x)) 1 0 = counted (is_pdi_at classes p) (closes_one (kind_of x)) (ap is_pdi here ∙ is_pdi-kind x) in
-      omega arith
+  closings_more = grind (arith, count_between-more)
 
   tested : (k : Kind) (e : ℕ) → count_between (is_initiator_at classes) (q + 1) (p + 1) ≡ count_between (is_initiator_at classes) (q + 1) p + cond (opens_one k) 1 0
       → count_between (is_pdi_at classes) (q + 1) (p + 1) ≡ count_between (is_pdi_at classes) (q + 1) p + cond (closes_one k) 1 0
       → count_between (is_initiator_at classes) (q + 1) p ≡ count_between (is_pdi_at classes) (q + 1) p + e
       → (is_closed_at (is_initiator_at classes) (is_pdi_at classes) q p ≡ ends_by k e) × (ends_by k e ≡ false → count_between (is_initiator_at classes) (q + 1) (p + 1) ≡ count_between (is_pdi_at classes) (q + 1) (p + 1) + depth_by k e)
-  tested opening e o c under = (ne_eqb _ _ (λ same. omega arith), λ more. omega arith)
-  tested closing zero o c under = (eq-eqb _ _ (omega arith), λ more. absurd (cc more))
-  tested closing (suc e) o c under = (ne_eqb _ _ (λ same. omega arith), λ more. omega arith)
-  tested neither e o c under = (ne_eqb _ _ (λ same. omega arith), λ more. omega arith)
+  tested k e o c under = grind arith
 
   closed_here : is_closed_at (is_initiator_at classes) (is_pdi_at classes) q p ≡ ends_by (kind_of x) d
   closed_here = (tested (kind_of x) d openings_more closings_more h.counts).0
 
   under_more : ends_by (kind_of x) d ≡ false → IsUnder classes q (p + 1) (depth_by (kind_of x) d)
-  under_more more = record { later = omega (arith, h.later); counts = (tested (kind_of x) d openings_more closings_more h.counts).1 more }
+  under_more more = grind (arith, openings_more, closings_more)
 
 find_end : (classes : List BidiClass) (q p d : ℕ) (rest : List BidiClass) → drop p classes ≡ rest → IsUnder classes q p d → find (is_closed_at (is_initiator_at classes) (is_pdi_at classes) q) (range_with_len p (length rest)) ≡ end_from d p rest
 find_end classes q p d [] e h = refl
@@ -178,7 +153,7 @@ matching_pdi-end_from classes q =
 -- one character on
 before_one : (k : Kind) (d u n : ℕ) (xs front : List BidiClass) → is_before (u + n) (end_from (depth_by k d) (suc u) xs) ≡ not (has_end (depth_by k d) front)
     → is_before (u + n) (cond (ends_by k d) (Some u) (end_from (depth_by k d) (suc u) xs)) ≡ not (ends_by k d || has_end (depth_by k d) front)
-before_one k d u n xs front rest = elim (cases_Bool (ends_by k d)) [ inl ends ↦ rw ends (le-ltb (u + n) u (omega arith)) | inr on ↦ rw on rest ]
+before_one k d u n xs front rest = grind arith
 
 -- a walk that starts later finds only later ends
 end_from-from : (d u k : ℕ) (xs : List BidiClass) → end_from d u xs ≡ Some k → u ≤ k
@@ -189,12 +164,12 @@ end_from-from d u k (x ∷ xs) e = elim (cases_Bool (ends_by (kind_of x) d)) [
 ]
 
 end_from-later : (d p u : ℕ) (xs : List BidiClass) → p < u → is_before p (end_from d u xs) ≡ true
-end_from-later d p u xs order = elim (cases_Option (end_from d u xs)) [ inl e ↦ rw e refl | inr f ↦ rw f.1 (lt-ltb p f.0 (omega (arith, end_from-from d u f.0 xs f.1))) ]
+end_from-later d p u xs order = grind (arith, end_from-from)
 
 -- the index u + n is before the first end exactly if there is no end up to it
 before_end : (d u n : ℕ) (xs : List BidiClass) → is_before (u + n) (end_from d u xs) ≡ not (has_end d (take (suc n) xs))
 before_end d u n [] = refl
-before_end d u zero (x ∷ xs) = before_one (kind_of x) d u 0 xs [] (end_from-later (depth_by (kind_of x) d) (u + 0) (suc u) xs (omega arith))
+before_end d u zero (x ∷ xs) = grind (arith, end_from-later)
 before_end d u (suc n) (x ∷ xs) =
     let place : u + suc n ≡ suc u + n = omega arith in
     before_one (kind_of x) d u (suc n) xs (take (suc n) xs) (ap (λ (k : ℕ). is_before k (end_from (depth_by (kind_of x) d) (suc u) xs)) place ∙ before_end (depth_by (kind_of x) d) (suc u) n xs)
@@ -232,7 +207,7 @@ is_open_after-depth (x ∷ xs) = one (kind_of x) (is_open_after-depth xs) (depth
   where
     one : (k : Kind) → is_open_after xs ≡ not (is_zero (depth_after 0 xs)) → depth_after 1 xs ≡ cond (has_end 0 xs) (depth_after 0 xs) (suc (depth_after 0 xs))
         → ((opens_one k && not (has_end 0 xs)) || is_open_after xs) ≡ not (is_zero (depth_after (depth_by k 0) xs))
-    one opening rest deeper = elim (cases_Bool (has_end 0 xs)) [ inl ends ↦ rw (deeper, ends) rest | inr on ↦ rw (deeper, on) refl ]
+    one opening rest deeper = grind arith
     one closing rest deeper = rest
     one neither rest deeper = rest
 
@@ -260,10 +235,8 @@ some_inside classes p s (suc k) (x ∷ rest) e place within other =
     let next : drop (s + 1) classes ≡ rest = ap (λ (n : ℕ). drop n classes) more ∙ at.next in
     let here : s + 1 + k ≡ p = omega arith in
     let opens : is_initiator_at classes s ≡ opens_one (kind_of x) = ap is_initiator at.is ∙ is_initiator-kind x in
-    let class_there : class_at rest k ≡ class_at classes p = ap (λ (ys : List BidiClass). class_at ys k) (sym next) ∙ get_or-drop (s + 1) classes k L ∙ ap (class_at classes) here in
-    let match : is_before p (matching_pdi classes s) ≡ not (has_end 0 (take k rest)) =
-    ap (is_before p) (matching_pdi-end_from classes s) ∙ ap (λ (ys : List BidiClass). is_before p (end_from 0 (s + 1) ys)) next ∙ ap (λ (n : ℕ). is_before n (end_from 0 (s + 1) rest)) (sym here)
-    ∙ before_end 0 (s + 1) k rest ∙ ap not (has_end-more 0 k rest (omega arith) (ap kind_of class_there ∙ other)) in
+    let class_there : class_at rest k ≡ class_at classes p = grind (arith, get_or-drop) in
+    let match : is_before p (matching_pdi classes s) ≡ not (has_end 0 (take k rest)) = grind (arith, matching_pdi-end_from, before_end, has_end-more) in
     ap (λ (b : Bool). b || list_any (λ q. (is_initiator_at classes q && ltb q p) && is_before p (matching_pdi classes q)) (range_with_len (s + 1) (length rest)))
     (joined (is_initiator_at classes s) (ltb s p) (is_before p (matching_pdi classes s)) (opens_one (kind_of x)) (not (has_end 0 (take k rest))) opens (lt-ltb s p (omega arith)) match)
     ∙ ap (λ (b : Bool). (opens_one (kind_of x) && not (has_end 0 (take k rest))) || b) (some_inside classes p (s + 1) k rest next here (omega arith) other)
@@ -278,13 +251,6 @@ is_isolated-depth classes p within other = some_inside classes p 0 p classes ref
 
 -- ---- the deciding character (P2)
 
-pub strong_kind : (c : BidiClass) → is_strong c ≡ true → kind_of c ≡ neither
-strong_kind LRI e = absurd (cc e)
-strong_kind RLI e = absurd (cc e)
-strong_kind FSI e = absurd (cc e)
-strong_kind PDI e = absurd (cc e)
-strong_kind _ e = refl
-
 depth_after-more : (classes : List BidiClass) (p : ℕ) (x : BidiClass) → p < length classes → class_at classes p ≡ x → depth_after 0 (take (suc p) classes) ≡ depth_by (kind_of x) (depth_after 0 (take p classes))
 depth_after-more classes p x within is =
     let more : suc p ≡ p + 1 = omega arith in
@@ -298,10 +264,8 @@ find_deciding classes p (x ∷ rest) e =
     let at : IsAt classes p x rest = at_front classes p x rest e in
     let more : p + 1 ≡ suc p = omega arith in
     let within : p < length classes = omega (arith, length-drop p classes, ap length e) in
-    let test : (is_strong (class_at classes p) && not (is_isolated classes p)) ≡ (is_strong x && is_zero (depth_after 0 (take p classes))) = rw at.is (elim (cases_Bool (is_strong x)) [
-      | inl strong ↦ rw (strong, is_isolated-depth classes p within (ap kind_of at.is ∙ strong_kind x strong)) (not-not (is_zero (depth_after 0 (take p classes))))
-      | inr weak ↦ rw weak refl
-    ]) in
+    let test : (is_strong (class_at classes p) && not (is_isolated classes p)) ≡ (is_strong x && is_zero (depth_after 0 (take p classes))) =
+        grind (arith, is_isolated-depth) in
     elim (cases_Bool (is_strong x && is_zero (depth_after 0 (take p classes)))) [
       | inl here ↦ rw (test, here, at.is) refl
       | inr gone ↦
@@ -318,7 +282,7 @@ deciding_class-from classes = find_deciding classes 0 classes refl
 -- ---- what an FSI becomes (X5c)
 
 end_from-late : (d u n : ℕ) (xs : List BidiClass) → u ≤ n → u ≤ unwrap_or (end_from d u xs) n
-end_from-late d u n xs order = elim (cases_Option (end_from d u xs)) [ inl e ↦ rw e order | inr f ↦ rw f.1 (end_from-from d u f.0 xs f.1) ]
+end_from-late d u n xs order = grind (arith, end_from-from)
 
 -- the deciding character of what stands before the first end
 resolved : (d u n : ℕ) (xs : List BidiClass) → u + length xs ≤ n → deciding_from d (take (unwrap_or (end_from d u xs) n - u) xs) ≡ resolving_from d xs
@@ -337,10 +301,7 @@ resolved d u n (x ∷ xs) fits = elim (cases_Bool (ends_by (kind_of x) d)) [
 
 pub deciding_class-isolated : (classes : List BidiClass) (q : ℕ) → q < length classes → deciding_class (isolated_classes classes q) ≡ resolving_from 0 (drop (q + 1) classes)
 unfolding isolated_classes
-deciding_class-isolated classes q within =
-    deciding_class-from (slice_range classes (q + 1) (unwrap_or (matching_pdi classes q) (length classes)))
-    ∙ ap (λ (o : Option ℕ). deciding_from 0 (take (unwrap_or o (length classes) - (q + 1)) (drop (q + 1) classes))) (matching_pdi-end_from classes q)
-    ∙ resolved 0 (q + 1) (length classes) (drop (q + 1) classes) (omega (arith, length-drop (q + 1) classes))
+deciding_class-isolated classes q within = grind (arith, deciding_class-from, matching_pdi-end_from, resolved, length-drop)
 
 all_stored : (classes : List BidiClass) (p : ℕ) (rest : List BidiClass) → drop p classes ≡ rest → map (λ q. stored_class classes q (class_at classes q)) (range_with_len p (length rest)) ≡ stored_from rest
 all_stored classes p [] e = refl

@@ -1,9 +1,10 @@
 -- Lines of given width: how many characters fit, and the lines of a paragraph as ranges of units.
 use Rattle.std.proofs.Common.{◌≡◌, ◌≢◌, ℕ, zero, suc, ◌+◌, ◌-◌, ◌<◌, ◌≤◌, Bool, true, leb, List, [], ◌∷◌, ◌++◌, length, get_or, map, take, drop, Option, Some, None, All, slice_get, refl, sym, ap, subst, ◌∙◌, arith, inl, inr, length-take-le, length-drop}
+use Rattle.std.proofs.lemmas.Grind.{common_steps}
 use Rattle.std.specs.Prelude.{slice_range, unwrap_or}
 use Rattle.std.specs.List.{range_with_len}
 use Rattle.std.specs.List.Sorted.{IsPermutation}
-use Rattle.std.proofs.lemmas.Bool.{both_ways, le-leb, leb-true, cases_lt}
+use Rattle.std.proofs.lemmas.Bool.{both_ways, le-leb, cases_lt}
 use Rattle.std.proofs.lemmas.List.{take-append-drop, drop-drop, drop-take, get_or-map, get_or_default, length-map, same_lists}
 use Rattle.std.proofs.lemmas.List.FromFn.{length-range_with_len, get_or-range_with_len}
 use Rattle.std.proofs.lemmas.List.Sorted.{All-permutation, Contains-permutation, length_permutation}
@@ -15,14 +16,14 @@ use Rattle.bidi_base.specs.Paragraphs.{ranges_from, IsPartition}
 use Rattle.bidi_base.specs.Places.{indexes, find_last}
 use Rattle.bidi_base.specs.Text.{place, text_len, char_index, subrange, IsLine}
 use Rattle.bidi_base.proofs.ParagraphsLemmas.{joined, ranges_from-IsPartition}
-use Rattle.bidi_base.proofs.PlaceLemmas.{CharTurn, place-zero, place-more, place-end, place-mono, place-lt, place-slice_range, char_index-place, IsLine-places, line_places, text_len-subrange}
+use Rattle.bidi_base.proofs.PlaceLemmas.{CharTurn, place-more, place-end, place-mono, place-lt, place-slice_range, char_index-place, IsLine-places, line_places, text_len-subrange}
 use Rattle.bidi_base.proofs.PlacesLemmas.{IsGreatest, find_last-range_with_len, find_last-range_with_len-None}
 use Rattle.bidi_base.proofs.TextLemmas.{HasUnits}
 use Rattle.bidi_base.proofs.VisualOrderLemmas.{visual_place-order, contains_index, all_below}
 
 -- the widths of one character more
 pub place-turn : (width_of len_of : ℕ → ℕ) (chars : List ℕ) (n at c : ℕ) → CharTurn len_of chars n at c → place width_of chars (n + 1) ≡ place width_of chars n + width_of c
-place-turn width_of len_of chars n at c turn = place-more width_of chars n 0 turn.within ∙ ap (λ (d : ℕ). place width_of chars n + width_of d) turn.is_char
+place-turn width_of len_of chars n at c turn = grind (arith, place-more)
 
 module _ (width_of : ℕ → ℕ) (limit : ℕ) where
   -- ---- how many characters fit
@@ -39,13 +40,7 @@ module _ (width_of : ℕ → ℕ) (limit : ℕ) where
       passes = le-leb (place width_of chars n) limit fit
 
       equal : (p : ℕ) → IsGreatest (fits chars) 0 (0 + (length chars + 1)) p → p ≡ n
-      equal p g = elim (cases_lt n p) [
-        | inl less ↦ absurd (omega (arith, full (omega (arith, g.below)), leb-true (place width_of chars p) limit g.passes, place-mono width_of chars (n + 1) p (omega arith)))
-        | inr more ↦ elim (cases_lt p n) [
-          | inl before ↦ absurd (both_ways (fits chars n) (g.last n before (omega arith)) passes)
-          | inr here ↦ omega arith
-        ]
-      ]
+      equal p g = grind (arith, place-mono)
 
       found : (o : Option ℕ) → find_last (fits chars) (range_with_len 0 (length chars + 1)) ≡ o → unwrap_or o 0 ≡ n
       found None e = absurd (both_ways (fits chars n) (find_last-range_with_len-None (fits chars) 0 (length chars + 1) e n (omega arith) (omega arith)) passes)
@@ -53,11 +48,7 @@ module _ (width_of : ℕ → ℕ) (limit : ℕ) where
 
   pub fitting-within : (chars : List ℕ) → fitting width_of limit chars ≤ length chars
   unfolding fitting fits
-  fitting-within chars = found (find_last (fits chars) (range_with_len 0 (length chars + 1))) refl
-    where
-      found : (o : Option ℕ) → find_last (fits chars) (range_with_len 0 (length chars + 1)) ≡ o → unwrap_or o 0 ≤ length chars
-      found None e = omega arith
-      found (Some p) e = let g = find_last-range_with_len (fits chars) 0 (length chars + 1) p e in omega (arith, g.below)
+  fitting-within chars = grind (arith, find_last-range_with_len)
 
   pub line_length-within : (chars : List ℕ) → 0 < length chars → line_length width_of limit chars ≤ length chars
   line_length-within chars some = omega (arith, fitting-within chars)
@@ -85,11 +76,7 @@ module _ (width_of : ℕ → ℕ) (limit : ℕ) where
   pub lines_of-more : (chars : List ℕ) → 0 < length chars
       → lines_of width_of limit chars ≡ take (line_length width_of limit chars) chars ∷ lines_of width_of limit (drop (line_length width_of limit chars) chars)
   unfolding lines_of
-  lines_of-more [] some = absurd (omega arith)
-  lines_of-more (c ∷ chars) some =
-      let here : ℕ = line_length width_of limit (c ∷ chars) in
-      let left = length-drop here (c ∷ chars) in
-      ap (λ (ls : List (List ℕ)). take here (c ∷ chars) ∷ ls) (lines_up_to-enough (length chars) (length (drop here (c ∷ chars))) (drop here (c ∷ chars)) (omega arith) (omega arith))
+  lines_of-more chars some = grind (arith, length-drop, lines_up_to-enough)
 
   up_to-joined : (n : ℕ) (chars : List ℕ) → length chars ≤ n → joined (lines_up_to width_of limit n chars) ≡ chars
   up_to-joined zero [] few = refl
@@ -125,40 +112,21 @@ module _ (width_of : ℕ → ℕ) (limit : ℕ) where
     -- the character after the first n is too wide for what those leave of the limit
     module _ (n at c left : ℕ) (turn : CharTurn len_of chars n at c) (rest : left + place width_of chars n ≡ limit) (wide : left < width_of c) where
       stops : fitting width_of limit chars ≡ n
-      stops =
-          let next = place-turn width_of len_of chars n at c turn in
-          fitting-is chars n (omega (arith, turn.within)) (omega arith) (λ more. omega arith)
+      stops = grind (arith, common_steps, fitting-is)
 
       pub first_line-one : at ≡ 0 → len_of c ≡ place len_of chars (line_length width_of limit chars)
-      first_line-one none = elim (cases_lt 0 n) [
-        | inl some ↦ absurd (omega (arith, turn.at_place, place-lt len_of chars units 0 n some (omega (arith, turn.within))))
-        | inr first ↦
-            let one : line_length width_of limit chars ≡ n + 1 = omega (arith, stops) in
-            sym (ap (place len_of chars) one ∙ turn.after ∙ (let zero_th : at + len_of c ≡ len_of c = omega arith in zero_th))
-      ]
+      first_line-one none = grind (arith, common_steps, stops)
 
       pub first_line-stops : at ≢ 0 → at ≡ place len_of chars (line_length width_of limit chars)
-      first_line-stops some = elim (cases_lt 0 n) [
-        | inl more ↦
-            let here : line_length width_of limit chars ≡ n = omega (arith, stops) in
-            turn.at_place ∙ ap (place len_of chars) (sym here)
-        | inr first ↦
-            let none : n ≡ 0 = omega arith in
-            absurd (some (turn.at_place ∙ ap (place len_of chars) none ∙ place-zero len_of chars))
-      ]
+      first_line-stops some = grind (arith, stops)
 
     -- all characters fit
     pub first_line-all : (n left : ℕ) → n ≡ length chars → left + place width_of chars n ≡ limit → text_len len_of chars ≡ place len_of chars (line_length width_of limit chars)
-    first_line-all n left all rest =
-        let stop : fitting width_of limit chars ≡ n = fitting-is chars n (omega arith) (omega arith) (λ more. absurd (omega arith)) in
-        sym (place-end len_of chars (line_length width_of limit chars) (omega arith))
+    first_line-all n left all rest = grind (arith, fitting-is, place-end)
 
     -- an empty range has no lines
     pub line_ranges-none : (start end : ℕ) → start ≡ end → line_ranges len_of chars width_of limit start end ≡ []
-    line_ranges-none start end same =
-        let none : char_index len_of chars end - char_index len_of chars start ≡ 0 = rw same (omega arith) in
-        ap (λ (n : ℕ). ranges_from len_of start (lines_of width_of limit (take n (drop (char_index len_of chars start) chars)))) none
-        ∙ ap (ranges_from len_of start) lines_of-none
+    line_ranges-none start end same = grind (arith, lines_of-none)
 
     pub line_ranges-IsPartition : (start end : ℕ) → IsLine len_of chars start end → IsPartition start end (line_ranges len_of chars width_of limit start end)
     line_ranges-IsPartition start end line =
@@ -206,11 +174,11 @@ module _ (width_of : ℕ → ℕ) (limit : ℕ) where
 
 module _ (levels order : List ℕ) (visual : IsVisualOrder levels order) where
   order-long : length order ≡ length levels
-  order-long = length_permutation (indexes levels) order visual.all_indexes ∙ length-range_with_len 0 (length levels)
+  order-long = grind (arith, length_permutation, length-range_with_len)
 
   -- its own indexes stand in it, each once
   pub own_indexes : IsPermutation (indexes order) order
-  own_indexes = subst (λ (n : ℕ). IsPermutation (range_with_len 0 n) order) (sym order-long) visual.all_indexes
+  own_indexes = grind (arith, order-long)
 
   -- the inverse of a visual order has the visual place of each index
   pub visual_places-inverse : (places : List ℕ) → AreInverse order places → places ≡ visual_places levels
@@ -218,18 +186,18 @@ module _ (levels order : List ℕ) (visual : IsVisualOrder levels order) where
   visual_places-inverse places inverse = same_lists places (map (visual_place levels) (indexes levels)) long at_each
     where
       long : length places ≡ length (map (visual_place levels) (indexes levels))
-      long = sym inverse.same_len ∙ order-long ∙ sym (length-map (indexes levels) (visual_place levels) ∙ length-range_with_len 0 (length levels))
+      long = grind (arith, order-long, length-map, length-range_with_len)
 
       at_each : (k d : ℕ) → k < length places → get_or places k d ≡ get_or (map (visual_place levels) (indexes levels)) k d
       at_each k d within =
           let fits : k < length (indexes levels) = omega (arith, order-long, inverse.same_len, length-range_with_len 0 (length levels)) in
-          let here : get_or (indexes levels) k 0 ≡ k = get_or-range_with_len 0 (length levels) k 0 (omega (arith, order-long, inverse.same_len)) ∙ (let same : 0 + k ≡ k = omega arith in same) in
+          let here : get_or (indexes levels) k 0 ≡ k = grind (arith, get_or-range_with_len, order-long) in
           get_or_default places k d 0 within
           ∙ at_place (get_or places k 0) (inverse.forth k within)
           ∙ sym (get_or-map (visual_place levels) (indexes levels) k 0 d fits ∙ ap (visual_place levels) here)
         where
           at_place : (v : ℕ) → slice_get order v ≡ Some k → v ≡ visual_place levels k
-          at_place v e = sym (visual_place-order levels order v visual (slice_get_within order v k e)) ∙ ap (visual_place levels) (get_or_from_slice_get order v k 0 e)
+          at_place v e = grind (arith, visual_place-order, slice_get_within, get_or_from_slice_get)
 
 -- a list that has at each number of a permutation the place where it stands there is its inverse
 pub AreInverse-from_back : (order places : List ℕ) → IsPermutation (indexes order) order → length order ≡ length places

@@ -1,14 +1,13 @@
 -- The levels of a paragraph: how many they are, where they lie, and that one character of class BN is as good as another.
-use Rattle.std.proofs.Common.{◌≡◌, ℕ, ◌≤◌, List, [], ◌∷◌, length, map, Option, Some, None, refl, ap, ◌∙◌, append-nil, arith}
+use Rattle.std.proofs.Common.{◌≡◌, ℕ, ◌≤◌, List, [], ◌∷◌, length, map, Option, refl, append-nil, arith}
 use Rattle.std.specs.Prelude.{All, IfSome, replicate}
 use Rattle.std.proofs.lemmas.List.{length-map}
 use Rattle.std.proofs.lemmas.List.Elements.{All-nil, All-head, All-tail, All-append, All-replicate}
 use Rattle.bidi_base.specs.declared.char_data.BidiClass.{BidiClass}
-use Rattle.bidi_base.specs.declared.char_data.BidiClass.TheVariants.{R, AL}
-use Rattle.bidi_base.specs.Isolates.{deciding_class, level_by, paragraph_level, stored_classes}
+use Rattle.bidi_base.specs.Isolates.{paragraph_level, stored_classes}
 use Rattle.bidi_base.specs.Laws.{AreLevelsFrom, BoundaryNeutralsAreAlike, StaysLeftToRight}
 use Rattle.bidi_base.specs.Source.{Source}
-use Rattle.bidi_base.specs.Stored.{levels_in, stored_levels, text_classes, text_levels, paragraph_levels}
+use Rattle.bidi_base.specs.Stored.{stored_levels, text_classes, text_levels, paragraph_levels}
 use Rattle.bidi_base.specs.Text.{per_unit}
 use Rattle.bidi_base.proofs.KeepsToLemmas.{levels_in-pure_ltr}
 use Rattle.bidi_base.proofs.ParagraphsLemmas.{joined}
@@ -17,46 +16,32 @@ use Rattle.bidi_base.proofs.ResolvedLemmas.{length-levels_in, levels_in-IsStored
 
 -- ---- the paragraph level
 
-level_by-few : (o : Option BidiClass) → level_by o ≤ 125
-level_by-few (Some R) = omega arith
-level_by-few (Some AL) = omega arith
-level_by-few _ = omega arith
-
 -- it is one that an embedding can have
 pub paragraph_level-few : (base : Option ℕ) (classes : List BidiClass) → IfSome base (λ level. level ≤ 125) → paragraph_level base classes ≤ 125
 unfolding paragraph_level
-paragraph_level-few (Some level) classes h = h
-paragraph_level-few None classes h = level_by-few (deciding_class classes)
+paragraph_level-few base classes h = grind arith
 
 -- ---- the levels of its characters
 
 pub length-stored_levels : (source : Source) (base : Option ℕ) (piece : List ℕ) → length (stored_levels source base piece) ≡ length piece
 unfolding stored_levels
-length-stored_levels source base piece =
-    length-levels_in (paragraph_level base (map source.class_of piece)) (map source.class_of piece) (map source.bracket_of piece) ∙ length-map piece source.class_of
+length-stored_levels source base piece = grind (arith, length-levels_in, length-map)
 
 pub stored_levels-AreLevelsFrom : (source : Source) (base : Option ℕ) (piece : List ℕ) → IfSome base (λ level. level ≤ 125) → AreLevelsFrom (paragraph_level base (map source.class_of piece)) (stored_levels source base piece)
 unfolding stored_levels
-stored_levels-AreLevelsFrom source base piece few k d within =
-    let classes : List BidiClass = map source.class_of piece in
-    let here = levels_in-IsStoredIn (paragraph_level base classes) classes (map source.bracket_of piece) (paragraph_level-few base classes few) k d within in
-    (here.above, here.below)
+stored_levels-AreLevelsFrom source base piece few k d within = grind (arith, levels_in-IsStoredIn, paragraph_level-few)
 
 -- those of a text are one a character
 pub length-text_levels : (source : Source) (base : Option ℕ) (pieces : List (List ℕ)) (chars : List ℕ) → joined pieces ≡ chars → length (text_levels source base pieces) ≡ length chars
 unfolding text_levels
-length-text_levels source base pieces chars whole = length-values (stored_levels source base) (length-stored_levels source base) pieces ∙ ap length whole
+length-text_levels source base pieces chars whole = grind (arith, length-values, length-stored_levels)
 
 pub BoundaryNeutralsAreAlike-all : (source : Source) (base : Option ℕ) → BoundaryNeutralsAreAlike source base
 BoundaryNeutralsAreAlike-all source base = stored_levels-BN source base
 
 pub StaysLeftToRight-all : (source : Source) (base : Option ℕ) → StaysLeftToRight source base
 unfolding stored_levels
-StaysLeftToRight-all source base piece pure even =
-    let classes : List BidiClass = map source.class_of piece in
-    ap (λ level. levels_in level classes (map source.bracket_of piece)) even
-    ∙ levels_in-pure_ltr classes (map source.bracket_of piece) pure
-    ∙ ap (λ n. replicate n 0) (length-map piece source.class_of)
+StaysLeftToRight-all source base piece pure even = grind (arith, levels_in-pure_ltr, length-map)
 
 -- ---- a text of one paragraph
 

@@ -1,5 +1,5 @@
 -- The levels of a paragraph do not depend on the order in which its sequences are resolved.
-use Rattle.std.proofs.Common.{◌≡◌, ℕ, suc, ◌+◌, ◌<◌, ◌≤◌, Bool, true, false, not, cond, eqb, List, [], ◌∷◌, ◌++◌, map, length, count_by, Option, eqb-true, refl, sym, ap, ◌∙◌, arith, inl, inr}
+use Rattle.std.proofs.Common.{◌≡◌, ℕ, suc, ◌+◌, ◌<◌, ◌≤◌, Bool, true, false, not, cond, eqb, List, [], ◌∷◌, ◌++◌, map, length, count_by, Option, eqb-true, refl, sym, ap, ◌∙◌, arith, inl, inr, rules}
 use Rattle.std.specs.Prelude.{flat_map, zip}
 use Rattle.std.proofs.lemmas.List.{map-append}
 use Rattle.std.specs.List.{sum_by}
@@ -28,9 +28,9 @@ module _ (entries : RunSequence → List (ℕ × ℕ)) (few : (test : ℕ → Bo
       let by_sequence : count_by (λ (e : ℕ × ℕ). eqb e.0 p) (flat_map entries seqs) ≡ sum_by (λ s. count_by (λ (e : ℕ × ℕ). eqb e.0 p) (entries s)) seqs = sum_by-flat_map (λ (e : ℕ × ℕ). cond (eqb e.0 p) 1 0) entries seqs in
       let places : count_by (λ q. eqb q p) (flat_map (λ (s : RunSequence). s.places) seqs) ≡ sum_by (λ (s : RunSequence). count_by (λ q. eqb q p) s.places) seqs = sum_by-flat_map (λ q. cond (eqb q p) 1 0) (λ (s : RunSequence). s.places) seqs in
       let least : sum_by (λ s. count_by (λ (e : ℕ × ℕ). eqb e.0 p) (entries s)) seqs ≤ sum_by (λ (s : RunSequence). count_by (λ q. eqb q p) s.places) seqs
-      = sum_by-le-sum_by (λ s. count_by (λ (e : ℕ × ℕ). eqb e.0 p) (entries s)) (λ (s : RunSequence). count_by (λ q. eqb q p) s.places) seqs (few test) in
+      = grind (arith, sum_by-le-sum_by) in
       let moved : count_by (λ q. eqb q p) (flat_map (λ (s : RunSequence). s.places) seqs) ≡ count_by (λ q. eqb q p) (kept_places classes)
-      = sum_by-IsPermutation (λ q. cond (eqb q p) 1 0) (kept_places classes) (flat_map (λ (s : RunSequence). s.places) seqs) shared in
+      = grind (arith, sum_by-IsPermutation) in
       let one : count_by (λ q. eqb q p) (kept_places classes) ≤ 1 = count_at-range (is_kept_at classes) p 0 (length classes) in
       omega arith
 
@@ -39,9 +39,7 @@ module _ (entries : RunSequence → List (ℕ × ℕ)) (few : (test : ℕ → Bo
       → level_in (flat_map entries other) p ≡ level_in (flat_map entries seqs) p
   level_in-order classes seqs other p shared moved =
       let counts : count_by (λ (e : ℕ × ℕ). eqb e.0 p) (flat_map entries other) ≡ count_by (λ (e : ℕ × ℕ). eqb e.0 p) (flat_map entries seqs) =
-      sum_by-flat_map (λ (e : ℕ × ℕ). cond (eqb e.0 p) 1 0) entries other
-      ∙ sum_by-IsPermutation (λ s. sum_by (λ (e : ℕ × ℕ). cond (eqb e.0 p) 1 0) (entries s)) seqs other moved
-      ∙ sym (sum_by-flat_map (λ (e : ℕ × ℕ). cond (eqb e.0 p) 1 0) entries seqs) in
+      grind (arith, sum_by-flat_map, sum_by-IsPermutation) in
       let once : count_by (λ (e : ℕ × ℕ). eqb e.0 p) (flat_map entries seqs) ≤ 1 = once_in_table classes seqs p shared in
       level_in-sum (flat_map entries other) p (omega arith)
       ∙ sum_by-flat_map (λ (e : ℕ × ℕ). cond (eqb e.0 p) e.1 0) entries other
@@ -87,9 +85,7 @@ level_in-resolved paragraph source stored brackets levels classes new seqs p mov
     let first : count_by (λ q. eqb q p) (flat_map (λ (s : RunSequence). s.places) (sequences paragraph stored levels)) ≡ count_by (λ q. eqb q p) (kept_places stored)
     = sum_by-IsPermutation (λ q. cond (eqb q p) 1 0) (kept_places stored) _ (IsPermutation-sequences stored levels paragraph) in
     let second : count_by (λ q. eqb q p) (flat_map (λ (s : RunSequence). s.places) seqs) ≡ count_by (λ q. eqb q p) (flat_map (λ (s : RunSequence). s.places) (sequences paragraph stored levels)) =
-    sum_by-flat_map (λ q. cond (eqb q p) 1 0) (λ (s : RunSequence). s.places) seqs
-    ∙ sum_by-IsPermutation (λ (s : RunSequence). count_by (λ q. eqb q p) s.places) (sequences paragraph stored levels) seqs moved
-    ∙ sym (sum_by-flat_map (λ q. cond (eqb q p) 1 0) (λ (s : RunSequence). s.places) (sequences paragraph stored levels)) in
+    search (rules, sum_by-flat_map, sum_by-IsPermutation) in
     sym (level_in-order entries (few_entries source brackets levels classes) stored (sequences paragraph stored levels) seqs p (IsPermutation-sequences stored levels paragraph) moved)
     ∙ ap (λ (t : List (ℕ × ℕ)). level_in t p) (table_of_resolved source brackets levels classes new seqs resolved)
     ∙ level_in-map new (flat_map (λ (s : RunSequence). s.places) seqs) p (omega arith)
@@ -110,10 +106,7 @@ filled_is table (v ∷ new) (c ∷ classes) p before long kept front removed =
     ∙ ap (λ (x : ℕ). filled_levels table (p + 1) x classes) here)
   where
     here : v ≡ cond (is_removed c) before (level_in table p)
-    here = elim (cases_Bool (is_removed c)) [
-      | inl gone ↦ rw gone (front (omega arith) gone)
-      | inr stays ↦ rw stays (kept 0 (omega arith) stays ∙ ap (level_in table) (omega arith))
-    ]
+    here = grind arith
 
 -- a list is what fills the table, if it has the table's levels at kept characters, and at a removed one the level before it
 pub filled_levels-is : (table : List (ℕ × ℕ)) (new : List ℕ) (classes : List BidiClass) (before : ℕ) → length new ≡ length classes

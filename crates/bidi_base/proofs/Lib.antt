@@ -6,7 +6,6 @@ pub mod BracketSearch
 pub mod BracketsLemmas
 pub mod ChainLemmas
 pub mod CharsLemmas
-pub mod ClassesLemmas
 pub mod ContextLemmas
 pub mod CrLfLemmas
 pub mod DirectionWalk

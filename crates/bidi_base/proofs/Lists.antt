@@ -4,11 +4,11 @@ use Rattle.std.specs.Prelude.{replicate}
 use Rattle.std.specs.List.{list_all}
 use Rattle.std.specs.Option.{option_or}
 use Rattle.std.proofs.lemmas.Bool.{cases_Bool, and_parts, and_from}
-use Rattle.std.proofs.lemmas.List.{reverse-append, reverse-reverse, take-append-le, take_all, length-take-le, get_or-append_right, get_or_append_left, get_or-replicate, get_or-take, get_or-drop, length-replicate}
+use Rattle.std.proofs.lemmas.List.{reverse-append, reverse-reverse, take-append-le, take_all, length-take-le, get_or-append_right, get_or-drop, length-replicate}
 use Rattle.std.proofs.lemmas.List.Elements.{filter-append}
 use Rattle.bidi_base.specs.Places.{last_or}
 use mathlib.Core.List.{reverse_aux}
-use borrow.Rule.Slice.PartMut.{put_mid, post_of}
+use borrow.Rule.Slice.PartMut.{put_mid}
 
 -- the two cases of an option, with what it is
 pub cases_Option : {X : Type 0} (o : Option X) → (o ≡ None) ⊎ ((x : X) × (o ≡ Some x))
@@ -16,13 +16,11 @@ cases_Option None = inl refl
 cases_Option (Some x) = inr (x, refl)
 
 pub option_or-None : {X : Type 0} (o : Option X) → option_or o None ≡ o
-option_or-None None = refl
-option_or-None (Some x) = refl
+option_or-None o = grind arith
 
 -- a test that either choice passes
 pub chosen : {X : Type 0} (p : X → Bool) (b : Bool) (x y : X) → p x ≡ true → p y ≡ true → p (cond b x y) ≡ true
-chosen p true x y h k = h
-chosen p false x y h k = k
+chosen p b x y h k = grind arith
 
 -- ---- a test of each element
 
@@ -127,33 +125,8 @@ filter_map-same f g xs same = λ i. filter_map (λ x. same x i) xs
 -- ---- a list of which a part is written over by one value
 
 module _ {X : Type 0} (start count : ℕ) (xs : List X) (x d : X) (n : ℕ) where
-  pub put_mid-inside : start + count ≤ length xs → start ≤ n → n < start + count → get_or (put_mid start count xs (replicate count x)) n d ≡ x
-  put_mid-inside fits from to =
-      get_or-append_right (take start xs) (replicate count x ++ post_of start count xs) start n d (length-take-le start xs (omega arith)) from
-      ∙ get_or_append_left (replicate count x) (post_of start count xs) d (n - start) (omega (arith, length-replicate count x))
-      ∙ get_or-replicate count (n - start) x d (omega arith)
-
-  pub put_mid-before : start ≤ length xs → n < start → get_or (put_mid start count xs (replicate count x)) n d ≡ get_or xs n d
-  put_mid-before fits before =
-      get_or_append_left (take start xs) (replicate count x ++ post_of start count xs) d n (omega (arith, length-take-le start xs fits))
-      ∙ get_or-take start xs n d before
-
   pub put_mid-after : start + count ≤ length xs → start + count ≤ n → get_or (put_mid start count xs (replicate count x)) n d ≡ get_or xs n d
-  put_mid-after fits after =
-      get_or-append_right (take start xs) (replicate count x ++ post_of start count xs) start n d (length-take-le start xs (omega arith)) (omega arith)
-      ∙ get_or-append_right (replicate count x) (post_of start count xs) count (n - start) d (length-replicate count x) (omega arith)
-      ∙ get_or-drop count (drop start xs) (n - start - count) d
-      ∙ get_or-drop start xs (count + (n - start - count)) d
-      ∙ ap (λ (k : ℕ). get_or xs k d) (let same : start + (count + (n - start - count)) ≡ n = omega arith in same)
+  put_mid-after fits after = grind (arith, get_or-append_right, length-take-le, length-replicate, get_or-drop)
 
 pub length-put_mid : {X : Type 0} (start count : ℕ) (xs : List X) (x : X) → start + count ≤ length xs → length (put_mid start count xs (replicate count x)) ≡ length xs
-length-put_mid start count xs x fits =
-    length-append (take start xs) (replicate count x ++ post_of start count xs)
-    ∙ omega (
-      arith,
-      length-append (replicate count x) (post_of start count xs),
-      length-replicate count x,
-      length-take-le start xs (omega arith),
-      length-drop start xs,
-      length-drop count (drop start xs),
-    )
+length-put_mid start count xs x fits = grind (arith, length-append, length-replicate, length-take-le, length-drop)

@@ -1,14 +1,14 @@
 -- A matching PDI stands inside the same isolates and embeddings as its initiator, and so has its explicit level.
-use Rattle.std.proofs.Common.{◌≡◌, ℕ, zero, suc, ◌<◌, true, false, cond, eqb, List, ◌∷◌, reverse, length, get_or, map, Option, Some, None, refl, sym, ap, subst, ◌∙◌, arith, inl, inr, eqb-true}
+use Rattle.std.proofs.Common.{◌≡◌, ℕ, zero, suc, ◌<◌, true, false, cond, eqb, List, ◌∷◌, reverse, length, get_or, Option, Some, None, refl, sym, ap, subst, ◌∙◌, arith, inl, inr, eqb-true}
 use Rattle.std.proofs.lemmas.Bool.{cases_Bool, cond-false}
 use Rattle.std.proofs.lemmas.List.Sums.{sum_by-cons}
 use Rattle.bidi_base.specs.declared.char_data.BidiClass.{BidiClass}
 use Rattle.bidi_base.specs.declared.char_data.BidiClass.TheVariants.{LRI, RLI, FSI, PDI}
 use Rattle.bidi_base.specs.Classes.{is_initiator, is_pdi, is_paragraph_separator}
-use Rattle.bidi_base.specs.Places.{class_at, chain, first_or}
+use Rattle.bidi_base.specs.Places.{chain, first_or}
 use Rattle.bidi_base.specs.Isolates.{is_initiator_at, is_pdi_at, matching_pdi}
 use Rattle.bidi_base.specs.Embeddings.{open_at}
-use Rattle.bidi_base.specs.Explicit.{Status, status_inside, status_at, explicit_level, explicit_levels}
+use Rattle.bidi_base.specs.Explicit.{status_at, explicit_level, explicit_levels}
 use Rattle.bidi_base.specs.Sequences.{RunSequence, level_at, successor, sequence_from, sequences}
 use Rattle.bidi_base.proofs.IsolatesLemmas.{initiators_apart, matching_pdi-IsLeast, matching_pdi-is_pdi}
 use Rattle.bidi_base.proofs.ExplicitLemmas.{level_at-explicit_levels}
@@ -29,10 +29,7 @@ left_at-match classes p q opening matches = by_leaves (openers_read classes q) (
     top = IsReadStack-matched (is_initiator_at classes) (is_pdi_at classes) (initiators_apart classes) (length classes) q p _ (initiators-IsReadStack classes q) opening matches
 
     by_leaves : (stack left : List ℕ) → Leaves classes q stack left → initiators classes stack ≡ p ∷ top.0 → left ≡ left_at classes p
-    by_leaves stack left (closes_isolate _ x closing first) e =
-        let both : x ∷ initiators classes (left_at classes x) ≡ p ∷ top.0 = sym first ∙ e in
-        let same : x ≡ p = cc both in
-        ap (left_at classes) same
+    by_leaves stack left (closes_isolate _ x closing first) e = grind arith
     by_leaves stack left (closes_embedding r below pdf other) e = absurd (pdf_apart _ pdf pdi)
     by_leaves stack left (closes_nothing _ flat on_top) e = absurd (cc (sym (flat pdi) ∙ e))
 
@@ -45,11 +42,7 @@ open_at-match classes p q opening matches =
 explicit_level-match : (paragraph : ℕ) (classes : List BidiClass) (p q : ℕ) → is_initiator_at classes p ≡ true → matching_pdi classes p ≡ Some q
     → explicit_level paragraph classes q ≡ explicit_level paragraph classes p
 unfolding explicit_level status_at
-explicit_level-match paragraph classes p q opening matches =
-    let start : Status = record { level = paragraph; override = None } in
-    cond-false (is_paragraph_separator (class_at classes q)) paragraph _ (not_pdi (class_at classes q) (matching_pdi-is_pdi classes p q matches))
-    ∙ ap (λ (openers : List ℕ). (status_inside start (map (class_at classes) openers)).level) (open_at-match classes p q opening matches)
-    ∙ sym (cond-false (is_paragraph_separator (class_at classes p)) paragraph _ (not_initiator (class_at classes p) opening))
+explicit_level-match paragraph classes p q opening matches = grind (arith, not_pdi, matching_pdi-is_pdi, open_at-match)
   where
     not_pdi : (c : BidiClass) → is_pdi c ≡ true → is_paragraph_separator c ≡ false
     not_pdi PDI e = refl
@@ -82,10 +75,6 @@ chain-level next levels step (suc n) (Some p) q there = elim (cases_Bool (eqb p 
       (p, refl, rest.2 ∙ step p rest.0 rest.1)
 ]
 
-first_of_chain : (next : ℕ → Option ℕ) (n p : ℕ) → 0 < n → first_or 0 (chain next n (Some p)) ≡ p
-first_of_chain next zero p some = absurd (omega arith)
-first_of_chain next (suc n) p some = refl
-
 pub sequence-one_level : (paragraph : ℕ) (classes : List BidiClass) (k : ℕ) (d : RunSequence) → k < length (sequences paragraph classes (explicit_levels paragraph classes)) → (p : ℕ)
     → 0 < times_in (get_or (sequences paragraph classes (explicit_levels paragraph classes)) k d).places p
     → level_at (explicit_levels paragraph classes) p ≡ level_at (explicit_levels paragraph classes) (first_or 0 (get_or (sequences paragraph classes (explicit_levels paragraph classes)) k d).places)
@@ -99,6 +88,6 @@ sequence-one_level paragraph classes k d within p there =
     let same = explicit_levels-SameLevelAtMatch paragraph classes in
     let on_chain : 0 < times_in (chain (successor classes levels) (length classes) (Some b.0)) p = subst (λ (ps : List ℕ). 0 < times_in ps p) places_are there in
     let found = chain-level (successor classes levels) levels (λ p r. successor-level classes levels p r same) (length classes) (Some b.0) p on_chain in
-    let first : first_or 0 s.places ≡ b.0 = ap (first_or 0) places_are ∙ first_of_chain (successor classes levels) (length classes) b.0 (omega (arith, inside)) in
+    let first : first_or 0 s.places ≡ b.0 = grind arith in
     let begun : b.0 ≡ found.0 = cc found.1 in
     found.2 ∙ ap (level_at levels) (sym (first ∙ begun))

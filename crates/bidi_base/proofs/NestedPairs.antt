@@ -1,8 +1,8 @@
 -- Bracket pairs never cross: each stands behind those that open before it, or within them.
-use Rattle.std.proofs.Common.{◌≡◌, ℕ, zero, suc, ◌+◌, ◌-◌, ◌<◌, Bool, true, false, not, ◌&&◌, eqb, ltb, leb, List, [], ◌∷◌, ◌++◌, length, get_or, find, filter_map, Option, Some, None, refl, sym, ap, subst, ◌∙◌, ◌⊎◌, arith, inl, inr, add-one, eqb-true, lt-ltb}
+use Rattle.std.proofs.Common.{◌≡◌, ℕ, zero, suc, ◌+◌, ◌<◌, true, false, ◌&&◌, eqb, ltb, leb, List, [], ◌∷◌, ◌++◌, length, get_or, find, filter_map, Option, Some, sym, ap, subst, ◌∙◌, ◌⊎◌, arith, inl, inr, add-one, eqb-true, rules}
 use Rattle.std.specs.Prelude.{All}
 use Rattle.std.specs.List.{range_with_len, AllByRecursion, AllPairs}
-use Rattle.std.proofs.lemmas.Bool.{cases_Bool, cases_lt, cases_order, both_ways, and_parts, le-leb, not-true, false_from_ne_true}
+use Rattle.std.proofs.lemmas.Bool.{cases_lt, and_parts}
 use Rattle.std.proofs.lemmas.List.{length-append, get_or_append_left}
 use Rattle.std.proofs.Math.Seq.{get_or-append_seam}
 use Rattle.std.proofs.lemmas.List.Elements.{All-append, All-cons, All-nil, All-from_recursion}
@@ -10,7 +10,7 @@ use Rattle.std.proofs.lemmas.List.Folds.{list_any_at}
 use Rattle.std.proofs.lemmas.List.Kept.{AllPairs-cons}
 use Rattle.bidi_base.specs.declared.char_data.BidiClass.{BidiClass}
 use Rattle.bidi_base.specs.declared.data_source.BidiMatchedOpeningBracket.{BidiMatchedOpeningBracket}
-use Rattle.bidi_base.specs.Brackets.{counted_brackets, bracket_at, is_opening, is_closing, is_same_bracket, is_taken, is_available, partner, closed_pairs, bracket_limit, pairs_of, bracket_pairs, IsBehindOrWithin, AreNestedPairs}
+use Rattle.bidi_base.specs.Brackets.{bracket_at, is_opening, is_closing, is_taken, is_available, partner, closed_pairs, pairs_of, bracket_pairs, IsBehindOrWithin, AreNestedPairs}
 use Rattle.bidi_base.proofs.PlacesLemmas.{find_last-range_with_len}
 use Rattle.bidi_base.specs.PairSearch.{closed_before}
 use Rattle.bidi_base.proofs.PairsLemmas.{closed_before-more, with_closing-none, with_closing-other, with_closing-pair, bracket_pairs-in_order}
@@ -50,30 +50,13 @@ module _ (brackets : List (Option BidiMatchedOpeningBracket)) where
 
   closes : (j : ℕ) → (closed_before brackets (j + 1) ≡ closed_before brackets j) ⊎ ((i : ℕ) × Closes j i)
   unfolding partner
-  closes j = elim (cases_Option (partner brackets (closed_before brackets j) j)) [
-    | inl e ↦ inl (closed_before-more brackets j ∙ with_closing-none brackets (closed_before brackets j) j e)
-    | inr f ↦ elim (cases_Bool (is_closing (bracket_at brackets j))) [
-      | inl closing ↦
-          let test : ℕ → Bool = λ k. is_available brackets (closed_before brackets j) j k && is_same_bracket (bracket_at brackets k) (bracket_at brackets j) in
-          let g = find_last-range_with_len test 0 (j - 0) f.0 f.1 in
-          inr (
-            f.0,
-            record {
-              order = omega (arith, g.below);
-              waits = (and_parts _ _ g.passes).0;
-              closing = closing;
-              pairs = closed_before-more brackets j ∙ with_closing-pair brackets (closed_before brackets j) j f.0 closing f.1;
-            },
-          )
-      | inr other ↦ inl (closed_before-more brackets j ∙ with_closing-other brackets (closed_before brackets j) j other)
-    ]
-  ]
+  closes j = grind (arith, closed_before-more, with_closing-none, find_last-range_with_len, with_closing-pair, with_closing-other)
 
   waiting-opening : (pairs : List (ℕ × ℕ)) (j i : ℕ) → is_available brackets pairs j i ≡ true → is_opening (bracket_at brackets i) ≡ true
-  waiting-opening pairs j i h = (and_parts (is_opening (bracket_at brackets i)) (not (is_taken pairs j i)) h).0
+  waiting-opening pairs j i h = grind arith
 
   waiting-free : (pairs : List (ℕ × ℕ)) (j i : ℕ) → is_available brackets pairs j i ≡ true → is_taken pairs j i ≡ false
-  waiting-free pairs j i h = not-true (is_taken pairs j i) (and_parts (is_opening (bracket_at brackets i)) (not (is_taken pairs j i)) h).1
+  waiting-free pairs j i h = grind arith
 
   pub closed_before-pairs : (j : ℕ) → All (IsClosedPair j) (closed_before brackets j)
   closed_before-pairs zero = All-nil (IsClosedPair 0)
@@ -93,27 +76,16 @@ module _ (brackets : List (Option BidiMatchedOpeningBracket)) where
       one_later : (j : ℕ) (p : ℕ × ℕ) → IsClosedPair j p → IsClosedPair (j + 1) p
       one_later j p h = record { order = h.order; below = omega (arith, h.below); opening = h.opening; closing = h.closing }
 
-  never_both : (o : Option BidiMatchedOpeningBracket) → is_opening o ≡ true → is_closing o ≡ true → ⊥
-  never_both None h g = absurd (cc h)
-  never_both (Some b) h g = both_ways b.is_open (not-true b.is_open g) h
-
   -- two pairs never cross
   abbrev pub AreApart : List (ℕ × ℕ) → Type 0
   AreApart pairs = (k m : ℕ) → k < length pairs → m < length pairs → (get_or pairs k (0, 0)).0 < (get_or pairs m (0, 0)).0 → IsBehindOrWithin (get_or pairs k (0, 0)) (get_or pairs m (0, 0))
 
   -- the pair that j closes and one that was closed before
   free_between : (j i : ℕ) (q : ℕ × ℕ) → IsClosedPair j q → is_opening (bracket_at brackets i) ≡ true → (ltb q.1 j && leb q.0 i && ltb i q.1) ≡ false → q.0 < i → q.1 < i
-  free_between j i q h opening free order = elim (cases_order i q.1) [
-    | inl same ↦ absurd (never_both (bracket_at brackets i) opening (subst (λ (n : ℕ). is_closing (bracket_at brackets n) ≡ true) (sym same) h.closing))
-    | inr (inl inside) ↦ (
-        let taken : (ltb q.1 j && leb q.0 i && ltb i q.1) ≡ true = rw (lt-ltb q.1 j h.below, le-leb q.0 i (omega arith), lt-ltb i q.1 inside) refl in
-        absurd (both_ways _ free taken)
-        )
-    | inr (inr behind) ↦ behind
-  ]
+  free_between j i q h opening free order = grind arith
 
   free_at : (pairs : List (ℕ × ℕ)) (j i k : ℕ) → is_taken pairs j i ≡ false → k < length pairs → (let q = get_or pairs k (0, 0) in ltb q.1 j && leb q.0 i && ltb i q.1) ≡ false
-  free_at pairs j i k free fits = false_from_ne_true _ (λ taken. both_ways (is_taken pairs j i) free (list_any_at (λ p. ltb p.1 j && leb p.0 i && ltb i p.1) pairs k (0, 0) fits taken))
+  free_at pairs j i k free fits = grind (arith, list_any_at)
 
   apart-more : (j i : ℕ) → Closes j i → AreApart (closed_before brackets j) → AreApart (closed_before brackets j ++ (i, j) ∷ [])
   apart-more j i h earlier k m fits fits1 order = apart_by (get_or (before ++ (i, j) ∷ []) k (0, 0)) (get_or (before ++ (i, j) ∷ []) m (0, 0)) k m (with_new k fits) (with_new m fits1) order
@@ -168,13 +140,9 @@ module _ (brackets : List (Option BidiMatchedOpeningBracket)) where
   -- the pairs of a list of brackets nest
   pub pairs_of-nested : AllPairs IsBehindOrWithin (pairs_of brackets)
   unfolding pairs_of closed_pairs
-  pairs_of-nested =
-      let n = length brackets in
-      let all = closed_before brackets n in
-      let limit = bracket_limit brackets all in
-      found_nested (λ i. find (λ (p : ℕ × ℕ). eqb p.0 i && ltb p.1 limit) all) (apart-found all limit (closed_before-apart n)) 0 n
+  pairs_of-nested = search (rules, found_nested, apart-found, closed_before-apart)
 
 -- the pairs of a sequence nest within it
 pub bracket_pairs-nested : (classes : List BidiClass) (brackets : List (Option BidiMatchedOpeningBracket)) → length brackets ≡ length classes → AreNestedPairs (length classes) (bracket_pairs classes brackets)
 unfolding bracket_pairs
-bracket_pairs-nested classes brackets h = (bracket_pairs-in_order classes brackets h, pairs_of-nested (counted_brackets classes brackets))
+bracket_pairs-nested classes brackets h = grind (arith, bracket_pairs-in_order, pairs_of-nested)

@@ -1,12 +1,12 @@
 -- N1 and N2 block by block.
-use Rattle.std.proofs.Common.{◌≡◌, ℕ, suc, ◌+◌, ◌-◌, ◌<◌, ◌≤◌, true, false, cond, List, ◌∷◌, length, get_or, take, drop, replicate, reverse, unwrap_or, refl, sym, ap, subst, ◌∙◌, arith, inl, inr}
-use Rattle.std.proofs.lemmas.Bool.{cases_lt, cond-true, cond-false, or_cases, both_ways, true_from_ne_false}
+use Rattle.std.proofs.Common.{◌≡◌, ℕ, suc, ◌+◌, ◌-◌, ◌<◌, ◌≤◌, true, false, cond, List, ◌∷◌, length, get_or, take, drop, replicate, reverse, unwrap_or, sym, ap, subst, ◌∙◌, arith, inl, inr}
+use Rattle.std.proofs.lemmas.Bool.{cases_lt, or_cases, both_ways, true_from_ne_false}
 use Rattle.std.proofs.lemmas.List.{drop_more, drop_all, get_or_past, get_or_default}
 use Rattle.std.proofs.lemmas.List.Folds.{list_all_at}
 use Rattle.std.specs.List.{list_all}
 use borrow.Rule.Slice.PartMut.{put_mid}
 use Rattle.bidi_base.specs.declared.char_data.BidiClass.{BidiClass}
-use Rattle.bidi_base.specs.declared.char_data.BidiClass.TheVariants.{L, R, EN, AN, B, S, WS, ON, LRI, RLI, FSI, PDI}
+use Rattle.bidi_base.specs.declared.char_data.BidiClass.TheVariants.{L, ON}
 use Rattle.bidi_base.specs.Classes.{as_direction, has_direction, is_neutral, is_weak_resolved, same_class}
 use Rattle.bidi_base.specs.Neutral.{nearest_direction, n1_rule}
 use Rattle.bidi_base.proofs.PlacesLemmas.{reverse-take_more}
@@ -16,23 +16,11 @@ use Rattle.bidi_base.proofs.Blocks.{IsBlock, read_later, look-drop, look-take, a
 
 -- a neutral is looked past
 pub past_neutral : (d c : BidiClass) (cs : List BidiClass) → is_neutral c ≡ true → nearest_direction d (c ∷ cs) ≡ nearest_direction d cs
-past_neutral d B cs e = refl
-past_neutral d S cs e = refl
-past_neutral d WS cs e = refl
-past_neutral d ON cs e = refl
-past_neutral d LRI cs e = refl
-past_neutral d RLI cs e = refl
-past_neutral d FSI cs e = refl
-past_neutral d PDI cs e = refl
-past_neutral d _ cs e = absurd (cc e)
+past_neutral d c cs e = grind arith
 
 -- a class with a direction needs no other
 directed : (c x y : BidiClass) → has_direction c ≡ true → unwrap_or (as_direction c) x ≡ unwrap_or (as_direction c) y
-directed L x y h = refl
-directed R x y h = refl
-directed EN x y h = refl
-directed AN x y h = refl
-directed _ x y h = absurd (cc h)
+directed c x y h = grind arith
 
 -- what neutrals between two directions take
 abbrev pub common : BidiClass → BidiClass → BidiClass → BidiClass
@@ -41,10 +29,10 @@ common e left right = cond (same_class left right) left e
 module _ (e sos eos : BidiClass) where
   n1_rule-neutral : (before : List BidiClass) (c : BidiClass) (after : List BidiClass) → is_neutral c ≡ true
       → n1_rule e sos eos before c after ≡ common e (nearest_direction sos before) (nearest_direction eos after)
-  n1_rule-neutral before c after h = cond-true (is_neutral c) (common e (nearest_direction sos before) (nearest_direction eos after)) c h
+  n1_rule-neutral before c after h = grind arith
 
   n1_rule-other : (before : List BidiClass) (c : BidiClass) (after : List BidiClass) → is_neutral c ≡ false → c ≡ n1_rule e sos eos before c after
-  n1_rule-other before c after h = sym (cond-false (is_neutral c) (common e (nearest_direction sos before) (nearest_direction eos after)) c h)
+  n1_rule-other before c after h = grind arith
 
   -- the classes before `start` are done, and `left` is the direction before the next block of neutrals
   pub record IsAtNeutrals (old now : List BidiClass) (left : BidiClass) (start : ℕ) : Type 0 where
@@ -69,9 +57,7 @@ module _ (e sos eos : BidiClass) where
         ∙ directed (get_or old (start + n) L) eos d (is_directed more)
 
     right_past : length old ≤ start + n → right ≡ eos
-    right_past past =
-        let long : length now ≡ length old = h.rewritten.long in
-        next ∙ ap (λ (x : BidiClass). unwrap_or (as_direction x) eos) (get_or_past now (start + n) ON (omega arith))
+    right_past past = grind (arith, get_or_past)
 
     right_near : nearest_direction eos (drop (start + n) old) ≡ right
     right_near = elim (cases_lt (start + n) (length old)) [

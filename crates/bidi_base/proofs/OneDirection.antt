@@ -1,15 +1,14 @@
 -- A list in which each class is a neutral or one direction, which stands at its ends too: N0 to N2 give that direction to all.
-use Rattle.std.proofs.Common.{◌≡◌, ℕ, ◌+◌, ◌-◌, Bool, true, false, cond, List, [], ◌∷◌, length, take, drop, reverse, filter_map, find, Option, Some, option_map, refl, sym, ap, ◌∙◌, arith, inl, inr}
-use Rattle.std.specs.Prelude.{slice_range}
+use Rattle.std.proofs.Common.{◌≡◌, ℕ, Bool, true, cond, List, [], ◌∷◌, length, take, reverse, filter_map, find, Option, Some, option_map, refl, sym, ap, ◌∙◌, arith}
 use Rattle.std.specs.List.{list_all, list_any, cons_option}
-use Rattle.std.proofs.lemmas.Bool.{cases_Bool, both_ways, and_parts, or_left, cond-true, cond-false}
+use Rattle.std.proofs.lemmas.Bool.{and_parts}
 use Rattle.bidi_base.specs.declared.char_data.BidiClass.{BidiClass}
-use Rattle.bidi_base.specs.declared.char_data.BidiClass.TheVariants.{L, R, EN, AN}
+use Rattle.bidi_base.specs.declared.char_data.BidiClass.TheVariants.{L, R}
 use Rattle.bidi_base.specs.declared.data_source.BidiMatchedOpeningBracket.{BidiMatchedOpeningBracket}
 use Rattle.bidi_base.specs.Brackets.{bracket_pairs}
 use Rattle.bidi_base.specs.Classes.{as_direction, is_l_or_r, is_neutral, same_class}
 use Rattle.bidi_base.specs.Levels.{direction_of}
-use Rattle.bidi_base.specs.Neutral.{nearest_direction, directions_between, pair_direction, n0, n1_rule, n1_n2, neutral_classes}
+use Rattle.bidi_base.specs.Neutral.{nearest_direction, pair_direction, n0, n1_rule, n1_n2, neutral_classes}
 use Rattle.bidi_base.specs.Places.{first_or}
 use Rattle.bidi_base.proofs.ContextLemmas.{list_all-in_context}
 use Rattle.bidi_base.proofs.Lists.{list_all-take, list_all-drop}
@@ -22,54 +21,19 @@ goes_with R R = true
 goes_with _ c = is_neutral c
 
 is_it : (e c : BidiClass) → is_l_or_r e ≡ true → same_class e c ≡ true → c ≡ e
-is_it L L s h = refl
-is_it L _ s h = absurd (cc h)
-is_it R R s h = refl
-is_it R _ s h = absurd (cc h)
-is_it _ c s h = absurd (cc s)
+is_it e c s h = grind arith
 
 pub itself : (e : BidiClass) → is_l_or_r e ≡ true → same_class e e ≡ true
-itself L s = refl
-itself R s = refl
-itself _ s = absurd (cc s)
+itself e s = grind arith
 
 with_itself : (e : BidiClass) → is_l_or_r e ≡ true → goes_with e e ≡ true
-with_itself L s = refl
-with_itself R s = refl
-with_itself _ s = absurd (cc s)
+with_itself e s = grind arith
 
 nearest_one : (e c : BidiClass) (ds : List BidiClass) → is_l_or_r e ≡ true → goes_with e c ≡ true → first_or e ds ≡ e → first_or e (cons_option (as_direction c) ds) ≡ e
-nearest_one L L ds s h k = refl
-nearest_one L R ds s h k = absurd (cc h)
-nearest_one L EN ds s h k = absurd (cc h)
-nearest_one L AN ds s h k = absurd (cc h)
-nearest_one L _ ds s h k = k
-nearest_one R L ds s h k = absurd (cc h)
-nearest_one R R ds s h k = refl
-nearest_one R EN ds s h k = absurd (cc h)
-nearest_one R AN ds s h k = absurd (cc h)
-nearest_one R _ ds s h k = k
-nearest_one _ c ds s h k = absurd (cc s)
+nearest_one e c ds s h k = grind arith
 
 one_more : (e c : BidiClass) (ds : List BidiClass) → is_l_or_r e ≡ true → goes_with e c ≡ true → list_all (same_class e) ds ≡ true → list_all (same_class e) (cons_option (as_direction c) ds) ≡ true
-one_more L L ds s h k = k
-one_more L R ds s h k = absurd (cc h)
-one_more L EN ds s h k = absurd (cc h)
-one_more L AN ds s h k = absurd (cc h)
-one_more L _ ds s h k = k
-one_more R L ds s h k = absurd (cc h)
-one_more R R ds s h k = k
-one_more R EN ds s h k = absurd (cc h)
-one_more R AN ds s h k = absurd (cc h)
-one_more R _ ds s h k = k
-one_more _ c ds s h k = absurd (cc s)
-
-left_over : (e c : BidiClass) → is_l_or_r e ≡ true → goes_with e c ≡ true → is_neutral c ≡ false → same_class e c ≡ true
-left_over L L s h k = refl
-left_over L _ s h k = absurd (both_ways _ k h)
-left_over R R s h k = refl
-left_over R _ s h k = absurd (both_ways _ k h)
-left_over _ c s h k = absurd (cc s)
+one_more e c ds s h k = grind arith
 
 module _ (e : BidiClass) (side : is_l_or_r e ≡ true) where
   nearest-is : (cs : List BidiClass) → list_all (goes_with e) cs ≡ true → nearest_direction e cs ≡ e
@@ -87,35 +51,18 @@ module _ (e : BidiClass) (side : is_l_or_r e ≡ true) where
   -- a pair takes this direction or nothing
   pair_direction-is : (classes : List BidiClass) (pair : ℕ × ℕ) (d : BidiClass) → list_all (goes_with e) classes ≡ true → pair_direction e e classes pair ≡ Some d → d ≡ e
   unfolding pair_direction
-  pair_direction-is classes pair d h is =
-      by_inside (directions_between classes pair)
-      (directions-are (slice_range classes (pair.0 + 1) pair.1) (list_all-take (goes_with e) (pair.1 - (pair.0 + 1)) (drop (pair.0 + 1) classes) (list_all-drop (goes_with e) (pair.0 + 1) classes h))) is
+  pair_direction-is classes pair d h is = grind (arith, by_inside, directions-are, list_all-take, list_all-drop)
     where
       context : BidiClass
       context = nearest_direction e (reverse (take pair.0 classes))
 
       by_inside : (ds : List BidiClass) → list_all (same_class e) ds ≡ true → cond (list_any (same_class e) ds) (Some e) (option_map (λ (_ : BidiClass). context) (find (λ _. true) ds)) ≡ Some d → d ≡ e
       by_inside [] k f = absurd (cc f)
-      by_inside (x ∷ ds) k f =
-          let some : list_any (same_class e) (x ∷ ds) ≡ true = or_left (same_class e x) (list_any (same_class e) ds) (and_parts (same_class e x) (list_all (same_class e) ds) k).0 in
-          let both : Some e ≡ Some d = sym (cond-true (list_any (same_class e) (x ∷ ds)) (Some e) (option_map (λ (_ : BidiClass). context) (find (λ _. true) (x ∷ ds))) some) ∙ f in
-          cc both
+      by_inside (x ∷ ds) k f = grind arith
 
   -- what a neutral takes
   n1_rule-is : (before : List BidiClass) (c : BidiClass) (after : List BidiClass) → list_all (goes_with e) before ≡ true → goes_with e c ≡ true → same_class e (n1_rule e e e before c after) ≡ true
-  n1_rule-is before c after h k =
-      let left = nearest_direction e before in
-      let right = nearest_direction e after in
-      let common : BidiClass = cond (same_class left right) left e in
-      let common_is : common ≡ e = ap (λ d. cond (same_class d right) d e) (nearest-is before h) ∙ either (same_class e right) in
-      elim (cases_Bool (is_neutral c)) [
-        | inl neutral ↦ ap (same_class e) (cond-true (is_neutral c) common c neutral ∙ common_is) ∙ itself e side
-        | inr other ↦ ap (same_class e) (cond-false (is_neutral c) common c other) ∙ left_over e c side k other
-      ]
-    where
-      either : (b : Bool) → cond b e e ≡ e
-      either true = refl
-      either false = refl
+  n1_rule-is before c after h k = grind (arith, nearest-is)
 
   pub neutral_classes-one : (level : ℕ) (source : List BidiClass) (brackets : List (Option BidiMatchedOpeningBracket)) (classes : List BidiClass) → e ≡ direction_of level → list_all (goes_with e) classes ≡ true
       → list_all (same_class e) (neutral_classes level e e source brackets classes) ≡ true

@@ -27,10 +27,7 @@ module _ (opens closes : ℕ → Bool) (apart : (k : ℕ) → opens k ≡ true �
 
   -- and no other opening matches it
   pub IsReadStack-matched : (n m q : ℕ) (stack : List ℕ) → IsReadStack opens closes m stack → opens q ≡ true → match_of opens closes n q ≡ Some m → (rest : List ℕ) × (stack ≡ q ∷ rest)
-  IsReadStack-matched n m q stack h opening e = elim (h.others q (omega (arith, least.from)) opening) [
-    | inl member ↦ on_top stack h.are_open member
-    | inr closed ↦ absurd (both_ways (is_closed_at opens closes q closed.0) (least.first closed.0 (omega (arith, closed.1)) closed.2) closed.3)
-  ]
+  IsReadStack-matched n m q stack h opening e = grind (arith, least, on_top)
     where
       least : IsLeast (is_closed_at opens closes q) (q + 1) n m
       least = match_of-IsLeast opens closes n q m e

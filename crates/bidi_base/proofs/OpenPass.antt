@@ -11,16 +11,13 @@ use Rattle.bidi_base.specs.SequencePass.{read_class, waiting_for}
 use Rattle.bidi_base.proofs.Lists.{reverse_front, last_or-reverse, reverse_none}
 use Rattle.bidi_base.proofs.PassLemmas.{sequence_of}
 use Rattle.bidi_base.proofs.RunsLemmas.{BeginsRun}
-use Rattle.bidi_base.proofs.WaitingLemmas.{IsWaiting, IsPass, IsPass-start, IsPass-end, IsPass-stay, IsPass-initiator, IsPass-pdi, successor-waiting, is_first-no_pdi, is_first-none_open, is_first-not_waiting}
+use Rattle.bidi_base.proofs.WaitingLemmas.{IsWaiting, IsPass, IsPass-end, IsPass-stay, IsPass-initiator, IsPass-pdi, successor-waiting, is_first-no_pdi, is_first-none_open, is_first-not_waiting}
 
 module _ (classes : List BidiClass) (levels : List ℕ) where
   -- the runs up to a came, and what is open was read up to m
   pub record IsAt (a m : ℕ) (out : List (List ℕ)) (waits : List (Option ℕ)) : Type 0 where
     pub stack : List ℕ
     pub pass : IsPass classes levels a m out stack (reverse waits)
-
-  pub IsAt-start : IsAt 0 0 [] []
-  IsAt-start = record { stack = []; pass = IsPass-start classes levels }
 
   pub IsAt-end : (paragraph m : ℕ) (out : List (List ℕ)) (waits : List (Option ℕ)) → IsAt (length classes) m out waits → map (sequence_of classes levels paragraph) out ≡ sequences paragraph
       classes levels

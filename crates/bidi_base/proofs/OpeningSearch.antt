@@ -1,5 +1,5 @@
 -- The search for the opening of a closing, over entries that a stack keeps of the openings that wait.
-use Rattle.std.proofs.Common.{◌≡◌, ℕ, ◌-◌, ◌<◌, Bool, true, eqb, List, map, length, get_or, reverse, find, Option, Some, None, option_map, refl, sym, ap, ◌∙◌, arith}
+use Rattle.std.proofs.Common.{◌≡◌, ℕ, ◌-◌, ◌<◌, Bool, true, eqb, List, map, length, get_or, reverse, find, Option, Some, option_map, sym, ap, ◌∙◌, arith}
 use Rattle.std.proofs.lemmas.List.{length-reverse, get_or-reverse}
 use Rattle.bidi_base.specs.declared.data_source.BidiMatchedOpeningBracket.{BidiMatchedOpeningBracket}
 use Rattle.bidi_base.specs.Places.{find_last}
@@ -16,8 +16,7 @@ find_last-same p q xs same = find-same p q (reverse xs) 0 (λ k below.
     ap p at ∙ same (length xs - 1 - k) (omega arith) ∙ ap q (sym at))
 
 same_opening : (o : Option BidiMatchedOpeningBracket) (b : BidiMatchedOpeningBracket) → is_opening o ≡ true → eqb (opening_of o) b.opening ≡ is_same_bracket o (Some b)
-same_opening None b h = absurd (cc h)
-same_opening (Some a) b h = refl
+same_opening o b h = grind arith
 
 -- the search over the entries is one over the openings
 pub find_last-entries : {X : Type 0} (brackets : List (Option BidiMatchedOpeningBracket)) (entry : ℕ → X) (q : X → Bool) (j : ℕ) (places : List ℕ) (b : BidiMatchedOpeningBracket) → IsUnderWay brackets j places

@@ -1,7 +1,7 @@
 -- What N0 for one pair leaves: all before its opening, and all within a later pair whose opening is no mark.
-use Rattle.std.proofs.Common.{◌≡◌, ℕ, ◌+◌, ◌-◌, ◌<◌, ◌≤◌, false, cond, ltb, List, length, get_or, drop, slice_range, refl, ap, ◌∙◌, arith, inl, inr, length-take, length-drop, get_or-take, get_or-drop}
+use Rattle.std.proofs.Common.{◌≡◌, ℕ, ◌+◌, ◌-◌, ◌<◌, ◌≤◌, false, ltb, List, length, get_or, drop, slice_range, ap, ◌∙◌, arith, length-take, length-drop, get_or-take, get_or-drop}
 use Rattle.std.specs.List.{list_all}
-use Rattle.std.proofs.lemmas.Bool.{and_left, and_right, le-ltb, ne_eqb, cond-false}
+use Rattle.std.proofs.lemmas.Bool.{and_right}
 use Rattle.std.proofs.lemmas.List.Folds.{list_all_at}
 use Rattle.std.proofs.lemmas.List.FromFn.{length-map-range_with_len, get_or-map-range_with_len}
 use Rattle.bidi_base.specs.declared.char_data.BidiClass.{BidiClass}
@@ -9,12 +9,11 @@ use Rattle.bidi_base.specs.declared.char_data.BidiClass.TheVariants.{L}
 use Rattle.bidi_base.specs.Classes.{is_nsm}
 use Rattle.bidi_base.specs.Places.{class_at}
 use Rattle.bidi_base.specs.Brackets.{IsBehindOrWithin}
-use Rattle.bidi_base.specs.Neutral.{pair_direction, is_mark_after, goes_with_pair, with_pair, n0_pair}
-use Rattle.bidi_base.proofs.Lists.{cases_Option}
+use Rattle.bidi_base.specs.Neutral.{is_mark_after, goes_with_pair, with_pair, n0_pair}
 
 pub is_mark_after-before : (source : List BidiClass) (b k : ℕ) → k ≤ b → is_mark_after source b k ≡ false
 unfolding is_mark_after
-is_mark_after-before source b k before = and_left (ltb b k) (list_all is_nsm (slice_range source (b + 1) (k + 1))) (le-ltb b k before)
+is_mark_after-before source b k before = grind arith
 
 -- the marks end where a character is none
 pub is_mark_after-stopped : (source : List BidiClass) (b m k : ℕ) → b < m → m ≤ k → m < length source → is_nsm (class_at source m) ≡ false → is_mark_after source b k ≡ false
@@ -22,40 +21,24 @@ unfolding is_mark_after
 is_mark_after-stopped source b m k after to fits none =
     let marks = slice_range source (b + 1) (k + 1) in
     let there : b + 1 + (m - (b + 1)) ≡ m = omega arith in
-    let same : get_or marks (m - (b + 1)) L ≡ class_at source m =
-    get_or-take (k + 1 - (b + 1)) (drop (b + 1) source) (m - (b + 1)) L (omega arith) ∙ get_or-drop (b + 1) source (m - (b + 1)) L ∙ ap (class_at source) there
+    let same : get_or marks (m - (b + 1)) L ≡ class_at source m = grind (arith, get_or-take, get_or-drop)
     in
     let inside : m - (b + 1) < length marks = omega (arith, length-take (k + 1 - (b + 1)) (drop (b + 1) source), length-drop (b + 1) source) in
     and_right (ltb b k) (list_all is_nsm marks) (list_all_at is_nsm marks (m - (b + 1)) L inside (ap is_nsm same ∙ none))
 
 goes_with_none : (source : List BidiClass) (pair : ℕ × ℕ) (k : ℕ) → (k ≡ pair.0 → ⊥) → (k ≡ pair.1 → ⊥) → is_mark_after source pair.0 k ≡ false → is_mark_after source pair.1 k ≡ false → goes_with_pair source pair k ≡ false
 unfolding goes_with_pair
-goes_with_none source pair k no_opening no_closing first last = rw (ne_eqb k pair.0 no_opening, ne_eqb k pair.1 no_closing, first, last) refl
+goes_with_none source pair k no_opening no_closing first last = grind arith
 
 -- nor does anything within a later pair, if that does not open among the marks of this one
 pub goes_with_pair-within : (source : List BidiClass) (q p : ℕ × ℕ) (k : ℕ) → q.0 < q.1 → IsBehindOrWithin q p → p.0 < length source → is_nsm (class_at source p.0) ≡ false → p.0 < k → k < p.1 → goes_with_pair source q k ≡ false
-goes_with_pair-within source q p k order (inl behind) fits none from to =
-    goes_with_none source q k (λ e. omega arith) (λ e. omega arith) (is_mark_after-stopped source q.0 p.0 k (omega arith) (omega arith) fits none)
-    (is_mark_after-stopped source q.1 p.0 k behind (omega arith) fits none)
-goes_with_pair-within source q p k order (inr within) fits none from to =
-    let opens = within.0 in
-    let closes = within.1 in
-    goes_with_none source q k (λ e. omega arith) (λ e. omega arith) (is_mark_after-stopped source q.0 p.0 k opens (omega arith) fits none) (is_mark_after-before source q.1 k (omega arith))
+goes_with_pair-within source q p k order h0 fits none from to = grind (arith, goes_with_none, is_mark_after-stopped, is_mark_after-before)
 
 pub length-n0_pair : (e sos : BidiClass) (source classes : List BidiClass) (pair : ℕ × ℕ) → length (n0_pair e sos source classes pair) ≡ length classes
 unfolding n0_pair with_pair
-length-n0_pair e sos source classes pair = elim (cases_Option (pair_direction e sos classes pair)) [
-  | inl none ↦ rw none refl
-  | inr d ↦ rw d.1 (length-map-range_with_len (λ k. cond (goes_with_pair source pair k) d.0 (class_at classes k)) 0 (length classes))
-]
+length-n0_pair e sos source classes pair = grind (arith, length-map-range_with_len)
 
 -- what does not go with the pair stays
 pub n0_pair-elsewhere : (e sos : BidiClass) (source classes : List BidiClass) (pair : ℕ × ℕ) (k : ℕ) → k < length classes → goes_with_pair source pair k ≡ false → class_at (n0_pair e sos source classes pair) k ≡ class_at classes k
 unfolding n0_pair with_pair
-n0_pair-elsewhere e sos source classes pair k fits other = elim (cases_Option (pair_direction e sos classes pair)) [
-  | inl none ↦ rw none refl
-  | inr d ↦
-      rw d.1
-      (get_or-map-range_with_len (λ j. cond (goes_with_pair source pair j) d.0 (class_at classes j)) 0 (length classes) k k L fits (omega arith)
-      ∙ cond-false (goes_with_pair source pair k) d.0 (class_at classes k) other)
-]
+n0_pair-elsewhere e sos source classes pair k fits other = grind (arith, get_or-map-range_with_len)

@@ -1,10 +1,11 @@
 -- Bracket pairs in one pass from the front: what is closed and what waits at each place, and what the pass has found at its end.
 use Rattle.std.proofs.Common.{◌≡◌, ℕ, zero, suc, ◌+◌, ◌-◌, ◌<◌, ◌≤◌, Bool, true, false, not, ◌&&◌, ◌||◌, eqb, ltb, leb, List, [], ◌∷◌, ◌++◌, length, get_or, take, reverse, filter, filter_map, find, fold, Option, Some, None, unwrap_or, refl, sym, ap, subst, ◌∙◌, ◌⊎◌, arith, inl, inr, append-nil, append_assoc, add-one, ne_eqb, lt-ltb, le-ltb}
+use Rattle.std.proofs.lemmas.Grind.{common_steps}
 use Rattle.std.specs.Prelude.{⊤}
 use Rattle.std.specs.List.{range_with_len, AllByRecursion}
 use Rattle.std.specs.Option.{option_or}
-use Rattle.std.proofs.lemmas.Bool.{cases_Bool, cases_lt, cases_eq, and_right, lt-leb, both_ways, and_parts, and_from, and_left, or_parts, not-true, le-leb}
-use Rattle.std.proofs.lemmas.List.Elements.{All-from_recursion, filter_agree}
+use Rattle.std.proofs.lemmas.Bool.{cases_Bool, cases_eq, both_ways, and_parts, or_parts, not-true, le-leb}
+use Rattle.std.proofs.lemmas.List.Elements.{All-from_recursion}
 use Rattle.std.proofs.lemmas.List.Folds.{find-append, list_any-append}
 use Rattle.std.proofs.lemmas.List.Sums.{fold_push}
 use Rattle.bidi_base.specs.declared.char_data.BidiClass.{BidiClass}
@@ -62,7 +63,7 @@ module _ (brackets : List (Option BidiMatchedOpeningBracket)) where
   -- one step of the pairs
   pub with_closing-none : (pairs : List (ℕ × ℕ)) (j : ℕ) → partner brackets pairs j ≡ None → with_closing brackets pairs j ≡ pairs
   unfolding with_closing
-  with_closing-none pairs j none = elim (cases_Bool (is_closing (bracket_at brackets j))) [ inl closing ↦ rw (closing, none, append-nil pairs) refl | inr other ↦ rw other refl ]
+  with_closing-none pairs j none = grind (arith, append-nil)
 
   pub with_closing-other : (pairs : List (ℕ × ℕ)) (j : ℕ) → is_closing (bracket_at brackets j) ≡ false → with_closing brackets pairs j ≡ pairs
   unfolding with_closing
@@ -81,9 +82,7 @@ module _ (brackets : List (Option BidiMatchedOpeningBracket)) where
 
   partner-below : (pairs : List (ℕ × ℕ)) (j i : ℕ) → partner brackets pairs j ≡ Some i → i < j
   unfolding partner
-  partner-below pairs j i found =
-      let g = find_last-range_with_len (λ k. is_available brackets pairs j k && is_same_bracket (bracket_at brackets k) (bracket_at brackets j)) 0 (j - 0) i found in
-      omega (arith, g.below)
+  partner-below pairs j i found = grind (arith, find_last-range_with_len)
 
   -- at j nothing is closed, or one pair that ends there
   closed_before-next : (j : ℕ) → (closed_before brackets (j + 1) ≡ closed_before brackets j) ⊎ ((i : ℕ) × (i < j) × (closed_before brackets (j + 1) ≡ closed_before brackets j ++ (i, j) ∷ []))
@@ -134,9 +133,7 @@ module _ (brackets : List (Option BidiMatchedOpeningBracket)) where
 
   available-later : (pairs later : List (ℕ × ℕ)) (k : ℕ) → AreClosedFrom k later → available brackets (pairs ++ later) k ≡ available brackets pairs k
   unfolding available
-  available-later pairs later k h =
-      filter_agree (is_available brackets (pairs ++ later) k) (is_available brackets pairs k)
-      (λ i. ap (λ b. is_opening (bracket_at brackets i) && not b) (is_taken-later pairs later k i h)) (between 0 k)
+  available-later pairs later k h = grind (arith, is_taken-later)
 
   available-at : (k n : ℕ) → available brackets (closed_before brackets (k + n)) k ≡ available brackets (closed_before brackets k) k
   available-at k n =
@@ -207,59 +204,35 @@ module _ (brackets : List (Option BidiMatchedOpeningBracket)) where
   unfolding available
   IsUnderWay-start = record { waits = refl; room = λ k below. absurd (omega arith) }
 
-  opening_or_closing : (o : Option BidiMatchedOpeningBracket) → is_opening o ≡ true → is_closing o ≡ false
-  opening_or_closing None h = absurd (cc h)
-  opening_or_closing (Some b) h = ap not h
-
   closing_or_opening : (o : Option BidiMatchedOpeningBracket) → is_closing o ≡ true → is_opening o ≡ false
-  closing_or_opening None h = refl
-  closing_or_opening (Some b) h = not-true b.is_open h
+  closing_or_opening o h = grind arith
 
   room_more : (j : ℕ) (waiting : List ℕ) → IsUnderWay brackets j waiting → (is_opening (bracket_at brackets j) ≡ true → length waiting < max_open_brackets)
       → (k : ℕ) → k < j + 1 → is_opening (bracket_at brackets k) ≡ true → length (available brackets (closed_before brackets k) k) < max_open_brackets
-  room_more j waiting h last k below opening = elim (cases_lt k j) [
-    | inl before ↦ h.room k before opening
-    | inr late ↦
-        let here : k ≡ j = omega arith in
-        rw (here, ← h.waits) (last (rw here at opening))
-  ]
+  room_more j waiting h last k below opening = grind arith
 
   same_after : (j : ℕ) (waiting : List ℕ) → IsUnderWay brackets j waiting → is_opening (bracket_at brackets j) ≡ false → closed_before brackets (j + 1) ≡ closed_before brackets j → IsUnderWay brackets (j + 1) waiting
-  same_after j waiting h other same = record {
-    waits = h.waits ∙ sym (available-other brackets (closed_before brackets j) j (closed_before-closed j) other) ∙ ap (λ (ps : List (ℕ × ℕ)). available brackets ps (j + 1)) (sym same);
-    room = room_more j waiting h (λ opening. absurd (both_ways (is_opening (bracket_at brackets j)) other opening));
-  }
+  same_after j waiting h other same = grind (arith, available-other, closed_before-closed)
 
   -- no opening and no closing
   pub IsUnderWay-other : (j : ℕ) (waiting : List ℕ) → IsUnderWay brackets j waiting → is_opening (bracket_at brackets j) ≡ false → is_closing (bracket_at brackets j) ≡ false
       → IsUnderWay brackets (j + 1) waiting × (closed_before brackets (j + 1) ≡ closed_before brackets j)
-  IsUnderWay-other j waiting h no_opening no_closing =
-      let same = closed_before-more j ∙ with_closing-other (closed_before brackets j) j no_closing in (same_after j waiting h no_opening same, same)
+  IsUnderWay-other j waiting h no_opening no_closing = grind (arith, closed_before-more, with_closing-other, same_after)
 
   -- an opening goes on top
   pub IsUnderWay-opening : (j : ℕ) (waiting : List ℕ) → IsUnderWay brackets j waiting → is_opening (bracket_at brackets j) ≡ true → length waiting < max_open_brackets
       → IsUnderWay brackets (j + 1) (waiting ++ j ∷ []) × (closed_before brackets (j + 1) ≡ closed_before brackets j)
-  IsUnderWay-opening j waiting h opening few =
-      let same = closed_before-more j ∙ with_closing-other (closed_before brackets j) j (opening_or_closing (bracket_at brackets j) opening) in (
-        record {
-          waits = ap (λ (ws : List ℕ). ws ++ j ∷ []) h.waits ∙ sym (available-opening brackets (closed_before brackets j) j (closed_before-closed j) opening) ∙ ap (λ (ps : List (ℕ × ℕ)). available brackets ps (j + 1)) (sym same);
-          room = room_more j waiting h (λ _. few);
-        },
-        same,
-      )
+  IsUnderWay-opening j waiting h opening few = grind (arith, closed_before-more, with_closing-other, available-opening, closed_before-closed)
 
   partner-waiting : (j : ℕ) (waiting : List ℕ) → IsUnderWay brackets j waiting
       → partner brackets (closed_before brackets j) j ≡ find_last (λ i. is_same_bracket (bracket_at brackets i) (bracket_at brackets j)) waiting
-  partner-waiting j waiting h =
-      partner-available (closed_before brackets j) j ∙ ap (find_last (λ i. is_same_bracket (bracket_at brackets i) (bracket_at brackets j))) (sym h.waits)
+  partner-waiting j waiting h = grind (arith, partner-available)
 
   -- a closing without an opening changes nothing
   pub IsUnderWay-unmatched : (j : ℕ) (waiting : List ℕ) → IsUnderWay brackets j waiting → is_closing (bracket_at brackets j) ≡ true
       → find_last (λ i. is_same_bracket (bracket_at brackets i) (bracket_at brackets j)) waiting ≡ None
       → IsUnderWay brackets (j + 1) waiting × (closed_before brackets (j + 1) ≡ closed_before brackets j)
-  IsUnderWay-unmatched j waiting h closing none =
-      let same = closed_before-more j ∙ with_closing-none (closed_before brackets j) j (partner-waiting j waiting h ∙ none) in
-      (same_after j waiting h (closing_or_opening (bracket_at brackets j) closing) same, same)
+  IsUnderWay-unmatched j waiting h closing none = grind (arith, closed_before-more, with_closing-none, partner-waiting, same_after)
 
   -- a closing pairs with the entry at k, and takes away all from there on
   pub IsUnderWay-pair : (j : ℕ) (waiting : List ℕ) (k : ℕ) → IsUnderWay brackets j waiting → is_closing (bracket_at brackets j) ≡ true → k < length waiting
@@ -297,21 +270,13 @@ module _ (brackets : List (Option BidiMatchedOpeningBracket)) where
       ap (λ (m : ℕ). available brackets (closed_before brackets m) k) (sym place) ∙ available-at k (n - k)
 
   has_room : (j n k : ℕ) (waiting : List ℕ) → IsUnderWay brackets j waiting → j ≤ n → k < j → overflows (closed_before brackets n) k ≡ false
-  has_room j n k waiting h inside below = elim (cases_Bool (is_opening (bracket_at brackets k))) [
-    | inl opening ↦ and_right _ _ (lt-leb max_open_brackets (length (available brackets (closed_before brackets n) k)) (rw (stack_at k n (omega arith)) (h.room k below opening)))
-    | inr other ↦ and_left _ _ other
-  ]
+  has_room j n k waiting h inside below = grind (arith, stack_at)
 
   has_none : (j n : ℕ) (waiting : List ℕ) → IsUnderWay brackets j waiting → j ≤ n → is_opening (bracket_at brackets j) ≡ true → max_open_brackets ≤ length waiting → overflows (closed_before brackets n) j ≡ true
-  has_none j n waiting h inside opening full = and_from _ _ opening (le-leb max_open_brackets (length (available brackets (closed_before brackets n) j)) (rw (stack_at j n inside, ← h.waits) full))
+  has_none j n waiting h inside opening full = grind (arith, stack_at)
 
   opening-within : (j : ℕ) → is_opening (bracket_at brackets j) ≡ true → j < length brackets
-  opening-within j opening = within brackets j opening
-    where
-      within : (bs : List (Option BidiMatchedOpeningBracket)) (k : ℕ) → is_opening (bracket_at bs k) ≡ true → k < length bs
-      within [] k e = absurd (cc e)
-      within (b ∷ bs) zero e = omega arith
-      within (b ∷ bs) (suc k) e = omega (arith, within bs k e)
+  opening-within j opening = grind (arith, common_steps)
 
   -- the limit is where the pass ends
   limit_is : (j : ℕ) (waiting : List ℕ) → IsUnderWay brackets j waiting → j ≤ length brackets → HasEnded j waiting → bracket_limit brackets (closed_pairs brackets) ≡ j
@@ -388,5 +353,4 @@ length-counted_brackets (c ∷ classes) (b ∷ brackets) h = ap suc (length-coun
 pub bracket_pairs-in_order : (classes : List BidiClass) (brackets : List (Option BidiMatchedOpeningBracket)) → length brackets ≡ length classes
     → ArePairsWithin (length classes) (bracket_pairs classes brackets)
 unfolding bracket_pairs
-bracket_pairs-in_order classes brackets h =
-    subst (λ (n : ℕ). ArePairsWithin n (pairs_of (counted_brackets classes brackets))) (length-counted_brackets classes brackets h) (pairs_of-in_order (counted_brackets classes brackets))
+bracket_pairs-in_order classes brackets h = grind (arith, length-counted_brackets, pairs_of-in_order)

@@ -60,23 +60,18 @@ module _ (ends : SplitTest) where
   -- one more character of the same piece
   pub IsCut-more : (chars : List ℕ) (done : List (List ℕ)) (current : List ℕ) (c : ℕ) (rest : List ℕ) → ends c rest ≡ false → IsCut chars done current (c ∷ rest) → IsCut chars done (current ++ c ∷ []) rest
   IsCut-more chars done current c rest on h = record {
-    cut = h.cut ∙ ap (λ (cs : List ℕ). done ++ cut_after ends cs) (sym (append_assoc current (c ∷ []) rest));
+    cut = grind (arith, append_assoc);
     goes_on = GoesOn-push current c rest h.goes_on on;
   }
 
   -- one that ends it
   pub IsCut-stop : (chars : List ℕ) (done : List (List ℕ)) (current : List ℕ) (c : ℕ) (rest : List ℕ) → ends c rest ≡ true → IsCut chars done current (c ∷ rest) → IsCut chars (done ++ (current ++ c ∷ []) ∷ []) [] rest
-  IsCut-stop chars done current c rest stop h = record {
-    cut = h.cut ∙ ap (λ (ps : List (List ℕ)). done ++ ps) (cut_after-stop current c rest h.goes_on stop)
-        ∙ sym (append_assoc done ((current ++ c ∷ []) ∷ []) (cut_after ends rest));
-    goes_on = tt;
-  }
+  IsCut-stop chars done current c rest stop h = grind (arith, cut_after-stop, append_assoc)
 
   -- at the end the last piece is the one that has not ended, if it is not empty
   pub IsCut-last : (chars : List ℕ) (done : List (List ℕ)) (current : List ℕ) → 0 < length current → IsCut chars done current [] → cut_after ends chars ≡ done ++ current ∷ []
   IsCut-last chars done [] some h = absurd (omega arith)
-  IsCut-last chars done (x ∷ cs) some h =
-      h.cut ∙ ap (λ (ds : List ℕ). done ++ cut_after ends ds) (append-nil (x ∷ cs)) ∙ ap (λ (ps : List (List ℕ)). done ++ ps) (cut_after-end x cs h.goes_on)
+  IsCut-last chars done (x ∷ cs) some h = grind (arith, append-nil, cut_after-end)
 
   pub IsCut-none : (chars : List ℕ) (done : List (List ℕ)) → IsCut chars done [] [] → cut_after ends chars ≡ done
   IsCut-none chars done h = h.cut ∙ append-nil done
@@ -102,7 +97,7 @@ module _ (ends : SplitTest) where
   ]
     where
       onto : (ps : List (List ℕ)) → All (λ (p : List ℕ). 0 < length p) ps → All (λ (p : List ℕ). 0 < length p) (onto_first c ps)
-      onto [] h = All-cons (λ (p : List ℕ). 0 < length p) (c ∷ []) [] (omega arith) (All-nil (λ (p : List ℕ). 0 < length p))
+      onto [] h = grind arith
       onto (p ∷ ps) h = All-cons (λ (p : List ℕ). 0 < length p) (c ∷ p) ps (omega arith) (All-tail (λ (p : List ℕ). 0 < length p) p ps h)
 
 -- ---- where separators stand
@@ -157,7 +152,7 @@ module _ (source : Source) where
 
 module _ (len_of : ℕ → ℕ) where
   pub ranges_from-push : (from : ℕ) (ps : List (List ℕ)) (p : List ℕ) → ranges_from len_of from (ps ++ p ∷ []) ≡ ranges_from len_of from ps ++ (from + text_len len_of (joined ps), from + text_len len_of (joined ps) + text_len len_of p) ∷ []
-  ranges_from-push from [] p = let none : from + 0 ≡ from = omega arith in ap (λ (n : ℕ). (n, n + text_len len_of p) ∷ []) (sym none)
+  ranges_from-push from [] p = grind arith
   ranges_from-push from (q ∷ ps) p =
       let sum : from + text_len len_of q + text_len len_of (joined ps) ≡ from + text_len len_of (q ++ joined ps) = omega (arith, sum_by-append len_of q (joined ps)) in
       ap (λ (rs : List (ℕ × ℕ)). (from, from + text_len len_of q) ∷ rs)
@@ -180,9 +175,7 @@ module _ (len_of : ℕ → ℕ) where
       first_range front p rest h = subst P (sym (subrange-middle len_of units front p rest)) h
 
       shifted : (front p : List ℕ) (ps : List (List ℕ)) (Q : List ℕ → List (ℕ × ℕ) → Type 0) → Q ((front ++ p) ++ joined ps) (ranges_from len_of (text_len len_of (front ++ p)) ps) → Q (front ++ (p ++ joined ps)) (ranges_from len_of (text_len len_of front + text_len len_of p) ps)
-      shifted front p ps Q h =
-          subst (λ (cs : List ℕ). Q cs (ranges_from len_of (text_len len_of front + text_len len_of p) ps)) (append_assoc front p (joined ps))
-          (subst (λ (n : ℕ). Q ((front ++ p) ++ joined ps) (ranges_from len_of n ps)) (sum_by-append len_of front p) h)
+      shifted front p ps Q h = grind (arith, append_assoc, sum_by-append)
 
       ranges-All : (front : List ℕ) (ps : List (List ℕ)) → All P ps → All (λ (r : ℕ × ℕ). P (subrange len_of (front ++ joined ps) r.0 r.1)) (ranges_from len_of (text_len len_of front) ps)
       ranges-All front [] h = All-nil (λ (r : ℕ × ℕ). P (subrange len_of (front ++ []) r.0 r.1))
@@ -258,9 +251,8 @@ pub paragraphs-joined : (source : Source) (chars : List ℕ) → joined (paragra
 paragraphs-joined source chars = cut_after-joined (each_separator source) chars
 
 pub pieces-joined : (split : Bool) (source : Source) (chars : List ℕ) → joined (pieces_of split source chars) ≡ chars
-pieces-joined true source chars = paragraphs-joined source chars
-pieces-joined false source chars = append-nil chars
+pieces-joined split source chars = grind (arith, paragraphs-joined, append-nil)
 
 -- the stored classes of a text are one a character
 pub length-paragraph_classes : (source : Source) (chars : List ℕ) → length (text_classes source (paragraphs_of (each_separator source) chars)) ≡ length chars
-length-paragraph_classes source chars = length-text_classes source (paragraphs_of (each_separator source) chars) ∙ ap length (paragraphs-joined source chars)
+length-paragraph_classes source chars = grind (arith, length-text_classes, paragraphs-joined)

@@ -1,7 +1,7 @@
 -- One value a unit of a text that is cut into pieces: the range of each piece has the piece's own values.
-use Rattle.std.proofs.Common.{◌≡◌, ℕ, ◌+◌, ◌-◌, List, [], ◌∷◌, ◌++◌, length, refl, sym, ap, subst, ◌∙◌, append_assoc, arith, length-append}
-use Rattle.std.proofs.Math.Seq.{take-append_seam, drop-append_seam}
-use Rattle.std.specs.Prelude.{All, flat_map, slice_range}
+use Rattle.std.proofs.Common.{◌≡◌, ℕ, ◌+◌, List, [], ◌∷◌, ◌++◌, length, refl, sym, ap, subst, ◌∙◌, append_assoc, arith, length-append}
+use Rattle.std.proofs.lemmas.Grind.{common_steps}
+use Rattle.std.specs.Prelude.{All, flat_map}
 use Rattle.std.proofs.lemmas.List.Elements.{All-nil, All-cons}
 use Rattle.std.proofs.lemmas.List.Sums.{sum_by-append}
 use Rattle.bidi_base.specs.Laws.{HasOwnUnits}
@@ -10,12 +10,6 @@ use Rattle.bidi_base.specs.Text.{text_len, per_unit}
 use Rattle.bidi_base.proofs.ParagraphsLemmas.{joined}
 use Rattle.bidi_base.proofs.PerUnit.{length-per_unit, per_unit-append}
 use Rattle.bidi_base.proofs.TextLemmas.{HasUnits, subrange-middle}
-
--- the middle one of three parts
-slice_range-middle : {X : Type 0} (xs ys zs : List X) → slice_range (xs ++ (ys ++ zs)) (length xs) (length xs + length ys) ≡ ys
-slice_range-middle xs ys zs =
-    let many : (length xs + length ys) - length xs ≡ length ys = omega arith in
-    rw (drop-append_seam xs (ys ++ zs), many) (take-append_seam ys zs)
 
 -- the values that a piece gives its characters
 module _ {X : Type 0} (values_of : List ℕ → List X) (one_each : (piece : List ℕ) → length (values_of piece) ≡ length piece) where
@@ -37,11 +31,7 @@ module _ {X : Type 0} (values_of : List ℕ → List X) (one_each : (piece : Lis
       -- a piece in the middle
       HasOwnUnits-middle : (front piece back : List ℕ) (before after : List X) → length before ≡ text_len len_of front
           → HasOwnUnits len_of values_of (front ++ (piece ++ back)) (before ++ (per_unit len_of piece (values_of piece) ++ after)) (text_len len_of front, text_len len_of front + text_len len_of piece)
-      HasOwnUnits-middle front piece back before after long =
-          let own : List X = per_unit len_of piece (values_of piece) in
-          subst (λ (n : ℕ). slice_range (before ++ (own ++ after)) n (n + text_len len_of piece) ≡ own) long
-          (subst (λ (n : ℕ). slice_range (before ++ (own ++ after)) (length before) (length before + n) ≡ own) (length-own piece) (slice_range-middle before own after))
-          ∙ ap (λ (cs : List ℕ). per_unit len_of cs (values_of cs)) (sym (subrange-middle len_of units front piece back))
+      HasOwnUnits-middle front piece back before after long = grind (arith, common_steps, length-own, subrange-middle)
 
       -- each range has its own values, where other pieces may stand before
       HasOwnUnits-from : (front : List ℕ) (before : List X) (pieces : List (List ℕ)) → length before ≡ text_len len_of front

@@ -1,8 +1,9 @@
 -- Places by index: the place of the k-th character, ranges between two places, and turns of loops over a text.
-use Rattle.std.proofs.Common.{zero, suc, drop-cons, ◌≡◌, ℕ, ◌+◌, ◌-◌, ◌<◌, ◌≤◌, true, nat_lt, List, [], ◌∷◌, ◌++◌, length, take, drop, get_or, Option, Some, None, ◌⊎◌, inl, inr, refl, sym, ◌∙◌, ap, subst, arith, length-take, length-drop, length-append}
+use Rattle.std.proofs.Common.{zero, suc, drop-cons, ◌≡◌, ℕ, ◌+◌, ◌-◌, ◌<◌, ◌≤◌, true, List, [], ◌∷◌, ◌++◌, length, take, drop, get_or, Option, Some, None, ◌⊎◌, inl, inr, refl, sym, ◌∙◌, ap, subst, arith, length-take, length-drop, length-append}
+use Rattle.std.proofs.lemmas.Grind.{common_steps}
 use Rattle.std.specs.Prelude.{slice_range}
 use Rattle.std.specs.Iterator.{Count, Yields}
-use Rattle.std.proofs.Math.Seq.{drop-nil, take-append-add, take-append_seam}
+use Rattle.std.proofs.Math.Seq.{take-append-add, take-append_seam}
 use Rattle.std.proofs.lemmas.List.{take-append-drop, drop-drop, take_all, take-take, get_or-drop}
 use Rattle.std.proofs.lemmas.List.Sums.{sum_by-append, sum_by-cons, sum_by_more, sum_by_more_le, sum_by-take-le, count_by-le-length}
 use Rattle.bidi_base.specs.Text.{text_len, place, char_indices_from, char_indices, indices_lengths_from, indices_lengths, char_at, is_boundary, IsLine, char_index, subrange, one_unit, Gives}
@@ -12,8 +13,7 @@ use Rattle.bidi_base.proofs.GivesLemmas.{turn_drop, end}
 -- ---- places
 
 pub place-zero : (len_of : ℕ → ℕ) (chars : List ℕ) → place len_of chars 0 ≡ 0
-place-zero len_of [] = refl
-place-zero len_of (c ∷ cs) = refl
+place-zero len_of chars = grind arith
 
 module _ (len_of : ℕ → ℕ) (chars : List ℕ) where
   pub place-more : (k c : ℕ) → k < length chars → place len_of chars (k + 1) ≡ place len_of chars k + len_of (get_or chars k c)
@@ -53,14 +53,7 @@ module _ (len_of : ℕ → ℕ) (chars : List ℕ) where
 
   -- places in order have indexes in order
   pub place-le-back : HasUnits len_of → (i j : ℕ) → i ≤ length chars → place len_of chars i ≤ place len_of chars j → i ≤ j
-  place-le-back h i j short le = below (bounded i j)
-    where
-      bounded : (m n : ℕ) → (m ≤ n) ⊎ (n < m)
-      bounded m n = grind arith
-
-      below : (i ≤ j) ⊎ (j < i) → i ≤ j
-      below (inl order) = order
-      below (inr past) = absurd (omega (arith, place-lt h j i past (omega arith)))
+  place-le-back h i j short le = grind (arith, place-lt)
 
   -- ---- boundaries and ranges at places
 
@@ -68,7 +61,7 @@ module _ (len_of : ℕ → ℕ) (chars : List ℕ) where
   is_boundary-place k = subst (λ cs. is_boundary len_of cs (place len_of chars k) ≡ true) (take-append-drop k chars) (is_boundary-append len_of (take k chars) (drop k chars))
 
   pub IsLine-places : (i j : ℕ) → i ≤ j → IsLine len_of chars (place len_of chars i) (place len_of chars j)
-  IsLine-places i j le = record { ordered = place-mono i j le; begins = is_boundary-place i; ends = is_boundary-place j }
+  IsLine-places i j le = grind (arith, place-mono, is_boundary-place)
 
   pub char_index-place : HasUnits len_of → (k : ℕ) → k ≤ length chars → char_index len_of chars (place len_of chars k) ≡ k
   char_index-place h k short =
@@ -98,7 +91,7 @@ length-indices_lengths_from len_of from [] = refl
 length-indices_lengths_from len_of from (c ∷ cs) = ap suc (length-indices_lengths_from len_of (from + len_of c) cs)
 
 pub char_index-le : (len_of : ℕ → ℕ) (chars : List ℕ) (u : ℕ) → char_index len_of chars u ≤ length chars
-char_index-le len_of chars u = omega (arith, count_by-le-length (λ (e : ℕ × ℕ). nat_lt e.0 u) (char_indices len_of chars), length-char_indices_from len_of 0 chars)
+char_index-le len_of chars u = grind (arith, count_by-le-length, length-char_indices_from)
 
 -- a line begins at the place of the character at index i, and ends at that of the one at j
 pub record IsLineAt (len_of : ℕ → ℕ) (chars : List ℕ) (start end i j : ℕ) : Type 0 where
@@ -111,7 +104,7 @@ module _ (len_of : ℕ → ℕ) (h : HasUnits len_of) (chars : List ℕ) where
   pub place-char_index : (u : ℕ) → is_boundary len_of chars u ≡ true → place len_of chars (char_index len_of chars u) ≡ u
   place-char_index u e =
       let w = cut_at len_of chars u e in
-      let whole : place len_of chars (length w.front) ≡ u = ap (λ cs. place len_of cs (length w.front)) w.joined ∙ ap (text_len len_of) (take-append_seam w.front w.back) ∙ w.long in
+      let whole : place len_of chars (length w.front) ≡ u = grind (arith, take-append_seam) in
       let short : length w.front ≤ length chars = omega (arith, ap length w.joined, length-append w.front w.back) in
       let index : char_index len_of chars u ≡ length w.front = ap (char_index len_of chars) (sym whole) ∙ char_index-place len_of chars h (length w.front) short in
       ap (place len_of chars) index ∙ whole
@@ -124,16 +117,13 @@ module _ (len_of : ℕ → ℕ) (h : HasUnits len_of) (chars : List ℕ) where
       record {
         begins = sym first;
         ends = sym last;
-        ordered = place-le-back len_of chars h (char_index len_of chars start) (char_index len_of chars end) (char_index-le len_of chars start) (omega arith);
+        ordered = grind (arith, common_steps, place-le-back);
         within = char_index-le len_of chars end;
       }
 
   -- a line is as long as its range
   pub text_len-subrange : (start end : ℕ) → IsLine len_of chars start end → text_len len_of (subrange len_of chars start end) ≡ end - start
-  text_len-subrange start end line =
-      let w = line_places start end line in
-      let sum = place-sum len_of chars (char_index len_of chars start) (char_index len_of chars end) w.ordered (omega (arith, w.ordered, w.within)) in
-      omega (arith, w.begins, w.ends, sum)
+  text_len-subrange start end line = grind (arith, line_places, place-sum)
 
 -- ---- places in a line of the text
 
@@ -141,7 +131,7 @@ module _ (len_of : ℕ → ℕ) (h : HasUnits len_of) (chars : List ℕ) where
 pub place-slice_range : (len_of : ℕ → ℕ) (chars : List ℕ) (i j k : ℕ) → i + k ≤ j → j ≤ length chars → place len_of chars (i + k) ≡ place len_of chars i + place len_of (slice_range chars i j) k
 place-slice_range len_of chars i j k inside within =
     let long : (i + k) - i ≡ k = omega arith in
-    let part : slice_range chars i (i + k) ≡ take k (slice_range chars i j) = ap (λ n. take n (drop i chars)) long ∙ sym (take-take k (j - i) (drop i chars) (omega arith)) in
+    let part : slice_range chars i (i + k) ≡ take k (slice_range chars i j) = grind (arith, take-take) in
     place-sum len_of chars i (i + k) (omega arith) (omega arith) ∙ ap (λ cs. place len_of chars i + text_len len_of cs) part
 
 -- ---- the character that begins at a place
@@ -184,33 +174,26 @@ unit_of len_of (c ∷ cs) u within = first_or_later (bounded u (len_of c)) (unit
 
 drop-char_indices_from : (len_of : ℕ → ℕ) (from : ℕ) (chars : List ℕ) (k : ℕ) → drop k (char_indices_from len_of from chars) ≡ char_indices_from len_of (from + place len_of chars k) (drop k chars)
 drop-char_indices_from len_of from chars zero = ap (λ m. char_indices_from len_of m chars) (omega arith)
-drop-char_indices_from len_of from [] (suc k) = drop-nil (suc k) ∙ ap (char_indices_from len_of (from + place len_of [] (suc k))) (sym (drop-nil (suc k)))
+drop-char_indices_from len_of from [] (suc k) = grind arith
 drop-char_indices_from len_of from (c ∷ cs) (suc k) =
     drop-char_indices_from len_of (from + len_of c) cs k ∙ ap (λ m. char_indices_from len_of m (drop k cs)) (omega (arith, sum_by-cons len_of c (take k cs)))
 
 drop-indices_lengths_from : (len_of : ℕ → ℕ) (from : ℕ) (chars : List ℕ) (k : ℕ) → drop k (indices_lengths_from len_of from chars) ≡ indices_lengths_from len_of (from + place len_of chars k) (drop k chars)
 drop-indices_lengths_from len_of from chars zero = ap (λ m. indices_lengths_from len_of m chars) (omega arith)
-drop-indices_lengths_from len_of from [] (suc k) = drop-nil (suc k) ∙ ap (indices_lengths_from len_of (from + place len_of [] (suc k))) (sym (drop-nil (suc k)))
+drop-indices_lengths_from len_of from [] (suc k) = grind arith
 drop-indices_lengths_from len_of from (c ∷ cs) (suc k) =
     drop-indices_lengths_from len_of (from + len_of c) cs k ∙ ap (λ m. indices_lengths_from len_of m (drop k cs)) (omega (arith, sum_by-cons len_of c (take k cs)))
-
-cons_head : {A : Type 0} (x y : A) (xs ys : List A) → x ∷ xs ≡ y ∷ ys → x ≡ y
-cons_head x y xs ys e = cc e
 
 nil_cons : {A : Type 0} (y : A) (ys : List A) → [] ≡ y ∷ ys → ⊥
 nil_cons y ys e = cc e
 
 first_index : (len_of : ℕ → ℕ) (from : ℕ) (chars : List ℕ) (at c : ℕ) (rest : List (ℕ × ℕ)) → char_indices_from len_of from chars ≡ (at, c) ∷ rest → (at ≡ from) × (chars ≡ c ∷ drop 1 chars)
 first_index len_of from [] at c rest e = absurd (nil_cons (at, c) rest e)
-first_index len_of from (d ∷ ds) at c rest e =
-    let p = cons_head (from, d) (at, c) _ rest e in
-    (sym (ap (λ q. q.0) p), ap (λ q. q.1 ∷ ds) p)
+first_index len_of from (d ∷ ds) at c rest e = grind arith
 
 first_length : (len_of : ℕ → ℕ) (from : ℕ) (chars : List ℕ) (at l : ℕ) (rest : List (ℕ × ℕ)) → indices_lengths_from len_of from chars ≡ (at, l) ∷ rest → (at ≡ from) × (chars ≡ get_or chars 0 0 ∷ drop 1 chars) × (l ≡ len_of (get_or chars 0 0))
 first_length len_of from [] at l rest e = absurd (nil_cons (at, l) rest e)
-first_length len_of from (d ∷ ds) at l rest e =
-    let p = cons_head (from, len_of d) (at, l) _ rest e in
-    (sym (ap (λ q. q.0) p), refl, sym (ap (λ q. q.1) p))
+first_length len_of from (d ∷ ds) at l rest e = grind arith
 
 -- after n turns the character c comes, whose place is `at`
 pub record CharTurn (len_of : ℕ → ℕ) (chars : List ℕ) (n at c : ℕ) : Type 0 where
@@ -224,7 +207,7 @@ pub record CharTurn (len_of : ℕ → ℕ) (chars : List ℕ) (n at c : ℕ) : T
 pub char_turn_of : (len_of : ℕ → ℕ) (chars : List ℕ) (n at c : ℕ) → at ≡ place len_of chars n → drop n chars ≡ c ∷ drop (n + 1) chars → CharTurn len_of chars n at c
 char_turn_of len_of chars n at c here next =
     let below : n < length chars = omega (arith, ap length next, length-drop n chars) in
-    let is_char : get_or chars n 0 ≡ c = cons_head (get_or chars n 0) c (drop (suc n) chars) (drop (n + 1) chars) (sym (drop-cons chars n 0 below) ∙ next) in
+    let is_char : get_or chars n 0 ≡ c = grind (arith, drop-cons) in
     let long : len_of (get_or chars n 0) ≡ len_of c = ap len_of is_char in
     record {
       at_place = here;
@@ -258,7 +241,7 @@ length_turn len_of chars g e xs t y r u at l is st =
     let w = first_length len_of (0 + place len_of chars (length xs)) (drop (length xs) chars) at l _ (sym (drop-indices_lengths_from len_of 0 chars (length xs)) ∙ d) in
     let here : n + 0 ≡ n = omega arith in
     let first : get_or (drop n chars) 0 0 ≡ get_or chars n 0 = get_or-drop n chars 0 0 ∙ ap (λ m. get_or chars m 0) here in
-    let turn : CharTurn len_of chars n at (get_or chars n 0) = char_turn_of len_of chars n at (get_or chars n 0) (omega (arith, w.0)) (w.1 ∙ ap (λ x. x ∷ drop 1 (drop n chars)) first ∙ ap (λ z. get_or chars n 0 ∷ z) (drop-drop 1 n chars)) in
+    let turn : CharTurn len_of chars n at (get_or chars n 0) = grind (arith, common_steps) in
     let long : l ≡ len_of (get_or chars n 0) = w.2 ∙ ap len_of first in
     record { turn = turn; long = long; after = omega (arith, turn.after, long); fits = omega (arith, turn.fits, long) }
 

@@ -5,9 +5,8 @@ use Rattle.std.specs.declared.ops.Range.{Range}
 use Rattle.std.proofs.lemmas.List.{take-append-drop, take-take, drop_more, set_split, get_or-append-add, set-append_right}
 use Rattle.std.proofs.lemmas.List.Elements.{All-head, All-tail}
 use Rattle.bidi_base.specs.declared.char_data.BidiClass.{BidiClass}
-use Rattle.bidi_base.specs.declared.char_data.BidiClass.TheVariants.{L}
 use Rattle.bidi_base.specs.Classes.{is_strong}
-use Rattle.bidi_base.specs.Text.{place, text_len, per_unit}
+use Rattle.bidi_base.specs.Text.{place, per_unit}
 use Rattle.bidi_base.specs.Places.{class_at}
 use Rattle.bidi_base.specs.Isolates.{resolved_fsi}
 use Rattle.bidi_base.specs.Reading.{innermost, outer, is_fsi, filled, met_units}
@@ -44,21 +43,15 @@ char_units len_of chars k = record { start = place len_of chars k; end = place l
 
 -- they stay where more characters are read
 pub char_units-take : (len_of : ℕ → ℕ) (chars : List ℕ) (n k : ℕ) → k < n → char_units len_of (take n chars) k ≡ char_units len_of chars k
-char_units-take len_of chars n k within =
-    let start : take k (take n chars) ≡ take k chars = take-take k n chars (omega arith) in
-    let end : take (k + 1) (take n chars) ≡ take (k + 1) chars = take-take (k + 1) n chars (omega arith) in
-    ap (λ (cs : List ℕ). same (text_len len_of cs) (text_len len_of (take (k + 1) (take n chars)))) start ∙ ap (λ (cs : List ℕ). same (text_len len_of (take k chars)) (text_len len_of cs)) end
-  where
-    same : ℕ → ℕ → Range ℕ
-    same a b = record { start = a; end = b }
+char_units-take len_of chars n k within = grind (arith, take-take)
 
 module _ {X : Type 0} (len_of : ℕ → ℕ) (chars : List ℕ) (values : List X) (long : length values ≡ length chars) (k : ℕ) (within : k < length chars) where
   pub per_unit-set : (x : X) → per_unit len_of chars (set values k x) ≡ filled (char_units len_of chars k) x (per_unit len_of chars values)
   per_unit-set x =
       let more : suc k ≡ k + 1 = omega arith in
       let c : ℕ = get_or chars k 0 in
-      let cut : chars ≡ take k chars ++ c ∷ drop (k + 1) chars = sym (take-append-drop k chars) ∙ ap (λ (cs : List ℕ). take k chars ++ cs) (drop_more chars k 0 within) in
-      let changed : set values k x ≡ take k values ++ x ∷ drop (k + 1) values = set_split values k x (omega arith) ∙ ap (λ (n : ℕ). take k values ++ x ∷ drop n values) more in
+      let cut : chars ≡ take k chars ++ c ∷ drop (k + 1) chars = grind (arith, take-append-drop, drop_more) in
+      let changed : set values k x ≡ take k values ++ x ∷ drop (k + 1) values = grind (arith, set_split) in
       let wide : place len_of chars (k + 1) - place len_of chars k ≡ len_of c = omega (arith, place-more len_of chars k 0 within) in
       ap (per_unit len_of chars) changed ∙ ap (λ (cs : List ℕ). per_unit len_of cs (take k values ++ x ∷ drop (k + 1) values)) cut
       ∙ per_unit-append len_of (take k chars) (c ∷ drop (k + 1) chars) (take k values) (x ∷ drop (k + 1) values) (omega (arith, length-take k values, length-take k chars))
@@ -73,10 +66,11 @@ met_units-char len_of units chars front stored class q long within =
     let k : ℕ = length front + q in
     let all : length (front ++ stored) ≡ length chars = omega (arith, length-append front stored) in
     let inside : k < length chars = omega arith in
-    let read : class_at (per_unit len_of chars (front ++ stored)) (place len_of chars k) ≡ class_at stored q = get_or-per_unit-place len_of units chars (front ++ stored) k L all inside ∙ get_or-append-add front stored q L in
+    let read : class_at (per_unit len_of chars (front ++ stored)) (place len_of chars k) ≡ class_at stored q =
+        grind (arith, get_or-per_unit-place, get_or-append-add) in
     let place_in : length front + q - length front ≡ q = omega arith in
     let changed : set (front ++ stored) k (resolved_fsi (Some class)) ≡ front ++ set stored q (resolved_fsi (Some class)) =
-    set-append_right front stored (length front) k (resolved_fsi (Some class)) refl (omega arith) ∙ ap (λ (n : ℕ). front ++ set stored n (resolved_fsi (Some class))) place_in in
+    grind (arith, set-append_right) in
     ap (λ (c : BidiClass). cond (is_strong class) (cond (is_fsi c) (filled (char_units len_of chars k) (resolved_fsi (Some class)) (per_unit len_of chars (front ++ stored))) (per_unit len_of chars (front ++ stored))) (per_unit len_of chars (front ++ stored))) read
     ∙ by_tests (is_strong class) (is_fsi (class_at stored q)) (sym (per_unit-set len_of chars (front ++ stored) all k inside (resolved_fsi (Some class))) ∙ ap (per_unit len_of chars) changed)
   where

@@ -2,7 +2,7 @@
 use Rattle.std.proofs.Common.{◌≡◌, ◌≢◌, ◌⊎◌, subst, ℕ, zero, suc, ◌+◌, ◌-◌, ◌<◌, ◌≤◌, Bool, true, false, List, [], ◌∷◌, ◌++◌, length, map, get_or, replicate, refl, sym, ap, ◌∙◌, arith, inl, inr}
 use Rattle.std.specs.Prelude.{filter, flat_map}
 use Rattle.std.specs.List.{All, range_with_len}
-use Rattle.std.proofs.lemmas.Bool.{cases_Bool, cases_eq, cases_order, cond-true, cond-false}
+use Rattle.std.proofs.lemmas.Bool.{cases_Bool, cases_eq, cond-true, cond-false}
 use Rattle.std.proofs.lemmas.Grind.{flat_map-append}
 use Rattle.std.proofs.lemmas.List.Elements.{All-nil, All-cons, All-head, All-tail, All-append, All-filter, filter-append}
 use Rattle.std.proofs.lemmas.List.{length-map, ext_get_or}
@@ -17,7 +17,7 @@ use Rattle.bidi_base.proofs.PlaceLemmas.{line_places, place-mono, place-more, un
 use Rattle.bidi_base.proofs.PerUnit.{length-per_unit, length-per_char, get_or-per_char, get_or-per_unit, get_or-per_unit-place}
 use Rattle.bidi_base.proofs.StoredLemmas.{length-at_places, at_places-append}
 use Rattle.bidi_base.proofs.TextLemmas.{HasUnits}
-use Rattle.bidi_base.proofs.Repeated.{HaveUnits, HaveUnits-every}
+use Rattle.bidi_base.proofs.Repeated.{HaveUnits}
 
 -- the units of a character, and of some characters, by their indexes
 abbrev pub units_of_char : (ℕ → ℕ) → List ℕ → ℕ → List ℕ
@@ -56,8 +56,7 @@ row_rest d w units xs ys u zero e = e
 row_rest d w units xs ys u (suc n) e = row_rest d w units xs ys (u + 1) n (cc e)
 
 row_first : {X : Type 0} (d w : X) (units xs ys : List X) (u n : ℕ) → 1 ≤ n → at_places d units (range_with_len u n) ++ xs ≡ replicate n w ++ ys → get_or units u d ≡ w
-row_first d w units xs ys u zero some e = absurd (omega arith)
-row_first d w units xs ys u (suc n) some e = cc e
+row_first d w units xs ys u n some e = grind arith
 
 pub at_places-from_units : {X : Type 0} (d : X) (len_of : ℕ → ℕ) → HasUnits len_of → (chars : List ℕ) (units : List X) (ks : List ℕ) (values : List X) → length values ≡ length ks
     → at_places d units (units_of_chars len_of chars ks) ≡ per_unit len_of (at_places 0 chars ks) values → at_places d units (map (place len_of chars) ks) ≡ values
@@ -69,7 +68,7 @@ at_places-from_units {X} d len_of h chars units (k ∷ ks) (v ∷ values) long e
     let n = len_of (get_or chars k 0) in
     let xs = at_places d units (units_of_chars len_of chars ks) in
     let ys = per_unit len_of (at_places 0 chars ks) values in
-    let parts : at_places d units (range_with_len u n) ++ xs ≡ replicate n v ++ ys = sym (at_places-append d units (units_of_char len_of chars k) (units_of_chars len_of chars ks)) ∙ e in
+    let parts : at_places d units (range_with_len u n) ++ xs ≡ replicate n v ++ ys = grind (arith, at_places-append) in
     ap (λ (x : X). x ∷ at_places d units (map (place len_of chars) ks)) (row_first d v units xs ys u n (h (get_or chars k 0)) parts)
     ∙ ap (λ (vs : List X). v ∷ vs) (at_places-from_units d len_of h chars units ks values (omega arith) (row_rest d v units xs ys u n parts))
 
@@ -83,9 +82,7 @@ pub get_or-from_units : {X : Type 0} (d : X) (len_of : ℕ → ℕ) (chars : Lis
     → (i j : ℕ) → i < length ks → j < len_of (get_or chars (get_or ks i 0) 0) → get_or units (place len_of chars (get_or ks i 0) + j) d ≡ get_or values i d
 get_or-from_units d len_of chars units [] values long e i j fits below = absurd (omega arith)
 get_or-from_units d len_of chars units (k ∷ ks) [] long e i j fits below = absurd (omega arith)
-get_or-from_units {X} d len_of chars units (k ∷ ks) (v ∷ values) long e zero j fits below =
-    row_each d v units (at_places d units (units_of_chars len_of chars ks)) (per_unit len_of (at_places 0 chars ks) values) (place len_of chars k) (len_of (get_or chars k 0)) j below
-    (sym (at_places-append d units (units_of_char len_of chars k) (units_of_chars len_of chars ks)) ∙ e)
+get_or-from_units {X} d len_of chars units (k ∷ ks) (v ∷ values) long e zero j fits below = grind (arith, row_each, at_places-append)
 get_or-from_units {X} d len_of chars units (k ∷ ks) (v ∷ values) long e (suc i) j fits below =
     get_or-from_units d len_of chars units ks values (omega arith)
     (row_rest d v units (at_places d units (units_of_chars len_of chars ks)) (per_unit len_of (at_places 0 chars ks) values) (place len_of chars k) (len_of (get_or chars k 0))
@@ -119,13 +116,7 @@ units_without len_of chars k j fits below (q ∷ ks) are none =
     let own : place len_of chars (k + 1) ≡ place len_of chars k + len_of (get_or chars k 0) = place-more len_of chars k 0 fits in
     let theirs : place len_of chars (q + 1) ≡ place len_of chars q + len_of (get_or chars q 0) = place-more len_of chars q 0 within in
     let out : (place len_of chars k + j < place len_of chars q) ⊎ (place len_of chars q + len_of (get_or chars q 0) ≤ place len_of chars k + j) =
-    elim (cases_order q k) [
-      | inl same ↦ absurd (other same)
-      | inr apart ↦ elim apart [
-        | inl less ↦ let order = place-mono len_of chars (q + 1) k (omega arith) in inr (omega arith)
-        | inr more ↦ let order = place-mono len_of chars (k + 1) q (omega arith) in inl (omega arith)
-      ]
-    ] in
+    grind (arith, place-mono) in
     All-append (λ (p : ℕ). p ≢ place len_of chars k + j) (units_of_char len_of chars q) (units_of_chars len_of chars ks) (row_without (place len_of chars k + j) (place len_of chars q) (len_of (get_or chars q 0)) out)
     (units_without len_of chars k j fits below ks (All-tail (λ (i : ℕ). i < length chars) q ks are) (All-tail (λ (i : ℕ). i ≢ k) q ks none))
 
@@ -154,7 +145,7 @@ IsPerChar-units {X} d len_of h chars values new ks answers long are many size e 
         elim (among k ks) [
           | inl w ↦
               let each : (j : ℕ) → j < len_of (get_or chars k 0) → get_or new (place len_of chars k + j) d ≡ get_or answers w.0 d =
-              subst (λ (q : ℕ). (j : ℕ) → j < len_of (get_or chars q 0) → get_or new (place len_of chars q + j) d ≡ get_or answers w.0 d) w.2 (λ j. get_or-from_units d len_of chars new ks answers many e w.0 j w.1) in
+              grind (arith, get_or-from_units) in
               each j below ∙ sym (each 0 (omega arith)) ∙ ap (λ (p : ℕ). get_or new p d) first
           | inr none ↦
               let each : (j : ℕ) → j < len_of (get_or chars k 0) → get_or new (place len_of chars k + j) d ≡ get_or values k d =
@@ -189,10 +180,7 @@ module _ (len_of : ℕ → ℕ) (h : HasUnits len_of) (chars : List ℕ) (values
 
   -- of the n characters from i on
   in_line : (i n : ℕ) → i + n ≤ length chars → filter reads (between (place len_of chars i) (place len_of chars (i + n))) ≡ units_of_chars len_of chars (filter reads_char (range_with_len i n))
-  in_line i zero fits =
-      let same : i + 0 ≡ i = omega arith in
-      let none : place len_of chars (i + 0) - place len_of chars i ≡ 0 = omega (arith, ap (place len_of chars) same) in
-      ap (λ m. filter reads (range_with_len (place len_of chars i) m)) none
+  in_line i zero fits = grind arith
   in_line i (suc n) fits =
       let a = place len_of chars i in
       let m = len_of (get_or chars i 0) in
@@ -206,20 +194,14 @@ module _ (len_of : ℕ → ℕ) (h : HasUnits len_of) (chars : List ℕ) (values
       ap (λ u. filter reads (between u end)) (sym step) ∙ ap (λ k. filter reads (between (place len_of chars (i + 1)) (place len_of chars k))) (sym next) ∙ in_line (i + 1) n (omega arith)
       in
       let one : (j : ℕ) → j < m → class_at (per_unit len_of chars values) (a + j) ≡ class_at (per_unit len_of chars values) a =
-      λ j below. get_or-per_unit len_of chars values i j 0 L long (omega arith) below ∙ sym (get_or-per_unit-place len_of h chars values i L long (omega arith))
+      λ j below. grind (arith, get_or-per_unit, get_or-per_unit-place)
       in
       ap (λ k. filter reads (range_with_len a k)) count
       ∙ ap (filter reads) (range_with_len-append a m (end - (a + m)))
       ∙ filter-append reads (range_with_len a m) (range_with_len (a + m) (end - (a + m)))
       ∙ elim (cases_Bool (reads a)) [
-        | inl yes' ↦
-            ap (λ (us : List ℕ). us ++ filter reads (range_with_len (a + m) (end - (a + m)))) (filter_all reads a m (λ j below. ap is_kept_in_place (one j below) ∙ yes'))
-            ∙ ap (λ (us : List ℕ). range_with_len a m ++ us) rest
-            ∙ ap (units_of_chars len_of chars) (sym (cond-true (reads a) (i ∷ later) later yes'))
-        | inr no' ↦
-            ap (λ (us : List ℕ). us ++ filter reads (range_with_len (a + m) (end - (a + m)))) (filter_none reads a m (λ j below. ap is_kept_in_place (one j below) ∙ no'))
-            ∙ rest
-            ∙ ap (units_of_chars len_of chars) (sym (cond-false (reads a) (i ∷ later) later no'))
+        | inl yes' ↦ grind (arith, filter_all)
+        | inr no' ↦ grind (arith, filter_none)
       ]
 
   pub read_units-is : (runs : List (ℕ × ℕ)) → AreLines len_of chars runs → filter (λ u. is_kept_in_place (class_at (per_unit len_of chars values) u)) (units_in_runs runs) ≡ units_of_chars len_of chars (kept_in_place len_of chars (per_unit len_of chars values) runs)
@@ -264,20 +246,13 @@ module _ (len_of : ℕ → ℕ) (h : HasUnits len_of) (chars : List ℕ) (values
     pub read_units-old : at_places L (per_unit len_of chars values) (filter (λ u. is_kept_in_place (class_at (per_unit len_of chars values) u)) (units_in_runs runs))
         ≡ per_unit len_of (at_places 0 chars (kept_in_place len_of chars (per_unit len_of chars values) runs))
         (at_places L (per_unit len_of chars values) (map (place len_of chars) (kept_in_place len_of chars (per_unit len_of chars values) runs)))
-    read_units-old =
-        let units = per_unit len_of chars values in
-        let ks = kept_in_place len_of chars units runs in
-        let at_units = at_places-units L len_of chars values long ks (kept_in_place-AreIndexes runs lines) in
-        let own : at_places L units (map (place len_of chars) ks) ≡ at_places L values ks = at_places-from_units L len_of h chars units ks (at_places L values ks) (length-at_places L values ks) at_units in
-        ap (at_places L units) (read_units-is runs lines) ∙ at_units ∙ ap (per_unit len_of (at_places 0 chars ks)) (sym own)
+    read_units-old = grind (arith, at_places-units, kept_in_place-AreIndexes, at_places-from_units, length-at_places, read_units-is)
 
     -- where the pass leaves the answers of the characters at their units, it leaves them at the characters
     pub read_units-new : (new answers : List BidiClass) → length answers ≡ length (kept_in_place len_of chars (per_unit len_of chars values) runs)
         → at_places L new (filter (λ u. is_kept_in_place (class_at (per_unit len_of chars values) u)) (units_in_runs runs)) ≡ per_unit len_of (at_places 0 chars (kept_in_place len_of chars (per_unit len_of chars values) runs)) answers
         → at_places L new (map (place len_of chars) (kept_in_place len_of chars (per_unit len_of chars values) runs)) ≡ answers
-    read_units-new new answers many e =
-        let ks = kept_in_place len_of chars (per_unit len_of chars values) runs in
-        at_places-from_units L len_of h chars new ks answers many (ap (at_places L new) (sym (read_units-is runs lines)) ∙ e)
+    read_units-new new answers many e = grind (arith, at_places-from_units, read_units-is)
 
     -- and where it writes nothing else, each character has one class still
     pub read_units-per_char : (new answers : List BidiClass) → length answers ≡ length (kept_in_place len_of chars (per_unit len_of chars values) runs) → length new ≡ text_len len_of chars
@@ -295,11 +270,4 @@ module _ (len_of : ℕ → ℕ) (h : HasUnits len_of) (chars : List ℕ) (values
         → (new : List BidiClass)
         → (let us = filter (λ u. is_kept_in_place (class_at (per_unit len_of chars values) u)) (units_in_runs runs) in at_places L new us ≡ rule (at_places L (per_unit len_of chars values) us))
         → (let places = map (place len_of chars) (kept_in_place len_of chars (per_unit len_of chars values) runs) in at_places L new places ≡ rule (at_places L (per_unit len_of chars values) places))
-    read_units-rule rule keeps commutes new e =
-        let units = per_unit len_of chars values in
-        let ks = kept_in_place len_of chars units runs in
-        let ds = at_places 0 chars ks in
-        let cs = at_places L units (map (place len_of chars) ks) in
-        let many : length cs ≡ length ks = length-at_places L units (map (place len_of chars) ks) ∙ length-map ks (place len_of chars) in
-        read_units-new new (rule cs) (keeps cs ∙ many)
-        (e ∙ ap rule read_units-old ∙ commutes ds cs (HaveUnits-every len_of h ds) (many ∙ sym (length-at_places 0 chars ks)))
+    read_units-rule rule keeps commutes new e = grind (arith, length-at_places, length-map, read_units-new, read_units-old)

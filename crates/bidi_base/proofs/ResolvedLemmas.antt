@@ -1,24 +1,22 @@
 -- What the levels of sequences are, once some of them are resolved and once all are: bounds, and what they do not depend on.
-use Rattle.std.proofs.Common.{◌≡◌, ℕ, zero, suc, ◌+◌, ◌<◌, ◌≤◌, true, false, not, cond, eqb, List, [], ◌∷◌, ◌++◌, length, get_or, map, count_by, Option, None, refl, sym, ap, subst, ◌∙◌, arith, inl, inr, le_refl}
+use Rattle.std.proofs.Common.{◌≡◌, ℕ, zero, suc, ◌+◌, ◌<◌, ◌≤◌, true, not, cond, eqb, List, [], ◌∷◌, ◌++◌, length, get_or, map, count_by, Option, None, refl, sym, ap, subst, ◌∙◌, arith, inl, inr, le_refl}
 use Rattle.std.specs.Prelude.{flat_map, zip}
 use Rattle.std.specs.List.{All, AllByRecursion}
-use Rattle.std.proofs.lemmas.Bool.{cases_Bool, cond-false, cond_both, both_ways}
+use Rattle.std.proofs.lemmas.Bool.{cases_Bool, cond-false, cond_both}
 use Rattle.std.proofs.lemmas.List.{length-map, map-append}
 use Rattle.std.proofs.lemmas.List.Sums.{sum_by-cons, sum_by-append}
 use Rattle.bidi_base.specs.declared.char_data.BidiClass.{BidiClass}
-use Rattle.bidi_base.specs.declared.char_data.BidiClass.TheVariants.{L, R, EN, AN, BN}
+use Rattle.bidi_base.specs.declared.char_data.BidiClass.TheVariants.{L, BN}
 use Rattle.bidi_base.specs.declared.data_source.BidiMatchedOpeningBracket.{BidiMatchedOpeningBracket}
 use Rattle.bidi_base.specs.Classes.{is_removed}
-use Rattle.bidi_base.specs.Levels.{is_odd, direction_of}
 use Rattle.bidi_base.specs.Places.{at_places, first_or}
 use Rattle.bidi_base.specs.Source.{Source}
-use Rattle.bidi_base.specs.Isolates.{paragraph_level, stored_classes}
+use Rattle.bidi_base.specs.Isolates.{stored_classes}
 use Rattle.bidi_base.specs.Explicit.{explicit_levels, explicit_classes}
 use Rattle.bidi_base.specs.Sequences.{RunSequence, is_kept_at, level_at, sequences}
-use Rattle.bidi_base.specs.Weak.{w1, w2, w3, w4, w5, w6, weak_classes}
-use Rattle.bidi_base.specs.Brackets.{bracket_pairs}
-use Rattle.bidi_base.specs.Neutral.{n0_pair, n0, n1_n2, neutral_classes}
-use Rattle.bidi_base.specs.Implicit.{added_at_even, added_at_odd, implicit_level, implicit_levels}
+use Rattle.bidi_base.specs.Weak.{weak_classes}
+use Rattle.bidi_base.specs.Neutral.{n0_pair, n0, neutral_classes}
+use Rattle.bidi_base.specs.Implicit.{implicit_level, implicit_levels}
 use Rattle.bidi_base.specs.Stored.{resolved_levels, sequence_levels, level_in, filled_levels, levels_in, stored_levels}
 use Rattle.bidi_base.proofs.PlacesLemmas.{length-in_context}
 use Rattle.bidi_base.proofs.StoredSteps.{length-stored_classes}
@@ -31,14 +29,7 @@ use Rattle.std.proofs.lemmas.List.Elements.{All-from_recursion}
 
 pub length-weak_classes : (sos : BidiClass) (classes : List BidiClass) → length (weak_classes sos classes) ≡ length classes
 unfolding weak_classes
-length-weak_classes sos classes =
-    length-in_context _ [] (w6 (w5 (w4 (w3 (w2 sos (w1 sos classes))))))
-    ∙ length-map (w5 (w4 (w3 (w2 sos (w1 sos classes))))) _
-    ∙ length-in_context _ [] (w4 (w3 (w2 sos (w1 sos classes))))
-    ∙ length-in_context _ [] (w3 (w2 sos (w1 sos classes)))
-    ∙ length-map (w2 sos (w1 sos classes)) _
-    ∙ length-in_context _ [] (w1 sos classes)
-    ∙ length-in_context _ [] classes
+length-weak_classes sos classes = grind (arith, length-in_context, length-map)
 
 pub length-n0 : (e sos : BidiClass) (source : List BidiClass) (pairs : List (ℕ × ℕ)) (classes : List BidiClass) → length (n0 e sos source pairs classes) ≡ length classes
 unfolding n0
@@ -48,15 +39,7 @@ length-n0 e sos source (pair ∷ pairs) classes = length-n0 e sos source pairs (
 pub length-resolved_levels : (source : List BidiClass) (brackets : List (Option BidiMatchedOpeningBracket)) (levels : List ℕ) (classes : List BidiClass) (s : RunSequence) → length (resolved_levels source brackets levels classes s) ≡ length s.places
 unfolding resolved_levels neutral_classes
 length-resolved_levels source brackets levels classes s =
-    let level : ℕ = level_at levels (first_or 0 s.places) in
-    let weak : List BidiClass = weak_classes s.sos (at_places L classes s.places) in
-    let e : BidiClass = direction_of level in
-    let first : List BidiClass = n0 e s.sos (at_places L source s.places) (bracket_pairs weak (at_places None brackets s.places)) weak in
-    length-map (n1_n2 e s.sos s.eos first) (implicit_level level)
-    ∙ length-in_context _ [] first
-    ∙ length-n0 e s.sos (at_places L source s.places) (bracket_pairs weak (at_places None brackets s.places)) weak
-    ∙ length-weak_classes s.sos (at_places L classes s.places)
-    ∙ length-at_places L classes s.places
+    grind (arith, length-map, length-in_context, length-n0, length-weak_classes, length-at_places)
 
 length-filled_levels : (table : List (ℕ × ℕ)) (p before : ℕ) (classes : List BidiClass) → length (filled_levels table p before classes) ≡ length classes
 unfolding filled_levels
@@ -65,7 +48,7 @@ length-filled_levels table p before (c ∷ classes) = ap suc (length-filled_leve
 
 pub length-levels_in : (paragraph : ℕ) (source : List BidiClass) (brackets : List (Option BidiMatchedOpeningBracket)) → length (levels_in paragraph source brackets) ≡ length source
 unfolding levels_in
-length-levels_in paragraph source brackets = length-filled_levels _ 0 paragraph (stored_classes source) ∙ length-stored_classes source
+length-levels_in paragraph source brackets = grind (arith, length-filled_levels, length-stored_classes)
 
 -- ---- bounds
 
@@ -74,26 +57,8 @@ pub record IsStoredIn (paragraph level : ℕ) : Type 0 where
   pub above : paragraph ≤ level
   pub below : level ≤ 126
 
-added_at_even-few : (c : BidiClass) → added_at_even c ≤ 2
-added_at_even-few R = omega arith
-added_at_even-few AN = le_refl 2
-added_at_even-few EN = le_refl 2
-added_at_even-few _ = omega arith
-
-added_at_odd-few : (c : BidiClass) → added_at_odd c ≤ 1
-added_at_odd-few L = le_refl 1
-added_at_odd-few EN = le_refl 1
-added_at_odd-few AN = le_refl 1
-added_at_odd-few _ = omega arith
-
-odd_at_most : (level : ℕ) → is_odd level ≡ false → level ≤ 125 → level ≤ 124
-odd_at_most level even fits = grind arith
-
 implicit_level-IsStoredIn : (paragraph level : ℕ) (c : BidiClass) → IsExplicitIn paragraph level → IsStoredIn paragraph (implicit_level level c)
-implicit_level-IsStoredIn paragraph level c h = elim (cases_Bool (is_odd level)) [
-  | inl odd ↦ rw odd (record { above = omega (arith, h.above); below = omega (arith, h.below, added_at_odd-few c) })
-  | inr even ↦ rw even (record { above = omega (arith, h.above); below = omega (arith, odd_at_most level even h.below, added_at_even-few c) })
-]
+implicit_level-IsStoredIn paragraph level c h = grind arith
 
 AllByRecursion-append : {X : Type 0} (P : X → Type 0) (xs ys : List X) → AllByRecursion P xs → AllByRecursion P ys → AllByRecursion P (xs ++ ys)
 AllByRecursion-append P [] ys h k = k
@@ -221,11 +186,4 @@ found_there f (x ∷ front) back c e = found_there f front back c e
 -- a character of class BN may be another of that class
 pub stored_levels-BN : (source : Source) (base : Option ℕ) (front back : List ℕ) (c d : ℕ) → source.class_of c ≡ BN → source.class_of d ≡ BN → stored_levels source base (front ++ c ∷ back) ≡ stored_levels source base (front ++ d ∷ back)
 unfolding stored_levels
-stored_levels-BN source base front back c d first second =
-    let classes : map source.class_of (front ++ c ∷ back) ≡ map source.class_of (front ++ d ∷ back) =
-    map-append source.class_of front (c ∷ back) ∙ ap (λ (x : BidiClass). map source.class_of front ++ x ∷ map source.class_of back) (first ∙ sym second) ∙ sym (map-append source.class_of front (d ∷ back)) in
-    ap (λ (cs : List BidiClass). levels_in (paragraph_level base cs) cs (map source.bracket_of (front ++ c ∷ back))) classes
-    ∙ levels_in-agree (paragraph_level base (map source.class_of (front ++ d ∷ back))) (map source.class_of (front ++ d ∷ back)) (map source.bracket_of (front ++ c ∷ back)) (map source.bracket_of (front ++ d ∷ back))
-    (λ p within kept. other_there source.bracket_of front back c d p None (λ same.
-    let removed : is_kept_at (map source.class_of (front ++ d ∷ back)) p ≡ false = ap (is_kept_at (map source.class_of (front ++ d ∷ back))) same ∙ ap (λ (x : BidiClass). not (is_removed x)) (found_there source.class_of front back d L ∙ second) in
-    both_ways (is_kept_at (map source.class_of (front ++ d ∷ back)) p) removed kept))
+stored_levels-BN source base front back c d first second = grind (arith, map-append, levels_in-agree, other_there, found_there)

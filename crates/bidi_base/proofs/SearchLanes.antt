@@ -1,5 +1,5 @@
 -- The first of sixteen lanes that a test marks.
-use Rattle.std.proofs.Common.{◌≡◌, ℕ, suc, ◌+◌, ◌*◌, ◌<◌, ◌≤◌, Bool, true, false, not, List, [], ◌∷◌, map, length, cond, eqb, refl, sym, ap, ◌∙◌, arith}
+use Rattle.std.proofs.Common.{◌≡◌, ℕ, suc, ◌+◌, ◌*◌, ◌<◌, ◌≤◌, Bool, true, false, not, List, [], ◌∷◌, map, length, cond, eqb, sym, ap, ◌∙◌, arith}
 use Rattle.std.specs.List.{prefix_len}
 use Rattle.std.proofs.lemmas.Simd.{map-map, length-chunk, trailing_mask_l, leading_from_mask_l, run_in_chunk_fails, run_in_chunk_stops}
 use lib.Count.{count_trailing_zeros}
@@ -16,8 +16,7 @@ abbrev pub mark_of : (BidiClass → Bool) → BidiClass → ℕ
 mark_of test c = cond (test c) 1 0
 
 mark-is : (b : Bool) → is_marked (cond b 1 0) ≡ b
-mark-is true = refl
-mark-is false = refl
+mark-is b = grind arith
 
 -- where a bit is set, a lane passes
 set_lane : {X : Type 0} (p : X → Bool) (xs : List X) → 0 < mask_l (map p xs) → prefix_len (λ x. not (p x)) xs < length xs
@@ -47,8 +46,7 @@ module _ (test : BidiClass → Bool) (classes : List BidiClass) (at bits : ℕ) 
   pub lanes_first : 0 < bits → (IsFirst test classes at (at + 16) (at + count_trailing_zeros 64 bits)) × (at + count_trailing_zeros 64 bits < at + 16)
   lanes_first some =
       let low = count_trailing_zeros 64 bits in
-      let here : low ≡ prefix_len (λ x. not (shows x)) (chunk at 16 classes) =
-      ap (count_trailing_zeros 64) own_mask ∙ trailing_mask_l shows 64 (chunk at 16 classes) (omega (arith, long)) (omega (arith, own_mask)) in
+      let here : low ≡ prefix_len (λ x. not (shows x)) (chunk at 16 classes) = grind (arith, trailing_mask_l) in
       let short : prefix_len (λ x. not (shows x)) (chunk at 16 classes) < length (chunk at 16 classes) = set_lane shows (chunk at 16 classes) (omega (arith, own_mask)) in (
         record {
           begins = omega arith;

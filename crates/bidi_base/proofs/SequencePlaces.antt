@@ -1,5 +1,5 @@
 -- Where the characters of sequences stand: each is kept, no two sequences share one, and none stands twice. What their levels and ends are.
-use Rattle.std.proofs.Common.{◌≡◌, ℕ, zero, suc, ◌+◌, ◌<◌, ◌≤◌, Bool, true, cond, eqb, List, [], ◌∷◌, length, get_or, take, count_by, Option, Some, sym, ap, subst, arith, inl, inr, eqb-true}
+use Rattle.std.proofs.Common.{◌≡◌, ℕ, zero, suc, ◌+◌, ◌<◌, ◌≤◌, Bool, true, cond, eqb, List, [], ◌∷◌, length, get_or, take, count_by, Option, Some, sym, ap, subst, arith, inl, inr}
 use Rattle.std.specs.Prelude.{filter, flat_map}
 use Rattle.std.specs.List.{range_with_len}
 use Rattle.std.proofs.lemmas.Bool.{cases_Bool, cond-true, cond-false}
@@ -23,9 +23,7 @@ times_in-kept keep p low (suc m) there = elim (cases_Bool (keep low)) [
   | inl kept ↦
       let whole : filter keep (range_with_len low (suc m)) ≡ low ∷ filter keep (range_with_len (low + 1) m) = cond-true (keep low) _ _ kept in
       elim (cases_Bool (eqb low p)) [
-        | inl here ↦
-            let same : low ≡ p = eqb-true low p here in
-            (subst (λ (x : ℕ). keep x ≡ true) same kept, omega arith)
+        | inl here ↦ grind arith
         | inr other ↦
             let none : cond {A = ℕ} (eqb low p) 1 0 ≡ 0 = cond-false (eqb low p) 1 0 other in
             let rest : 0 < times_in (filter keep (range_with_len (low + 1) m)) p = omega (arith, ap (λ (qs : List ℕ). times_in qs p) whole, sum_by-cons (λ q. cond (eqb q p) 1 0) low (filter keep (range_with_len (low + 1) m))) in
@@ -51,13 +49,11 @@ abbrev pub places_of : List RunSequence → List ℕ
 places_of seqs = flat_map (λ (s : RunSequence). s.places) seqs
 
 chain_begun : (next : ℕ → Option ℕ) (n first : ℕ) → 0 < n → 0 < length (chain next n (Some first))
-chain_begun next zero first some = absurd (omega arith)
-chain_begun next (suc n) first some = omega arith
+chain_begun next n first some = grind arith
 
 some_classes : (paragraph : ℕ) (classes : List BidiClass) (levels : List ℕ) (k : ℕ) → k < length (sequences paragraph classes levels) → 0 < length classes
 unfolding sequences kept_places
-some_classes paragraph [] levels k within = absurd (omega arith)
-some_classes paragraph (c ∷ classes) levels k within = omega arith
+some_classes paragraph classes levels k within = grind arith
 
 module _ (paragraph : ℕ) (classes : List BidiClass) (levels : List ℕ) where
   times_in-sequences : (p : ℕ) → times_in (places_of (sequences paragraph classes levels)) p ≡ times_in (kept_places classes) p

@@ -1,14 +1,14 @@
 -- The directional status stack answers at each character the level and the class that the definitions give.
-use Rattle.std.proofs.Common.{◌≡◌, ℕ, zero, suc, ◌+◌, ◌-◌, ◌<◌, ◌≤◌, Bool, true, false, not, ◌&&◌, ◌||◌, cond, ltb, leb, eqb, List, [], ◌∷◌, ◌++◌}
-use Rattle.std.proofs.Common.{length, map, reverse, unwrap_or, refl, sym, ap, subst, ◌∙◌, arith, ◌⊎◌, inl, inr, lt-ltb, leb-true, eqb-true, eq-eqb, ne_eqb}
+use Rattle.std.proofs.Common.{◌≡◌, ℕ, zero, suc, ◌+◌, ◌-◌, ◌<◌, ◌≤◌, Bool, true, false, not, ◌&&◌, cond, leb, eqb, List, [], ◌∷◌, ◌++◌, rules}
+use Rattle.std.proofs.lemmas.Grind.{common_steps}
+use Rattle.std.proofs.Common.{length, map, reverse, refl, sym, ap, subst, ◌∙◌, arith, ◌⊎◌, inl, inr, eq-eqb}
 use Rattle.std.specs.Prelude.{nat_le, if◌then◌else◌}
-use Rattle.std.proofs.lemmas.Bool.{cases_Bool, cases_eq, both_ways, cond-true, cond-false, and_parts, and_from, and_left, and_right, le-ltb}
-use Rattle.std.proofs.lemmas.List.{reverse-append, map-append}
+use Rattle.std.proofs.lemmas.Bool.{cases_Bool, cases_eq, both_ways, cond-true, cond-false}
 use Rattle.bidi_base.specs.declared.char_data.BidiClass.{BidiClass}
-use Rattle.bidi_base.specs.Classes.{is_initiator, is_opener, is_pdf, is_paragraph_separator, is_removed}
+use Rattle.bidi_base.specs.Classes.{is_initiator}
 use Rattle.bidi_base.specs.Levels.{max_depth}
 use Rattle.bidi_base.specs.Places.{class_at}
-use Rattle.bidi_base.specs.Isolates.{is_initiator_at, is_pdi_at}
+use Rattle.bidi_base.specs.Isolates.{is_initiator_at}
 use Rattle.bidi_base.specs.Explicit.{Status, override_of, asked_level, status_inside, status_at, explicit_level, explicit_class}
 use Rattle.bidi_base.proofs.OpenersStack.{below_isolate, below_embedding, closed_by, opened_by, openers_read, left_at, open_at-closed_by}
 use Rattle.bidi_base.specs.StatusMachine.{State, start_status, start, fits_in, entry_of, taken, refused, entered, drop_isolate, with_stack, close_isolate, close_embedding, closed, opened, step, answer_level, answer_class, state_at}
@@ -25,10 +25,7 @@ pub record IsTaken (c : BidiClass) (s : State) : Type 0 where
   pub no_embeddings : s.overflow_embeddings ≡ 0
 
 IsTaken-fits_in : (c : BidiClass) (s : State) → fits_in c s ≡ true → IsTaken c s
-IsTaken-fits_in c s e =
-    let parts = and_parts (leb (asked_level c s.top.status.level) 125 && eqb s.overflow_isolates 0) (eqb s.overflow_embeddings 0) e in
-    let front = and_parts (leb (asked_level c s.top.status.level) 125) (eqb s.overflow_isolates 0) parts.0 in
-    record { asked = leb-true _ _ front.0; no_isolates = eqb-true _ _ front.1; no_embeddings = eqb-true _ _ parts.1 }
+IsTaken-fits_in c s e = grind arith
 
 -- what a refusal does, by kind
 pub refused-initiator : (c : BidiClass) (s : State) → is_initiator c ≡ true → refused c s ≡ record s { overflow_isolates = s.overflow_isolates + 1 }
@@ -38,7 +35,7 @@ pub refused-embedding : (c : BidiClass) (s : State) → is_initiator c ≡ false
 refused-embedding c s e none = cond-false _ _ _ e ∙ cond-true _ _ _ (eq-eqb s.overflow_isolates 0 none)
 
 pub refused-inside : (c : BidiClass) (s : State) → is_initiator c ≡ false → 0 < s.overflow_isolates → refused c s ≡ s
-refused-inside c s e some = cond-false _ _ _ e ∙ cond-false _ _ _ (ne_eqb s.overflow_isolates 0 (λ e. omega arith))
+refused-inside c s e some = grind arith
 
 -- an opener is taken, or it overflows: as an isolate, as an embedding, or, inside an isolate that overflowed, unseen
 pub data EnteredAs (c : BidiClass) (s : State) : State → Type 0 where
@@ -65,10 +62,7 @@ taken_valid c s isolate e = ap (λ b. s.valid_isolates + cond b 1 0) e
 
 -- an embedding changes neither count of isolates
 entered-embedding : (c : BidiClass) (s t : State) → EnteredAs c s t → is_initiator c ≡ false → (t.overflow_isolates ≡ s.overflow_isolates) × (t.valid_isolates ≡ s.valid_isolates)
-entered-embedding c s t (as_taken fits k) other = (refl, omega (arith, taken_valid c s false other))
-entered-embedding c s t (as_isolate high isolate) other = absurd (both_ways (is_initiator c) other isolate)
-entered-embedding c s t (as_embedding high same none) other = (refl, refl)
-entered-embedding c s t (as_unseen high same some) other = (refl, refl)
+entered-embedding c s t h0 other = grind arith
 
 -- s with further openers inside one isolate: the isolate overflowed, or it was taken
 pub data IsInsideOf (s : State) : State → Type 0 where
@@ -95,14 +89,8 @@ IsInsideOf-entered c s t u (as_unseen high same some) other h = h
 -- so a PDI leaves what was there before the isolate
 pub close_isolate-IsInsideOf : (s t : State) → IsInsideOf s t → close_isolate t ≡ s
 unfolding close_isolate
-close_isolate-IsInsideOf s t overflowed =
-    let back : s.overflow_isolates + 1 - 1 ≡ s.overflow_isolates = omega arith in
-    cond-true (ltb 0 (s.overflow_isolates + 1)) _ _ (lt-ltb 0 (s.overflow_isolates + 1) (omega arith)) ∙ ap (λ (n : ℕ). record s { overflow_isolates = n }) back
-close_isolate-IsInsideOf s t (inside _ no_isolates no_embeddings none more drops) =
-    cond-false (ltb 0 t.overflow_isolates) _ _ (le-ltb 0 t.overflow_isolates (omega arith))
-    ∙ cond-false (eqb t.valid_isolates 0) _ _ (ne_eqb t.valid_isolates 0 (λ e. omega arith))
-    ∙ ap (with_stack (record t { overflow_embeddings = 0; valid_isolates = t.valid_isolates - 1 })) drops
-    ∙ same_counts (none ∙ sym no_isolates) (sym no_embeddings) (omega (arith, more))
+close_isolate-IsInsideOf s t overflowed = grind arith
+close_isolate-IsInsideOf s t (inside _ no_isolates no_embeddings none more drops) = grind arith
   where
     same_counts : t.overflow_isolates ≡ s.overflow_isolates → 0 ≡ s.overflow_embeddings → t.valid_isolates - 1 ≡ s.valid_isolates
         → with_stack (record t { overflow_embeddings = 0; valid_isolates = t.valid_isolates - 1 }) (s.top ∷ s.below) ≡ s
@@ -110,35 +98,16 @@ close_isolate-IsInsideOf s t (inside _ no_isolates no_embeddings none more drops
 
 pub close_isolate-none : (s : State) → s.overflow_isolates ≡ 0 → s.valid_isolates ≡ 0 → close_isolate s ≡ s
 unfolding close_isolate
-close_isolate-none s no_isolates no_valid =
-    cond-false (ltb 0 s.overflow_isolates) _ _ (le-ltb 0 s.overflow_isolates (omega arith))
-    ∙ cond-true (eqb s.valid_isolates 0) _ _ (eq-eqb s.valid_isolates 0 no_valid)
+close_isolate-none s no_isolates no_valid = grind arith
 
 -- a PDF takes back an embedding, and nothing else
 close_embedding-embedding : (c : BidiClass) (s t : State) → EnteredAs c s t → is_initiator c ≡ false → close_embedding t ≡ s
 unfolding close_embedding
-close_embedding-embedding c s t (as_taken fits k) other =
-    cond-false (ltb 0 s.overflow_isolates) _ _ (le-ltb 0 s.overflow_isolates (omega (arith, k.no_isolates)))
-    ∙ cond-false (ltb 0 s.overflow_embeddings) _ _ (le-ltb 0 s.overflow_embeddings (omega (arith, k.no_embeddings)))
-    ∙ cond-false (is_initiator c) _ _ other
-    ∙ ap (λ (n : ℕ). record s { valid_isolates = n }) (let same : (taken c s).valid_isolates ≡ s.valid_isolates = omega (arith, taken_valid c s false other) in same)
-close_embedding-embedding c s t (as_isolate high isolate) other = absurd (both_ways (is_initiator c) other isolate)
-close_embedding-embedding c s t (as_embedding high same none) other =
-    let back : s.overflow_embeddings + 1 - 1 ≡ s.overflow_embeddings = omega arith in
-    cond-false (ltb 0 s.overflow_isolates) _ _ (le-ltb 0 s.overflow_isolates (omega arith))
-    ∙ cond-true (ltb 0 (s.overflow_embeddings + 1)) _ _ (lt-ltb 0 (s.overflow_embeddings + 1) (omega arith))
-    ∙ ap (λ (n : ℕ). record s { overflow_embeddings = n }) back
-close_embedding-embedding c s t (as_unseen high same some) other = cond-true (ltb 0 s.overflow_isolates) _ _ (lt-ltb 0 s.overflow_isolates some)
+close_embedding-embedding c s t h0 other = grind arith
 
 close_embedding-isolate : (c : BidiClass) (s t : State) → EnteredAs c s t → is_initiator c ≡ true → close_embedding t ≡ t
 unfolding close_embedding
-close_embedding-isolate c s t (as_taken fits k) isolate =
-    cond-false (ltb 0 s.overflow_isolates) _ _ (le-ltb 0 s.overflow_isolates (omega (arith, k.no_isolates)))
-    ∙ cond-false (ltb 0 s.overflow_embeddings) _ _ (le-ltb 0 s.overflow_embeddings (omega (arith, k.no_embeddings)))
-    ∙ cond-true (is_initiator c) _ _ isolate
-close_embedding-isolate c s t (as_isolate high same) isolate = cond-true (ltb 0 (s.overflow_isolates + 1)) _ _ (lt-ltb 0 (s.overflow_isolates + 1) (omega arith))
-close_embedding-isolate c s t (as_embedding high other none) isolate = absurd (both_ways (is_initiator c) other isolate)
-close_embedding-isolate c s t (as_unseen high other some) isolate = absurd (both_ways (is_initiator c) other isolate)
+close_embedding-isolate c s t h0 isolate = grind arith
 
 pub close_embedding-start : (paragraph : ℕ) → close_embedding (start paragraph) ≡ start paragraph
 unfolding close_embedding
@@ -184,16 +153,13 @@ is_clear s = eqb s.overflow_isolates 0 && eqb s.overflow_embeddings 0
 
 -- an opener that fits gives the status, and one that does not overflows
 entered-status : (c : BidiClass) (s t : State) → EnteredAs c s t → (t.top.status ≡ cond (fits_in c s) (entry_of c s).status s.top.status) × (is_clear t ≡ fits_in c s)
-entered-status c s t (as_taken fits k) = (sym (cond-true _ _ _ fits), and_from _ _ (eq-eqb _ _ k.no_isolates) (eq-eqb _ _ k.no_embeddings) ∙ sym fits)
-entered-status c s t (as_isolate high isolate) = (sym (cond-false _ _ _ high), and_left _ _ (ne_eqb (s.overflow_isolates + 1) 0 (λ e. omega arith)) ∙ sym high)
-entered-status c s t (as_embedding high other none) = (sym (cond-false _ _ _ high), and_right _ _ (ne_eqb (s.overflow_embeddings + 1) 0 (λ e. omega arith)) ∙ sym high)
-entered-status c s t (as_unseen high other some) = (sym (cond-false _ _ _ high), and_left _ _ (ne_eqb s.overflow_isolates 0 (λ e. omega arith)) ∙ sym high)
+entered-status c s t (as_taken fits k) = grind arith
+entered-status c s t (as_isolate high isolate) = grind arith
+entered-status c s t (as_embedding high other none) = grind arith
+entered-status c s t (as_unseen high other some) = grind arith
 
 fits_in-clear : (c : BidiClass) (s : State) → fits_in c s ≡ (is_clear s && leb (asked_level c s.top.status.level) 125)
-fits_in-clear c s = turn (leb (asked_level c s.top.status.level) 125) (eqb s.overflow_isolates 0) (eqb s.overflow_embeddings 0)
-  where
-    turn : (a b d : Bool) → ((a && b) && d) ≡ ((b && d) && a)
-    turn a b d = grind arith
+fits_in-clear c s = grind arith
 
 module _ (paragraph : ℕ) (classes : List BidiClass) where
   -- the state inside the openers of a stack
@@ -223,39 +189,22 @@ module _ (paragraph : ℕ) (classes : List BidiClass) where
     | inr other ↦ split_more q stack other (split_state stack)
   ]
 
-  close_isolate-state_of : (stack : List ℕ) → close_isolate (inside_all stack) ≡ inside_all (below_isolate classes stack stack)
-  close_isolate-state_of stack = by_split (split_state stack)
-    where
-      by_split : SplitState stack → close_isolate (inside_all stack) ≡ inside_all (below_isolate classes stack stack)
-      by_split (inl h) = close_isolate-none (inside_all stack) h.1 h.2 ∙ ap inside_all (sym (h.0 stack))
-      by_split (inr h) = close_isolate-IsInsideOf (inside_all h.0) (inside_all stack) h.2 ∙ ap inside_all (sym (h.1 stack))
-
   close_embedding-state_of : (stack : List ℕ) → close_embedding (inside_all stack) ≡ inside_all (below_embedding classes stack)
   unfolding state_of
   close_embedding-state_of [] = close_embedding-start paragraph
   close_embedding-state_of (q ∷ stack) = elim (cases_Bool (is_initiator_at classes q)) [
     | inl initiator ↦ close_embedding-isolate (class_at classes q) _ _ (state_of-EnteredAs q stack) initiator ∙ ap inside_all (sym (cond-true _ _ _ initiator))
-    | inr other ↦ close_embedding-embedding (class_at classes q) _ _ (state_of-EnteredAs q stack) other ∙ ap inside_all (sym (cond-false _ _ _ other))
+    | inr other ↦ search (rules, close_embedding-embedding, state_of-EnteredAs, cond-false)
   ]
 
   -- what p closes and opens on the stack of indexes is what the machine does
   pub closed-state_of : (p : ℕ) (stack : List ℕ) → closed (class_at classes p) (inside_all stack) ≡ inside_all (closed_by classes p stack)
   unfolding closed closed_by
-  closed-state_of p stack = by_tests (is_pdi_at classes p) (is_pdf (class_at classes p))
-    where
-      by_tests : (a b : Bool) → cond a (close_isolate (inside_all stack)) (cond b (close_embedding (inside_all stack)) (inside_all stack))
-          ≡ inside_all (cond a (below_isolate classes stack stack) (cond b (below_embedding classes stack) stack))
-      by_tests true b = close_isolate-state_of stack
-      by_tests false true = close_embedding-state_of stack
-      by_tests false false = refl
+  closed-state_of p stack = grind (arith, close_embedding-state_of, split_state, close_isolate-none, close_isolate-IsInsideOf)
 
   opened-state_of : (p : ℕ) (stack : List ℕ) → opened (class_at classes p) (inside_all stack) ≡ inside_all (opened_by classes p stack)
   unfolding opened opened_by state_of
-  opened-state_of p stack = by_test (is_opener (class_at classes p))
-    where
-      by_test : (a : Bool) → cond a (entered (class_at classes p) (inside_all stack)) (inside_all stack) ≡ inside_all (cond a (p ∷ stack) stack)
-      by_test true = refl
-      by_test false = refl
+  opened-state_of p stack = grind arith
 
   pub state_at-state_of : (p : ℕ) → state_at paragraph classes p ≡ inside_all (openers_read classes p)
   unfolding state_at state_of openers_read
@@ -267,13 +216,13 @@ module _ (paragraph : ℕ) (classes : List BidiClass) where
 
   -- so what a character leaves is the state inside what it leaves open
   pub closed-state_at : (p : ℕ) → closed (class_at classes p) (state_at paragraph classes p) ≡ inside_all (left_at classes p)
-  closed-state_at p = ap (closed (class_at classes p)) (state_at-state_of p) ∙ closed-state_of p (openers_read classes p)
+  closed-state_at p = grind (arith, state_at-state_of, closed-state_of)
 
   abbrev classes_of : List ℕ → List BidiClass
   classes_of stack = map (class_at classes) (reverse stack)
 
   classes_of-more : (q : ℕ) (stack : List ℕ) → classes_of (q ∷ stack) ≡ classes_of stack ++ class_at classes q ∷ []
-  classes_of-more q stack = ap (map (class_at classes)) (reverse-append (q ∷ []) stack) ∙ map-append (class_at classes) (reverse stack) (q ∷ [])
+  classes_of-more q stack = grind (arith, common_steps)
 
   -- the status on top is that inside the openers, and nothing overflowed exactly if none of them asks for too high a level
   record IsStatusOf (stack : List ℕ) : Type 0 where
@@ -302,18 +251,13 @@ module _ (paragraph : ℕ) (classes : List BidiClass) where
   -- the machine's status at p is the one that the definitions give
   status_at-state_at : (p : ℕ) → p < length classes → (closed (class_at classes p) (state_at paragraph classes p)).top.status ≡ status_at paragraph classes p
   unfolding status_at
-  status_at-state_at p fits =
-      ap (λ (x : State). x.top.status) (closed-state_at p)
-      ∙ (status_of (left_at classes p)).top
-      ∙ ap (λ (qs : List ℕ). status_inside (start_status paragraph) (map (class_at classes) qs)) (sym (open_at-closed_by classes p fits))
+  status_at-state_at p fits = grind (arith, closed-state_at, status_of, open_at-closed_by)
 
   -- the machine answers the explicit level and the class after X of each character
   pub answer_level-explicit_level : (p : ℕ) → p < length classes → answer_level paragraph (class_at classes p) (state_at paragraph classes p) ≡ explicit_level paragraph classes p
   unfolding explicit_level
-  answer_level-explicit_level p fits = ap (λ (x : Status). if is_paragraph_separator (class_at classes p) then paragraph else x.level) (status_at-state_at p fits)
+  answer_level-explicit_level p fits = grind (arith, status_at-state_at)
 
   pub answer_class-explicit_class : (p : ℕ) → p < length classes → answer_class (class_at classes p) (state_at paragraph classes p) ≡ explicit_class paragraph classes p
   unfolding explicit_class
-  answer_class-explicit_class p fits =
-      let own = class_at classes p in
-      ap (λ (x : Status). if is_paragraph_separator own || is_removed own then own else unwrap_or x.override own) (status_at-state_at p fits)
+  answer_class-explicit_class p fits = grind (arith, status_at-state_at)

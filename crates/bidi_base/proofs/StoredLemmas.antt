@@ -1,14 +1,14 @@
 -- What the rules of a sequence are given: the classes and levels of a paragraph at the places of its sequences.
-use Rattle.std.proofs.Common.{◌≡◌, ℕ, zero, suc, ◌<◌, ◌≤◌, Bool, true, ◌||◌, cond, eqb, List, [], ◌∷◌, ◌++◌, length, get_or, Option, Some, unwrap_or, refl, sym, ap, subst, ◌∙◌, arith, inl, inr, eq-eqb, eqb-true, leb}
+use Rattle.std.proofs.Common.{◌≡◌, ℕ, zero, suc, ◌<◌, ◌≤◌, Bool, true, cond, eqb, List, [], ◌∷◌, ◌++◌, length, get_or, unwrap_or, refl, sym, ap, ◌∙◌, arith, inl, inr, eqb-true, leb}
+use Rattle.std.proofs.lemmas.Grind.{common_steps}
 use Rattle.std.specs.List.{list_all}
-use Rattle.std.proofs.lemmas.Bool.{cases_Bool, cond-true, cond-false, cond_both, and_parts, and_from}
+use Rattle.std.proofs.lemmas.Bool.{cases_Bool, cond-false, cond_both, and_parts, and_from}
 use Rattle.std.proofs.lemmas.List.Sums.{sum_by-cons}
 use Rattle.std.proofs.lemmas.List.FromFn.{get_or-map-range_with_len}
 use Rattle.bidi_base.specs.declared.char_data.BidiClass.{BidiClass}
-use Rattle.bidi_base.specs.declared.char_data.BidiClass.TheVariants.{L, R, AL, LRO, RLO, FSI}
-use Rattle.bidi_base.specs.Classes.{is_kept, is_removed, is_paragraph_separator}
+use Rattle.bidi_base.specs.Classes.{is_kept}
 use Rattle.bidi_base.specs.Places.{class_at, at_places}
-use Rattle.bidi_base.specs.Isolates.{resolved_fsi, deciding_class, isolated_classes, stored_class, stored_classes}
+use Rattle.bidi_base.specs.Isolates.{stored_class, stored_classes}
 use Rattle.bidi_base.specs.Explicit.{Status, override_of, asked_level, status_inside, status_at, explicit_class, explicit_levels, explicit_classes}
 use Rattle.bidi_base.specs.Sequences.{is_kept_at, level_at}
 use Rattle.bidi_base.proofs.ExplicitLemmas.{explicit_level-IsWithin, level_at-explicit_levels, class_at-explicit_classes}
@@ -16,30 +16,18 @@ use Rattle.bidi_base.proofs.SequencePlaces.{times_in}
 
 -- ---- stored classes: an FSI is kept, whatever it becomes
 
-resolved_fsi-kept : (o : Option BidiClass) → is_kept (resolved_fsi o) ≡ true
-resolved_fsi-kept (Some R) = refl
-resolved_fsi-kept (Some AL) = refl
-resolved_fsi-kept (Some L) = refl
-resolved_fsi-kept _ = refl
-
-stored_class-kept : (classes : List BidiClass) (q : ℕ) (c : BidiClass) → is_kept (stored_class classes q c) ≡ is_kept c
-stored_class-kept classes q FSI = resolved_fsi-kept (deciding_class (isolated_classes classes q))
-stored_class-kept classes q _ = refl
-
 pub class_at-stored_classes : (classes : List BidiClass) (p : ℕ) → p < length classes → class_at (stored_classes classes) p ≡ stored_class classes p (class_at classes p)
 unfolding stored_classes
-class_at-stored_classes classes p within = get_or-map-range_with_len (λ q. stored_class classes q (class_at classes q)) 0 (length classes) p p L within (omega arith)
+class_at-stored_classes classes p within = grind (arith, get_or-map-range_with_len)
 
 -- X9 keeps the same characters by their stored classes
 pub is_kept_at-stored_classes : (classes : List BidiClass) (p : ℕ) → p < length classes → is_kept_at (stored_classes classes) p ≡ is_kept_at classes p
-is_kept_at-stored_classes classes p within = ap is_kept (class_at-stored_classes classes p within) ∙ stored_class-kept classes p (class_at classes p)
+is_kept_at-stored_classes classes p within = grind (arith, class_at-stored_classes)
 
 -- ---- explicit classes: an override is L or R
 
 override_kept : (opener c : BidiClass) → is_kept c ≡ true → is_kept (unwrap_or (override_of opener) c) ≡ true
-override_kept RLO c h = refl
-override_kept LRO c h = refl
-override_kept _ c h = h
+override_kept opener c h = grind arith
 
 status_inside-kept : (status : Status) (openers : List BidiClass) (c : BidiClass) → is_kept c ≡ true → is_kept (unwrap_or status.override c) ≡ true → is_kept (unwrap_or (status_inside status openers).override c) ≡ true
 unfolding status_inside
@@ -52,14 +40,10 @@ status_inside-kept status (opener ∷ openers) c own h =
 
 pub explicit_class-kept : (paragraph : ℕ) (classes : List BidiClass) (p : ℕ) → is_kept_at classes p ≡ true → is_kept (explicit_class paragraph classes p) ≡ true
 unfolding explicit_class status_at
-explicit_class-kept paragraph classes p kept =
-    cond_both (is_paragraph_separator (class_at classes p) || is_removed (class_at classes p)) (class_at classes p) (unwrap_or (status_at paragraph classes p).override (class_at classes p)) (λ (c : BidiClass). is_kept c ≡ true)
-    (λ e. kept)
-    (λ e. status_inside-kept _ _ (class_at classes p) kept kept)
+explicit_class-kept paragraph classes p kept = grind (arith, status_inside-kept)
 
 pub explicit_classes-kept : (paragraph : ℕ) (classes : List BidiClass) (p : ℕ) → p < length classes → is_kept_at classes p ≡ true → is_kept_at (explicit_classes paragraph classes) p ≡ true
-explicit_classes-kept paragraph classes p within kept =
-    ap is_kept (class_at-explicit_classes paragraph classes p within) ∙ explicit_class-kept paragraph classes p kept
+explicit_classes-kept paragraph classes p within kept = grind (arith, class_at-explicit_classes, explicit_class-kept)
 
 -- ---- explicit levels
 
@@ -69,9 +53,7 @@ pub record IsExplicitIn (paragraph level : ℕ) : Type 0 where
   pub below : level ≤ 125
 
 pub explicit_levels-IsExplicitIn : (paragraph : ℕ) (classes : List BidiClass) (p : ℕ) → paragraph ≤ 125 → p < length classes → IsExplicitIn paragraph (level_at (explicit_levels paragraph classes) p)
-explicit_levels-IsExplicitIn paragraph classes p fits within =
-    let own = explicit_level-IsWithin paragraph classes p fits in
-    subst (λ (level : ℕ). IsExplicitIn paragraph level) (sym (level_at-explicit_levels paragraph classes p within)) (record { above = own.above; below = own.below })
+explicit_levels-IsExplicitIn paragraph classes p fits within = grind (arith, explicit_level-IsWithin, level_at-explicit_levels)
 
 -- ---- the elements at some places
 
@@ -85,9 +67,7 @@ at_places-append {X} d xs (p ∷ ps) qs = ap {B = List X} (λ ys. get_or xs p d 
 
 -- what stands in a list, and is its first or a later one
 pub times_in-first : (p : ℕ) (ps : List ℕ) → 0 < times_in (p ∷ ps) p
-times_in-first p ps =
-    let one : cond {A = ℕ} (eqb p p) 1 0 ≡ 1 = cond-true (eqb p p) 1 0 (eq-eqb p p refl) in
-    omega (arith, sum_by-cons (λ q. cond (eqb q p) 1 0) p ps)
+times_in-first p ps = grind (arith, common_steps)
 
 pub times_in-later : (q : ℕ) (ps : List ℕ) (p : ℕ) → times_in ps p ≤ times_in (q ∷ ps) p
 times_in-later q ps p = omega (arith, sum_by-cons (λ q. cond (eqb q p) 1 0) q ps)

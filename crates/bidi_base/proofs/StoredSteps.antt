@@ -3,17 +3,15 @@ use Rattle.std.proofs.Common.{◌≡◌, ℕ, suc, ◌<◌, Bool, true, false, n
 use Rattle.std.specs.Prelude.{All}
 use Rattle.std.specs.Option.{option_or}
 use Rattle.std.proofs.lemmas.List.{length-map, map-append, length-set}
-use Rattle.std.proofs.lemmas.List.Elements.{All-nil, All-cons, All-map}
-use Rattle.std.proofs.lemmas.Bool.{cases_Bool, and_parts}
+use Rattle.std.proofs.lemmas.List.Elements.{All-nil, All-map}
+use Rattle.std.proofs.lemmas.Bool.{cases_Bool}
 use Rattle.bidi_base.specs.declared.char_data.BidiClass.{BidiClass}
-use Rattle.bidi_base.specs.declared.char_data.BidiClass.TheVariants.{L, R, AL, LRI, RLI, FSI, PDI}
 use Rattle.bidi_base.specs.Classes.{is_strong}
 use Rattle.bidi_base.specs.Places.{class_at}
 use Rattle.bidi_base.specs.Reading.{innermost, outer, opened_by, decided_by, is_fsi}
 use Rattle.bidi_base.specs.Isolates.{deciding_class, resolved_fsi, stored_classes}
-use Rattle.bidi_base.proofs.IsolateWalk.{Kind, opening, closing, neither, kind_of, opens_one, depth_by, depth_after, depth_after-deeper, is_zero, ends_by, has_end, has_end-append, deciding_from, deciding_class-from, resolving_from, stored_by, stored_from, stored_classes-from, strong_kind}
-use Rattle.bidi_base.proofs.Lists.{option_or-None}
-use Rattle.std.proofs.Math.Bool.{or-false, or-true, and-true, and-false}
+use Rattle.bidi_base.proofs.IsolateWalk.{Kind, opening, closing, neither, kind_of, opens_one, depth_by, depth_after, depth_after-deeper, is_zero, ends_by, has_end, has_end-append, deciding_from, deciding_class-from, resolving_from, stored_by, stored_from, stored_classes-from}
+use Rattle.std.proofs.Math.Bool.{or-false, or-true, and-false}
 
 -- the indexes of the initiators of the isolates that some characters leave open, outermost first
 abbrev pub onto_later : Bool → List ℕ → List ℕ
@@ -29,13 +27,6 @@ abbrev opened_kind : Kind → ℕ → List ℕ → List ℕ
 opened_kind opening n under = under ++ n ∷ []
 opened_kind closing n under = outer under
 opened_kind neither n under = under
-
-opened_by-kind : (c : BidiClass) (n : ℕ) (under : List ℕ) → opened_by c n under ≡ opened_kind (kind_of c) n under
-opened_by-kind LRI n under = refl
-opened_by-kind RLI n under = refl
-opened_by-kind FSI n under = refl
-opened_by-kind PDI n under = refl
-opened_by-kind _ n under = refl
 
 -- the stored classes, once the innermost open isolate has met the class c
 abbrev pub met_by : BidiClass → Option ℕ → List BidiClass → List BidiClass
@@ -55,22 +46,15 @@ open_depth (x ∷ xs) = one (kind_of x) (open_depth xs) (depth_after-deeper 0 xs
   where
     one : (k : Kind) → depth_after 0 xs ≡ length (open_initiators xs) → depth_after 1 xs ≡ cond (has_end 0 xs) (depth_after 0 xs) (suc (depth_after 0 xs))
         → depth_after (depth_by k 0) xs ≡ length (onto_later (opens_one k && not (has_end 0 xs)) (map suc (open_initiators xs)))
-    one opening rest deeper = elim (cases_Bool (has_end 0 xs)) [
-      | inl ends ↦ rw (deeper, ends, length-map (open_initiators xs) suc) rest
-      | inr on ↦ rw (deeper, on, length-map (open_initiators xs) suc, rest) refl
-    ]
+    one opening rest deeper = grind (arith, length-map)
     one closing rest deeper = rest ∙ sym (length-map (open_initiators xs) suc)
     one neither rest deeper = rest ∙ sym (length-map (open_initiators xs) suc)
 
 is_zero-depth : (xs : List BidiClass) → is_zero (depth_after 0 xs) ≡ is_empty (open_initiators xs)
-is_zero-depth xs = ap is_zero (open_depth xs) ∙ by_length (open_initiators xs)
-  where
-    by_length : (qs : List ℕ) → is_zero (length qs) ≡ is_empty qs
-    by_length [] = refl
-    by_length (q ∷ qs) = refl
+is_zero-depth xs = grind (arith, open_depth)
 
 has_end-push : (xs : List BidiClass) (c : BidiClass) → has_end 0 (xs ++ c ∷ []) ≡ (has_end 0 xs || ends_by (kind_of c) (depth_after 0 xs))
-has_end-push xs c = has_end-append 0 xs (c ∷ []) ∙ ap (λ (b : Bool). has_end 0 xs || b) (or-false (ends_by (kind_of c) (depth_after 0 xs)))
+has_end-push xs c = grind (arith, has_end-append)
 
 -- one more character
 open_initiators-push_kind : (xs : List BidiClass) (c : BidiClass) → open_initiators (xs ++ c ∷ []) ≡ opened_kind (kind_of c) (length xs) (open_initiators xs)
@@ -110,7 +94,7 @@ open_initiators-push_kind (x ∷ xs) c =
     one neither b e n qs = rw (or-false e) refl
 
 pub open_initiators-push : (xs : List BidiClass) (c : BidiClass) → open_initiators (xs ++ c ∷ []) ≡ opened_by c (length xs) (open_initiators xs)
-open_initiators-push xs c = open_initiators-push_kind xs c ∙ sym (opened_by-kind c (length xs) (open_initiators xs))
+open_initiators-push xs c = grind (arith, open_initiators-push_kind)
 
 -- ---- the deciding character
 
@@ -118,16 +102,8 @@ deciding_from-append : (d : ℕ) (xs ys : List BidiClass) → deciding_from d (x
 deciding_from-append d [] ys = refl
 deciding_from-append d (x ∷ xs) ys = elim (cases_Bool (is_strong x && is_zero d)) [ inl here ↦ rw here refl | inr gone ↦ rw gone (deciding_from-append (depth_by (kind_of x) d) xs ys) ]
 
-decided_by-empty : (c : BidiClass) (under : List ℕ) → cond (is_strong c && is_empty under) (Some c) None ≡ decided_by c under
-decided_by-empty c [] = rw (and-true (is_strong c)) refl
-decided_by-empty c (q ∷ under) = rw (and-false (is_strong c)) refl
-
 pub deciding_class-push : (xs : List BidiClass) (c : BidiClass) → deciding_class (xs ++ c ∷ []) ≡ option_or (deciding_class xs) (decided_by c (open_initiators xs))
-deciding_class-push xs c =
-    deciding_class-from (xs ++ c ∷ []) ∙ deciding_from-append 0 xs (c ∷ [])
-    ∙ ap (λ (b : Bool). option_or (deciding_from 0 xs) (cond (is_strong c && b) (Some c) None)) (is_zero-depth xs)
-    ∙ ap (option_or (deciding_from 0 xs)) (decided_by-empty c (open_initiators xs))
-    ∙ ap (λ (o : Option BidiClass). option_or o (decided_by c (open_initiators xs))) (sym (deciding_class-from xs))
+deciding_class-push xs c = grind (arith, deciding_class-from, deciding_from-append, is_zero-depth)
 
 pub deciding_class-nil : deciding_class [] ≡ None
 deciding_class-nil = deciding_class-from []
@@ -139,10 +115,7 @@ found_by : BidiClass → List BidiClass → Option BidiClass
 found_by c xs = cond (has_end 0 xs) None (cond (is_strong c && is_zero (depth_after 0 xs)) (Some c) None)
 
 resolving-push_from : (d : ℕ) (xs : List BidiClass) (c : BidiClass) → resolving_from d (xs ++ c ∷ []) ≡ option_or (resolving_from d xs) (cond (has_end d xs) None (cond (is_strong c && is_zero (depth_after d xs)) (Some c) None))
-resolving-push_from d [] c = elim (cases_Bool (is_strong c)) [
-  | inl strong ↦ rw (strong_kind c strong) refl
-  | inr weak ↦ rw weak (elim (cases_Bool (ends_by (kind_of c) d)) [ inl ends ↦ rw ends refl | inr on ↦ rw on refl ])
-]
+resolving-push_from d [] c = grind arith
 resolving-push_from d (x ∷ xs) c = elim (cases_Bool (ends_by (kind_of x) d)) [
   | inl ends ↦ rw ends refl
   | inr on ↦ elim (cases_Bool (is_strong x && is_zero d)) [ inl here ↦ rw (on, here) refl | inr gone ↦ rw (on, gone) (resolving-push_from (depth_by (kind_of x) d) xs c) ]
@@ -157,51 +130,27 @@ resolving-strong d [] s e = absurd (cc e)
 resolving-strong d (x ∷ xs) s e = elim (cases_Bool (ends_by (kind_of x) d)) [
   | inl ends ↦ let none : None ≡ Some s = rw ends at e in absurd (cc none)
   | inr on ↦ elim (cases_Bool (is_strong x && is_zero d)) [
-    | inl here ↦
-        let found : Some x ≡ Some s = rw (on, here) at e in
-        let same : x ≡ s = cc found in
-        ap is_strong (sym same) ∙ (and_parts _ _ here).0
+    | inl here ↦ grind arith
     | inr gone ↦ resolving-strong (depth_by (kind_of x) d) xs s (rw (on, gone) at e)
   ]
 ]
 
 -- a direction that was found stays
 pub resolved-strong : (s : BidiClass) → is_strong s ≡ true → is_fsi (resolved_fsi (Some s)) ≡ false
-resolved-strong L e = refl
-resolved-strong R e = refl
-resolved-strong AL e = refl
-resolved-strong _ e = absurd (cc e)
+resolved-strong s e = grind arith
 
 -- what stands first is stored as before, where the new character says nothing of it
 first_stays : (x c : BidiClass) (xs : List BidiClass) → found_by c xs ≡ None → stored_by x (resolving_from 0 (xs ++ c ∷ [])) ≡ stored_by x (resolving_from 0 xs)
-first_stays x c xs none = ap (stored_by x) (resolving-push xs c ∙ ap (option_or (resolving_from 0 xs)) none ∙ option_or-None (resolving_from 0 xs))
+first_stays x c xs none = grind (arith, resolving-push)
 
 stored_alone : (c : BidiClass) → stored_by c None ≡ c
-stored_alone FSI = refl
-stored_alone _ = refl
-
--- an FSI that is the innermost open initiator is given the direction of the first strong character
-fsi_met : (c : BidiClass) (xs stored : List BidiClass) (o : Option BidiClass) → resolving_from 0 xs ≡ o → found_by c xs ≡ cond (is_strong c) (Some c) None
-    → stored_by FSI (resolving_from 0 (xs ++ c ∷ [])) ∷ stored ≡ met_by c (Some 0) (stored_by FSI (resolving_from 0 xs) ∷ stored)
-fsi_met c xs stored (Some s) is found = rw (resolving-push xs c, is, resolved-strong s (resolving-strong 0 xs s is), and-false (is_strong c)) refl
-fsi_met c xs stored None is found = rw (resolving-push xs c, is, found) (elim (cases_Bool (is_strong c)) [ inl strong ↦ rw strong refl | inr weak ↦ rw weak refl ])
-
--- any other initiator stays
-kept : (c : BidiClass) (stored : List BidiClass) (b : Bool) (y : BidiClass) → is_fsi y ≡ false → y ∷ stored ≡ met_by c (innermost (onto_later b [])) (y ∷ stored)
-kept c stored true y other = rw (other, and-false (is_strong c)) refl
-kept c stored false y other = refl
+stored_alone c = grind arith
 
 -- where no isolate is open after it, what stands first is the innermost open initiator, or none is
 first_met : (x c : BidiClass) (xs stored : List BidiClass) → is_zero (depth_after 0 xs) ≡ true
     → stored_by x (resolving_from 0 (xs ++ c ∷ [])) ∷ stored ≡ met_by c (innermost (onto_later (opens_one (kind_of x) && not (has_end 0 xs)) [])) (stored_by x (resolving_from 0 xs) ∷ stored)
 unfolding found_by
-first_met FSI c xs stored zero_depth = elim (cases_Bool (has_end 0 xs)) [
-  | inl ends ↦ let none : found_by c xs ≡ None = rw ends refl in rw (first_stays FSI c xs none, ends) refl
-  | inr on ↦
-      let found : found_by c xs ≡ cond (is_strong c) (Some c) None = rw (on, zero_depth, and-true (is_strong c)) refl in
-      rw on (fsi_met c xs stored (resolving_from 0 xs) refl found)
-]
-first_met x c xs stored zero_depth = kept c stored (opens_one (kind_of x) && not (has_end 0 xs)) x refl
+first_met x c xs stored zero_depth = grind (arith, resolving-push, resolved-strong, resolving-strong)
 
 pub innermost-map : {X Y : Type 0} (f : X → Y) (xs : List X) → innermost (map f xs) ≡ option_map f (innermost xs)
 innermost-map f [] = refl
@@ -209,12 +158,10 @@ innermost-map f (x ∷ []) = refl
 innermost-map f (x ∷ y ∷ xs) = innermost-map f (y ∷ xs)
 
 innermost-later : (b : Bool) (q : ℕ) (qs : List ℕ) → innermost (onto_later b (map suc (q ∷ qs))) ≡ option_map suc (innermost (q ∷ qs))
-innermost-later true q qs = innermost-map suc (q ∷ qs)
-innermost-later false q qs = innermost-map suc (q ∷ qs)
+innermost-later b q qs = grind (arith, innermost-map)
 
 later_met : (c y : BidiClass) (o : Option ℕ) (stored : List BidiClass) → met_by c (option_map suc o) (y ∷ stored) ≡ y ∷ met_by c o stored
-later_met c y None stored = refl
-later_met c y (Some q) stored = elim (cases_Bool (is_strong c && is_fsi (class_at stored q))) [ inl meets ↦ rw meets refl | inr stays ↦ rw stays refl ]
+later_met c y o stored = grind arith
 
 stored_from-push : (xs : List BidiClass) (c : BidiClass) → stored_from (xs ++ c ∷ []) ≡ met_by c (innermost (open_initiators xs)) (stored_from xs) ++ c ∷ []
 unfolding found_by
@@ -223,16 +170,12 @@ stored_from-push (x ∷ xs) c = ap (λ (ys : List BidiClass). stored_by x (resol
   where
     by_open : (qs : List ℕ) → open_initiators xs ≡ qs → stored_by x (resolving_from 0 (xs ++ c ∷ [])) ∷ (met_by c (innermost qs) (stored_from xs) ++ c ∷ [])
         ≡ met_by c (innermost (onto_later (opens_one (kind_of x) && not (has_end 0 xs)) (map suc qs))) (stored_by x (resolving_from 0 xs) ∷ stored_from xs) ++ c ∷ []
-    by_open [] e = ap (λ (ys : List BidiClass). ys ++ c ∷ []) (first_met x c xs (stored_from xs) (is_zero-depth xs ∙ ap is_empty e))
-    by_open (q ∷ qs) e =
-        let deep : is_zero (depth_after 0 xs) ≡ false = is_zero-depth xs ∙ ap is_empty e in
-        let none : found_by c xs ≡ None = rw (deep, and-false (is_strong c)) (elim (cases_Bool (has_end 0 xs)) [ inl ends ↦ rw ends refl | inr on ↦ rw on refl ]) in
-        rw (first_stays x c xs none, innermost-later (opens_one (kind_of x) && not (has_end 0 xs)) q qs, later_met c (stored_by x (resolving_from 0 xs)) (innermost (q ∷ qs)) (stored_from xs)) refl
+    by_open [] e = grind (arith, first_met, is_zero-depth)
+    by_open (q ∷ qs) e = grind (arith, is_zero-depth, first_stays, innermost-later, later_met)
 
 -- one more character: a strong one is the direction of the innermost open isolate, if that has an FSI with none so far
 pub stored_classes-push : (xs : List BidiClass) (c : BidiClass) → stored_classes (xs ++ c ∷ []) ≡ met_by c (innermost (open_initiators xs)) (stored_classes xs) ++ c ∷ []
-stored_classes-push xs c =
-    stored_classes-from (xs ++ c ∷ []) ∙ stored_from-push xs c ∙ ap (λ (ys : List BidiClass). met_by c (innermost (open_initiators xs)) ys ++ c ∷ []) (sym (stored_classes-from xs))
+stored_classes-push xs c = grind (arith, stored_classes-from, stored_from-push)
 
 pub stored_classes-nil : stored_classes [] ≡ []
 stored_classes-nil = stored_classes-from []
@@ -245,8 +188,7 @@ length-stored_classes xs = ap length (stored_classes-from xs) ∙ same xs
     same (x ∷ xs) = ap suc (same xs)
 
 pub length-met_by : (c : BidiClass) (o : Option ℕ) (stored : List BidiClass) → length (met_by c o stored) ≡ length stored
-length-met_by c None stored = refl
-length-met_by c (Some q) stored = elim (cases_Bool (is_strong c && is_fsi (class_at stored q))) [ inl meets ↦ rw meets (length-set stored q (resolved_fsi (Some c))) | inr stays ↦ rw stays refl ]
+length-met_by c o stored = grind (arith, length-set)
 
 -- open initiators are indexes of the characters
 pub open_initiators-below : (xs : List BidiClass) → All (λ (q : ℕ). q < length xs) (open_initiators xs)
@@ -257,5 +199,5 @@ open_initiators-below (x ∷ xs) = first (opens_one (kind_of x) && not (has_end 
     later h = All-map (λ (q : ℕ). q < suc (length xs)) suc (open_initiators xs) (λ k d within. omega (arith, h k d within))
 
     first : (b : Bool) → All (λ (q : ℕ). q < length xs) (open_initiators xs) → All (λ (q : ℕ). q < suc (length xs)) (onto_later b (map suc (open_initiators xs)))
-    first true h = All-cons (λ (q : ℕ). q < suc (length xs)) 0 (map suc (open_initiators xs)) (omega arith) (later h)
+    first true h = grind (arith, later)
     first false h = later h

@@ -1,5 +1,6 @@
 -- A text of UTF-8 as a list of characters: `chars bs`, with `len_utf8` for the lengths.
 use Rattle.std.proofs.Common.{◌≡◌, ℕ, ◌+◌, ◌-◌, ◌≤◌, Bool, true, false, List, [], ◌∷◌, ◌++◌, length, take, drop, Option, Some, None, option_map, slice_get, refl, sym, ◌∙◌, ap, arith, subst, append-nil, length-append, length-take, length-drop, get_or, get_or-drop, ◌<◌, if◌then◌else◌, inl, inr}
+use Rattle.std.proofs.lemmas.Grind.{common_steps}
 use Rattle.std.specs.Prelude.{slice_range}
 use Rattle.std.proofs.Math.Seq.{take-append_seam, drop-append_seam}
 use Rattle.std.specs.Char.{encode_utf8, len_utf8, is_ascii}
@@ -62,7 +63,7 @@ char_at-from_str bs i u b =
 
 -- three parts of a text, cut at the ends of a line
 three : (bs : List ℕ) (start end : ℕ) → start ≤ end → bs ≡ take start bs ++ (slice_range bs start end ++ drop (end - start) (drop start bs))
-three bs start end le = sym (take-append-drop start bs) ∙ ap (λ x. take start bs ++ x) (sym (take-append-drop (end - start) (drop start bs)))
+three bs start end le = grind (arith, take-append-drop)
 
 -- the characters of a line are those of its bytes
 pub subrange-from_str : (bs : List ℕ) (start end : ℕ) → IsUtf8 bs → IsLine len_utf8 (chars bs) start end → IsUtf8 (slice_range bs start end) → subrange len_utf8 (chars bs) start end ≡ chars (slice_range bs start end)
@@ -85,14 +86,13 @@ subrange-from_str bs start end u line mid =
 -- ---- what `char_indices` gives
 
 no_chars : (bs : List ℕ) → length bs ≡ 0 → (len : ℕ → ℕ) (n : ℕ) → length (char_indices_from len n (chars bs)) ≡ 0
-no_chars [] e len n = rw chars-nil refl
-no_chars (b ∷ bs) e len n = absurd (omega arith)
+no_chars bs e len n = grind (arith, common_steps, chars-nil)
 
 abbrev left : CharIndices → List (ℕ × ℕ)
 left s = char_indices_from len_utf8 (char_indices_offset s) (chars (char_indices_rest s))
 
 one_char : (bs rest : List ℕ) (at c : ℕ) → IsUtf8 bs → bs ≡ encode_utf8 c ++ rest → char_indices_from len_utf8 at (chars bs) ≡ (at, c) ∷ char_indices_from len_utf8 (at + length (encode_utf8 c)) (chars rest)
-one_char bs rest at c u e = ap (char_indices_from len_utf8 at) (chars_past_char bs rest c u e) ∙ ap (λ n. (at, c) ∷ char_indices_from len_utf8 (at + n) (chars rest)) (sym (length-encode c))
+one_char bs rest at c u e = grind (arith, chars_past_char, length-encode)
 
 pub YieldsList-from_char_indices : (s : CharIndices) → IsUtf8 (char_indices_rest s) → YieldsList char_indices_steps (λ p. p) s (left s)
 YieldsList-from_char_indices s u =
@@ -113,8 +113,7 @@ char_indices_gives s bs u e z =
     (YieldsList-from_char_indices s (subst IsUtf8 (sym e) u)).runs)
 
 not_boundary : (b : Bool) (P : Type 0) → (b ≡ true → P) → (P → ⊥) → b ≡ false
-not_boundary true P f n = absurd (n (f refl))
-not_boundary false P f n = refl
+not_boundary b P f n = grind arith
 
 -- nothing stands inside a character
 pub char_at-inside : (bs : List ℕ) (i : ℕ) → IsUtf8 bs → ¬ (IsCharBoundary bs i) → char_at len_utf8 (chars bs) i ≡ None
@@ -122,30 +121,16 @@ char_at-inside bs i u n = char_at-None len_utf8 has_units (chars bs) i (not_boun
 
 -- what the first character of the rest says
 pub char_at-read : (bs rest : List ℕ) (i : ℕ) (o : Option ℕ) → IsUtf8 bs → IsCharBoundary bs i → rest ≡ drop i bs → o ≡ slice_get (chars rest) 0 → option_map (λ c. (c, len_utf8 c)) o ≡ char_at len_utf8 (chars bs) i
-char_at-read bs rest i o u b e is =
-    sym (char_at-from_str bs i u b ∙ char_at-zero len_utf8 (chars (drop i bs))
-    ∙ ap (λ x. option_map (λ c. (c, len_utf8 c)) (slice_get (chars x) 0)) (sym e) ∙ ap (option_map (λ c. (c, len_utf8 c))) (sym is))
+char_at-read bs rest i o u b e is = grind (arith, char_at-from_str, char_at-zero)
 
 -- ---- a byte below 128 is a whole character, and no other byte begins one
 
 abbrev pub ascii_byte : ℕ → Option ℕ
 ascii_byte b = if is_ascii b then Some b else None
 
-ascii_low : (b c : ℕ) → c < 128 → b ≡ c → ascii_of (Some (c, len_utf8 c)) ≡ ascii_byte b
-ascii_low b c low same = grind (arith, nat_tests)
-
-ascii_high : (b c : ℕ) → 128 ≤ c → 128 ≤ b → ascii_of (Some (c, len_utf8 c)) ≡ ascii_byte b
-ascii_high b c high past = grind (arith, nat_tests)
-
 ascii_first : (bs cs : List ℕ) → encode_utf8_all cs ≡ bs → 0 < length bs → ascii_of (char_at len_utf8 cs 0) ≡ ascii_byte (get_or bs 0 0)
 ascii_first bs [] e some = absurd (omega (arith, ap length e))
-ascii_first bs (c ∷ cs) e some = elim (cases_lt c 128) [
-  | inl low ↦ ascii_low (get_or bs 0 0) c low (byte_from_char bs (encode_utf8_all cs) c (sym e) low)
-  | inr high ↦ elim (cases_lt (get_or bs 0 0) 128) [
-    | inl below ↦ absurd (omega (arith, char_from_byte bs (encode_utf8_all cs) c (sym e) below some))
-    | inr past ↦ ascii_high (get_or bs 0 0) c high past
-  ]
-]
+ascii_first bs (c ∷ cs) e some = grind (arith, byte_from_char, char_from_byte)
 
 ascii_at-boundary : (bs : List ℕ) (i : ℕ) → IsUtf8 bs → IsCharBoundary bs i → i < length bs → ascii_at len_utf8 (chars bs) i ≡ ascii_byte (get_or bs i 0)
 ascii_at-boundary bs i u b within =
@@ -159,7 +144,7 @@ ascii_at-byte bs i u within = elim (cases_lt (get_or bs i 0) 128) [
   | inl low ↦ ascii_at-boundary bs i u (IsCharBoundary-before_ascii bs i within low) within
   | inr high ↦ elim (cases_Bool (is_boundary len_utf8 (chars bs) i)) [
     | inl b ↦ ascii_at-boundary bs i u (IsCharBoundary-from_is_boundary bs i u b) within
-    | inr inside ↦ ap ascii_of (char_at-None len_utf8 has_units (chars bs) i inside) ∙ sym (none (get_or bs i 0) high)
+    | inr inside ↦ grind (arith, char_at-None)
   ]
 ]
   where
@@ -167,7 +152,7 @@ ascii_at-byte bs i u within = elim (cases_lt (get_or bs i 0) 128) [
     none b high = grind (arith, nat_tests)
 
 pub ascii_at-past : (bs : List ℕ) (i : ℕ) → IsUtf8 bs → length bs ≤ i → ascii_at len_utf8 (chars bs) i ≡ None
-ascii_at-past bs i u past = ap ascii_of (char_at-end len_utf8 has_units (chars bs) i (omega (arith, text_len-chars bs u)))
+ascii_at-past bs i u past = grind (arith, char_at-end, text_len-chars)
 
 -- ---- what `Utf8IndexLenIter` has left
 
@@ -175,13 +160,7 @@ abbrev pub lengths_left : CharIndices → List (ℕ × ℕ)
 lengths_left s = indices_lengths_from len_utf8 (char_indices_offset s) (chars (char_indices_rest s))
 
 pub lengths_end : (s : CharIndices) → length (char_indices_rest s) ≡ 0 → lengths_left s ≡ []
-lengths_end s e = none_left (char_indices_rest s) (char_indices_offset s) e where
-  none_left : (bs : List ℕ) (n : ℕ) → length bs ≡ 0 → indices_lengths_from len_utf8 n (chars bs) ≡ []
-  none_left [] n e = rw chars-nil refl
-  none_left (b ∷ bs) n e = absurd (omega arith)
+lengths_end s e = grind (arith, common_steps, chars-nil)
 
 pub lengths_step : (s t : CharIndices) (p : ℕ × ℕ) → IsUtf8 (char_indices_rest s) → char_indices_steps s (Some p) t → lengths_left s ≡ (p.0, len_utf8 p.1) ∷ lengths_left t
-lengths_step s t p u h =
-    ap (indices_lengths_from len_utf8 (char_indices_offset s)) (chars_past_char (char_indices_rest s) (char_indices_rest t) p.1 u h.1)
-    ∙ ap (λ n. (n, len_utf8 p.1) ∷ indices_lengths_from len_utf8 (char_indices_offset s + len_utf8 p.1) (chars (char_indices_rest t))) (sym h.0)
-    ∙ ap (λ n. (p.0, len_utf8 p.1) ∷ indices_lengths_from len_utf8 n (chars (char_indices_rest t))) (omega (arith, h.2, length-encode p.1))
+lengths_step s t p u h = grind (arith, chars_past_char, length-encode)

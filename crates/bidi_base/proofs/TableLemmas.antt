@@ -1,23 +1,21 @@
 -- What a table of ranges and one of brackets answer, by indexes, and when a table has a fault.
-use Rattle.std.proofs.Common.{◌≡◌, ℕ, zero, suc, ◌+◌, ◌-◌, ◌<◌, ◌≤◌, Bool, true, false, ◌&&◌, min, nat_le, nat_lt, if◌then◌else◌, List, length, get_or, take, drop, replicate, find, Option, Some, None, is_some, option_map, option_and_then, unwrap_or, refl, sym, ap, subst, ◌∙◌, arith, cond, inl, inr}
-use Rattle.std.specs.List.{range_with_len}
-use Rattle.std.proofs.lemmas.Bool.{cases_lt, both_ways, cond-true, cond-false}
-use Rattle.std.proofs.lemmas.List.{at_drop_more, length-drop, length-take-le}
+use Rattle.std.proofs.Common.{◌≡◌, ℕ, zero, suc, ◌+◌, ◌-◌, ◌<◌, ◌≤◌, Bool, true, false, min, List, length, get_or, take, drop, replicate, find, Option, Some, None, is_some, option_map, option_and_then, unwrap_or, refl, ap, subst, ◌∙◌, arith, inl, inr}
+use Rattle.std.proofs.lemmas.Grind.{common_steps}
+use Rattle.std.proofs.lemmas.Bool.{cases_lt, both_ways}
+use Rattle.std.proofs.lemmas.List.{length-take-le}
 use borrow.Rule.Slice.PartMut.{put_mid}
 use Rattle.std.proofs.lemmas.Bool.Decides.{nat_tests}
 use Rattle.bidi_base.specs.declared.char_data.BidiClass.{BidiClass}
 use Rattle.bidi_base.specs.declared.char_data.BidiClass.TheVariants.{L}
 use Rattle.bidi_base.specs.declared.data_source.TableError.{TableError}
-use Rattle.bidi_base.specs.declared.data_source.TableError.TheVariants.{Reversed, NotAscending}
 use Rattle.bidi_base.specs.Places.{between, indexes}
 use Rattle.bidi_base.specs.Source.{in_range, table_class, is_member, bracket_in, table_bracket, range_at, fault_at, table_fault}
 use Rattle.bidi_base.proofs.PlacesLemmas.{IsLeast, find-between, find-between-is, find-between-is_None, find-between-None}
-use Rattle.bidi_base.proofs.Lists.{find-first, find-none, put_mid-inside, put_mid-before, put_mid-after}
+use Rattle.bidi_base.proofs.Lists.{find-first, find-none, put_mid-after}
 
 -- the class where a range holds the character and none before it does, and where none does
 pub table_class-at : (ranges : List (ℕ × ℕ × BidiClass)) (c i : ℕ) → i < length ranges → in_range c (range_at ranges i) ≡ true → ((k : ℕ) → k < i → in_range c (range_at ranges k) ≡ false) → table_class ranges c ≡ (range_at ranges i).2
-table_class-at ranges c i below holds before =
-    ap (λ (r : Option (ℕ × ℕ × BidiClass)). unwrap_or (option_map (λ (r : ℕ × ℕ × BidiClass). r.2) r) L) (find-first (in_range c) ranges i (0, 0, L) below holds before)
+table_class-at ranges c i below holds before = grind (arith, find-first)
 
 pub table_class-none : (ranges : List (ℕ × ℕ × BidiClass)) (c : ℕ) → ((k : ℕ) → k < length ranges → in_range c (range_at ranges k) ≡ false) → table_class ranges c ≡ L
 table_class-none ranges c none =
@@ -25,8 +23,7 @@ table_class-none ranges c none =
 
 -- the same for brackets
 pub table_bracket-at : (brackets : List (ℕ × ℕ × Option ℕ)) (c i : ℕ) → i < length brackets → is_member c (get_or brackets i (0, 0, None)) ≡ true → ((k : ℕ) → k < i → is_member c (get_or brackets k (0, 0, None)) ≡ false) → table_bracket brackets c ≡ Some (bracket_in (get_or brackets i (0, 0, None)) c)
-table_bracket-at brackets c i below holds before =
-    ap (option_map (λ (t : ℕ × ℕ × Option ℕ). bracket_in t c)) (find-first (is_member c) brackets i (0, 0, None) below holds before)
+table_bracket-at brackets c i below holds before = grind (arith, find-first)
 
 pub table_bracket-none : (brackets : List (ℕ × ℕ × Option ℕ)) (c : ℕ) → ((k : ℕ) → k < length brackets → is_member c (get_or brackets k (0, 0, None)) ≡ false) → table_bracket brackets c ≡ None
 table_bracket-none brackets c none =
@@ -34,42 +31,29 @@ table_bracket-none brackets c none =
 
 -- the indexes of a list as the numbers from 0 up to its length
 indexes_between : (ranges : List (ℕ × ℕ × BidiClass)) → between 0 (length ranges) ≡ indexes ranges
-indexes_between ranges = ap (range_with_len 0) (let same : length ranges - 0 ≡ length ranges = omega arith in same)
+indexes_between ranges = grind arith
 
 -- the fault of a table where one range is faulty and none before it is, and where none is
 pub table_fault-first : (ranges : List (ℕ × ℕ × BidiClass)) (i : ℕ) (e : TableError) → i < length ranges → fault_at ranges i ≡ Some e → ((k : ℕ) → k < i → fault_at ranges k ≡ None) → table_fault ranges ≡ Some e
 table_fault-first ranges i e below faulty before =
     let test : ℕ → Bool = λ k. is_some (fault_at ranges k) in
-    let least : IsLeast test 0 (length ranges) i = record { from = omega arith; below = below; passes = ap is_some faulty; first = λ k from h. ap is_some (before k h) } in
+    let least : IsLeast test 0 (length ranges) i = grind arith in
     let found : find test (indexes ranges) ≡ Some i = subst (λ (ks : List ℕ). find test ks ≡ Some i) (indexes_between ranges) (find-between-is test 0 (length ranges) i least) in
     ap (option_and_then (fault_at ranges)) found ∙ faulty
 
 pub table_fault-none : (ranges : List (ℕ × ℕ × BidiClass)) → ((i : ℕ) → i < length ranges → fault_at ranges i ≡ None) → table_fault ranges ≡ None
 table_fault-none ranges none =
     let test : ℕ → Bool = λ k. is_some (fault_at ranges k) in
-    let found : find test (indexes ranges) ≡ None = subst (λ (ks : List ℕ). find test ks ≡ None) (indexes_between ranges) (find-between-is_None test 0 (length ranges) (λ k from h. ap is_some (none k h))) in
+    let found : find test (indexes ranges) ≡ None = grind (arith, find-between-is_None) in
     ap (option_and_then (fault_at ranges)) found
-
-in_order : (first last before i : ℕ) → (if nat_lt last first then Some (Reversed i) else if nat_lt 0 i && nat_le first before then Some (NotAscending i) else None) ≡ None → (first ≤ last) × (0 < i → before < first)
-in_order first last before i h = (grind (arith, nat_tests), λ (k : 0 < i). grind (arith, nat_tests))
 
 -- a range with no fault
 pub fault_at-in_order : (ranges : List (ℕ × ℕ × BidiClass)) (i : ℕ) → fault_at ranges i ≡ None → ((range_at ranges i).0 ≤ (range_at ranges i).1) × (0 < i → (range_at ranges (i - 1)).1 < (range_at ranges i).0)
-fault_at-in_order ranges i h = in_order (range_at ranges i).0 (range_at ranges i).1 (range_at ranges (i - 1)).1 i h
+fault_at-in_order ranges i h = grind arith
 
 -- in a table with no fault each range is in order, and begins after the end of every one before it
 fault_found : (ranges : List (ℕ × ℕ × BidiClass)) → table_fault ranges ≡ None → find (λ k. is_some (fault_at ranges k)) (between 0 (length ranges)) ≡ None
-fault_found ranges none = by_result (find test (between 0 (length ranges))) refl
-  where
-    test : ℕ → Bool
-    test k = is_some (fault_at ranges k)
-
-    by_result : (o : Option ℕ) → find test (between 0 (length ranges)) ≡ o → o ≡ None
-    by_result None e = refl
-    by_result (Some q) e =
-        let passes : test q ≡ true = (find-between test 0 (length ranges) q e).passes in
-        let same : fault_at ranges q ≡ None = sym (ap (option_and_then (fault_at ranges)) (subst (λ (ks : List ℕ). find test ks ≡ Some q) (indexes_between ranges) e)) ∙ none in
-        absurd (both_ways (test q) (ap is_some same) passes)
+fault_found ranges none = grind (arith, find-between)
 
 pub faultless-at : (ranges : List (ℕ × ℕ × BidiClass)) (i : ℕ) → table_fault ranges ≡ None → i < length ranges → fault_at ranges i ≡ None
 faultless-at ranges i none below = by_fault (fault_at ranges i) refl (find-between-None (λ k. is_some (fault_at ranges k)) 0 (length ranges) (fault_found ranges none) i (omega arith) (omega arith))
@@ -84,13 +68,13 @@ faultless-in_order ranges i none below = (fault_at-in_order ranges i (faultless-
 pub faultless-ascending : (ranges : List (ℕ × ℕ × BidiClass)) (i j : ℕ) → table_fault ranges ≡ None → i < j → j < length ranges → (range_at ranges i).1 < (range_at ranges j).0
 faultless-ascending ranges i zero none before below = absurd (omega arith)
 faultless-ascending ranges i (suc j) none before below =
-    let next : (range_at ranges j).1 < (range_at ranges (suc j)).0 = subst (λ (k : ℕ). (range_at ranges k).1 < (range_at ranges (suc j)).0) (let same : suc j - 1 ≡ j = omega arith in same) ((fault_at-in_order ranges (suc j) (faultless-at ranges (suc j) none below)).1 (omega arith)) in
+    let next : (range_at ranges j).1 < (range_at ranges (suc j)).0 = grind (arith, fault_at-in_order, faultless-at) in
     elim (cases_lt i j) [
       | inl earlier ↦
           let here : (range_at ranges i).1 < (range_at ranges j).0 = faultless-ascending ranges i j none earlier (omega arith) in
           let ordered : (range_at ranges j).0 ≤ (range_at ranges j).1 = faultless-in_order ranges j none (omega arith) in
           omega arith
-      | inr later ↦ subst (λ (k : ℕ). (range_at ranges k).1 < (range_at ranges (suc j)).0) (let same : j ≡ i = omega arith in same) next
+      | inr later ↦ grind arith
     ]
 
 -- where a range lies, by its numbers
@@ -100,27 +84,12 @@ in_range-holds c r h k = grind (arith, nat_tests)
 pub in_range-before : (c : ℕ) (r : ℕ × ℕ × BidiClass) → r.1 < c → in_range c r ≡ false
 in_range-before c r h = grind (arith, nat_tests)
 
-pub in_range-after : (c : ℕ) (r : ℕ × ℕ × BidiClass) → c < r.0 → in_range c r ≡ false
-in_range-after c r h = grind (arith, nat_tests)
-
 -- one range against a character, and so all before it or all from it on
 pub all_before : (ranges : List (ℕ × ℕ × BidiClass)) (c i : ℕ) → table_fault ranges ≡ None → i < length ranges → (range_at ranges i).1 < c → (k : ℕ) → k < i + 1 → (range_at ranges k).1 < c
-all_before ranges c i none below h k earlier = elim (cases_lt k i) [
-  | inl before ↦
-      let apart : (range_at ranges k).1 < (range_at ranges i).0 = faultless-ascending ranges k i none before below in
-      let ordered : (range_at ranges i).0 ≤ (range_at ranges i).1 = faultless-in_order ranges i none below in
-      omega arith
-  | inr here ↦ subst (λ (j : ℕ). (range_at ranges j).1 < c) (let same : i ≡ k = omega arith in same) h
-]
+all_before ranges c i none below h k earlier = grind (arith, faultless-ascending, faultless-in_order)
 
 pub all_after : (ranges : List (ℕ × ℕ × BidiClass)) (c i : ℕ) → table_fault ranges ≡ None → c < (range_at ranges i).0 → (k : ℕ) → i ≤ k → k < length ranges → c < (range_at ranges k).0
-all_after ranges c i none h k later below = elim (cases_lt i k) [
-  | inl after ↦
-      let apart : (range_at ranges i).1 < (range_at ranges k).0 = faultless-ascending ranges i k none after below in
-      let ordered : (range_at ranges i).0 ≤ (range_at ranges i).1 = faultless-in_order ranges i none (omega arith) in
-      omega arith
-  | inr here ↦ subst (λ (j : ℕ). c < (range_at ranges j).0) (let same : i ≡ k = omega arith in same) h
-]
+all_after ranges c i none h k later below = grind (arith, faultless-ascending, faultless-in_order)
 
 -- the class of a character that a range holds, and of one that lies between all ranges
 pub table_class-holder : (ranges : List (ℕ × ℕ × BidiClass)) (c i : ℕ) → table_fault ranges ≡ None → i < length ranges → (range_at ranges i).0 ≤ c → c ≤ (range_at ranges i).1 → table_class ranges c ≡ (range_at ranges i).2
@@ -131,19 +100,7 @@ table_class-holder ranges c i none below from to =
     in_range-before c (range_at ranges k) (omega arith))
 
 pub table_class-between : (ranges : List (ℕ × ℕ × BidiClass)) (c low high : ℕ) → high ≤ low → ((k : ℕ) → k < low → (range_at ranges k).1 < c) → ((k : ℕ) → high ≤ k → k < length ranges → c < (range_at ranges k).0) → table_class ranges c ≡ L
-table_class-between ranges c low high met before after =
-    table_class-none ranges c (λ k below. elim (cases_lt k low) [
-      | inl earlier ↦ in_range-before c (range_at ranges k) (before k earlier)
-      | inr later ↦ in_range-after c (range_at ranges k) (after k (omega arith) below)
-    ])
-
--- the class by the ranges from an index on: that of the range there if it holds the character, else by those after it
-pub table_class-drop : (ranges : List (ℕ × ℕ × BidiClass)) (i c : ℕ) → i < length ranges → table_class (drop i ranges) c ≡ cond (in_range c (range_at ranges i)) (range_at ranges i).2 (table_class (drop (i + 1) ranges) c)
-table_class-drop ranges i c below = at_drop_more (λ (rs : List (ℕ × ℕ × BidiClass)). table_class rs c) ranges i (0, 0, L) below ∙ by_test (in_range c (range_at ranges i))
-  where
-    by_test : (b : Bool) → unwrap_or (option_map (λ (r : ℕ × ℕ × BidiClass). r.2) (cond b (Some (range_at ranges i)) (find (in_range c) (drop (i + 1) ranges)))) L ≡ cond b (range_at ranges i).2 (table_class (drop (i + 1) ranges) c)
-    by_test true = refl
-    by_test false = refl
+table_class-between ranges c low high met before after = grind (arith, table_class-none)
 
 -- the classes of the first characters by the ranges from `i` on, once the part that range `i` holds was filled
 pub kept-filled : (kept : ℕ) (ranges : List (ℕ × ℕ × BidiClass)) (i later end : ℕ) (classes part : List BidiClass) → later ≡ i + 1 → i < length ranges → end ≡ min ((range_at ranges i).1 + 1) kept → (range_at ranges i).0 < end → length classes ≡ kept
@@ -151,23 +108,4 @@ pub kept-filled : (kept : ℕ) (ranges : List (ℕ × ℕ × BidiClass)) (i late
     → ((n : ℕ) → n < kept → get_or classes n L ≡ table_class (drop later ranges) n)
     → (n : ℕ) → n < kept → get_or (put_mid (range_at ranges i).0 (end - (range_at ranges i).0) classes part) n L ≡ table_class (drop i ranges) n
 kept-filled kept ranges i later end classes part next below at_end some long filled so_far n within =
-    let r : ℕ × ℕ × BidiClass = range_at ranges i in
-    let count : ℕ = end - r.0 in
-    let counted : length (take count (drop r.0 classes)) ≡ count = length-take-le count (drop r.0 classes) (omega (arith, length-drop r.0 classes)) in
-    let whole : part ≡ replicate count r.2 = filled ∙ ap (λ (k : ℕ). replicate k r.2) counted in
-    let by_range : table_class (drop i ranges) n ≡ cond (in_range n r) r.2 (table_class (drop (i + 1) ranges) n) = table_class-drop ranges i n below in
-    let earlier : get_or classes n L ≡ table_class (drop (i + 1) ranges) n = so_far n within ∙ ap (λ (k : ℕ). table_class (drop k ranges) n) next in
-    let as_found : get_or (put_mid r.0 count classes part) n L ≡ get_or (put_mid r.0 count classes (replicate count r.2)) n L = ap (λ (xs : List BidiClass). get_or (put_mid r.0 count classes xs) n L) whole in
-    as_found ∙ (elim (cases_lt n r.0) [
-      | inl before ↦
-          put_mid-before r.0 count classes r.2 L n (omega arith) before ∙ earlier
-          ∙ sym (by_range ∙ cond-false (in_range n r) r.2 (table_class (drop (i + 1) ranges) n) (in_range-after n r before))
-      | inr from ↦ elim (cases_lt n end) [
-        | inl to ↦
-            put_mid-inside r.0 count classes r.2 L n (omega arith) from (omega arith)
-            ∙ sym (by_range ∙ cond-true (in_range n r) r.2 (table_class (drop (i + 1) ranges) n) (in_range-holds n r from (omega arith)))
-        | inr after ↦
-            put_mid-after r.0 count classes r.2 L n (omega arith) (omega arith) ∙ earlier
-            ∙ sym (by_range ∙ cond-false (in_range n r) r.2 (table_class (drop (i + 1) ranges) n) (in_range-before n r (omega arith)))
-      ]
-    ])
+    grind (arith, common_steps, length-take-le, put_mid-after)

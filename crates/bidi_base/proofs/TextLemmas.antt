@@ -30,13 +30,9 @@ pub char_at-zero : (len_of : ℕ → ℕ) (chars : List ℕ) → char_at len_of 
 char_at-zero len_of [] = refl
 char_at-zero len_of (c ∷ cs) = refl
 
-at_none : (o : Option (ℕ × ℕ)) (b : Bool) → (b || is_some o) ≡ false → o ≡ None
-at_none None b e = refl
-at_none (Some p) b e = grind arith
-
 -- no character begins inside one
 pub char_at-None : (len_of : ℕ → ℕ) → HasUnits len_of → (chars : List ℕ) (u : ℕ) → is_boundary len_of chars u ≡ false → char_at len_of chars u ≡ None
-char_at-None len_of h chars u e = at_none (char_at len_of chars u) _ (sym (is_boundary-char_at len_of h chars u) ∙ e)
+char_at-None len_of h chars u e = grind (arith, is_boundary-char_at)
 
 at_end : (o : Option (ℕ × ℕ)) (u l : ℕ) (p : ℕ × ℕ) → 1 ≤ u → l ≤ u → o ≡ None → (if u == 0 then Some p else (if nat_lt u l then None else o)) ≡ None
 at_end o u l p pos le e = grind (arith, nat_tests)
@@ -128,5 +124,3 @@ pub is_boundary-le : (len_of : ℕ → ℕ) (chars : List ℕ) (u : ℕ) → is_
 is_boundary-le len_of chars u e =
     let w = cut_at len_of chars u e in
     rw w.joined (omega (arith, sum_by-append len_of w.front w.back, w.long))
-
--- ---- a cursor that goes from place to place

@@ -1,6 +1,6 @@
 -- What the test `is_per_char` says of entries that go with units.
-use Rattle.std.proofs.Common.{◌≡◌, ℕ, zero, suc, ◌<◌, ◌≤◌, Bool, true, false, ◌&&◌, nat_le, List, [], ◌∷◌, ◌++◌, length, get_or, take, drop, refl, sym, ap, ◌∙◌, arith, length-append, length-take}
-use Rattle.std.proofs.Math.Seq.{take-append_seam, drop-append_seam}
+use Rattle.std.proofs.Common.{◌≡◌, ℕ, zero, suc, ◌<◌, ◌≤◌, Bool, true, false, ◌&&◌, nat_le, List, [], ◌∷◌, ◌++◌, length, take, drop, refl, sym, ap, ◌∙◌, arith, length-append, length-take}
+use Rattle.std.proofs.lemmas.Grind.{common_steps}
 use Rattle.std.proofs.lemmas.List.{nil_from_length, take-append-drop, length-replicate}
 use Rattle.std.proofs.lemmas.Bool.Decides.{nat_tests}
 use Rattle.std.specs.List.{list_all}
@@ -10,29 +10,16 @@ use Rattle.bidi_base.proofs.TextLemmas.{HasUnits, zero_test}
 use Rattle.bidi_base.proofs.PerUnit.{length-per_unit, per_char-per_unit}
 use Rattle.std.proofs.lemmas.Bool.{and_parts}
 
-pub all_same-first : {X : Type 0} (eq : X → X → Bool) (xs : List X) (first : X) → 1 ≤ length xs → first ≡ get_or xs 0 first → list_all (λ x. eq x first) xs ≡ all_same eq xs
-all_same-first eq [] first h e = absurd (omega arith)
-all_same-first eq (y ∷ ys) first h e = ap (λ z. list_all (λ x. eq x z) (y ∷ ys)) e
-
 -- ---- steps of `is_per_char`, where c is the first of the characters ds
 module _ {X : Type 0} (eq : X → X → Bool) (len_of : ℕ → ℕ) (ds cs : List ℕ) (c : ℕ) (units : List X) (first : ds ≡ c ∷ cs) where
   pub step_short : length units < len_of c → is_per_char eq len_of ds units ≡ false
-  step_short h = rw first (short (len_of c) (length units) _ h)
-    where
-      short : (n m : ℕ) (b : Bool) → m < n → (nat_le n m && b) ≡ false
-      short n m b h = grind (arith, nat_tests)
+  step_short h = grind arith
 
   pub step_unequal : all_same eq (take (len_of c) units) ≡ false → is_per_char eq len_of ds units ≡ false
-  step_unequal e = rw first (unequal _ _ _ e)
-    where
-      unequal : (a b d : Bool) → b ≡ false → (a && (b && d)) ≡ false
-      unequal a b d e = grind (arith, nat_tests)
+  step_unequal e = grind arith
 
   pub step_on : len_of c ≤ length units → all_same eq (take (len_of c) units) ≡ true → is_per_char eq len_of ds units ≡ is_per_char eq len_of cs (drop (len_of c) units)
-  step_on h e = rw first (on (len_of c) (length units) _ _ h e)
-    where
-      on : (n m : ℕ) (b d : Bool) → n ≤ m → b ≡ true → (nat_le n m && (b && d)) ≡ d
-      on n m b d h e = grind (arith, nat_tests)
+  step_on h e = grind arith
 
 -- ---- units that are those of some values
 
@@ -102,13 +89,13 @@ module _ {X : Type 0} (eq : X → X → Bool) (test : IsSameTest eq) where
       three m n a b h p q = grind (arith, nat_tests)
 
       front : take (len_of c) (replicate (len_of c) v ++ per_unit len_of chars values) ≡ replicate (len_of c) v
-      front = ap (λ m. take m (replicate (len_of c) v ++ per_unit len_of chars values)) (sym (length-replicate (len_of c) v)) ∙ take-append_seam (replicate (len_of c) v) (per_unit len_of chars values)
+      front = grind (arith, common_steps)
 
       back : drop (len_of c) (replicate (len_of c) v ++ per_unit len_of chars values) ≡ per_unit len_of chars values
-      back = ap (λ m. drop m (replicate (len_of c) v ++ per_unit len_of chars values)) (sym (length-replicate (len_of c) v)) ∙ drop-append_seam (replicate (len_of c) v) (per_unit len_of chars values)
+      back = grind (arith, common_steps)
 
   pub is_per_char-from_IsPerChar : (len_of : ℕ → ℕ) (chars : List ℕ) (units : List X) → IsPerChar len_of chars units → is_per_char eq len_of chars units ≡ true
-  is_per_char-from_IsPerChar len_of chars units w = ap (is_per_char eq len_of chars) w.2 ∙ is_per_char-per_unit len_of chars w.0 w.1
+  is_per_char-from_IsPerChar len_of chars units w = grind (arith, is_per_char-per_unit)
 
   pub per_unit-from_is_per_char : (d : X) (len_of : ℕ → ℕ) → HasUnits len_of → (chars : List ℕ) (units : List X) → is_per_char eq len_of chars units ≡ true → units ≡ per_unit len_of chars (per_char d len_of chars units)
   per_unit-from_is_per_char d len_of h chars units e = per_unit-from_IsPerChar d len_of h chars units (IsPerChar-from_is_per_char len_of h chars units e)

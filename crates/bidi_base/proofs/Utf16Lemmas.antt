@@ -1,8 +1,9 @@
 -- Units of UTF-16 as a list of characters: `utf16_text us`, with `utf16_len` for the lengths.
 use Rattle.std.proofs.Common.{zero, suc, ◌≡◌, ◌==◌, ℕ, ◌+◌, ◌-◌, ◌≤◌, Bool, true, false, ◌&&◌, ◌||◌, nat_le, nat_lt, if◌then◌else◌}
+use Rattle.std.proofs.lemmas.Grind.{common_steps}
 use Rattle.std.proofs.Common.{List, [], ◌∷◌, ◌++◌, length, take, drop, get_or, Option, Some, None, MatchOption, inl, inr, refl, sym, ◌∙◌, ap, subst, arith, length-take, length-drop, get_or-drop, drop-cons, ◌<◌}
 use Rattle.std.specs.Prelude.{slice_range}
-use Rattle.std.proofs.lemmas.Bool.{cases_Bool, false_from_ne_true}
+use Rattle.std.proofs.lemmas.Bool.{cases_Bool}
 use Rattle.std.proofs.lemmas.Bool.Decides.{nat_tests}
 use Rattle.std.proofs.lemmas.List.Sums.{sum_by-cons}
 use Rattle.bidi_base.specs.Text.{text_len, char_at, ascii_of, ascii_at, is_boundary, subrange, IsLine}
@@ -16,9 +17,7 @@ pub utf16_len-lone : (u : ℕ) → utf16_len (lone_char u) ≡ 1
 utf16_len-lone u = grind (arith, nat_tests)
 
 pub utf16_len-pair : (u v : ℕ) → utf16_len (pair_char u v) ≡ 2
-utf16_len-pair u v = two (pair_char u v) (omega arith) where
-  two : (c : ℕ) → 0x10000 ≤ c → utf16_len c ≡ 2
-  two c h = grind (arith, nat_tests)
+utf16_len-pair u v = grind arith
 
 -- ---- the characters, step by step
 
@@ -69,10 +68,6 @@ char_at-cut us i le n =
 
 -- ---- no boundary lies in a pair
 
--- the second unit of a pair begins no pair
-after_pair : (u v w : ℕ) → is_pair u v ≡ true → is_pair v w ≡ false
-after_pair u v w e = grind (arith, nat_tests)
-
 -- nor is there a pair past the end
 no_pair : (u : ℕ) → is_pair u 0 ≡ false
 no_pair u = grind (arith, nat_tests)
@@ -82,22 +77,13 @@ true_false b p q = cc (p, q)
 
 -- a boundary past the first character is one of the rest
 past_first : (len n : ℕ) (rest : ℕ → Bool) (l : ℕ) → len ≡ l → 1 ≤ n → rest (n - l) ≡ false → (n == 0 || (nat_le len n && rest (n - len))) ≡ false
-past_first len n rest l e h f = none n _ h (ap (λ m. rest (n - m)) e ∙ f)
-  where
-    none : (n : ℕ) (b : Bool) → 1 ≤ n → b ≡ false → (n == 0 || (nat_le len n && b)) ≡ false
-    none n b h f = grind (arith, nat_tests)
+past_first len n rest l e h f = grind arith
 
 pub is_boundary-inside : (us : List ℕ) (n : ℕ) → is_pair (get_or us n 0) (get_or us (suc n) 0) ≡ true → is_boundary utf16_len (utf16_text us) (suc n) ≡ false
 is_boundary-inside [] n p = absurd (true_false _ p (no_pair 0))
 is_boundary-inside (u ∷ []) n p = absurd (true_false _ p (no_pair (get_or (u ∷ []) n 0)))
-is_boundary-inside (u ∷ v ∷ us) zero p =
-    ap (λ cs. is_boundary utf16_len cs 1) (text_pair u v us p)
-    ∙ ap (λ l. 1 == 0 || (nat_le l 1 && is_boundary utf16_len (utf16_text us) (1 - l))) (utf16_len-pair u v)
-is_boundary-inside (u ∷ v ∷ us) (suc zero) p = elim (cases_Bool (is_pair u v)) [
-  | inl q ↦ absurd (true_false _ p (after_pair u v (get_or (u ∷ v ∷ us) 2 0) q))
-  | inr q ↦ ap (λ cs. is_boundary utf16_len cs 2) (text_lone u v us q)
-      ∙ past_first (utf16_len (lone_char u)) 2 (is_boundary utf16_len (utf16_text (v ∷ us))) 1 (utf16_len-lone u) (omega arith) (is_boundary-inside (v ∷ us) zero p)
-]
+is_boundary-inside (u ∷ v ∷ us) zero p = grind arith
+is_boundary-inside (u ∷ v ∷ us) (suc zero) p = grind (arith, common_steps)
 is_boundary-inside (u ∷ v ∷ us) (suc (suc n)) p = elim (cases_Bool (is_pair u v)) [
   | inl q ↦ ap (λ cs. is_boundary utf16_len cs (suc (suc (suc n)))) (text_pair u v us q)
       ∙ past_first (utf16_len (pair_char u v)) (suc (suc (suc n))) (is_boundary utf16_len (utf16_text us)) 2 (utf16_len-pair u v) (omega arith)
@@ -114,8 +100,7 @@ is_boundary-inside (u ∷ v ∷ us) (suc (suc n)) p = elim (cases_Bool (is_pair 
     less_one n = omega arith
 
 NoPairAt-from_is_boundary : (us : List ℕ) (i : ℕ) → is_boundary utf16_len (utf16_text us) i ≡ true → NoPairAt us i
-NoPairAt-from_is_boundary us i e n is =
-    false_from_ne_true _ (λ p. true_false _ e (ap (is_boundary utf16_len (utf16_text us)) is ∙ is_boundary-inside us n p))
+NoPairAt-from_is_boundary us i e n is = grind (arith, common_steps, is_boundary-inside)
 
 pub is_boundary-within : (us : List ℕ) (i : ℕ) → is_boundary utf16_len (utf16_text us) i ≡ true → i ≤ length us
 is_boundary-within us i e = omega (arith, is_boundary-le utf16_len (utf16_text us) i e, text_len-utf16 us)
@@ -129,8 +114,7 @@ subrange-utf16 us start end line =
     let zs : List ℕ = utf16_text (drop (end - start) ys) in
     let within : end ≤ length us = is_boundary-within us end line.ends in
     let ends = NoPairAt-from_is_boundary us end line.ends in
-    let across : NoPairAt ys (end - start) = λ k e. rw (get_or-drop start us k 0, get_or-drop start us (suc k) 0)
-    (subst (λ x. is_pair (get_or us (start + k) 0) (get_or us x 0) ≡ false) (omega arith) (ends (start + k) (omega (arith, line.ordered)))) in
+    let across : NoPairAt ys (end - start) = λ k e. grind (arith, get_or-drop) in
     let front : text_len utf16_len xs ≡ start = text_len-front us start (omega (arith, line.ordered)) in
     let both : text_len utf16_len xs + text_len utf16_len mid ≡ end = omega (arith, front, text_len-front ys (end - start) (omega (arith, length-drop start us)), line.ordered) in
     let parts : utf16_text us ≡ xs ++ (mid ++ zs) = utf16_text-cut us start (NoPairAt-from_is_boundary us start line.begins) ∙ ap (λ z. xs ++ z) (utf16_text-cut ys (end - start) across) in
@@ -151,13 +135,7 @@ pub record PairAt (us : List ℕ) (i : ℕ) : Type 0 where
   pub pair : is_pair (get_or us first 0) (get_or us i 0) ≡ true
 
 pub pair_at : (us : List ℕ) (i : ℕ) → splits_pair us i ≡ true → PairAt us i
-pair_at us i e = record { first = i - 1; second = past (both_true _ _ e).0; pair = (both_true _ _ e).1 }
-  where
-    both_true : (a b : Bool) → (a && b) ≡ true → (a ≡ true) × (b ≡ true)
-    both_true a b e = grind arith
-
-    past : nat_lt 0 i ≡ true → i ≡ suc (i - 1)
-    past e = let h : 1 ≤ i = grind (arith, nat_tests) in omega arith
+pair_at us i e = grind arith
 
 pub char_at-inside : (us : List ℕ) (i : ℕ) → splits_pair us i ≡ true → char_at utf16_len (utf16_text us) i ≡ None
 char_at-inside us i e =
@@ -166,43 +144,23 @@ char_at-inside us i e =
     char_at-None utf16_len has_units (utf16_text us) i (ap (is_boundary utf16_len (utf16_text us)) w.second ∙ is_boundary-inside us w.first pair)
 
 pub NoPairAt-from_splits_pair : (us : List ℕ) (i : ℕ) → splits_pair us i ≡ false → NoPairAt us i
-NoPairAt-from_splits_pair us i e n is = false_from_ne_true _ (λ p. true_false _ (ap (splits_pair us) is ∙ split n p) e)
-  where
-    both_hold : (a b : Bool) → a ≡ true → b ≡ true → (a && b) ≡ true
-    both_hold a b p q = grind arith
-
-    less : (n : ℕ) → suc n - 1 ≡ n
-    less n = omega arith
-
-    split : (n : ℕ) → is_pair (get_or us n 0) (get_or us (suc n) 0) ≡ true → splits_pair us (suc n) ≡ true
-    split n p = both_hold (nat_lt 0 (suc n)) _ (grind (arith, nat_tests)) (ap (λ m. is_pair (get_or us m 0) (get_or us (suc n) 0)) (less n) ∙ p)
+NoPairAt-from_splits_pair us i e n is = grind arith
 
 -- what the first character says
 pub char_at-first : (us : List ℕ) (o : Option (ℕ × ℕ)) → MatchOption o (us ≡ []) (λ p. IsFirst us p.0 p.1) → o ≡ char_at utf16_len (utf16_text us) 0
-char_at-first us None h = ap (λ x. char_at utf16_len (utf16_text x) 0) (sym h)
-char_at-first us (Some p) h = ap (λ n. Some (p.0, n)) h.long ∙ ap (λ cs. char_at utf16_len cs 0) (sym h.text)
+char_at-first us o h = grind arith
 
 -- ---- a unit below 128 is a whole character, and no other unit begins an ASCII one
 
 abbrev pub ascii_unit : ℕ → Option ℕ
 ascii_unit u = if nat_lt u 128 then Some u else None
 
-ascii_lone : (u : ℕ) → ascii_of (Some (lone_char u, utf16_len (lone_char u))) ≡ ascii_unit u
-ascii_lone u = grind (arith, nat_tests)
-
-ascii_pair : (u v c : ℕ) → is_pair u v ≡ true → 0x10000 ≤ c → ascii_of (Some (c, utf16_len c)) ≡ ascii_unit u
-ascii_pair u v c e high = grind (arith, nat_tests)
-
 ascii_first : (u : ℕ) (us : List ℕ) → ascii_of (char_at utf16_len (utf16_text (u ∷ us)) 0) ≡ ascii_unit u
-ascii_first u [] = ascii_lone u
-ascii_first u (v ∷ us) = elim (cases_Bool (is_pair u v)) [
-  | inl p ↦ ap (λ cs. ascii_of (char_at utf16_len cs 0)) (text_pair u v us p) ∙ ascii_pair u v (pair_char u v) p (omega arith)
-  | inr n ↦ ap (λ cs. ascii_of (char_at utf16_len cs 0)) (text_lone u v us n) ∙ ascii_lone u
-]
+ascii_first u us = grind (arith, nat_tests)
 
 pub ascii_at-unit : (us : List ℕ) (i : ℕ) → i < length us → ascii_at utf16_len (utf16_text us) i ≡ ascii_unit (get_or us i 0)
 ascii_at-unit us i within = elim (cases_Bool (splits_pair us i)) [
-  | inl inside ↦ ap ascii_of (char_at-inside us i inside) ∙ sym (second (get_or us (pair_at us i inside).first 0) (get_or us i 0) (pair_at us i inside).pair)
+  | inl inside ↦ grind (arith, char_at-inside, second)
   | inr apart ↦ ap ascii_of (char_at-cut us i (omega arith) (NoPairAt-from_splits_pair us i apart))
       ∙ ap (λ x. ascii_of (char_at utf16_len (utf16_text x) 0)) (drop-cons us i 0 within) ∙ ascii_first (get_or us i 0) (drop (suc i) us)
 ]

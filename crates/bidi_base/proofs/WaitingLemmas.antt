@@ -6,12 +6,11 @@ use Rattle.std.specs.List.{range_with_len}
 use Rattle.std.specs.List.Sorted.{IsPermutation}
 use Rattle.std.proofs.lemmas.Bool.{cases_eq, both_ways, cond-true, cond-false, false_from_ne_true}
 use Rattle.std.proofs.lemmas.List.{get_or_append_left, get_or-set_same, get_or-set_other, length-set}
-use Rattle.std.proofs.lemmas.List.Sorted.{IsPermutation-refl}
 use Rattle.bidi_base.specs.declared.char_data.BidiClass.{BidiClass}
 use Rattle.bidi_base.specs.Places.{class_at, last_or}
 use Rattle.bidi_base.specs.Isolates.{is_initiator_at, is_pdi_at, matching_pdi}
 use Rattle.bidi_base.specs.Sequences.{is_kept_at, kept_places, next_kept, have_one_level, successor, is_first, sequences}
-use Rattle.bidi_base.proofs.ReadStack.{Member, IsReadStack, IsReadStack-start, IsReadStack-more, IsReadStack-stay}
+use Rattle.bidi_base.proofs.ReadStack.{Member, IsReadStack, IsReadStack-more, IsReadStack-stay}
 use Rattle.bidi_base.proofs.OpenMatches.{IsReadStack-match, IsReadStack-matched, IsReadStack-no_match}
 use Rattle.bidi_base.proofs.IsolatesLemmas.{initiators_apart, pdis_apart, matching_pdi-is_pdi}
 use Rattle.bidi_base.proofs.PermutationLemmas.{count_of, count_of-cons, count_of-IsPermutation, Ascends, Ascends-push, Ascends-higher, Ascends-filter, Ascends-range}
@@ -72,8 +71,7 @@ module _ (classes : List BidiClass) (levels : List ℕ) where
   last_if i m p (q ∷ ps) follows (inr there) next none = last_if i m q ps follows.1 there next (λ member. none (inr member))
 
   last_of_sequence : (i m : ℕ) (xs : List ℕ) → IsBegunList classes levels xs → Member i xs → successor classes levels i ≡ Some m → (Member m xs → ⊥) → last_or 0 xs ≡ i
-  last_of_sequence i m [] begun member next none = absurd begun
-  last_of_sequence i m (p ∷ ps) begun member next none = last_if i m p ps begun.follows member next none
+  last_of_sequence i m xs begun member next none = grind (arith, last_if)
 
   begun_at : (out : List (List ℕ)) (s : ℕ) → AllBegun classes levels out → s < length out → IsBegunList classes levels (get_or out s [])
   begun_at [] s begun within = absurd (omega arith)
@@ -104,7 +102,7 @@ module _ (classes : List BidiClass) (levels : List ℕ) where
       ((omega (arith, waiting.0.0, longer.0), longer.1 s i waiting.0.0 waiting.0.1, waiting.0.2), AreWaiting-longer out more stack waits longer waiting.1)
 
   IsLonger-push : (out : List (List ℕ)) (xs : List ℕ) → IsLonger out (out ++ xs ∷ [])
-  IsLonger-push out xs = (omega (arith, length-append out (xs ∷ [])), λ s x within member. rw (get_or_append_left out (xs ∷ []) [] s within) member)
+  IsLonger-push out xs = grind (arith, length-append, get_or_append_left)
 
   IsLonger-join : (out : List (List ℕ)) (t : ℕ) (ys : List ℕ) → t < length out → IsLonger out (set out t (get_or out t [] ++ ys))
   IsLonger-join out t ys within = (omega (arith, length-set out t (get_or out t [] ++ ys)), kept_by)
@@ -125,20 +123,11 @@ module _ (classes : List BidiClass) (levels : List ℕ) where
     pub isolates : IsReadStack (is_initiator_at classes) (is_pdi_at classes) m stack
     pub waiting : AreWaiting out stack waits
 
-  pub IsPass-start : IsPass 0 0 [] [] []
-  IsPass-start = record {
-    begun = tt;
-    shares = IsPermutation-refl [];
-    in_order = omega arith;
-    isolates = IsReadStack-start (is_initiator_at classes) (is_pdi_at classes);
-    waiting = tt;
-  }
-
   -- once all was read, these are the sequences
   pub IsPass-end : (paragraph m : ℕ) (out : List (List ℕ)) (stack : List ℕ) (waits : List (Option ℕ)) → IsPass (length classes) m out stack waits
       → map (sequence_of classes levels paragraph) out ≡ sequences paragraph classes levels
   unfolding kept_places
-  IsPass-end paragraph m out stack waits h = sequences-from_pass_in_order classes levels paragraph out h.begun h.shares h.in_order
+  IsPass-end paragraph m out stack waits h = grind (arith, sequences-from_pass_in_order)
 
   -- characters that X9 removes come to no sequence
   pub IsPass-removed : (a n m : ℕ) (out : List (List ℕ)) (stack : List ℕ) (waits : List (Option ℕ)) → IsPass a m out stack waits
@@ -156,8 +145,7 @@ module _ (classes : List BidiClass) (levels : List ℕ) where
   -- reading up to k for what is open
   IsPass-read : (a m k : ℕ) (out : List (List ℕ)) (stack next : List ℕ) (waits waits_next : List (Option ℕ)) → IsPass a m out stack waits
       → IsReadStack (is_initiator_at classes) (is_pdi_at classes) k next → AreWaiting out next waits_next → IsPass a k out next waits_next
-  IsPass-read a m k out stack next waits waits_next h isolates waiting =
-      record { begun = h.begun; shares = h.shares; in_order = h.in_order; isolates = isolates; waiting = waiting }
+  IsPass-read a m k out stack next waits waits_next h isolates waiting = grind arith
 
   -- one character: nothing happens, an initiator, a PDI
   pub IsPass-stay : (a m : ℕ) (out : List (List ℕ)) (stack : List ℕ) (waits : List (Option ℕ)) → IsPass a m out stack waits
@@ -234,7 +222,7 @@ module _ (classes : List BidiClass) (levels : List ℕ) where
 
   -- any other run begins a sequence
   pub is_first-no_pdi : (m : ℕ) → is_pdi_at classes m ≡ false → BeginsRun classes levels m → is_first classes levels m ≡ true
-  is_first-no_pdi m other begins = is_first-run classes levels m begins (λ i opens matches ends. both_ways (is_pdi_at classes m) other (matching_pdi-is_pdi classes i m matches))
+  is_first-no_pdi m other begins = grind (arith, is_first-run, matching_pdi-is_pdi)
 
   pub is_first-none_open : (a m : ℕ) (out : List (List ℕ)) (waits : List (Option ℕ)) → IsPass a m out [] waits → BeginsRun classes levels m → is_first classes levels m ≡ true
   unfolding matching_pdi

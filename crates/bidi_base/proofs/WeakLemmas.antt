@@ -1,15 +1,13 @@
 -- The classes that W1 to W7 leave: of kept classes, those with a direction and the neutrals.
-use Rattle.std.proofs.Common.{◌≡◌, Bool, true, not, ◌&&◌, ◌||◌, List, [], ◌∷◌, refl, ap, ◌∙◌, inl, inr}
+use Rattle.std.proofs.Common.{◌≡◌, Bool, true, not, ◌&&◌, List, [], ◌∷◌, refl, ap, ◌∙◌, inl, inr, arith}
 use Rattle.std.specs.List.{list_all}
-use Rattle.std.proofs.lemmas.Bool.{cases_Bool, and_parts, and_from, cond-true, cond-false}
+use Rattle.std.proofs.lemmas.Bool.{cases_Bool, and_parts, cond-false}
 use Rattle.bidi_base.specs.declared.char_data.BidiClass.{BidiClass}
-use Rattle.bidi_base.specs.declared.char_data.BidiClass.TheVariants.{L, R, AL, EN, ES, ET, AN, CS, NSM, LRI, RLI, FSI, PDI}
-use Rattle.bidi_base.specs.Classes.{is_kept, is_nsm, is_al, is_en, is_et, is_l, is_l_or_r, is_strong, is_weak_resolved}
-use Rattle.bidi_base.specs.Places.{nearest, nearest_is}
-use Rattle.bidi_base.specs.Weak.{carried, w1_rule, w2_rule, w3_rule, w4_rule, w5_rule, w6_rule, w7_rule, w1, w2, w3, w4, w5, w6, weak_classes}
+use Rattle.bidi_base.specs.Classes.{is_kept, is_nsm, is_al, is_l_or_r, is_weak_resolved}
+use Rattle.bidi_base.specs.Places.{nearest}
+use Rattle.bidi_base.specs.Weak.{w1_rule, w2_rule, w3_rule, w4_rule, w5_rule, w6_rule, w7_rule, w1, w2, w3, w4, w5, w6, weak_classes}
 use Rattle.bidi_base.proofs.ContextLemmas.{list_all-in_context, list_all-mapped}
 use Rattle.bidi_base.proofs.PlacesLemmas.{nearest-more}
-use Rattle.bidi_base.proofs.Lists.{chosen}
 
 -- after W1 no nonspacing mark is left, after W3 no Arabic letter, after W6 no separator and no terminator
 abbrev is_after_w1 : BidiClass → Bool
@@ -26,64 +24,34 @@ nearest_after_w1 sos (b ∷ before) h k =
     let rest = nearest (λ c. not (is_nsm c)) before sos in
     ap is_after_w1 (nearest-more (λ c. not (is_nsm c)) b before sos)
     ∙ elim (cases_Bool (not (is_nsm b))) [
-      | inl yes' ↦ ap is_after_w1 (cond-true (not (is_nsm b)) b rest yes') ∙ and_from (is_kept b) (not (is_nsm b)) parts.0 yes'
+      | inl yes' ↦ grind arith
       | inr no' ↦ ap is_after_w1 (cond-false (not (is_nsm b)) b rest no') ∙ next
     ]
 
-carried_after_w1 : (c : BidiClass) → is_after_w1 c ≡ true → is_after_w1 (carried c) ≡ true
-carried_after_w1 LRI h = refl
-carried_after_w1 RLI h = refl
-carried_after_w1 FSI h = refl
-carried_after_w1 PDI h = refl
-carried_after_w1 _ h = h
-
 w1_answers : (sos : BidiClass) → is_after_w1 sos ≡ true → (before : List BidiClass) (c : BidiClass) (after : List BidiClass) → list_all is_kept before ≡ true → is_kept c ≡ true
     → is_after_w1 (w1_rule sos before c after) ≡ true
-w1_answers sos h before NSM after k l = carried_after_w1 (nearest (λ c. not (is_nsm c)) before sos) (nearest_after_w1 sos before h k)
-w1_answers sos h before _ after k l = and_from _ _ l refl
+w1_answers sos h before c after k l = grind (arith, nearest_after_w1)
 
 w2_answers : (sos : BidiClass) (before : List BidiClass) (c : BidiClass) (after : List BidiClass) → is_after_w1 c ≡ true → is_after_w1 (w2_rule sos before c after) ≡ true
-w2_answers sos before EN after h = chosen is_after_w1 (is_al (nearest is_strong before sos)) AN EN refl refl
-w2_answers sos before _ after h = h
+w2_answers sos before c after h = grind arith
 
 w3_answers : (c : BidiClass) → is_after_w1 c ≡ true → is_after_w3 (w3_rule c) ≡ true
-w3_answers AL h = refl
-w3_answers _ h = h
+w3_answers c h = grind arith
 
 w4_answers : (before : List BidiClass) (c : BidiClass) (after : List BidiClass) → is_after_w3 c ≡ true → is_after_w3 (w4_rule before c after) ≡ true
-w4_answers [] c after h = h
-w4_answers (EN ∷ before) ES [] h = refl
-w4_answers (EN ∷ before) ES (EN ∷ after) h = refl
-w4_answers (EN ∷ before) ES (_ ∷ after) h = refl
-w4_answers (EN ∷ before) CS [] h = refl
-w4_answers (EN ∷ before) CS (EN ∷ after) h = refl
-w4_answers (EN ∷ before) CS (_ ∷ after) h = refl
-w4_answers (EN ∷ before) _ after h = h
-w4_answers (AN ∷ before) CS [] h = refl
-w4_answers (AN ∷ before) CS (AN ∷ after) h = refl
-w4_answers (AN ∷ before) CS (_ ∷ after) h = refl
-w4_answers (AN ∷ before) _ after h = h
-w4_answers (_ ∷ before) c after h = h
+w4_answers before c after h = grind arith
 
 w5_answers : (before : List BidiClass) (c : BidiClass) (after : List BidiClass) → is_after_w3 c ≡ true → is_after_w3 (w5_rule before c after) ≡ true
-w5_answers before ET after h =
-    chosen is_after_w3 (nearest_is (λ c. not (is_et c)) is_en before || nearest_is (λ c. not (is_et c)) is_en after) EN ET refl refl
-w5_answers before _ after h = h
+w5_answers before c after h = grind arith
 
 w6_answers : (c : BidiClass) → is_after_w3 c ≡ true → is_weak_resolved (w6_rule c) ≡ true
-w6_answers ES h = refl
-w6_answers ET h = refl
-w6_answers CS h = refl
-w6_answers _ h = h
+w6_answers c h = grind arith
 
 w7_answers : (sos : BidiClass) (before : List BidiClass) (c : BidiClass) (after : List BidiClass) → is_weak_resolved c ≡ true → is_weak_resolved (w7_rule sos before c after) ≡ true
-w7_answers sos before EN after h = chosen is_weak_resolved (is_l (nearest is_l_or_r before sos)) L EN refl refl
-w7_answers sos before _ after h = h
+w7_answers sos before c after h = grind arith
 
 sos_after_w1 : (sos : BidiClass) → is_l_or_r sos ≡ true → is_after_w1 sos ≡ true
-sos_after_w1 L h = refl
-sos_after_w1 R h = refl
-sos_after_w1 _ h = absurd (cc h)
+sos_after_w1 sos h = grind arith
 
 pub weak_classes-resolved : (sos : BidiClass) (classes : List BidiClass) → is_l_or_r sos ≡ true → list_all is_kept classes ≡ true → list_all is_weak_resolved (weak_classes sos classes) ≡ true
 unfolding weak_classes

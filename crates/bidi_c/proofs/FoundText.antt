@@ -1,13 +1,11 @@
 -- What an analysis holds, as a caller's buffers have it.
 use Rattle.std.proofs.lemmas.List.{length-take-le}
-use Rattle.std.proofs.Common.{◌≡◌, ◌∙◌, ℕ, ◌≤◌, Bool, false, ◌&&◌, nat_le, Some, None, true, take, List, [], ◌∷◌, map, length, refl, ap, ap₂, sym, Option}
+use Rattle.std.proofs.Common.{◌≡◌, ◌∙◌, ℕ, ◌≤◌, ◌&&◌, nat_le, None, take, List, [], ◌∷◌, map, length, refl, ap, ap₂, sym, Option, arith}
 use Rattle.std.proofs.lemmas.List.{length-map}
-use Rattle.std.proofs.lemmas.Bool.{and_parts, leb-true}
-use Rattle.std.specs.Option.{option_or}
 use Rattle.bidi_base.specs.Analysed.{AnalysedText, IsPerCharText}
 use Rattle.bidi_base.specs.Source.{Source}
 use Rattle.bidi_base.specs.Text.{text_len}
-use Rattle.bidi_base.proofs.PerCharTests.{class_eq, class_test, level_eq, level_test}
+use Rattle.bidi_base.proofs.PerCharTests.{class_test, level_eq, level_test}
 use Rattle.bidi_base.proofs.TextLemmas.{HasUnits}
 use Rattle.bidi_base.proofs.UnitsLemmas.{length-from_is_per_char}
 use Rattle.unicode_bidi.specs.ParagraphInfo.{range_of, level_of, ranges_of, levels_of}
@@ -40,27 +38,15 @@ count-found source base split a ps h = sym (length-map ps row_of) ∙ ap length 
 
 -- one class and one level a unit
 pub length-classes : (a : AnalysedText) → HasUnits a.len_of → IsPerCharText a → length a.classes ≡ text_len a.len_of a.chars
-length-classes a some h = length-from_is_per_char class_eq class_test a.len_of some a.chars a.classes h.classes
+length-classes a some h = grind (arith, length-from_is_per_char, class_test)
 
 pub length-levels : (a : AnalysedText) → HasUnits a.len_of → IsPerCharText a → length a.levels ≡ text_len a.len_of a.chars
 length-levels a some h = length-from_is_per_char level_eq level_test a.len_of some a.chars a.levels h.levels
 
--- a test that passed
-pub holds : (b : Bool) (f : Fault) → None ≡ fault_unless b f → b ≡ true
-holds true f e = refl
-holds false f e = cc
-
 -- there is room for so many in both of two buffers
 pub fit-both : (n a b : ℕ) (f : Fault) → None ≡ fault_unless (nat_le n a && nat_le n b) f → (n ≤ a) × (n ≤ b)
-fit-both n a b f e =
-    let parts = and_parts (nat_le n a) (nat_le n b) (holds (nat_le n a && nat_le n b) f e) in
-    (leb-true n a parts.0, leb-true n b parts.1)
+fit-both n a b f e = grind arith
 
 -- a front of a buffer is as long as what goes there
 pub length-front : {X Y : Type 0} (n : ℕ) (buffer : List X) (xs : List Y) → n ≤ length buffer → length xs ≡ n → length (take n buffer) ≡ length xs
 length-front n buffer xs fits e = length-take-le n buffer fits ∙ sym e
-
--- a first test that passed tells nothing
-pub no_first_fault : (first rest : Option Fault) → first ≡ None → option_or first rest ≡ rest
-no_first_fault None rest e = refl
-no_first_fault (Some f) rest e = cc

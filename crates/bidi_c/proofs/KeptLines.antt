@@ -1,14 +1,13 @@
 -- A line whose classes and levels are kept.
-use Rattle.std.proofs.Common.{◌≡◌, ◌∙◌, ℕ, ◌+◌, ◌-◌, ◌≤◌, List, length, map, get_or, sym, ap, ap₂, arith}
+use Rattle.std.proofs.Common.{◌≡◌, ℕ, ◌+◌, ◌-◌, List, length, map, get_or, arith}
 use Rattle.std.specs.Prelude.{slice_range}
 use Rattle.std.proofs.lemmas.List.{take_all, length-map}
 use Rattle.std.proofs.lemmas.List.FromFn.{length-range_with_len}
 use Rattle.bidi_base.specs.declared.char_data.BidiClass.{BidiClass}
 use Rattle.bidi_base.specs.declared.char_data.BidiClass.TheVariants.{L}
 use Rattle.bidi_base.specs.Display.{line_text}
-use Rattle.bidi_base.specs.Line.{line_levels, levels_of_line}
-use Rattle.bidi_base.specs.Order.{visual_order, index_at_visual}
-use Rattle.bidi_base.specs.Places.{indexes}
+use Rattle.bidi_base.specs.Line.{levels_of_line}
+use Rattle.bidi_base.specs.Order.{visual_order}
 use Rattle.bidi_base.specs.Text.{per_char}
 use Rattle.bidi_lines.proofs.LineInText.{length-part}
 use Rattle.bidi_lines.proofs.LineLevels.{length-line_levels}
@@ -30,48 +29,35 @@ length-own_classes l h = length-part l.classes.now l.start l.end (omega (arith, 
 pub shown_levels-own : (l : KeptLine) → IsSound l → (level n : ℕ) (classes : List BidiClass) (levels : List ℕ) → level ≡ l.paragraph.now.level
     → classes ≡ map class_numbered (own_classes l) → levels ≡ own_levels l → n ≡ length levels → levels_of_line level classes levels 0 n ≡ shown_levels l
 unfolding shown_levels
-shown_levels-own l h level n classes levels same of_classes of_levels e =
-    let long : length classes ≡ n = ap length of_classes ∙ length-map (own_classes l) class_numbered ∙ length-own_classes l h ∙ sym (length-own_levels l h) ∙ sym (ap length of_levels) ∙ sym e in
-    ap₂ (line_levels level) (whole classes n long ∙ of_classes) (whole levels n (sym e) ∙ of_levels)
-    ∙ ap (λ k. line_levels k (map class_numbered (own_classes l)) (own_levels l)) same
+shown_levels-own l h level n classes levels same of_classes of_levels e = grind (arith, length-map, length-own_classes, length-own_levels, whole)
 
 pub length-shown_levels : (l : KeptLine) → IsSound l → length (shown_levels l) + l.start ≡ l.end
 unfolding shown_levels
-length-shown_levels l h =
-    let classes = length-map (own_classes l) class_numbered ∙ length-own_classes l h in
-    let long = length-line_levels l.paragraph.now.level (map class_numbered (own_classes l)) (own_levels l) (length-own_levels l h ∙ sym classes) ∙ classes in
-    omega (arith, long, h.ordered)
+length-shown_levels l h = grind (arith, length-map, length-own_classes, length-line_levels, length-own_levels)
 
 pub length-visual_order : (levels : List ℕ) → length (visual_order levels) ≡ length levels
 unfolding visual_order
-length-visual_order levels = length-map (indexes levels) (index_at_visual levels) ∙ length-range_with_len 0 (length levels)
+length-visual_order levels = grind (arith, length-map, length-range_with_len)
 
 -- the text of the line, from its own classes, levels and level
 pub reordered-own : (len_of : ℕ → ℕ) (encode : ℕ → List ℕ) (chars units : List ℕ) (l : KeptLine) (level : ℕ) (classes : List BidiClass) (levels shown : List ℕ)
     → level ≡ l.paragraph.now.level → classes ≡ line_classes l → levels ≡ own_levels l
     → shown ≡ line_text len_of encode chars units level (per_char L len_of chars classes) (per_char 0 len_of chars levels) 0 (length units) → shown ≡ reordered len_of encode chars units l
 unfolding reordered
-reordered-own len_of encode chars units l level classes levels shown of_level of_classes of_levels e =
-    e ∙ (λ i. line_text len_of encode chars units (of_level i) (per_char L len_of chars (of_classes i)) (per_char 0 len_of chars (of_levels i)) 0 (length units))
+reordered-own len_of encode chars units l level classes levels shown of_level of_classes of_levels e = grind arith
 
 -- the order of the line's characters
 pub order-own : (len_of : ℕ → ℕ) (chars : List ℕ) (l : KeptLine) (units levels order : List ℕ)
     → units ≡ shown_levels l → levels ≡ per_char 0 len_of chars units → order ≡ visual_order levels → order ≡ order_of_line len_of chars l
 unfolding order_of_line
-order-own len_of chars l units levels order of_units of_levels of_order =
-    of_order ∙ ap visual_order (of_levels ∙ ap (per_char 0 len_of chars) of_units)
+order-own len_of chars l units levels order of_units of_levels of_order = grind arith
 
 -- the line's characters in that order, where each is a unit
 pub chars-own : (chars : List ℕ) (l : KeptLine) (levels order shown : List ℕ)
     → levels ≡ shown_levels l → order ≡ visual_order levels → shown ≡ map (λ k. get_or chars k 0) order → shown ≡ reordered_chars chars l
 unfolding reordered_chars
-chars-own chars l levels order shown of_levels of_order of_shown =
-    of_shown ∙ ap (map (λ k. get_or chars k 0)) (of_order ∙ ap visual_order of_levels)
+chars-own chars l levels order shown of_levels of_order of_shown = grind arith
 
 pub length-reordered_chars : (chars : List ℕ) (l : KeptLine) → length (reordered_chars chars l) ≡ length (shown_levels l)
 unfolding reordered_chars
-length-reordered_chars chars l = length-map (visual_order (shown_levels l)) (λ k. get_or chars k 0) ∙ length-visual_order (shown_levels l)
-
--- the units from a up to b
-pub length-units : (text : List ℕ) (a b : ℕ) → a ≤ b → b ≤ length text → length (slice_range text a b) + a ≡ b
-length-units text a b order fits = omega (arith, length-part text a b fits)
+length-reordered_chars chars l = grind (arith, length-map, length-visual_order)

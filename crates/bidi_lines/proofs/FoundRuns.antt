@@ -1,8 +1,9 @@
 -- What a program's list of runs is: runs are ranges there.
-use Rattle.std.proofs.Common.{◌≡◌, ℕ, ◌+◌, ◌<◌, ◌≤◌, ◌++◌, false, List, [], ◌∷◌, map, length, get_or, take, All, sym, ap, subst, ◌∙◌, arith}
+use Rattle.std.proofs.Common.{◌≡◌, ℕ, ◌+◌, ◌<◌, ◌≤◌, ◌++◌, false, List, [], ◌∷◌, map, length, get_or, take, All, sym, ap, subst, ◌∙◌, arith, rules}
+use Rattle.std.proofs.lemmas.Grind.{common_steps}
 use Rattle.std.specs.declared.ops.Range.{Range}
 use Rattle.std.specs.List.{range_with_len}
-use Rattle.std.proofs.lemmas.List.{get_or-map, length-map, map-append, take_more}
+use Rattle.std.proofs.lemmas.List.{get_or-map, length-map}
 use Rattle.std.proofs.lemmas.List.FromFn.{length-range_with_len}
 use Rattle.std.proofs.lemmas.List.Sorted.{IsPermutation-refl}
 use Rattle.bidi_base.specs.Levels.{has_rtl}
@@ -30,22 +31,12 @@ runs_within start levels ranges e k d fits =
 pub pushed-more : (ranges old new : List (Range ℕ)) (order : List ℕ) (i : ℕ) (d x : Range ℕ) → i < length order → get_or order i 0 < length ranges
     → map run_of old ≡ at_places (0, 0) (map run_of ranges) (take i order) → new ≡ old ++ x ∷ [] → run_of x ≡ run_of (get_or ranges (get_or order i 0) d)
     → map run_of new ≡ at_places (0, 0) (map run_of ranges) (take (i + 1) order)
-pushed-more ranges old new order i d x fits inside h e same =
-    ap (map run_of) e
-    ∙ map-append run_of old (x ∷ [])
-    ∙ ap (λ (l : List Run). l ++ run_of x ∷ []) h
-    ∙ ap (λ (r : Run). at_places (0, 0) (map run_of ranges) (take i order) ++ r ∷ []) same
-    ∙ sym (ap (at_places (0, 0) (map run_of ranges)) (take_more order i 0 fits)
-    ∙ at_places-append (0, 0) (map run_of ranges) (take i order) (get_or order i 0 ∷ [])
-    ∙ ap (λ (r : Run). at_places (0, 0) (map run_of ranges) (take i order) ++ r ∷ []) (get_or-map run_of ranges (get_or order i 0) d (0, 0) inside))
+pushed-more ranges old new order i d x fits inside h e same = grind (arith, common_steps, at_places-append)
 
 -- where no run has an odd level, the runs stand as they are
 pub visual_runs-still : (start : ℕ) (levels : List ℕ) → has_rtl (map (run_level start levels) (level_runs start levels)) ≡ false → level_runs start levels ≡ visual_runs start levels
 unfolding visual_runs
-visual_runs-still start levels even = sym (
-    ap (at_places (0, 0) (level_runs start levels)) (visual_order-still (map (run_level start levels) (level_runs start levels)) (none_odd (map (run_level start levels) (level_runs start levels)) even) ∙ ap (range_with_len 0) (length-map (level_runs start levels) (run_level start levels)))
-    ∙ at_places-map (0, 0) (level_runs start levels) (range_with_len 0 (length (level_runs start levels)))
-    ∙ all-runs (level_runs start levels))
+visual_runs-still start levels even = search (rules, visual_order-still, none_odd, length-map, all-runs)
 
 -- and so does one run
 pub visual_runs-one : (start : ℕ) (levels : List ℕ) → length (level_runs start levels) ≤ 1 → level_runs start levels ≡ visual_runs start levels
@@ -71,8 +62,7 @@ visual_runs-one start levels few = sym (
 pub visual_runs-found : (start : ℕ) (levels of_runs order : List ℕ) (runs : List Run) → runs ≡ level_runs start levels → of_runs ≡ map (run_level start levels) runs → order ≡ visual_order of_runs
     → at_places (0, 0) runs order ≡ visual_runs start levels
 unfolding visual_runs
-visual_runs-found start levels of_runs order runs e f g =
-    ap (at_places (0, 0) runs) (g ∙ ap visual_order f) ∙ ap (λ rs. at_places (0, 0) rs (visual_order (map (run_level start levels) rs))) e
+visual_runs-found start levels of_runs order runs e f g = grind arith
 
 pub AreVisualRuns-from_same : (start : ℕ) (levels : List ℕ) (runs : List Run) → runs ≡ visual_runs start levels → AreVisualRuns start levels runs
 AreVisualRuns-from_same start levels runs e = subst (AreVisualRuns start levels) (sym e) (visual_runs-are start levels)

@@ -15,7 +15,7 @@ module _ (len_of : ℕ → ℕ) (chars old : List ℕ) where
 
   -- a place is not before its character's index
   index-le-place : HasUnits len_of → (n : ℕ) → n ≤ length chars → n ≤ place len_of chars n
-  index-le-place h n fits = omega (arith, length-le-text_len len_of h (take n chars), length-take-le n chars fits)
+  index-le-place h n fits = grind (arith, length-le-text_len, length-take-le)
 
   pub IsGathered-more : HasUnits len_of → (new : List ℕ) (n x : ℕ) → n < length chars → length old ≡ text_len len_of chars → x ≡ get_or new (place len_of chars n) 0 → IsGathered new n → IsGathered (set new n x) (n + 1)
   IsGathered-more h new n x fits same is g = record {
@@ -33,4 +33,4 @@ module _ (len_of : ℕ → ℕ) (chars old : List ℕ) where
       later u from = let ne : u ≢ n = omega (arith, index-le-place h (n + 1) (omega arith)) in rw get_or-set_other refl
 
   pub IsGathered-end : (new : List ℕ) (n : ℕ) → n ≡ length chars → IsGathered new n → take n new ≡ per_char 0 len_of chars old
-  IsGathered-end new n e g = g.front ∙ take_all n (per_char 0 len_of chars old) (omega (arith, length-per_char 0 len_of chars old))
+  IsGathered-end new n e g = grind (arith, take_all, length-per_char)

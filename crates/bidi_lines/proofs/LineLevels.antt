@@ -1,10 +1,11 @@
 -- L1 along a line: the level that each place takes, and what a pass over the line keeps true.
-use Rattle.std.proofs.Common.{◌≡◌, ℕ, zero, suc, ◌+◌, ◌-◌, ◌<◌, ◌≤◌, if◌then◌else◌, ◌&&◌, ◌||◌, Bool, true, false, not, nat_lt, List, [], ◌∷◌, length, get_or, drop, set, All, refl, sym, ap, ap₂, subst, ◌∙◌, arith, inl, inr, drop-cons, get_or-set_other, get_or-set_same, length-set, ◌≢◌, lt-ltb}
-use Rattle.std.proofs.lemmas.Bool.{cases_lt, cond-true, cond-false, both_ways, ltb-true}
+use Rattle.std.proofs.Common.{◌≡◌, ℕ, zero, suc, ◌+◌, ◌-◌, ◌<◌, ◌≤◌, if◌then◌else◌, ◌&&◌, ◌||◌, Bool, true, false, not, nat_lt, List, [], ◌∷◌, length, get_or, drop, set, All, refl, sym, ap, subst, ◌∙◌, arith, inl, inr, drop-cons, get_or-set_other, get_or-set_same, length-set, ◌≢◌}
+use Rattle.std.proofs.lemmas.Grind.{common_steps}
+use Rattle.std.proofs.lemmas.Bool.{cases_lt, cond-true, cond-false}
 use Rattle.std.proofs.lemmas.List.{get_or_default}
 use Rattle.std.proofs.lemmas.List.Folds.{list_any_at, list_any_none}
 use Rattle.bidi_base.specs.declared.char_data.BidiClass.{BidiClass}
-use Rattle.bidi_base.specs.declared.char_data.BidiClass.TheVariants.{L, BN, B, S, LRE, LRO, RLE, RLO, PDF}
+use Rattle.bidi_base.specs.declared.char_data.BidiClass.TheVariants.{L}
 use Rattle.bidi_base.specs.Classes.{is_removed, is_separator}
 use Rattle.bidi_base.specs.Levels.{is_odd, has_rtl}
 use Rattle.bidi_base.specs.Line.{is_blank, is_reset, line_levels_after, line_levels}
@@ -12,50 +13,26 @@ use Rattle.bidi_base.specs.Places.{class_at}
 
 -- ---- classes
 
-pub is_separator-blank : (c : BidiClass) → is_blank c ≡ true → is_separator c ≡ false
-is_separator-blank B e = absurd (cc e)
-is_separator-blank S e = absurd (cc e)
-is_separator-blank _ e = refl
-
 pub is_blank-removed : (c : BidiClass) → is_removed c ≡ true → is_blank c ≡ true
-is_blank-removed RLE e = refl
-is_blank-removed LRE e = refl
-is_blank-removed RLO e = refl
-is_blank-removed LRO e = refl
-is_blank-removed PDF e = refl
-is_blank-removed BN e = refl
-is_blank-removed _ e = absurd (cc e)
+is_blank-removed c e = grind arith
 
 pub is_removed-not_blank : (c : BidiClass) → is_blank c ≡ false → is_removed c ≡ false
-is_removed-not_blank c e = not_removed (is_removed c) refl
-  where
-    not_removed : (b : Bool) → is_removed c ≡ b → b ≡ false
-    not_removed true r = sym (is_blank-removed c r) ∙ e
-    not_removed false r = refl
+is_removed-not_blank c e = grind arith
 
 -- ---- what is reset
-
-step : (s b r : Bool) → s ≡ false → b ≡ true → (s || (b && r)) ≡ r
-step s b r p q = grind arith
-
-stop : (s b r : Bool) → s ≡ false → b ≡ false → (s || (b && r)) ≡ false
-stop s b r p q = grind arith
-
-at_once : (s b r : Bool) → s ≡ true → (s || (b && r)) ≡ true
-at_once s b r p = grind arith
 
 module _ (classes : List BidiClass) where
   first : (i : ℕ) → i < length classes → is_reset (drop i classes) ≡ is_reset (class_at classes i ∷ drop (suc i) classes)
   first i fits = ap is_reset (drop-cons classes i L fits)
 
   pub is_reset-at_blank : (i : ℕ) → i < length classes → is_blank (class_at classes i) ≡ true → is_reset (drop i classes) ≡ is_reset (drop (suc i) classes)
-  is_reset-at_blank i fits e = first i fits ∙ step (is_separator (class_at classes i)) (is_blank (class_at classes i)) (is_reset (drop (suc i) classes)) (is_separator-blank (class_at classes i) e) e
+  is_reset-at_blank i fits e = grind (arith, first)
 
   pub is_reset-at_separator : (i : ℕ) → i < length classes → is_separator (class_at classes i) ≡ true → is_reset (drop i classes) ≡ true
-  is_reset-at_separator i fits e = first i fits ∙ at_once (is_separator (class_at classes i)) (is_blank (class_at classes i)) (is_reset (drop (suc i) classes)) e
+  is_reset-at_separator i fits e = grind (arith, first)
 
   pub is_reset-at_other : (i : ℕ) → i < length classes → is_separator (class_at classes i) ≡ false → is_blank (class_at classes i) ≡ false → is_reset (drop i classes) ≡ false
-  is_reset-at_other i fits p q = first i fits ∙ stop (is_separator (class_at classes i)) (is_blank (class_at classes i)) (is_reset (drop (suc i) classes)) p q
+  is_reset-at_other i fits p q = grind (arith, first)
 
   -- blanks up to i are reset if what follows them is
   pub is_reset-blanks : (n k : ℕ) → k + n ≤ length classes → ((j : ℕ) → k ≤ j → j < k + n → is_blank (class_at classes j) ≡ true) → is_reset (drop k classes) ≡ is_reset (drop (k + n) classes)
@@ -86,8 +63,7 @@ pub level_before-more : (before : ℕ) (levels : List ℕ) (i : ℕ) → level_b
 level_before-more before levels i = ap (level_before before levels) (let e : i + 1 ≡ suc i = omega arith in e)
 
 pub level_before-same : (before : ℕ) (xs ys : List ℕ) (i : ℕ) → ((k : ℕ) → k < i → get_or xs k 0 ≡ get_or ys k 0) → level_before before xs i ≡ level_before before ys i
-level_before-same before xs ys zero h = refl
-level_before-same before xs ys (suc i) h = h i (omega arith)
+level_before-same before xs ys i h = grind arith
 
 -- the level of a character that is not reset
 abbrev pub kept_level : ℕ → List BidiClass → List ℕ → List ℕ → ℕ → ℕ
@@ -161,27 +137,18 @@ pub record IsResetTo (level : ℕ) (classes : List BidiClass) (old new : List �
   pub last : before ≡ level_before level new i
 
 pub IsResetTo-start : (level : ℕ) (classes : List BidiClass) (levels : List ℕ) → IsResetTo level classes levels levels 0 level 0
-IsResetTo-start level classes levels = record {
-  ordered = omega arith;
-  long = refl;
-  done = λ k below. absurd (omega arith);
-  blank = λ k from below. absurd (omega arith);
-  pending = λ k from below. absurd (omega arith);
-  rest = λ k from. refl;
-  last = refl;
-}
+IsResetTo-start level classes levels = grind arith
 
 -- one more place
 up_to : (P : ℕ → Type 0) (from i : ℕ) → ((k : ℕ) → from ≤ k → k < i → P k) → P i → (k : ℕ) → from ≤ k → k < i + 1 → P k
-up_to P from i h here k a b = elim (cases_lt k i) [ inl earlier ↦ h k a earlier | inr now ↦ let e : i ≡ k = omega arith in subst P e here ]
+up_to P from i h here k a b = grind arith
 
 -- what stays where the entries below k stay
 stays : (level : ℕ) (classes : List BidiClass) (old xs ys : List ℕ) (k : ℕ) → ((j : ℕ) → j < k → get_or xs j 0 ≡ get_or ys j 0) → kept_level level classes old xs k ≡ kept_level level classes old ys k
-stays level classes old xs ys k h = ap (λ x. if is_removed (class_at classes k) then x else get_or old k 0) (level_before-same level xs ys k h)
+stays level classes old xs ys k h = grind arith
 
 done_stays : (level : ℕ) (classes : List BidiClass) (old xs ys : List ℕ) (k : ℕ) → ((j : ℕ) → j < suc k → get_or xs j 0 ≡ get_or ys j 0) → HasLineLevel level level classes old xs k → HasLineLevel level level classes old ys k
-done_stays level classes old xs ys k h here =
-    sym (h k (omega arith)) ∙ here ∙ ap (λ x. if is_reset (drop k classes) then level else x) (stays level classes old xs ys k (λ j below. h j (omega arith)))
+done_stays level classes old xs ys k h here = grind arith
 
 module _ (level : ℕ) (classes : List BidiClass) (old new : List ℕ) (blank_start before i own : ℕ) where
   -- a removed character takes the level before it
@@ -260,10 +227,7 @@ module _ (level : ℕ) (classes : List BidiClass) (old new next : List ℕ) (bla
   -- what is before `to` is done, where the blanks are reset
   all_done : (to : ℕ) → i ≤ to → ((k : ℕ) → blank_start ≤ k → k < to → is_reset (drop k classes) ≡ true) → IsFilled new next blank_start to level → IsResetTo level classes old new blank_start before i
       → (k : ℕ) → k < to → HasLineLevel level level classes old next k
-  all_done to past reset f h k below = elim (cases_lt k blank_start) [
-    | inl earlier ↦ done_stays level classes old new next k (λ j under. sym (f.before j (omega arith))) (h.done k earlier)
-    | inr from ↦ f.inside k from below ∙ sym (cond-true (is_reset (drop k classes)) level (kept_level level classes old next k) (reset k from below))
-  ]
+  all_done to past reset f h k below = grind arith
 
   -- a separator is reset, with the blanks before it
   pub IsResetTo-separator : i < length classes → is_separator (class_at classes i) ≡ true → IsFilled new next blank_start (i + 1) level → IsResetTo level classes old new blank_start before i → IsResetTo level classes old next (i + 1) level (i + 1)
@@ -343,32 +307,12 @@ module _ (level : ℕ) (classes : List BidiClass) (levels : List ℕ) (same : le
 
   -- where neither the level handed in is odd nor a stored one
   pub has_rtl-even : is_odd level ≡ false → has_rtl levels ≡ false → has_rtl (line_levels level classes levels) ≡ false
-  has_rtl-even even stored = has_rtl-none (λ k fits. none_of (is_reset (drop k classes)) (is_removed (class_at classes k)) (is_odd level) (is_odd (get_or levels k 0)) even (own k fits)) (λ some removed. even)
-    where
-      none_of : (reset removed a b : Bool) → a ≡ false → b ≡ false → (if reset then a else (not removed && b)) ≡ false
-      none_of reset removed a b p q = grind arith
-
-      own : (k : ℕ) → k < length classes → is_odd (get_or levels k 0) ≡ false
-      own k fits = not_true (is_odd (get_or levels k 0)) (λ odd. both_ways (has_rtl levels) stored (list_any_at is_odd levels k 0 (omega (arith, same)) odd))
-        where
-          not_true : (b : Bool) → (b ≡ true → ⊥) → b ≡ false
-          not_true true h = absurd (h refl)
-          not_true false h = refl
+  has_rtl-even even stored = grind (arith, has_rtl-none, list_any_at)
 
   -- what the last test says, once no character shows an odd level
   pub has_rtl-end : (first : Bool) → ((k : ℕ) → k < length classes → shows_rtl level classes levels k ≡ false)
       → first ≡ (is_odd level && (nat_lt 0 (length classes) && is_removed (class_at classes 0))) → first ≡ has_rtl (line_levels level classes levels)
-  has_rtl-end true none e = let p = parts (is_odd level) (nat_lt 0 (length classes)) (is_removed (class_at classes 0)) (sym e) in sym (has_rtl-first (ltb-true 0 (length classes) p.1) p.2 p.0)
-    where
-      parts : (a b c : Bool) → (a && (b && c)) ≡ true → (a ≡ true) × (b ≡ true) × (c ≡ true)
-      parts true true true e = (refl, refl, refl)
-      parts true true false e = absurd (cc e)
-      parts true false c e = absurd (cc e)
-      parts false b c e = absurd (cc e)
-  has_rtl-end false none e = sym (has_rtl-none none (λ some removed. even (is_odd level) (nat_lt 0 (length classes)) (is_removed (class_at classes 0)) (sym e) (lt-ltb 0 (length classes) some) removed))
-    where
-      even : (a b c : Bool) → (a && (b && c)) ≡ false → b ≡ true → c ≡ true → a ≡ false
-      even a b c e f g = grind arith
+  has_rtl-end first none e = grind (arith, has_rtl-first, has_rtl-none)
 
 -- ---- a pass from the line's end
 
@@ -380,18 +324,13 @@ pub record IsQuietFrom (level : ℕ) (classes : List BidiClass) (levels : List �
 
 module _ (level : ℕ) (classes : List BidiClass) (levels : List ℕ) where
   pub IsQuietFrom-start : IsQuietFrom level classes levels true (length classes)
-  IsQuietFrom-start = record { within = omega arith; reset_next = sym (is_reset-end classes); none = λ k from below. absurd (omega arith) }
+  IsQuietFrom-start = grind (arith, is_reset-end)
 
   -- what is read at a unit: whether it is reset, and whether it shows an odd level
   pub read-at : (at : ℕ) (next reset shows : Bool) (own : ℕ) → at < length classes → next ≡ is_reset (drop (at + 1) classes)
       → reset ≡ (is_separator (class_at classes at) || (is_blank (class_at classes at) && next)) → own ≡ get_or levels at 0
       → shows ≡ (if reset then is_odd level else (not (is_removed (class_at classes at)) && is_odd own)) → (reset ≡ is_reset (drop at classes)) × (shows ≡ shows_rtl level classes levels at)
-  read-at at next reset shows own fits e f g h = (here, h ∙ ap₂ (λ r x. if r then is_odd level else (not (is_removed (class_at classes at)) && is_odd x)) here g)
-    where
-      here : reset ≡ is_reset (drop at classes)
-      here =
-          f ∙ ap (λ r. is_separator (class_at classes at) || (is_blank (class_at classes at) && r)) (e ∙ ap (λ n. is_reset (drop n classes)) (let n : at + 1 ≡ suc at = omega arith in n))
-          ∙ sym (ap is_reset (drop-cons classes at L fits))
+  read-at at next reset shows own fits e f g h = grind (arith, common_steps)
 
   pub IsQuietFrom-more : (at : ℕ) (next reset : Bool) → at < length classes → reset ≡ is_reset (drop at classes) → shows_rtl level classes levels at ≡ false → IsQuietFrom level classes levels next (at + 1) → IsQuietFrom level classes levels reset at
   IsQuietFrom-more at next reset fits e here h = record { within = omega arith; reset_next = e; none = each }

@@ -1,12 +1,12 @@
 -- A list of the indexes in which the pairs stand as the levels ask is the visual order.
-use Rattle.std.proofs.Common.{◌≡◌, ℕ, ◌+◌, ◌%◌, ◌<◌, false, true, List, length, get_or, AllPairs, sym, subst, ◌∙◌, arith, inl, inr, eq-eqb}
+use Rattle.std.proofs.Common.{◌≡◌, ℕ, ◌+◌, ◌<◌, false, true, List, length, get_or, AllPairs, sym, subst, ◌∙◌, arith, inl, inr, eq-eqb, rules}
 use Rattle.std.specs.List.Sorted.{IsPermutation}
-use Rattle.std.proofs.lemmas.Bool.{cases_lt, cases_order}
+use Rattle.std.proofs.lemmas.Bool.{cases_order}
 use Rattle.std.proofs.lemmas.List.{get_or_default}
 use Rattle.std.proofs.lemmas.List.FromFn.{length-range_with_len, get_or-range_with_len}
 use Rattle.std.proofs.lemmas.List.Sorted.{IsPermutation-refl, length_permutation}
 use Rattle.std.proofs.lemmas.List.Folds.{list_any_at}
-use Rattle.bidi_base.specs.Levels.{is_odd, has_rtl}
+use Rattle.bidi_base.specs.Levels.{has_rtl}
 use Rattle.bidi_base.specs.Places.{indexes}
 use Rattle.bidi_base.specs.Order.{least_between, stands_left, visual_order, IsVisualOrder, order_by_reversals}
 use Rattle.bidi_base.proofs.OrderLemmas.{stands_left-before, stands_left-after}
@@ -42,7 +42,7 @@ visual-from_arranged levels order perm made = visual-from_pairs levels order per
 
 -- what is computed is a visual order, and the annex's reversals give it
 reversals-visual : (levels : List ℕ) → IsVisualOrder levels (order_by_reversals levels)
-reversals-visual levels = visual-from_pairs levels (order_by_reversals levels) (order_by_reversals-permutation levels) (order_by_reversals-pairs levels)
+reversals-visual levels = search (rules, visual-from_pairs, order_by_reversals-permutation, order_by_reversals-pairs)
 
 pub visual_order-is : (levels : List ℕ) → IsVisualOrder levels (visual_order levels)
 visual_order-is levels = subst (IsVisualOrder levels) (visual_order-unique levels _ (reversals-visual levels)) (reversals-visual levels)
@@ -55,12 +55,7 @@ visual_law {levels} {order} h =
 
 -- what the test for odd levels says where it fails
 pub none_odd : (levels : List ℕ) → has_rtl levels ≡ false → NoneIsOdd levels
-none_odd levels e k h = elim (cases_lt (get_or levels k 0 % 2) 1) [
-  | inl m ↦ omega arith
-  | inr m ↦
-      let found : has_rtl levels ≡ true = list_any_at is_odd levels k 0 h (eq-eqb (get_or levels k 0 % 2) 1 (omega arith)) in
-      cc
-]
+none_odd levels e k h = grind (arith, list_any_at)
 
 -- where no level is odd, the indexes stand as they are
 pub visual-still : (levels : List ℕ) → NoneIsOdd levels → IsVisualOrder levels (indexes levels)

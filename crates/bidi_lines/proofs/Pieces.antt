@@ -1,5 +1,5 @@
 -- Lists made of pieces: what holds of each pair in them, and their permutations.
-use Rattle.std.proofs.Common.{◌≡◌, ℕ, zero, suc, ◌+◌, ◌-◌, ◌<◌, ◌≤◌, List, [], ◌∷◌, ◌++◌, map, flat_map, reverse, length, get_or, swap, set, AllPairs, All, refl, ap, ◌∙◌, arith, append_assoc}
+use Rattle.std.proofs.Common.{◌≡◌, ℕ, zero, suc, ◌+◌, ◌-◌, ◌<◌, ◌≤◌, List, [], ◌∷◌, ◌++◌, map, flat_map, reverse, length, get_or, swap, set, AllPairs, All, refl, ap, arith, append_assoc}
 use Rattle.std.specs.List.{range_with_len}
 use Rattle.std.specs.List.Sorted.{IsPermutation}
 use Rattle.std.proofs.lemmas.List.{get_or-reverse, length-reverse}
@@ -34,10 +34,7 @@ module _ {X : Type 0} (R : X → X → Type 0) where
       each (z ∷ zs) a (suc k) d fits = each zs (λ m e b. a (suc m) e (omega arith)) k d (omega arith)
 
   pub AllPairs-reverse : (xs : List X) → AllPairs (λ a b. R b a) xs → AllPairs R (reverse xs)
-  AllPairs-reverse xs h i j d before fits =
-      let long : length (reverse xs) ≡ length xs = length-reverse xs in
-      rw (get_or-reverse xs i d (omega arith), get_or-reverse xs j d (omega arith))
-      (h (length xs - 1 - j) (length xs - 1 - i) d (omega arith) (omega arith))
+  AllPairs-reverse xs h i j d before fits = grind (arith, length-reverse, get_or-reverse)
 
 pub All-flat_map : {A X : Type 0} (P : X → Type 0) (f : A → List X) (parts : List A) → All (λ a. All P (f a)) parts → All P (flat_map f parts)
 All-flat_map P f [] h = λ k d fits. absurd (omega arith)
@@ -63,14 +60,10 @@ pub get_or-between : (a b k d : ℕ) → k < b - a → get_or (between a b) k d 
 get_or-between a b k d fits = get_or-range_with_len a (b - a) k d fits
 
 pub All-between : (P : ℕ → Type 0) (a b : ℕ) → ((u : ℕ) → a ≤ u → u < b → P u) → All P (between a b)
-All-between P a b h k d fits =
-    let long : length (between a b) ≡ b - a = length-between a b in
-    rw (get_or-between a b k d (omega arith)) (h (a + k) (omega arith) (omega arith))
+All-between P a b h k d fits = grind (arith, length-between, get_or-between)
 
 pub AllPairs-between : (R : ℕ → ℕ → Type 0) (a b : ℕ) → ((u w : ℕ) → a ≤ u → u < w → w < b → R u w) → AllPairs R (between a b)
-AllPairs-between R a b h i j d before fits =
-    let long : length (between a b) ≡ b - a = length-between a b in
-    rw (get_or-between a b i d (omega arith), get_or-between a b j d (omega arith)) (h (a + i) (a + j) (omega arith) (omega arith) (omega arith))
+AllPairs-between R a b h i j d before fits = grind (arith, length-between, get_or-between)
 
 range-append : (a m n b : ℕ) → a + m ≡ b → range_with_len a m ++ range_with_len b n ≡ range_with_len a (m + n)
 range-append a zero n b e =
@@ -82,9 +75,7 @@ range-append a (suc m) n b e =
     rw more (ap {B = List ℕ} (λ l. a ∷ l) (range-append (a + 1) m n b (omega arith)))
 
 pub between-append : (a b c : ℕ) → a ≤ b → b ≤ c → between a b ++ between b c ≡ between a c
-between-append a b c h k =
-    let all : (b - a) + (c - b) ≡ c - a = omega arith in
-    range-append a (b - a) (c - b) b (omega arith) ∙ ap (range_with_len a) all
+between-append a b c h k = grind (arith, range-append)
 
 -- the elements at places
 pub at_places-map : {X : Type 0} (d : X) (xs : List X) (ps : List ℕ) → at_places d xs ps ≡ map (λ p. get_or xs p d) ps

@@ -1,6 +1,6 @@
 -- What the annex's reversals leave: each pair stands as the levels between its items ask.
 use Rattle.std.proofs.Common.{◌≡◌, ℕ, zero, suc, ◌+◌, ◌-◌, ◌%◌, ◌<◌, ◌≤◌, Bool, true, false, cond, fold, filter, get_or, nat_lt, max, List, [], ◌∷◌, ◌++◌, length, All, AllPairs, Contains, arith, refl, ◌⊎◌, inl, inr, eqb-true, eq-eqb, le_refl, ltb-true, ltb-false, subst, ap, min}
-use Rattle.std.proofs.lemmas.Bool.{cases_lt, cases_eq, cases_Bool, cond-true, cond-false}
+use Rattle.std.proofs.lemmas.Bool.{cases_lt, cases_Bool, cond-true, cond-false}
 use Rattle.std.specs.List.Sorted.{IsPermutation}
 use Rattle.std.proofs.lemmas.List.{append-nil}
 use Rattle.std.proofs.lemmas.List.Elements.{All-cons, All-nil, All-tail, filter_passes}
@@ -35,27 +35,18 @@ passes-permutation levels low (suc count) line =
 
 pub order_by_reversals-permutation : (levels : List ℕ) → IsPermutation (indexes levels) (order_by_reversals levels)
 unfolding order_by_reversals
-order_by_reversals-permutation levels = passes-permutation levels (lowest_odd levels) (highest levels + 1 - lowest_odd levels) _
+order_by_reversals-permutation levels = grind (arith, passes-permutation)
 
 -- ---- one pass, of the number t + 1
 
 module _ (levels : List ℕ) (t : ℕ) where
   -- an item at t or below stands by its index
   upwards : (x z : ℕ) → x < length levels → z < length levels → (get_or levels x 0 ≤ t) ⊎ (get_or levels z 0 ≤ t) → StandsLeft levels (suc t) x z → x ≤ z
-  upwards x z a b low s = elim (cases_lt z x) [
-    | inl k ↦ elim low [
-      | inl h ↦ absurd (omega (arith, s.down k, least_between-at levels z x x (omega arith) (omega arith) a))
-      | inr h ↦ absurd (omega (arith, s.down k, least_between-at levels z x z (omega arith) (omega arith) a))
-    ]
-    | inr k ↦ k
-  ]
+  upwards x z a b low s = grind (arith, least_between-at)
 
   -- so two items with such a one between them stay
   stay : (x z y : ℕ) → y < length levels → x ≤ z → z ≤ y → get_or levels z 0 ≤ t → StandsLeft levels t x y
-  stay x z y fits a b low = record {
-    up = λ d. omega (arith, least_between-at levels x y z a b fits);
-    down = λ d. absurd (omega arith);
-  }
+  stay x z y fits a b low = grind (arith, least_between-at)
 
   -- and two items with none change sides
   change : (x y : ℕ) → x < length levels → y < length levels → ((k : ℕ) → (x ≤ k × k ≤ y) ⊎ (y ≤ k × k ≤ x) → t < get_or levels k 0) → StandsLeft levels (suc t) y x → StandsLeft levels t x y
@@ -76,13 +67,7 @@ module _ (levels : List ℕ) (t : ℕ) where
   -- what is between two items of the stretch, and before both or after both, is one of them
   none_between : (z i k : ℕ) → t < get_or levels i 0 → t < get_or levels k 0 → get_or levels z 0 ≤ t
       → (i ≤ z × z ≤ k) ⊎ (k ≤ z × z ≤ i) → (z ≤ k × z ≤ i) ⊎ (k ≤ z × i ≤ z) → ⊥
-  none_between z i k a b low between side = elim (cases_eq z i) [
-    | inl e ↦ omega (arith, ap (λ n. get_or levels n 0) e)
-    | inr n ↦ elim (cases_eq z k) [
-      | inl e ↦ omega (arith, ap (λ n. get_or levels n 0) e)
-      | inr m ↦ elim between [ inl p ↦ elim side [ inl s ↦ omega arith | inr s ↦ omega arith ] | inr p ↦ elim side [ inl s ↦ omega arith | inr s ↦ omega arith ] ]
-    ]
-  ]
+  none_between z i k a b low between side = grind arith
 
   module _ (i : ℕ) (held line : List ℕ) (h : IsUnderWay held (i ∷ line)) where
     inside : i < length levels
@@ -199,14 +184,7 @@ le_max a (x ∷ xs) = let rest = le_max (max a x) xs in (omega (arith, rest.0), 
 
 -- before the first pass
 start : (levels : List ℕ) → AllPairs (StandsLeft levels (highest levels)) (indexes levels)
-start levels p q d before fits =
-    let n : q < length levels = omega (arith, fits, length-range_with_len 0 (length levels)) in
-    let x : get_or (indexes levels) p d ≡ 0 + p = get_or-range_with_len 0 (length levels) p d (omega arith) in
-    let y : get_or (indexes levels) q d ≡ 0 + q = get_or-range_with_len 0 (length levels) q d n in
-    rw (x, y) (record {
-      up = λ _. omega (arith, least_between-at levels (0 + p) (0 + q) p (omega arith) (omega arith) (omega arith), (le_max 0 levels).1 p 0 (omega arith));
-      down = λ a. absurd (omega arith);
-    })
+start levels p q d before fits = grind (arith, length-range_with_len, get_or-range_with_len, least_between-at, le_max)
 
 -- `low` is the lowest odd number of a list, or `top` where none is below that
 record IsLowestOdd (top : ℕ) (xs : List ℕ) (low : ℕ) : Type 0 where

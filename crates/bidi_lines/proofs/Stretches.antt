@@ -1,31 +1,17 @@
 -- Parts of a line that stand arranged: seen from a lower level, turned round, and joined.
-use Rattle.std.proofs.Common.{◌≡◌, ℕ, ◌+◌, ◌-◌, ◌<◌, ◌≤◌, List, length, slice_index, arith, inl, inr, refl, ◌∙◌}
+use Rattle.std.proofs.Common.{◌≡◌, ℕ, ◌+◌, ◌-◌, ◌<◌, ◌≤◌, List, length, slice_index, arith, inl, inr, ◌∙◌, rules}
 use Rattle.std.specs.List.Sorted.{IsPermutation}
 use Rattle.std.proofs.lemmas.Bool.{cases_lt}
-use Rattle.std.proofs.lemmas.List.Sorted.{IsPermutation-refl, IsPermutation-trans}
+use Rattle.std.proofs.lemmas.List.Sorted.{IsPermutation-trans}
 use Rattle.bidi_base.specs.Order.{least_between}
 use Rattle.bidi_base.proofs.OrderLemmas.{least_between-le}
 use Rattle.bidi_lines.specs.Arranged.{IsEven, IsOdd, StandsLeft, IsArranged, AtLeast}
 use Rattle.bidi_lines.proofs.Least.{least_between-is}
 
--- a run of one level, each item at its own place
-pub arranged-level : (levels : List ℕ) (base from to : ℕ) (order : List ℕ) → to ≤ length levels
-    → ((p : ℕ) → from ≤ p → p < to → slice_index levels p ≡ base) → ((p : ℕ) → from ≤ p → p < to → slice_index order p ≡ p)
-    → IsArranged levels base from to order
-arranged-level levels base from to order fits same own = record {
-  low = λ p a b. rw (own p a b) a;
-  high = λ p a b. rw (own p a b) b;
-  pairs = λ p q a b c.
-      let x = own p a (omega arith) in
-      let y = own q (omega arith) c in
-      let l : least_between levels p q ≡ base = least_between-is levels p q base p (omega arith) (omega arith) (omega arith) (same p a (omega arith)) (λ k f g. omega (arith, same k (omega arith) (omega arith))) in
-      rw (x, y) (record { up = λ _. omega arith; down = λ d. absurd (omega arith) });
-}
-
 -- what is arranged above a higher level that no item is below
 module _ (levels : List ℕ) (base least at end : ℕ) (fits : end ≤ length levels) (above : AtLeast levels least at end) (under : base ≤ least) where
   deep : (i j : ℕ) → at ≤ i → i < j → j < end → least ≤ least_between levels i j
-  deep i j a b c = least_between-le levels i j least (omega arith) (omega arith) (λ k f g. above k (omega arith) (omega arith))
+  deep i j a b c = grind (arith, least_between-le)
 
   -- an even number of levels further up: as it is
   pub arranged-nested : (order : List ℕ) → IsEven (least - base) → IsArranged levels least at end order → IsArranged levels base at end order
@@ -107,26 +93,12 @@ pub record IsNextPart (levels : List ℕ) (base : ℕ) (old new : List ℕ) (at 
 -- a run of one level
 pub IsNextPart-level : (levels : List ℕ) (level : ℕ) (order : List ℕ) (at end : ℕ) → (at ≤ end) × (end ≤ length levels)
     → ((p : ℕ) → at ≤ p → p < end → slice_index levels p ≡ level) → ((p : ℕ) → at ≤ p → p < end → slice_index order p ≡ p) → IsNextPart levels level order order at end
-IsNextPart-level levels level order at end within same own = record {
-  within = within;
-  at_least = λ p a b. omega (arith, same p a b);
-  before = λ p a. refl;
-  after = λ p a. refl;
-  arranged = arranged-level levels level at end order within.1 same own;
-  permutation = IsPermutation-refl order;
-}
+IsNextPart-level levels level order at end within same own = grind (arith, least_between-is)
 
 -- a part seen from a lower level, and turned round
 module _ (levels : List ℕ) (base least : ℕ) (old mid : List ℕ) (at end : ℕ) (under : base ≤ least) (part : IsNextPart levels least old mid at end) where
   pub IsNextPart-nested : IsEven (least - base) → IsNextPart levels base old mid at end
-  IsNextPart-nested even = record {
-    within = part.within;
-    before = part.before;
-    after = part.after;
-    permutation = part.permutation;
-    at_least = λ p a b. omega (arith, part.at_least p a b);
-    arranged = arranged-nested levels base least at end part.within.1 part.at_least under mid even part.arranged;
-  }
+  IsNextPart-nested even = search (rules, arranged-nested)
 
   pub IsNextPart-turned : (new : List ℕ) → IsOdd (least - base) → ((p : ℕ) → p < at → slice_index new p ≡ slice_index mid p) → ((p : ℕ) → end ≤ p → slice_index new p ≡ slice_index mid p)
       → ((p q : ℕ) → at ≤ p → at ≤ q → p + q + 1 ≡ at + end → slice_index new p ≡ slice_index mid q) → IsPermutation mid new → IsNextPart levels base old new at end

@@ -62,7 +62,7 @@ record Cut (from : ℕ) (levels : List ℕ) (runs : List Run) : Type 0 where
   each : All (IsLevelRun from levels) runs
 
 level_runs-cut : (from : ℕ) (levels : List ℕ) → Cut from levels (level_runs from levels)
-level_runs-cut from levels = record { follow = level_runs-follow from levels; each = level_runs-each from levels }
+level_runs-cut from levels = grind (arith, level_runs-follow, level_runs-each)
 
 run_levels : ℕ → List ℕ → List Run → List ℕ
 run_levels from levels runs = map (run_level from levels) runs
@@ -74,7 +74,7 @@ length-run_levels from levels runs = length-map runs (run_level from levels)
 -- the level of a unit is that of its run
 unit_level : (from : ℕ) (levels : List ℕ) (runs : List Run) → Cut from levels runs → (k u : ℕ) → k < length runs → IsUnitOf (run_at runs k) u → get_or levels (u - from) 0 ≡ get_or (run_levels from levels runs) k 0
 unfolding run_levels
-unit_level from levels runs cut k u fits unit = (cut.each k (0, 0) fits).equal u unit.0 unit.1 ∙ sym (get_or-map (run_level from levels) runs k (0, 0) 0 fits)
+unit_level from levels runs cut k u fits unit = grind (arith, get_or-map)
 
 -- the least level from unit to unit is that from run to run
 least-runs : (from : ℕ) (levels : List ℕ) (runs : List Run) → Cut from levels runs → (k l u w : ℕ) → k ≤ l → l < length runs → IsUnitOf (run_at runs k) u → IsUnitOf (run_at runs l) w → u ≤ w
@@ -174,7 +174,7 @@ turned-pairs R true xs back on = AllPairs-reverse R xs (back refl)
 turned-pairs R false xs back on = on refl
 
 IsPermutation-written_run : (from : ℕ) (levels : List ℕ) (run : Run) → IsPermutation (written_run from levels run) (between run.0 run.1)
-IsPermutation-written_run from levels run = turned-permutation (is_odd (run_level from levels run)) (between run.0 run.1)
+IsPermutation-written_run from levels run = grind (arith, turned-permutation)
 
 -- what holds of each unit of a run holds of each one written
 All-written_run : (P : ℕ → Type 0) (from : ℕ) (levels : List ℕ) (run : Run) → ((u : ℕ) → run.0 ≤ u → u < run.1 → P u) → All P (written_run from levels run)
@@ -233,9 +233,7 @@ flat_map-follow a b (run ∷ runs) h =
     ∙ ap (λ x. between x b) h.0
 
 pub all-runs : (runs : List Run) → map (run_at runs) (range_with_len 0 (length runs)) ≡ runs
-all-runs runs = same_lists _ _ (length-map-range_with_len (run_at runs) 0 (length runs)) (λ k d fits.
-    let inside : k < length runs = omega (arith, length-map-range_with_len (run_at runs) 0 (length runs)) in
-    get_or-map-range_with_len (run_at runs) 0 (length runs) k k d inside (let e : 0 + k ≡ k = omega arith in e) ∙ get_or_default runs k (0, 0) d inside)
+all-runs runs = grind (arith, same_lists, length-map-range_with_len, get_or-map-range_with_len, get_or_default)
 
 -- as numbers from 0 on
 shifted : (from n : ℕ) → map (λ u. u - from) (between from (from + n)) ≡ range_with_len 0 n

@@ -1,17 +1,15 @@
 -- What the pass over the characters keeps, and how a character goes into it.
-use Rattle.std.proofs.Common.{◌≡◌, ℕ, suc, ◌+◌, ◌<◌, Bool, true, false, ◌||◌, cond, List, [], ◌∷◌, ◌++◌, length, map, reverse, None, unwrap_or, refl, sym, ap, ◌∙◌, arith, inl, inr}
+use Rattle.std.proofs.Common.{◌≡◌, ℕ, suc, ◌+◌, ◌<◌, ◌||◌, cond, List, [], ◌∷◌, ◌++◌, length, map, reverse, None, unwrap_or, refl, sym, ap, ◌∙◌, arith, inl, inr}
 use Rattle.std.specs.List.{range_with_len, list_any}
 use Rattle.std.proofs.lemmas.Bool.{cases_Bool, cond-true, cond-false}
 use Rattle.std.proofs.lemmas.List.{map-append}
 use Rattle.bidi_base.specs.declared.char_data.BidiClass.{BidiClass}
-use Rattle.bidi_base.specs.declared.char_data.BidiClass.TheVariants.{PDF, PDI}
-use Rattle.bidi_base.specs.Classes.{is_initiator, is_opener, is_pdi, is_pdf, is_paragraph_separator, is_removed}
+use Rattle.bidi_base.specs.Classes.{is_initiator, is_paragraph_separator, is_removed}
 use Rattle.bidi_base.specs.Places.{class_at}
-use Rattle.bidi_base.specs.Isolates.{is_pdi_at}
 use Rattle.bidi_base.specs.Explicit.{Status, status_inside, status_at, explicit_level, explicit_class, explicit_levels, explicit_classes}
-use Rattle.bidi_base.specs.Openers.{outside_isolate, outside_embedding, left_open, then_open}
+use Rattle.bidi_base.specs.Openers.{outside_isolate, left_open, then_open}
 use Rattle.bidi_base.proofs.PlacesLemmas.{range_with_len-more}
-use Rattle.bidi_base.proofs.OpenersStack.{below_isolate, below_embedding, closed_by, opened_by, openers_read, open_at-closed_by}
+use Rattle.bidi_base.proofs.OpenersStack.{below_isolate, closed_by, opened_by, openers_read, open_at-closed_by}
 use Rattle.bidi_base.proofs.Lists.{map-reverse}
 
 module _ (classes : List BidiClass) where
@@ -33,39 +31,13 @@ module _ (classes : List BidiClass) where
         ∙ ap (λ xs. cond (list_any is_initiator (classes_of (q ∷ stack))) xs (classes_of whole)) (sym (cond-false (is_initiator (class_at classes q)) (classes_of stack) (outside_isolate (classes_of stack)) other))
   ]
 
-  outside_top : (stack : List ℕ) → classes_of (below_embedding classes stack) ≡ outside_embedding (classes_of stack)
-  outside_top [] = refl
-  outside_top (q ∷ stack) = elim (cases_Bool (is_initiator (class_at classes q))) [
-    | inl isolate ↦
-        ap classes_of (cond-true (is_initiator (class_at classes q)) (q ∷ stack) stack isolate)
-        ∙ sym (cond-true (is_initiator (class_at classes q)) (classes_of (q ∷ stack)) (classes_of stack) isolate)
-    | inr other ↦
-        ap classes_of (cond-false (is_initiator (class_at classes q)) (q ∷ stack) stack other)
-        ∙ sym (cond-false (is_initiator (class_at classes q)) (classes_of (q ∷ stack)) (classes_of stack) other)
-  ]
-
-  by_class : (c : BidiClass) (openers : List BidiClass) → left_open c openers ≡ cond (is_pdi c) (cond (list_any is_initiator openers) (outside_isolate openers) openers) (cond (is_pdf c) (outside_embedding openers) openers)
-  by_class PDI openers = refl
-  by_class PDF openers = refl
-  by_class _ openers = refl
-
   classes_of-closed_by : (p : ℕ) (stack : List ℕ) → classes_of (closed_by classes p stack) ≡ left_open (class_at classes p) (classes_of stack)
   unfolding closed_by
-  classes_of-closed_by p stack = by_tests (is_pdi_at classes p) (is_pdf (class_at classes p)) ∙ sym (by_class (class_at classes p) (classes_of stack))
-    where
-      by_tests : (a b : Bool) → classes_of (cond a (below_isolate classes stack stack) (cond b (below_embedding classes stack) stack))
-          ≡ cond a (cond (list_any is_initiator (classes_of stack)) (outside_isolate (classes_of stack)) (classes_of stack)) (cond b (outside_embedding (classes_of stack)) (classes_of stack))
-      by_tests true b = outside stack stack
-      by_tests false true = outside_top stack
-      by_tests false false = refl
+  classes_of-closed_by p stack = grind (arith, outside)
 
   classes_of-opened_by : (p : ℕ) (stack : List ℕ) → classes_of (opened_by classes p stack) ≡ then_open (class_at classes p) (classes_of stack)
   unfolding opened_by
-  classes_of-opened_by p stack = by_test (is_opener (class_at classes p))
-    where
-      by_test : (a : Bool) → classes_of (cond a (p ∷ stack) stack) ≡ cond a (class_at classes p ∷ classes_of stack) (classes_of stack)
-      by_test true = refl
-      by_test false = refl
+  classes_of-opened_by p stack = grind arith
 
   -- the classes of the openers that are open once p characters were read
   abbrev pub openers_at : ℕ → List BidiClass
@@ -73,11 +45,7 @@ module _ (classes : List BidiClass) where
 
   openers_at-more : (p : ℕ) (openers closed : List BidiClass) → openers ≡ openers_at p → closed ≡ left_open (class_at classes p) openers → then_open (class_at classes p) closed ≡ openers_at (p + 1)
   unfolding openers_read
-  openers_at-more p openers closed is e =
-      let next : suc p ≡ p + 1 = omega arith in
-      ap (then_open (class_at classes p)) (e ∙ ap (left_open (class_at classes p)) is ∙ sym (classes_of-closed_by p (openers_read classes p)))
-      ∙ sym (classes_of-opened_by p (closed_by classes p (openers_read classes p)))
-      ∙ ap openers_at next
+  openers_at-more p openers closed is e = grind (arith, classes_of-closed_by, classes_of-opened_by)
 
 module _ (paragraph : ℕ) (classes : List BidiClass) where
   abbrev start : Status
@@ -86,9 +54,7 @@ module _ (paragraph : ℕ) (classes : List BidiClass) where
   -- the status inside what a character leaves open is that of its place
   status_is : (p : ℕ) (openers closed : List BidiClass) → p < length classes → openers ≡ openers_at classes p → closed ≡ left_open (class_at classes p) openers → status_inside start (reverse closed) ≡ status_at paragraph classes p
   unfolding status_at
-  status_is p openers closed fits is e =
-      ap (λ xs. status_inside start (reverse xs)) (e ∙ ap (left_open (class_at classes p)) is ∙ sym (classes_of-closed_by classes p (openers_read classes p)))
-      ∙ ap (status_inside start) (sym (map-reverse (class_at classes) (closed_by classes p (openers_read classes p))) ∙ ap (map (class_at classes)) (sym (open_at-closed_by classes p fits)))
+  status_is p openers closed fits is e = grind (arith, classes_of-closed_by, map-reverse, open_at-closed_by)
 
   -- the characters before p were read
   pub record IsExplicitSoFar (p : ℕ) (openers : List BidiClass) (levels : List ℕ) (overridden : List BidiClass) : Type 0 where
@@ -113,13 +79,7 @@ module _ (paragraph : ℕ) (classes : List BidiClass) where
       → IsExplicitSoFar (p + 1) next (levels ++ x ∷ []) (overridden ++ y ∷ [])
   unfolding explicit_level explicit_class
   IsExplicitSoFar-more p openers closed next levels overridden status x y fits h closes opens status_by x_is y_is =
-      let status_here : status ≡ status_at paragraph classes p = status_by ∙ status_is p openers closed fits h.open_is closes in
-      record {
-        open_is = opens ∙ openers_at-more classes p openers closed h.open_is closes;
-        levels_are = one_more (explicit_level paragraph classes) p levels x h.levels_are (x_is ∙ ap (λ (s : Status). cond (is_paragraph_separator (class_at classes p)) paragraph s.level) status_here);
-        classes_are = one_more (explicit_class paragraph classes) p overridden y h.classes_are
-            (y_is ∙ ap (λ (s : Status). cond (is_paragraph_separator (class_at classes p) || is_removed (class_at classes p)) (class_at classes p) (unwrap_or s.override (class_at classes p))) status_here);
-      }
+      grind (arith, status_is, openers_at-more, one_more)
 
   pub IsExplicitSoFar-start : (openers : List BidiClass) (levels : List ℕ) (overridden : List BidiClass) → openers ≡ [] → levels ≡ [] → overridden ≡ [] → IsExplicitSoFar 0 openers levels overridden
   unfolding openers_read

@@ -15,7 +15,7 @@ use Rattle.bidi_base.proofs.PassLemmas.{AreSuccessors, IsBegunList, AllBegun}
 use Rattle.bidi_base.proofs.RunsLemmas.{BeginsRun, EndsRun}
 use Rattle.bidi_base.proofs.ChainLemmas.{filter_range-none}
 use Rattle.bidi_base.proofs.Lists.{last_or-append}
-use Rattle.bidi_base.proofs.WaitingLemmas.{Member-append_right, IsWaiting, IsPass, IsPass-start, IsPass-end, IsPass-begin, IsPass-join, IsPass-removed, IsPass-skip, is_first-none_open}
+use Rattle.bidi_base.proofs.WaitingLemmas.{Member-append_right, IsWaiting, IsPass, IsPass-end, IsPass-begin, IsPass-join, IsPass-removed, IsPass-skip, is_first-none_open}
 
 module _ (classes : List BidiClass) (levels : List ℕ) where
   -- all before p came, l was the last of them that X9 keeps, and came to the sequence at s; what is open was read up to l
@@ -99,11 +99,7 @@ module _ (classes : List BidiClass) (levels : List ℕ) where
       }
 
   pass_none : (p : ℕ) → ((k : ℕ) → k < p → is_kept_at classes k ≡ false) → IsPass classes levels p p [] [] []
-  pass_none p none =
-      let place : 0 + p ≡ p = omega arith in
-      let moved : IsPass classes levels (0 + p) 0 [] [] [] = IsPass-removed classes levels 0 p 0 [] [] [] (IsPass-start classes levels) (filter_range-none (is_kept_at classes) 0 p (λ k from below. none k (omega arith))) in
-      let both : IsPass classes levels (0 + p) (0 + p) [] [] [] = IsPass-skip classes levels p (0 + p) 0 [] [] [] moved (λ k from below. none k (omega arith)) in
-      subst (λ (x : ℕ). IsPass classes levels x x [] [] []) place both
+  pass_none p none = grind (arith, filter_range-none)
 
   -- the first character that X9 keeps
   pub IsStateAt-first : (p : ℕ) → ((k : ℕ) → k < p → is_kept_at classes k ≡ false) → is_kept_at classes p ≡ true → p < length classes → IsGoing (p + 1) (with_entry None p []) [] p 0
@@ -166,13 +162,10 @@ module _ (classes : List BidiClass) (levels : List ℕ) where
 
   pub HasCome-next : (p : ℕ) (out : List (List ℕ)) (waits now : List (Option ℕ)) (last : Option (ℕ × ℕ)) (g : Option ℕ) → IsStateAt p out waits last → is_kept_at classes p ≡ true → p < length classes
       → now ≡ waits_before classes levels last p waits → g ≡ choice_at classes levels last p now → HasCome p out g now
-  HasCome-next p out waits now last g h kept fits read found =
-      subst (λ (x : Option ℕ). HasCome p out x now) (sym found) (subst (λ (x : List (Option ℕ)). HasCome p out (choice_at classes levels last p x) x) (sym read) (came_by p out waits last h kept fits))
+  HasCome-next p out waits now last g h kept fits read found = grind (arith, came_by)
 
   pub IsStateAt-came : (p : ℕ) (out more : List (List ℕ)) (g : Option ℕ) (now : List (Option ℕ)) (s : ℕ) (last : Option (ℕ × ℕ)) → HasCome p out g now → more ≡ with_entry g p out → s ≡ index_of g out → last ≡ Some (p, s) → IsStateAt (p + 1) more now last
-  IsStateAt-came p out more g now s last came grown index e =
-      subst (λ (x : Option (ℕ × ℕ)). IsStateAt (p + 1) more now x) (sym e)
-      (subst (λ (x : ℕ). IsGoing (p + 1) more now p x) (sym index) (subst (λ (x : List (List ℕ)). IsGoing (p + 1) x now p (index_of g out)) (sym grown) came.state))
+  IsStateAt-came p out more g now s last came grown index e = grind arith
 
   -- at the end these are the sequences
   pub IsStateAt-end : (out : List (List ℕ)) (waits : List (Option ℕ)) (last : Option (ℕ × ℕ)) → IsStateAt (length classes) out waits last → (paragraph : ℕ) → map (with_ends paragraph classes levels) out ≡ sequences paragraph classes levels
@@ -188,8 +181,7 @@ module _ (classes : List BidiClass) (levels : List ℕ) where
   last_in_text p (q ∷ ps) within follows = last_in_text q ps (successor-IsLaterKept classes levels p q follows.0).within follows.1
 
   begun_places : (xs : List ℕ) → IsBegunList classes levels xs → ArePlaces (length classes) xs
-  begun_places [] h = absurd h
-  begun_places (p ∷ ps) h = record { not_empty = omega arith; first = h.within; last = last_in_text p ps h.within h.follows }
+  begun_places xs h = grind (arith, last_in_text)
 
   places_at : (out : List (List ℕ)) → AllBegun classes levels out → (k : ℕ) → k < length out → ArePlaces (length classes) (get_or out k [])
   places_at [] h k within = absurd (omega arith)

@@ -1,9 +1,9 @@
 -- W4 from the front, where the class before is read as the pass has left it.
-use Rattle.std.proofs.Common.{◌≡◌, ℕ, ◌+◌, ◌-◌, ◌<◌, ◌≤◌, List, [], ◌∷◌, length, get_or, take, drop, set, reverse, refl, sym, ap, ◌∙◌, arith, inl, inr}
+use Rattle.std.proofs.Common.{◌≡◌, ℕ, ◌+◌, ◌-◌, ◌<◌, ◌≤◌, List, [], ◌∷◌, length, get_or, take, drop, set, reverse, sym, ap, ◌∙◌, arith, inl, inr}
 use Rattle.std.proofs.lemmas.Bool.{cases_lt}
 use Rattle.std.proofs.lemmas.List.{drop_more, drop_all, get_or-take}
 use Rattle.bidi_base.specs.declared.char_data.BidiClass.{BidiClass}
-use Rattle.bidi_base.specs.declared.char_data.BidiClass.TheVariants.{L, EN, AN, ES, CS}
+use Rattle.bidi_base.specs.declared.char_data.BidiClass.TheVariants.{L}
 use Rattle.bidi_base.specs.Places.{in_context}
 use Rattle.bidi_base.specs.Weak.{w4_rule}
 use Rattle.bidi_base.proofs.PlacesLemmas.{reverse-take_more}
@@ -12,56 +12,13 @@ use Rattle.bidi_base.proofs.Blocks.{answer_is, read_later}
 
 -- the rule reads one class on each side
 neighbours : (b : BidiClass) (bs : List BidiClass) (c a : BidiClass) (as' : List BidiClass) → w4_rule (b ∷ bs) c (a ∷ as') ≡ w4_rule (b ∷ []) c (a ∷ [])
-neighbours EN bs ES EN as' = refl
-neighbours EN bs ES _ as' = refl
-neighbours EN bs CS EN as' = refl
-neighbours EN bs CS _ as' = refl
-neighbours EN bs _ a as' = refl
-neighbours AN bs CS AN as' = refl
-neighbours AN bs CS _ as' = refl
-neighbours AN bs _ a as' = refl
-neighbours _ bs c a as' = refl
-
--- no number, no answer; and before a separator nothing changes, so it does not matter whether the class before it is the old one
-stays_before_ES : (bs : List BidiClass) (b : BidiClass) (as' : List BidiClass) → w4_rule bs b (ES ∷ as') ≡ b
-stays_before_ES [] b as' = refl
-stays_before_ES (EN ∷ bs) ES as' = refl
-stays_before_ES (EN ∷ bs) CS as' = refl
-stays_before_ES (EN ∷ bs) _ as' = refl
-stays_before_ES (AN ∷ bs) CS as' = refl
-stays_before_ES (AN ∷ bs) _ as' = refl
-stays_before_ES (_ ∷ bs) b as' = refl
-
-stays_before_CS : (bs : List BidiClass) (b : BidiClass) (as' : List BidiClass) → w4_rule bs b (CS ∷ as') ≡ b
-stays_before_CS [] b as' = refl
-stays_before_CS (EN ∷ bs) ES as' = refl
-stays_before_CS (EN ∷ bs) CS as' = refl
-stays_before_CS (EN ∷ bs) _ as' = refl
-stays_before_CS (AN ∷ bs) CS as' = refl
-stays_before_CS (AN ∷ bs) _ as' = refl
-stays_before_CS (_ ∷ bs) b as' = refl
-
-other_stays : (b c a : BidiClass) → (c ≡ ES → ⊥) → (c ≡ CS → ⊥) → w4_rule (b ∷ []) c (a ∷ []) ≡ c
-other_stays EN ES a es cs = absurd (es refl)
-other_stays EN CS a es cs = absurd (cs refl)
-other_stays EN _ a es cs = refl
-other_stays AN CS a es cs = absurd (cs refl)
-other_stays AN _ a es cs = refl
-other_stays _ c a es cs = refl
+neighbours b bs c a as' = grind arith
 
 read_before : (bs : List BidiClass) (b c : BidiClass) (cs : List BidiClass) (a : BidiClass) → w4_rule (w4_rule bs b (c ∷ cs) ∷ []) c (a ∷ []) ≡ w4_rule (b ∷ []) c (a ∷ [])
-read_before bs b ES cs a = ap (λ (x : BidiClass). w4_rule (x ∷ []) ES (a ∷ [])) (stays_before_ES bs b cs)
-read_before bs b CS cs a = ap (λ (x : BidiClass). w4_rule (x ∷ []) CS (a ∷ [])) (stays_before_CS bs b cs)
-read_before bs b c cs a = other_stays (w4_rule bs b (c ∷ cs)) c a (λ e. cc) (λ e. cc) ∙ sym (other_stays b c a (λ e. cc) (λ e. cc))
+read_before bs b c cs a = grind arith
 
 alone : (bs : List BidiClass) (c : BidiClass) → w4_rule bs c [] ≡ c
-alone [] c = refl
-alone (EN ∷ bs) ES = refl
-alone (EN ∷ bs) CS = refl
-alone (EN ∷ bs) _ = refl
-alone (AN ∷ bs) CS = refl
-alone (AN ∷ bs) _ = refl
-alone (_ ∷ bs) c = refl
+alone bs c = grind arith
 
 module _ (old now : List BidiClass) where
   pub separator_step : (i : ℕ) (y : BidiClass) → 1 ≤ i → i + 1 < length old → IsRewritten w4_rule old now i

@@ -1,5 +1,5 @@
 -- W5 block by block.
-use Rattle.std.proofs.Common.{◌≡◌, ℕ, suc, ◌+◌, ◌-◌, ◌<◌, ◌≤◌, Bool, true, false, not, ◌||◌, cond, List, ◌∷◌, length, get_or, take, drop, replicate, reverse, refl, sym, ap, subst, ◌∙◌, arith, inl, inr}
+use Rattle.std.proofs.Common.{◌≡◌, ℕ, suc, ◌+◌, ◌-◌, ◌<◌, ◌≤◌, Bool, true, false, not, ◌||◌, cond, List, ◌∷◌, length, get_or, take, drop, replicate, reverse, sym, ap, subst, ◌∙◌, arith, inl, inr}
 use Rattle.std.proofs.lemmas.Bool.{cases_lt}
 use Rattle.std.proofs.lemmas.List.{drop_more, drop_all, get_or_past}
 use Rattle.std.specs.List.{prefix_len}
@@ -18,24 +18,19 @@ abbrev pub is_number_next : List BidiClass → Bool
 is_number_next = nearest_is (λ c. not (is_et c)) is_en
 
 passes : (c : BidiClass) (cs : List BidiClass) → is_et c ≡ true → is_number_next (c ∷ cs) ≡ is_number_next cs
-passes ET cs e = refl
-passes _ cs e = absurd (cc e)
+passes c cs e = grind arith
 
 stops : (c : BidiClass) (cs : List BidiClass) → is_et c ≡ false → is_number_next (c ∷ cs) ≡ is_en c
-stops ET cs e = absurd (cc e)
-stops _ cs e = refl
+stops c cs e = grind arith
 
 is_et-ET : (c : BidiClass) → is_et c ≡ true → c ≡ ET
-is_et-ET ET e = refl
-is_et-ET _ e = absurd (cc e)
+is_et-ET c e = grind arith
 
 w5_rule-ET : (before : List BidiClass) (c : BidiClass) (after : List BidiClass) → is_et c ≡ true → w5_rule before c after ≡ cond (is_number_next before || is_number_next after) EN ET
-w5_rule-ET before ET after e = refl
-w5_rule-ET before _ after e = absurd (cc e)
+w5_rule-ET before c after e = grind arith
 
 w5_rule-other : (before : List BidiClass) (c : BidiClass) (after : List BidiClass) → is_et c ≡ false → c ≡ w5_rule before c after
-w5_rule-other before ET after e = absurd (cc e)
-w5_rule-other before _ after e = refl
+w5_rule-other before c after e = grind arith
 
 -- the classes before `start` are done, and `after_number` says whether a European number stands before the next block of terminators
 pub record IsAtBlock (old now : List BidiClass) (after_number : Bool) (start : ℕ) : Type 0 where

@@ -1,12 +1,12 @@
 -- The character that begins at a boundary, and where it ends.
-use Rattle.std.proofs.Common.{◌≡◌, ℕ, ◌+◌, ◌-◌, ◌<◌, ◌≤◌, true, List, length, get_or, Option, Some, None, sym, ap, ◌∙◌, arith, inl, inr}
-use Rattle.std.proofs.lemmas.Bool.{cases_lt}
+use Rattle.std.proofs.Common.{◌≡◌, ℕ, ◌+◌, ◌-◌, ◌<◌, ◌≤◌, true, List, length, get_or, Option, Some, None, sym, ap, ◌∙◌, arith}
+use Rattle.std.proofs.lemmas.Grind.{common_steps}
 use Rattle.bidi_base.specs.declared.char_data.BidiClass.{BidiClass}
 use Rattle.bidi_base.specs.declared.char_data.BidiClass.TheVariants.{L}
 use Rattle.bidi_base.specs.Places.{class_at}
 use Rattle.bidi_base.specs.Text.{char_at, char_index, is_boundary, place, text_len, IsPerChar}
 use Rattle.bidi_base.proofs.PerUnit.{get_or-per_unit}
-use Rattle.bidi_base.proofs.PlaceLemmas.{char_at-place, char_index-le, char_index-place, is_boundary-place, place-char_index, place-end, place-le-back, place-mono, place-more, place-more-le, place-zero}
+use Rattle.bidi_base.proofs.PlaceLemmas.{char_at-place, char_index-place, is_boundary-place, place-char_index, place-end, place-le-back, place-mono, place-more, place-more-le, place-zero}
 use Rattle.bidi_base.proofs.TextLemmas.{HasUnits}
 
 module _ (len_of : ℕ → ℕ) (h : HasUnits len_of) (chars : List ℕ) where
@@ -17,22 +17,11 @@ module _ (len_of : ℕ → ℕ) (h : HasUnits len_of) (chars : List ℕ) where
     pub there : u ≡ place len_of chars index
 
   pub begins_at : (u : ℕ) → is_boundary len_of chars u ≡ true → u < text_len len_of chars → Begins u
-  begins_at u e inside =
-      let k = char_index len_of chars u in
-      let there = place-char_index len_of h chars u e in
-      record {
-        index = k;
-        within = elim (cases_lt k (length chars)) [ inl below ↦ below | inr past ↦ absurd (omega (arith, there, place-end len_of chars k past)) ];
-        there = sym there;
-      }
-
-  same_some : (p q : ℕ × ℕ) → ◌≡◌ {A = Option (ℕ × ℕ)} (Some p) (Some q) → p ≡ q
-  same_some p q e = cc e
+  begins_at u e inside = grind (arith, place-char_index, place-end)
 
   -- what a text says of it
   pub length-at : (u c l k : ℕ) → char_at len_of chars u ≡ Some (c, l) → k < length chars → u ≡ place len_of chars k → l ≡ len_of (get_or chars k 0)
-  length-at u c l k e within there =
-      ap (λ (p : ℕ × ℕ). p.1) (same_some (c, l) (get_or chars k 0, len_of (get_or chars k 0)) (sym e ∙ ap (char_at len_of chars) there ∙ char_at-place len_of h chars k 0 within))
+  length-at u c l k e within there = grind (arith, char_at-place)
 
   pub end-at : (u c l k : ℕ) → char_at len_of chars u ≡ Some (c, l) → k < length chars → u ≡ place len_of chars k → u + l ≡ place len_of chars (k + 1)
   end-at u c l k e within there = omega (arith, there, length-at u c l k e within there, place-more len_of chars k 0 within)
@@ -53,14 +42,10 @@ module _ (len_of : ℕ → ℕ) (h : HasUnits len_of) (chars : List ℕ) where
 
   -- boundaries in order have indexes in order
   pub index-le : (u v : ℕ) → is_boundary len_of chars u ≡ true → is_boundary len_of chars v ≡ true → u ≤ v → char_index len_of chars u ≤ char_index len_of chars v
-  index-le u v first last order =
-      place-le-back len_of chars h (char_index len_of chars u) (char_index len_of chars v) (char_index-le len_of chars u) (omega (arith, place-char_index len_of h chars u first, place-char_index len_of h chars v last))
+  index-le u v first last order = grind (arith, common_steps, place-le-back, place-char_index)
 
   pub index-lt : (u v : ℕ) → is_boundary len_of chars u ≡ true → is_boundary len_of chars v ≡ true → u < v → char_index len_of chars u < char_index len_of chars v
-  index-lt u v first last order = elim (cases_lt (char_index len_of chars u) (char_index len_of chars v)) [
-    | inl less ↦ less
-    | inr past ↦ absurd (omega (arith, place-char_index len_of h chars u first, place-char_index len_of h chars v last, place-mono len_of chars (char_index len_of chars v) (char_index len_of chars u) past))
-  ]
+  index-lt u v first last order = grind (arith, place-char_index, place-mono)
 
   -- one character more on the way to a boundary
   pub record Goes (classes : List BidiClass) (at next to : ℕ) : Type 0 where
@@ -78,13 +63,10 @@ module _ (len_of : ℕ → ℕ) (h : HasUnits len_of) (chars : List ℕ) where
       let more = place-more len_of chars b.index 0 b.within in
       let some = h (get_or chars b.index 0) in
       let last = place-char_index len_of h chars to ends in
-      let below : b.index < char_index len_of chars to = elim (cases_lt b.index (char_index len_of chars to)) [
-        | inl less ↦ less
-        | inr past ↦ absurd (omega (arith, b.there, last, place-mono len_of chars (char_index len_of chars to) b.index past))
-      ] in
+      let below : b.index < char_index len_of chars to = grind (arith, place-mono) in
       let up = place-mono len_of chars (b.index + 1) (char_index len_of chars to) (omega arith) in
       let unit : (j : ℕ) → j < len_of (get_or chars b.index 0) → class_at classes (place len_of chars b.index + j) ≡ get_or whole.0 b.index L =
-      λ j inside. ap (λ (cs : List BidiClass). class_at cs (place len_of chars b.index + j)) whole.2 ∙ get_or-per_unit len_of chars whole.0 b.index j 0 L whole.1 b.within inside in
+      λ j inside. grind (arith, get_or-per_unit) in
       let at_is : at ≡ place len_of chars b.index + 0 = omega (arith, b.there) in
       record {
         some = omega (arith, b.there);

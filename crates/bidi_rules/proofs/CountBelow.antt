@@ -1,7 +1,8 @@
 -- How many units of some ranges lie below a unit, and how many characters begin in them.
-use Rattle.std.proofs.Common.{◌≡◌, ℕ, zero, suc, ◌+◌, ◌-◌, ◌*◌, ◌<◌, ◌≤◌, min, max, Bool, cond, List, [], ◌∷◌, length, true, false, get_or, take, drop, refl, sym, ap, ◌∙◌, arith, add-one, length-append, length-take, length-drop}
+use Rattle.std.proofs.Common.{◌≡◌, ℕ, zero, suc, ◌+◌, ◌-◌, ◌*◌, ◌<◌, ◌≤◌, min, List, [], ◌∷◌, length, true, false, get_or, take, drop, refl, sym, ap, ◌∙◌, arith, add-one, length-append, length-take, length-drop}
+use Rattle.std.proofs.lemmas.Grind.{common_steps}
 use Rattle.std.specs.Prelude.{All, slice_range}
-use Rattle.std.proofs.lemmas.Bool.{both_ways, cond-true, cond-false}
+use Rattle.std.proofs.lemmas.Bool.{cond-true, cond-false}
 use Rattle.std.proofs.lemmas.List.Elements.{All-head, All-tail}
 use Rattle.std.proofs.lemmas.List.FromFn.{length-range_with_len}
 use Rattle.std.proofs.lemmas.List.Sums.{sum_by-cons, sum_by-take-drop}
@@ -78,7 +79,7 @@ pub count_below-more : (index : ℕ) (runs : List (ℕ × ℕ)) (u : ℕ) → in
 count_below-more index runs u fits = rw add-one (more index runs u fits)
 
 units-cons : (r : ℕ × ℕ) (runs : List (ℕ × ℕ)) → length (units_in_runs (r ∷ runs)) ≡ (r.1 - r.0) + length (units_in_runs runs)
-units-cons r runs = length-append (between r.0 r.1) (units_in_runs runs) ∙ ap (λ n. n + length (units_in_runs runs)) (length-between r.0 r.1)
+units-cons r runs = grind (arith, length-append, length-between) steps 400000
 
 units-more : (index : ℕ) (runs : List (ℕ × ℕ)) → index < length runs → length (units_in_runs (take (suc index) runs)) ≡ length (units_in_runs (take index runs)) + ((get_or runs index (0, 0)).1 - (get_or runs index (0, 0)).0)
 units-more index [] fits = absurd (omega arith)
@@ -98,15 +99,7 @@ starts_past low (suc index) (r ∷ runs) h fits =
     omega (arith, f.from, f.not_empty, later)
 
 pub ends_ascend : (low index : ℕ) (runs : List (ℕ × ℕ)) → are_ordered_from low runs ≡ true → index < length runs → (get_or runs 0 (0, 0)).1 ≤ (get_or runs index (0, 0)).1
-ends_ascend low index [] h fits = absurd (omega arith)
-ends_ascend low zero (r ∷ runs) h fits = omega arith
-ends_ascend low (suc index) (r ∷ runs) h fits =
-    let later : r.1 < (get_or runs index (0, 0)).1 = starts_past r.1 index runs (are_ordered-front low r runs h).later (omega arith) in
-    omega (arith, later)
-
--- two turns for each unit of a range between two units pay for a turn more
-pub turns_paid : (a b u v : ℕ) → a < b → u < b → a < v → u < v → 1 + (min b v - max a u) + 2 * (min b u - min a u) ≤ 2 * (min b v - min a v)
-turns_paid a b u v some past before order = omega arith
+ends_ascend low index runs h fits = grind (arith, common_steps, starts_past)
 
 -- what is settled where something waits, and where nothing does
 pub settled_to-waits : (w : Walk) (u : ℕ) → waits w.before ≡ true → settled_to w u ≡ w.first
@@ -128,20 +121,16 @@ paid-by-part index runs u v a b ordered order paid =
 
 -- further on
 settled_to-monotone : (w : Walk) (u v : ℕ) → u ≤ v → settled_to w u ≤ settled_to w v
-settled_to-monotone w u v order = either (waits w.before)
-  where
-    either : (b : Bool) → cond b w.first u ≤ cond b w.first v
-    either true = omega arith
-    either false = order
+settled_to-monotone w u v order = grind arith
 
 pub count_settled-monotone : (runs : List (ℕ × ℕ)) (w : Walk) (u v : ℕ) → are_ordered runs ≡ true → u ≤ v → count_below runs (settled_to w u) ≤ count_below runs (settled_to w v)
-count_settled-monotone runs w u v ordered order = count_below-monotone 0 runs (settled_to w u) (settled_to w v) ordered (settled_to-monotone w u v order)
+count_settled-monotone runs w u v ordered order = search (arith, count_below-monotone, settled_to-monotone)
 
 pub WaitsBelow-later : (runs : List (ℕ × ℕ)) (w : Walk) (u v : ℕ) → u ≤ v → WaitsBelow runs w u → WaitsBelow runs w v
-WaitsBelow-later runs w u v order h = record { first_run = h.first_run; first = λ t. let before = h.first t in omega (arith, before); run = h.run }
+WaitsBelow-later runs w u v order h = grind arith steps 400000
 
 pub WaitsBelow-idle : (runs : List (ℕ × ℕ)) (w : Walk) (u : ℕ) → w.first_run ≤ length runs → waits w.before ≡ false → WaitsBelow runs w u
-WaitsBelow-idle runs w u fits idle = record { first_run = fits; first = λ t. absurd (both_ways _ idle t); run = λ t. absurd (both_ways _ idle t) }
+WaitsBelow-idle runs w u fits idle = grind arith steps 400000
 
 -- the characters of a range are no more than its units
 characters_within : (len_of : ℕ → ℕ) → HasUnits len_of → (chars : List ℕ) (start end : ℕ) → IsLine len_of chars start end → char_index len_of chars end - char_index len_of chars start ≤ end - start

@@ -1,15 +1,16 @@
 -- The explicit pass by stretches: where no control comes the status stands still, so the characters there have one level and are under one override.
-use Rattle.std.proofs.Common.{◌≡◌, ℕ, zero, suc, ◌+◌, ◌-◌, ◌<◌, ◌≤◌, ◌^◌, Bool, true, false, not, ◌||◌, List, [], ◌∷◌, ◌++◌, length, get_or, take, drop, Option, Some, None, unwrap_or, refl, sym, ap, subst, ◌∙◌, arith, inl, inr, length-take, eq-eqb}
-use Rattle.std.specs.Prelude.{if◌then◌else◌, replicate}
-use Rattle.std.proofs.lemmas.Bool.{cases_Bool, cases_lt, cases_eq, cond-false, cond-true, or_parts, both_ways}
-use Rattle.std.proofs.lemmas.List.{ext_get_or, length-replicate, get_or-take, get_or-drop, get_or_append_left, get_or-append_right, get_or-replicate}
+use Rattle.std.proofs.Common.{◌≡◌, ℕ, zero, suc, ◌+◌, ◌-◌, ◌<◌, ◌≤◌, ◌^◌, Bool, true, false, not, ◌||◌, List, [], ◌∷◌, ◌++◌, length, get_or, take, Option, Some, None, unwrap_or, refl, sym, ap, subst, ◌∙◌, arith, inl, inr, length-take, eq-eqb}
+use Rattle.std.proofs.lemmas.Grind.{common_steps}
+use Rattle.std.specs.Prelude.{if◌then◌else◌}
+use Rattle.std.proofs.lemmas.Bool.{cases_Bool, cases_lt, cases_eq, cond-false, both_ways}
+use Rattle.std.proofs.lemmas.List.{ext_get_or, length-replicate, get_or-drop, get_or-append_right}
 use Rattle.bidi_base.specs.declared.char_data.BidiClass.{BidiClass}
-use Rattle.bidi_base.specs.declared.char_data.BidiClass.TheVariants.{L, BN, B, LRE, LRO, RLE, RLO, PDF}
+use Rattle.bidi_base.specs.declared.char_data.BidiClass.TheVariants.{L, BN}
 use Rattle.bidi_base.specs.Classes.{is_kept, is_kept_in_place, is_opener, is_paragraph_separator, is_pdf, is_pdi, is_removed}
 use Rattle.bidi_base.specs.Places.{class_at}
 use Rattle.bidi_base.specs.Search.{IsFirst}
 use Rattle.bidi_base.specs.Sequences.{is_kept_at, level_at}
-use Rattle.bidi_base.specs.StatusMachine.{Entry, State, start, closed, opened, step, state_at}
+use Rattle.bidi_base.specs.StatusMachine.{Entry, State, start, closed, step, state_at}
 use Rattle.bidi_base.specs.Text.{char_index, is_boundary, place, text_len, is_per_char, per_unit, IsPerChar}
 use Rattle.bidi_base.proofs.ExplicitLemmas.{length-explicit_levels, length-processing_classes, level_at-explicit_levels, class_at-processing_classes}
 use Rattle.bidi_base.proofs.PerUnit.{length-per_char, length-per_unit, get_or-per_unit}
@@ -31,50 +32,24 @@ use Rattle.bidi_rules.proofs.StackLemmas.{closed-other, opened-other}
 -- ---- a part of a list that is written over
 
 module _ {X : Type 0} (from len : ℕ) (row units : List X) (d : X) (fits : from + len ≤ length units) (long : length row ≡ len) where
-  abbrev written : List X
-  written = take from units ++ (row ++ drop (from + len) units)
-
   front_long : length (take from units) ≡ from
   front_long = omega (arith, length-take from units)
 
-  part-inside : (k : ℕ) → from ≤ k → k < from + len → get_or written k d ≡ get_or row (k - from) d
-  part-inside k a b = get_or-append_right (take from units) (row ++ drop (from + len) units) from k d front_long a ∙ get_or_append_left row (drop (from + len) units) d (k - from) (omega arith)
-
-  part-below : (k : ℕ) → k < from → get_or written k d ≡ get_or units k d
-  part-below k a = get_or_append_left (take from units) (row ++ drop (from + len) units) d k (omega (arith, front_long)) ∙ get_or-take from units k d a
-
-  part-above : (k : ℕ) → from + len ≤ k → get_or written k d ≡ get_or units k d
-  part-above k a =
-      let at : from + len + (k - from - len) ≡ k = omega arith in
-      get_or-append_right (take from units) (row ++ drop (from + len) units) from k d front_long (omega arith)
-      ∙ get_or-append_right row (drop (from + len) units) len (k - from) d long (omega arith)
-      ∙ get_or-drop (from + len) units (k - from - len) d
-      ∙ ap (λ n. get_or units n d) at
-
 filled-inside : {X : Type 0} (from len : ℕ) (x d : X) (units : List X) → from + len ≤ length units → (k : ℕ) → from ≤ k → k < from + len → get_or (filled from len x units) k d ≡ x
-filled-inside from len x d units fits k a b = part-inside from len (replicate len x) units d fits (length-replicate len x) k a b ∙ get_or-replicate len (k - from) x d (omega arith)
+filled-inside from len x d units fits k a b = grind (arith, common_steps)
 
 filled-below : {X : Type 0} (from len : ℕ) (x d : X) (units : List X) → from + len ≤ length units → (k : ℕ) → k < from → get_or (filled from len x units) k d ≡ get_or units k d
-filled-below from len x d units fits k a = part-below from len (replicate len x) units d fits (length-replicate len x) k a
+filled-below from len x d units fits k a = grind (arith, common_steps)
 
 filled-above : {X : Type 0} (from len : ℕ) (x d : X) (units : List X) → from + len ≤ length units → (k : ℕ) → from + len ≤ k → get_or (filled from len x units) k d ≡ get_or units k d
-filled-above from len x d units fits k a = part-above from len (replicate len x) units d fits (length-replicate len x) k a
-
--- an override is put on one unit after another
-pub IsOverridden-none : (override : Option BidiClass) (from : ℕ) (classes : List BidiClass) → IsOverridden override from from classes classes
-IsOverridden-none override from classes = record {
-  inside = λ u above below. absurd (omega arith);
-  below = λ u below. refl;
-  above = λ u above. refl;
-  long = refl;
-}
+filled-above from len x d units fits k a = grind (arith, length-replicate, get_or-append_right, front_long, get_or-drop) steps 400000
 
 module _ (put : BidiClass) (from at next : ℕ) (old now : List BidiClass) (h : IsOverridden (Some put) from at old now) (begun : from ≤ at) (order : at ≤ next) where
   pub IsOverridden-spared : ((u : ℕ) → at ≤ u → u < next → is_kept_in_place (class_at old u) ≡ false) → IsOverridden (Some put) from next old now
   IsOverridden-spared spared = record {
     inside = λ u above below. elim (cases_lt u at) [
       | inl done ↦ h.inside u above done
-      | inr new ↦ h.above u new ∙ sym (cond-false (is_kept_in_place (class_at old u)) put (class_at old u) (spared u new below))
+      | inr new ↦ grind arith
     ];
     below = h.below;
     above = λ u above. h.above u (omega arith);
@@ -87,7 +62,7 @@ module _ (put : BidiClass) (from at next : ℕ) (old now : List BidiClass) (h : 
       record {
         inside = λ u above below. elim (cases_lt u at) [
           | inl done ↦ filled-below at (next - at) put L now fits u done ∙ h.inside u above done
-          | inr new ↦ filled-inside at (next - at) put L now fits u new (omega arith) ∙ sym (cond-true (is_kept_in_place (class_at old u)) put (class_at old u) (kept u new below))
+          | inr new ↦ grind (arith, filled-inside)
         ];
         below = λ u below. filled-below at (next - at) put L now fits u (omega arith) ∙ h.below u below;
         above = λ u above. filled-above at (next - at) put L now fits u (omega arith) ∙ h.above u (omega arith);
@@ -103,34 +78,16 @@ record IsPlain (c : BidiClass) : Type 0 where
   pdf : is_pdf c ≡ false
 
 plain_of : (c : BidiClass) → is_control c ≡ false → IsPlain c
-plain_of c e =
-    let front = or_parts (is_paragraph_separator c) (is_opener c || (is_pdi c || is_pdf c)) e in
-    let middle = or_parts (is_opener c) (is_pdi c || is_pdf c) front.1 in
-    let last = or_parts (is_pdi c) (is_pdf c) middle.1 in
-    record { separator = front.0; opener = middle.0; pdi = last.0; pdf = last.1 }
+plain_of c e = grind arith
 
 step-plain : (c : BidiClass) (s : State) → is_control c ≡ false → step c s ≡ s
-step-plain c s e =
-    let h = plain_of c e in
-    ap (opened c) (closed-other c s h.pdi h.pdf) ∙ opened-other c s h.opener
+step-plain c s e = grind (arith, closed-other, opened-other)
 
 kept-plain : (c : BidiClass) → is_control c ≡ false → is_kept c ≡ is_kept_in_place c
-kept-plain LRE e = absurd (both_ways true e refl)
-kept-plain LRO e = absurd (both_ways true e refl)
-kept-plain RLE e = absurd (both_ways true e refl)
-kept-plain RLO e = absurd (both_ways true e refl)
-kept-plain PDF e = absurd (both_ways true e refl)
-kept-plain _ e = refl
+kept-plain c e = grind arith
 
 class-plain : (c : BidiClass) (override : Option BidiClass) → is_control c ≡ false → (if is_removed c then BN else if is_paragraph_separator c || is_removed c then c else unwrap_or override c) ≡ overridden override c
-class-plain LRE override e = absurd (both_ways true e refl)
-class-plain LRO override e = absurd (both_ways true e refl)
-class-plain RLE override e = absurd (both_ways true e refl)
-class-plain RLO override e = absurd (both_ways true e refl)
-class-plain PDF override e = absurd (both_ways true e refl)
-class-plain B override e = absurd (both_ways true e refl)
-class-plain _ None e = refl
-class-plain _ (Some put) e = refl
+class-plain c override e = grind arith
 
 -- ---- level runs over several characters
 
@@ -183,7 +140,7 @@ module _ (p : Paragraph) (has_units : HasUnits p.len_of) (whole : IsPerChar p.le
   classes_long = length-processing_classes p.level (stored p) ∙ stored_long
 
   class-at_unit : (k j : ℕ) → k < length p.chars → j < p.len_of (get_or p.chars k 0) → class_at p.original (place_of k + j) ≡ class_at (stored p) k
-  class-at_unit k j fits below = ap (λ (cs : List BidiClass). class_at cs (place_of k + j)) original_is ∙ get_or-per_unit p.len_of p.chars (stored p) k j 0 L stored_long fits below
+  class-at_unit k j fits below = grind (arith, original_is, get_or-per_unit, stored_long) steps 400000
 
   class-at_place : (k : ℕ) → k < length p.chars → class_at p.original (place_of k) ≡ class_at (stored p) k
   class-at_place k fits =
@@ -198,10 +155,7 @@ module _ (p : Paragraph) (has_units : HasUnits p.len_of) (whole : IsPerChar p.le
   ]
 
   unit-to : (j v : ℕ) → v < place_of j → (w : UnitOf p.len_of p.chars v) → w.index < j
-  unit-to j v below w = elim (cases_lt w.index j) [
-    | inl order ↦ order
-    | inr past ↦ absurd (omega (arith, w.at_place, place-mono p.len_of p.chars j w.index past))
-  ]
+  unit-to j v below w = grind (arith, place-mono)
 
   -- a character that begins at unit u, behind others
   record BeginsFrom (i u : ℕ) : Type 0 where
@@ -260,9 +214,7 @@ module _ (p : Paragraph) (has_units : HasUnits p.len_of) (whole : IsPerChar p.le
         ap (state_at p.level (stored p)) there ∙ state-still (k - i) (omega arith)
 
     closed-still : (k : ℕ) → i ≤ k → k < j → closed (class_at (stored p) k) (state_at p.level (stored p) k) ≡ state_at p.level (stored p) i
-    closed-still k above below =
-        let h = plain_of (class_at (stored p) k) (plain k above below) in
-        closed-other (class_at (stored p) k) (state_at p.level (stored p) k) h.pdi h.pdf ∙ state-to k above (omega arith)
+    closed-still k above below = grind (arith, closed-other, state-to)
 
     level-still : (k : ℕ) → i ≤ k → k < j → get_or (levels_of p) k 0 ≡ (state_at p.level (stored p) i).top.status.level
     level-still k above below =
@@ -286,7 +238,7 @@ pub read-index : (p : Paragraph) (u : ℕ) (stack : State) (levels : List ℕ) (
 read-index p u stack levels classes runs run h = ap (char_index p.len_of p.chars) h.begins ∙ char_index-place p.len_of p.chars h.has_units h.index h.within
 
 pub read-begins : (p : Paragraph) (u : ℕ) (stack : State) (levels : List ℕ) (classes : List BidiClass) (runs : List (ℕ × ℕ)) (run : OpenRun) → IsReadTo p u stack levels classes runs run → is_boundary p.len_of p.chars u ≡ true
-read-begins p u stack levels classes runs run h = ap (is_boundary p.len_of p.chars) h.begins ∙ is_boundary-place p.len_of p.chars h.index
+read-begins p u stack levels classes runs run h = grind (arith, is_boundary-place) steps 400000
 
 -- ---- a stretch is read
 
@@ -394,22 +346,16 @@ module _ (p : Paragraph) (from to : ℕ) (stack : State) (levels : List ℕ) (cl
     -- in which the first kept one begins at v
     pub stretch-some : (now_runs : List (ℕ × ℕ)) (now : OpenRun) → v < to → now_runs ≡ runs_before run.last_level level run.start v runs → now ≡ record { start = run_start run.last_level level run.start v; last_level = Some level }
         → IsReadTo p to stack now_levels now_classes now_runs now
-    stretch-some now_runs now inside runs_is now_is =
-        stretch-read level override now_levels now_classes now_runs now level_is override_is filled_is over
-        (subst (λ (r : OpenRun). IsCut end.index now_runs r.start r.last_level) (sym now_is)
-        (subst (λ (rs : List (ℕ × ℕ)). IsCut end.index rs (run_start run.last_level level run.start v) (Some level)) (sym runs_is) (cut-some v level level_is first inside)))
+    stretch-some now_runs now inside runs_is now_is = grind (arith, stretch-read, cut-some)
 
 -- ---- a control is read
 
 module _ (p : Paragraph) (at : ℕ) (stack : State) (levels : List ℕ) (classes : List BidiClass) (runs : List (ℕ × ℕ)) (run : OpenRun) (h : IsReadTo p at stack levels classes runs run) (inside : at < length p.original) where
   control-fits : h.index < length p.chars
-  control-fits = elim (cases_lt h.index (length p.chars)) [
-    | inl fits ↦ fits
-    | inr past ↦ absurd (omega (arith, h.begins, place-end p.len_of p.chars h.index past, original_long p h.has_units h.per_char))
-  ]
+  control-fits = grind (arith, place-end, original_long)
 
   control-class : class_at p.original at ≡ class_at (stored p) h.index
-  control-class = ap (class_at p.original) h.begins ∙ class-at_place p h.has_units h.per_char h.index control-fits
+  control-class = grind (arith, class-at_place, control-fits) steps 400000
 
   pub control-can : p.level ≤ 125 → length p.original < 2 ^ 64 → CanRead p.len_of p.chars p.level (stored p) (class_at p.original at) stack
   control-can low few =
@@ -427,7 +373,7 @@ module _ (p : Paragraph) (at : ℕ) (stack : State) (levels : List ℕ) (classes
       ∙ ap (λ k. k + 1) (sym (read-index p at stack levels classes runs run h))
 
   pub control-some : (next : ℕ) → Ends next → at < next
-  control-some next ends = omega (arith, ends h.index control-fits h.begins, h.begins, place-lt p.len_of p.chars h.has_units h.index (h.index + 1) (omega arith) control-fits)
+  control-some next ends = grind (arith, control-fits, place-lt) steps 400000
 
   module _ (next : ℕ) (ends : Ends next) (now : State) (status : Entry) (level : ℕ) (put : BidiClass) (now_is : now ≡ step (class_at p.original at) stack) (status_is : status ≡ (closed (class_at p.original at) stack).top)
       (level_is : level ≡ (if is_paragraph_separator (class_at p.original at) then p.level else status.status.level))
@@ -520,13 +466,7 @@ read-start p has_units whole stack levels classes runs run new long same none fi
 
 module _ (p : Paragraph) (at : ℕ) (stack : State) (levels : List ℕ) (classes : List BidiClass) (runs : List (ℕ × ℕ)) (run : OpenRun) (h : IsReadTo p at stack levels classes runs run) (past : length p.original ≤ at) where
   all_read : h.index ≡ length (stored p)
-  all_read =
-      let long = original_long p h.has_units h.per_char in
-      let count = stored_long p h.has_units h.per_char in
-      elim (cases_lt h.index (length p.chars)) [
-        | inl fewer ↦ absurd (omega (arith, h.begins, place-lt p.len_of p.chars h.has_units h.index (length p.chars) fewer fewer, place-end p.len_of p.chars (length p.chars) (omega arith)))
-        | inr upto ↦ omega (arith, h.within)
-      ]
+  all_read = grind (arith, common_steps, original_long, stored_long, place-lt)
 
   pub read-all : char_index p.len_of p.chars at ≡ length p.chars
   read-all = read-index p at stack levels classes runs run h ∙ all_read ∙ stored_long p h.has_units h.per_char

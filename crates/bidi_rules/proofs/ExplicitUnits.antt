@@ -1,6 +1,7 @@
 -- The pass over units that gives explicit levels, classes and level runs: what it has written once it read some characters.
 use native.Mathlib.Numerals.{unary_clauses}
-use Rattle.std.proofs.Common.{◌≡◌, ℕ, zero, suc, ◌+◌, ◌<◌, ◌≤◌, ◌^◌, true, List, [], ◌∷◌, ◌++◌, length, get_or, set, take, drop, unwrap_or, refl, sym, ap, subst, ◌∙◌, arith, length-append}
+use Rattle.std.proofs.Common.{◌≡◌, ℕ, zero, suc, ◌+◌, ◌<◌, ◌≤◌, ◌^◌, true, List, [], ◌∷◌, ◌++◌, length, get_or, set, take, drop, unwrap_or, refl, sym, ap, ◌∙◌, arith, length-append}
+use Rattle.std.proofs.lemmas.Grind.{common_steps}
 use Rattle.std.specs.Prelude.{◌||◌, if◌then◌else◌, replicate}
 use Rattle.std.proofs.lemmas.List.{take-append-drop, length-take, length-drop, length-replicate}
 use Rattle.bidi_base.specs.declared.char_data.BidiClass.{BidiClass}
@@ -14,7 +15,7 @@ use Rattle.bidi_base.proofs.ExplicitLemmas.{length-explicit_levels, level_at-exp
 use Rattle.bidi_base.proofs.TextLemmas.{HasUnits}
 use Rattle.bidi_base.proofs.PerUnit.{per_char-per_unit}
 use Rattle.bidi_base.proofs.UnitsLemmas.{is_per_char-per_unit}
-use Rattle.bidi_base.proofs.PerCharTests.{level_eq, level_test}
+use Rattle.bidi_base.proofs.PerCharTests.{level_eq}
 use Rattle.bidi_base.proofs.StatusMachine.{answer_level-explicit_level, answer_class-explicit_class}
 use Rattle.bidi_base.proofs.StatusBounds.{state_at-more, state_at-IsPoppable, closed-IsWithinDepth, closed-counted}
 use Rattle.bidi_rules.specs.ExplicitPass.{filled}
@@ -23,24 +24,14 @@ pub processing_class-is : (paragraph : ℕ) (classes : List BidiClass) (k : ℕ)
     → (if is_removed (class_at classes k) then BN else if is_paragraph_separator (class_at classes k) || is_removed (class_at classes k) then class_at classes k else unwrap_or (closed (class_at classes k) (state_at paragraph classes k)).top.status.override (class_at classes k))
     ≡ processing_class paragraph classes k
 unfolding processing_class
-processing_class-is paragraph classes k fits = ap (λ (c : BidiClass). if is_removed (class_at classes k) then BN else c) (answer_class-explicit_class paragraph classes k fits)
+processing_class-is paragraph classes k fits = grind (arith, answer_class-explicit_class) steps 400000
 
 -- writing the units of a character
 pub length-filled : {X : Type 0} (from len : ℕ) (x : X) (units : List X) → from + len ≤ length units → length (filled from len x units) ≡ length units
-length-filled from len x units fits =
-    omega (
-      arith,
-      length-append (take from units) (replicate len x ++ drop (from + len) units),
-      length-append (replicate len x) (drop (from + len) units),
-      length-take from units,
-      length-replicate len x,
-      length-drop (from + len) units,
-    )
+length-filled from len x units fits = grind (arith, length-append, length-take, length-replicate, length-drop)
 
 pub filled-none : {X : Type 0} (from : ℕ) (x : X) (units : List X) → filled from 0 x units ≡ units
-filled-none from x units =
-    let same : from + 0 ≡ from = omega arith in
-    ap (λ n. take from units ++ drop n units) same ∙ take-append-drop from units
+filled-none from x units = grind (arith, take-append-drop)
 
 next-filled : {X : Type 0} (from len : ℕ) (x : X) (units : List X) → from + len < length units → set (filled from len x units) (from + len) x ≡ filled from (len + 1) x units
 next-filled from len x [] fits = absurd (omega arith)
@@ -57,8 +48,7 @@ next-filled (suc from) len x (y ∷ units) fits =
 
 -- one unit more
 pub filled-more : {X : Type 0} (from len at : ℕ) (x : X) (old units : List X) → at ≡ from + len → at < length old → units ≡ filled from len x old → set units at x ≡ filled from (len + 1) x old
-filled-more from len at x old units is fits h =
-    ap (λ us. set us at x) h ∙ ap (λ n. set (filled from len x old) n x) is ∙ next-filled from len x old (omega (arith, is, fits))
+filled-more from len at x old units is fits h = grind (arith, next-filled)
 
 module _ (len_of : ℕ → ℕ) (chars : List ℕ) (paragraph : ℕ) (stored : List BidiClass) where
   -- what the machine asks before it reads the k-th character
@@ -68,44 +58,23 @@ module _ (len_of : ℕ → ℕ) (chars : List ℕ) (paragraph : ℕ) (stored : L
     pub counts : counted (closed class stack) + 1 < 2 ^ 64
 
   pub can_read : (k : ℕ) (stack : State) (class : BidiClass) → paragraph ≤ 125 → k < length stored → length stored < 2 ^ 64 → class ≡ class_at stored k → stack ≡ state_at paragraph stored k → CanRead class stack
-  can_read k stack class low within few is machine =
-      let few_open : counted (closed (class_at stored k) (state_at paragraph stored k)) ≤ k = closed-counted paragraph stored k within in
-      let here : closed class stack ≡ closed (class_at stored k) (state_at paragraph stored k) = ap (λ c. closed c stack) is ∙ ap (closed (class_at stored k)) machine in
-      let same : counted (closed class stack) ≡ counted (closed (class_at stored k) (state_at paragraph stored k)) = ap counted here in
-      record {
-        poppable = subst IsPoppable (sym machine) (state_at-IsPoppable paragraph stored k);
-        depth = subst (IsWithinDepth paragraph) (sym here) (closed-IsWithinDepth paragraph stored k low);
-        counts = omega arith;
-      }
+  can_read k stack class low within few is machine = grind (arith, closed-counted, state_at-IsPoppable, closed-IsWithinDepth) steps 400000
 
   -- one character more
   module _ (k : ℕ) (within : k < length stored) (class : BidiClass) (class_is : class ≡ class_at stored k) (stack next : State) (status : Entry) (level : ℕ) (put : BidiClass) (next_is : next ≡ step class stack)
       (status_is : status ≡ (closed class stack).top) (level_is : level ≡ (if is_paragraph_separator class then paragraph else status.status.level))
       (put_is : put ≡ (if is_removed class then BN else if is_paragraph_separator class || is_removed class then class else unwrap_or status.status.override class)) where
     pub level_at : stack ≡ state_at paragraph stored k → level ≡ get_or (explicit_levels paragraph stored) k 0
-    level_at machine =
-        level_is
-        ∙ ap (λ (e : Entry). if is_paragraph_separator class then paragraph else e.status.level) status_is
-        ∙ ap (λ (c : BidiClass). if is_paragraph_separator c then paragraph else (closed c stack).top.status.level) class_is
-        ∙ ap (λ (s : State). if is_paragraph_separator (class_at stored k) then paragraph else (closed (class_at stored k) s).top.status.level) machine
-        ∙ answer_level-explicit_level paragraph stored k within
-        ∙ sym (level_at-explicit_levels paragraph stored k within)
+    level_at machine = grind (arith, answer_level-explicit_level, level_at-explicit_levels)
 
     pub put_at : stack ≡ state_at paragraph stored k → put ≡ get_or (processing_classes paragraph stored) k L
-    put_at machine =
-        put_is
-        ∙ ap (λ (e : Entry). if is_removed class then BN else if is_paragraph_separator class || is_removed class then class else unwrap_or e.status.override class) status_is
-        ∙ ap (λ (c : BidiClass). if is_removed c then BN else if is_paragraph_separator c || is_removed c then c else unwrap_or (closed c stack).top.status.override c) class_is
-        ∙ ap (λ (s : State). if is_removed (class_at stored k) then BN else if is_paragraph_separator (class_at stored k) || is_removed (class_at stored k) then class_at stored k else unwrap_or (closed (class_at stored k) s).top.status.override (class_at stored k)) machine
-        ∙ processing_class-is paragraph stored k within
-        ∙ sym (class_at-processing_classes paragraph stored k within)
+    put_at machine = grind (arith, processing_class-is, class_at-processing_classes)
 
     pub next_at : stack ≡ state_at paragraph stored k → next ≡ state_at paragraph stored (k + 1)
     next_at machine = next_is ∙ ap (λ c. step c stack) class_is ∙ ap (step (class_at stored k)) machine ∙ sym (state_at-more paragraph stored k)
 
 pub text_len-some : (len_of : ℕ → ℕ) (chars : List ℕ) → 0 < text_len len_of chars → 0 < length chars
-text_len-some len_of [] some = absurd (omega arith)
-text_len-some len_of (c ∷ chars) some = omega arith
+text_len-some len_of chars some = grind (arith, common_steps)
 
 -- what is left is one level for each character, each its explicit one
 pub per_char-explicit_levels : (len_of : ℕ → ℕ) → HasUnits len_of → (chars : List ℕ) (paragraph : ℕ) (stored : List BidiClass) (levels : List ℕ) → length stored ≡ length chars → levels ≡ per_unit len_of chars (explicit_levels paragraph stored)
@@ -113,4 +82,4 @@ pub per_char-explicit_levels : (len_of : ℕ → ℕ) → HasUnits len_of → (c
 per_char-explicit_levels len_of h chars paragraph stored levels long is = ap (per_char 0 len_of chars) is ∙ per_char-per_unit len_of h 0 chars (explicit_levels paragraph stored) (length-explicit_levels paragraph stored ∙ long)
 
 pub is_per_char-explicit_levels : (len_of : ℕ → ℕ) (chars : List ℕ) (paragraph : ℕ) (stored : List BidiClass) (levels : List ℕ) → length stored ≡ length chars → levels ≡ per_unit len_of chars (explicit_levels paragraph stored) → is_per_char level_eq len_of chars levels ≡ true
-is_per_char-explicit_levels len_of chars paragraph stored levels long is = ap (is_per_char level_eq len_of chars) is ∙ is_per_char-per_unit level_eq level_test len_of chars (explicit_levels paragraph stored) (length-explicit_levels paragraph stored ∙ long)
+is_per_char-explicit_levels len_of chars paragraph stored levels long is = grind (arith, is_per_char-per_unit, length-explicit_levels) steps 400000

@@ -1,11 +1,11 @@
 -- The first unit of some runs that is kept, and the first character.
-use Rattle.std.proofs.Common.{◌≡◌, ℕ, zero, suc, ◌+◌, ◌-◌, ◌<◌, ◌≤◌, Bool, true, false, List, [], ◌∷◌, ◌++◌, length, map, get_or, take, drop, find, Option, Some, None, slice_get, refl, sym, ap, ◌∙◌, arith, append-nil, inl, inr}
+use Rattle.std.proofs.Common.{◌≡◌, ℕ, zero, suc, ◌+◌, ◌-◌, ◌<◌, ◌≤◌, Bool, true, false, List, [], ◌∷◌, ◌++◌, length, map, get_or, take, drop, find, Option, Some, None, slice_get, refl, sym, ap, ◌∙◌, arith, inl, inr}
 use Rattle.std.specs.List.{range_with_len}
 use Rattle.std.specs.Option.{option_or}
 use Rattle.std.specs.declared.ops.Range.{Range}
-use Rattle.std.proofs.lemmas.Bool.{cases_Bool, cond-true, cond-false}
-use Rattle.std.proofs.lemmas.Grind.{flat_map-append}
-use Rattle.std.proofs.lemmas.List.{map-append, take_more, take-append-drop}
+use Rattle.std.proofs.lemmas.Bool.{cases_Bool, cond-true}
+use Rattle.std.proofs.lemmas.Grind.{flat_map-append, common_steps}
+use Rattle.std.proofs.lemmas.List.{map-append, take-append-drop}
 use Rattle.std.proofs.lemmas.List.Elements.{All-head, All-tail, filter-append}
 use Rattle.std.proofs.lemmas.List.Folds.{find-append}
 use Rattle.bidi_base.specs.declared.char_data.BidiClass.{BidiClass}
@@ -28,19 +28,14 @@ module _ (test : ℕ → Bool) (runs : List (Range ℕ)) (i : ℕ) (fits : i < l
   units_of rs = units_in_runs (map bounds rs)
 
   units_of-append : (rs qs : List (Range ℕ)) → units_of (rs ++ qs) ≡ units_of rs ++ units_of qs
-  units_of-append rs qs = ap units_in_runs (map-append bounds rs qs) ∙ flat_map-append (λ (r : ℕ × ℕ). between r.0 r.1) (map bounds rs) (map bounds qs)
+  units_of-append rs qs = grind (arith, map-append, flat_map-append) steps 400000
 
   -- the run at i decides, if it has such a unit
   find-next : find test (units_of (take (i + 1) runs)) ≡ find test (between (get_or runs i no_range).start (get_or runs i no_range).end)
-  find-next =
-      let r = get_or runs i no_range in
-      ap (λ (rs : List (Range ℕ)). find test (units_of rs)) (take_more runs i no_range fits)
-      ∙ ap (find test) (units_of-append (take i runs) (r ∷ []) ∙ ap (λ (us : List ℕ). units_of (take i runs) ++ us) (append-nil (between r.start r.end)))
-      ∙ find-append test (units_of (take i runs)) (between r.start r.end)
-      ∙ ap (λ (o : Option ℕ). option_or o (find test (between r.start r.end))) before
+  find-next = grind (arith, common_steps, find-append)
 
   pub find-passes : ((k : ℕ) → (get_or runs i no_range).start ≤ k → k < (get_or runs i no_range).end → test k ≡ false) → find test (units_in_runs (map bounds (take (i + 1) runs))) ≡ None
-  find-passes none = find-next ∙ find-between-is_None test (get_or runs i no_range).start (get_or runs i no_range).end none
+  find-passes none = grind (arith, find-next, find-between-is_None) steps 400000
 
   pub find-stops : (u : ℕ) → (get_or runs i no_range).start ≤ u → u < (get_or runs i no_range).end → ((k : ℕ) → (get_or runs i no_range).start ≤ k → k < u → test k ≡ false) → test u ≡ true
       → find test (units_in_runs (map bounds runs)) ≡ Some u
@@ -70,10 +65,7 @@ module _ (len_of : ℕ → ℕ) (h : HasUnits len_of) (chars : List ℕ) (units 
 
   -- of the n characters from i on
   first_in_line : (i n : ℕ) → i + n ≤ length chars → find reads (between (place len_of chars i) (place len_of chars (i + n))) ≡ slice_get (map (place len_of chars) (kept_among len_of chars units (range_with_len i n))) 0
-  first_in_line i zero fits =
-      let same : i + 0 ≡ i = omega arith in
-      let none : place len_of chars (i + 0) - place len_of chars i ≡ 0 = omega (arith, ap (place len_of chars) same) in
-      ap (λ m. find reads (range_with_len (place len_of chars i) m)) none
+  first_in_line i zero fits = grind arith
   first_in_line i (suc n) fits =
       let a = place len_of chars i in
       let b = place len_of chars (i + 1) in
@@ -89,14 +81,10 @@ module _ (len_of : ℕ → ℕ) (h : HasUnits len_of) (chars : List ℕ) (units 
       ∙ find-append reads (between a b) (between b (place len_of chars (i + suc n)))
       ∙ elim (cases_Bool (reads a)) [
         | inl yes' ↦
-            let least : IsLeast reads a b a = record { from = omega arith; below = some; passes = yes'; first = λ k from below. absurd (omega arith) } in
+            let least : IsLeast reads a b a = grind arith in
             ap (λ (o : Option ℕ). option_or o (find reads (between b (place len_of chars (i + suc n))))) (find-between-is reads a b a least)
             ∙ ap (λ (ks : List ℕ). slice_get (map (place len_of chars) ks) 0) (sym (cond-true (reads a) (i ∷ more) more yes'))
-        | inr no' ↦
-            ap (λ (o : Option ℕ). option_or o (find reads (between b (place len_of chars (i + suc n)))))
-            (find-between-is_None reads a b (λ k from below. ap is_kept_in_place (alike_class len_of h chars units per i k (omega arith) from below) ∙ no'))
-            ∙ rest
-            ∙ ap (λ (ks : List ℕ). slice_get (map (place len_of chars) ks) 0) (sym (cond-false (reads a) (i ∷ more) more no'))
+        | inr no' ↦ grind (arith, find-between-is_None, alike_class)
       ]
 
   pub first_kept-is : (runs : List (ℕ × ℕ)) → AreLines len_of chars runs → find reads (units_in_runs runs) ≡ slice_get (map (place len_of chars) (kept_in_place len_of chars units runs)) 0
@@ -121,8 +109,7 @@ module _ (len_of : ℕ → ℕ) (h : HasUnits len_of) (chars : List ℕ) (units 
 
 -- what that says of the list
 pub first-Some : (us : List ℕ) (u : ℕ) → slice_get us 0 ≡ Some u → first_or 0 us ≡ u
-first-Some [] u e = absurd (cc e)
-first-Some (x ∷ us) u e = cc e
+first-Some us u e = grind arith
 
 pub first-None : (us : List ℕ) → slice_get us 0 ≡ None → us ≡ []
 first-None [] e = refl

@@ -1,11 +1,10 @@
 -- A fold that looks at every element is the test whether one of them passes.
-use Rattle.std.proofs.Common.{◌≡◌, Bool, true, false, ◌||◌, List, [], ◌∷◌, refl, ◌∙◌}
+use Rattle.std.proofs.Common.{◌≡◌, Bool, false, ◌||◌, List, [], ◌∷◌, ◌∙◌, arith}
 use Rattle.std.specs.List.{fold, list_any}
 use Rattle.std.proofs.Math.Bool.{or_assoc}
 
 or_false : (a : Bool) → a ≡ (a || false)
-or_false true = refl
-or_false false = refl
+or_false a = grind arith
 
 fold_or : {X : Type 0} (p : X → Bool) (b : Bool) (xs : List X) → fold (λ (found : Bool) (x : X). found || p x) b xs ≡ (b || list_any p xs)
 fold_or p b [] = or_false b

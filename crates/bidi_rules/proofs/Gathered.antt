@@ -1,14 +1,12 @@
 -- The brackets of a sequence by the units at which they begin: as they are gathered, and that they pair as the definitions say.
-use Rattle.std.proofs.Common.{◌≡◌, ℕ, suc, ◌+◌, ◌<◌, false, List, [], ◌∷◌, ◌++◌, length, map, get_or, Option, Some, None, refl, sym, ap, subst, ◌∙◌, arith, append-nil, inl, inr}
-use Rattle.std.proofs.lemmas.Bool.{cases_Bool, cond-true, cond-false}
+use Rattle.std.proofs.Common.{◌≡◌, ℕ, suc, ◌+◌, ◌<◌, List, [], ◌∷◌, ◌++◌, length, map, get_or, Option, refl, sym, ap, subst, ◌∙◌, arith}
 use Rattle.std.proofs.lemmas.Grind.{flat_map-append}
 use Rattle.std.proofs.lemmas.List.{length-map}
 use Rattle.bidi_base.specs.declared.brackets.Bracket.{Bracket}
 use Rattle.bidi_base.specs.declared.char_data.BidiClass.{BidiClass}
-use Rattle.bidi_base.specs.declared.char_data.BidiClass.TheVariants.{L, BN}
+use Rattle.bidi_base.specs.declared.char_data.BidiClass.TheVariants.{L}
 use Rattle.bidi_base.specs.declared.data_source.BidiMatchedOpeningBracket.{BidiMatchedOpeningBracket}
 use Rattle.bidi_base.specs.Brackets.{counted_bracket, counted_brackets, AreNestedPairs}
-use Rattle.bidi_base.specs.Classes.{is_kept_in_place}
 use Rattle.bidi_base.specs.FoundBrackets.{brackets_from, found_brackets, ArePairsOf}
 use Rattle.bidi_base.specs.Places.{at_places, class_at}
 use Rattle.bidi_base.specs.Source.{Source}
@@ -18,7 +16,7 @@ use Rattle.bidi_base.proofs.BracketPlaces.{moved, bracket_pairs-moved}
 use Rattle.bidi_base.proofs.NestedPairs.{bracket_pairs-nested}
 use Rattle.bidi_base.proofs.StoredLemmas.{length-at_places}
 use Rattle.bidi_base.proofs.TextLemmas.{HasUnits}
-use Rattle.bidi_rules.specs.NeutralPass.{kept_among, pairs_in, placed_bracket, placed_brackets, values_of, IsReady}
+use Rattle.bidi_rules.specs.NeutralPass.{pairs_in, placed_bracket, placed_brackets, values_of, IsReady}
 use Rattle.bidi_rules.specs.PairWalk.{at_spots, spot}
 use Rattle.bidi_rules.proofs.Spots.{length-values_of, spot-in, spot-rises}
 use Rattle.std.specs.declared.ops.Range.{Range}
@@ -30,27 +28,11 @@ module _ (len_of : ℕ → ℕ) (chars : List ℕ) (source : Source) (units : Li
   pub placed-append : (ks js : List ℕ) → placed (ks ++ js) ≡ placed ks ++ placed js
   placed-append ks js = flat_map-append (placed_bracket len_of chars source units) ks js
 
-  -- what is removed is no bracket that counts
-  removed-none : (c : BidiClass) (o : Option BidiMatchedOpeningBracket) (u : ℕ) → is_kept_in_place c ≡ false → brackets_from u (counted_bracket c o ∷ []) ≡ []
-  removed-none BN o u h = refl
-  removed-none _ o u h = absurd (cc h)
-
-  pub placed-one : (k : ℕ) → placed (kept_among len_of chars units (k ∷ [])) ≡ placed_bracket len_of chars source units k
-  placed-one k = elim (cases_Bool (is_kept_in_place (class_at units (place len_of chars k)))) [
-    | inl yes' ↦ ap placed (cond-true (is_kept_in_place (class_at units (place len_of chars k))) (k ∷ []) [] yes') ∙ append-nil (placed_bracket len_of chars source units k)
-    | inr no' ↦
-        ap placed (cond-false (is_kept_in_place (class_at units (place len_of chars k))) (k ∷ []) [] no')
-        ∙ sym (removed-none (class_at units (place len_of chars k)) (source.bracket_of (get_or chars k 0)) (place len_of chars k) no')
-  ]
-
   -- ---- all of them
 
   step : (f : ℕ → ℕ) (rises : (i j : ℕ) → i < j → f i < f j) (o : Option BidiMatchedOpeningBracket) (u j : ℕ) (rest : List (Option BidiMatchedOpeningBracket)) (tail : List Bracket) → f j ≡ u → tail ≡ map (moved f rises) (brackets_from (j + 1) rest)
       → brackets_from u (o ∷ []) ++ tail ≡ map (moved f rises) (brackets_from j (o ∷ rest))
-  step f rises None u j rest tail at is = is
-  step f rises (Some b) u j rest tail at is =
-      ap (λ (v : ℕ). let x : Bracket = record { index = v; opening = b.opening; is_open = b.is_open } in x ∷ tail) (sym at)
-      ∙ ap (λ (bs : List Bracket). let x : Bracket = record { index = f j; opening = b.opening; is_open = b.is_open } in x ∷ bs) is
+  step f rises o u j rest tail at is = grind arith
 
   placed-moved : (f : ℕ → ℕ) (rises : (i j : ℕ) → i < j → f i < f j) (j : ℕ) (ks : List ℕ) → ((i : ℕ) → i < length ks → f (j + i) ≡ place len_of chars (get_or ks i 0))
       → placed ks ≡ map (moved f rises) (brackets_from j (counted_brackets (values_of L len_of chars units ks) (map source.bracket_of (at_places 0 chars ks))))

@@ -1,7 +1,7 @@
 -- The units in some ranges that are in order.
-use Rattle.std.proofs.Common.{◌≡◌, ℕ, zero, suc, ◌+◌, ◌<◌, ◌≤◌, Bool, true, false, ◌&&◌, ◌||◌, leb, ltb, List, [], ◌∷◌, length, get_or, take, drop, refl, sym, ap, ◌∙◌, arith, inl, inr}
+use Rattle.std.proofs.Common.{◌≡◌, ℕ, zero, suc, ◌+◌, ◌<◌, ◌≤◌, Bool, true, false, ◌&&◌, ◌||◌, leb, ltb, List, [], ◌∷◌, length, get_or, take, drop, refl, sym, ap, ◌∙◌, arith}
 use Rattle.std.specs.Prelude.{All}
-use Rattle.std.proofs.lemmas.Bool.{cases_lt, and_parts, and_from, and_left, and_right, or_from, lt-ltb, le-ltb, le-leb, lt-leb, leb-true, ltb-true}
+use Rattle.std.proofs.lemmas.Bool.{and_from, and_left, and_right, or_from, lt-ltb, le-ltb, le-leb, lt-leb}
 use Rattle.std.proofs.lemmas.List.Folds.{list_any_more, list_any_at}
 use Rattle.bidi_base.specs.Units.{are_ordered_from, in_runs}
 use Rattle.bidi_rules.proofs.WalkLemmas.{are_ordered-front}
@@ -20,7 +20,7 @@ pub in_run-above : (r : ℕ × ℕ) (k : ℕ) → r.1 ≤ k → in_run r k ≡ f
 in_run-above r k above = and_right (leb r.0 k) (ltb k r.1) (le-ltb k r.1 above)
 
 pub in_run-true : (r : ℕ × ℕ) (k : ℕ) → in_run r k ≡ true → (r.0 ≤ k) × (k < r.1)
-in_run-true r k h = let parts = and_parts (leb r.0 k) (ltb k r.1) h in (leb-true r.0 k parts.0, ltb-true k r.1 parts.1)
+in_run-true r k h = grind arith steps 400000
 
 -- some ranges
 pub in_runs-below : (low : ℕ) (runs : List (ℕ × ℕ)) (k : ℕ) → are_ordered_from low runs ≡ true → k < low → in_runs runs k ≡ false
@@ -49,9 +49,7 @@ in_runs-drop low (suc index) (r ∷ runs) k h fits from =
 -- up to a unit at which the range at `index` has not begun
 pub in_runs-take : (low index : ℕ) (runs : List (ℕ × ℕ)) (k : ℕ) → are_ordered_from low runs ≡ true → index < length runs → k < (get_or runs index (0, 0)).0 → in_runs (take index runs) k ≡ in_runs runs k
 in_runs-take low index [] k h fits before = absurd (omega arith)
-in_runs-take low zero (r ∷ runs) k h fits before =
-    let f = are_ordered-front low r runs h in
-    sym (or_from (in_run r k) (in_runs runs k) (in_run-below r k before) (in_runs-below r.1 runs k f.later (omega (arith, f.not_empty))))
+in_runs-take low zero (r ∷ runs) k h fits before = grind (arith, in_runs-below)
 in_runs-take low (suc index) (r ∷ runs) k h fits before =
     let f = are_ordered-front low r runs h in
     ap (λ b. in_run r k || b) (in_runs-take r.1 index runs k f.later (omega arith) before)
@@ -60,7 +58,7 @@ pub in_runs-more : (index : ℕ) (runs : List (ℕ × ℕ)) (k : ℕ) → index 
 in_runs-more index runs k fits = list_any_more (λ (r : ℕ × ℕ). in_run r k) runs index (0, 0) fits
 
 pub in_runs-at : (index : ℕ) (runs : List (ℕ × ℕ)) (k : ℕ) → index < length runs → (get_or runs index (0, 0)).0 ≤ k → k < (get_or runs index (0, 0)).1 → in_runs runs k ≡ true
-in_runs-at index runs k fits from below = list_any_at (λ (r : ℕ × ℕ). in_run r k) runs index (0, 0) fits (in_run-inside (get_or runs index (0, 0)) k from below)
+in_runs-at index runs k fits from below = grind (arith, list_any_at) steps 400000
 
 -- the ranges in order, one behind another
 pub run_some : (low index : ℕ) (runs : List (ℕ × ℕ)) → are_ordered_from low runs ≡ true → index < length runs → (get_or runs index (0, 0)).0 < (get_or runs index (0, 0)).1
@@ -87,9 +85,7 @@ start_or-past (r ∷ runs) (suc index) n past = start_or-past runs index n (omeg
 -- between the end of a range and the start of the next stands no unit of the ranges
 pub gap_before : (low : ℕ) (runs : List (ℕ × ℕ)) (k n : ℕ) → are_ordered_from low runs ≡ true → k < start_or runs 0 n → in_runs runs k ≡ false
 gap_before low [] k n h before = refl
-gap_before low (r ∷ runs) k n h before =
-    let f = are_ordered-front low r runs h in
-    or_from (in_run r k) (in_runs runs k) (in_run-below r k before) (in_runs-below r.1 runs k f.later (omega (arith, f.not_empty)))
+gap_before low (r ∷ runs) k n h before = grind (arith, in_runs-below)
 
 pub gap_after : (low index : ℕ) (runs : List (ℕ × ℕ)) (k n : ℕ) → are_ordered_from low runs ≡ true → index < length runs → (get_or runs index (0, 0)).1 ≤ k → k < start_or runs (suc index) n → in_runs runs k ≡ false
 gap_after low index [] k n h fits past before = absurd (omega arith)
@@ -118,10 +114,4 @@ next_start low zero (r ∷ q ∷ runs) n h fits within = (are_ordered-front r.1 
 next_start low (suc index) (r ∷ runs) n h fits within = next_start r.1 index runs n (are_ordered-front low r runs h).later (omega arith) within
 
 pub start_within : (runs : List (ℕ × ℕ)) (index n : ℕ) → are_ordered_from 0 runs ≡ true → All (λ (r : ℕ × ℕ). r.1 ≤ n) runs → start_or runs index n ≤ n
-start_within runs index n ordered within = elim (cases_lt index (length runs)) [
-  | inl fits ↦
-      let some = run_some 0 index runs ordered fits in
-      let ends : (get_or runs index (0, 0)).1 ≤ n = within index (0, 0) fits in
-      omega (arith, start_or-at runs index n fits)
-  | inr past ↦ omega (arith, start_or-past runs index n past)
-]
+start_within runs index n ordered within = grind (arith, run_some, start_or-at, start_or-past)

@@ -1,71 +1,40 @@
 -- N1 for the direction against the embedding one, in one walk: neutrals wait from a class of that direction to the next class with one.
-use Rattle.std.proofs.Common.{◌≡◌, ℕ, zero, suc, ◌+◌, ◌-◌, ◌<◌, ◌≤◌, Bool, true, false, not, ◌&&◌, List, [], ◌∷◌, ◌++◌, length, map, replicate, unwrap_or, Option, Some, refl, sym, ap, ◌∙◌, arith, append_assoc, append-nil, inl, inr, ◌⊎◌}
+use Rattle.std.proofs.Common.{◌≡◌, ℕ, zero, suc, ◌+◌, ◌-◌, ◌<◌, ◌≤◌, Bool, true, false, not, ◌&&◌, List, [], ◌∷◌, ◌++◌, length, map, replicate, Some, refl, sym, ap, ◌∙◌, arith, append_assoc, append-nil, inl, inr, ◌⊎◌}
 use Rattle.std.specs.Prelude.{filter}
 use Rattle.std.specs.List.{list_all, range_with_len}
-use Rattle.std.proofs.lemmas.Bool.{cases_Bool, cases_lt, and_parts, and_from, cond-true, cond-false}
+use Rattle.std.proofs.lemmas.Bool.{cases_Bool, cases_lt, and_parts, and_from, cond-true}
 use Rattle.std.proofs.lemmas.List.{map-append}
 use Rattle.bidi_base.specs.declared.char_data.BidiClass.{BidiClass}
-use Rattle.bidi_base.specs.declared.char_data.BidiClass.TheVariants.{L, R, EN, AN}
-use Rattle.bidi_base.specs.Classes.{as_direction, is_kept_in_place, is_l_or_r, is_neutral, is_weak_resolved, same_class, stands_for}
+use Rattle.bidi_base.specs.declared.char_data.BidiClass.TheVariants.{L}
+use Rattle.bidi_base.specs.Classes.{as_direction, is_l_or_r, is_neutral, is_weak_resolved, stands_for}
 use Rattle.bidi_base.specs.Neutral.{nearest_direction, n1_n2, n2_rule}
 use Rattle.bidi_base.specs.Places.{at_places, class_at}
 use Rattle.bidi_base.specs.Units.{in_runs}
 use Rattle.bidi_base.proofs.NeutralBlocks.{common}
-use Rattle.bidi_base.proofs.NeutralLemmas.{nearest_direction-more}
 use Rattle.bidi_base.proofs.NeutralStretches.{n1_n2-neutrals, n1_n2-directed, n1_n2-last}
 use Rattle.bidi_base.proofs.StoredLemmas.{at_places-append}
 use Rattle.bidi_rules.specs.JoinPass.{side_before, Unjoined, IsJoined}
 use Rattle.bidi_rules.specs.PairWalk.{opposite_of}
 use Rattle.bidi_rules.specs.WeakWalk.{is_seen, IsWrittenOver}
 use Rattle.bidi_rules.proofs.Marks.{marked, marked-parts, at_marked-same, at_marked-all}
-use Rattle.bidi_rules.proofs.PairPlaces.{directed-kept}
 
 -- ---- classes
 
 -- what does not stand for the opposite direction stands for the embedding one, or is a neutral
 quiet : (e c : BidiClass) → is_l_or_r e ≡ true → is_weak_resolved c ≡ true → stands_for (opposite_of e) c ≡ false → (as_direction c ≡ Some e) ⊎ (is_neutral c ≡ true)
-quiet L L s h n = inl refl
-quiet L R s h n = absurd (cc n)
-quiet L EN s h n = absurd (cc n)
-quiet L AN s h n = absurd (cc n)
-quiet L _ s h n = inr h
-quiet R L s h n = absurd (cc n)
-quiet R R s h n = inl refl
-quiet R EN s h n = inl refl
-quiet R AN s h n = inl refl
-quiet R _ s h n = inr h
-quiet _ c s h n = absurd (cc s)
+quiet e c s h n = grind arith
 
 pub opposite-directed : (e c : BidiClass) → stands_for (opposite_of e) c ≡ true → as_direction c ≡ Some (opposite_of e)
-opposite-directed L R n = refl
-opposite-directed L EN n = refl
-opposite-directed L AN n = refl
-opposite-directed L _ n = absurd (cc n)
-opposite-directed _ L n = refl
-opposite-directed _ _ n = absurd (cc n)
-
-sides_apart : (e : BidiClass) → same_class (opposite_of e) e ≡ false
-sides_apart L = refl
-sides_apart R = refl
-sides_apart _ = refl
+opposite-directed e c n = grind arith
 
 settled-neutral : (e c : BidiClass) → is_neutral c ≡ true → n2_rule e c ≡ e
 settled-neutral e c h = cond-true (is_neutral c) e c h
 
 settled-directed : (e c d : BidiClass) → as_direction c ≡ Some d → n2_rule e c ≡ c
-settled-directed e L d h = refl
-settled-directed e R d h = refl
-settled-directed e EN d h = refl
-settled-directed e AN d h = refl
-settled-directed e _ d h = absurd (cc h)
+settled-directed e c d h = grind arith
 
 pub settled-opposite : (e : BidiClass) → n2_rule e (opposite_of e) ≡ opposite_of e
-settled-opposite L = refl
-settled-opposite _ = refl
-
-same_opposite : (e : BidiClass) → same_class (opposite_of e) (opposite_of e) ≡ true
-same_opposite L = refl
-same_opposite _ = refl
+settled-opposite e = grind arith
 
 -- ---- lists of classes
 
@@ -77,13 +46,13 @@ module _ (e eos : BidiClass) (side : is_l_or_r e ≡ true) where
   is_quiet c = is_weak_resolved c && not (stands_for o c)
 
   same_e : (x : BidiClass) → common e e x ≡ e
-  same_e x = elim (cases_Bool (same_class e x)) [ inl yes' ↦ cond-true (same_class e x) e e yes' | inr no' ↦ cond-false (same_class e x) e e no' ]
+  same_e x = grind arith steps 400000
 
   common_apart : common e o e ≡ e
-  common_apart = cond-false (same_class o e) o e (sides_apart e)
+  common_apart = grind arith
 
   common_opposite : common e o o ≡ o
-  common_opposite = cond-true (same_class o o) o e (same_opposite e)
+  common_opposite = grind arith
 
   map-settled : (cs : List BidiClass) → list_all is_neutral cs ≡ true → map (n2_rule e) cs ≡ replicate (length cs) e
   map-settled [] h = refl
@@ -96,8 +65,7 @@ module _ (e eos : BidiClass) (side : is_l_or_r e ≡ true) where
   map-opposite (suc n) = ap (λ (x : BidiClass). x ∷ map (n2_rule e) (replicate n o)) (settled-opposite e) ∙ ap (λ (xs : List BidiClass). o ∷ xs) (map-opposite n)
 
   twice : (b : Bool) → not b ≡ true → b ≡ false
-  twice true h = cc
-  twice false h = refl
+  twice b h = grind arith
 
   -- behind the embedding direction, up to the next class for the opposite one
   quiet-rest : (cs rest : List BidiClass) → list_all is_quiet cs ≡ true → n1_n2 e e eos (cs ++ rest) ≡ map (n2_rule e) cs ++ n1_n2 e e eos rest
@@ -108,10 +76,7 @@ module _ (e eos : BidiClass) (side : is_l_or_r e ≡ true) where
       let more = quiet-rest cs rest parts.1 in
       let tail = n1_n2 e e eos (cs ++ rest) in
       elim (quiet e c side own.0 (twice (stands_for o c) own.1)) [
-        | inl directed ↦
-            n1_n2-directed e e e eos c (cs ++ rest) directed
-            ∙ ap (λ (x : BidiClass). x ∷ tail) (sym (settled-directed e c e directed))
-            ∙ ap (λ (xs : List BidiClass). n2_rule e c ∷ xs) more
+        | inl directed ↦ grind (arith, n1_n2-directed)
         | inr neutral ↦
             n1_n2-neutrals e e eos (c ∷ []) (cs ++ rest) (and_from (is_neutral c) true neutral refl)
             ∙ ap (λ (x : BidiClass). x ∷ tail) (same_e (nearest_direction eos (cs ++ rest)) ∙ sym (settled-neutral e c neutral))
@@ -119,7 +84,7 @@ module _ (e eos : BidiClass) (side : is_l_or_r e ≡ true) where
       ]
 
   near : (d c : BidiClass) (rest : List BidiClass) → as_direction c ≡ Some d → nearest_direction eos (c ∷ rest) ≡ d
-  near d c rest is = nearest_direction-more eos c rest ∙ ap (λ (p : Option BidiClass). unwrap_or p (nearest_direction eos rest)) is
+  near d c rest is = grind arith steps 400000
 
   -- neutrals that waited, before the embedding direction
   turned : (cs rest : List BidiClass) (c : BidiClass) → list_all is_neutral cs ≡ true → as_direction c ≡ Some e → n1_n2 e o eos (cs ++ c ∷ rest) ≡ map (n2_rule e) cs ++ n1_n2 e e eos (c ∷ rest)
@@ -132,16 +97,11 @@ module _ (e eos : BidiClass) (side : is_l_or_r e ≡ true) where
 
   -- neutrals between two of the opposite direction
   between_two : (cs rest : List BidiClass) (c : BidiClass) → list_all is_neutral cs ≡ true → as_direction c ≡ Some o → n1_n2 e o eos (cs ++ c ∷ rest) ≡ replicate (length cs) o ++ n1_n2 e o eos (c ∷ rest)
-  between_two cs rest c h is =
-      n1_n2-neutrals e o eos cs (c ∷ rest) h
-      ∙ ap (λ (x : BidiClass). replicate (length cs) (common e o x) ++ n1_n2 e o eos (c ∷ rest)) (near o c rest is)
-      ∙ ap (λ (x : BidiClass). replicate (length cs) x ++ n1_n2 e o eos (c ∷ rest)) common_opposite
+  between_two cs rest c h is = grind (arith, n1_n2-neutrals)
 
   -- a stretch of the opposite direction, whatever stands before it
   stretch : (left : BidiClass) (c : BidiClass) (cs rest : List BidiClass) → list_all (stands_for o) (c ∷ cs) ≡ true → n1_n2 e left eos (c ∷ cs ++ rest) ≡ map (n2_rule e) (c ∷ cs) ++ n1_n2 e o eos rest
-  stretch left c [] rest h =
-      let is = opposite-directed e c (and_parts (stands_for o c) true h).0 in
-      n1_n2-directed e left o eos c rest is ∙ ap (λ (x : BidiClass). x ∷ n1_n2 e o eos rest) (sym (settled-directed e c o is))
+  stretch left c [] rest h = grind (arith, n1_n2-directed)
   stretch left c (d ∷ cs) rest h =
       let parts = and_parts (stands_for o c) (list_all (stands_for o) (d ∷ cs)) h in
       let is = opposite-directed e c parts.0 in
@@ -162,10 +122,8 @@ module _ (mark : ℕ → Bool) (p : BidiClass → Bool) (old : List BidiClass) w
       let more = filter mark (range_with_len (low + 1) n) in
       let rest : list_all p (at_places L old more) ≡ true = each (low + 1) n (λ k from below is. h k (omega arith) (omega arith) is) in
       elim (cases_Bool (mark low)) [
-        | inl yes' ↦
-            ap (λ (us : List ℕ). list_all p (at_places L old us)) (cond-true (mark low) (low ∷ more) more yes')
-            ∙ and_from (p (class_at old low)) (list_all p (at_places L old more)) (h low (omega arith) (omega arith) yes') rest
-        | inr no' ↦ ap (λ (us : List ℕ). list_all p (at_places L old us)) (cond-false (mark low) (low ∷ more) more no') ∙ rest
+        | inl yes' ↦ grind arith
+        | inr no' ↦ grind arith
       ]
 
   pub at_marked-each : (low high : ℕ) → ((k : ℕ) → low ≤ k → k < high → mark k ≡ true → p (class_at old k) ≡ true) → list_all p (at_places L old (marked mark low high)) ≡ true
@@ -242,27 +200,13 @@ module _ (s : Unjoined) where
 
   -- more neutrals, or units that are none of the sequence
   pub IsJoined-more : (now : List BidiClass) (waits : Bool) (done at to : ℕ) → at ≤ to → ((k : ℕ) → at ≤ k → k < to → mark k ≡ true → is_neutral (class_at s.old k) ≡ true) → IsJoined s now waits done at → IsJoined s now waits done to
-  IsJoined-more now waits done at to upto more j =
-      let order = j.order in
-      record {
-        written = j.written;
-        waiting = λ k from below is. elim (cases_lt k at) [ inl earlier ↦ j.waiting k from earlier is | inr later ↦ more k later below is ];
-        unwritten = j.unwritten;
-        unseen = j.unseen;
-        own = j.own;
-        order = omega arith;
-        long = j.long;
-      }
+  IsJoined-more now waits done at to upto more j = grind arith
 
   waited : (now : List BidiClass) (waits : Bool) (done at : ℕ) → IsJoined s now waits done at → list_all is_neutral (at_old done at) ≡ true
   waited now waits done at j = at_marked-each mark is_neutral s.old done at j.waiting
 
   not_for : (c : BidiClass) → is_neutral c ≡ true → stands_for against c ≡ false
-  not_for L h = absurd (cc h)
-  not_for R h = absurd (cc h)
-  not_for EN h = absurd (cc h)
-  not_for AN h = absurd (cc h)
-  not_for _ h = refl
+  not_for c h = grind arith
 
   -- behind the embedding direction: units that don't stand for the opposite one
   pub IsJoined-quiet : (now : List BidiClass) (done at to : ℕ) → at ≤ to → to ≤ size → ((k : ℕ) → at ≤ k → k < to → stands_for against (class_at s.old k) ≡ false) → IsJoined s now false done at → IsJoined s now false to to
@@ -278,12 +222,10 @@ module _ (s : Unjoined) where
 
   -- the class at hand, and those behind it
   first_at : (at : ℕ) → at < size → mark at ≡ true → at_old at size ≡ class_at s.old at ∷ at_old (at + 1) size
-  first_at at fits is =
-      let count : size - at ≡ suc (size - (at + 1)) = omega arith in
-      ap (at_places L s.old) (ap (λ n. filter mark (range_with_len at n)) count ∙ cond-true (mark at) (at ∷ marked mark (at + 1) size) (marked mark (at + 1) size) is)
+  first_at at fits is = grind arith
 
   seen-directed : (at : ℕ) (d : BidiClass) → in_runs s.runs at ≡ true → as_direction (class_at s.old at) ≡ Some d → mark at ≡ true
-  seen-directed at d inside is = and_from (in_runs s.runs at) (is_kept_in_place (class_at s.old at)) inside (directed-kept (class_at s.old at) d is)
+  seen-directed at d inside is = grind arith steps 400000
 
   -- the embedding direction comes
   pub IsJoined-turned : (now : List BidiClass) (done at : ℕ) → at < size → in_runs s.runs at ≡ true → as_direction (class_at s.old at) ≡ Some e → IsJoined s now true done at → IsJoined s now false at at
@@ -302,7 +244,7 @@ module _ (s : Unjoined) where
       let cs = at_old done at in
       let row = replicate (length cs) against in
       let tail = rest_of true at in
-      let there : at_places L new (marked mark done at) ≡ row = at_marked-all mark new against done at (λ k from below seen. w.inside k from below seen) ∙ ap (λ n. replicate n against) (sym (length-at s.old (marked mark done at))) in
+      let there : at_places L new (marked mark done at) ≡ row = grind (arith, at_marked-all, length-at) in
       record {
         written =
             ap (λ (xs : List BidiClass). xs ++ tail) (done-more new done at j.order)
@@ -330,8 +272,7 @@ module _ (s : Unjoined) where
   IsJoined-stretch now waits at to some fits inside all j =
       let is = opposite-directed e (class_at s.old at) (all at (omega arith) some) in
       let seen = seen-directed at against inside is in
-      let parts : at_old at to ≡ class_at s.old at ∷ at_old (at + 1) to =
-      ap (at_places L s.old) (ap (λ n. filter mark (range_with_len at n)) (let count : to - at ≡ suc (to - (at + 1)) = omega arith in count) ∙ cond-true (mark at) (at ∷ marked mark (at + 1) to) (marked mark (at + 1) to) seen) in
+      let parts : at_old at to ≡ class_at s.old at ∷ at_old (at + 1) to = grind arith in
       read now waits true at at to (omega arith) fits j
       (ap (n1_n2 e (side_before s waits) s.eos) (split s.old at to size (omega arith) fits ∙ ap (λ (xs : List BidiClass). xs ++ at_old to size) parts)
       ∙ stretch e s.eos s.side (side_before s waits) (class_at s.old at) (at_old (at + 1) to) (at_old to size)
@@ -341,7 +282,7 @@ module _ (s : Unjoined) where
   -- ---- the end
 
   none-left : at_old size size ≡ []
-  none-left = let none : size - size ≡ 0 = omega arith in ap (λ n. at_places L s.old (filter mark (range_with_len size n))) none
+  none-left = grind arith steps 400000
 
   -- nothing waits
   pub finished-quiet : (now : List BidiClass) (done : ℕ) → IsJoined s now false done size → done_with now size ≡ goal
@@ -382,17 +323,10 @@ at_changed mark f xs ys low (suc n) h =
     let more = filter mark (range_with_len (low + 1) n) in
     let rest = at_changed mark f xs ys (low + 1) n (λ k a b is. h k (omega arith) (omega arith) is) in
     elim (cases_Bool (mark low)) [
-      | inl yes' ↦
-          let is = cond-true (mark low) (low ∷ more) more yes' in
-          ap (at_places L xs) is
-          ∙ ap (λ (c : BidiClass). c ∷ at_places L xs more) (h low (omega arith) (omega arith) yes')
-          ∙ ap (λ (cs : List BidiClass). f (class_at ys low) ∷ cs) rest
-          ∙ ap (λ (us : List ℕ). map f (at_places L ys us)) (sym is)
-      | inr no' ↦
-          let is = cond-false (mark low) (low ∷ more) more no' in
-          ap (at_places L xs) is ∙ rest ∙ ap (λ (us : List ℕ). map f (at_places L ys us)) (sym is)
+      | inl yes' ↦ grind arith
+      | inr no' ↦ grind arith
     ]
 
 pub at_marked-changed : (mark : ℕ → Bool) (f : BidiClass → BidiClass) (xs ys : List BidiClass) (low high : ℕ) → ((k : ℕ) → low ≤ k → k < high → mark k ≡ true → class_at xs k ≡ f (class_at ys k))
     → at_places L xs (marked mark low high) ≡ map f (at_places L ys (marked mark low high))
-at_marked-changed mark f xs ys low high h = at_changed mark f xs ys low (high - low) (λ k a b is. h k a (omega arith) is)
+at_marked-changed mark f xs ys low high h = grind (arith, at_changed) steps 400000

@@ -1,5 +1,5 @@
 -- The characters of runs that the passes take as kept, one after another.
-use Rattle.std.proofs.Common.{◌≡◌, ℕ, zero, suc, ◌+◌, ◌-◌, ◌<◌, ◌≤◌, true, false, List, [], ◌∷◌, ◌++◌, length, map, get_or, take, drop, refl, sym, ap, subst, ◌∙◌, arith, append-nil, add-one, take_all, length-append}
+use Rattle.std.proofs.Common.{◌≡◌, ℕ, zero, suc, ◌+◌, ◌-◌, ◌<◌, ◌≤◌, true, false, List, [], ◌∷◌, ◌++◌, length, map, get_or, take, drop, refl, sym, ap, subst, ◌∙◌, arith, append-nil, take_all, length-append}
 use Rattle.std.specs.List.{range_with_len}
 use Rattle.std.proofs.lemmas.Bool.{cond-true, cond-false}
 use Rattle.std.proofs.lemmas.Grind.{flat_map-append}
@@ -8,7 +8,7 @@ use Rattle.std.proofs.lemmas.List.Elements.{All-get_or, All-head, All-tail, filt
 use Rattle.std.specs.declared.ops.Range.{Range}
 use Rattle.bidi_base.specs.declared.char_data.BidiClass.{BidiClass}
 use Rattle.bidi_base.specs.Classes.{is_kept_in_place}
-use Rattle.bidi_base.specs.Places.{at_places, between, class_at}
+use Rattle.bidi_base.specs.Places.{between, class_at}
 use Rattle.bidi_base.specs.Text.{place, IsLine, char_index}
 use Rattle.bidi_base.specs.Units.{are_ordered, are_ordered_from, bounds, chars_in_runs, kept_in_place, AreLines}
 use Rattle.bidi_base.proofs.StoredLemmas.{at_places-append}
@@ -33,7 +33,7 @@ line_at len_of chars runs i fits lines =
 
 module _ (len_of : ℕ → ℕ) (chars : List ℕ) where
   pub values_of-append : {X : Type 0} (d : X) (values : List X) (ks js : List ℕ) → values_of d len_of chars values (ks ++ js) ≡ values_of d len_of chars values ks ++ values_of d len_of chars values js
-  values_of-append d values ks js = ap (at_places d values) (map-append (place len_of chars) ks js) ∙ at_places-append d values (map (place len_of chars) ks) (map (place len_of chars) js)
+  values_of-append d values ks js = grind (arith, map-append, at_places-append) steps 400000
 
   module _ (units : List BidiClass) where
     -- of the first n characters from `start` on
@@ -41,11 +41,7 @@ module _ (len_of : ℕ → ℕ) (chars : List ℕ) where
     kept_so_far start n = kept_among len_of chars units (range_with_len (char_index len_of chars start) n)
 
     pub kept_so_far-step : (start n : ℕ) → kept_so_far start (n + 1) ≡ kept_so_far start n ++ kept_among len_of chars units ((char_index len_of chars start + n) ∷ [])
-    kept_so_far-step start n =
-        let i = char_index len_of chars start in
-        ap (λ m. kept_among len_of chars units (range_with_len i m)) (add-one n)
-        ∙ ap (kept_among len_of chars units) (range_with_len-more i n)
-        ∙ filter-append (λ k. is_kept_in_place (class_at units (place len_of chars k))) (range_with_len i n) ((i + n) ∷ [])
+    kept_so_far-step start n = grind (arith, range_with_len-more, filter-append)
 
     pub kept_so_far-more : (start n at : ℕ) → place len_of chars (char_index len_of chars start + n) ≡ at → is_kept_in_place (class_at units at) ≡ true → kept_so_far start (n + 1) ≡ kept_so_far start n ++ (char_index len_of chars start + n) ∷ []
     kept_so_far-more start n at here reads =
@@ -63,18 +59,12 @@ module _ (len_of : ℕ → ℕ) (chars : List ℕ) where
     -- all characters of a run
     pub kept_so_far-end : (start stop n : ℕ) → char_index len_of chars start + n ≡ char_index len_of chars stop → kept_so_far start n ≡ kept_in_place len_of chars units ((start, stop) ∷ [])
     unfolding kept_in_place chars_in_runs
-    kept_so_far-end start stop n all =
-        let i = char_index len_of chars start in
-        let count : n ≡ char_index len_of chars stop - i = omega arith in
-        ap (λ m. kept_among len_of chars units (range_with_len i m)) count
-        ∙ ap (kept_among len_of chars units) (sym (append-nil (between i (char_index len_of chars stop))))
+    kept_so_far-end start stop n all = grind (arith, append-nil)
 
     -- some runs, and then others
     pub kept_in_place-append : (runs others : List (ℕ × ℕ)) → kept_in_place len_of chars units (runs ++ others) ≡ kept_in_place len_of chars units runs ++ kept_in_place len_of chars units others
     unfolding kept_in_place chars_in_runs
-    kept_in_place-append runs others =
-        ap (kept_among len_of chars units) (flat_map-append (λ (x : ℕ × ℕ). between (char_index len_of chars x.0) (char_index len_of chars x.1)) runs others)
-        ∙ filter-append (λ k. is_kept_in_place (class_at units (place len_of chars k))) (chars_in_runs len_of chars runs) (chars_in_runs len_of chars others)
+    kept_in_place-append runs others = grind (arith, flat_map-append, filter-append)
 
     -- the first runs, one after another
     pub kept_in_place-none : kept_in_place len_of chars units [] ≡ []

@@ -1,15 +1,15 @@
 -- The level runs that cover a paragraph, one by one: as ranges of characters, and of units.
-use Rattle.std.proofs.Common.{◌≡◌, ℕ, zero, suc, ◌+◌, ◌-◌, ◌<◌, ◌≤◌, le_refl, true, false, List, [], ◌∷◌, ◌++◌, length, map, get_or, refl, sym, ap, subst, ◌∙◌, arith, ◌⊎◌, inl, inr, append-nil, length-append}
-use Rattle.std.specs.Prelude.{filter, is_some, flat_map}
+use Rattle.std.proofs.Common.{◌≡◌, ℕ, zero, suc, ◌+◌, ◌-◌, ◌<◌, ◌≤◌, true, false, List, [], ◌∷◌, ◌++◌, length, map, get_or, refl, sym, ap, ◌∙◌, arith, ◌⊎◌, inl, inr, length-append, rules}
+use Rattle.std.specs.Prelude.{filter}
 use Rattle.std.specs.List.{range_with_len}
-use Rattle.std.proofs.lemmas.Bool.{cases_Bool, cases_eq, cond-true, cond-false, and_left, and_right}
+use Rattle.std.proofs.lemmas.Bool.{cases_Bool, cond-true, cond-false}
 use Rattle.std.proofs.lemmas.List.{map-append, get_or-map, length-map}
 use Rattle.std.proofs.lemmas.List.Elements.{filter-append}
 use Rattle.std.proofs.lemmas.Grind.{flat_map-append}
 use Rattle.bidi_base.specs.declared.char_data.BidiClass.{BidiClass}
-use Rattle.bidi_base.specs.Places.{indexes, between}
-use Rattle.bidi_base.specs.Sequences.{is_kept_at, kept_before, begins_run, run_starts}
-use Rattle.bidi_base.specs.Text.{place, text_len, char_index}
+use Rattle.bidi_base.specs.Places.{indexes}
+use Rattle.bidi_base.specs.Sequences.{is_kept_at, begins_run, run_starts}
+use Rattle.bidi_base.specs.Text.{place, text_len}
 use Rattle.bidi_base.specs.Units.{ranges_between, level_run_ranges, chars_in_runs, kept_in_runs}
 use Rattle.bidi_base.proofs.TextLemmas.{HasUnits}
 use Rattle.bidi_base.proofs.PlaceLemmas.{place-end, char_index-place}
@@ -37,7 +37,7 @@ module _ (classes : List BidiClass) (levels : List ℕ) where
 
   cut : (low m a : ℕ) → a < low → low + m ≡ length classes → (a ≡ 0) ⊎ (begins_run classes levels a ≡ true) → ((k : ℕ) → a < k → k < low → begins_run classes levels k ≡ false)
       → AreLevelRuns a (filter (begins_run classes levels) (range_with_len low m))
-  cut low zero a before all starts none = record { not_empty = omega arith; within = le_refl _; starts = starts; inside = λ k from below. none k from (omega arith); stops = inl refl }
+  cut low zero a before all starts none = grind arith
   cut low (suc m) a before all starts none = elim (cases_Bool (begins_run classes levels low)) [
     | inl here ↦
         rw (cond-true (begins_run classes levels low) (low ∷ filter (begins_run classes levels) (range_with_len (low + 1) m)) (filter (begins_run classes levels) (range_with_len (low + 1) m)) here)
@@ -48,25 +48,15 @@ module _ (classes : List BidiClass) (levels : List ℕ) where
   ]
     where
       extended : begins_run classes levels low ≡ false → ((k : ℕ) → a < k → k < low → begins_run classes levels k ≡ false) → (k : ℕ) → a < k → k < low + 1 → begins_run classes levels k ≡ false
-      extended other none' k from below = elim (cases_eq k low) [
-        | inl same ↦ subst (λ (x : ℕ). begins_run classes levels x ≡ false) (sym same) other
-        | inr apart ↦ none' k from (omega arith)
-      ]
+      extended other none' k from below = grind arith
 
   begins_run-zero : begins_run classes levels 0 ≡ false
   unfolding begins_run
-  begins_run-zero =
-      and_left _ _ (and_right (is_kept_at classes 0) (is_some (kept_before classes 0)) (ap is_some (kept_before-is_None classes 0 (λ k below. absurd (omega arith)))))
+  begins_run-zero = grind (arith, kept_before-is_None)
 
   -- the level runs of a paragraph
   pub AreLevelRuns-begins : 0 < length classes → AreLevelRuns 0 (filter (begins_run classes levels) (indexes classes))
-  AreLevelRuns-begins some = by_length (length classes) refl
-    where
-      by_length : (n : ℕ) → length classes ≡ n → AreLevelRuns 0 (filter (begins_run classes levels) (range_with_len 0 n))
-      by_length zero e = absurd (omega arith)
-      by_length (suc m) e =
-          rw (cond-false (begins_run classes levels 0) (0 ∷ filter (begins_run classes levels) (range_with_len (0 + 1) m)) (filter (begins_run classes levels) (range_with_len (0 + 1) m)) begins_run-zero)
-          (cut (0 + 1) m 0 (omega arith) (omega arith) (inl refl) (λ k from below. absurd (omega arith)))
+  AreLevelRuns-begins some = grind (arith, begins_run-zero, cut)
 
   level_run_at : (a : ℕ) (starts : List ℕ) (k : ℕ) → AreLevelRuns a starts → k < length (a ∷ starts) → IsLevelRun classes levels (get_or (a ∷ starts ++ length classes ∷ []) k 0) (get_or (a ∷ starts ++ length classes ∷ []) (suc k) 0)
   level_run_at a [] zero h within = h
@@ -86,18 +76,12 @@ IsLevelRun-at (c ∷ classes) levels k within =
 pub kept_in_run : (len_of : ℕ → ℕ) → HasUnits len_of → (chars : List ℕ) (classes : List BidiClass) (a b : ℕ) → a ≤ length chars → b ≤ length chars
     → kept_in_runs len_of chars classes ((place len_of chars a, place len_of chars b) ∷ []) ≡ filter (is_kept_at classes) (range_with_len a (b - a))
 unfolding kept_in_runs chars_in_runs
-kept_in_run len_of h chars classes a b first second =
-    ap (filter (is_kept_at classes)) (append-nil (between (char_index len_of chars (place len_of chars a)) (char_index len_of chars (place len_of chars b))))
-    ∙ ap (λ x. filter (is_kept_at classes) (between x (char_index len_of chars (place len_of chars b)))) (char_index-place len_of chars h a first)
-    ∙ ap (λ x. filter (is_kept_at classes) (between a x)) (char_index-place len_of chars h b second)
+kept_in_run len_of h chars classes a b first second = search (rules, char_index-place)
 
 -- one more range
 pub kept_in_runs-push : (len_of : ℕ → ℕ) (chars : List ℕ) (classes : List BidiClass) (runs : List (ℕ × ℕ)) (r : ℕ × ℕ) → kept_in_runs len_of chars classes (runs ++ r ∷ []) ≡ kept_in_runs len_of chars classes runs ++ kept_in_runs len_of chars classes (r ∷ [])
 unfolding kept_in_runs chars_in_runs
-kept_in_runs-push len_of chars classes runs r =
-    let of : ℕ × ℕ → List ℕ = λ x. between (char_index len_of chars x.0) (char_index len_of chars x.1) in
-    ap (filter (is_kept_at classes)) (flat_map-append (λ (x : ℕ × ℕ). between (char_index len_of chars x.0) (char_index len_of chars x.1)) runs (r ∷ []))
-    ∙ filter-append (is_kept_at classes) (flat_map (λ (x : ℕ × ℕ). between (char_index len_of chars x.0) (char_index len_of chars x.1)) runs) (flat_map (λ (x : ℕ × ℕ). between (char_index len_of chars x.0) (char_index len_of chars x.1)) (r ∷ []))
+kept_in_runs-push len_of chars classes runs r = grind (arith, flat_map-append, filter-append)
 
 -- the k-th level run as a range of units
 pub level_run_ranges-at : (len_of : ℕ → ℕ) (chars : List ℕ) (classes : List BidiClass) (levels : List ℕ) (k : ℕ) (d : ℕ × ℕ) → length classes ≡ length chars → k < length (run_starts classes levels)
@@ -109,7 +93,7 @@ level_run_ranges-at len_of chars classes levels k d long within =
     let n : ℕ = length classes in
     let last : text_len len_of chars ≡ place len_of chars n = sym (place-end len_of chars n (omega arith)) in
     let whole : map (place len_of chars) starts ++ text_len len_of chars ∷ [] ≡ map (place len_of chars) (starts ++ n ∷ []) =
-    ap (λ (x : ℕ). map (place len_of chars) starts ++ x ∷ []) last ∙ sym (map-append (place len_of chars) starts (n ∷ [])) in
+    grind (arith, map-append) in
     let fits : k < length starts = within in
     let both : length (starts ++ n ∷ []) ≡ length starts + 1 = length-append starts (n ∷ []) in
     ranges_between-at (map (place len_of chars) starts) (text_len len_of chars) k d (omega (arith, length-map starts (place len_of chars)))
@@ -119,5 +103,4 @@ level_run_ranges-at len_of chars classes levels k d long within =
 
 pub length-level_run_ranges : (len_of : ℕ → ℕ) (chars : List ℕ) (classes : List BidiClass) (levels : List ℕ) → length (level_run_ranges len_of chars classes levels) ≡ length (run_starts classes levels)
 unfolding level_run_ranges
-length-level_run_ranges len_of chars classes levels =
-    length-ranges_between (map (place len_of chars) (run_starts classes levels)) (text_len len_of chars) ∙ length-map (run_starts classes levels) (place len_of chars)
+length-level_run_ranges len_of chars classes levels = grind (arith, length-ranges_between, length-map)

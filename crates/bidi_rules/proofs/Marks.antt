@@ -1,8 +1,8 @@
 -- The marked units of a slice, and the classes at them.
-use Rattle.std.proofs.Common.{◌≡◌, ℕ, zero, suc, ◌+◌, ◌-◌, ◌<◌, ◌≤◌, Bool, true, false, List, [], ◌∷◌, ◌++◌, length, get_or, replicate, refl, sym, ap, ◌∙◌, arith, inl, inr}
+use Rattle.std.proofs.Common.{◌≡◌, ℕ, zero, suc, ◌+◌, ◌-◌, ◌<◌, ◌≤◌, Bool, true, false, List, [], ◌∷◌, ◌++◌, length, get_or, replicate, refl, ap, ◌∙◌, arith, inl, inr}
 use Rattle.std.specs.Prelude.{filter}
 use Rattle.std.specs.List.{range_with_len}
-use Rattle.std.proofs.lemmas.Bool.{cases_Bool, cases_lt, cond-true, cond-false}
+use Rattle.std.proofs.lemmas.Bool.{cases_Bool, cond-true, cond-false}
 use Rattle.bidi_base.specs.declared.char_data.BidiClass.{BidiClass}
 use Rattle.bidi_base.specs.declared.char_data.BidiClass.TheVariants.{L}
 use Rattle.bidi_base.specs.Places.{at_places, between}
@@ -22,21 +22,15 @@ module _ (mark : ℕ → Bool) where
   marked-none low high order = let count : high - low ≡ 0 = omega arith in ap (counted low) count
 
   split : (low m n : ℕ) → counted low (m + n) ≡ counted low m ++ counted (low + m) n
-  split low zero n = let none : 0 + n ≡ n = omega arith in let same : low ≡ low + 0 = omega arith in ap (counted low) none ∙ ap (λ k. counted k n) same
+  split low zero n = grind arith
   split low (suc m) n =
       let count : suc m + n ≡ suc (m + n) = omega arith in
       let place : low + 1 + m ≡ low + suc m = omega arith in
       let rest : counted (low + 1) (m + n) ≡ counted (low + 1) m ++ counted (low + suc m) n = split (low + 1) m n ∙ ap (λ k. counted (low + 1) m ++ counted k n) place in
       ap (counted low) count
       ∙ elim (cases_Bool (mark low)) [
-        | inl yes' ↦
-            cond-true (mark low) (low ∷ counted (low + 1) (m + n)) (counted (low + 1) (m + n)) yes'
-            ∙ ap (λ (ps : List ℕ). low ∷ ps) rest
-            ∙ ap (λ (ps : List ℕ). ps ++ counted (low + suc m) n) (sym (cond-true (mark low) (low ∷ counted (low + 1) m) (counted (low + 1) m) yes'))
-        | inr no' ↦
-            cond-false (mark low) (low ∷ counted (low + 1) (m + n)) (counted (low + 1) (m + n)) no'
-            ∙ rest
-            ∙ ap (λ (ps : List ℕ). ps ++ counted (low + suc m) n) (sym (cond-false (mark low) (low ∷ counted (low + 1) m) (counted (low + 1) m) no'))
+        | inl yes' ↦ grind arith
+        | inr no' ↦ grind arith
       ]
 
   pub marked-parts : (low mid high : ℕ) → low ≤ mid → mid ≤ high → marked low high ≡ marked low mid ++ marked mid high
@@ -52,10 +46,7 @@ module _ (mark : ℕ → Bool) where
 
   -- no unit is marked
   pub marked-empty : (low high : ℕ) → ((k : ℕ) → low ≤ k → k < high → mark k ≡ false) → marked low high ≡ []
-  marked-empty low high h = elim (cases_lt low high) [
-    | inl some ↦ empty low (high - low) (λ k a b. h k a (omega arith))
-    | inr none ↦ marked-none low high none
-  ]
+  marked-empty low high h = grind (arith, empty)
 
   full : (low n : ℕ) → ((k : ℕ) → low ≤ k → k < low + n → mark k ≡ true) → counted low n ≡ range_with_len low n
   full low zero h = refl
@@ -82,19 +73,12 @@ module _ (mark : ℕ → Bool) where
       let more = counted (low + 1) n in
       let rest : at_places L xs more ≡ at_places L ys more = same xs ys (low + 1) n (λ k from below is. h k (omega arith) (omega arith) is) in
       elim (cases_Bool (mark low)) [
-        | inl yes' ↦
-            let e = cond-true (mark low) (low ∷ more) more yes' in
-            ap (at_places L xs) e ∙ cons_both _ _ _ _ (h low (omega arith) (omega arith) yes') rest ∙ sym (ap (at_places L ys) e)
-        | inr no' ↦
-            let e = cond-false (mark low) (low ∷ more) more no' in
-            ap (at_places L xs) e ∙ rest ∙ sym (ap (at_places L ys) e)
+        | inl yes' ↦ grind arith
+        | inr no' ↦ grind arith
       ]
 
   pub at_marked-same : (xs ys : List BidiClass) (low high : ℕ) → ((k : ℕ) → low ≤ k → k < high → mark k ≡ true → get_or xs k L ≡ get_or ys k L) → at_places L xs (marked low high) ≡ at_places L ys (marked low high)
-  at_marked-same xs ys low high h = elim (cases_lt low high) [
-    | inl some ↦ same xs ys low (high - low) (λ k a b is. h k a (omega arith) is)
-    | inr none ↦ ap (at_places L xs) (marked-none low high none) ∙ sym (ap (at_places L ys) (marked-none low high none))
-  ]
+  at_marked-same xs ys low high h = grind (arith, same)
 
   all : (xs : List BidiClass) (v : BidiClass) (low n : ℕ) → ((k : ℕ) → low ≤ k → k < low + n → mark k ≡ true → get_or xs k L ≡ v) → at_places L xs (counted low n) ≡ replicate (length (counted low n)) v
   all xs v low zero h = refl
@@ -102,17 +86,10 @@ module _ (mark : ℕ → Bool) where
       let more = counted (low + 1) n in
       let rest : at_places L xs more ≡ replicate (length more) v = all xs v (low + 1) n (λ k from below is. h k (omega arith) (omega arith) is) in
       elim (cases_Bool (mark low)) [
-        | inl yes' ↦
-            let e = cond-true (mark low) (low ∷ more) more yes' in
-            ap (at_places L xs) e ∙ cons_both _ _ _ _ (h low (omega arith) (omega arith) yes') rest ∙ sym (ap (λ (ps : List ℕ). replicate (length ps) v) e)
-        | inr no' ↦
-            let e = cond-false (mark low) (low ∷ more) more no' in
-            ap (at_places L xs) e ∙ rest ∙ sym (ap (λ (ps : List ℕ). replicate (length ps) v) e)
+        | inl yes' ↦ grind arith
+        | inr no' ↦ grind arith
       ]
 
   -- one class stands at each marked unit
   pub at_marked-all : (xs : List BidiClass) (v : BidiClass) (low high : ℕ) → ((k : ℕ) → low ≤ k → k < high → mark k ≡ true → get_or xs k L ≡ v) → at_places L xs (marked low high) ≡ replicate (length (marked low high)) v
-  at_marked-all xs v low high h = elim (cases_lt low high) [
-    | inl some ↦ all xs v low (high - low) (λ k a b is. h k a (omega arith) is)
-    | inr none ↦ ap (at_places L xs) (marked-none low high none) ∙ sym (ap (λ (ps : List ℕ). replicate (length ps) v) (marked-none low high none))
-  ]
+  at_marked-all xs v low high h = grind (arith, all)

@@ -1,14 +1,14 @@
 -- Searches through runs for a direction, forwards and backwards.
-use Rattle.std.proofs.Common.{◌≡◌, ℕ, ◌+◌, ◌<◌, ◌≤◌, true, false, List, length, map, get_or, take, drop, Some, None, sym, ap, ◌∙◌, arith, inl, inr}
+use Rattle.std.proofs.Common.{◌≡◌, ℕ, ◌+◌, ◌<◌, ◌≤◌, true, false, List, length, map, get_or, take, drop, Some, None, ap, ◌∙◌, arith, inl}
+use Rattle.std.proofs.lemmas.Grind.{common_steps}
 use Rattle.std.specs.declared.ops.Range.{Range}
-use Rattle.std.proofs.lemmas.Bool.{cases_lt, or_cases}
 use Rattle.std.proofs.lemmas.List.{get_or-map, length-map, drop_more}
 use Rattle.bidi_base.specs.declared.char_data.BidiClass.{BidiClass}
 use Rattle.bidi_base.specs.Classes.{as_direction, stands_for}
 use Rattle.bidi_base.specs.Places.{class_at}
 use Rattle.bidi_base.specs.Units.{bounds, are_ordered, in_runs}
 use Rattle.bidi_rules.specs.PairWalk.{IsFirstFor, IsNearestBefore}
-use Rattle.bidi_rules.proofs.InRuns.{in_run, in_run-true, in_runs-at, in_runs-drop, in_runs-more, in_runs-take}
+use Rattle.bidi_rules.proofs.InRuns.{in_runs-at, in_runs-drop, in_runs-take}
 use Rattle.bidi_rules.proofs.KeptRuns.{no_range}
 
 module _ (runs : List (Range ℕ)) (i : ℕ) (here : i < length runs) where
@@ -32,18 +32,11 @@ module _ (runs : List (Range ℕ)) (i : ℕ) (here : i < length runs) where
 
   -- a property of the units of the runs so far, and of those of the run that came
   pub every-more : (P : ℕ → Type 0) → ((k : ℕ) → in_runs (take i rs) k ≡ true → P k) → ((k : ℕ) → r.start ≤ k → k < r.end → P k) → (k : ℕ) → in_runs (take (i + 1) rs) k ≡ true → P k
-  every-more P before new k inside = elim (or_cases (in_runs (take i rs) k) (in_run (get_or rs i (0, 0)) k) (sym (in_runs-more i rs k fit) ∙ inside)) [
-    | inl old ↦ before k old
-    | inr is ↦ let w = in_run-true (get_or rs i (0, 0)) k is in new k (omega (arith, w.0, begins)) (omega (arith, w.1, ends))
-  ]
+  every-more P before new k inside = grind (arith, common_steps, ends)
 
   -- the same of those behind
   pub every-later : (P : ℕ → Type 0) → ((k : ℕ) → in_runs (drop (i + 1) rs) k ≡ true → P k) → ((k : ℕ) → r.start ≤ k → k < r.end → P k) → (k : ℕ) → in_runs (drop i rs) k ≡ true → P k
-  every-later P behind new k inside =
-      elim (or_cases (in_run (get_or rs i (0, 0)) k) (in_runs (drop (i + 1) rs) k) (ap (λ (qs : List (ℕ × ℕ)). in_runs qs k) (sym (drop_more rs i (0, 0) fit)) ∙ inside)) [
-        | inl is ↦ let w = in_run-true (get_or rs i (0, 0)) k is in new k (omega (arith, w.0, begins)) (omega (arith, w.1, ends))
-        | inr old ↦ behind k old
-      ]
+  every-later P behind new k inside = grind (arith, drop_more, fit, begins, ends)
 
   pub in-here : (u : ℕ) → r.start ≤ u → u < r.end → in_runs rs u ≡ true
   in-here u from upto = in_runs-at i rs u fit (omega (arith, begins)) (omega (arith, ends))
@@ -55,14 +48,7 @@ module _ (runs : List (Range ℕ)) (i : ℕ) (here : i < length runs) where
     -- a unit of the run below which none passes
     pub IsFirstFor-here : (d : BidiClass) (units : List BidiClass) (from to u : ℕ) → ((k : ℕ) → in_runs (take i rs) k ≡ true → from ≤ k → k < to → stands_for d (class_at units k) ≡ false)
         → ((k : ℕ) → from ≤ k → r.start ≤ k → k < u → stands_for d (class_at units k) ≡ false) → from ≤ u → u < to → r.start ≤ u → u < r.end → stands_for d (class_at units u) ≡ true → IsFirstFor d rs units from to u
-    IsFirstFor-here d units from to u earlier new after below from_start upto is = record {
-      within = omega arith;
-      before = λ k a b inside. elim (cases_lt k r.start) [
-        | inl low ↦ earlier k (earlier-here k low inside) a (omega arith)
-        | inr high ↦ new k a high b
-      ];
-      at = λ less. (after, in-here u from_start upto, is);
-    }
+    IsFirstFor-here d units from to u earlier new after below from_start upto is = grind (arith, earlier-here, in-here)
 
     pub IsNearestBefore-here : (before d : BidiClass) (units : List BidiClass) (to u : ℕ) → ((k : ℕ) → in_runs (drop (i + 1) rs) k ≡ true → k < to → as_direction (class_at units k) ≡ None)
         → ((k : ℕ) → u < k → k < r.end → k < to → as_direction (class_at units k) ≡ None) → u < to → r.start ≤ u → u < r.end → as_direction (class_at units u) ≡ Some d → IsNearestBefore before rs units to d

@@ -1,10 +1,10 @@
 -- N1 and N2 in one walk over units: the neutrals that have come wait for the next class with a direction.
-use Rattle.std.proofs.Common.{◌≡◌, ℕ, zero, suc, ◌+◌, ◌-◌, ◌<◌, ◌≤◌, Bool, true, false, ◌&&◌, List, [], ◌∷◌, ◌++◌, length, map, get_or, drop, replicate, Some, None, refl, sym, ap, subst, ◌∙◌, arith, add-one, append_assoc, inl, inr}
+use Rattle.std.proofs.Common.{◌≡◌, ℕ, zero, suc, ◌+◌, ◌-◌, ◌<◌, ◌≤◌, Bool, true, false, List, [], ◌∷◌, ◌++◌, length, map, get_or, drop, replicate, Some, None, refl, sym, ap, subst, ◌∙◌, arith, add-one, append_assoc, inl, inr}
 use Rattle.std.specs.Prelude.{filter}
 use Rattle.std.specs.List.{list_all, range_with_len}
 use Rattle.std.specs.declared.ops.Range.{Range}
 use Rattle.std.proofs.lemmas.List.{length-map}
-use Rattle.std.proofs.lemmas.Bool.{cases_Bool, cases_lt, both_ways, and_parts, and_from, and_left, cond-true, cond-false}
+use Rattle.std.proofs.lemmas.Bool.{cases_Bool, cases_lt, both_ways, and_parts, and_from}
 use Rattle.bidi_base.specs.declared.char_data.BidiClass.{BidiClass}
 use Rattle.bidi_base.specs.declared.char_data.BidiClass.TheVariants.{L}
 use Rattle.bidi_base.specs.Classes.{as_direction, is_kept_in_place, is_neutral, is_weak_resolved}
@@ -34,16 +34,7 @@ module _ (e eos : BidiClass) (mark : ℕ → Bool) (old answers : List BidiClass
   -- more units that wait or are none of the sequence
   pub IsScanned-more : (now : List BidiClass) (left : BidiClass) (first at to : ℕ) → at ≤ to → ((k : ℕ) → at ≤ k → k < to → mark k ≡ true → is_neutral (class_at old k) ≡ true)
       → IsScanned now left first at → IsScanned now left first to
-  IsScanned-more now left first at to upto more s =
-      let order = s.order in
-      record {
-        written = s.written;
-        waiting = λ k from below is. elim (cases_lt k at) [ inl earlier ↦ s.waiting k from earlier is | inr later ↦ more k later below is ];
-        unwritten = s.unwritten;
-        unmarked = s.unmarked;
-        order = omega arith;
-        long = s.long;
-      }
+  IsScanned-more now left first at to upto more s = grind arith
 
   neutrals : (low n : ℕ) → ((k : ℕ) → low ≤ k → k < low + n → mark k ≡ true → is_neutral (class_at old k) ≡ true) → list_all is_neutral (at_places L old (filter mark (range_with_len low n))) ≡ true
   neutrals low zero h = refl
@@ -51,10 +42,8 @@ module _ (e eos : BidiClass) (mark : ℕ → Bool) (old answers : List BidiClass
       let more = filter mark (range_with_len (low + 1) n) in
       let rest : list_all is_neutral (at_places L old more) ≡ true = neutrals (low + 1) n (λ k from below is. h k (omega arith) (omega arith) is) in
       elim (cases_Bool (mark low)) [
-        | inl yes' ↦
-            ap (λ (us : List ℕ). list_all is_neutral (at_places L old us)) (cond-true (mark low) (low ∷ more) more yes')
-            ∙ and_from (is_neutral (class_at old low)) (list_all is_neutral (at_places L old more)) (h low (omega arith) (omega arith) yes') rest
-        | inr no' ↦ ap (λ (us : List ℕ). list_all is_neutral (at_places L old us)) (cond-false (mark low) (low ∷ more) more no') ∙ rest
+        | inl yes' ↦ grind arith
+        | inr no' ↦ grind arith
       ]
 
   module _ (now new : List BidiClass) (left : BidiClass) (first at : ℕ) (s : IsScanned now left first at) where
@@ -112,22 +101,7 @@ module _ (e eos : BidiClass) (mark : ℕ → Bool) (old answers : List BidiClass
             ∙ s.written
 
     pub IsScanned-end : at ≡ length old → IsWrittenOver mark (common e left eos) first at now new → at_places L new (marked mark 0 at) ≡ answers
-    IsScanned-end end w =
-        let cs = at_places L old (marked mark first at) in
-        taken (common e left eos) w
-        ∙ ap (λ (xs : List BidiClass). at_places L now (marked mark 0 first) ++ xs) (sym (n1_n2-last e left eos cs wait) ∙ ap (λ n. n1_n2 e left eos (at_places L old (marked mark first n))) end)
-        ∙ s.written
-
--- before the first unit
-pub IsScanned-start : (e sos eos : BidiClass) (mark : ℕ → Bool) (old : List BidiClass) (at : ℕ) → ((k : ℕ) → k < at → mark k ≡ false) → IsScanned e eos mark old (n1_n2 e sos eos (at_places L old (marked mark 0 (length old)))) old sos 0 at
-IsScanned-start e sos eos mark old at none = record {
-  written = refl;
-  waiting = λ k from below is. absurd (both_ways (mark k) (none k below) is);
-  unwritten = λ k from. refl;
-  unmarked = λ k plain. refl;
-  order = omega arith;
-  long = refl;
-}
+    IsScanned-end end w = grind (arith, taken, n1_n2-last, wait)
 
 module _ (e sos eos : BidiClass) (runs : List (Range ℕ)) (old : List BidiClass) where
   abbrev rs : List (ℕ × ℕ)
@@ -143,17 +117,11 @@ module _ (e sos eos : BidiClass) (runs : List (Range ℕ)) (old : List BidiClass
     pub fits : first_run ≤ length runs
 
   seen_alike : (now : List BidiClass) (left : BidiClass) (first first_run at : ℕ) → IsScannedTo now left first first_run at → (to k : ℕ) → first ≤ k → k < to → is_seen (drop first_run rs) now k ≡ is_seen rs old k
-  seen_alike now left first first_run at s to k from below =
-      ap (λ b. b && is_kept_in_place (class_at now k)) (s.reached k from) ∙ ap (λ c. in_runs rs k && is_kept_in_place c) (s.scanned.unwritten k from)
+  seen_alike now left first first_run at s to k from below = grind arith
 
   module _ (ordered : are_ordered rs ≡ true) where
     pub IsScannedTo-start : IsScannedTo old sos 0 0 (start_or rs 0 (length old))
-    IsScannedTo-start = record {
-      scanned = IsScanned-start e sos eos (is_seen rs old) old (start_or rs 0 (length old))
-          (λ k below. and_left (in_runs rs k) (is_kept_in_place (class_at old k)) (gap_before 0 rs k (length old) ordered below));
-      reached = λ k from. refl;
-      fits = omega arith;
-    }
+    IsScannedTo-start = grind (arith, gap_before)
 
     module _ (run : ℕ) (here : run < length runs) (now : List BidiClass) (left : BidiClass) (first first_run at : ℕ) (s : IsScannedTo now left first first_run at) where
       abbrev r : ℕ × ℕ

@@ -1,23 +1,22 @@
 -- The steps of N0 and N1 over a sequence, one after the other.
-use Rattle.std.proofs.Common.{◌≡◌, ℕ, zero, suc, ◌+◌, ◌<◌, ◌≤◌, Bool, true, false, ◌&&◌, ltb, if◌then◌else◌, List, [], ◌∷◌, length, get_or, map, find, slice_get, Option, Some, None, refl, sym, ap, subst, ◌∙◌, arith, inl, inr, ◌⊎◌}
+use Rattle.std.proofs.Common.{◌≡◌, ℕ, zero, suc, ◌+◌, ◌<◌, ◌≤◌, Bool, true, false, ◌&&◌, ltb, if◌then◌else◌, List, [], ◌∷◌, length, get_or, map, find, slice_get, Option, Some, None, refl, sym, ap, subst, ◌∙◌, arith, inl, inr, ◌⊎◌, rules}
 use Rattle.std.specs.Prelude.{All}
 use Rattle.std.specs.List.{list_all}
 use Rattle.std.specs.declared.ops.Range.{Range}
 use Rattle.std.proofs.lemmas.Bool.{cases_Bool, cases_lt, cond-true, cond-false, and_parts, and_left, and_right}
 use Rattle.std.proofs.lemmas.List.{nil_from_length, length-map, get_or-map, get_or_past}
 use Rattle.std.proofs.lemmas.List.FromFn.{length-range_with_len, get_or-range_with_len}
-use Rattle.std.proofs.lemmas.List.Elements.{All-weaker}
 use Rattle.bidi_base.specs.declared.char_data.BidiClass.{BidiClass}
-use Rattle.bidi_base.specs.declared.char_data.BidiClass.TheVariants.{L, R, BN}
+use Rattle.bidi_base.specs.declared.char_data.BidiClass.TheVariants.{L, BN}
 use Rattle.bidi_base.specs.declared.data_source.BidiMatchedOpeningBracket.{BidiMatchedOpeningBracket}
 use Rattle.bidi_base.specs.Brackets.{bracket_pairs}
-use Rattle.bidi_base.specs.Classes.{is_l_or_r, is_kept_in_place, is_neutral, is_weak_resolved}
+use Rattle.bidi_base.specs.Classes.{is_l_or_r, is_kept_in_place, is_weak_resolved}
 use Rattle.bidi_base.specs.Levels.{direction_of}
 use Rattle.bidi_base.specs.Neutral.{n0, n1_rule, n1_n2, n2_rule, neutral_classes}
 use Rattle.bidi_base.specs.Places.{at_places, class_at, first_or, indexes}
 use Rattle.bidi_base.specs.Sequences.{level_at}
 use Rattle.bidi_base.specs.Source.{Source}
-use Rattle.bidi_base.specs.Text.{place, text_len, is_per_char, per_unit, IsLine, IsPerChar}
+use Rattle.bidi_base.specs.Text.{place, text_len, is_per_char, per_unit, IsPerChar}
 use Rattle.bidi_base.specs.Units.{bounds, are_ordered, in_runs, kept_in_place, units_in_runs, AreLines}
 use Rattle.bidi_base.proofs.NeutralLemmas.{n0-resolved}
 use Rattle.bidi_base.proofs.PermutationLemmas.{Ascends}
@@ -36,7 +35,7 @@ use Rattle.bidi_rules.specs.RunSequence.{lent_runs, lent_sos, lent_eos}
 use Rattle.bidi_rules.specs.WeakWalk.{is_seen}
 use Rattle.bidi_rules.proofs.FirstKept.{first_kept-is, first-Some, first-None}
 use Rattle.bidi_rules.proofs.SeenUnits.{kept_in_place-alike, ruled-places, ruled-IsPerChar, seen-every}
-use Rattle.bidi_rules.proofs.JoinScan.{settled-opposite, at_marked-changed}
+use Rattle.bidi_rules.proofs.JoinScan.{at_marked-changed}
 use Rattle.bidi_rules.proofs.PassOverText.{IsPerChar-alike, alike_class, in_runs-alike}
 use Rattle.bidi_rules.proofs.Spots.{Ascends-within}
 use Rattle.bidi_rules.proofs.KeptRuns.{kept_in_place-Ascends}
@@ -60,11 +59,7 @@ IsReady-sequence len_of h chars sequence runs sos old runs_is sos_is per lines r
     }))
 
 pub eos-side : (sequence : LentSequence) (eos : BidiClass) → eos ≡ lent_eos sequence → is_l_or_r eos ≡ true
-eos-side sequence eos is =
-    let all = map bounds sequence.runs.now in
-    let sides = is_l_or_r sequence.sos && is_l_or_r sequence.eos in
-    let last = and_parts (are_ordered all) sides (and_parts (ltb 0 (length all)) (are_ordered all && sides) sequence.well_formed).1 in
-    ap is_l_or_r is ∙ (and_parts (is_l_or_r sequence.sos) (is_l_or_r sequence.eos) last.1).1
+eos-side sequence eos is = grind (arith, and_parts)
 
 module _ (len_of : ℕ → ℕ) (h : HasUnits len_of) (chars : List ℕ) (runs : List (Range ℕ)) (sos : BidiClass) (old : List BidiClass) (ready : IsReady len_of chars runs sos old) where
   abbrev read : List ℕ
@@ -74,8 +69,7 @@ module _ (len_of : ℕ → ℕ) (h : HasUnits len_of) (chars : List ℕ) (runs :
   long = length-from_IsPerChar len_of chars old ready.per_char
 
   pub runs-within : All (λ r. r.1 ≤ length old) (map bounds runs)
-  runs-within =
-      All-weaker (λ (r : ℕ × ℕ). IsLine len_of chars r.0 r.1) (λ (r : ℕ × ℕ). r.1 ≤ length old) (λ r line. omega (arith, is_boundary-le len_of chars r.1 line.ends, long)) (map bounds runs) ready.lines
+  runs-within = grind (arith, is_boundary-le, long)
 
   -- the first unit that is read
   pub first-is : (first : ℕ) → Some first ≡ find (λ u. is_kept_in_place (class_at old u)) (units_in_runs (map bounds runs)) → first_or 0 (map (place len_of chars) read) ≡ first
@@ -83,7 +77,7 @@ module _ (len_of : ℕ → ℕ) (h : HasUnits len_of) (chars : List ℕ) (runs :
       first-Some (map (place len_of chars) read) first (sym (first_kept-is len_of h chars old ready.per_char (map bounds runs) ready.lines) ∙ sym found)
 
   pub first-within : (first : ℕ) → Some first ≡ find (λ u. is_kept_in_place (class_at old u)) (units_in_runs (map bounds runs)) → first < length old
-  first-within first found = by_list read (kept_in_place-Ascends len_of h chars old (map bounds runs) ready.lines ready.ordered) (sym (first_kept-is len_of h chars old ready.per_char (map bounds runs) ready.lines) ∙ sym found)
+  first-within first found = grind (arith, by_list, kept_in_place-Ascends, first_kept-is)
     where
       by_list : (ks : List ℕ) → Ascends 0 ks (length chars) → slice_get (map (place len_of chars) ks) 0 ≡ Some first → first < length old
       by_list [] rises e = absurd (cc e)
@@ -104,17 +98,15 @@ abbrev at_marks : (ℕ → Bool) → (BidiClass → BidiClass) → List BidiClas
 at_marks mark f cs = map (λ k. if mark k then f (class_at cs k) else class_at cs k) (indexes cs)
 
 length-at_marks : (mark : ℕ → Bool) (f : BidiClass → BidiClass) (cs : List BidiClass) → length (at_marks mark f cs) ≡ length cs
-length-at_marks mark f cs = length-map (indexes cs) (λ k. if mark k then f (class_at cs k) else class_at cs k) ∙ length-range_with_len 0 (length cs)
+length-at_marks mark f cs = grind (arith, length-map, length-range_with_len) steps 400000
 
 at_marks-at : (mark : ℕ → Bool) (f : BidiClass → BidiClass) → f L ≡ L → (cs : List BidiClass) (k : ℕ) → class_at (at_marks mark f cs) k ≡ (if mark k then f (class_at cs k) else class_at cs k)
 at_marks-at mark f stays cs k = elim (cases_lt k (length cs)) [
   | inl inside ↦
       let there : k < length (indexes cs) = omega (arith, inside, length-range_with_len 0 (length cs)) in
-      let here : get_or (indexes cs) k 0 ≡ k = get_or-range_with_len 0 (length cs) k 0 inside ∙ (let same : 0 + k ≡ k = omega arith in same) in
+      let here : get_or (indexes cs) k 0 ≡ k = grind (arith, get_or-range_with_len) in
       get_or-map (λ k. if mark k then f (class_at cs k) else class_at cs k) (indexes cs) k 0 L there ∙ ap (λ j. if mark j then f (class_at cs j) else class_at cs j) here
-  | inr past ↦
-      let none : class_at cs k ≡ L = get_or_past cs k L past in
-      get_or_past (at_marks mark f cs) k L (omega (arith, past, length-at_marks mark f cs)) ∙ sym (ap (λ (c : BidiClass). if mark k then f c else c) none ∙ either (mark k))
+  | inr past ↦ grind (arith, get_or_past, length-at_marks)
 ]
   where
     either : (b : Bool) → (if b then f L else L) ≡ L
@@ -130,41 +122,22 @@ at_places-changed f stays cs (p ∷ ps) = ap (λ (c : BidiClass). c ∷ at_place
     at (x ∷ xs) zero = refl
     at (x ∷ xs) (suc k) = at xs k
 
--- a class that N2 makes the opposite direction is that direction
-opposite-from : (e c : BidiClass) → is_l_or_r e ≡ true → n2_rule e c ≡ opposite_of e → c ≡ opposite_of e
-opposite-from e c side is = elim (cases_Bool (is_neutral c)) [
-  | inl neutral ↦ absurd (apart e side (sym (cond-true (is_neutral c) e c neutral) ∙ is))
-  | inr other ↦ sym (cond-false (is_neutral c) e c other) ∙ is
-]
-  where
-    apart : (e : BidiClass) → is_l_or_r e ≡ true → e ≡ opposite_of e → ⊥
-    apart L side is = cc is
-    apart R side is = cc is
-    apart _ side is = cc side
-
 -- two classes that were alike, and have become that direction or stay, are alike if N2 makes them so
 same_from : (e c d x y : BidiClass) → is_l_or_r e ≡ true → c ≡ d → (x ≡ c) ⊎ (x ≡ opposite_of e) → (y ≡ d) ⊎ (y ≡ opposite_of e) → n2_rule e x ≡ n2_rule e y → x ≡ y
-same_from e c d x y side same own other alike = elim own [
-  | inl stays ↦ elim other [
-    | inl stays' ↦ stays ∙ same ∙ sym stays'
-    | inr turned ↦ opposite-from e x side (alike ∙ ap (n2_rule e) turned ∙ settled-opposite e) ∙ sym turned
-  ]
-  | inr turned ↦ turned ∙ sym (opposite-from e y side (sym alike ∙ ap (n2_rule e) turned ∙ settled-opposite e))
-]
+same_from e c d x y side same own other alike = grind arith
 
 -- and then N1 and N2
 pub length-resolved : (e sos eos : BidiClass) (source classes : List BidiClass) (pairs : List (ℕ × ℕ)) → length (n1_n2 e sos eos (n0 e sos source pairs classes)) ≡ length classes
-length-resolved e sos eos source classes pairs = length-in_context (n1_rule e sos eos) [] (n0 e sos source pairs classes) ∙ length-n0 e sos source pairs classes
+length-resolved e sos eos source classes pairs = grind (arith, length-in_context, length-n0) steps 400000
 
 pub neutral_classes-is : (e sos eos : BidiClass) (level : ℕ) (source classes : List BidiClass) (brackets : List (Option BidiMatchedOpeningBracket)) → e ≡ direction_of level
     → n1_n2 e sos eos (n0 e sos source (bracket_pairs classes brackets) classes) ≡ neutral_classes level sos eos source brackets classes
 unfolding neutral_classes
-neutral_classes-is e sos eos level source classes brackets is = ap (λ (d : BidiClass). n1_n2 d sos eos (n0 d sos source (bracket_pairs classes brackets) classes)) is
+neutral_classes-is e sos eos level source classes brackets is = grind arith steps 400000
 
 pub neutral_classes-none : (level : ℕ) (sos eos : BidiClass) (source : List BidiClass) (brackets : List (Option BidiMatchedOpeningBracket)) → neutral_classes level sos eos source brackets [] ≡ []
 unfolding neutral_classes
-neutral_classes-none level sos eos source brackets =
-    nil_from_length (neutral_classes level sos eos source brackets []) (length-resolved (direction_of level) sos eos source [] (bracket_pairs [] brackets))
+neutral_classes-none level sos eos source brackets = search (rules, nil_from_length, length-resolved)
 
 -- ---- the end
 
@@ -194,7 +167,7 @@ module _ (len_of : ℕ → ℕ) (h : HasUnits len_of) (chars : List ℕ) (source
   mid-long = length-from_IsPerChar len_of chars mid p.per_char ∙ sym (length-from_IsPerChar len_of chars old ready.per_char)
 
   pub mid-within : All (λ r. r.1 ≤ length mid) rs
-  mid-within = subst (λ n. All (λ (r : ℕ × ℕ). r.1 ≤ n) rs) (sym mid-long) (runs-within len_of h chars runs sos old ready)
+  mid-within = search (arith, mid-long, runs-within)
 
   -- what is read then has a direction or is a neutral still
   pub mid-resolved : is_l_or_r e ≡ true → (u : ℕ) → is_seen rs mid u ≡ true → is_weak_resolved (class_at mid u) ≡ true
@@ -202,8 +175,7 @@ module _ (len_of : ℕ → ℕ) (h : HasUnits len_of) (chars : List ℕ) (source
       let read = kept_in_place len_of chars old rs in
       let sources = values_of L len_of chars original read in
       let classes = values_of L len_of chars old read in
-      let all : list_all is_weak_resolved (values_of L len_of chars mid read) ≡ true =
-      ap (list_all is_weak_resolved) p.paired ∙ n0-resolved e sos sources (bracket_pairs classes (map source.bracket_of (at_places 0 chars read))) classes side ready.side ready.resolved in
+      let all : list_all is_weak_resolved (values_of L len_of chars mid read) ≡ true = grind (arith, n0-resolved) in
       seen-every len_of h chars mid p.per_char rs ready.lines ready.ordered mid-within is_weak_resolved (ap (λ (ks : List ℕ). list_all is_weak_resolved (values_of L len_of chars mid ks)) same_read ∙ all) u seen
 
   module _ (side : is_l_or_r e ≡ true) (eos : BidiClass) (new : List BidiClass) (long : length new ≡ length mid)
@@ -279,13 +251,7 @@ pub IsUpToN1-none : (len_of : ℕ → ℕ) (h : HasUnits len_of) (chars : List �
 IsUpToN1-none len_of h chars source levels original old runs sos eos ready found =
     let none = none-read len_of h chars runs sos old ready found in
     record {
-      kept = subst
-          (λ (read : List ℕ).
-          let places = map (place len_of chars) read in
-          let level = level_at levels (first_or 0 places) in
-          map (n2_rule (direction_of level)) (at_places L old places)
-          ≡ neutral_classes level sos eos (at_places L original places) (map source.bracket_of (at_places 0 chars read)) (at_places L old places))
-          (sym none) (sym (neutral_classes-none (level_at levels 0) sos eos [] []));
+      kept = grind (arith, neutral_classes-none);
       removed = λ u is. is;
       outside = λ u out. refl;
       per_char = is_per_char-from_IsPerChar class_eq class_test len_of chars old ready.per_char;
@@ -294,6 +260,4 @@ IsUpToN1-none len_of h chars source levels original old runs sos eos ready found
 -- at the sequence itself
 pub IsUpToN1-sequence : (len_of : ℕ → ℕ) (chars : List ℕ) (source : Source) (levels : List ℕ) (original old new : List BidiClass) (sequence : LentSequence) (runs : List (Range ℕ)) (sos eos : BidiClass) → runs ≡ lent_runs sequence
     → sos ≡ lent_sos sequence → eos ≡ lent_eos sequence → IsUpToN1 len_of chars source levels original old new runs sos eos → IsUpToN1 len_of chars source levels original old new (lent_runs sequence) (lent_sos sequence) (lent_eos sequence)
-IsUpToN1-sequence len_of chars source levels original old new sequence runs sos eos runs_are sos_is eos_is r =
-    subst (λ (rs : List (Range ℕ)). IsUpToN1 len_of chars source levels original old new rs (lent_sos sequence) (lent_eos sequence)) runs_are
-    (subst (λ (s : BidiClass). IsUpToN1 len_of chars source levels original old new runs s (lent_eos sequence)) sos_is (subst (IsUpToN1 len_of chars source levels original old new runs sos) eos_is r))
+IsUpToN1-sequence len_of chars source levels original old new sequence runs sos eos runs_are sos_is eos_is r = grind arith steps 400000

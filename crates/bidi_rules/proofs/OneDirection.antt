@@ -1,25 +1,25 @@
 -- A sequence in which each class is a neutral or one direction, which stands at its ends too: N2 alone is left.
-use Rattle.std.proofs.Common.{◌≡◌, ℕ, Bool, true, false, List, [], ◌∷◌, length, map, find, Option, Some, refl, sym, ap, subst, ◌∙◌, inl, inr}
+use Rattle.std.proofs.Common.{◌≡◌, ℕ, Bool, true, false, List, [], ◌∷◌, length, map, find, Option, Some, refl, sym, ap, subst, ◌∙◌, inl, inr, arith}
 use Rattle.std.specs.Prelude.{filter, All}
 use Rattle.std.specs.List.{list_all}
 use Rattle.std.specs.declared.ops.Range.{Range}
-use Rattle.std.proofs.lemmas.Bool.{cases_Bool, and_parts, and_from, cond-true, cond-false}
+use Rattle.std.proofs.lemmas.Bool.{cases_Bool, and_parts, and_from, cond-true}
 use Rattle.std.proofs.lemmas.List.{length-map}
 use Rattle.std.proofs.lemmas.List.Elements.{All-head, All-tail, All-nil, All-cons, All-map}
 use Rattle.bidi_base.specs.declared.char_data.BidiClass.{BidiClass}
-use Rattle.bidi_base.specs.declared.char_data.BidiClass.TheVariants.{L, R, EN, AN}
+use Rattle.bidi_base.specs.declared.char_data.BidiClass.TheVariants.{L}
 use Rattle.bidi_base.specs.declared.data_source.BidiMatchedOpeningBracket.{BidiMatchedOpeningBracket}
 use Rattle.bidi_base.specs.Brackets.{bracket_pairs}
-use Rattle.bidi_base.specs.Classes.{is_l_or_r, is_kept_in_place, is_neutral, is_weak_resolved, same_class}
+use Rattle.bidi_base.specs.Classes.{is_l_or_r, is_kept_in_place, is_weak_resolved, same_class}
 use Rattle.bidi_base.specs.Levels.{direction_of}
 use Rattle.bidi_base.specs.Neutral.{n2_rule, neutral_classes}
-use Rattle.bidi_base.specs.Places.{at_places, class_at, first_or}
+use Rattle.bidi_base.specs.Places.{at_places, class_at}
 use Rattle.bidi_base.specs.Sequences.{level_at}
 use Rattle.bidi_base.specs.Source.{Source}
 use Rattle.bidi_base.specs.Text.{place}
 use Rattle.bidi_base.specs.Units.{bounds, chars_in_runs, in_runs, kept_in_place, units_in_runs}
 use Rattle.bidi_base.proofs.OneDirection.{goes_with, itself, neutral_classes-one, same_lists}
-use Rattle.bidi_base.proofs.PerCharTests.{class_eq, class_test}
+use Rattle.bidi_base.proofs.PerCharTests.{class_test}
 use Rattle.bidi_base.proofs.TextLemmas.{HasUnits}
 use Rattle.bidi_base.proofs.UnitsLemmas.{is_per_char-from_IsPerChar}
 use Rattle.bidi_rules.specs.NeutralPass.{turns_from, values_of, IsReady}
@@ -27,17 +27,7 @@ use Rattle.bidi_rules.proofs.NeutralSteps.{IsUpToN1, first-is, length-resolved, 
 use Rattle.bidi_rules.proofs.NeutralUnits.{places_in_runs}
 
 goes_with-from : (e c : BidiClass) → is_l_or_r e ≡ true → is_weak_resolved c ≡ true → turns_from e c ≡ false → goes_with e c ≡ true
-goes_with-from L L s h k = refl
-goes_with-from L R s h k = absurd (cc k)
-goes_with-from L EN s h k = absurd (cc k)
-goes_with-from L AN s h k = absurd (cc k)
-goes_with-from L _ s h k = h
-goes_with-from R L s h k = absurd (cc k)
-goes_with-from R R s h k = refl
-goes_with-from R EN s h k = absurd (cc k)
-goes_with-from R AN s h k = absurd (cc k)
-goes_with-from R _ s h k = h
-goes_with-from _ c s h k = absurd (cc s)
+goes_with-from e c s h k = grind arith
 
 module _ (e : BidiClass) (side : is_l_or_r e ≡ true) where
   module _ (units : List BidiClass) where
@@ -51,9 +41,7 @@ module _ (e : BidiClass) (side : is_l_or_r e ≡ true) where
 
   -- N2 gives the direction to all
   taken : (e c : BidiClass) → goes_with e c ≡ true → n2_rule e c ≡ e
-  taken L L goes = refl
-  taken R R goes = refl
-  taken e c goes = cond-true (is_neutral c) e c goes
+  taken e c goes = grind arith
 
   all_same : (cs : List BidiClass) → list_all (goes_with e) cs ≡ true → list_all (same_class e) (map (n2_rule e) cs) ≡ true
   all_same [] h = refl
@@ -70,7 +58,7 @@ read_each test within P holds (k ∷ ks) a =
       | inl yes' ↦
           subst (λ (xs : List ℕ). All P xs) (sym (cond-true (test k) (k ∷ filter test ks) (filter test ks) yes'))
           (All-cons P k (filter test ks) (holds k (All-head (λ j. within j ≡ true) k ks a) yes') rest)
-      | inr no' ↦ subst (λ (xs : List ℕ). All P xs) (sym (cond-false (test k) (k ∷ filter test ks) (filter test ks) no')) rest
+      | inr no' ↦ grind arith
     ]
 
 module _ (len_of : ℕ → ℕ) (h : HasUnits len_of) (chars : List ℕ) (runs : List (Range ℕ)) (sos : BidiClass) (old : List BidiClass) (ready : IsReady len_of chars runs sos old) where
@@ -106,15 +94,4 @@ module _ (len_of : ℕ → ℕ) (h : HasUnits len_of) (chars : List ℕ) (runs :
 
     pub IsUpToN1-one : (source : Source) (levels : List ℕ) (original : List BidiClass) (eos : BidiClass) (first : ℕ) → sos ≡ e → eos ≡ e → Some first ≡ find (λ u. is_kept_in_place (class_at old u)) (units_in_runs rs)
         → e ≡ direction_of (level_at levels first) → IsUpToN1 len_of chars source levels original old old runs sos eos
-    IsUpToN1-one source levels original eos first sos_is eos_is found is =
-        let at : first_or 0 places ≡ first = first-is len_of h chars runs sos old ready first found in
-        let brackets = map source.bracket_of (at_places 0 chars read) in
-        let sources = at_places L original places in
-        record {
-          kept = kept-one (level_at levels (first_or 0 places)) sources brackets (is ∙ ap (λ (u : ℕ). direction_of (level_at levels u)) (sym at))
-              ∙ ap (λ (s : BidiClass). neutral_classes (level_at levels (first_or 0 places)) s e sources brackets (at_places L old places)) (sym sos_is)
-              ∙ ap (λ (s : BidiClass). neutral_classes (level_at levels (first_or 0 places)) sos s sources brackets (at_places L old places)) (sym eos_is);
-          removed = λ u gone. gone;
-          outside = λ u out. refl;
-          per_char = is_per_char-from_IsPerChar class_eq class_test len_of chars old ready.per_char;
-        }
+    IsUpToN1-one source levels original eos first sos_is eos_is found is = grind (arith, first-is, kept-one, is_per_char-from_IsPerChar, class_test)

@@ -2,13 +2,13 @@
 use Rattle.std.proofs.Common.{◌≡◌, ℕ, zero, suc, ◌+◌, ◌-◌, ◌<◌, ◌≤◌, true, false, ltb, List, length, map, get_or, take, drop, reverse, slice_range, Option, Some, None, refl, sym, ap, ◌∙◌, arith, inl, inr, unwrap_or, lt-ltb, le-ltb, length-take, length-drop, get_or-take, get_or-drop}
 use Rattle.std.specs.List.{list_any}
 use Rattle.std.specs.declared.ops.Range.{Range}
-use Rattle.std.proofs.lemmas.Bool.{cases_lt, both_ways, and_parts, and_from}
+use Rattle.std.proofs.lemmas.Bool.{cases_lt, both_ways}
 use Rattle.std.proofs.lemmas.List.Elements.{All-from_get_or}
 use Rattle.std.proofs.lemmas.List.Folds.{list_any_at, list_any_none}
 use Rattle.bidi_base.specs.declared.char_data.BidiClass.{BidiClass}
-use Rattle.bidi_base.specs.declared.char_data.BidiClass.TheVariants.{L, BN}
+use Rattle.bidi_base.specs.declared.char_data.BidiClass.TheVariants.{L}
 use Rattle.bidi_base.specs.Classes.{as_direction, is_kept_in_place, stands_for}
-use Rattle.bidi_base.specs.Brackets.{IsBehindOrWithin, AreNestedPairs}
+use Rattle.bidi_base.specs.Brackets.{AreNestedPairs}
 use Rattle.bidi_base.specs.Neutral.{nearest_direction}
 use Rattle.bidi_base.specs.Places.{class_at}
 use Rattle.bidi_base.specs.Text.{IsPerChar}
@@ -23,12 +23,10 @@ use Rattle.bidi_rules.proofs.Spots.{behind, Owner, owner, spot-behind, behind-sp
 
 -- a class that stands for a direction is kept
 stands-kept : (d c : BidiClass) → stands_for d c ≡ true → is_kept_in_place c ≡ true
-stands-kept d BN h = absurd (cc h)
-stands-kept d _ h = refl
+stands-kept d c h = grind arith
 
 pub directed-kept : (c d : BidiClass) → as_direction c ≡ Some d → is_kept_in_place c ≡ true
-directed-kept BN d e = absurd (cc e)
-directed-kept _ d e = refl
+directed-kept c d e = grind arith
 
 -- the nearest direction before an index, by its place
 nearest-none : (sos : BidiClass) (cs : List BidiClass) (i : ℕ) → i ≤ length cs → ((k : ℕ) → k < i → as_direction (class_at cs k) ≡ None) → nearest_direction sos (reverse (take i cs)) ≡ sos
@@ -53,33 +51,19 @@ nearest-at sos d cs (suc i) x fits before is none =
       | inl earlier ↦
           ap (λ (o : Option BidiClass). unwrap_or o (nearest_direction sos (reverse (take i cs)))) (none i earlier (omega arith))
           ∙ nearest-at sos d cs i x (omega arith) earlier is (λ k a b. none k a (omega arith))
-      | inr here ↦
-          let at : x ≡ i = omega arith in
-          ap (λ (o : Option BidiClass). unwrap_or o (nearest_direction sos (reverse (take i cs)))) (ap (λ n. as_direction (class_at cs n)) (sym at) ∙ is)
+      | inr here ↦ grind arith
     ]
 
 -- the pair at an index
 abbrev pub pair_at : List (ℕ × ℕ) → ℕ → ℕ × ℕ
 pair_at pairs k = get_or pairs k (0, 0)
 
-opens_before : (n : ℕ) (pairs : List (ℕ × ℕ)) (k m : ℕ) → AreNestedPairs n pairs → k < m → m < length pairs → (pair_at pairs k).0 < (pair_at pairs m).0
-opens_before n pairs k m nested order fits = by_place (nested.1 k m (0, 0) order fits) (nested.0 k (0, 0) (omega arith)).0
-  where
-    by_place : IsBehindOrWithin (pair_at pairs k) (pair_at pairs m) → (pair_at pairs k).0 < (pair_at pairs k).1 → (pair_at pairs k).0 < (pair_at pairs m).0
-    by_place (inl behind) first = omega arith
-    by_place (inr within) first = within.0
-
 pub opens_upto : (n : ℕ) (pairs : List (ℕ × ℕ)) (k m : ℕ) → AreNestedPairs n pairs → k ≤ m → m < length pairs → (pair_at pairs k).0 ≤ (pair_at pairs m).0
-opens_upto n pairs k m nested order fits = elim (cases_lt k m) [
-  | inl before ↦ let strict = opens_before n pairs k m nested before fits in omega arith
-  | inr past ↦ let same : k ≡ m = omega arith in let e = ap (λ (i : ℕ). (pair_at pairs i).0) same in omega arith
-]
+opens_upto n pairs k m nested order fits = grind arith
 
 -- a class between two brackets
 between_at : (classes : List BidiClass) (i j k : ℕ) → j ≤ length classes → k < length (slice_range classes (i + 1) j) → (get_or (slice_range classes (i + 1) j) k L ≡ class_at classes (i + 1 + k)) × (i + 1 + k < j)
-between_at classes i j k fits inside =
-    let short : k < j - (i + 1) = omega (arith, length-take (j - (i + 1)) (drop (i + 1) classes)) in
-    (get_or-take (j - (i + 1)) (drop (i + 1) classes) k L short ∙ get_or-drop (i + 1) classes k L, omega arith)
+between_at classes i j k fits inside = grind (arith, length-take, get_or-take, get_or-drop)
 
 module _ (len_of : ℕ → ℕ) (h : HasUnits len_of) (chars : List ℕ) (runs : List (Range ℕ)) (sos : BidiClass) (old : List BidiClass) (ready : IsReady len_of chars runs sos old) (now : List BidiClass) (per : IsPerChar len_of chars now)
     (kept : (u : ℕ) → is_kept_in_place (class_at now u) ≡ is_kept_in_place (class_at old u)) where
@@ -105,10 +89,10 @@ module _ (len_of : ℕ → ℕ) (h : HasUnits len_of) (chars : List ℕ) (runs :
   class-is = class-at len_of h chars old rs ready.lines ready.ordered now
 
   inside : (k : ℕ) → k < length ks → in_runs rs (at k) ≡ true
-  inside k fits = (and_parts (in_runs rs (at k)) (is_kept_in_place (class_at old (at k))) (spot-seen len_of h chars old rs ready.lines ready.ordered k fits)).0
+  inside k fits = grind (arith, spot-seen) steps 400000
 
   own : (u : ℕ) → in_runs rs u ≡ true → is_kept_in_place (class_at now u) ≡ true → Owner len_of h chars old rs ready.lines ready.ordered now u
-  own u here is = owner len_of h chars old rs ready.lines ready.ordered now ready.per_char per u (and_from (in_runs rs u) (is_kept_in_place (class_at old u)) here (sym (kept u) ∙ is))
+  own u here is = grind (arith, owner) steps 400000
 
   order : (i j : ℕ) → i < j → j < length ks → ends i ≤ at j
   order = behind-spot len_of h chars old rs ready.lines ready.ordered
@@ -171,10 +155,7 @@ module _ (len_of : ℕ → ℕ) (h : HasUnits len_of) (chars : List ℕ) (runs :
       (λ found.
       let w = first-spot d i (at j) r (omega arith) f found in
       let here = w.3 in
-      let below : w.0 < j = elim (cases_lt w.0 j) [
-        | inl yes' ↦ yes'
-        | inr no' ↦ elim (cases_lt j w.0) [ inl more ↦ absurd (omega (arith, rising j w.0 more)) | inr same' ↦ let same : w.0 ≡ j = omega (arith) in absurd (omega (arith, ap at same)) ]
-      ] in
+      let below : w.0 < j = grind (arith, rising) in
       (w.0, w.2, below, ap (stands_for d) (class-is w.0 w.1 ∙ ap (class_at now) (sym here)) ∙ (f.at found).2))
 
   -- ---- what a search backwards finds

@@ -1,5 +1,5 @@
 -- N0 over units, one pair after another: what is known ahead, and what a bracket and the marks behind it take.
-use Rattle.std.proofs.Common.{◌≡◌, ℕ, suc, ◌+◌, ◌-◌, ◌<◌, ◌≤◌, Bool, ◌⊎◌, true, false, ◌&&◌, ◌||◌, cond, eqb, ltb, List, [], ◌∷◌, length, map, get_or, take, drop, reverse, slice_range, Option, Some, None, refl, sym, ap, subst, ◌∙◌, arith, inl, inr, lt-ltb, eq-eqb, ne_eqb, length-take, get_or-take, get_or-drop}
+use Rattle.std.proofs.Common.{◌≡◌, ℕ, suc, ◌+◌, ◌<◌, ◌≤◌, Bool, ◌⊎◌, true, false, ◌&&◌, ◌||◌, cond, eqb, ltb, List, [], ◌∷◌, length, map, get_or, take, reverse, slice_range, Option, Some, None, refl, sym, ap, subst, ◌∙◌, arith, inl, inr, eq-eqb, ne_eqb, length-take, get_or-take, get_or-drop}
 use Rattle.std.specs.List.{list_all, list_any}
 use Rattle.std.specs.declared.ops.Range.{Range}
 use Rattle.std.proofs.lemmas.Bool.{cases_Bool, cases_lt, and_parts, and_from, or_parts}
@@ -33,18 +33,11 @@ every p [] h = refl
 every p (x ∷ xs) h = and_from (p x) (list_all p xs) (h 0 (omega arith)) (every p xs (λ i below. h (suc i) (omega arith)))
 
 side-kept : (d : BidiClass) → is_l_or_r d ≡ true → is_kept_in_place d ≡ true
-side-kept L h = refl
-side-kept R h = refl
-side-kept _ h = absurd (cc h)
+side-kept d h = grind arith
 
 marks-all : (source : List BidiClass) (b y : ℕ) → b < y → y < length source → ((z : ℕ) → b < z → z ≤ y → is_nsm (class_at source z) ≡ true) → is_mark_after source b y ≡ true
 unfolding is_mark_after
-marks-all source b y less fits marks =
-    let part = slice_range source (b + 1) (y + 1) in
-    and_from (ltb b y) (list_all is_nsm part) (lt-ltb b y less)
-    (every is_nsm part (λ i below.
-    let short : i < y + 1 - (b + 1) = omega (arith, length-take (y + 1 - (b + 1)) (drop (b + 1) source)) in
-    ap is_nsm (get_or-take (y + 1 - (b + 1)) (drop (b + 1) source) i L short ∙ get_or-drop (b + 1) source i L) ∙ marks (b + 1 + i) (omega arith) (omega arith)))
+marks-all source b y less fits marks = grind (arith, every, length-take, get_or-take, get_or-drop)
 
 module _ (len_of : ℕ → ℕ) (h : HasUnits len_of) (chars : List ℕ) (original : List BidiClass) (runs : List (Range ℕ)) (sos : BidiClass) (old : List BidiClass) (ready : IsReady len_of chars runs sos old) where
   abbrev rs : List (ℕ × ℕ)
@@ -203,10 +196,7 @@ module _ (len_of : ℕ → ℕ) (h : HasUnits len_of) (chars : List ℕ) (origin
     behind-b = elim (cases_lt end (length now)) [ inl less ↦ inl (e.stops less).2 | inr past ↦ let top = e.within in inr (omega arith) ]
 
     begins : at b < end
-    begins = elim behind-b [
-      | inl after ↦ omega (arith, starts b fits)
-      | inr top ↦ omega (arith, starts b fits, place-le len_of chars (get_or ks b 0 + 1), total)
-    ]
+    begins = grind (arith, starts, place-le, total)
 
     pub bracket-classes : values_of L len_of chars new ks ≡ with_bracket sources b (classes now) d
     bracket-classes =
@@ -338,7 +328,7 @@ module _ (len_of : ℕ → ℕ) (h : HasUnits len_of) (chars : List ℕ) (origin
 
   pub IsWalkedTo-start : (walk : PairWalk) → walk ≡ record { embedding = record { direction = e; unit = 0 }; opposite = record { direction = opposite_of e; unit = 0 } } → IsWalkedTo old 0 walk
   IsWalkedTo-start walk is = rw is (record {
-    done = record { paired = sym (n0-none e sos from_sources (cs_of old)); kept = λ u. refl; others = λ u plain. refl; per_char = ready.per_char };
+    done = grind (arith, n0-none);
     embedding_is = refl;
     opposite_is = refl;
     embedding = Foresees-start len_of h chars original runs sos old ready pairs nested e (cs_of old);
@@ -365,7 +355,7 @@ module _ (len_of : ℕ → ℕ) (h : HasUnits len_of) (chars : List ℕ) (origin
       let ks = kept_in_place len_of chars old (map bounds runs) in
       let spot_pair : ℕ × ℕ → ℕ × ℕ = λ p. (spot len_of chars ks p.0, spot len_of chars ks p.1) in
       let fits : k < length pairs = omega (arith, ap length is, length-map pairs spot_pair) in
-      let here : get_or ps k (0, 0) ≡ spot_pair (pair_at pairs k) = ap (λ (qs : List (ℕ × ℕ)). get_or qs k (0, 0)) is ∙ get_or-map spot_pair pairs k (0, 0) (0, 0) fits in
+      let here : get_or ps k (0, 0) ≡ spot_pair (pair_at pairs k) = grind (arith, get_or-map) in
       let w = nested.0 k (0, 0) fits in
       let i = (pair_at pairs k).0 in
       let j = (pair_at pairs k).1 in
@@ -377,7 +367,7 @@ module _ (len_of : ℕ → ℕ) (h : HasUnits len_of) (chars : List ℕ) (origin
       record {
         first = first;
         last = last;
-        first_begins = ap (is_boundary len_of chars) first_place ∙ is_boundary-place len_of chars (get_or ks i 0);
+        first_begins = grind (arith, is_boundary-place);
         last_begins = ap (is_boundary len_of chars) last_place ∙ is_boundary-place len_of chars (get_or ks j 0);
         first_inside = omega (arith, first, spot-behind len_of h chars old (map bounds runs) ready.lines ready.ordered i i_fits, place-le len_of chars (get_or ks i 0 + 1));
         last_inside = omega (arith, last, spot-behind len_of h chars old (map bounds runs) ready.lines ready.ordered j w.1, place-le len_of chars (get_or ks j 0 + 1));
@@ -385,7 +375,7 @@ module _ (len_of : ℕ → ℕ) (h : HasUnits len_of) (chars : List ℕ) (origin
         last_place = last_place;
         first_within = index-within len_of h chars old (map bounds runs) ready.lines ready.ordered i i_fits;
         last_within = index-within len_of h chars old (map bounds runs) ready.lines ready.ordered j w.1;
-        class_is = class-at len_of h chars old (map bounds runs) ready.lines ready.ordered original i i_fits ∙ ap (class_at original) (sym first);
+        class_is = grind (arith, class-at);
         fits = fits;
       }
 

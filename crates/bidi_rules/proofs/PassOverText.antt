@@ -11,7 +11,7 @@ use Rattle.bidi_base.specs.Units.{in_runs, AreLines}
 use Rattle.bidi_base.proofs.TextLemmas.{HasUnits, is_boundary-le}
 use Rattle.bidi_base.proofs.PlaceLemmas.{place-more, place-mono, line_places, unit_of}
 use Rattle.bidi_base.proofs.PerUnit.{length-per_unit, length-per_char, get_or-per_unit, get_or-per_char}
-use Rattle.bidi_rules.proofs.InRuns.{in_run, in_run-inside, in_run-below, in_run-above, in_run-true}
+use Rattle.bidi_rules.proofs.InRuns.{in_run, in_run-true}
 
 -- classes that are equal within each character
 pub IsPerChar-alike : (len_of : ℕ → ℕ) (chars : List ℕ) (new : List BidiClass) → length new ≡ text_len len_of chars
@@ -43,22 +43,8 @@ module _ (len_of : ℕ → ℕ) (h : HasUnits len_of) (chars : List ℕ) where
       let j = char_index len_of chars r.1 in
       let w = line_places len_of h chars r.0 r.1 line in
       elim (cases_lt k i) [
-        | inl before ↦
-            let past = place-mono len_of chars (k + 1) i (omega arith) in
-            let begins = w.begins in
-            in_run-below r u (omega arith) ∙ sym (in_run-below r (place len_of chars k) (omega arith))
-        | inr after ↦ elim (cases_lt k j) [
-          | inl within ↦
-              let first = place-mono len_of chars i k after in
-              let last = place-mono len_of chars (k + 1) j (omega arith) in
-              let begins = w.begins in
-              let ends = w.ends in
-              in_run-inside r u (omega arith) (omega arith) ∙ sym (in_run-inside r (place len_of chars k) (omega arith) (omega arith))
-          | inr behind ↦
-              let past = place-mono len_of chars j k behind in
-              let ends = w.ends in
-              in_run-above r u (omega arith) ∙ sym (in_run-above r (place len_of chars k) (omega arith))
-        ]
+        | inl before ↦ grind (arith, place-mono)
+        | inr after ↦ grind (arith, place-mono)
       ]
 
   pub in_runs-alike : (runs : List (ℕ × ℕ)) → AreLines len_of chars runs → (k u : ℕ) → place len_of chars k ≤ u → u < place len_of chars (k + 1) → in_runs runs u ≡ in_runs runs (place len_of chars k)

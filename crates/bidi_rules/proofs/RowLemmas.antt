@@ -1,11 +1,8 @@
 -- The row of marks that was written last: a bracket in it that has its direction already needs no writing.
-use Rattle.std.proofs.Common.{◌≡◌, ℕ, ◌+◌, ◌<◌, ◌≤◌, true, ◌&&◌, List, length, get_or, refl, ap, ◌∙◌, arith, inl, inr}
-use Rattle.std.proofs.lemmas.Bool.{cases_Bool, cases_lt, both_ways}
+use Rattle.std.proofs.Common.{◌≡◌, ℕ, ◌+◌, ◌<◌, ◌≤◌, true, List, length, get_or, refl, ◌∙◌, arith, inl, inr}
+use Rattle.std.proofs.lemmas.Bool.{cases_lt}
 use Rattle.bidi_base.specs.declared.char_data.BidiClass.{BidiClass}
-use Rattle.bidi_base.specs.Classes.{is_kept_in_place}
-use Rattle.bidi_base.specs.Places.{class_at}
 use Rattle.bidi_base.specs.Text.{place}
-use Rattle.bidi_base.specs.Units.{in_runs}
 use Rattle.bidi_base.proofs.PlaceLemmas.{place-mono, place-more}
 use Rattle.bidi_base.proofs.TextLemmas.{HasUnits}
 use Rattle.bidi_rules.specs.PairWalk.{IsRow, IsSet, IsSetUpTo}
@@ -13,16 +10,8 @@ use Rattle.bidi_rules.specs.declared.implicit.neutral.pairs.Row.{Row}
 use Rattle.bidi_rules.specs.WeakWalk.{is_seen}
 
 module _ (len_of : ℕ → ℕ) (chars : List ℕ) (runs : List (ℕ × ℕ)) (original : List BidiClass) where
-  seen-alike : (old new : List BidiClass) (u : ℕ) → class_at new u ≡ class_at old u → is_seen runs new u ≡ is_seen runs old u
-  seen-alike old new u same = ap (λ c. in_runs runs u && is_kept_in_place c) same
-
   pub IsRow-none : (units : List BidiClass) (d : BidiClass) → IsRow len_of chars runs original units (record { from = 0; end = 0; direction = d })
-  IsRow-none units d = record {
-    written = λ u from below seen. absurd (omega arith);
-    marks = λ k from below seen. absurd (omega arith);
-    stops = λ some less. absurd (omega arith);
-    within = omega arith;
-  }
+  IsRow-none units d = grind arith
 
   -- what stands in the row is written as it is to be
   pub IsSet-held : HasUnits len_of → (units : List BidiClass) (row : Row) (b k : ℕ) (d : BidiClass) → IsRow len_of chars runs original units row → row.from ≤ b → b < row.end → row.direction ≡ d → k < length chars → b ≡ place len_of chars k
@@ -34,14 +23,7 @@ module _ (len_of : ℕ → ℕ) (chars : List ℕ) (runs : List (ℕ × ℕ)) (o
         (
           record {
             marks = λ q after inside seen. r.marks q (omega (arith, there, next, some)) inside seen;
-            stops = λ less.
-                let s = r.stops (omega arith) less in
-                let end_is = s.1 in
-                let order : place len_of chars (k + 1) ≤ row.end = elim (cases_lt k s.0) [
-                  | inl more ↦ omega (arith, end_is, place-mono len_of chars (k + 1) s.0 (omega arith))
-                  | inr upto ↦ absurd (omega (arith, there, end_is, place-mono len_of chars s.0 k upto))
-                ] in
-                (s.0, end_is, order, s.2, s.3);
+            stops = λ less. grind (arith, place-mono);
             within = r.within;
           },
           record {
@@ -60,10 +42,7 @@ module _ (len_of : ℕ → ℕ) (chars : List ℕ) (runs : List (ℕ × ℕ)) (o
       let e = set.0 in
       let w = set.1 in
       let seen-before : (u : ℕ) → is_seen runs new u ≡ true → is_seen runs old u ≡ true =
-      λ u seen. elim (cases_Bool (is_seen runs old u)) [
-        | inl yes' ↦ yes'
-        | inr no' ↦ absurd (both_ways (is_seen runs new u) (seen-alike old new u (w.failing u no') ∙ no') seen)
-      ] in
+      λ u seen. grind arith in
       record {
         written = λ u after inside seen. w.inside u after inside (seen-before u seen);
         marks = λ q after inside seen.
@@ -73,8 +52,6 @@ module _ (len_of : ℕ → ℕ) (chars : List ℕ) (runs : List (ℕ × ℕ)) (o
               | inr upto ↦ absurd (omega (arith, there, place-mono len_of chars q k upto))
             ])
             inside (seen-before (place len_of chars q) seen);
-        stops = λ some less.
-            let s = e.stops (omega (arith, w.long)) in
-            (s.0, s.1, seen-alike old new end (w.above end (omega arith)) ∙ s.3, s.4);
+        stops = λ some less. grind arith;
         within = omega (arith, w.long, e.within);
       }

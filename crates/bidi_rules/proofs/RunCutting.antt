@@ -1,17 +1,16 @@
 -- Level runs as a pass over the characters cuts them: what has ended, and where the run that is open began.
-use Rattle.std.proofs.Common.{◌≡◌, ℕ, suc, ◌+◌, ◌-◌, ◌<◌, true, false, not, ◌&&◌, cond, List, [], ◌∷◌, ◌++◌, length, map, reverse, Option, Some, None, refl, sym, ap, ◌∙◌, arith, inl, inr, length-append, append-nil}
-use Rattle.std.specs.Prelude.{filter, find, option_map, is_some}
+use Rattle.std.proofs.Common.{◌≡◌, ℕ, suc, ◌+◌, ◌-◌, ◌<◌, true, false, cond, List, [], ◌∷◌, ◌++◌, length, map, reverse, Option, Some, None, refl, sym, ap, ◌∙◌, arith, append-nil}
+use Rattle.std.proofs.lemmas.Grind.{common_steps}
+use Rattle.std.specs.Prelude.{filter, find, option_map}
 use Rattle.std.specs.List.{range_with_len}
-use Rattle.std.proofs.lemmas.Bool.{cases_Bool, cond-true, cond-false}
 use Rattle.std.proofs.lemmas.List.{reverse-append, map-append}
 use Rattle.std.proofs.lemmas.List.Elements.{filter-append}
 use Rattle.bidi_base.specs.declared.char_data.BidiClass.{BidiClass}
 use Rattle.bidi_base.specs.Places.{indexes, find_last}
-use Rattle.bidi_base.specs.Sequences.{is_kept_at, kept_before, level_at, have_one_level, begins_run, run_starts}
+use Rattle.bidi_base.specs.Sequences.{is_kept_at, kept_before, level_at, begins_run, run_starts}
 use Rattle.bidi_base.specs.Text.{place, text_len}
 use Rattle.bidi_base.specs.Units.{ranges_between, level_run_ranges}
 use Rattle.bidi_base.proofs.PlacesLemmas.{range_with_len-more}
-use Rattle.bidi_base.proofs.PlaceLemmas.{place-zero}
 use Rattle.bidi_rules.specs.ExplicitPass.{IsCutTo, differs, runs_before, run_start}
 
 -- one more cut
@@ -32,26 +31,20 @@ kept_before-more classes k =
 
 pub run_starts-some : (classes : List BidiClass) (levels : List ℕ) → 0 < length classes → run_starts classes levels ≡ 0 ∷ filter (begins_run classes levels) (indexes classes)
 unfolding run_starts
-run_starts-some [] levels some = absurd (omega arith)
-run_starts-some (c ∷ classes) levels some = refl
+run_starts-some classes levels some = grind arith
 
 pub run_starts-none : (classes : List BidiClass) (levels : List ℕ) → length classes ≡ 0 → run_starts classes levels ≡ []
 unfolding run_starts
-run_starts-none [] levels none = refl
-run_starts-none (c ∷ classes) levels none = absurd (omega arith)
+run_starts-none classes levels none = grind arith
 
 no_begin : (classes : List BidiClass) (levels : List ℕ) (k : ℕ) → is_kept_at classes k ≡ false → begins_run classes levels k ≡ false
 unfolding begins_run
-no_begin classes levels k gone = ap (λ b. b && is_some (kept_before classes k) && not (have_one_level levels (kept_before classes k) k)) gone
+no_begin classes levels k gone = grind arith steps 400000
 
 -- a kept character begins a run if its level is another than that of the kept one before it
 begin_by_level : (classes : List BidiClass) (levels : List ℕ) (k : ℕ) → is_kept_at classes k ≡ true → begins_run classes levels k ≡ differs (option_map (level_at levels) (kept_before classes k)) (level_at levels k)
 unfolding begins_run
-begin_by_level classes levels k kept = ap (λ b. b && is_some (kept_before classes k) && not (have_one_level levels (kept_before classes k) k)) kept ∙ by_before (kept_before classes k)
-  where
-    by_before : (o : Option ℕ) → (true && is_some o && not (have_one_level levels o k)) ≡ differs (option_map (level_at levels) o) (level_at levels k)
-    by_before None = refl
-    by_before (Some p) = refl
+begin_by_level classes levels k kept = grind arith
 
 module _ (len_of : ℕ → ℕ) (chars : List ℕ) (stored : List BidiClass) (levels : List ℕ) where
   abbrev starts_below : ℕ → List ℕ
@@ -59,7 +52,7 @@ module _ (len_of : ℕ → ℕ) (chars : List ℕ) (stored : List BidiClass) (le
 
   pub IsCutTo-start : IsCutTo len_of chars stored levels 0 [] 0 None
   unfolding kept_before
-  IsCutTo-start = record { level = refl; cut = λ end. ap (λ n. (n, end) ∷ []) (sym (place-zero len_of chars)) }
+  IsCutTo-start = grind arith steps 400000
 
   starts_more : (k : ℕ) → starts_below (k + 1) ≡ starts_below k ++ cond (begins_run stored levels k) (k ∷ []) []
   starts_more k =
@@ -71,55 +64,24 @@ module _ (len_of : ℕ → ℕ) (chars : List ℕ) (stored : List BidiClass) (le
       ∙ ap (λ n. starts_below k ++ cond (begins_run stored levels n) (n ∷ []) []) last
 
   starts_same : (k : ℕ) → begins_run stored levels k ≡ false → starts_below (k + 1) ≡ starts_below k
-  starts_same k none = starts_more k ∙ ap (λ xs. starts_below k ++ xs) (cond-false (begins_run stored levels k) (k ∷ []) [] none) ∙ append-nil (starts_below k)
+  starts_same k none = grind (arith, starts_more, append-nil) steps 400000
 
   -- what X9 removes goes with the run that is open
   pub IsCutTo-removed : (k : ℕ) (runs : List (ℕ × ℕ)) (from : ℕ) (last : Option ℕ) → is_kept_at stored k ≡ false → IsCutTo len_of chars stored levels k runs from last → IsCutTo len_of chars stored levels (k + 1) runs from last
-  IsCutTo-removed k runs from last gone h = record {
-    level = h.level ∙ ap (option_map (level_at levels)) (sym (kept_before-more stored k ∙ cond-false (is_kept_at stored k) (Some k) (kept_before stored k) gone));
-    cut = λ end. h.cut end ∙ ap (λ xs. ranges_between (map (place len_of chars) (0 ∷ xs)) end) (sym (starts_same k (no_begin stored levels k gone)));
-  }
+  IsCutTo-removed k runs from last gone h = grind (arith, kept_before-more, starts_same, no_begin)
 
   pub IsCutTo-kept : (k : ℕ) (runs : List (ℕ × ℕ)) (from : ℕ) (last : Option ℕ) (level : ℕ) → is_kept_at stored k ≡ true → level ≡ level_at levels k → IsCutTo len_of chars stored levels k runs from last
       → IsCutTo len_of chars stored levels (k + 1) (runs_before last level from (place len_of chars k) runs) (run_start last level from (place len_of chars k)) (Some level)
-  IsCutTo-kept k runs from last level kept level_is h = record { level = now; cut = λ end. elim (cases_Bool (differs last level)) [ inl other ↦ cut_here end other | inr same ↦ cut_on end same ] }
-    where
-      now : Some level ≡ option_map (level_at levels) (kept_before stored (k + 1))
-      now = ap Some level_is ∙ ap (option_map (level_at levels)) (sym (kept_before-more stored k ∙ cond-true (is_kept_at stored k) (Some k) (kept_before stored k) kept))
-
-      begins : begins_run stored levels k ≡ differs last level
-      begins = begin_by_level stored levels k kept ∙ ap (λ o. differs o (level_at levels k)) (sym h.level) ∙ ap (differs last) (sym level_is)
-
-      there : ℕ
-      there = place len_of chars k
-
-      cut_on : (end : ℕ) → differs last level ≡ false → runs_before last level from there runs ++ (run_start last level from there, end) ∷ [] ≡ ranges_between (map (place len_of chars) (0 ∷ starts_below (k + 1))) end
-      cut_on end same =
-          ap (λ rs. rs ++ (run_start last level from there, end) ∷ []) (cond-false (differs last level) (runs ++ (from, there) ∷ []) runs same)
-          ∙ ap (λ n. runs ++ (n, end) ∷ []) (cond-false (differs last level) there from same)
-          ∙ h.cut end
-          ∙ ap (λ xs. ranges_between (map (place len_of chars) (0 ∷ xs)) end) (sym (starts_same k (begins ∙ same)))
-
-      cut_here : (end : ℕ) → differs last level ≡ true → runs_before last level from there runs ++ (run_start last level from there, end) ∷ [] ≡ ranges_between (map (place len_of chars) (0 ∷ starts_below (k + 1))) end
-      cut_here end other =
-          ap (λ rs. rs ++ (run_start last level from there, end) ∷ []) (cond-true (differs last level) (runs ++ (from, there) ∷ []) runs other)
-          ∙ ap (λ n. (runs ++ (from, there) ∷ []) ++ (n, end) ∷ []) (cond-true (differs last level) there from other)
-          ∙ ap (λ rs. rs ++ (there, end) ∷ []) (h.cut there)
-          ∙ sym (ranges_between-push (place len_of chars 0) (map (place len_of chars) (starts_below k)) there end)
-          ∙ ap (λ xs. ranges_between (place len_of chars 0 ∷ xs) end) (sym (map-append (place len_of chars) (starts_below k) (k ∷ [])))
-          ∙ ap (λ xs. ranges_between (map (place len_of chars) (0 ∷ xs)) end) (sym (starts_more k ∙ ap (λ xs. starts_below k ++ xs) (cond-true (begins_run stored levels k) (k ∷ []) [] (begins ∙ other))))
+  IsCutTo-kept k runs from last level kept level_is h =
+      grind (arith, kept_before-more, begin_by_level, starts_same, ranges_between-push, map-append, starts_more) steps 400000
 
   -- the end of the text ends the last run
   pub IsCutTo-end : (k : ℕ) (runs : List (ℕ × ℕ)) (from : ℕ) (last : Option ℕ) → k ≡ length stored → 0 < length stored → IsCutTo len_of chars stored levels k runs from last → runs ++ (from, text_len len_of chars) ∷ [] ≡ level_run_ranges len_of chars stored levels
   unfolding level_run_ranges
-  IsCutTo-end k runs from last all some h =
-      h.cut (text_len len_of chars)
-      ∙ ap (λ n. ranges_between (map (place len_of chars) (0 ∷ starts_below n)) (text_len len_of chars)) all
-      ∙ ap (λ xs. ranges_between (map (place len_of chars) xs) (text_len len_of chars)) (sym (run_starts-some stored levels some))
+  IsCutTo-end k runs from last all some h = grind (arith, run_starts-some)
 
   none_of : (runs : List (ℕ × ℕ)) (r s : ℕ × ℕ) → runs ++ r ∷ [] ≡ s ∷ [] → runs ≡ []
-  none_of [] r s e = refl
-  none_of (q ∷ runs) r s e = absurd (omega (arith, ap length e, length-append runs (r ∷ [])))
+  none_of runs r s e = grind (arith, common_steps)
 
   -- where there is no character there is no run
   pub IsCutTo-none : (k : ℕ) (runs : List (ℕ × ℕ)) (from : ℕ) (last : Option ℕ) → k ≡ length stored → length stored ≡ 0 → IsCutTo len_of chars stored levels k runs from last → runs ≡ level_run_ranges len_of chars stored levels

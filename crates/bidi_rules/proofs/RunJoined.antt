@@ -1,19 +1,19 @@
 -- The pass over level runs as ranges of units: what has been joined so far, and the sequences at the end.
 use Rattle.std.proofs.Common.{◌≡◌, ℕ, zero, suc, ◌+◌, ◌-◌, ◌<◌, ◌≤◌, Bool, true, false, cond, eqb, max, List, [], ◌∷◌, ◌++◌, length, map, get_or, set, take, append_assoc, Option, Some, None, refl, sym, ap, subst, ◌∙◌, arith, inl, inr, lt-ltb}
-use Rattle.std.specs.Prelude.{filter, flat_map, IfSome, All, nat_lt, is_some, not, ◌&&◌, IsPermutation}
+use Rattle.std.specs.Prelude.{filter, flat_map, IfSome, All, nat_lt, IsPermutation}
 use Rattle.std.specs.List.{range_with_len, fold}
-use Rattle.std.proofs.lemmas.Bool.{cond-true, cond-false, both_ways}
+use Rattle.std.proofs.lemmas.Bool.{cond-true, cond-false}
 use Rattle.std.proofs.lemmas.List.{length-map, map-append, map-set, get_or-map}
 use Rattle.std.proofs.lemmas.List.Elements.{All-push, All-set, All-get_or, All-weaker, All-nil, All-cons}
 use Rattle.std.proofs.lemmas.List.Folds.{flat_map-map}
-use Rattle.std.proofs.lemmas.List.Sorted.{IsPermutation-refl, IsPermutation-trans, IsPermutation-append_left, IsPermutation-append_right, IsPermutation-append_comm}
+use Rattle.std.proofs.lemmas.List.Sorted.{IsPermutation-trans, IsPermutation-append_left, IsPermutation-append_right, IsPermutation-append_comm}
 use Rattle.std.proofs.lemmas.Grind.{flat_map-append}
 use Rattle.bidi_base.specs.declared.char_data.BidiClass.{BidiClass}
 use Rattle.bidi_base.specs.Classes.{is_initiator, is_pdi}
 use Rattle.bidi_base.specs.Levels.{direction_of}
 use Rattle.bidi_base.specs.Places.{class_at, last_or, first_or, between}
 use Rattle.bidi_base.specs.Isolates.{is_initiator_at}
-use Rattle.bidi_base.specs.Sequences.{RunSequence, is_kept_at, kept_places, kept_before, level_at, level_or, start_class, end_class, with_ends, sequence_from, is_first, have_one_level, sequences, has_places, begins_run, run_starts}
+use Rattle.bidi_base.specs.Sequences.{RunSequence, is_kept_at, kept_places, kept_before, level_at, level_or, start_class, end_class, with_ends, sequences, has_places, begins_run, run_starts}
 use Rattle.bidi_base.specs.SequencePass.{read_class, waiting_for, index_of}
 use Rattle.bidi_base.specs.Text.{place, IsLine}
 use Rattle.bidi_base.specs.Units.{kept_in_runs}
@@ -27,7 +27,7 @@ use Rattle.bidi_rules.specs.Joining.{JoinedRuns, no_runs, with_run, characters_o
 use Rattle.bidi_rules.proofs.RunCutting.{run_starts-some}
 use Rattle.bidi_rules.proofs.LevelRunLemmas.{kept_in_run, kept_in_runs-push}
 use Rattle.bidi_rules.proofs.RunUnits.{NoneKept, IsLast}
-use Rattle.bidi_base.proofs.OpenPass.{IsAt, IsAt-start, IsAt-end}
+use Rattle.bidi_base.proofs.OpenPass.{IsAt, IsAt-end}
 use Rattle.bidi_rules.proofs.RunPass.{with_places, index_in, HasCome, HasCome-run}
 use Rattle.bidi_rules.proofs.RunJoining.{IsFirst, first_at, kept_before-first, rest_of, front_is, last_is, one_level, kept_before-next_run, level_beyond, end_is, came, begins_kept, begins_after}
 
@@ -57,8 +57,7 @@ pub record IsJoined (len_of : ℕ → ℕ) (chars : List ℕ) (classes : List Bi
   pub fresh : a ≡ 0 → (out ≡ []) × (waits ≡ [])
 
 first_or-append : (d : ℕ) (xs ys : List ℕ) → 0 < length xs → first_or d (xs ++ ys) ≡ first_or d xs
-first_or-append d [] ys some = absurd (omega arith)
-first_or-append d (x ∷ xs) ys some = refl
+first_or-append d xs ys some = grind arith
 
 last_or-append : (d x : ℕ) (xs ys : List ℕ) → last_or d (xs ++ x ∷ ys) ≡ last_or x ys
 last_or-append d x [] ys = refl
@@ -78,14 +77,7 @@ module _ (len_of : ℕ → ℕ) (h : HasUnits len_of) (chars : List ℕ) (classe
   ended xs = with_ends paragraph classes levels xs
 
   pub IsJoined-start : IsJoined len_of chars classes levels paragraph 0 [] [] [] paragraph
-  IsJoined-start = record {
-    state = IsAt-start classes levels;
-    ends = refl;
-    level_before = ap (level_or paragraph levels) (sym (kept_before-is_None classes 0 (λ m below. absurd (omega arith))));
-    lines = All-nil (λ (j : JoinedRuns). All (IsBefore len_of chars (place len_of chars 0)) j.runs);
-    shares = IsPermutation-refl [];
-    fresh = λ _. (refl, refl);
-  }
+  IsJoined-start = grind (arith, kept_before-is_None)
 
   module _ (a b l : ℕ) (r : ℕ × ℕ) (runs : List (ℕ × ℕ)) (out : List JoinedRuns) (waits : List (Option ℕ)) (before : ℕ) (g : Option ℕ) (joined : IsJoined len_of chars classes levels paragraph a runs out waits before) (range : IsLevelRun classes levels a b)
       (start_is : r.0 ≡ place len_of chars a) (end_is_place : r.1 ≡ place len_of chars b) (last : IsLast classes a b l) (f : ℕ) (first : IsFirst classes a b f) (g_is : g ≡ waiting_for (class_at classes a) waits) where
@@ -96,11 +88,7 @@ module _ (len_of : ℕ → ℕ) (h : HasUnits len_of) (chars : List ℕ) (classe
     run_is = λ i. (start_is i, end_is_place i)
 
     none_waits : (c : BidiClass) → waiting_for c [] ≡ None
-    none_waits c = none (is_pdi c)
-      where
-        none : (t : Bool) → cond t (last_or {X = Option ℕ} None []) None ≡ None
-        none true = refl
-        none false = refl
+    none_waits c = grind arith
 
     -- the sequence that waits for the first kept character
     waits_for : g ≡ waiting_for (class_at classes f) waits
@@ -122,9 +110,7 @@ module _ (len_of : ℕ → ℕ) (h : HasUnits len_of) (chars : List ℕ) (classe
 
     -- the code may look at that sequence
     pub g-fits : IfSome g (λ s. s < length out)
-    g-fits =
-        subst (λ (o : Option ℕ). IfSome o (λ s. s < length out)) (sym waits_for)
-        (subst (λ (n : ℕ). IfSome (waiting_for (class_at classes f) waits) (λ s. s < n)) (length-map out places_of) has_come.fits)
+    g-fits = grind (arith, length-map, has_come)
 
     run_places : kept_in_runs len_of chars classes (r ∷ []) ≡ xs
     run_places = ap (λ q. kept_in_runs len_of chars classes (q ∷ [])) run_is ∙ kept_in_run len_of h chars classes a b (omega (arith, range.not_empty)) short ∙ kept_is
@@ -312,34 +298,17 @@ pub record IsAllRemoved (classes : List BidiClass) (a b : ℕ) : Type 0 where
   pub none : NoneKept classes 0 (length classes)
 
 pub all_removed : (classes : List BidiClass) (levels : List ℕ) (paragraph a b : ℕ) → IsLevelRun classes levels a b → NoneKept classes a b → IsAllRemoved classes a b
-all_removed classes levels paragraph a b range none = record { front = front; back = back; none = λ m low high. none m (omega (arith, front)) (omega (arith, back)) }
-  where
-    front : a ≡ 0
-    front = elim range.starts [
-      | inl zero_is ↦ zero_is
-      | inr begins ↦ absurd (both_ways (is_kept_at classes a) (none a (omega arith) range.not_empty) (begins_kept classes levels paragraph a begins))
-    ]
-
-    back : b ≡ length classes
-    back = elim range.stops [
-      | inl all ↦ all
-      | inr begins ↦
-          let before : is_some (kept_before classes b) ≡ false = ap is_some (kept_before-is_None classes b (λ m below. none m (omega (arith, front)) below)) in
-          absurd (both_ways (is_some (kept_before classes b)) before (begins_after classes levels paragraph b begins))
-    ]
+all_removed classes levels paragraph a b range none = grind (arith, begins_kept, kept_before-is_None, begins_after) steps 400000
 
 -- it has no sequence
 pub sequences-none : (paragraph : ℕ) (classes : List BidiClass) (levels : List ℕ) → NoneKept classes 0 (length classes) → sequences paragraph classes levels ≡ []
 unfolding sequences kept_places
-sequences-none paragraph classes levels none =
-    ap (λ (ps : List ℕ). map (sequence_from paragraph classes levels) (filter (is_first classes levels) ps)) (filter_range-none (is_kept_at classes) 0 (length classes) (λ m low high. none m low (omega arith)))
+sequences-none paragraph classes levels none = grind (arith, filter_range-none)
 
 -- and one level run
 pub run_starts-removed : (classes : List BidiClass) (levels : List ℕ) → 0 < length classes → NoneKept classes 0 (length classes) → run_starts classes levels ≡ 0 ∷ []
 unfolding begins_run
-run_starts-removed classes levels some none =
-    run_starts-some classes levels some
-    ∙ ap (λ (ps : List ℕ). 0 ∷ ps) (filter_range-none (begins_run classes levels) 0 (length classes) (λ m low high. ap (λ b. b && is_some (kept_before classes m) && not (have_one_level levels (kept_before classes m) m)) (none m low (omega arith))))
+run_starts-removed classes levels some none = grind (arith, run_starts-some, filter_range-none)
 
 -- where no class opens an isolate nothing ever waits
 pub read_range-quiet : (classes : List BidiClass) (last s a b : ℕ) → ((m : ℕ) → is_initiator_at classes m ≡ false) → read_range classes last s a b [] ≡ []

@@ -2,7 +2,7 @@
 use Rattle.std.proofs.Common.{◌≡◌, ℕ, zero, suc, ◌+◌, ◌-◌, ◌<◌, ◌≤◌, Bool, true, cond, eqb, max, List, [], ◌∷◌, length, get_or, Option, Some, None, refl, sym, ap, subst, ◌∙◌, arith, ◌⊎◌, inl, inr, eq-eqb, ne_eqb}
 use Rattle.std.specs.Prelude.{filter, find, if◌then◌else◌, is_some}
 use Rattle.std.specs.List.{range_with_len, fold}
-use Rattle.std.proofs.lemmas.Bool.{cases_Bool, cases_eq, both_ways, cond-true, cond-false, and_parts}
+use Rattle.std.proofs.lemmas.Bool.{cases_eq, both_ways, cond-false, and_parts}
 use Rattle.bidi_base.specs.declared.char_data.BidiClass.{BidiClass}
 use Rattle.bidi_base.specs.Classes.{is_initiator}
 use Rattle.bidi_base.specs.Levels.{direction_of}
@@ -10,7 +10,7 @@ use Rattle.bidi_base.specs.Places.{class_at, last_or, between}
 use Rattle.bidi_base.specs.Isolates.{is_initiator_at}
 use Rattle.bidi_base.specs.Sequences.{is_kept_at, next_kept, kept_before, level_at, level_or, end_class, begins_run}
 use Rattle.bidi_base.specs.SequencePass.{read_class, waiting_for}
-use Rattle.bidi_base.proofs.PlacesLemmas.{IsLeast, find-between, find-between-None}
+use Rattle.bidi_base.proofs.PlacesLemmas.{find-between, find-between-None}
 use Rattle.bidi_base.proofs.ReadStack.{Member}
 use Rattle.bidi_base.proofs.SuccessorLemmas.{is_kept-initiator, next_kept-is, next_kept-is_None, kept_before-is, kept_before-is_None}
 use Rattle.bidi_base.proofs.RunsLemmas.{IsRun, IsLevelRun, IsRun-IsLevelRun, AllOfLevel, AllOfLevel-run}
@@ -33,7 +33,7 @@ first_of classes a b l last = by_result (find (is_kept_at classes) (between a b)
   where
     by_result : (o : Option ℕ) → find (is_kept_at classes) (between a b) ≡ o → (f : ℕ) × IsFirst classes a b f
     by_result None e = absurd (both_ways (is_kept_at classes l) (find-between-None (is_kept_at classes) a b e l last.from last.below) last.kept)
-    by_result (Some f) e = let w : IsLeast (is_kept_at classes) a b f = find-between (is_kept_at classes) a b f e in (f, record { from = w.from; below = w.below; kept = w.passes; none = λ m low high. w.first m low high })
+    by_result (Some f) e = grind (arith, find-between)
 
 module _ (classes : List BidiClass) (levels : List ℕ) (paragraph : ℕ) where
   -- where a run begins a character is kept, but for the front of the paragraph
@@ -47,20 +47,12 @@ module _ (classes : List BidiClass) (levels : List ℕ) (paragraph : ℕ) where
 
   -- nothing kept stands before the first kept character of a run
   pub first_at : (a b f : ℕ) → IsLevelRun classes levels a b → IsFirst classes a b f → (f ≡ a) ⊎ (a ≡ 0)
-  first_at a b f range first = elim (cases_eq f a) [
-    | inl same ↦ inl same
-    | inr other ↦ elim range.starts [
-      | inl zero_is ↦ inr zero_is
-      | inr begins ↦ absurd (both_ways (is_kept_at classes a) (first.none a (omega arith) (omega (arith, first.from))) (begins_kept a begins))
-    ]
-  ]
+  first_at a b f range first = grind (arith, begins_kept)
 
   pub kept_before-first : (a b f : ℕ) → IsLevelRun classes levels a b → IsFirst classes a b f → kept_before classes f ≡ kept_before classes a
   kept_before-first a b f range first = elim (first_at a b f range first) [
     | inl same ↦ ap (kept_before classes) same
-    | inr zero_is ↦
-        kept_before-is_None classes f (λ m below. first.none m (omega arith) below)
-        ∙ sym (kept_before-is_None classes a (λ m below. absurd (omega arith)))
+    | inr zero_is ↦ grind (arith, kept_before-is_None)
   ]
 
   -- all characters of a run have one level
@@ -88,7 +80,7 @@ module _ (classes : List BidiClass) (levels : List ℕ) (paragraph : ℕ) where
 
   -- the kept character before the next run
   pub kept_before-next_run : (a b l : ℕ) → IsLast classes a b l → kept_before classes b ≡ Some l
-  kept_before-next_run a b l last = kept_before-is classes b l (record { from = omega arith; below = last.below; passes = last.kept; last = λ m after below. last.none m (omega arith) below })
+  kept_before-next_run a b l last = grind (arith, kept_before-is) steps 400000
 
   -- the level beyond the last character of a run, as the pass finds it
   abbrev pub level_beyond : ℕ → ℕ → ℕ
@@ -96,20 +88,11 @@ module _ (classes : List BidiClass) (levels : List ℕ) (paragraph : ℕ) where
 
   pub end_is : (a b l : ℕ) → IsLevelRun classes levels a b → IsLast classes a b l → end_class paragraph classes levels l ≡ direction_of (max (level_at levels l) (level_beyond l b))
   unfolding end_class
-  end_is a b l range last = elim (cases_Bool (is_initiator (class_at classes l))) [
-    | inl opens ↦
-        ap (λ (o : Option ℕ). direction_of (max (level_at levels l) (level_or paragraph levels o))) (cond-true (is_initiator (class_at classes l)) None (next_kept classes l) opens)
-        ∙ ap (λ (n : ℕ). direction_of (max (level_at levels l) n)) (sym (cond-true (is_initiator (class_at classes l)) paragraph (if eqb b (length classes) then paragraph else level_at levels b) opens))
-    | inr other ↦
-        ap (λ (o : Option ℕ). direction_of (max (level_at levels l) (level_or paragraph levels o))) (cond-false (is_initiator (class_at classes l)) None (next_kept classes l) other)
-        ∙ ap (λ (n : ℕ). direction_of (max (level_at levels l) n)) (next_level ∙ sym (cond-false (is_initiator (class_at classes l)) paragraph (if eqb b (length classes) then paragraph else level_at levels b) other))
-  ]
+  end_is a b l range last = grind (arith, next_level)
     where
       next_level : level_or paragraph levels (next_kept classes l) ≡ (if eqb b (length classes) then paragraph else level_at levels b)
       next_level = elim (cases_eq b (length classes)) [
-        | inl all ↦
-            ap (level_or paragraph levels) (next_kept-is_None classes l (λ m after below. last.none m (omega arith) (omega arith)))
-            ∙ sym (cond-true (eqb b (length classes)) paragraph (level_at levels b) (eq-eqb b (length classes) all))
+        | inl all ↦ grind (arith, next_kept-is_None)
         | inr more ↦ elim range.stops [
           | inl all ↦ absurd (more all)
           | inr begins ↦
@@ -130,8 +113,7 @@ module _ (classes : List BidiClass) (levels : List ℕ) (paragraph : ℕ) where
   -- a run came, and its characters were read
   pub came : (a b f l s : ℕ) (out : List (List ℕ)) (waits now : List (Option ℕ)) → IsLevelRun classes levels a b → IsFirst classes a b f → IsLast classes a b l → HasCome classes levels a b f (rest_of f b) out waits (waiting_for (class_at classes f) waits)
       → s ≡ index_in (waiting_for (class_at classes f) waits) out → now ≡ read_range classes (l + 1) s a b waits → IsAt classes levels b b (with_places (waiting_for (class_at classes f) waits) (f ∷ rest_of f b) out) now
-  came a b f l s out waits now range first last c at read =
-      subst (λ (x : List (Option ℕ)). IsAt classes levels b b more x) (sym read) (subst (λ (x : ℕ). IsAt classes levels b x more (read_range classes (l + 1) s a b waits)) top all)
+  came a b f l s out waits now range first last c at read = grind (arith, all)
     where
       more : List (List ℕ)
       more = with_places (waiting_for (class_at classes f) waits) (f ∷ rest_of f b) out

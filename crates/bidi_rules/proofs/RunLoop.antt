@@ -1,10 +1,11 @@
 -- The loop over the level runs of a text: the run that comes, what has been joined before it, and what then.
-use Rattle.std.proofs.Common.{◌≡◌, ℕ, zero, suc, ◌+◌, ◌-◌, ◌<◌, ◌≤◌, Bool, true, false, cond, eqb, max, List, [], ◌∷◌, ◌++◌, length, map, get_or, take, Option, Some, None, unwrap_or, refl, sym, ap, subst, ◌∙◌, arith, inl, inr, eq-eqb, ne_eqb, length-append}
+use Rattle.std.proofs.Common.{◌≡◌, ℕ, ◌+◌, ◌-◌, ◌<◌, ◌≤◌, Bool, true, false, cond, eqb, max, List, [], ◌∷◌, ◌++◌, length, map, get_or, take, Option, Some, None, unwrap_or, refl, sym, ap, subst, ◌∙◌, arith, inl, inr, eq-eqb, ne_eqb, length-append, rules}
+use Rattle.std.proofs.lemmas.Grind.{common_steps}
 use Rattle.std.specs.Prelude.{filter, flat_map, IfSome, All, IsPermutation}
 use Rattle.std.specs.List.{list_any}
 use Rattle.std.specs.declared.ops.Range.{Range}
 use Rattle.std.proofs.lemmas.Bool.{cases_Bool, cases_eq, cases_lt, both_ways, cond-true, cond-false}
-use Rattle.std.proofs.lemmas.List.{length-map, length-take-le, map-append, get_or-map, get_or_default, get_or_past, nil_from_length, take_more}
+use Rattle.std.proofs.lemmas.List.{length-map, map-append, get_or-map, get_or_default, get_or_past, nil_from_length, take_more}
 use Rattle.std.proofs.lemmas.List.Elements.{All-weaker, All-nil, All-cons}
 use Rattle.std.proofs.lemmas.List.Folds.{flat_map-map, list_any_at}
 use Rattle.std.proofs.lemmas.List.Sorted.{IsPermutation-refl}
@@ -42,14 +43,10 @@ pub record AreRunsOf (len_of : ℕ → ℕ) (chars : List ℕ) (units : List Bid
 -- the first run begins at the first character
 cuts-first : (classes : List BidiClass) (levels : List ℕ) → get_or (cuts classes levels) 0 0 ≡ 0
 unfolding run_starts
-cuts-first [] levels = refl
-cuts-first (c ∷ classes) levels = refl
+cuts-first classes levels = grind arith
 
 one_of : {X : Type 0} (xs : List X) (k : ℕ) (x : X) → length xs ≡ 1 → k < length xs → x ≡ get_or xs k x → xs ≡ x ∷ []
-one_of [] k x long within is = absurd (omega arith)
-one_of (y ∷ []) zero x long within is = ap (λ z. z ∷ []) (sym is)
-one_of (y ∷ []) (suc k) x long within is = absurd (omega arith)
-one_of (y ∷ z ∷ xs) k x long within is = absurd (omega arith)
+one_of xs k x long within is = grind (arith, common_steps)
 
 -- where the n-th run begins
 abbrev pub cut : (ℕ → ℕ) → List ℕ → List BidiClass → List ℕ → ℕ → ℕ
@@ -126,12 +123,7 @@ module _ (len_of : ℕ → ℕ) (h : HasUnits len_of) (chars : List ℕ) (units 
     pub more : take (k + 1) runs ≡ take k runs ++ run ∷ []
 
   pub comes : (k : ℕ) (d : Range ℕ) → k < length runs → Comes k (get_or runs k d)
-  comes k d low =
-      let run = get_or runs k d in
-      let count : length (take k runs) ≡ k = length-take-le k runs (omega (arith, low)) in
-      let within : length (take k runs) < length runs = omega (arith, low, count) in
-      let is : run ≡ get_or runs (length (take k runs)) run = get_or_default runs k d run low ∙ ap (λ n. get_or runs n run) (sym count) in
-      record { within = within; is = is; next = next_run (length (take k runs)) run within is; more = take_more runs k d low }
+  comes k d low = search (rules, next_run, take_more)
 
   -- the last character that X9 keeps in it
   pub record IsLastKept (n kept_end : ℕ) : Type 0 where
@@ -212,10 +204,7 @@ module _ (len_of : ℕ → ℕ) (h : HasUnits len_of) (chars : List ℕ) (units 
         ]
 
         after_at : after ≡ level_beyond (per_char L len_of chars units) (per_char 0 len_of chars unit_levels) paragraph last.index (cut len_of chars units unit_levels (length came + 1))
-        after_at =
-            after_is
-            ∙ ap (λ (c : BidiClass). cond (is_initiator c) paragraph (cond (eqb run.end (length unit_levels)) paragraph (level_at unit_levels run.end))) last.unit.class
-            ∙ ap (cond (is_initiator (class_at classes last.index)) paragraph) past_end
+        after_at = grind (arith, last, past_end)
 
         level_at_last : level ≡ level_at (per_char 0 len_of chars unit_levels) last.index
         level_at_last = level_is ∙ get_or_default unit_levels (kept_end - 1) level 0 (omega (arith, next.some, next.inside_levels, e.to)) ∙ last.unit.level

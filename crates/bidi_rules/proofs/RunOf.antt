@@ -1,17 +1,16 @@
 -- The run of a unit, and what is found in the runs from it on, or up to it.
-use Rattle.std.proofs.Common.{◌≡◌, ℕ, zero, suc, ◌+◌, ◌<◌, ◌≤◌, Bool, ◌&&◌, ◌||◌, true, List, [], ◌∷◌, length, get_or, take, drop, refl, sym, ap, ◌∙◌, arith, inl, inr, add-one}
-use Rattle.std.proofs.lemmas.Bool.{cases_lt}
+use Rattle.std.proofs.Common.{◌≡◌, ℕ, zero, suc, ◌+◌, ◌<◌, ◌≤◌, ◌&&◌, ◌||◌, true, List, [], ◌∷◌, length, get_or, take, drop, refl, sym, ap, ◌∙◌, arith}
 use Rattle.std.proofs.lemmas.List.{take_all}
 use Rattle.bidi_base.specs.declared.char_data.BidiClass.{BidiClass}
 use Rattle.bidi_base.specs.Classes.{is_kept_in_place}
 use Rattle.bidi_base.specs.Places.{class_at}
-use Rattle.bidi_base.specs.Text.{place, IsLine}
+use Rattle.bidi_base.specs.Text.{place}
 use Rattle.std.specs.Prelude.{All}
-use Rattle.std.proofs.lemmas.List.Elements.{All-tail, All-take}
-use Rattle.bidi_base.specs.Units.{are_ordered, are_ordered_from, in_runs, AreLines}
-use Rattle.bidi_rules.specs.PairWalk.{IsAsked, IsFirstFor, IsMarksEnd, IsNearestBefore}
+use Rattle.std.proofs.lemmas.List.Elements.{All-take}
+use Rattle.bidi_base.specs.Units.{are_ordered, are_ordered_from, in_runs}
+use Rattle.bidi_rules.specs.PairWalk.{IsMarksEnd}
 use Rattle.bidi_rules.specs.WeakWalk.{is_seen, IsWrittenOver}
-use Rattle.bidi_rules.proofs.InRuns.{in_run-above, in_runs-take, next_start, start_or, start_or-at}
+use Rattle.bidi_rules.proofs.InRuns.{in_run-above, in_runs-take, next_start, start_or-at}
 use Rattle.bidi_rules.proofs.WalkLemmas.{are_ordered-front}
 use Rattle.bidi_rules.proofs.WrittenOver.{IsWrittenOver-same_test}
 
@@ -35,34 +34,7 @@ in_runs-later (suc index) (r ∷ runs) k h = in_runs-later index runs k (λ i be
 
 -- up to the run that ends behind a unit
 pub in_runs-upto : (index : ℕ) (runs : List (ℕ × ℕ)) (k : ℕ) → are_ordered runs ≡ true → index ≤ length runs → (index < length runs → k < (get_or runs index (0, 0)).1) → in_runs (take (index + 1) runs) k ≡ in_runs runs k
-in_runs-upto index runs k ordered fits ends = elim (cases_lt (index + 1) (length runs)) [
-  | inl more ↦
-      let n = (get_or runs index (0, 0)).1 in
-      let at : start_or runs (suc index) n ≡ (get_or runs (index + 1) (0, 0)).0 = ap (λ i. start_or runs i n) (sym (add-one index)) ∙ start_or-at runs (index + 1) n more in
-      in_runs-take 0 (index + 1) runs k ordered more (omega (arith, ends (omega arith), at, next_start 0 index runs n ordered (omega arith) (omega arith)))
-  | inr past ↦ ap (λ (rs : List (ℕ × ℕ)). in_runs rs k) (take_all (index + 1) runs past)
-]
-
--- what is found in some runs is found in all, where both have the same units from there on
-pub IsAsked-later : (d : BidiClass) (later runs : List (ℕ × ℕ)) (units : List BidiClass) (marked : Bool) (opening inside closing known next : ℕ) (answer : Bool) → ((k : ℕ) → opening ≤ k → in_runs later k ≡ in_runs runs k) → opening ≤ inside
-    → IsAsked d later units marked opening inside closing known next answer → IsAsked d runs units marked opening inside closing known next answer
-IsAsked-later d later runs units marked opening inside closing known next answer same order a = record {
-  looked = λ m. let l = a.looked m in (l.0, (l.1.0, first closing l.1.0 l.1.1, l.1.2));
-  ahead = a.ahead;
-  kept = a.kept;
-  sought = λ m past. first (length units) next (a.sought m past);
-}
-  where
-    first : (to u : ℕ) → IsFirstFor d later units inside to u → IsFirstFor d runs units inside to u
-    first to u f = record {
-      within = f.within;
-      before = λ k from below here. f.before k from below (same k (omega arith) ∙ here);
-      at = λ less. let w = f.at less in (w.0, sym (same u (omega (arith, w.0))) ∙ w.1, w.2);
-    }
-
-pub IsNearestBefore-upto : (before : BidiClass) (front runs : List (ℕ × ℕ)) (units : List BidiClass) (to : ℕ) (d : BidiClass) → ((k : ℕ) → k < to → in_runs front k ≡ in_runs runs k) → IsNearestBefore before front units to d → IsNearestBefore before runs units to d
-IsNearestBefore-upto before front runs units to d same (inl w) = inl (w.0, w.1, sym (same w.0 w.1) ∙ w.2, w.3, λ k from below here. w.4 k from below (same k below ∙ here))
-IsNearestBefore-upto before front runs units to d same (inr w) = inr (w.0, λ k from below here. w.1 k from below (same k below ∙ here))
+in_runs-upto index runs k ordered fits ends = grind (arith, start_or-at, in_runs-take, next_start, take_all)
 
 pub IsSet-later : (len_of : ℕ → ℕ) (chars : List ℕ) (later runs : List (ℕ × ℕ)) (original : List BidiClass) (d : BidiClass) (bracket inside end : ℕ) (old new : List BidiClass) → ((k : ℕ) → bracket ≤ k → in_runs later k ≡ in_runs runs k) → bracket ≤ inside
     → IsMarksEnd len_of chars later original old inside end → IsWrittenOver (is_seen later old) d bracket end old new → IsMarksEnd len_of chars runs original old inside end × IsWrittenOver (is_seen runs old) d bracket end old new
@@ -77,11 +49,6 @@ IsSet-later len_of chars later runs original d bracket inside end old new same o
   where
     alike : (k : ℕ) → bracket ≤ k → is_seen later old k ≡ is_seen runs old k
     alike k from = ap (λ b. b && is_kept_in_place (class_at old k)) (same k from)
-
-pub lines-later : (len_of : ℕ → ℕ) (chars : List ℕ) (index : ℕ) (runs : List (ℕ × ℕ)) → AreLines len_of chars runs → AreLines len_of chars (drop index runs)
-lines-later len_of chars zero runs h = h
-lines-later len_of chars (suc index) [] h = h
-lines-later len_of chars (suc index) (r ∷ runs) h = lines-later len_of chars index runs (All-tail (λ (q : ℕ × ℕ). IsLine len_of chars q.0 q.1) r runs h)
 
 pub ends-later : (n index : ℕ) (runs : List (ℕ × ℕ)) → All (λ r. r.1 ≤ n) runs → All (λ r. r.1 ≤ n) (take index runs)
 ends-later n index runs h = All-take (λ (r : ℕ × ℕ). r.1 ≤ n) index runs h

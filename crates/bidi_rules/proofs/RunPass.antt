@@ -2,7 +2,7 @@
 use Rattle.std.proofs.Common.{◌≡◌, ℕ, zero, suc, ◌+◌, ◌-◌, ◌<◌, ◌≤◌, Bool, true, cond, eqb, List, [], ◌∷◌, ◌++◌, length, get_or, set, reverse, length-append, Option, Some, None, refl, sym, subst, arith, inl, inr, eqb-true}
 use Rattle.std.specs.Prelude.{filter, IfSome}
 use Rattle.std.specs.List.{range_with_len}
-use Rattle.std.proofs.lemmas.Bool.{cases_Bool, cases_eq, cond-true, cond-false, eqb-false}
+use Rattle.std.proofs.lemmas.Bool.{cases_Bool, cases_eq, cond-true}
 use Rattle.std.proofs.lemmas.List.{get_or_push, get_or-set_same, length-set}
 use Rattle.bidi_base.specs.declared.char_data.BidiClass.{BidiClass}
 use Rattle.bidi_base.specs.Places.{class_at, last_or}
@@ -25,12 +25,12 @@ index_in (Some s) out = s
 Member-filter : (test : ℕ → Bool) (x low n : ℕ) → low ≤ x → x < low + n → test x ≡ true → Member x (filter test (range_with_len low n))
 Member-filter test x low zero from below passes = absurd (omega arith)
 Member-filter test x low (suc n) from below passes = elim (cases_eq x low) [
-  | inl same ↦ rw (cond-true (test low) (low ∷ filter test (range_with_len (low + 1) n)) (filter test (range_with_len (low + 1) n)) (subst (λ (y : ℕ). test y ≡ true) same passes)) (inl same)
+  | inl same ↦ grind arith
   | inr other ↦
       let rest : Member x (filter test (range_with_len (low + 1) n)) = Member-filter test x (low + 1) n (omega arith) (omega arith) passes in
       elim (cases_Bool (test low)) [
-        | inl here ↦ rw (cond-true (test low) (low ∷ filter test (range_with_len (low + 1) n)) (filter test (range_with_len (low + 1) n)) here) (inr rest)
-        | inr gone ↦ rw (cond-false (test low) (low ∷ filter test (range_with_len (low + 1) n)) (filter test (range_with_len (low + 1) n)) gone) rest
+        | inl here ↦ grind arith
+        | inr gone ↦ grind arith
       ]
 ]
 
@@ -69,7 +69,7 @@ module _ (classes : List BidiClass) (levels : List ℕ) where
           IsPass-begin classes levels a (b - a) a p ps out h.stack (reverse waits) h.pass here (omega (arith, range.within, range.not_empty)) (AreRunSteps-successors classes levels p ps run.steps) first in
           subst (λ (g : Option ℕ). HasCome a b p ps out waits g) (sym e) (record {
             fits = tt;
-            state = record { stack = h.stack; pass = subst (λ (x : ℕ). IsPass classes levels x a (out ++ (p ∷ ps) ∷ []) h.stack (reverse waits)) top pass };
+            state = grind arith;
             within = omega (arith, length-append out ((p ∷ ps) ∷ []));
             holds = λ x member. rw (get_or_push out (p ∷ ps) [] (length out) refl) member;
           })
@@ -80,7 +80,7 @@ module _ (classes : List BidiClass) (levels : List ℕ) where
           IsPass-join classes levels a (b - a) a p s ps out h.stack (reverse waits) h.pass here (AreRunSteps-successors classes levels p ps run.steps) fits next in
           subst (λ (g : Option ℕ). HasCome a b p ps out waits g) (sym e) (record {
             fits = fits;
-            state = record { stack = h.stack; pass = subst (λ (x : ℕ). IsPass classes levels x a (set out s (get_or out s [] ++ p ∷ ps)) h.stack (reverse waits)) top pass };
+            state = grind arith;
             within = omega (arith, length-set out s (get_or out s [] ++ p ∷ ps));
             holds = λ x member. rw (get_or-set_same out s (get_or out s [] ++ p ∷ ps) [] fits) (Member-append_right x (get_or out s []) (p ∷ ps) member);
           })
@@ -95,5 +95,5 @@ module _ (classes : List BidiClass) (levels : List ℕ) where
         | inl same ↦
             rw (cond-true (eqb m (last_or p ps)) (Some s) None same)
             (within, holds m member, subst (EndsRun classes levels) (sym (eqb-true m (last_or p ps) same)) run.ends)
-        | inr other ↦ rw (cond-false (eqb m (last_or p ps)) (Some s) None other) (inside_run classes levels m p ps run.steps member (eqb-false m (last_or p ps) other))
+        | inr other ↦ grind (arith, inside_run)
       ]

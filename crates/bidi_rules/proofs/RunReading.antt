@@ -1,11 +1,10 @@
 -- The characters of a run that open or close an isolate, read one by one.
-use Rattle.std.proofs.Common.{◌≡◌, ℕ, zero, suc, ◌+◌, ◌-◌, ◌<◌, ◌≤◌, Bool, true, false, cond, eqb, List, length, get_or, Option, Some, None, refl, sym, ap, subst, ◌∙◌, arith, eq-eqb, ne_eqb, inl, inr}
+use Rattle.std.proofs.Common.{◌≡◌, ℕ, zero, suc, ◌+◌, ◌-◌, ◌<◌, ◌≤◌, true, false, cond, eqb, List, length, get_or, Option, Some, None, sym, ap, subst, ◌∙◌, arith, ne_eqb, inl, inr}
 use Rattle.std.specs.Bool.{then_some}
-use Rattle.std.specs.List.{fold, range_with_len}
 use Rattle.std.proofs.lemmas.Bool.{cases_eq, cases_lt, both_ways}
 use Rattle.std.proofs.lemmas.List.Sums.{fold_push}
 use Rattle.bidi_base.specs.declared.char_data.BidiClass.{BidiClass}
-use Rattle.bidi_base.specs.declared.char_data.BidiClass.TheVariants.{L, LRI, RLI, FSI, PDI}
+use Rattle.bidi_base.specs.declared.char_data.BidiClass.TheVariants.{L}
 use Rattle.bidi_base.specs.contracts.char_data.BidiClassPartialEq.TheImpl.{ghosts}
 use Rattle.bidi_base.specs.Places.{class_at}
 use Rattle.bidi_base.specs.Search.{IsFirst}
@@ -20,28 +19,13 @@ use Rattle.bidi_base.proofs.PerCharTests.{class_eq, class_test}
 use Rattle.bidi_rules.specs.Joining.{is_isolate_control, read_range, read_units}
 use Rattle.bidi_rules.proofs.PassOverText.{alike_class}
 
-some_if : (b : Bool) (s : ℕ) → then_some b s ≡ cond b (Some s) None
-some_if true s = refl
-some_if false s = refl
-
 -- one character more
 read_range-more : (classes : List BidiClass) (last s a m : ℕ) (waits : List (Option ℕ)) → a ≤ m → read_range classes last s a (m + 1) waits ≡ read_class (class_at classes m) (cond (eqb (m + 1) last) (Some s) None) (read_range classes last s a m waits)
-read_range-more classes last s a m waits order =
-    let step : List (Option ℕ) → ℕ → List (Option ℕ) = λ ws k. read_class (class_at classes k) (cond (eqb (k + 1) last) (Some s) None) ws in
-    let count : m + 1 - a ≡ suc (m - a) = omega arith in
-    let place : a + (m - a) ≡ m = omega arith in
-    ap (λ n. fold step waits (range_with_len a n)) count
-    ∙ ap (fold step waits) (range_with_len-more a (m - a))
-    ∙ fold_push step waits (range_with_len a (m - a)) (a + (m - a))
-    ∙ ap (λ x. step (fold step waits (range_with_len a (m - a))) x) place
+read_range-more classes last s a m waits order = grind (arith, range_with_len-more, fold_push)
 
 -- a class that neither opens nor closes changes nothing
 read_class-plain : (c : BidiClass) (wait : Option ℕ) (waits : List (Option ℕ)) → is_isolate_control c ≡ false → read_class c wait waits ≡ waits
-read_class-plain LRI wait waits h = absurd (cc h)
-read_class-plain RLI wait waits h = absurd (cc h)
-read_class-plain FSI wait waits h = absurd (cc h)
-read_class-plain PDI wait waits h = absurd (cc h)
-read_class-plain _ wait waits h = refl
+read_class-plain c wait waits h = grind arith
 
 -- the characters of a run before the one with an index are read, which stands at a unit
 pub record IsReadTo (len_of : ℕ → ℕ) (chars : List ℕ) (units : List BidiClass) (start end last s : ℕ) (old waits : List (Option ℕ)) (at : ℕ) : Type 0 where
@@ -71,16 +55,7 @@ module _ (len_of : ℕ → ℕ) (h : HasUnits len_of) (chars : List ℕ) (units 
   per = IsPerChar-from_is_per_char class_eq class_test len_of h chars units whole
 
   pub IsReadTo-start : (old : List (Option ℕ)) → ReadTo old old start
-  IsReadTo-start old =
-      let w = line_places len_of h chars start end line in
-      let none : first - first ≡ 0 = omega arith in
-      record {
-        index = first;
-        there = w.begins;
-        low = omega arith;
-        high = w.ordered;
-        is = ap (λ n. fold (λ ws m. read_class (class_at stored m) (cond (eqb (m + 1) (char_index len_of chars last)) (Some s) None) ws) old (range_with_len first n)) (sym none);
-      }
+  IsReadTo-start old = grind (arith, line_places)
 
   stored_class : (m : ℕ) → m < length chars → class_at units (place len_of chars m) ≡ class_at stored m
   stored_class m fits =
@@ -89,10 +64,7 @@ module _ (len_of : ℕ → ℕ) (h : HasUnits len_of) (chars : List ℕ) (units 
 
   -- up to the next control
   jump : (n m next : ℕ) (old waits : List (Option ℕ)) → m + n ≡ final → first ≤ m → waits ≡ read_to m old → IsFirst is_isolate_control units (place len_of chars m) end next → ReadTo old waits next
-  jump zero m next old waits count low is f =
-      let w = line_places len_of h chars start end line in
-      let same : m ≡ final = omega arith in
-      record { index = m; there = omega (arith, f.begins, f.ends, w.ends, ap (place len_of chars) same); low = low; high = omega arith; is = is }
+  jump zero m next old waits count low is f = grind (arith, line_places)
   jump (suc k) m next old waits count low is f =
       let w = line_places len_of h chars start end line in
       let fits : m < length chars = omega (arith, w.within) in
@@ -105,7 +77,7 @@ module _ (len_of : ℕ → ℕ) (h : HasUnits len_of) (chars : List ℕ) (units 
             let same = alike_class len_of h chars units per m next fits f.begins here in
             elim (cases_lt (place len_of chars m) next) [
               | inl behind ↦ absurd (both_ways (is_isolate_control (class_at units (place len_of chars m))) (f.before (place len_of chars m) (omega arith) behind) (ap is_isolate_control (sym same) ∙ control))
-              | inr not_behind ↦ record { index = m; there = (let begins = f.begins in omega arith); low = low; high = omega arith; is = is }
+              | inr not_behind ↦ grind arith
             ]
         | inr later ↦
             let plain : is_isolate_control (class_at stored m) ≡ false = ap is_isolate_control (sym (stored_class m fits)) ∙ f.before (place len_of chars m) (omega arith) (omega arith) in
@@ -125,12 +97,7 @@ module _ (len_of : ℕ → ℕ) (h : HasUnits len_of) (chars : List ℕ) (units 
     pub inside : at < text_len len_of chars
 
   pub IsReadTo-asked : (old waits : List (Option ℕ)) (at : ℕ) → at < end → ReadTo old waits at → IsAsked at
-  IsReadTo-asked old waits at below r =
-      let w = line_places len_of h chars start end line in
-      record {
-        begins = ap (is_boundary len_of chars) r.there ∙ is_boundary-place len_of chars r.index;
-        inside = omega (arith, w.ends, place-le len_of chars final);
-      }
+  IsReadTo-asked old waits at below r = grind (arith, line_places, is_boundary-place, place-le)
 
   -- one character
   pub IsReadTo-more : (old waits now : List (Option ℕ)) (at behind : ℕ) (wait : Option ℕ) → at < end → ((k : ℕ) → k < length chars → at ≡ place len_of chars k → behind ≡ place len_of chars (k + 1))
@@ -139,15 +106,12 @@ module _ (len_of : ℕ → ℕ) (h : HasUnits len_of) (chars : List ℕ) (units 
       let w = line_places len_of h chars start end line in
       let m = r.index in
       let e = char_index len_of chars last in
-      let more : m < final = elim (cases_lt m final) [
-        | inl short ↦ short
-        | inr past ↦ let high = r.high in let same : m ≡ final = omega arith in absurd (omega (arith, r.there, w.ends, ap (place len_of chars) same))
-      ] in
+      let more : m < final = grind arith in
       let fits : m < length chars = omega (arith, w.within) in
       let after : behind ≡ place len_of chars (m + 1) = ends m fits r.there in
       let same_end : cond (eqb behind last) (Some s) None ≡ cond (eqb (m + 1) e) (Some s) None =
       elim (cases_eq (m + 1) e) [
-        | inl same ↦ ap (λ b. cond b (Some s) None) (eq-eqb behind last (after ∙ ap (place len_of chars) same ∙ place-char_index len_of h chars last boundary) ∙ sym (eq-eqb (m + 1) e same))
+        | inl same ↦ grind (arith, place-char_index)
         | inr other ↦
             ap (λ b. cond b (Some s) None)
             (ne_eqb behind last (λ f. other (sym (char_index-place len_of chars h (m + 1) (omega arith)) ∙ ap (char_index len_of chars) (sym after ∙ f))) ∙ sym (ne_eqb (m + 1) e other))
@@ -157,26 +121,19 @@ module _ (len_of : ℕ → ℕ) (h : HasUnits len_of) (chars : List ℕ) (units 
         there = after;
         low = let low = r.low in omega arith;
         high = omega arith;
-        is = read
-            ∙ ap (λ c. read_class c wait waits) (ap (class_at units) r.there ∙ stored_class m fits)
-            ∙ ap (λ x. read_class (class_at stored m) x waits) (wait_as ∙ some_if (eqb behind last) s ∙ same_end)
-            ∙ ap (read_class (class_at stored m) (cond (eqb (m + 1) e) (Some s) None)) r.is
-            ∙ sym (read_range-more stored e s first m old r.low);
+        is = grind (arith, stored_class, read_range-more);
       }
 
   pub IsReadTo-past : (old waits : List (Option ℕ)) (at behind : ℕ) → at < end → ((k : ℕ) → k < length chars → at ≡ place len_of chars k → behind ≡ place len_of chars (k + 1)) → ReadTo old waits at → at < behind
   IsReadTo-past old waits at behind below ends r =
       let w = line_places len_of h chars start end line in
       let m = r.index in
-      let more : m < final = elim (cases_lt m final) [
-        | inl short ↦ short
-        | inr past ↦ let high = r.high in let same : m ≡ final = omega arith in absurd (omega (arith, r.there, w.ends, ap (place len_of chars) same))
-      ] in
+      let more : m < final = grind arith in
       let fits : m < length chars = omega (arith, w.within) in
       omega (arith, ends m fits r.there, r.there, place-more len_of chars m 0 fits, h (get_or chars m 0))
 
   pub IsReadTo-within : (old waits : List (Option ℕ)) (at : ℕ) → ReadTo old waits at → at ≤ end
-  IsReadTo-within old waits at r = let w = line_places len_of h chars start end line in omega (arith, r.there, w.ends, place-mono len_of chars r.index final r.high)
+  IsReadTo-within old waits at r = grind (arith, line_places, place-mono) steps 400000
 
   -- all characters of the run
   pub IsReadTo-end : (old waits : List (Option ℕ)) → ReadTo old waits end → waits ≡ read_units len_of chars units last s start end old

@@ -51,14 +51,12 @@ module _ (len_of : ℕ → ℕ) (h : HasUnits len_of) (chars : List ℕ) (classe
         first = refl;
         next = refl;
         start = ap (λ (r : ℕ × ℕ). r.0) here;
-        end = ap (λ (r : ℕ × ℕ). r.1) here ∙ ap (λ n. place len_of chars (get_or (cuts classes levels) n 0)) more;
+        end = grind arith;
       }
 
   -- the last run ends with the text
   pub cuts-last : (runs : List (ℕ × ℕ)) (k : ℕ) → runs ≡ level_run_ranges len_of chars classes levels → k ≡ length runs → get_or (cuts classes levels) k 0 ≡ length classes
-  cuts-last runs k e all =
-      let count : k ≡ length (run_starts classes levels) = omega (arith, ap length e, length-level_run_ranges len_of chars classes levels) in
-      ap (λ n. get_or (cuts classes levels) n 0) count ∙ get_or_push (run_starts classes levels) (length classes) 0 (length (run_starts classes levels)) refl
+  cuts-last runs k e all = grind (arith, length-level_run_ranges, get_or_push)
 
   -- a run is a stretch of some units of the text
   pub record IsUnitRun (a b : ℕ) (start end : ℕ) : Type 0 where
@@ -66,10 +64,7 @@ module _ (len_of : ℕ → ℕ) (h : HasUnits len_of) (chars : List ℕ) (classe
     pub within : end ≤ text_len len_of chars
 
   pub unit_run : (k a b : ℕ) (r : ℕ × ℕ) → IsRunAt k a b r → IsUnitRun a b r.0 r.1
-  unit_run k a b r run =
-      let order = run.range.not_empty in
-      let fits = run.range.within in
-      record { not_empty = omega (arith, place-lt len_of chars h a b order (omega arith), run.start, run.end); within = omega (arith, place-le len_of chars b, run.end) }
+  unit_run k a b r run = grind (arith, place-lt, place-le)
 
   module _ (units : List BidiClass) (unit_levels : List ℕ) (same : length levels ≡ length chars) (units_is : units ≡ per_unit len_of chars classes) (levels_is : unit_levels ≡ per_unit len_of chars levels) where
     pub class_of_unit : (m : ℕ) → m < length chars → get_or units (place len_of chars m) L ≡ class_at classes m

@@ -1,17 +1,17 @@
 -- The units of a sequence that are not BN: those that a pass over units reads, and the characters that they belong to.
-use Rattle.std.proofs.Common.{◌≡◌, ◌≢◌, ℕ, zero, suc, ◌+◌, ◌-◌, ◌<◌, ◌≤◌, Bool, true, false, ◌&&◌, ◌||◌, List, [], ◌∷◌, ◌++◌, length, map, replicate, refl, sym, ap, subst, ◌∙◌, arith, inl, inr}
+use Rattle.std.proofs.Common.{◌≡◌, ◌≢◌, ℕ, zero, suc, ◌+◌, ◌<◌, ◌≤◌, Bool, true, false, ◌&&◌, ◌||◌, List, [], ◌∷◌, ◌++◌, length, map, replicate, refl, sym, ap, subst, ◌∙◌, arith, inl, inr}
 use Rattle.std.specs.Prelude.{filter, All}
 use Rattle.std.specs.List.{list_all, range_with_len}
-use Rattle.std.proofs.lemmas.Bool.{cases_Bool, cases_lt, cond-true, cond-false, and_parts, and_from, and_left}
+use Rattle.std.proofs.lemmas.Bool.{cases_Bool, cases_lt, and_parts, and_from, and_left}
 use Rattle.std.proofs.lemmas.List.{length-map}
-use Rattle.std.proofs.lemmas.List.Elements.{All-head, All-tail, filter-append, filter_agree}
+use Rattle.std.proofs.lemmas.List.Elements.{All-head, All-tail, filter-append}
 use Rattle.std.proofs.lemmas.List.Folds.{list_all-append}
 use Rattle.bidi_base.specs.declared.char_data.BidiClass.{BidiClass}
 use Rattle.bidi_base.specs.declared.char_data.BidiClass.TheVariants.{L}
 use Rattle.bidi_base.specs.Classes.{is_kept_in_place}
 use Rattle.bidi_base.specs.Places.{at_places, between, class_at}
 use Rattle.bidi_base.specs.Text.{place, per_unit, IsPerChar}
-use Rattle.bidi_base.specs.Units.{are_ordered_from, are_ordered, chars_in_runs, in_runs, kept_in_place, units_in_runs, AreLines}
+use Rattle.bidi_base.specs.Units.{are_ordered_from, are_ordered, in_runs, kept_in_place, units_in_runs, AreLines}
 use Rattle.bidi_base.proofs.Repeated.{HaveUnits, HaveUnits-every}
 use Rattle.bidi_base.proofs.RepeatedPlaces.{read_units-old, read_units-rule, read_units-per_char}
 use Rattle.bidi_base.proofs.StoredLemmas.{length-at_places, at_places-append}
@@ -19,8 +19,8 @@ use Rattle.bidi_base.proofs.TextLemmas.{HasUnits}
 use Rattle.bidi_base.proofs.UnitsLemmas.{length-from_IsPerChar}
 use Rattle.bidi_rules.specs.NeutralPass.{seen_units}
 use Rattle.bidi_rules.specs.WeakWalk.{is_seen}
-use Rattle.bidi_rules.proofs.InRuns.{in_run-inside, in_run-above, gap_before}
-use Rattle.bidi_rules.proofs.Marks.{marked, marked-none, marked-parts, marked-empty, marked-one}
+use Rattle.bidi_rules.proofs.InRuns.{in_run-above, gap_before}
+use Rattle.bidi_rules.proofs.Marks.{marked, marked-parts, marked-empty, marked-one}
 use Rattle.bidi_rules.proofs.PassOverText.{in_runs-within}
 use Rattle.bidi_rules.proofs.WalkLemmas.{are_ordered-front, are_ordered-lower}
 
@@ -33,15 +33,12 @@ same_counted t u low (suc n) h =
     let rest : ts ≡ us = same_counted t u (low + 1) n (λ k from below. h k (omega arith) (omega arith)) in
     let here = h low (omega arith) (omega arith) in
     elim (cases_Bool (t low)) [
-      | inl yes' ↦ cond-true (t low) (low ∷ ts) ts yes' ∙ ap (λ (xs : List ℕ). low ∷ xs) rest ∙ sym (cond-true (u low) (low ∷ us) us (sym here ∙ yes'))
-      | inr no' ↦ cond-false (t low) (low ∷ ts) ts no' ∙ rest ∙ sym (cond-false (u low) (low ∷ us) us (sym here ∙ no'))
+      | inl yes' ↦ grind arith
+      | inr no' ↦ grind arith
     ]
 
 marked-alike : (t u : ℕ → Bool) (low high : ℕ) → ((k : ℕ) → low ≤ k → k < high → t k ≡ u k) → marked t low high ≡ marked u low high
-marked-alike t u low high h = elim (cases_lt low high) [
-  | inl some ↦ same_counted t u low (high - low) (λ k from below. h k from (omega arith))
-  | inr none ↦ marked-none t low high none ∙ sym (marked-none u low high none)
-]
+marked-alike t u low high h = grind (arith, same_counted)
 
 all_behind : (P : ℕ → Type 0) (xs ys : List ℕ) → All P (xs ++ ys) → All P ys
 all_behind P [] ys a = a
@@ -62,7 +59,7 @@ module _ (units : List BidiClass) where
       let rest : marked all r.1 (length units) ≡ filter kept_at (units_in_runs runs) =
       marked-alike all (is_seen runs units) r.1 (length units) (λ k a b. ap (λ t. (t || in_runs runs k) && kept_at k) (in_run-above r k a))
       ∙ seen-from r.1 runs end f.later (All-tail (λ (q : ℕ × ℕ). q.1 ≤ length units) r runs within) in
-      let inside : marked all r.0 r.1 ≡ filter kept_at (between r.0 r.1) = marked-alike all kept_at r.0 r.1 (λ k a b. ap (λ t. (t || in_runs runs k) && kept_at k) (in_run-inside r k a b)) in
+      let inside : marked all r.0 r.1 ≡ filter kept_at (between r.0 r.1) = grind (arith, marked-alike) in
       let before : marked all low r.0 ≡ [] = marked-empty all low r.0 (λ k a b. and_left (in_runs (r ∷ runs) k) (kept_at k) (gap_before 0 (r ∷ runs) k (length units) (lowered low (r ∷ runs) ordered) b)) in
       marked-parts all low r.0 (length units) from (omega arith)
       ∙ ap (λ (us : List ℕ). us ++ marked all r.0 (length units)) before
@@ -101,8 +98,7 @@ module _ (units : List BidiClass) where
 pub kept_in_place-alike : (len_of : ℕ → ℕ) (chars : List ℕ) (old new : List BidiClass) (runs : List (ℕ × ℕ)) → ((u : ℕ) → is_kept_in_place (class_at new u) ≡ is_kept_in_place (class_at old u))
     → kept_in_place len_of chars new runs ≡ kept_in_place len_of chars old runs
 unfolding kept_in_place
-kept_in_place-alike len_of chars old new runs same =
-    filter_agree (λ k. is_kept_in_place (class_at new (place len_of chars k))) (λ k. is_kept_in_place (class_at old (place len_of chars k))) (λ k. same (place len_of chars k)) (chars_in_runs len_of chars runs)
+kept_in_place-alike len_of chars old new runs same = grind arith
 
 -- at the units of the characters that are seen stands an answer for each, and nothing else was written
 module _ (len_of : ℕ → ℕ) (h : HasUnits len_of) (chars : List ℕ) (old : List BidiClass) (per : IsPerChar len_of chars old) (runs : List (ℕ × ℕ)) (lines : AreLines len_of chars runs) (ordered : are_ordered runs ≡ true)
@@ -119,7 +115,7 @@ module _ (len_of : ℕ → ℕ) (h : HasUnits len_of) (chars : List ℕ) (old : 
     where
       stays : (u : ℕ) → All (λ q. q ≢ u) (filter (λ u. is_kept_in_place (class_at old u)) (units_in_runs runs)) → is_seen runs old u ≡ false
       stays u differ = elim (cases_lt u (length old)) [
-        | inl inside ↦ not_seen old runs u inside (subst (All (λ q. q ≢ u)) (sym (seen_units-is old runs ordered within)) differ)
+        | inl inside ↦ grind (arith, not_seen, seen_units-is)
         | inr past ↦ elim (cases_Bool (is_seen runs old u)) [
           | inl yes' ↦
               absurd (omega (arith, past, length-from_IsPerChar len_of chars old per, in_runs-within len_of h chars runs lines u (and_parts (in_runs runs u) (is_kept_in_place (class_at old u)) yes').0))
@@ -136,8 +132,7 @@ module _ (len_of : ℕ → ℕ) (h : HasUnits len_of) (chars : List ℕ) (old : 
   seen_of us = filter (λ u. is_kept_in_place (class_at us u)) (units_in_runs runs)
 
   over_units : at_places L new (seen_of (per_unit len_of chars per.0)) ≡ rule (at_places L (per_unit len_of chars per.0) (seen_of (per_unit len_of chars per.0)))
-  over_units = subst (λ (us : List BidiClass). at_places L new (seen_of us) ≡ rule (at_places L us (seen_of us))) per.2
-      (subst (λ (ps : List ℕ). at_places L new ps ≡ rule (at_places L old ps)) (seen_units-is old runs ordered within) is)
+  over_units = grind (arith, seen_units-is)
 
   pub ruled-places : (let places = map (place len_of chars) (kept_in_place len_of chars old runs) in at_places L new places ≡ rule (at_places L old places))
   ruled-places =
@@ -148,7 +143,7 @@ module _ (len_of : ℕ → ℕ) (h : HasUnits len_of) (chars : List ℕ) (old : 
   ruled-IsPerChar long others =
       let ds = λ (us : List BidiClass). at_places 0 chars (kept_in_place len_of chars us runs) in
       let cs = λ (us : List BidiClass). at_places L us (map (place len_of chars) (kept_in_place len_of chars us runs)) in
-      let many : length (cs old) ≡ length (kept_in_place len_of chars old runs) = length-at_places L old (map (place len_of chars) (kept_in_place len_of chars old runs)) ∙ length-map (kept_in_place len_of chars old runs) (place len_of chars) in
+      let many : length (cs old) ≡ length (kept_in_place len_of chars old runs) = grind (arith, length-at_places, length-map) in
       let at_old : at_places L old (seen_of old) ≡ per_unit len_of (ds old) (cs old) =
       subst (λ (us : List BidiClass). at_places L us (seen_of us) ≡ per_unit len_of (ds us) (cs us)) (sym per.2) (read_units-old len_of h chars per.0 per.1 runs lines) in
       let seen = seen_units-is old runs ordered within in

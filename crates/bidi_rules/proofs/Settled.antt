@@ -1,5 +1,5 @@
 -- N2 over the units of a sequence, once N0 and N1 are done.
-use Rattle.std.proofs.Common.{◌≡◌, ℕ, ◌+◌, ◌<◌, ◌≤◌, true, false, List, [], ◌∷◌, length, map, find, None, refl, sym, ap, subst, ◌∙◌, inl, inr}
+use Rattle.std.proofs.Common.{◌≡◌, ℕ, ◌+◌, ◌<◌, ◌≤◌, true, false, List, [], ◌∷◌, length, map, find, None, refl, sym, ap, subst, ◌∙◌, inl, inr, arith}
 use Rattle.std.specs.Prelude.{All}
 use Rattle.std.specs.declared.ops.Range.{Range}
 use Rattle.std.proofs.lemmas.Bool.{cases_Bool}
@@ -73,7 +73,7 @@ module _ (len_of : ℕ → ℕ) (h : HasUnits len_of) (chars : List ℕ) (runs :
       per = IsPerChar-from_is_per_char class_eq class_test len_of h chars now up.per_char
 
       stays : (u : ℕ) → class_at now u ≡ BN → class_at new u ≡ BN
-      stays u gone = elim (cases_Bool (in_runs rs u)) [ inl inside ↦ changed u inside ∙ ap (n2_rule e) gone | inr out ↦ same u out ∙ gone ]
+      stays u gone = grind arith
 
       even : (k : ℕ) → k < length chars → (u : ℕ) → place len_of chars k ≤ u → u < place len_of chars (k + 1) → class_at new u ≡ class_at new (place len_of chars k)
       even k fits u from below =

@@ -1,15 +1,15 @@
 -- The characters of a sequence that are kept, by their numbers, and the units at which they begin.
-use Rattle.std.proofs.Common.{◌≡◌, ℕ, zero, suc, ◌+◌, ◌-◌, ◌<◌, ◌≤◌, ltb, true, Bool, List, [], ◌∷◌, ◌++◌, length, map, get_or, refl, sym, ap, subst, ◌∙◌, arith, inl, inr}
+use Rattle.std.proofs.Common.{◌≡◌, ℕ, zero, suc, ◌+◌, ◌-◌, ◌<◌, ◌≤◌, true, Bool, List, [], ◌∷◌, ◌++◌, length, map, get_or, refl, sym, ap, subst, ◌∙◌, arith, inl, inr}
 use Rattle.std.specs.Prelude.{filter}
 use Rattle.std.specs.List.{range_with_len}
-use Rattle.std.proofs.lemmas.Bool.{cases_Bool, cases_lt, and_parts, and_from, cond-true, cond-false, or_cases, lt-ltb, le-ltb}
+use Rattle.std.proofs.lemmas.Bool.{cases_Bool, cases_lt, and_parts, and_from, cond-true, or_cases}
 use Rattle.std.proofs.lemmas.List.{length-map}
 use Rattle.std.proofs.lemmas.List.Elements.{All-head, All-tail, All-filter}
 use Rattle.bidi_base.specs.declared.char_data.BidiClass.{BidiClass}
 use Rattle.bidi_base.specs.declared.char_data.BidiClass.TheVariants.{L}
 use Rattle.bidi_base.specs.Classes.{is_kept_in_place}
 use Rattle.bidi_base.specs.Places.{at_places, between, class_at}
-use Rattle.bidi_base.specs.Text.{char_index, place, text_len, IsLine, IsPerChar}
+use Rattle.bidi_base.specs.Text.{char_index, place, IsLine, IsPerChar}
 use Rattle.bidi_base.specs.Units.{are_ordered, chars_in_runs, in_runs, kept_in_place, AreLines}
 use Rattle.bidi_base.proofs.PermutationLemmas.{Ascends}
 use Rattle.bidi_base.proofs.PlaceLemmas.{line_places, place-le, place-le-back, place-lt, place-mono, place-more, unit_of}
@@ -28,7 +28,7 @@ Ascends-within low high [] h = h
 Ascends-within low high (k ∷ ks) h = omega (arith, h.0, Ascends-within (k + 1) high ks h.1)
 
 pub length-values_of : {X : Type 0} (len_of : ℕ → ℕ) (chars : List ℕ) (d : X) (values : List X) (ks : List ℕ) → length (values_of d len_of chars values ks) ≡ length ks
-length-values_of len_of chars d values ks = length-at_places d values (map (place len_of chars) ks) ∙ length-map ks (place len_of chars)
+length-values_of len_of chars d values ks = grind (arith, length-at_places, length-map) steps 400000
 
 -- ---- a number that stands in a list
 
@@ -56,13 +56,12 @@ has-range c low (suc n) from below = elim (cases_lt low c) [
 
 has-filter : (test : ℕ → Bool) (c : ℕ) → test c ≡ true → (xs : List ℕ) (k : ℕ) → k < length xs → get_or xs k 0 ≡ c → Has (filter test xs) c
 has-filter test c passes [] k fits is = absurd (omega arith)
-has-filter test c passes (x ∷ xs) zero fits is =
-    subst (λ (ys : List ℕ). Has ys c) (sym (cond-true (test x) (x ∷ filter test xs) (filter test xs) (ap test is ∙ passes))) (0, omega arith, is)
+has-filter test c passes (x ∷ xs) zero fits is = grind arith
 has-filter test c passes (x ∷ xs) (suc k) fits is =
     let rest = has-filter test c passes xs k (omega arith) is in
     elim (cases_Bool (test x)) [
       | inl yes' ↦ subst (λ (ys : List ℕ). Has ys c) (sym (cond-true (test x) (x ∷ filter test xs) (filter test xs) yes')) (has-later x c (filter test xs) rest)
-      | inr no' ↦ subst (λ (ys : List ℕ). Has ys c) (sym (cond-false (test x) (x ∷ filter test xs) (filter test xs) no')) rest
+      | inr no' ↦ grind arith
     ]
 
 ascends-at : (low high : ℕ) (ks : List ℕ) (i : ℕ) → Ascends low ks high → i < length ks → (low ≤ get_or ks i 0) × (get_or ks i 0 < high)
@@ -92,30 +91,19 @@ module _ (len_of : ℕ → ℕ) (h : HasUnits len_of) (chars : List ℕ) (old : 
   behind k = place len_of chars (get_or ks k 0 + 1)
 
   pub spot-in : (k : ℕ) → k < length ks → at k ≡ place len_of chars (get_or ks k 0)
-  spot-in k fits = cond-true (ltb k (length ks)) (place len_of chars (get_or ks k 0)) (text_len len_of chars + k) (lt-ltb k (length ks) fits)
+  spot-in k fits = grind arith steps 400000
 
   pub index-within : (k : ℕ) → k < length ks → get_or ks k 0 < length chars
   index-within k fits = (ascends-at 0 (length chars) ks k rises fits).1
 
   pub spot-behind : (k : ℕ) → k < length ks → at k < behind k
-  spot-behind k fits = let w = index-within k fits in omega (arith, spot-in k fits, place-lt len_of chars h (get_or ks k 0) (get_or ks k 0 + 1) (omega arith) w)
-
-  pub behind-within : (k : ℕ) → behind k ≤ text_len len_of chars
-  behind-within k = place-le len_of chars (get_or ks k 0 + 1)
+  spot-behind k fits = grind (arith, index-within, place-lt) steps 400000
 
   pub behind-spot : (i j : ℕ) → i < j → j < length ks → behind i ≤ at j
   behind-spot i j order fits = let less = ascends-lt 0 (length chars) ks i j rises order fits in omega (arith, spot-in j fits, place-mono len_of chars (get_or ks i 0 + 1) (get_or ks j 0) (omega arith))
 
   pub spot-rises : (i j : ℕ) → i < j → at i < at j
-  spot-rises i j order = elim (cases_lt j (length ks)) [
-    | inl inside ↦ omega (arith, spot-behind i (omega arith), behind-spot i j order inside)
-    | inr past ↦
-        let far : at j ≡ text_len len_of chars + j = cond-false (ltb j (length ks)) (place len_of chars (get_or ks j 0)) (text_len len_of chars + j) (le-ltb j (length ks) past) in
-        elim (cases_lt i (length ks)) [
-          | inl near ↦ omega (arith, far, spot-behind i near, behind-within i)
-          | inr out ↦ omega (arith, far, cond-false (ltb i (length ks)) (place len_of chars (get_or ks i 0)) (text_len len_of chars + i) (le-ltb i (length ks) out))
-        ]
-  ]
+  spot-rises i j order = grind (arith, spot-behind, behind-spot, place-le)
 
   -- the class of the k-th
   pub class-at : (units : List BidiClass) (k : ℕ) → k < length ks → class_at (values_of L len_of chars units ks) k ≡ class_at units (at k)
@@ -147,8 +135,8 @@ module _ (len_of : ℕ → ℕ) (h : HasUnits len_of) (chars : List ℕ) (old : 
       elim (or_cases (in_run r (place len_of chars c)) (in_runs rs (place len_of chars c)) inside) [
         | inl here ↦
             let ends = in_run-true r (place len_of chars c) here in
-            let from : i ≤ c = place-le-back len_of chars h i c (omega (arith, w.ordered, w.within)) (omega (arith, ends.0, w.begins)) in
-            let upto : c < j = elim (cases_lt c j) [ inl below ↦ below | inr past ↦ absurd (omega (arith, ends.1, w.ends, place-mono len_of chars j c past)) ] in
+            let from : i ≤ c = grind (arith, place-le-back) in
+            let upto : c < j = grind (arith, place-mono) in
             let there = has-range c i (j - i) from (omega arith) in
             has-left c (between i j) (chars_in_runs len_of chars rs) there.0 there.1 there.2
         | inr later ↦ has-right c (between i j) (chars_in_runs len_of chars rs) (has-runs c within rs (All-tail (λ (q : ℕ × ℕ). IsLine len_of chars q.0 q.1) r rs lines') later)
@@ -172,7 +160,7 @@ module _ (len_of : ℕ → ℕ) (h : HasUnits len_of) (chars : List ℕ) (old : 
       let next = place-more len_of chars w.index 0 w.within in
       let begin = place len_of chars w.index in
       let inside : in_runs runs begin ≡ true = sym (in_runs-alike len_of h chars runs lines w.index u (omega arith) (omega arith)) ∙ parts.0 in
-      let kept : is_kept_in_place (class_at old begin) ≡ true = ap is_kept_in_place (sym (alike_class len_of h chars old old_per w.index u w.within (omega arith) (omega arith))) ∙ parts.1 in
+      let kept : is_kept_in_place (class_at old begin) ≡ true = grind (arith, alike_class) in
       let all = has-runs w.index w.within runs lines inside in
       let one = has-filter (λ c. is_kept_in_place (class_at old (place len_of chars c))) w.index kept (chars_in_runs len_of chars runs) all.0 all.1 all.2 in
       let spot_is : at one.0 ≡ begin = spot-in one.0 one.1 ∙ ap (place len_of chars) one.2 in
@@ -182,5 +170,5 @@ module _ (len_of : ℕ → ℕ) (h : HasUnits len_of) (chars : List ℕ) (old : 
         fits = one.1;
         from = omega arith;
         below = omega arith;
-        same = alike_class len_of h chars units per w.index u w.within (omega arith) (omega arith) ∙ ap (class_at units) (sym spot_is);
+        same = grind (arith, alike_class);
       }

@@ -5,14 +5,12 @@ use Rattle.std.specs.List.{range_with_len}
 use Rattle.std.specs.Option.{is_some, option_map_or}
 use Rattle.std.proofs.lemmas.Bool.{cases_lt}
 use Rattle.std.proofs.lemmas.Grind.{flat_map-append}
-use Rattle.std.proofs.lemmas.List.Elements.{filter-append}
 use Rattle.std.proofs.Math.Bool.{or-true}
 use Rattle.bidi_base.specs.declared.brackets.Bracket.{Bracket}
 use Rattle.bidi_base.specs.declared.char_data.BidiClass.{BidiClass}
 use Rattle.bidi_base.specs.declared.char_data.BidiClass.TheVariants.{ON}
-use Rattle.bidi_base.specs.declared.data_source.BidiMatchedOpeningBracket.{BidiMatchedOpeningBracket}
 use Rattle.bidi_base.specs.Brackets.{counted_bracket}
-use Rattle.bidi_base.specs.Classes.{is_kept_in_place, same_class}
+use Rattle.bidi_base.specs.Classes.{same_class}
 use Rattle.bidi_base.specs.FoundBrackets.{brackets_from}
 use Rattle.bidi_base.specs.Places.{between, class_at}
 use Rattle.bidi_base.specs.Source.{Source}
@@ -23,7 +21,6 @@ use Rattle.bidi_base.proofs.PlaceLemmas.{char_at-place, line_places, place-le, p
 use Rattle.bidi_base.proofs.TextLemmas.{HasUnits, is_boundary-char_at}
 use Rattle.bidi_rules.specs.NeutralPass.{kept_among, placed_bracket, placed_brackets, unit_bracket, unit_brackets}
 use Rattle.bidi_rules.proofs.CharEnds.{begins_at}
-use Rattle.bidi_rules.proofs.Gathered.{placed-append, placed-one}
 use Rattle.bidi_rules.proofs.KeptRuns.{kept_so_far-end}
 use Rattle.bidi_rules.proofs.WalkLemmas.{between-first}
 
@@ -38,17 +35,9 @@ module _ (len_of : ℕ → ℕ) (chars : List ℕ) (source : Source) (units : Li
   abbrev at_unit : ℕ → List Bracket
   at_unit u = unit_bracket len_of chars source units u
 
-  other_none : (c : BidiClass) (o : Option BidiMatchedOpeningBracket) (u : ℕ) → same_class ON c ≡ false → brackets_from u (counted_bracket c o ∷ []) ≡ []
-  other_none ON o u h = absurd (cc h)
-  other_none _ o u h = refl
-
   -- a unit of another class than ON
   plain_unit : (u : ℕ) → same_class ON (class_at units u) ≡ false → at_unit u ≡ []
-  plain_unit u h = by (char_at len_of chars u)
-    where
-      by : (o : Option (ℕ × ℕ)) → option_map_or (λ e. brackets_from u (counted_bracket (class_at units u) (source.bracket_of e.0) ∷ [])) o [] ≡ []
-      by None = refl
-      by (Some e) = other_none (class_at units u) (source.bracket_of e.0) u h
+  plain_unit u h = grind arith
 
   none_in : (low n : ℕ) → ((u : ℕ) → low ≤ u → u < low + n → at_unit u ≡ []) → flat_map at_unit (range_with_len low n) ≡ []
   none_in low zero h = refl
@@ -97,10 +86,7 @@ module _ (len_of : ℕ → ℕ) (chars : List ℕ) (source : Source) (units : Li
         ∙ ap (λ o. option_map_or (λ e. brackets_from first (counted_bracket (class_at units first) (source.bracket_of e.0) ∷ [])) o []) (char_at-place len_of h chars k 0 fits)
 
     placed-first : (i : ℕ) (ks : List ℕ) → placed_brackets len_of chars source units (kept_among len_of chars units (i ∷ ks)) ≡ placed_bracket len_of chars source units i ++ placed_brackets len_of chars source units (kept_among len_of chars units ks)
-    placed-first i ks =
-        ap (placed_brackets len_of chars source units) (filter-append (λ k. is_kept_in_place (class_at units (place len_of chars k))) (i ∷ []) ks)
-        ∙ placed-append len_of chars source units (kept_among len_of chars units (i ∷ [])) (kept_among len_of chars units ks)
-        ∙ ap (λ (bs : List Bracket). bs ++ placed_brackets len_of chars source units (kept_among len_of chars units ks)) (placed-one len_of chars source units i)
+    placed-first i ks = grind arith
 
     some_chars : (i n : ℕ) → i + n ≤ length chars → unit_brackets len_of chars source units (place len_of chars i) (place len_of chars (i + n)) ≡ placed_brackets len_of chars source units (kept_among len_of chars units (range_with_len i n))
     some_chars i zero fits = let same : i + 0 ≡ i = omega arith in let none : place len_of chars i - place len_of chars i ≡ 0 = omega arith in ap (λ k. unit_brackets len_of chars source units (place len_of chars i) (place len_of chars k)) same ∙ ap (λ n. flat_map at_unit (range_with_len (place len_of chars i) n)) none

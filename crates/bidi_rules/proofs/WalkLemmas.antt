@@ -1,8 +1,7 @@
 -- Ranges in order, and the walks over the units of some of them.
-use Rattle.std.proofs.Common.{◌≡◌, ℕ, zero, suc, ◌+◌, ◌-◌, ◌<◌, ◌≤◌, true, ◌&&◌, leb, ltb, List, [], ◌∷◌, ◌++◌, length, map, get_or, take, drop, reverse, Some, append_assoc, append-nil, refl, sym, ap, subst, ◌∙◌, arith, leb-true, ltb-true, le_refl, length-append, lt-ltb}
+use Rattle.std.proofs.Common.{◌≡◌, ℕ, zero, suc, ◌+◌, ◌-◌, ◌<◌, ◌≤◌, true, ◌&&◌, leb, ltb, List, [], ◌∷◌, ◌++◌, length, map, get_or, take, drop, reverse, Some, append-nil, refl, sym, ap, ◌∙◌, arith, length-append, lt-ltb}
 use Rattle.std.proofs.lemmas.List.Elements.{All-head, All-tail}
 use Rattle.std.specs.Prelude.{IsTrue, All}
-use Rattle.std.specs.List.{range_with_len}
 use Rattle.std.proofs.lemmas.Bool.{and_parts, and_from, le-leb}
 use Rattle.std.proofs.lemmas.List.{map-append, reverse-append, get_or-map}
 use Rattle.std.proofs.lemmas.Slice.{between_to_end}
@@ -22,16 +21,11 @@ pub record IsOrderedFront (low : ℕ) (r : ℕ × ℕ) (runs : List (ℕ × ℕ)
   pub later : are_ordered_from r.1 runs ≡ true
 
 pub are_ordered-front : (low : ℕ) (r : ℕ × ℕ) (runs : List (ℕ × ℕ)) → are_ordered_from low (r ∷ runs) ≡ true → IsOrderedFront low r runs
-are_ordered-front low r runs h =
-    let parts = and_parts (leb low r.0) (ltb r.0 r.1 && are_ordered_from r.1 runs) h in
-    let others = and_parts (ltb r.0 r.1) (are_ordered_from r.1 runs) parts.1 in
-    record { from = leb-true _ _ parts.0; not_empty = ltb-true _ _ others.0; later = others.1 }
+are_ordered-front low r runs h = grind arith
 
 pub are_ordered-lower : (low from : ℕ) (runs : List (ℕ × ℕ)) → low ≤ from → are_ordered_from from runs ≡ true → are_ordered_from low runs ≡ true
 are_ordered-lower low from [] order h = refl
-are_ordered-lower low from (r ∷ runs) order h =
-    let f = are_ordered-front from r runs h in
-    and_from _ _ (le-leb low r.0 (omega (arith, f.from))) (and_parts (leb from r.0) (ltb r.0 r.1 && are_ordered_from r.1 runs) h).1
+are_ordered-lower low from (r ∷ runs) order h = grind arith
 
 pub are_ordered-take : (low k : ℕ) (runs : List (ℕ × ℕ)) → are_ordered_from low runs ≡ true → are_ordered_from low (take k runs) ≡ true
 are_ordered-take low zero runs h = refl
@@ -59,64 +53,29 @@ are_ordered-last low (q ∷ runs) r h =
 
 -- the first number of a range, and the last
 pub between-first : (low high : ℕ) → low < high → between low high ≡ low ∷ between (low + 1) high
-between-first low high order =
-    let count : high - low ≡ suc (high - (low + 1)) = omega arith in
-    ap (range_with_len low) count
-
-pub between-last : (low high : ℕ) → low < high → between low high ≡ between low (high - 1) ++ (high - 1) ∷ []
-between-last low high order =
-    let count : high - low ≡ suc (high - 1 - low) = omega arith in
-    let place : low + (high - 1 - low) ≡ high - 1 = omega arith in
-    ap (range_with_len low) count
-    ∙ range_with_len-more low (high - 1 - low)
-    ∙ ap (λ n. range_with_len low (high - 1 - low) ++ n ∷ []) place
-
-pub between-none : (low high : ℕ) → high ≤ low → between low high ≡ []
-between-none low high order = let none : high - low ≡ 0 = omega arith in ap (range_with_len low) none
+between-first low high order = grind arith
 
 -- upwards: the first unit of the next range
 pub forwards_run : (at end : ℕ) (all later : List (ℕ × ℕ)) (r : ℕ × ℕ) → end ≤ at → are_ordered all ≡ true → all ≡ r ∷ later → between at end ++ units_in_runs all ≡ r.0 ∷ (between (r.0 + 1) r.1 ++ units_in_runs later)
-forwards_run at end all later r order h e =
-    let f = are_ordered-front 0 r later (subst (λ (xs : List (ℕ × ℕ)). are_ordered xs ≡ true) e h) in
-    ap (λ (xs : List ℕ). xs ++ units_in_runs all) (between-none at end order)
-    ∙ ap units_in_runs e
-    ∙ ap (λ (xs : List ℕ). xs ++ units_in_runs later) (between-first r.0 r.1 f.not_empty)
-
--- downwards
-reverse_push : {X : Type 0} (xs : List X) (x : X) → reverse (xs ++ x ∷ []) ≡ x ∷ reverse xs
-reverse_push xs x = reverse-append xs (x ∷ [])
+forwards_run at end all later r order h e = grind (arith, between-first)
 
 pub backwards_unit : (start at : ℕ) (earlier : List (ℕ × ℕ)) → start < at → reverse (units_in_runs earlier ++ between start at) ≡ (at - 1) ∷ reverse (units_in_runs earlier ++ between start (at - 1))
-backwards_unit start at earlier order =
-    ap (λ (xs : List ℕ). reverse (units_in_runs earlier ++ xs)) (between-last start at order)
-    ∙ ap reverse (sym (append_assoc (units_in_runs earlier) (between start (at - 1)) ((at - 1) ∷ [])))
-    ∙ reverse_push (units_in_runs earlier ++ between start (at - 1)) (at - 1)
-
-units_in_runs-last : (runs : List (ℕ × ℕ)) (r : ℕ × ℕ) → units_in_runs (runs ++ r ∷ []) ≡ units_in_runs runs ++ between r.0 r.1
-units_in_runs-last runs r = flat_map-append (λ (q : ℕ × ℕ). between q.0 q.1) runs (r ∷ []) ∙ ap (λ (xs : List ℕ). units_in_runs runs ++ xs) (append-nil (between r.0 r.1))
+backwards_unit start at earlier order = grind (arith, range_with_len-more, reverse-append)
 
 pub backwards_run : (start at : ℕ) (all earlier : List (ℕ × ℕ)) (r : ℕ × ℕ) → at ≤ start → are_ordered all ≡ true → all ≡ earlier ++ r ∷ []
     → reverse (units_in_runs all ++ between start at) ≡ (r.1 - 1) ∷ reverse (units_in_runs earlier ++ between r.0 (r.1 - 1))
-backwards_run start at all earlier r order h e =
-    let last = are_ordered-last 0 earlier r (subst (λ (xs : List (ℕ × ℕ)). are_ordered xs ≡ true) e h) in
-    ap (λ (xs : List ℕ). reverse (units_in_runs all ++ xs)) (between-none start at order)
-    ∙ ap reverse (append-nil (units_in_runs all) ∙ ap units_in_runs e ∙ units_in_runs-last earlier r)
-    ∙ backwards_unit r.0 r.1 earlier last.1
+backwards_run start at all earlier r order h e = grind (arith, are_ordered-last, append-nil, backwards_unit, flat_map-append) steps 400000
 
 -- a step of an iterator that gives the list `rest`
 pub walks_on : {S : Type 0} (can : S → Type 0) (rest : S → List ℕ) (s t : S) (x : ℕ) → rest s ≡ x ∷ rest t → can t → MakesProgress can (item_count rest) s (Some x) t
-walks_on can rest s t x e ready = record { on = λ _. (ready, tt, omega (arith, ap length e)); keeps = ready; rests = λ _. tt }
+walks_on can rest s t x e ready = grind arith steps 400000
 
 -- the ranges after one, and those before it
 pub later_ranges : (runs later : List (Range ℕ)) (run : Range ℕ) → runs ≡ run ∷ later → IsTrue (are_ordered (map bounds runs)) → IsTrue (are_ordered (map bounds later))
-later_ranges runs later run e h =
-    let f = are_ordered-front 0 (bounds run) (map bounds later) (subst (λ (xs : List (Range ℕ)). are_ordered (map bounds xs) ≡ true) e h) in
-    are_ordered-lower 0 (bounds run).1 (map bounds later) (omega arith) f.later
+later_ranges runs later run e h = grind (arith, are_ordered-lower)
 
 pub earlier_ranges : (runs earlier : List (Range ℕ)) (run : Range ℕ) → runs ≡ earlier ++ run ∷ [] → IsTrue (are_ordered (map bounds runs)) → IsTrue (are_ordered (map bounds earlier)) × (run.start < run.end)
-earlier_ranges runs earlier run e h =
-    are_ordered-last 0 (map bounds earlier) (bounds run)
-    (subst (λ (xs : List (ℕ × ℕ)). are_ordered xs ≡ true) (map-append bounds earlier (run ∷ [])) (subst (λ (xs : List (Range ℕ)). are_ordered (map bounds xs) ≡ true) e h))
+earlier_ranges runs earlier run e h = grind (arith, are_ordered-last, map-append)
 
 -- where a walk upwards begins: `read` is the slice of the ranges, and `run` the one at an index
 map-drop : {X Y : Type 0} (f : X → Y) (k : ℕ) (xs : List X) → map f (drop k xs) ≡ drop k (map f xs)
@@ -133,35 +92,28 @@ range_at : (runs : List (Range ℕ)) (run : Range ℕ) (k : ℕ) → run ≡ get
 range_at runs run k e fits = get_or-map bounds runs k run (0, 0) fits ∙ ap bounds (sym e)
 
 pub part_after : (runs read : List (Range ℕ)) (k : ℕ) → read ≡ runs → map bounds (take (length read - k) (drop k read)) ≡ drop k (map bounds runs)
-part_after runs read k e =
-    ap (map bounds) (between_to_end read k (length read) (le_refl (length read)))
-    ∙ ap (λ (xs : List (Range ℕ)). map bounds (drop k xs)) e
-    ∙ map-drop bounds k runs
+part_after runs read k e = grind (arith, between_to_end, map-drop)
 
 part_before : (runs read : List (Range ℕ)) (k : ℕ) → read ≡ runs → map bounds (take k read) ≡ take k (map bounds runs)
 part_before runs read k e = ap (λ (xs : List (Range ℕ)). map bounds (take k xs)) e ∙ map-take bounds k runs
 
 pub forwards-in_order : (runs read : List (Range ℕ)) (k : ℕ) → read ≡ runs → IsTrue (are_ordered (map bounds runs)) → IsTrue (are_ordered (map bounds (take (length read - k) (drop k read))))
-forwards-in_order runs read k e h = subst (λ (xs : List (ℕ × ℕ)). IsTrue (are_ordered xs)) (sym (part_after runs read k e)) (are_ordered-drop 0 k (map bounds runs) h)
+forwards-in_order runs read k e h = grind (arith, part_after, are_ordered-drop) steps 400000
 
 pub backwards-in_order : (runs read : List (Range ℕ)) (k : ℕ) → read ≡ runs → IsTrue (are_ordered (map bounds runs)) → IsTrue (are_ordered (map bounds (take k read)))
-backwards-in_order runs read k e h = subst (λ (xs : List (ℕ × ℕ)). IsTrue (are_ordered xs)) (sym (part_before runs read k e)) (are_ordered-take 0 k (map bounds runs) h)
+backwards-in_order runs read k e h = grind (arith, part_before, are_ordered-take) steps 400000
 
 pub forwards-start : (runs read : List (Range ℕ)) (run : Range ℕ) (pos k : ℕ) → read ≡ runs → run ≡ get_or runs k run → k < length runs
     → between pos run.end ++ units_in_runs (map bounds (take (length read - (k + 1)) (drop (k + 1) read))) ≡ units_from (map bounds runs) pos k
-forwards-start runs read run pos k e is fits =
-    ap (λ (xs : List (ℕ × ℕ)). between pos run.end ++ units_in_runs xs) (part_after runs read (k + 1) e)
-    ∙ ap (λ (r : ℕ × ℕ). between pos r.1 ++ units_in_runs (drop (k + 1) (map bounds runs))) (sym (range_at runs run k is fits))
+forwards-start runs read run pos k e is fits = grind (arith, part_after, range_at)
 
 pub backwards-start : (runs read : List (Range ℕ)) (run : Range ℕ) (pos k : ℕ) → read ≡ runs → run ≡ get_or runs k run → k < length runs
     → reverse (units_in_runs (map bounds (take k read)) ++ between run.start pos) ≡ units_below (map bounds runs) pos k
-backwards-start runs read run pos k e is fits =
-    ap (λ (xs : List (ℕ × ℕ)). reverse (units_in_runs xs ++ between run.start pos)) (part_before runs read k e)
-    ∙ ap (λ (r : ℕ × ℕ). reverse (units_in_runs (take k (map bounds runs)) ++ between r.0 pos)) (sym (range_at runs run k is fits))
+backwards-start runs read run pos k e is fits = grind (arith, part_before, range_at)
 
 -- what a sequence has
 pub is_run_sequence-ordered : (runs : List (ℕ × ℕ)) (sos eos : BidiClass) → IsTrue (is_run_sequence runs sos eos) → IsTrue (are_ordered runs)
-is_run_sequence-ordered runs sos eos h = (and_parts (are_ordered runs) (is_l_or_r sos && is_l_or_r eos) (and_parts (ltb 0 (length runs)) (are_ordered runs && (is_l_or_r sos && is_l_or_r eos)) h).1).0
+is_run_sequence-ordered runs sos eos h = grind arith steps 400000
 
 -- one more range after all others
 pub are_ordered-push : (low : ℕ) (runs : List (ℕ × ℕ)) (r : ℕ × ℕ) → low ≤ r.0 → r.0 < r.1 → All (λ (q : ℕ × ℕ). q.1 ≤ r.0) runs → are_ordered_from low runs ≡ true → are_ordered_from low (runs ++ r ∷ []) ≡ true
@@ -174,9 +126,4 @@ are_ordered-push low (q ∷ runs) r from some all h =
     (are_ordered-push q.1 runs r (All-head (λ (x : ℕ × ℕ). x.1 ≤ r.0) q runs all) some (All-tail (λ (x : ℕ × ℕ). x.1 ≤ r.0) q runs all) others.1))
 
 pub is_run_sequence-push : (runs : List (ℕ × ℕ)) (r : ℕ × ℕ) (sos eos after : BidiClass) → r.0 < r.1 → All (λ (q : ℕ × ℕ). q.1 ≤ r.0) runs → IsTrue (is_l_or_r after) → IsTrue (is_run_sequence runs sos eos) → IsTrue (is_run_sequence (runs ++ r ∷ []) sos after)
-is_run_sequence-push runs r sos eos after some all side h =
-    let parts = and_parts (ltb 0 (length runs)) (are_ordered runs && (is_l_or_r sos && is_l_or_r eos)) h in
-    let others = and_parts (are_ordered runs) (is_l_or_r sos && is_l_or_r eos) parts.1 in
-    let sides = and_parts (is_l_or_r sos) (is_l_or_r eos) others.1 in
-    and_from _ _ (lt-ltb 0 (length (runs ++ r ∷ [])) (omega (arith, length-append runs (r ∷ []))))
-    (and_from _ _ (are_ordered-push 0 runs r (omega arith) some all others.0) (and_from _ _ sides.0 side))
+is_run_sequence-push runs r sos eos after some all side h = grind (arith, length-append, are_ordered-push)

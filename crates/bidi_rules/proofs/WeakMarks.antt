@@ -1,6 +1,6 @@
 -- W1 over units, one after another.
-use Rattle.std.proofs.Common.{◌≡◌, ℕ, zero, suc, ◌+◌, ◌-◌, ◌*◌, ◌/◌, ◌<◌, ◌≤◌, Bool, true, false, List, [], ◌∷◌, ◌++◌, length, map, get_or, set, take, drop, subst, refl, sym, ap, ◌∙◌, arith, inl, inr, append_assoc, append-nil, length-set, length-take, length-drop, get_or-set_same, get_or-set_other}
-use Rattle.std.specs.Prelude.{All, filter, min, slice_range}
+use Rattle.std.proofs.Common.{◌≡◌, ℕ, zero, suc, ◌+◌, ◌-◌, ◌<◌, ◌≤◌, Bool, true, false, List, [], ◌∷◌, ◌++◌, length, map, get_or, set, take, drop, subst, refl, sym, ap, ◌∙◌, arith, inl, inr, append_assoc, append-nil, length-set, length-take, length-drop, get_or-set_same, get_or-set_other}
+use Rattle.std.specs.Prelude.{All, filter, slice_range}
 use Rattle.std.specs.List.{list_any, range_with_len}
 use Rattle.std.specs.declared.ops.Range.{Range}
 use Rattle.std.proofs.lemmas.List.{get_or-take, get_or-drop}
@@ -9,7 +9,7 @@ use Rattle.std.proofs.lemmas.List.Folds.{list_any_at}
 use Rattle.std.proofs.lemmas.Bool.{cases_eq, cases_Bool, both_ways, and_parts, and_left, or_cases, or_parts}
 use Rattle.bidi_base.specs.Units.{are_ordered, bounds, in_runs}
 use Rattle.bidi_base.specs.declared.char_data.BidiClass.{BidiClass}
-use Rattle.bidi_base.specs.declared.char_data.BidiClass.TheVariants.{L, NSM, LRI, RLI, FSI, PDI}
+use Rattle.bidi_base.specs.declared.char_data.BidiClass.TheVariants.{L, NSM}
 use Rattle.bidi_base.specs.Classes.{is_kept_in_place, is_nsm}
 use Rattle.bidi_base.specs.Places.{at_places, class_at}
 use Rattle.bidi_base.specs.Weak.{carried}
@@ -18,32 +18,17 @@ use Rattle.bidi_rules.specs.WeakPass.{marked, after_w1}
 use Rattle.bidi_rules.specs.WeakWalk.{is_seen, part_of, is_any, is_any_of, wide_part_of, is_any_wide, seen_from, seen_units, AreMarked, IsMarked}
 use Rattle.bidi_rules.proofs.FoldAny.{fold_any}
 use Rattle.bidi_rules.proofs.InRuns.{in_run, in_run-true, start_or, start_within, gap_before, gap_after, next_start}
-use Rattle.bidi_rules.proofs.Marks.{marked-none, marked-parts, marked-empty, marked-one, at_marked-same}
+use Rattle.bidi_rules.proofs.Marks.{marked-parts, marked-empty, marked-one, at_marked-same}
 
 carried-kept : (c : BidiClass) → is_kept_in_place c ≡ true → is_kept_in_place (carried c) ≡ true
-carried-kept LRI h = refl
-carried-kept RLI h = refl
-carried-kept FSI h = refl
-carried-kept PDI h = refl
-carried-kept _ h = h
+carried-kept c h = grind arith
 
 marked-kept : (m c : BidiClass) → is_kept_in_place m ≡ true → is_kept_in_place (marked m c) ≡ is_kept_in_place c
-marked-kept m NSM h = h
-marked-kept m _ h = refl
+marked-kept m c h = grind arith
 
 module _ (runs : List (ℕ × ℕ)) (sos : BidiClass) (old : List BidiClass) where
   pub AreMarked-start : is_kept_in_place sos ≡ true → AreMarked runs sos old old sos 0
-  AreMarked-start kept = record { answers = refl; unread = λ k from. refl; unseen = λ k none. refl; kept = λ k. refl; takes = kept; inside = omega arith; long = refl }
-
-  pub AreMarked-end : (now : List BidiClass) (mark : BidiClass) → AreMarked runs sos old now mark (length old) → IsMarked runs sos old now
-  AreMarked-end now mark h = record {
-    answers = sym (append-nil (at_places L now (seen_units runs old)))
-        ∙ ap (λ (us : List ℕ). at_places L now (seen_units runs old) ++ after_w1 mark (at_places L old us)) (sym (marked-none (is_seen runs old) (length old) (length old) (omega arith)))
-        ∙ h.answers;
-    unseen = h.unseen;
-    kept = h.kept;
-    long = h.long;
-  }
+  AreMarked-start kept = grind arith steps 400000
 
   module _ (now : List BidiClass) (mark : BidiClass) (i : ℕ) (h : AreMarked runs sos old now mark i) where
     abbrev us : ℕ → ℕ → List ℕ
@@ -125,11 +110,9 @@ in_part : (test : BidiClass → Bool) (units : List BidiClass) (start end u : �
 in_part test units start end u fits from below none =
     let part = take (end - start) (drop start units) in
     let at : start + (u - start) ≡ u = omega arith in
-    let read : get_or part (u - start) L ≡ class_at units u = get_or-take (end - start) (drop start units) (u - start) L (omega arith) ∙ get_or-drop start units (u - start) L ∙ ap (class_at units) at in
+    let read : get_or part (u - start) L ≡ class_at units u = grind (arith, get_or-take, get_or-drop) in
     elim (cases_Bool (test (class_at units u))) [
-      | inl passes ↦
-          absurd (both_ways (list_any test part) none
-          (list_any_at test part (u - start) L (omega (arith, length-take (end - start) (drop start units), length-drop start units)) (ap test read ∙ passes)))
+      | inl passes ↦ grind (arith, list_any_at, length-take, length-drop)
       | inr fails ↦ fails
     ]
 
@@ -151,16 +134,13 @@ pub is_any-none : (test : BidiClass → Bool) (runs : List (Range ℕ)) (units :
 is_any-none test runs units within none = none_in part_of test units at runs within none
   where
     at : (r : ℕ × ℕ) (u : ℕ) → r.1 ≤ length units → r.0 ≤ u → u < r.1 → list_any test (part_of units r) ≡ false → test (class_at units u) ≡ false
-    at r u fits from below none = in_part test units (min r.0 (min r.1 (length units))) (min r.1 (length units)) u (omega arith) (omega arith) (omega arith) none
+    at r u fits from below none = grind (arith, in_part)
 
 pub is_any_wide-none : (test : BidiClass → Bool) (runs : List (Range ℕ)) (units : List BidiClass) → All (λ r. r.1 ≤ length units) (map bounds runs) → is_any_wide test runs units ≡ false → (u : ℕ) → in_runs (map bounds runs) u ≡ true → test (class_at units u) ≡ false
 is_any_wide-none test runs units within none = none_in wide_part_of test units at runs within none
   where
     at : (r : ℕ × ℕ) (u : ℕ) → r.1 ≤ length units → r.0 ≤ u → u < r.1 → list_any test (wide_part_of units r) ≡ false → test (class_at units u) ≡ false
-    at r u fits from below none =
-        let end = min r.1 (length units) in
-        let start = min r.0 end in
-        in_part test units start (min (start + (end - start + 31) / 32 * 32) (length units)) u (omega arith) (omega arith) (omega arith) none
+    at r u fits from below none = grind (arith, in_part)
 
 -- so of the units that are seen
 pub All-seen : (P : ℕ → Type 0) (runs : List (ℕ × ℕ)) (units : List BidiClass) → ((u : ℕ) → in_runs runs u ≡ true → P u) → All P (seen_units runs units)

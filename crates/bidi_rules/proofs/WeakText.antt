@@ -1,23 +1,20 @@
 -- The weak passes over the units of a text: what stands at the characters once all are done.
-use Rattle.std.proofs.Common.{◌≡◌, ℕ, zero, suc, ◌+◌, ◌-◌, ◌<◌, ◌≤◌, Bool, true, false, ◌&&◌, List, [], ◌∷◌, length, map, get_or, take, None, refl, sym, ap, subst, ◌∙◌, arith, inl, inr}
+use Rattle.std.proofs.Common.{◌≡◌, ℕ, zero, suc, ◌+◌, ◌-◌, ◌<◌, ◌≤◌, Bool, true, false, List, [], ◌∷◌, length, map, get_or, take, None, refl, sym, ap, subst, ◌∙◌, arith, inl, inr}
 use Rattle.std.specs.Prelude.{All, filter}
 use Rattle.std.specs.List.{range_with_len}
-use Rattle.std.specs.Option.{option_map_or}
-use Rattle.std.proofs.lemmas.Bool.{cases_Bool, cases_lt, cases_eq, and_parts, and_left, and_right, lt-ltb, le-ltb, ne_eqb}
+use Rattle.std.proofs.lemmas.Bool.{cases_Bool, cases_eq, and_parts, and_left, and_right, le-ltb, ne_eqb}
 use Rattle.std.proofs.lemmas.List.{length-map}
 use Rattle.std.proofs.lemmas.List.Sums.{sum_by-cons}
-use Rattle.std.proofs.lemmas.List.Elements.{All-weaker}
 use Rattle.bidi_base.specs.declared.char_data.BidiClass.{BidiClass}
 use Rattle.bidi_base.specs.declared.char_data.BidiClass.TheVariants.{L, BN}
 use Rattle.bidi_base.specs.Classes.{is_kept_in_place, is_l}
 use Rattle.bidi_base.specs.Places.{at_places, class_at}
 use Rattle.bidi_base.specs.Weak.{carried, w1_rule, w1, weak_classes}
-use Rattle.bidi_base.specs.Text.{is_per_char, char_at, place, char_index, per_unit, IsLine, IsPerChar}
+use Rattle.bidi_base.specs.Text.{is_per_char, char_at, place, per_unit, IsLine, IsPerChar}
 use Rattle.bidi_base.specs.Units.{are_ordered, in_runs, kept_in_place, units_in_runs, AreLines}
 use Rattle.bidi_base.proofs.PlaceLemmas.{char_at-place, line_places, place-more, place-mono, unit_of}
 use Rattle.bidi_base.proofs.TextLemmas.{HasUnits, is_boundary-le}
 use Rattle.bidi_base.proofs.UnitsLemmas.{length-from_IsPerChar, is_per_char-from_IsPerChar}
-use Rattle.bidi_base.proofs.ChainLemmas.{filter_range-agree}
 use Rattle.bidi_base.proofs.PerCharTests.{class_eq, class_test}
 use Rattle.bidi_base.proofs.PlacesLemmas.{length-in_context}
 use Rattle.bidi_base.proofs.RepeatedPlaces.{AreIndexes, units_of_chars, read_units-is, read_units-new, kept_in_place-AreIndexes}
@@ -36,9 +33,7 @@ use Rattle.bidi_rules.proofs.WeakUnits.{walked-chars}
 
 char_at-inside : (len_of : ℕ → ℕ) → HasUnits len_of → (chars : List ℕ) (k j : ℕ) → k < length chars → 0 < j → j < len_of (get_or chars k 0) → char_at len_of chars (place len_of chars k + j) ≡ None
 char_at-inside len_of h [] k j fits some below = absurd (omega arith)
-char_at-inside len_of h (c ∷ chars) zero j fits some below =
-    let at : place len_of (c ∷ chars) 0 + j ≡ j = omega arith in
-    rw (at, ne_eqb j 0 (λ e. omega arith), lt-ltb j (len_of c) below) refl
+char_at-inside len_of h (c ∷ chars) zero j fits some below = grind arith
 char_at-inside len_of h (c ∷ chars) (suc k) j fits some below =
     let more : place len_of (c ∷ chars) (suc k) ≡ len_of c + place len_of chars k = sum_by-cons len_of c (take k chars) in
     let units = h c in
@@ -47,7 +42,7 @@ char_at-inside len_of h (c ∷ chars) (suc k) j fits some below =
 
 module _ (len_of : ℕ → ℕ) (h : HasUnits len_of) (chars : List ℕ) where
   pub len_at-place : (k : ℕ) → k < length chars → len_at len_of chars (place len_of chars k) ≡ len_of (get_or chars k 0)
-  len_at-place k fits = ap (λ o. option_map_or (λ (e : ℕ × ℕ). e.1) o 1) (char_at-place len_of h chars k 0 fits)
+  len_at-place k fits = grind (arith, char_at-place) steps 400000
 
   -- in a line
   pub IsWhole-line : (classes : List BidiClass) → IsPerChar len_of chars classes → (start end : ℕ) → IsLine len_of chars start end → (u : ℕ) → start ≤ u → u < end → IsWhole (len_at len_of chars) classes end u
@@ -64,20 +59,10 @@ module _ (len_of : ℕ → ℕ) (h : HasUnits len_of) (chars : List ℕ) where
             let ends = l.ends in
             record {
               some = omega (arith, h (get_or chars k 0));
-              within = elim (cases_lt k (char_index len_of chars end)) [
-                | inl inside ↦ omega (arith, place-mono len_of chars (k + 1) (char_index len_of chars end) (omega arith))
-                | inr past ↦ absurd (omega (arith, place-mono len_of chars (char_index len_of chars end) k past))
-              ];
-              alike = λ v a b. alike_class len_of h chars classes per k v w.within (omega arith) (omega arith) ∙ sym (ap (class_at classes) begins);
+              within = grind (arith, place-mono);
+              alike = λ v a b. grind (arith, alike_class);
             }
-        | inr later ↦
-            let size : len_at len_of chars u ≡ 1 =
-            ap (len_at len_of chars) at ∙ ap (λ o. option_map_or (λ (e : ℕ × ℕ). e.1) o 1) (char_at-inside len_of h chars k w.offset w.within (omega arith) w.below) in
-            record {
-              some = omega arith;
-              within = omega arith;
-              alike = λ v a b. let same : v ≡ u = omega arith in ap (class_at classes) same;
-            }
+        | inr later ↦ grind (arith, char_at-inside)
       ]
 
 -- ---- the passes, one behind another
@@ -99,9 +84,7 @@ at_marked-map f mark xs ys low (suc n) h = elim (cases_Bool (mark low)) [
 
 module _ (len_of : ℕ → ℕ) (h : HasUnits len_of) (chars : List ℕ) (runs : List (ℕ × ℕ)) (lines : AreLines len_of chars runs) (ordered : are_ordered runs ≡ true) (sos : BidiClass) where
   pub lines-within : (classes : List BidiClass) → IsPerChar len_of chars classes → All (λ r. r.1 ≤ length classes) runs
-  lines-within classes per =
-      let size = length-from_IsPerChar len_of chars classes per in
-      All-weaker (λ (r : ℕ × ℕ). IsLine len_of chars r.0 r.1) (λ (r : ℕ × ℕ). r.1 ≤ length classes) (λ r line. omega (arith, is_boundary-le len_of chars r.1 line.ends, size)) runs lines
+  lines-within classes per = grind (arith, length-from_IsPerChar, is_boundary-le)
 
   module _ (old : List BidiClass) (per : IsPerChar len_of chars old) (c1 : List BidiClass) (marks : IsMarked runs (carried sos) old c1) where
     w1-is : at_places L c1 (seen_units runs old) ≡ w1 sos (at_places L old (seen_units runs old))
@@ -124,25 +107,11 @@ module _ (len_of : ℕ → ℕ) (h : HasUnits len_of) (chars : List ℕ) (runs :
       answers = weak_classes sos (at_places L old (map (place len_of chars) ks))
 
       seen-same : seen_units runs c1 ≡ seen_units runs old
-      seen-same =
-          ap (λ n. filter (is_seen runs c1) (range_with_len 0 (n - 0))) marks.long
-          ∙ filter_range-agree (is_seen runs c1) (is_seen runs old) 0 (length old - 0) (λ k from below. ap (λ b. in_runs runs k && b) (marks.kept k))
+      seen-same = grind arith
 
       -- nothing else is written
       unseen : (u : ℕ) → is_seen runs old u ≡ false → class_at c3 u ≡ class_at old u
-      unseen u none =
-          let before : class_at c2 u ≡ class_at old u = numbers.unseen u (ap (λ b. in_runs runs u && b) (marks.kept u) ∙ none) ∙ marks.unseen u none in
-          elim (cases_Bool (in_runs runs u)) [
-            | inl inside ↦ changed u inside ∙ ap left_over before ∙ bn_stays (class_at old u) (by_parts (in_runs runs u) (is_kept_in_place (class_at old u)) inside none)
-            | inr out ↦ same u out ∙ before
-          ]
-        where
-          bn_stays : (c : BidiClass) → is_kept_in_place c ≡ false → left_over c ≡ c
-          bn_stays BN e = refl
-          bn_stays _ e = absurd (cc e)
-
-          by_parts : (a b : Bool) → a ≡ true → (a && b) ≡ false → b ≡ false
-          by_parts a b e f = grind arith
+      unseen u none = grind arith
 
       -- at the units stands what the characters get
       at_units : at_places L c3 (filter (λ u. is_kept_in_place (class_at old u)) (units_in_runs runs)) ≡ per_unit len_of (at_places 0 chars ks) answers

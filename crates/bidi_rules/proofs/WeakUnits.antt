@@ -4,7 +4,7 @@ use Rattle.std.specs.Prelude.{All}
 use Rattle.std.specs.List.{range_with_len}
 use Rattle.std.proofs.lemmas.Bool.{cases_Bool}
 use Rattle.bidi_base.specs.declared.char_data.BidiClass.{BidiClass}
-use Rattle.bidi_base.specs.declared.char_data.BidiClass.TheVariants.{L, AL, EN, ES, ET, AN, CS, ON}
+use Rattle.bidi_base.specs.declared.char_data.BidiClass.TheVariants.{L, ET, ON}
 use Rattle.std.proofs.lemmas.List.{replicate-append-replicate}
 use Rattle.std.proofs.lemmas.List.Sums.{sum_by-append, sum_by-cons}
 use Rattle.std.proofs.lemmas.List.Elements.{All-head, All-tail}
@@ -14,7 +14,7 @@ use Rattle.bidi_base.specs.Text.{place, per_unit, text_len}
 use Rattle.bidi_base.proofs.RepeatedPlaces.{AreIndexes, units_of_chars}
 use Rattle.bidi_base.proofs.TextLemmas.{HasUnits}
 use Rattle.bidi_rules.specs.declared.implicit.weak.steps.Before.{Before}
-use Rattle.bidi_rules.specs.declared.implicit.weak.steps.Before.TheVariants.{Other, European, EuropeanTerminators, Arabic, Terminators, EuropeanSeparator, ArabicSeparator}
+use Rattle.bidi_rules.specs.declared.implicit.weak.steps.Before.TheVariants.{Other, Terminators}
 use Rattle.bidi_rules.specs.WeakPass.{strengthened, strong_up_to, after_w3, waits, joins, next_before, settled, resolved, w7_by, is_after_l, after_w7, left_over, is_number, still_to_come, walked}
 
 -- reading a second unit of a class that need not wait changes nothing
@@ -24,48 +24,16 @@ record IsSteady (c strong : BidiClass) (before : Before) : Type 0 where
   next : next_before (strengthened (strong_up_to strong c) c) (next_before (strengthened strong c) before) ≡ next_before (strengthened strong c) before
   own : w7_by (is_l (strong_up_to strong c)) (resolved (strengthened (strong_up_to strong c) c) (next_before (strengthened strong c) before)) ≡ w7_by (is_l strong) (resolved (strengthened strong c) before)
 
-is_steady : (c strong : BidiClass) (before : Before) → waits (next_before (strengthened strong c) before) ≡ false → IsSteady c strong before
-is_steady EN AL before h = record { now = refl; apart = refl; next = refl; own = refl }
-is_steady EN _ before h = record { now = refl; apart = refl; next = refl; own = refl }
-is_steady ET strong European h = record { now = refl; apart = refl; next = refl; own = refl }
-is_steady ET strong EuropeanTerminators h = record { now = refl; apart = refl; next = refl; own = refl }
-is_steady ET strong _ h = absurd (cc h)
-is_steady ES strong European h = absurd (cc h)
-is_steady ES strong _ h = record { now = refl; apart = refl; next = refl; own = refl }
-is_steady CS strong European h = absurd (cc h)
-is_steady CS strong Arabic h = absurd (cc h)
-is_steady CS strong _ h = record { now = refl; apart = refl; next = refl; own = refl }
-is_steady _ strong before h = record { now = refl; apart = refl; next = refl; own = refl }
-
--- what is a terminator
-joins-terminators : (c strong : BidiClass) (before : Before) → joins (strengthened strong c) before ≡ true → (c ≡ ET) × (before ≡ Terminators)
-joins-terminators ET strong Terminators h = (refl, refl)
-joins-terminators ET strong _ h = absurd (cc h)
-joins-terminators EN AL before h = absurd (cc h)
-joins-terminators EN _ before h = absurd (cc h)
-joins-terminators _ strong before h = absurd (cc h)
-
-terminators-next : (c strong : BidiClass) (before : Before) → next_before (strengthened strong c) before ≡ Terminators → c ≡ ET
-terminators-next ET strong before h = refl
-terminators-next EN AL before h = absurd (cc h)
-terminators-next EN _ before h = absurd (cc h)
-terminators-next ES strong European h = absurd (cc h)
-terminators-next ES strong _ h = absurd (cc h)
-terminators-next CS strong European h = absurd (cc h)
-terminators-next CS strong Arabic h = absurd (cc h)
-terminators-next CS strong _ h = absurd (cc h)
-terminators-next _ strong before h = absurd (cc h)
-
 module _ (class : ℕ → BidiClass) (len : ℕ → ℕ) where
   -- the rest of a separator
   skipped : (strong : BidiClass) (before : Before) (m n a : ℕ) (us : List ℕ) → walked class len strong before m n (range_with_len a m ++ us) ≡ walked class len strong before 0 (n + m) us
-  skipped strong before zero n a us = let none : n ≡ n + 0 = omega arith in ap (λ k. walked class len strong before 0 k us) none
+  skipped strong before zero n a us = grind arith
   skipped strong before (suc m) n a us =
       skipped strong before m (suc n) (a + 1) us ∙ (let more : suc n + m ≡ n + suc m = omega arith in ap (λ k. walked class len strong before 0 k us) more)
 
   -- terminators that join those that wait
   joined : (strong : BidiClass) (m n a : ℕ) (us : List ℕ) → ((k : ℕ) → a ≤ k → k < a + m → class k ≡ ET) → walked class len strong Terminators 0 n (range_with_len a m ++ us) ≡ walked class len strong Terminators 0 (n + m) us
-  joined strong zero n a us each = let none : n ≡ n + 0 = omega arith in ap (λ k. walked class len strong Terminators 0 k us) none
+  joined strong zero n a us each = grind arith
   joined strong (suc m) n a us each =
       let here : class a ≡ ET = each a (omega arith) (omega arith) in
       (rw here refl)
@@ -74,21 +42,7 @@ module _ (class : ℕ → BidiClass) (len : ℕ → ℕ) where
 
   held_rest : (strong : BidiClass) (next : Before) (m a : ℕ) (us : List ℕ) → waits next ≡ true → (next ≡ Terminators → (k : ℕ) → a ≤ k → k < a + m → class k ≡ ET)
       → walked class len strong next (still_to_come next (suc m)) 1 (range_with_len a m ++ us) ≡ walked class len strong next 0 (suc m) us
-  held_rest strong Terminators m a us h each =
-      joined strong m 1 a us (each refl) ∙ (let more : 1 + m ≡ suc m = omega arith in ap (λ k. walked class len strong Terminators 0 k us) more)
-  held_rest strong EuropeanSeparator m a us h each =
-      let left : suc m - 1 ≡ m = omega arith in
-      let more : 1 + m ≡ suc m = omega arith in
-      ap (λ k. walked class len strong EuropeanSeparator k 1 (range_with_len a m ++ us)) left
-      ∙ skipped strong EuropeanSeparator m 1 a us
-      ∙ ap (λ k. walked class len strong EuropeanSeparator 0 k us) more
-  held_rest strong ArabicSeparator m a us h each =
-      let left : suc m - 1 ≡ m = omega arith in
-      let more : 1 + m ≡ suc m = omega arith in
-      ap (λ k. walked class len strong ArabicSeparator k 1 (range_with_len a m ++ us)) left
-      ∙ skipped strong ArabicSeparator m 1 a us
-      ∙ ap (λ k. walked class len strong ArabicSeparator 0 k us) more
-  held_rest strong _ m a us h each = absurd (cc h)
+  held_rest strong next m a us h each = grind (arith, joined, skipped)
 
   -- one unit, by what its class does
   first : (strong c : BidiClass) (before : Before) (n a : ℕ) (us : List ℕ) → class a ≡ c → walked class len strong before 0 n (a ∷ us)
@@ -116,9 +70,7 @@ module _ (class : ℕ → BidiClass) (len : ℕ → ℕ) where
     own = w7_by (is_l strong) (resolved z before)
 
     pub row-joins : (m n a : ℕ) (us : List ℕ) → ((k : ℕ) → a ≤ k → k < a + m → class k ≡ c) → joins z before ≡ true → walked class len strong before 0 n (range_with_len a m ++ us) ≡ walked class len now next 0 (n + m) us
-    row-joins m n a us each h =
-        let parts = joins-terminators c strong before h in
-        rw (parts.0, parts.1) (joined strong m n a us (λ k from below. each k from below ∙ parts.0))
+    row-joins m n a us each h = grind (arith, joined)
 
     decided : IsSteady c strong before → waits next ≡ false → (m a : ℕ) (us : List ℕ) → ((k : ℕ) → a ≤ k → k < a + m → class k ≡ c) → walked class len now next 0 0 (range_with_len a m ++ us) ≡ replicate m own ++ walked class len now next 0 0 us
     decided s free zero a us each = refl
@@ -129,19 +81,11 @@ module _ (class : ℕ → BidiClass) (len : ℕ → ℕ) where
 
     pub row-waits : (m n a : ℕ) (us : List ℕ) → ((k : ℕ) → a ≤ k → k < a + suc m → class k ≡ c) → joins z before ≡ false → waits next ≡ true → still_to_come next (len a) ≡ still_to_come next (suc m)
         → walked class len strong before 0 n (range_with_len a (suc m) ++ us) ≡ replicate n (w7_by (is_l strong) (settled z before)) ++ walked class len now next 0 (suc m) us
-    row-waits m n a us each apart wait count =
-        first strong c before n a (range_with_len (a + 1) m ++ us) (each a (omega arith) (omega arith))
-        ∙ rw (apart, wait, count)
-        (ap (λ (cs : List BidiClass). replicate n (w7_by (is_l strong) (settled z before)) ++ cs)
-        (held_rest now next m (a + 1) us wait (λ e k from below. each k (omega arith) (omega arith) ∙ terminators-next c strong before e)))
+    row-waits m n a us each apart wait count = grind (arith, held_rest)
 
     pub row-decides : (m n a : ℕ) (us : List ℕ) → ((k : ℕ) → a ≤ k → k < a + suc m → class k ≡ c) → joins z before ≡ false → waits next ≡ false
         → walked class len strong before 0 n (range_with_len a (suc m) ++ us) ≡ replicate n (w7_by (is_l strong) (settled z before)) ++ (replicate (suc m) own ++ walked class len now next 0 0 us)
-    row-decides m n a us each apart free =
-        first strong c before n a (range_with_len (a + 1) m ++ us) (each a (omega arith) (omega arith))
-        ∙ rw (apart, free)
-        (ap (λ (cs : List BidiClass). replicate n (w7_by (is_l strong) (settled z before)) ++ own ∷ cs)
-        (decided (is_steady c strong before free) free m (a + 1) us (λ k from below. each k (omega arith) (omega arith))))
+    row-decides m n a us each apart free = grind (arith, decided)
 
 -- ---- where no number stands, each class changes by itself
 
@@ -159,13 +103,7 @@ record IsPlain (c strong : BidiClass) (before : Before) : Type 0 where
   own : waits (next_before (strengthened strong c) before) ≡ false → w7_by (is_l strong) (resolved (strengthened strong c) before) ≡ left_over c
 
 is_plain : (c strong : BidiClass) (before : Before) → is_number c ≡ false → is_idle before ≡ true → IsPlain c strong before
-is_plain EN strong before h idle = absurd (cc h)
-is_plain AN strong before h idle = absurd (cc h)
-is_plain ET strong Other h idle = record { next = refl; none = λ n. refl; held = refl; joined = λ j. refl; waiting = λ w. refl; own = λ w. absurd (cc w) }
-is_plain ET strong Terminators h idle = record { next = refl; none = λ n. refl; held = refl; joined = λ j. refl; waiting = λ w. refl; own = λ w. absurd (cc w) }
-is_plain c strong Other h idle = record { next = refl; none = λ n. refl; held = refl; joined = λ j. absurd (cc j); waiting = λ w. absurd (cc w); own = λ w. refl }
-is_plain c strong Terminators h idle = record { next = refl; none = λ n. refl; held = refl; joined = λ j. absurd (cc j); waiting = λ w. absurd (cc w); own = λ w. refl }
-is_plain c strong _ h idle = absurd (cc idle)
+is_plain c strong before h idle = grind arith
 
 held_front : (n : ℕ) (xs : List BidiClass) → ON ∷ (replicate n ON ++ xs) ≡ replicate n ON ++ ON ∷ xs
 held_front zero xs = refl
@@ -183,18 +121,13 @@ walked-plain classes len (u ∷ us) none strong before n idle =
     let later = walked-plain classes len us (All-tail (λ u. is_number (class_at classes u) ≡ false) u us none) (strong_up_to strong c) next in
     elim (cases_Bool (joins z before)) [
       | inl joins' ↦ rw (joins', p.joined joins') (later (suc n) p.next ∙ held_front n rest)
-      | inr apart ↦ elim (cases_Bool (waits next)) [
-        | inl wait ↦ rw (apart, p.held, wait, p.none (len u), p.waiting wait) (ap (λ (cs : List BidiClass). replicate n ON ++ cs) (later 1 p.next))
-        | inr free ↦ rw (apart, p.held, free, p.own free) (ap (λ (cs : List BidiClass). replicate n ON ++ left_over c ∷ cs) (later 0 p.next))
-      ]
+      | inr apart ↦ grind arith
     ]
 
 -- ---- over the characters
 
 left-next : (strong c : BidiClass) → is_after_l (is_l strong) (strengthened strong c) ≡ is_l (strong_up_to strong c)
-left-next AL EN = refl
-left-next strong EN = refl
-left-next strong _ = refl
+left-next strong c = grind arith
 
 -- what waits in front of the others
 per_unit-held : (len_of : ℕ → ℕ) (held cs : List ℕ) (v : BidiClass) (xs : List BidiClass) → per_unit len_of (held ++ cs) (replicate (length held) v ++ xs) ≡ replicate (text_len len_of held) v ++ per_unit len_of cs xs
@@ -237,7 +170,7 @@ module _ (len_of : ℕ → ℕ) (h : HasUnits len_of) (chars : List ℕ) (classe
       let each : (u : ℕ) → a ≤ u → u < a + suc m → class_at classes u ≡ c =
       λ u from below. (let at : u ≡ a + (u - a) = omega arith in ap (class_at classes) at) ∙ alike k (u - a) fits (omega arith) in
       let start : walked (class_at classes) len strong before 0 n (range_with_len a (len_of char) ++ us) ≡ walked (class_at classes) len strong before 0 n (range_with_len a (suc m) ++ us) =
-      ap (λ (l : ℕ). walked (class_at classes) len strong before 0 n (range_with_len a l ++ us)) size in
+      grind arith in
       let one : text_len len_of (char ∷ []) ≡ suc m = sum_by-cons len_of char [] ∙ (let none : len_of char + 0 ≡ suc m = omega arith in none) in
       start ∙ elim (cases_Bool (joins z before)) [
         | inl joins' ↦

@@ -1,13 +1,14 @@
 -- The steps of the walk over numbers, by stretches of units.
-use Rattle.std.proofs.Common.{◌≡◌, ℕ, zero, suc, ◌+◌, ◌-◌, ◌<◌, ◌≤◌, Bool, true, false, ◌&&◌, List, [], ◌∷◌, ◌++◌, length, get_or, map, take, drop, reverse, replicate, refl, sym, ap, subst, ◌∙◌, arith, inl, inr, append-nil, append_assoc, length-append, length-drop, get_or-drop}
+use Rattle.std.proofs.Common.{◌≡◌, ℕ, zero, suc, ◌+◌, ◌-◌, ◌<◌, ◌≤◌, Bool, true, false, List, [], ◌∷◌, ◌++◌, length, get_or, map, take, drop, reverse, replicate, refl, sym, ap, subst, ◌∙◌, arith, inl, inr, append-nil, append_assoc, length-append, get_or-drop}
+use Rattle.std.proofs.lemmas.Grind.{common_steps}
 use Rattle.std.specs.Prelude.{All}
 use Rattle.std.specs.List.{range_with_len}
-use Rattle.std.proofs.lemmas.Bool.{cases_Bool, cases_lt, both_ways, and_from, and_left, and_right}
-use Rattle.std.proofs.lemmas.List.{map-append, reverse-append, take_more}
+use Rattle.std.proofs.lemmas.Bool.{cases_Bool, cases_lt, both_ways, and_left, and_right}
+use Rattle.std.proofs.lemmas.List.{map-append}
 use Rattle.std.proofs.lemmas.List.FromFn.{length-range_with_len}
 use Rattle.std.specs.declared.ops.Range.{Range}
 use Rattle.bidi_base.specs.declared.char_data.BidiClass.{BidiClass}
-use Rattle.bidi_base.specs.declared.char_data.BidiClass.TheVariants.{L, AL, EN, ET, AN, BN, ON}
+use Rattle.bidi_base.specs.declared.char_data.BidiClass.TheVariants.{L, ON}
 use Rattle.bidi_base.specs.Classes.{is_l, is_strong, is_kept_in_place}
 use Rattle.bidi_base.specs.Places.{at_places, class_at, nearest}
 use Rattle.bidi_base.specs.Units.{are_ordered, bounds, in_runs}
@@ -15,69 +16,36 @@ use Rattle.bidi_base.proofs.PlacesLemmas.{nearest-more}
 use Rattle.bidi_base.proofs.StoredLemmas.{at_places-append}
 use Rattle.bidi_rules.specs.declared.implicit.weak.numbers.Walk.{Walk}
 use Rattle.bidi_rules.specs.declared.implicit.weak.steps.Before.{Before}
-use Rattle.bidi_rules.specs.declared.implicit.weak.steps.Before.TheVariants.{European, EuropeanTerminators, Terminators, EuropeanSeparator, ArabicSeparator, Other}
+use Rattle.bidi_rules.specs.declared.implicit.weak.steps.Before.TheVariants.{Other}
 use Rattle.bidi_rules.specs.WeakPass.{is_asked, is_other, strengthened, strong_up_to, waits, joins, next_before, settled, resolved, w7_by, left_over, is_number, still_to_come, walked}
 use Rattle.bidi_rules.specs.WeakWalk.{is_seen, seen_units, IsWrittenOver, Pass, seen, units, IsUnderWay, IsStretch, IsWalked}
 use Rattle.bidi_rules.proofs.InRuns.{in_runs-at, in_runs-drop, start_or, start_within, gap_before, gap_after, next_start}
 use Rattle.bidi_rules.proofs.Marks.{marked-none, marked-parts, marked-empty, marked-full, at_marked-same, at_marked-all}
 use Rattle.bidi_rules.proofs.WeakMarks.{All-seen}
 use Rattle.bidi_rules.proofs.WeakUnits.{walked-plain, row-joins, row-waits, row-decides}
-use Rattle.bidi_rules.proofs.WrittenOver.{IsWrittenOver-same_test}
 
 -- ---- what is written is not changed by W3 and W6
 
-number_stays : (b : Bool) → left_over (w7_by b EN) ≡ w7_by b EN
-number_stays true = refl
-number_stays false = refl
-
 settled-stays : (c strong : BidiClass) (b : Bool) (before : Before) → left_over (w7_by b (settled (strengthened strong c) before)) ≡ w7_by b (settled (strengthened strong c) before)
-settled-stays EN AL b ArabicSeparator = refl
-settled-stays EN AL b _ = refl
-settled-stays EN _ b Terminators = number_stays b
-settled-stays EN _ b EuropeanSeparator = number_stays b
-settled-stays EN _ b _ = refl
-settled-stays AN strong b ArabicSeparator = refl
-settled-stays AN strong b _ = refl
-settled-stays _ strong b before = refl
+settled-stays c strong b before = grind arith
 
 pub resolved-stays : (c strong : BidiClass) (b : Bool) (before : Before) → left_over (w7_by b (resolved (strengthened strong c) before)) ≡ w7_by b (resolved (strengthened strong c) before)
-resolved-stays EN AL b before = refl
-resolved-stays EN _ b before = number_stays b
-resolved-stays ET strong b European = number_stays b
-resolved-stays ET strong b EuropeanTerminators = number_stays b
-resolved-stays ET strong b _ = refl
-resolved-stays _ strong b before = refl
+resolved-stays c strong b before = grind arith
 
 stays-row : (n : ℕ) (v : BidiClass) → left_over v ≡ v → map left_over (replicate n v) ≡ replicate n v
 stays-row zero v h = refl
 stays-row (suc n) v h = rw h (ap (λ (cs : List BidiClass). v ∷ cs) (stays-row n v h))
 
 pub joins-waits : (z : BidiClass) (before : Before) → joins z before ≡ true → (waits before ≡ true) × (waits (next_before z before) ≡ true)
-joins-waits ET Terminators h = (refl, refl)
-joins-waits ET _ h = absurd (cc h)
-joins-waits _ before h = absurd (cc h)
+joins-waits z before h = grind arith
 
 -- the same walk, by its parts
 pub IsUnderWay-same : (p : Pass) (now now' : List BidiClass) (w w' : Walk) (i : ℕ) → now' ≡ now → w'.strong ≡ w.strong → w'.before ≡ w.before → w'.first ≡ w.first → w'.first_run ≡ w.first_run
     → IsUnderWay p now w i → IsUnderWay p now' w' i
-IsUnderWay-same p now now' w w' i a b c d e h = by_parts now' w'.strong w'.before w'.first w'.first_run a b c d e
-  where
-    by_parts : (now' : List BidiClass) (strong : BidiClass) (before : Before) (first first_run : ℕ) → now' ≡ now → strong ≡ w.strong → before ≡ w.before → first ≡ w.first → first_run ≡ w.first_run
-        → IsUnderWay p now' (record { strong = strong; before = before; first = first; first_run = first_run }) i
-    by_parts now' strong before first first_run a b c d e = rw (a, b, c, d, e) h
+IsUnderWay-same p now now' w w' i a b c d e h = grind arith
 
 pub IsUnderWay-start : (p : Pass) → IsUnderWay p p.old (record { strong = p.sos; before = Other; first = 0; first_run = 0 }) 0
-IsUnderWay-start p = record {
-  from = 0;
-  answers = refl;
-  unwritten = λ k a. refl;
-  unseen = λ k a. refl;
-  waiting = λ h. absurd (cc h);
-  idle = λ h. refl;
-  order = omega arith;
-  inside = omega arith;
-  long = refl;
-}
+IsUnderWay-start p = grind arith
 
 -- the walk behind a stretch of class c
 abbrev pub next_walk : Walk → BidiClass → ℕ → ℕ → Walk
@@ -97,14 +65,13 @@ module _ (p : Pass) (now : List BidiClass) (w : Walk) (i : ℕ) (h : IsUnderWay 
       let start : from ≤ i = h.order in
       let nothing : units p i j ≡ [] = marked-empty (seen p) i j none in
       let later : units p i (length p.old) ≡ units p j (length p.old) = marked-parts (seen p) i j (length p.old) order fits ∙ ap (λ (ps : List ℕ). ps ++ units p j (length p.old)) nothing in
-      let reads : map left_over (at_places L now (units p 0 from)) ++ rest w.strong w.before (length (units p from i)) j ≡ target =
-      ap (λ (ps : List ℕ). map left_over (at_places L now (units p 0 from)) ++ walked (class_at p.old) p.len w.strong w.before 0 (length (units p from i)) ps) (sym later) ∙ h.answers in
+      let reads : map left_over (at_places L now (units p 0 from)) ++ rest w.strong w.before (length (units p from i)) j ≡ target = grind arith in
       elim (cases_Bool (waits w.before)) [
         | inl wait ↦
             let held' : units p from j ≡ units p from i = marked-parts (seen p) from i j start order ∙ ap (λ (ps : List ℕ). units p from i ++ ps) nothing ∙ append-nil (units p from i) in
             record {
               from = from;
-              answers = ap (λ (ps : List ℕ). map left_over (at_places L now (units p 0 from)) ++ rest w.strong w.before (length ps) j) held' ∙ reads;
+              answers = grind arith;
               unwritten = h.unwritten;
               unseen = h.unseen;
               waiting = h.waiting;
@@ -119,9 +86,7 @@ module _ (p : Pass) (now : List BidiClass) (w : Walk) (i : ℕ) (h : IsUnderWay 
             let none_held : units p j j ≡ units p from i = marked-none (seen p) j j (omega arith) ∙ sym (marked-none (seen p) from i (omega arith)) in
             record {
               from = j;
-              answers = ap (λ (ps : List ℕ). map left_over (at_places L now ps) ++ rest w.strong w.before (length (units p j j)) j) front
-                  ∙ ap (λ (ps : List ℕ). map left_over (at_places L now (units p 0 from)) ++ rest w.strong w.before (length ps) j) none_held
-                  ∙ reads;
+              answers = grind arith;
               unwritten = λ k a. h.unwritten k (omega arith);
               unseen = h.unseen;
               waiting = λ wait. absurd (both_ways (waits w.before) free wait);
@@ -136,18 +101,7 @@ module _ (p : Pass) (now : List BidiClass) (w : Walk) (i : ℕ) (h : IsUnderWay 
   pub IsWrittenOver-settled : (v : BidiClass) (now1 : List BidiClass) → are_ordered p.runs ≡ true
       → (waits w.before ≡ true → IsWrittenOver (is_seen (drop w.first_run p.runs) now) v w.first i now now1) → (waits w.before ≡ false → now1 ≡ now)
       → IsWrittenOver (seen p) v h.from i now now1
-  IsWrittenOver-settled v now1 ordered some none = elim (cases_Bool (waits w.before)) [
-    | inl wait ↦
-        let r = h.waiting wait in
-        let run = r.run in
-        IsWrittenOver-same_test (is_seen (drop w.first_run p.runs) now) (seen p) v h.from i now now1
-        (λ k a b. ap (λ t. t && is_kept_in_place (class_at now k)) (in_runs-drop 0 w.first_run p.runs k ordered r.run_fits (omega arith)) ∙ ap (λ c. in_runs p.runs k && is_kept_in_place c) (h.unwritten k a))
-        (subst (λ (u : ℕ). IsWrittenOver (is_seen (drop w.first_run p.runs) now) v u i now now1) r.first (some wait))
-    | inr free ↦
-        let at : h.from ≡ i = h.idle free in
-        subst (IsWrittenOver (seen p) v h.from i now) (sym (none free))
-        (record { inside = λ k a b t. absurd (omega arith); failing = λ k t. refl; below = λ k a. refl; above = λ k a. refl; long = refl })
-  ]
+  IsWrittenOver-settled v now1 ordered some none = grind (arith, common_steps, in_runs-drop)
 
   -- the final classes below i, once it has
   front-written : (v : BidiClass) (now1 : List BidiClass) → IsWrittenOver (seen p) v h.from i now now1 → left_over v ≡ v
@@ -168,10 +122,7 @@ module _ (p : Pass) (now : List BidiClass) (w : Walk) (i : ℕ) (h : IsUnderWay 
       let top : length p.old ≡ i = omega arith in
       let n = length (units p h.from i) in
       record {
-        answers = ap (λ k. map left_over (at_places L now1 (units p 0 k))) top
-            ∙ front-written ON now1 s refl
-            ∙ ap (λ (ps : List ℕ). map left_over (at_places L now (units p 0 h.from)) ++ walked (class_at p.old) p.len w.strong w.before 0 n ps) (sym (marked-none (seen p) i (length p.old) past))
-            ∙ h.answers;
+        answers = grind (arith, front-written);
         unseen = λ k t. s.failing k t ∙ h.unseen k t;
         long = s.long ∙ h.long;
       }
@@ -206,11 +157,7 @@ module _ (p : Pass) (now : List BidiClass) (w : Walk) (i : ℕ) (h : IsUnderWay 
     m = j - i - 1
 
     pub seen-stretch : (k : ℕ) → i ≤ k → k < j → seen p k ≡ true
-    seen-stretch k a b =
-        let ends = s.run_ends in
-        let starts = s.run_starts in
-        and_from (in_runs p.runs k) (is_kept_in_place (class_at p.old k)) (subst (λ (rs : List (ℕ × ℕ)). in_runs rs k ≡ true) (sym s.runs_are) (in_runs-at run runs k s.run_fits (omega arith) (omega arith)))
-        (ap is_kept_in_place (s.alike k a b) ∙ s.kept)
+    seen-stretch k a b = grind (arith, in_runs-at)
 
     stretch : units p i j ≡ range_with_len i (suc m)
     stretch =
@@ -329,19 +276,13 @@ record IsPassed (c strong : BidiClass) (before : Before) : Type 0 where
   none : (n : ℕ) → still_to_come (next_before (strengthened strong c) before) n ≡ 0
 
 is_passed : (c strong : BidiClass) (before : Before) → is_asked c ≡ false → is_other before ≡ true → IsPassed c strong before
-is_passed EN strong before h other = absurd (cc h)
-is_passed AN strong before h other = absurd (cc h)
-is_passed ET strong before h other = absurd (cc h)
-is_passed _ strong Other h other = record { apart = refl; next = refl; free = refl; own = refl; none = λ n. refl }
-is_passed _ strong _ h other = absurd (cc other)
+is_passed c strong before h other = grind arith
 
 pub other-free : (before : Before) → is_other before ≡ true → waits before ≡ false
-other-free Other h = refl
-other-free _ h = absurd (cc h)
+other-free before h = grind arith
 
 removed-weak : (strong c : BidiClass) → is_kept_in_place c ≡ false → strong_up_to strong c ≡ strong
-removed-weak strong BN h = refl
-removed-weak strong _ h = absurd (cc h)
+removed-weak strong c h = grind arith
 
 pub IsUnderWay-passes : (p : Pass) (now : List BidiClass) (w : Walk) (i run : ℕ) → IsUnderWay p now w i → run < length p.runs → (get_or p.runs run (0, 0)).0 ≤ i → i < (get_or p.runs run (0, 0)).1 → i < length p.old
     → is_other w.before ≡ true → is_asked (class_at now i) ≡ false → IsUnderWay p now (record { strong = strong_up_to w.strong (class_at now i); before = w.before; first = w.first; first_run = w.first_run }) (i + 1)
@@ -364,7 +305,7 @@ IsUnderWay-passes p now w i run h fits starts ends inside other asked =
             run_ends = omega arith;
           } in
           let v = w7_by (is_l w.strong) (settled (strengthened w.strong c) w.before) in
-          let none : IsWrittenOver (seen p) v h.from i now now = record { inside = λ k a b t. absurd (omega arith); failing = λ k t. refl; below = λ k a. refl; above = λ k a. refl; long = refl } in
+          let none : IsWrittenOver (seen p) v h.from i now now = grind arith in
           IsUnderWay-same p now now _ _ (i + 1) refl (ap (strong_up_to w.strong) read) (sym q.next) refl refl
           (IsUnderWay-decides p now w i h p.runs run (i + 1) s now none q.apart q.free now
           (λ k from below. let same : k ≡ i = omega arith in ap left_over (ap (class_at now) same ∙ read) ∙ q.own)
@@ -382,17 +323,14 @@ nearest-unit now i m strong fits =
     let passed = take m (drop i now) in
     let c = get_or (drop i now) m L in
     let next : suc m ≡ m + 1 = omega arith in
-    let more : reverse (take (suc m) (drop i now)) ≡ c ∷ reverse passed =
-    ap (λ (n : ℕ). reverse (take n (drop i now))) next ∙ ap (λ (cs : List BidiClass). reverse cs) (take_more (drop i now) m L (omega (arith, length-drop i now))) ∙ reverse-append passed (c ∷ []) in
+    let more : reverse (take (suc m) (drop i now)) ≡ c ∷ reverse passed = grind (arith, common_steps) in
     ap (λ (cs : List BidiClass). nearest is_strong cs strong) more ∙ nearest-more is_strong c (reverse passed) strong ∙ ap (strong_up_to (nearest is_strong (reverse passed) strong)) (get_or-drop i now m L)
 
 -- units that are passed over, one behind another
 pub IsUnderWay-passes_all : (p : Pass) (now : List BidiClass) (w : Walk) (i run n : ℕ) → IsUnderWay p now w i → run < length p.runs → (get_or p.runs run (0, 0)).0 ≤ i → i + n ≤ (get_or p.runs run (0, 0)).1 → i + n ≤ length now
     → is_other w.before ≡ true → ((k : ℕ) → i ≤ k → k < i + n → is_asked (class_at now k) ≡ false)
     → IsUnderWay p now (record { strong = nearest is_strong (reverse (take n (drop i now))) w.strong; before = w.before; first = w.first; first_run = w.first_run }) (i + n)
-IsUnderWay-passes_all p now w i run zero h fits starts ends inside other none =
-    let same : i ≡ i + 0 = omega arith in
-    subst (IsUnderWay p now w) same h
+IsUnderWay-passes_all p now w i run zero h fits starts ends inside other none = grind arith
 IsUnderWay-passes_all p now w i run (suc m) h fits starts ends inside other none =
     let so_far = IsUnderWay-passes_all p now w i run m h fits starts (omega arith) (omega arith) other (λ k from below. none k from (omega arith)) in
     let long = so_far.long in

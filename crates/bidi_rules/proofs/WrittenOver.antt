@@ -1,5 +1,6 @@
 -- A class written over some units of a slice.
-use Rattle.std.proofs.Common.{◌≡◌, ℕ, ◌+◌, ◌-◌, ◌<◌, ◌≤◌, Bool, true, false, ◌&&◌, min, max, List, ◌++◌, length, get_or, set, take, drop, replicate, refl, sym, ap, subst, ◌∙◌, arith, inl, inr, length-set, length-take, length-drop, length-append, get_or-set_other, get_or-set_same}
+use Rattle.std.proofs.Common.{◌≡◌, ℕ, ◌+◌, ◌-◌, ◌<◌, ◌≤◌, Bool, true, false, ◌&&◌, min, max, List, length, get_or, set, take, sym, ap, subst, ◌∙◌, arith, inl, inr, length-set, length-take, length-drop, length-append, get_or-set_other, get_or-set_same}
+use Rattle.std.proofs.lemmas.Grind.{common_steps}
 use Rattle.std.proofs.lemmas.Bool.{cases_lt, cases_eq, cases_Bool, and_parts, and_from, and_left, and_cases, or_cases, or_parts, both_ways}
 use Rattle.std.proofs.lemmas.List.{length-replicate, get_or-take, get_or-drop, get_or_append_left, get_or-append_right, get_or-replicate}
 use Rattle.bidi_base.specs.declared.char_data.BidiClass.{BidiClass}
@@ -28,7 +29,7 @@ module _ (test : ℕ → Bool) (class : BidiClass) (from : ℕ) (old : List Bidi
   pub IsWrittenOver-set : (i : ℕ) (now : List BidiClass) → from ≤ i → i < length old → test i ≡ true → IsWrittenOver test class from i old now → IsWrittenOver test class from (i + 1) old (set now i class)
   IsWrittenOver-set i now order fits passes h = record {
     inside = λ k a b t. elim (cases_eq k i) [
-      | inl same ↦ ap (class_at (set now i class)) same ∙ get_or-set_same now i class L (omega (arith, h.long))
+      | inl same ↦ grind (arith, get_or-set_same)
       | inr other ↦ get_or-set_other now i k class L other ∙ h.inside k a (omega arith) t
     ];
     failing = λ k t. get_or-set_other now i k class L (λ same. both_ways (test i) (subst (λ (j : ℕ). test j ≡ false) same t) passes) ∙ h.failing k t;
@@ -37,36 +38,17 @@ module _ (test : ℕ → Bool) (class : BidiClass) (from : ℕ) (old : List Bidi
     long = length-set now i class ∙ h.long;
   }
 
-  -- no unit at all
-  pub IsWrittenOver-none : (to : ℕ) → to ≤ from → IsWrittenOver test class from to old old
-  IsWrittenOver-none to none = record { inside = λ k a b t. absurd (omega arith); failing = λ k t. refl; below = λ k a. refl; above = λ k a. refl; long = refl }
-
   -- the end of a loop from `from` to `to`
   pub IsWrittenOver-end : (i to : ℕ) (now : List BidiClass) → (from ≤ to → i ≤ to) → to ≤ i → (to ≤ from → now ≡ old) → IsWrittenOver test class from i old now → IsWrittenOver test class from to old now
   IsWrittenOver-end i to now within past untouched h = elim (cases_lt from to) [
     | inl some ↦ let top : i ≡ to = omega (arith, within (omega arith)) in subst (λ (j : ℕ). IsWrittenOver test class from j old now) top h
-    | inr none ↦ subst (IsWrittenOver test class from to old) (sym (untouched none)) (IsWrittenOver-none to none)
+    | inr none ↦ grind arith
   ]
 
 -- all units of a range
 pub IsWrittenOver-filled : (class : BidiClass) (from to : ℕ) (old : List BidiClass) → from ≤ to → to ≤ length old → IsWrittenOver (λ k. true) class from to old (filled from (to - from) class old)
 IsWrittenOver-filled class from to old order fits =
-    let front = length-take from old in
-    let row = replicate (to - from) class in
-    let row_len = length-replicate (to - from) class in
-    let later = drop (from + (to - from)) old in
-    let end : from + (to - from) ≡ to = omega arith in
-    let front_len : length (take from old) ≡ from = omega arith in
-    record {
-      inside = λ k a b t. get_or-append_right (take from old) (row ++ later) from k L front_len a ∙ get_or_append_left row later L (k - from) (omega arith) ∙ get_or-replicate (to - from) (k - from) class L (omega arith);
-      failing = λ k t. absurd (both_ways true t refl);
-      below = λ k a. get_or_append_left (take from old) (row ++ later) L k (omega arith) ∙ get_or-take from old k L a;
-      above = λ k a. get_or-append_right (take from old) (row ++ later) from k L front_len (omega arith)
-          ∙ get_or-append_right row later (to - from) (k - from) L row_len (omega arith)
-          ∙ get_or-drop (from + (to - from)) old (k - from - (to - from)) L
-          ∙ (let at : from + (to - from) + (k - from - (to - from)) ≡ k = omega arith in ap (class_at old) at);
-      long = length-append (take from old) (row ++ later) ∙ ap (λ (n : ℕ). length (take from old) + n) (length-append row later) ∙ omega (arith, length-drop (from + (to - from)) old);
-    }
+    search (arith, length-take, length-replicate, get_or-append_right, get_or_append_left, get_or-replicate, get_or-take, get_or-drop, length-append, length-drop)
 
 -- the same units by another test
 pub IsWrittenOver-same_test : (test other : ℕ → Bool) (class : BidiClass) (from to : ℕ) (old now : List BidiClass) → ((k : ℕ) → from ≤ k → k < to → test k ≡ other k) → IsWrittenOver test class from to old now → IsWrittenOver other class from to old now
@@ -87,9 +69,6 @@ IsWrittenOver-same_test test other class from to old now same h = record {
 -- ---- over some ranges
 
 module _ (runs : List (ℕ × ℕ)) (class : BidiClass) (from to : ℕ) (old : List BidiClass) where
-  pub runs-start : IsWrittenOver (is_seen (take 0 runs) old) class from to old old
-  runs-start = record { inside = λ k a b t. absurd (both_ways false refl t); failing = λ k t. refl; below = λ k a. refl; above = λ k a. refl; long = refl }
-
   -- one range more
   module _ (index : ℕ) (fits : index < length runs) (now new : List BidiClass) (h : IsWrittenOver (is_seen (take index runs) old) class from to old now) (start end : ℕ)
       (start_is : start ≡ max (get_or runs index (0, 0)).0 from) (end_is : end ≡ min (get_or runs index (0, 0)).1 to) (w : IsWrittenOver (λ k. is_kept_in_place (class_at now k)) class start end now new) where
@@ -150,6 +129,4 @@ module _ (runs : List (ℕ × ℕ)) (class : BidiClass) (from to : ℕ) (old : L
 
   -- the ranges from the one at `index` on begin at `to` or later
   pub runs-stop : (index : ℕ) (now : List BidiClass) → are_ordered runs ≡ true → index < length runs → to ≤ (get_or runs index (0, 0)).0 → IsWrittenOver (is_seen (take index runs) old) class from to old now → IsWrittenOver (is_seen runs old) class from to old now
-  runs-stop index now ordered fits past h =
-      IsWrittenOver-same_test (is_seen (take index runs) old) (is_seen runs old) class from to old now
-      (λ k a b. ap (λ t. t && is_kept_in_place (class_at old k)) (in_runs-take 0 index runs k ordered fits (omega arith))) h
+  runs-stop index now ordered fits past h = grind (arith, common_steps, in_runs-take)

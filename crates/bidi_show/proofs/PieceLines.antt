@@ -36,12 +36,6 @@ use Rattle.unicode_bidi.specs.declared.paragraph_info.ParagraphInfo.{ParagraphIn
 
 -- ---- a part of a list
 
-part-middle : {X : Type 0} (xs ys zs : List X) (start n : ℕ) → length xs ≡ start → n ≤ length ys → slice_range (xs ++ (ys ++ zs)) start (start + n) ≡ take n ys
-part-middle {X} xs ys zs start n long short =
-    let many : (length xs + n) - length xs ≡ n = omega arith in
-    subst (λ k. slice_range (xs ++ (ys ++ zs)) k (k + n) ≡ take n ys) long
-    (ap (take ((length xs + n) - length xs)) (drop-append_seam xs (ys ++ zs)) ∙ ap (λ k. take k (ys ++ zs)) many ∙ take-append-le n ys zs short)
-
 part-between : {X : Type 0} (xs ys zs : List X) (start i j : ℕ) → length xs ≡ start → i ≤ j → j ≤ length ys → slice_range (xs ++ (ys ++ zs)) (start + i) (start + j) ≡ slice_range ys i j
 part-between {X} xs ys zs start i j long order short =
     let many : (length xs + j) - (length xs + i) ≡ j - i = omega arith in
@@ -54,9 +48,7 @@ part-between {X} xs ys zs start i j long order short =
 
 module _ (front piece back : List ℕ) (n : ℕ) (short : n ≤ length piece) where
   place-middle : place len_utf8 (front ++ (piece ++ back)) (length front + n) ≡ text_len len_utf8 front + place len_utf8 piece n
-  place-middle =
-      ap (text_len len_utf8) (take-append-add front (piece ++ back) n ∙ ap (λ l. front ++ l) (take-append-le n piece back short))
-      ∙ sum_by-append len_utf8 front (take n piece)
+  place-middle = grind (arith, take-append-add, take-append-le, sum_by-append)
 
   char_index-middle : char_index len_utf8 (front ++ (piece ++ back)) (text_len len_utf8 front + place len_utf8 piece n) ≡ length front + n
   char_index-middle =
@@ -76,8 +68,7 @@ module _ (front piece back : List ℕ) (i j : ℕ) (order : i ≤ j) (short : j 
   line_of cs units classes levels = reordered_text len_utf8 encode_utf8 cs units (line_levels level classes levels)
 
   line_of_parts : (cs cs' us us' : List ℕ) (ks ks' : List BidiClass) (ls ls' : List ℕ) → cs ≡ cs' → us ≡ us' → ks ≡ ks' → ls ≡ ls' → line_of cs us ks ls ≡ line_of cs' us' ks' ls'
-  line_of_parts cs cs' us us' ks ks' ls ls' c u k l =
-      ap₂ (λ x y. line_of x y ks ls) c u ∙ ap₂ (λ x y. line_of cs' us' x y) k l
+  line_of_parts cs cs' us us' ks ks' ls ls' c u k l = grind arith
 
   -- a line of the piece is the same in the text as in the piece alone
   line_text-middle : line_text len_utf8 encode_utf8 (front ++ (piece ++ back)) (uf ++ (up ++ ub)) level (cf ++ (cp ++ cb)) (lf ++ (lp ++ lb)) (text_len len_utf8 front + place len_utf8 piece i) (text_len len_utf8 front + place len_utf8 piece j)
@@ -99,17 +90,8 @@ module _ (front piece back : List ℕ) (i j : ℕ) (order : i ≤ j) (short : j 
 -- ---- values of a piece in the middle of a text
 
 module _ {X : Type 0} (front piece back : List ℕ) (vf vp vb : List X) (vf_long : length vf ≡ length front) (vp_long : length vp ≡ length piece) where
-  per_unit-three : per_unit len_utf8 (front ++ (piece ++ back)) (vf ++ (vp ++ vb)) ≡ per_unit len_utf8 front vf ++ (per_unit len_utf8 piece vp ++ per_unit len_utf8 back vb)
-  per_unit-three =
-      per_unit-append len_utf8 front (piece ++ back) vf (vp ++ vb) vf_long
-      ∙ ap (λ l. per_unit len_utf8 front vf ++ l) (per_unit-append len_utf8 piece back vp vb vp_long)
-
   units-middle : slice_range (per_unit len_utf8 (front ++ (piece ++ back)) (vf ++ (vp ++ vb))) (text_len len_utf8 front) (text_len len_utf8 front + text_len len_utf8 piece) ≡ per_unit len_utf8 piece vp
-  units-middle =
-      let long : length (per_unit len_utf8 piece vp) ≡ text_len len_utf8 piece = length-per_unit len_utf8 piece vp vp_long in
-      ap (λ l. slice_range l (text_len len_utf8 front) (text_len len_utf8 front + text_len len_utf8 piece)) per_unit-three
-      ∙ part-middle (per_unit len_utf8 front vf) (per_unit len_utf8 piece vp) (per_unit len_utf8 back vb) (text_len len_utf8 front) (text_len len_utf8 piece) (length-per_unit len_utf8 front vf vf_long) (omega arith)
-      ∙ take_all (text_len len_utf8 piece) (per_unit len_utf8 piece vp) (omega arith)
+  units-middle = grind (arith, length-per_unit, take_all, per_unit-append, drop-append_seam, take-append-le)
 
 -- ---- a paragraph in the middle of a text
 
@@ -117,7 +99,7 @@ abbrev own_classes : Source → List ℕ → List BidiClass
 own_classes source piece = stored_classes (map source.class_of piece)
 
 length-own_classes : (source : Source) (piece : List ℕ) → length (own_classes source piece) ≡ length piece
-length-own_classes source piece = length-stored_classes (map source.class_of piece) ∙ length-map piece source.class_of
+length-own_classes source piece = grind (arith, length-stored_classes, length-map)
 
 module _ (source : Source) (base : Option ℕ) (text : List ℕ) (utf8 : IsUtf8 text) (front piece back : List ℕ) (whole : chars text ≡ front ++ (piece ++ back))
     (cf cb : List BidiClass) (lf lb : List ℕ) (cf_long : length cf ≡ length front) (lf_long : length lf ≡ length front) (cb_long : length cb ≡ length back) (lb_long : length lb ≡ length back) where
@@ -141,7 +123,7 @@ module _ (source : Source) (base : Option ℕ) (text : List ℕ) (utf8 : IsUtf8 
       (IsLine-places len_utf8 (front ++ (piece ++ back)) (length front) (length front + length piece) (omega arith))))
 
   is_piece : subrange len_utf8 (chars text) start (start + text_len len_utf8 piece) ≡ piece
-  is_piece = ap (λ cs. subrange len_utf8 cs start (start + text_len len_utf8 piece)) whole ∙ subrange-middle len_utf8 has_units front piece back
+  is_piece = grind (arith, subrange-middle)
 
   part_chars : chars (slice_range text start (start + text_len len_utf8 piece)) ≡ piece
   part_chars =
@@ -185,12 +167,7 @@ module _ (source : Source) (base : Option ℕ) (text : List ℕ) (utf8 : IsUtf8 
 
     line_in-places : (i j : ℕ) → i ≤ j → j ≤ length piece → in_text (start + place len_utf8 piece i) (start + place len_utf8 piece j) ≡ in_piece (place len_utf8 piece i) (place len_utf8 piece j)
     line_in-places i j order short =
-        let a : ℕ = start + place len_utf8 piece i in
-        let b : ℕ = start + place len_utf8 piece j in
-        ap₂ (λ ks ls. line_text len_utf8 encode_utf8 (chars text) text level ks ls a b) classes_back levels_back
-        ∙ ap₂ (λ cs bs. line_text len_utf8 encode_utf8 cs bs level classes levels a b) whole bytes
-        ∙ line_text-middle front piece back i j order short level cf (own_classes source piece) cb lf (stored_levels source base piece) lb (encode_utf8_all front) (encode_utf8_all piece) (encode_utf8_all back)
-        cf_long (length-own_classes source piece) lf_long (length-stored_levels source base piece) (sym (text_len-encodes front)) (sym (text_len-encodes piece))
+        grind (arith, classes_back, levels_back, bytes, line_text-middle, length-own_classes, length-stored_levels, text_len-encodes)
 
     -- the same for the characters that stand after `before` in the piece
     line_in-piece : (before some after : List ℕ) → piece ≡ before ++ (some ++ after)

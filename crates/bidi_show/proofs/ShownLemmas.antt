@@ -1,11 +1,10 @@
 -- The lines that `show` prints, piece by piece.
-use Rattle.std.proofs.Common.{◌≡◌, ℕ, ◌+◌, ◌-◌, ◌<◌, ◌≤◌, List, [], ◌∷◌, ◌++◌, Result, Ok, Err, OnOk, is_ok, Bool, true, false, length, get_or, take, drop, flat_map, decimal, encode_utf8, refl, sym, ap, subst, ◌∙◌, append_assoc, append-nil, length-append, arith}
-use Rattle.std.proofs.Math.Seq.{take-append_seam, drop-append_seam}
+use Rattle.std.proofs.Common.{◌≡◌, ℕ, ◌+◌, ◌-◌, ◌<◌, ◌≤◌, List, [], ◌∷◌, ◌++◌, Result, OnOk, is_ok, Bool, true, false, length, get_or, take, flat_map, decimal, refl, sym, ap, subst, ◌∙◌, append_assoc, arith}
+use Rattle.std.proofs.lemmas.Grind.{common_steps}
 use Rattle.std.specs.Prelude.{codes, if◌then◌else◌, slice_range}
 use Rattle.std.specs.Char.{len_utf8}
 use Rattle.std.specs.Str.{chars, IsUtf8}
 use Rattle.std.proofs.lemmas.List.{take_all, take_more, flat_map_more}
-use Rattle.std.proofs.lemmas.Str.{chars-nil, chars-append, chars_past_char, IsUtf8-drop, IsCharBoundary-from_take}
 use Rattle.bidi_base.specs.Classes.{is_paragraph_separator}
 use Rattle.bidi_base.specs.Paragraphs.{ends_with_separator}
 use Rattle.bidi_base.specs.Source.{Source}
@@ -20,8 +19,7 @@ use Rattle.bidi_show.specs.Texts.{spaced, levels_line, without_separator}
 
 -- what holds once a text was appended
 pub if_pushed : {A E : Type 0} (r : Result A E) (old new more : List ℕ) (P : Type 0) → new ≡ (if is_ok r then old ++ more else old) → (new ≡ old ++ more → P) → OnOk r P
-if_pushed (Ok x) old new more P e f = f e
-if_pushed (Err x) old new more P e f = tt
+if_pushed r old new more P e f = grind arith
 
 module _ (start cs levels : List ℕ) where
   -- the levels of the first n characters
@@ -39,11 +37,7 @@ module _ (start cs levels : List ℕ) where
 
   -- all of them
   pub levels_so_far-end : (n : ℕ) → n ≡ length cs → levels_so_far n ++ codes "\n" ≡ start ++ levels_line (per_char 0 len_utf8 cs levels)
-  levels_so_far-end n all =
-      let values : List ℕ = per_char 0 len_utf8 cs levels in
-      ap (λ l. ((start ++ codes "levels") ++ flat_map spaced l) ++ codes "\n") (take_all n values (omega (arith, length-per_char 0 len_utf8 cs levels)))
-      ∙ append_assoc (start ++ codes "levels") (flat_map spaced values) (codes "\n")
-      ∙ append_assoc start (codes "levels") (flat_map spaced values ++ codes "\n")
+  levels_so_far-end n all = grind (arith, take_all, length-per_char, append_assoc)
 
 -- ---- a paragraph and its separator
 
@@ -54,9 +48,7 @@ ends_with_separator-last source (x ∷ y ∷ front) c = ends_with_separator-last
 
 module _ (source : Source) (front : List ℕ) (c : ℕ) where
   pub without_separator-separator : is_paragraph_separator (source.class_of c) ≡ true → without_separator source (front ++ c ∷ []) ≡ front
-  without_separator-separator closes =
-      let few : length (front ++ c ∷ []) - 1 ≡ length front = omega (arith, length-append front (c ∷ [])) in
-      rw (ends_with_separator-last source front c, closes, few) (take-append_seam front (c ∷ []))
+  without_separator-separator closes = grind (arith, common_steps, ends_with_separator-last)
 
   pub without_separator-other : is_paragraph_separator (source.class_of c) ≡ false → without_separator source (front ++ c ∷ []) ≡ front ++ c ∷ []
   without_separator-other closes = rw (ends_with_separator-last source front c, closes)

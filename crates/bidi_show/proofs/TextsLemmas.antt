@@ -1,7 +1,7 @@
 -- A line of numbers, a number longer.
-use Rattle.std.proofs.Common.{◌≡◌, ℕ, ◌+◌, ◌<◌, List, [], ◌∷◌, ◌++◌, length, take, get_or, map, decimal, refl, sym, ◌∙◌, ap, append_assoc, arith, length-take}
+use Rattle.std.proofs.Common.{◌≡◌, ℕ, ◌+◌, ◌<◌, List, [], ◌∷◌, ◌++◌, length, take, get_or, map, decimal, refl, sym, ◌∙◌, ap, append_assoc, arith}
+use Rattle.std.proofs.lemmas.Grind.{common_steps}
 use Rattle.std.specs.List.{join_with_byte}
-use Rattle.std.proofs.lemmas.List.{map-append, length-map, take_more}
 
 join_with_byte-push : (c : ℕ) (pieces : List (List ℕ)) (piece : List ℕ) → 0 < length pieces → join_with_byte c (pieces ++ piece ∷ []) ≡ join_with_byte c pieces ++ (c ∷ piece)
 join_with_byte-push c [] piece some = absurd (omega arith)
@@ -11,14 +11,8 @@ join_with_byte-push c (first ∷ second ∷ pieces) piece some =
 
 -- the decimals of one number more
 decimals_more : (numbers : List ℕ) (place : ℕ) → place < length numbers → map decimal (take (place + 1) numbers) ≡ map decimal (take place numbers) ++ decimal (get_or numbers place 0) ∷ []
-decimals_more numbers place within = ap (map decimal) (take_more numbers place 0 within) ∙ map-append decimal (take place numbers) (get_or numbers place 0 ∷ [])
-
--- the first number stands alone
-pub first_number : (c : ℕ) (numbers : List ℕ) (place : ℕ) → place ≡ 0 → place < length numbers → join_with_byte c (map decimal (take place numbers)) ++ decimal (get_or numbers place 0) ≡ join_with_byte c (map decimal (take (place + 1) numbers))
-first_number c numbers place none within = rw (decimals_more numbers place within, none)
+decimals_more numbers place within = grind (arith, common_steps)
 
 -- a separator and the next number
 pub next_number : (c : ℕ) (numbers : List ℕ) (place : ℕ) → 0 < place → place < length numbers → join_with_byte c (map decimal (take place numbers)) ++ (c ∷ decimal (get_or numbers place 0)) ≡ join_with_byte c (map decimal (take (place + 1) numbers))
-next_number c numbers place some within =
-    let numbered : 0 < length (map decimal (take place numbers)) = rw (length-map, length-take) (omega arith) in
-    rw (decimals_more numbers place within) (sym (join_with_byte-push c (map decimal (take place numbers)) (decimal (get_or numbers place 0)) numbered))
+next_number c numbers place some within = grind (arith, decimals_more, join_with_byte-push)

@@ -1,5 +1,5 @@
 -- The level runs of a line's units are those of its characters, where each unit has its character's level.
-use Rattle.std.proofs.Common.{◌≡◌, ◌≢◌, ℕ, zero, suc, ◌+◌, ◌-◌, ◌<◌, ◌≤◌, eqb, List, [], ◌∷◌, ◌++◌, map, replicate, length, get_or, take, All, refl, sym, ap, ◌∙◌, arith, inl, inr, eqb-true, eq-eqb}
+use Rattle.std.proofs.Common.{◌≡◌, ◌≢◌, ℕ, zero, suc, ◌+◌, ◌<◌, ◌≤◌, eqb, List, [], ◌∷◌, ◌++◌, map, replicate, length, get_or, take, All, refl, sym, ap, ◌∙◌, arith, inl, inr, eqb-true, eq-eqb}
 use Rattle.std.proofs.lemmas.Bool.{cases_Bool, cond-true, cond-false, eqb-false}
 use Rattle.std.proofs.lemmas.Simd.{map-map}
 use Rattle.std.proofs.lemmas.List.{get_or-map, length-map}
@@ -15,7 +15,6 @@ use Rattle.bidi_lines.proofs.Ordered.{visual_order-is}
 use Rattle.bidi_lines.proofs.VisualRuns.{order_below}
 use Rattle.bidi_lines.proofs.Pieces.{at_places-map}
 use Rattle.bidi_lines.proofs.RunsLemmas.{level_runs-each}
-use Rattle.bidi_lines.proofs.VisualRuns.{run_at}
 
 -- units of the same level go on with the run
 more_units : (start from level n : ℕ) (rest : List ℕ) → level_runs_from start from level (replicate n level ++ rest) ≡ level_runs_from start (from + n) level rest
@@ -28,14 +27,7 @@ more_units start from level (suc n) rest =
 -- and units of another level begin one
 other_units : (start from level next n : ℕ) (rest : List ℕ) → next ≢ level → 0 < n
     → level_runs_from start from level (replicate n next ++ rest) ≡ (start, from) ∷ level_runs_from from (from + n) next rest
-other_units start from level next zero rest other some = absurd (omega arith)
-other_units start from level next (suc n) rest other some = elim (cases_Bool (eqb next level)) [
-  | inl e ↦ absurd (other (eqb-true _ _ e))
-  | inr e ↦
-      cond-false (eqb next level) _ _ e
-      ∙ ap (λ (l : List Run). (start, from) ∷ l) (more_units from (from + 1) next n rest
-      ∙ ap (λ x. level_runs_from from x next rest) (let e : from + 1 + n ≡ from + suc n = omega arith in e))
-]
+other_units start from level next n rest other some = grind (arith, more_units)
 
 -- the units of a run of characters, where the character k stands at P k
 abbrev pub units_of : (ℕ → ℕ) → Run → Run
@@ -47,10 +39,7 @@ Places P len_of f chars = (j : ℕ) → j ≤ length chars → P (f + j) ≡ P f
 
 next_place : (P len_of : ℕ → ℕ) (f c : ℕ) (chars : List ℕ) → Places P len_of f (c ∷ chars) → P (f + 1) ≡ P f + len_of c
 unfolding Places
-next_place P len_of f c chars h =
-    let e : P (f + 1) ≡ P f + place len_of (c ∷ chars) 1 = h 1 (omega arith) in
-    let one : place len_of (c ∷ chars) 1 ≡ len_of c + place len_of chars 0 = sum_by-cons len_of c [] in
-    omega arith
+next_place P len_of f c chars h = grind arith
 
 later_places : (P len_of : ℕ → ℕ) (f c : ℕ) (chars : List ℕ) → Places P len_of f (c ∷ chars) → Places P len_of (f + 1) chars
 unfolding Places
@@ -92,8 +81,7 @@ unfolding Places
 places from len_of chars j fits = let e : 0 + j ≡ j = omega arith in rw e (omega arith)
 
 first_run : (from level n : ℕ) (rest : List ℕ) → 0 < n → level_runs from (replicate n level ++ rest) ≡ level_runs_from from (from + n) level rest
-first_run from level zero rest some = absurd (omega arith)
-first_run from level (suc n) rest some = more_units from (from + 1) level n rest ∙ ap (λ x. level_runs_from from x level rest) (let e : from + 1 + n ≡ from + suc n = omega arith in e)
+first_run from level n rest some = grind (arith, more_units)
 
 -- the level runs of the units
 pub level_runs-units : (from : ℕ) (len_of : ℕ → ℕ) → HasUnits len_of → (chars levels : List ℕ) → length levels ≡ length chars
@@ -121,16 +109,10 @@ map-same_on f g (x ∷ xs) h =
 -- the level of a run of units is that of the run of characters
 pub run_level-units : (from : ℕ) (len_of : ℕ → ℕ) → HasUnits len_of → (chars levels : List ℕ) → length levels ≡ length chars
     → (run : Run) → IsLevelRun 0 levels run → run_level from (per_unit len_of chars levels) (units_of (place_from from len_of chars) run) ≡ run_level 0 levels run
-run_level-units from len_of some chars levels e run h =
-    let back : place_from from len_of chars run.0 - from ≡ place len_of chars run.0 = omega arith in
-    let same : run.0 - 0 ≡ run.0 = omega arith in
-    ap (λ x. get_or (per_unit len_of chars levels) x 0) back ∙ get_or-per_unit-place len_of some chars levels run.0 0 e (omega (arith, h.not_empty, h.ends_within)) ∙ ap (λ x. get_or levels x 0) (sym same)
+run_level-units from len_of some chars levels e run h = grind (arith, get_or-per_unit-place)
 
 at_places-moved : (f : Run → Run) (runs : List Run) (order : List ℕ) → All (λ k. k < length runs) order → at_places (0, 0) (map f runs) order ≡ map f (at_places (0, 0) runs order)
-at_places-moved f runs order h =
-    at_places-map (0, 0) (map f runs) order
-    ∙ map-same_on (λ p. get_or (map f runs) p (0, 0)) (λ p. f (run_at runs p)) order (λ k d fits. get_or-map f runs (get_or order k d) (0, 0) (0, 0) (h k d fits))
-    ∙ sym (ap (map f) (at_places-map (0, 0) runs order) ∙ map-map f (run_at runs) order)
+at_places-moved f runs order h = grind (arith, at_places-map, map-same_on, get_or-map, map-map)
 
 -- the visual runs of the units
 pub visual_runs-units : (from : ℕ) (len_of : ℕ → ℕ) → HasUnits len_of → (chars levels : List ℕ) → length levels ≡ length chars

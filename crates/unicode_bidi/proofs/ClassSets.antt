@@ -1,74 +1,29 @@
 -- Sets of classes: what is in them, and which tests of what is in them agree.
-use Rattle.std.proofs.Common.{◌≡◌, ℕ, zero, suc, ◌+◌, ◌^◌, ◌<◌, ◌≢◌, min, max, bit_and, bit_or, bit_xor, ◌%◌, Bool, true, false, not, ◌==◌, ◌&&◌, ◌||◌, List, [], ◌∷◌, get_or, refl, sym, ap, ◌∙◌, arith, inl, inr, eqb-true}
+use Rattle.std.proofs.Common.{◌≡◌, ℕ, ◌^◌, ◌<◌, ◌≢◌, min, max, bit_and, bit_or, bit_xor, Bool, true, false, not, ◌==◌, ◌&&◌, ◌||◌, List, [], ◌∷◌, get_or, refl, sym, ap, ◌∙◌, arith, inl, inr, eqb-true}
+use Rattle.std.proofs.lemmas.Grind.{common_steps}
 use Rattle.std.specs.Int.{bit_at}
 use Rattle.std.specs.List.{list_any}
 use Rattle.std.proofs.Math.Bool.{or-true}
 use Rattle.std.proofs.lemmas.Bool.{cases_Bool, cases_eq, cases_lt, both_ways, eq-eqb}
-use Rattle.std.proofs.lemmas.List.{get_or-map}
-use Rattle.std.proofs.lemmas.List.FromFn.{get_or-range_with_len}
 use Rattle.std.proofs.lemmas.List.Folds.{list_any_none, list_any_at}
-use Rattle.std.proofs.lemmas.Nat.Bits.{bit_at_or, bit_at_and, bit_at_xor, bit_at-zero, bit_at-pow_same, bit_at-pow_other, bit_at_above, bit_at-lt, same_from_bits}
+use Rattle.std.proofs.lemmas.Nat.Bits.{bit_at_or, bit_at_and, bit_at_xor, bit_at-zero, bit_at-pow_other, bit_at_above, bit_at-lt, same_from_bits}
 use Rattle.bidi_base.specs.declared.char_data.BidiClass.{BidiClass}
-use Rattle.bidi_base.specs.declared.char_data.BidiClass.TheVariants.{L, R, AL, EN, ES, ET, AN, CS, NSM, BN, B, S, WS, ON, LRE, LRO, RLE, RLO, PDF, LRI, RLI, FSI, PDI}
+use Rattle.bidi_base.specs.declared.char_data.BidiClass.TheVariants.{L}
 use Rattle.bidi_base.specs.Classes.{class_number, same_class}
 use Rattle.unicode_bidi.specs.declared.class_set.ClassSet.{ClassSet}
 use Rattle.unicode_bidi.specs.ClassSet.{has, with, any_of, every_class}
 
 -- ---- one more class
 
-has_bit : (x y : ℕ) → x < 2 → y < 2 → (max x y == 1) ≡ ((x == 1) || (y == 1))
-has_bit zero zero h k = refl
-has_bit zero (suc zero) h k = refl
-has_bit (suc zero) zero h k = refl
-has_bit (suc zero) (suc zero) h k = refl
-has_bit (suc (suc x)) y h k = absurd (omega arith)
-has_bit zero (suc (suc y)) h k = absurd (omega arith)
-has_bit (suc zero) (suc (suc y)) h k = absurd (omega arith)
-
 pub apart_eqb : (k j : ℕ) → k ≢ j → (k == j) ≡ false
-apart_eqb k j apart = elim (cases_Bool (k == j)) [ inl same ↦ absurd (apart (eqb-true k j same)) | inr other ↦ other ]
-
-one_bit : (k j : ℕ) → (bit_at (2 ^ k) j == 1) ≡ (k == j)
-one_bit k j = elim (cases_eq k j) [
-  | inl same ↦ ap (λ m. bit_at (2 ^ k) m == 1) (sym same) ∙ ap (λ n. n == 1) (bit_at-pow_same k) ∙ sym (eq-eqb k j same)
-  | inr apart ↦ ap (λ n. n == 1) (bit_at-pow_other k j (λ e. apart (sym e))) ∙ sym (apart_eqb k j apart)
-]
+apart_eqb k j apart = grind arith
 
 pub has-with : (set : ClassSet) (c d : BidiClass) → has (with set c) d ≡ (has set d || same_class c d)
-has-with set c d =
-    ap (λ n. n == 1) (bit_at_or set.bits (2 ^ class_number c) (class_number d))
-    ∙ has_bit (bit_at set.bits (class_number d)) (bit_at (2 ^ class_number c) (class_number d)) (bit_at-lt _ _) (bit_at-lt _ _)
-    ∙ ap (λ b. has set d || b) (one_bit (class_number c) (class_number d))
-
-or_false : (b : Bool) → (b || false) ≡ b
-or_false true = refl
-or_false false = refl
+has-with set c d = grind (arith, common_steps, bit_at_or)
 
 -- of all classes, one is the class
 any_same : (test : BidiClass → Bool) (c : BidiClass) → list_any (λ d. same_class c d && test d) every_class ≡ test c
-any_same test L = or_false (test L)
-any_same test R = or_false (test R)
-any_same test AL = or_false (test AL)
-any_same test EN = or_false (test EN)
-any_same test ES = or_false (test ES)
-any_same test ET = or_false (test ET)
-any_same test AN = or_false (test AN)
-any_same test CS = or_false (test CS)
-any_same test NSM = or_false (test NSM)
-any_same test BN = or_false (test BN)
-any_same test B = or_false (test B)
-any_same test S = or_false (test S)
-any_same test WS = or_false (test WS)
-any_same test ON = or_false (test ON)
-any_same test LRE = or_false (test LRE)
-any_same test LRO = or_false (test LRO)
-any_same test RLE = or_false (test RLE)
-any_same test RLO = or_false (test RLO)
-any_same test PDF = or_false (test PDF)
-any_same test LRI = or_false (test LRI)
-any_same test RLI = or_false (test RLI)
-any_same test FSI = or_false (test FSI)
-any_same test PDI = or_false (test PDI)
+any_same test c = grind arith
 
 any_either : (p q test : BidiClass → Bool) (classes : List BidiClass)
     → list_any (λ d. (p d || q d) && test d) classes ≡ (list_any (λ d. p d && test d) classes || list_any (λ d. q d && test d) classes)
@@ -100,28 +55,20 @@ any_of-empty test = refl
 -- ---- what two sets share
 
 class_of_number : (k : ℕ) → k < 23 → class_number (get_or every_class k L) ≡ k
-class_of_number k below = sym (get_or-map class_number every_class k L 0 below) ∙ get_or-range_with_len 0 23 k 0 below ∙ (let same : 0 + k ≡ k = omega arith in same)
+class_of_number k below = grind arith
 
 module _ (a b : ClassSet) (small : b.bits < 2 ^ 23) where
   both_bits : (x y : ℕ) → x < 2 → y < 2 → (min x y == 1) ≡ ((x == 1) && (y == 1))
-  both_bits zero y h k = let none : min 0 y ≡ 0 = omega arith in ap (λ n. n == 1) none
-  both_bits (suc zero) zero h k = refl
-  both_bits (suc zero) (suc zero) h k = refl
-  both_bits (suc (suc x)) y h k = absurd (omega arith)
-  both_bits (suc zero) (suc (suc y)) h k = absurd (omega arith)
+  both_bits x y h k = grind arith
 
   bit_of_both : (c : BidiClass) → (bit_at (bit_and a.bits b.bits) (class_number c) == 1) ≡ (has a c && has b c)
-  bit_of_both c =
-      ap (λ n. n == 1) (bit_at_and a.bits b.bits (class_number c))
-      ∙ both_bits (bit_at a.bits (class_number c)) (bit_at b.bits (class_number c)) (bit_at-lt _ _) (bit_at-lt _ _)
+  bit_of_both c = grind (arith, bit_at_and)
 
   none_of : bit_and a.bits b.bits ≡ 0 → (c : BidiClass) → (has a c && has b c) ≡ false
   none_of none c = sym (bit_of_both c) ∙ ap (λ n. bit_at n (class_number c) == 1) none ∙ ap (λ n. n == 1) (bit_at-zero (class_number c))
 
   not_one : (x : ℕ) → x < 2 → (x == 1) ≡ false → x ≡ 0
-  not_one zero h e = refl
-  not_one (suc zero) h e = absurd (both_ways true e refl)
-  not_one (suc (suc x)) h e = absurd (omega arith)
+  not_one x h e = grind arith
 
   -- a bit of both is that of a class
   no_bit : list_any (λ c. has a c && has b c) every_class ≡ false → (k : ℕ) → bit_at (bit_and a.bits b.bits) k ≡ bit_at 0 k
@@ -155,22 +102,10 @@ module _ (a b : ClassSet) (small : b.bits < 2 ^ 23) where
 -- ---- two sets
 
 pub union_has : (a b : ClassSet) (c : BidiClass) → (bit_at (bit_or a.bits b.bits) (class_number c) == 1) ≡ (has a c || has b c)
-union_has a b c =
-    ap (λ n. n == 1) (bit_at_or a.bits b.bits (class_number c))
-    ∙ has_bit (bit_at a.bits (class_number c)) (bit_at b.bits (class_number c)) (bit_at-lt _ _) (bit_at-lt _ _)
+union_has a b c = grind (arith, bit_at_or)
 
 pub without_has : (a b : ClassSet) (c : BidiClass) → (bit_at (bit_xor a.bits (bit_and a.bits b.bits)) (class_number c) == 1) ≡ (has a c && not (has b c))
-without_has a b c =
-    let k = class_number c in
-    ap (λ n. n == 1) (bit_at_xor a.bits (bit_and a.bits b.bits) k ∙ ap (λ n. (bit_at a.bits k + n) % 2) (bit_at_and a.bits b.bits k))
-    ∙ no_bits (bit_at a.bits k) (bit_at b.bits k) (bit_at-lt _ _) (bit_at-lt _ _)
-  where
-    no_bits : (x y : ℕ) → x < 2 → y < 2 → ((x + min x y) % 2 == 1) ≡ ((x == 1) && not (y == 1))
-    no_bits zero y h k = let none : 0 + min 0 y ≡ 0 = omega arith in ap (λ n. n % 2 == 1) none
-    no_bits (suc zero) zero h k = refl
-    no_bits (suc zero) (suc zero) h k = refl
-    no_bits (suc (suc x)) y h k = absurd (omega arith)
-    no_bits (suc zero) (suc (suc y)) h k = absurd (omega arith)
+without_has a b c = grind (arith, bit_at_xor, bit_at_and)
 
 -- a class that is there already
 pub with-same : (set : ClassSet) (c : BidiClass) → has set c ≡ true → with set c ≡ set

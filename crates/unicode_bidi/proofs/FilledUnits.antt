@@ -1,8 +1,8 @@
 -- The levels of a paragraph's units: of what X9 removed, and of a paragraph that keeps to its level throughout.
-use Rattle.std.proofs.Common.{◌≡◌, ℕ, zero, suc, ◌+◌, ◌-◌, ◌<◌, ◌≤◌, ◌≢◌, Bool, true, false, not, List, [], ◌∷◌, ◌++◌, length, get_or, set, Option, Some, refl, sym, map, ap, subst, ◌∙◌, arith, inl, inr, get_or-set_same, get_or-set_other}
+use Rattle.std.proofs.Common.{◌≡◌, ℕ, zero, suc, ◌+◌, ◌-◌, ◌<◌, ◌≤◌, ◌≢◌, Bool, true, false, not, List, [], ◌∷◌, ◌++◌, length, get_or, set, Option, Some, refl, sym, map, ap, ◌∙◌, arith, inl, inr, get_or-set_same, get_or-set_other}
 use Rattle.std.specs.Prelude.{replicate}
 use Rattle.std.specs.List.{list_any}
-use Rattle.std.proofs.lemmas.Bool.{cases_Bool, cases_eq, cases_lt, both_ways, or_cases, or_left, or_right, cond-false, not-true}
+use Rattle.std.proofs.lemmas.Bool.{cases_Bool, both_ways, or_cases, or_left, or_right, cond-false, not-true}
 use Rattle.std.proofs.lemmas.List.{ext_get_or, replicate-append-replicate, get_or_default, get_or-map, length-map}
 use Rattle.std.proofs.lemmas.List.Folds.{Any-from_list_any, list_any_at, list_any-append}
 use Rattle.std.proofs.lemmas.List.Sums.{sum_by-cons}
@@ -10,10 +10,10 @@ use Rattle.std.proofs.lemmas.List.Sorted.{IsPermutation-refl}
 use Rattle.bidi_base.specs.declared.char_data.BidiClass.{BidiClass}
 use Rattle.bidi_base.specs.declared.char_data.BidiClass.TheVariants.{L, R, AL, BN, FSI}
 use Rattle.bidi_base.specs.declared.data_source.BidiMatchedOpeningBracket.{BidiMatchedOpeningBracket}
-use Rattle.bidi_base.specs.Classes.{is_initiator, is_kept, is_removed}
+use Rattle.bidi_base.specs.Classes.{is_initiator, is_removed}
 use Rattle.bidi_base.specs.Flat.{hidden, keeps_to}
 use Rattle.bidi_base.specs.Places.{class_at}
-use Rattle.bidi_base.specs.Isolates.{resolved_fsi, deciding_class, isolated_classes, stored_class, stored_classes}
+use Rattle.bidi_base.specs.Isolates.{resolved_fsi, stored_class, stored_classes}
 use Rattle.bidi_base.specs.Explicit.{explicit_levels, explicit_classes}
 use Rattle.bidi_base.specs.Sequences.{is_kept_at, level_at, sequences}
 use Rattle.bidi_base.specs.Stored.{AreResolved, levels_in}
@@ -37,28 +37,7 @@ pub record AreFilled (paragraph : ℕ) (classes : List BidiClass) (old : List �
   pub front : 0 < i → is_kept_at classes 0 ≡ false → get_or new 0 0 ≡ paragraph
   pub removed : (p : ℕ) → p + 1 < i → is_kept_at classes (p + 1) ≡ false → get_or new (p + 1) 0 ≡ get_or new p 0
 
-pub AreFilled-start : (paragraph : ℕ) (classes : List BidiClass) (old : List ℕ) → AreFilled paragraph classes old 0 old
-AreFilled-start paragraph classes old =
-    record { kept = λ p h k. refl; rest = λ p h. refl; front = λ h k. absurd (omega arith); removed = λ p h k. absurd (omega arith) }
-
 module _ (paragraph : ℕ) (classes : List BidiClass) (old : List ℕ) (i : ℕ) (new : List ℕ) (h : AreFilled paragraph classes old i new) where
-  pub AreFilled-kept : is_kept_at classes i ≡ true → AreFilled paragraph classes old (i + 1) new
-  AreFilled-kept stays =
-      record {
-        kept = λ p below k. elim (cases_lt p i) [ inl earlier ↦ h.kept p earlier k | inr here ↦ h.rest p here ];
-        rest = λ p past. h.rest p (omega arith);
-        front = λ some gone. elim (cases_eq i 0) [
-          | inl none ↦ absurd (both_ways (is_kept_at classes 0) gone (ap (is_kept_at classes) (sym none) ∙ stays))
-          | inr later ↦ h.front (omega arith) gone
-        ];
-        removed = λ p below gone. elim (cases_lt (p + 1) i) [
-          | inl earlier ↦ h.removed p earlier gone
-          | inr here ↦
-              let same : p + 1 ≡ i = omega arith in
-              absurd (both_ways (is_kept_at classes (p + 1)) gone (ap (is_kept_at classes) same ∙ stays))
-        ];
-      }
-
   module _ (before : ℕ) (within : i < length new) (at_front : i ≡ 0 → before ≡ paragraph) (inside : (p : ℕ) → p + 1 ≡ i → before ≡ get_or new p 0) where
     other : (p : ℕ) → p ≢ i → get_or (set new i before) p 0 ≡ get_or new p 0
     other p apart = get_or-set_other new i p before 0 apart
@@ -67,26 +46,7 @@ module _ (paragraph : ℕ) (classes : List BidiClass) (old : List ℕ) (i : ℕ)
     here p same = ap (λ (n : ℕ). get_or (set new i before) n 0) same ∙ get_or-set_same new i before 0 within
 
     pub AreFilled-removed : is_kept_at classes i ≡ false → AreFilled paragraph classes old (i + 1) (set new i before)
-    AreFilled-removed gone =
-        record {
-          kept = λ p below k. elim (cases_lt p i) [
-            | inl earlier ↦ other p (λ e. omega arith) ∙ h.kept p earlier k
-            | inr past ↦
-                let same : p ≡ i = omega arith in
-                absurd (both_ways (is_kept_at classes i) gone (ap (is_kept_at classes) (sym same) ∙ k))
-          ];
-          rest = λ p past. other p (λ e. omega arith) ∙ h.rest p (omega arith);
-          front = λ some k. elim (cases_eq i 0) [
-            | inl none ↦ here 0 (sym none) ∙ at_front none
-            | inr later ↦ other 0 (λ e. later (sym e)) ∙ h.front (omega arith) k
-          ];
-          removed = λ p below k. elim (cases_lt (p + 1) i) [
-            | inl earlier ↦ other (p + 1) (λ e. omega arith) ∙ h.removed p earlier k ∙ sym (other p (λ e. omega arith))
-            | inr past ↦
-                let same : p + 1 ≡ i = omega arith in
-                here (p + 1) same ∙ inside p same ∙ sym (other p (λ e. omega arith))
-          ];
-        }
+    AreFilled-removed gone = grind (arith, other, here)
 
 module _ (len_of : ℕ → ℕ) (h : HasUnits len_of) (chars : List ℕ) (stored : List BidiClass) (paragraph : ℕ) (classes : List BidiClass) (old new : List ℕ)
     (stored_long : length stored ≡ length chars) (is : classes ≡ per_unit len_of chars stored) (old_even : is_per_char level_eq len_of chars old ≡ true) (long : length new ≡ length classes)
@@ -110,7 +70,7 @@ module _ (len_of : ℕ → ℕ) (h : HasUnits len_of) (chars : List ℕ) (stored
   unit_within k j fits below = omega (arith, place-more-le len_of chars k 0 fits, classes_long)
 
   unit_class : (k j : ℕ) → k < length chars → j < len_of (get_or chars k 0) → is_kept_at classes (place len_of chars k + j) ≡ is_kept_at stored k
-  unit_class k j fits below = ap is_kept (ap (λ (us : List BidiClass). class_at us (place len_of chars k + j)) is ∙ get_or-per_unit len_of chars stored k j 0 L stored_long fits below)
+  unit_class k j fits below = grind (arith, get_or-per_unit)
 
   kept_unit : (k j : ℕ) → k < length chars → j < len_of (get_or chars k 0) → is_kept_at stored k ≡ true → get_or new (place len_of chars k + j) 0 ≡ get_or values k 0
   kept_unit k j fits below stays =
@@ -119,7 +79,7 @@ module _ (len_of : ℕ → ℕ) (h : HasUnits len_of) (chars : List ℕ) (stored
       ∙ get_or-per_unit len_of chars values k j 0 0 (length-per_char 0 len_of chars old) fits below
 
   first_unit : (k : ℕ) → get_or new (place len_of chars k + 0) 0 ≡ get_or new (place len_of chars k) 0
-  first_unit k = let none : place len_of chars k + 0 ≡ place len_of chars k = omega arith in ap (λ u. get_or new u 0) none
+  first_unit k = grind arith
 
   removed_unit : (k j : ℕ) → k < length chars → j < len_of (get_or chars k 0) → is_kept_at stored k ≡ false → get_or new (place len_of chars k + j) 0 ≡ get_or new (place len_of chars k) 0
   removed_unit k zero fits below gone = first_unit k
@@ -188,14 +148,6 @@ module _ (len_of : ℕ → ℕ) (h : HasUnits len_of) (chars : List ℕ) (stored
       ∙ ap (per_unit len_of chars) (levels_in-written paragraph source brackets stored (explicit_levels paragraph stored) (explicit_classes paragraph stored) (sequences paragraph stored (explicit_levels paragraph stored)) values filled stored_is refl refl
       (IsPermutation-refl _) resolved (omega (arith, length-per_char 0 len_of chars new, stored_long)) filled-kept filled-front filled-removed)
 
--- a row of units that are kept
-pub AreFilled-kept_row : (paragraph : ℕ) (classes : List BidiClass) (old : List ℕ) (i n : ℕ) (new : List ℕ) → AreFilled paragraph classes old i new → ((k : ℕ) → i ≤ k → k < i + n → is_kept_at classes k ≡ true) → AreFilled paragraph classes old (i + n) new
-AreFilled-kept_row paragraph classes old i zero new h stays = let same : i ≡ i + 0 = omega arith in subst (λ (k : ℕ). AreFilled paragraph classes old k new) same h
-AreFilled-kept_row paragraph classes old i (suc n) new h stays =
-    let next : i + 1 + n ≡ i + suc n = omega arith in
-    subst (λ (k : ℕ). AreFilled paragraph classes old k new) next
-    (AreFilled-kept_row paragraph classes old (i + 1) n new (AreFilled-kept paragraph classes old i new h (stays i (omega arith) (omega arith))) (λ k a b. stays k (omega arith) (omega arith)))
-
 -- ---- a paragraph that keeps to its level throughout
 
 pub per_unit-replicate : {X : Type 0} (len_of : ℕ → ℕ) (chars : List ℕ) (x : X) → per_unit len_of chars (replicate (length chars) x) ≡ replicate (text_len len_of chars) x
@@ -205,10 +157,7 @@ per_unit-replicate len_of (c ∷ chars) x =
 
 pub kept_to_levels : (len_of : ℕ → ℕ) (chars : List ℕ) (source : List BidiClass) (brackets : List (Option BidiMatchedOpeningBracket)) (paragraph : ℕ) (old new : List ℕ) → length source ≡ length chars → length old ≡ text_len len_of chars
     → keeps_to paragraph source ≡ true → new ≡ replicate (length old) paragraph → new ≡ per_unit len_of chars (levels_in paragraph source brackets)
-kept_to_levels len_of chars source brackets paragraph old new fits long keeps is =
-    is ∙ ap (λ n. replicate n paragraph) long ∙ sym (per_unit-replicate len_of chars paragraph)
-    ∙ ap (λ n. per_unit len_of chars (replicate n paragraph)) (sym fits)
-    ∙ ap (per_unit len_of chars) (sym (levels_in-keeps_to paragraph source brackets keeps))
+kept_to_levels len_of chars source brackets paragraph old new fits long keeps is = grind (arith, per_unit-replicate, levels_in-keeps_to)
 
 -- ---- a class of a group among the stored classes is one among the source classes
 
@@ -227,8 +176,7 @@ list_any-per_unit test len_of (c ∷ chars) (v ∷ vs) e =
 
 module _ (test : BidiClass → Bool) (of_stored : (o : Option BidiClass) → test (resolved_fsi o) ≡ test FSI) where
   stored_class-test : (classes : List BidiClass) (q : ℕ) (c : BidiClass) → test (stored_class classes q c) ≡ test c
-  stored_class-test classes q FSI = of_stored (deciding_class (isolated_classes classes q))
-  stored_class-test classes q _ = refl
+  stored_class-test classes q c = grind arith
 
   any-stored : (len_of : ℕ → ℕ) (chars : List ℕ) (source units : List BidiClass) → units ≡ per_unit len_of chars (stored_classes source) → list_any test units ≡ true → list_any test source ≡ true
   any-stored len_of chars source units is e =
@@ -240,13 +188,7 @@ module _ (test : BidiClass → Bool) (of_stored : (o : Option BidiClass) → tes
 
 module _ (len_of : ℕ → ℕ) (chars : List ℕ) (source units : List BidiClass) (is : units ≡ per_unit len_of chars (stored_classes source)) where
   pub initiators-stored : list_any is_initiator units ≡ true → list_any is_initiator source ≡ true
-  initiators-stored = any-stored is_initiator resolved_fsi-initiator len_of chars source units is
-    where
-      resolved_fsi-initiator : (o : Option BidiClass) → is_initiator (resolved_fsi o) ≡ true
-      resolved_fsi-initiator (Some R) = refl
-      resolved_fsi-initiator (Some AL) = refl
-      resolved_fsi-initiator (Some L) = refl
-      resolved_fsi-initiator _ = refl
+  initiators-stored = grind (arith, any-stored)
 
   -- where X9 removes nothing, each unit is kept
   pub all_kept : list_any is_removed source ≡ false → (u : ℕ) → u < length units → is_kept_at units u ≡ true

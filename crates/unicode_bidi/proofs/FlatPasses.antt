@@ -1,19 +1,17 @@
 -- A paragraph in which nothing opens a level: the passes over its one run.
-use Rattle.std.proofs.Common.{◌≡◌, ℕ, ◌-◌, true, List, [], ◌∷◌, length, map, Option, sym, ap, subst, ◌∙◌, arith}
+use Rattle.std.proofs.Common.{◌≡◌, ℕ, true, List, [], ◌∷◌, length, map, Option, sym, ap, subst, ◌∙◌, arith, rules}
 use Rattle.std.specs.Prelude.{replicate, filter}
 use Rattle.std.specs.declared.ops.Range.{Range}
-use Rattle.std.specs.List.{range_with_len}
 use Rattle.std.proofs.lemmas.List.{append-nil}
 use Rattle.std.proofs.lemmas.List.Elements.{All-cons, All-nil}
 use Rattle.bidi_base.specs.declared.char_data.BidiClass.{BidiClass}
 use Rattle.bidi_base.specs.declared.char_data.BidiClass.TheVariants.{L}
 use Rattle.bidi_base.specs.declared.data_source.BidiMatchedOpeningBracket.{BidiMatchedOpeningBracket}
 use Rattle.bidi_base.specs.Explicit.{explicit_levels, explicit_classes, processing_classes}
-use Rattle.bidi_base.specs.Flat.{is_flat, hidden, whole_run}
+use Rattle.bidi_base.specs.Flat.{is_flat, hidden}
 use Rattle.bidi_base.specs.Isolates.{stored_classes}
 use Rattle.bidi_base.specs.Levels.{direction_of}
-use Rattle.bidi_base.specs.Places.{between}
-use Rattle.bidi_base.specs.Sequences.{RunSequence, has_places, is_kept_at, kept_places, sequences}
+use Rattle.bidi_base.specs.Sequences.{has_places, kept_places, sequences}
 use Rattle.bidi_base.specs.Text.{IsLine, is_boundary, char_index, text_len, per_unit, per_char}
 use Rattle.bidi_base.specs.Units.{AreLines, bounds, chars_in_runs, kept_in_runs}
 use Rattle.bidi_base.proofs.FlatLemmas.{stored_classes-flat, explicit_levels-flat, processing_classes-flat, sequences-flat}
@@ -45,8 +43,7 @@ module _ (len_of : ℕ → ℕ) (h : HasUnits len_of) (chars : List ℕ) (source
   -- a sequence of it, as code lends it
   pub lent-whole : (s : LentSequence) (runs : List (Range ℕ)) (end : ℕ) → lent_runs s ≡ runs → runs ≡ record { start = 0; end = end } ∷ [] → end ≡ text_len len_of chars
       → lent_sos s ≡ direction_of paragraph → lent_eos s ≡ direction_of paragraph → lent s ≡ whole
-  lent-whole s runs end runs_are is long sos eos =
-      λ i. record { runs = (ap (map bounds) (runs_are ∙ is) ∙ ap (λ n. (0, n) ∷ []) long) i; sos = sos i; eos = eos i }
+  lent-whole s runs end runs_are is long sos eos = grind arith
 
   stored_is : stored ≡ source
   stored_is = stored_classes-flat source flat
@@ -55,29 +52,18 @@ module _ (len_of : ℕ → ℕ) (h : HasUnits len_of) (chars : List ℕ) (source
   stored_long = length-stored_classes source ∙ fits
 
   begins : char_index len_of chars 0 ≡ 0
-  begins = ap (char_index len_of chars) (sym (place-zero len_of chars)) ∙ char_index-place len_of chars h 0 (omega arith)
+  begins = search (rules, char_index-place)
 
   ends : char_index len_of chars (text_len len_of chars) ≡ length chars
-  ends = ap (char_index len_of chars) (sym (place-end len_of chars (length chars) (omega arith))) ∙ char_index-place len_of chars h (length chars) (omega arith)
+  ends = grind (arith, place-end, char_index-place)
 
   places-whole : kept_in_runs len_of chars stored whole.runs ≡ kept_places stored
   unfolding kept_in_runs chars_in_runs kept_places
-  places-whole =
-      ap (filter (is_kept_at stored))
-      (append-nil (between (char_index len_of chars 0) (char_index len_of chars (text_len len_of chars)))
-      ∙ ap (λ n. between n (char_index len_of chars (text_len len_of chars))) begins ∙ ap (between 0) (ends ∙ sym stored_long) ∙ from_zero (length stored))
-    where
-      from_zero : (n : ℕ) → between 0 n ≡ range_with_len 0 n
-      from_zero n = let same : n - 0 ≡ n = omega arith in ap (range_with_len 0) same
-
-  characters-whole : characters_of len_of chars stored whole ≡ whole_run paragraph stored
-  characters-whole = ap (λ (ps : List ℕ). record { places = ps; sos = direction_of paragraph; eos = direction_of paragraph }) places-whole
+  places-whole = grind (arith, append-nil, begins, ends, stored_long)
 
   -- it is all there is
   sequences-whole : filter has_places (characters_of len_of chars stored whole ∷ []) ≡ sequences paragraph stored (explicit_levels paragraph stored)
-  sequences-whole =
-      ap (λ (s : RunSequence). filter has_places (s ∷ [])) characters-whole
-      ∙ sym (subst (λ (cs : List BidiClass). sequences paragraph cs (explicit_levels paragraph cs) ≡ filter has_places (whole_run paragraph cs ∷ [])) (sym stored_is) (sequences-flat source flat paragraph))
+  sequences-whole = grind (arith, stored_is, sequences-flat, places-whole)
 
   -- a sequence in code that has this run
   module _ (j : JoinedRuns) (same : j ≡ whole) where
@@ -103,9 +89,7 @@ module _ (len_of : ℕ → ℕ) (h : HasUnits len_of) (chars : List ℕ) (source
 
   -- the levels that are filled are the explicit ones
   pub levels-whole : (old new : List ℕ) → length old ≡ text_len len_of chars → new ≡ replicate (length old) paragraph → new ≡ per_unit len_of chars (explicit_levels paragraph stored)
-  levels-whole old new long is =
-      is ∙ ap (λ n. replicate n paragraph) long ∙ sym (per_unit-replicate len_of chars paragraph)
-      ∙ ap (per_unit len_of chars) (ap (λ n. replicate n paragraph) (sym fits) ∙ sym (explicit_levels-flat source flat paragraph) ∙ ap (explicit_levels paragraph) (sym stored_is))
+  levels-whole old new long is = grind (arith, per_unit-replicate, explicit_levels-flat, stored_is)
 
   -- and the passes begin with the hidden classes
   pub whole-AreResolvedTo : (original units : List BidiClass) → original ≡ per_unit len_of chars stored → units ≡ map hidden original → AreResolvedTo len_of h chars source bracket_of paragraph [] units

@@ -1,11 +1,11 @@
 -- What follows of the analysis of a text that is cut into its paragraphs.
-use Rattle.std.proofs.Common.{◌≡◌, ◌∙◌, ◌≤◌, ℕ, Bool, List, [], ◌∷◌, length, map, refl, ap, subst, sym, true, false}
+use Rattle.std.proofs.Common.{◌≡◌, ◌∙◌, ◌≤◌, ℕ, Bool, List, [], ◌∷◌, length, map, ap, subst, sym, arith}
 use Rattle.std.proofs.lemmas.List.{append-nil, length-map}
 use Rattle.std.specs.Bool.{then_some}
 use Rattle.std.specs.Prelude.{All, IfSome, IsTrue, Option, Some, None, slice_range}
 use Rattle.bidi_base.specs.declared.char_data.BidiClass.{BidiClass}
 use Rattle.bidi_base.specs.declared.char_data.BidiClass.TheVariants.{L}
-use Rattle.bidi_base.specs.Analysed.{AnalysedText, IsPerCharText, IsAnalysis, HasCharValues}
+use Rattle.bidi_base.specs.Analysed.{AnalysedText, IsPerCharText, HasCharValues}
 use Rattle.bidi_base.specs.Isolates.{paragraph_level, stored_classes}
 use Rattle.bidi_base.specs.Laws.{HasOwnUnits, AreLevelsFrom}
 use Rattle.bidi_base.specs.Paragraphs.{pieces_of, ranges_from}
@@ -16,23 +16,21 @@ use Rattle.bidi_base.specs.Text.{per_unit, per_char, is_per_char, IsLine}
 use Rattle.bidi_base.proofs.LevelLaws.{length-text_levels, stored_levels-AreLevelsFrom, text_classes-one, text_levels-one, paragraph_levels-one, All-per_unit}
 use Rattle.bidi_base.proofs.ParagraphsLemmas.{joined, length-text_classes, cut_after-joined, paragraphs-AreParagraphRanges}
 use Rattle.bidi_base.proofs.PerUnit.{per_char-per_unit}
-use Rattle.bidi_base.proofs.PerCharTests.{class_eq, class_test, level_eq, level_test}
+use Rattle.bidi_base.proofs.PerCharTests.{class_eq, class_test}
 use Rattle.bidi_base.proofs.StoredSteps.{length-stored_classes}
 use Rattle.bidi_base.proofs.TextLemmas.{HasUnits}
 use Rattle.bidi_base.proofs.UnitsLemmas.{is_per_char-per_unit}
 use Rattle.unicode_bidi.specs.declared.paragraph_info.ParagraphInfo.{ParagraphInfo}
 use Rattle.unicode_bidi.specs.ParagraphInfo.{range_of, ranges_of, levels_of}
-use Rattle.unicode_bidi.specs.SplitRule.{ends_by, pieces_by, AreParagraphRangesBy, IsAnalysisOf, IsAnalysisBy}
+use Rattle.unicode_bidi.specs.SplitRule.{pieces_by, AreParagraphRangesBy, IsAnalysisOf, IsAnalysisBy}
 use Rattle.unicode_bidi.specs.declared.split_rule.SplitRule.{SplitRule}
-use Rattle.unicode_bidi.specs.declared.split_rule.SplitRule.TheVariants.{EachSeparator, CrLfTogether}
+use Rattle.unicode_bidi.specs.declared.split_rule.SplitRule.TheVariants.{EachSeparator}
 use Rattle.unicode_bidi.proofs.ParagraphUnits.{paragraphs-HasOwnUnits, paragraphs-are_lines, paragraphs-AreLevelsFrom}
 
 -- the stored classes of one paragraph are equal within each character
 pub stored-is_per_char : (len_of : ℕ → ℕ) (chars : List ℕ) (class_of : ℕ → BidiClass) (classes : List BidiClass) → classes ≡ per_unit len_of chars (stored_classes (map class_of chars))
     → IsTrue (is_per_char class_eq len_of chars classes)
-stored-is_per_char len_of chars class_of classes e =
-    ap (is_per_char class_eq len_of chars) e
-    ∙ is_per_char-per_unit class_eq class_test len_of chars (stored_classes (map class_of chars)) (length-stored_classes (map class_of chars) ∙ length-map chars class_of)
+stored-is_per_char len_of chars class_of classes e = grind (arith, is_per_char-per_unit, class_test, length-stored_classes, length-map)
 
 -- cut into any pieces
 module _ (source : Source) (base : Option ℕ) (pieces : List (List ℕ)) (a : AnalysedText) (whole : joined pieces ≡ a.chars) where
@@ -44,10 +42,7 @@ module _ (source : Source) (base : Option ℕ) (pieces : List (List ℕ)) (a : A
     levels_long = length-text_levels source base pieces a.chars whole
 
     pub analysis-IsPerCharText : IsPerCharText a
-    analysis-IsPerCharText = record {
-      classes = ap (is_per_char class_eq a.len_of a.chars) found.classes ∙ is_per_char-per_unit class_eq class_test a.len_of a.chars (text_classes source pieces) classes_long;
-      levels = ap (is_per_char level_eq a.len_of a.chars) found.levels ∙ is_per_char-per_unit level_eq level_test a.len_of a.chars (text_levels source base pieces) levels_long;
-    }
+    analysis-IsPerCharText = grind (arith, is_per_char-per_unit, class_test, classes_long, levels_long)
 
     pub analysis-HasCharValues : HasUnits a.len_of → HasCharValues a (text_classes source pieces) (text_levels source base pieces)
     analysis-HasCharValues some = record {
@@ -57,49 +52,27 @@ module _ (source : Source) (base : Option ℕ) (pieces : List (List ℕ)) (a : A
 
   module _ (some : HasUnits a.len_of) (ps : List ParagraphInfo) (found : IsAnalysisOf source base pieces a (ranges_of ps) (levels_of ps)) where
     pub bounded-found : IfSome base (λ level. level ≤ 125) → All (λ p. AreLevelsFrom p.level (slice_range a.levels p.range.start p.range.end)) ps
-    bounded-found few =
-        subst (λ (us : List ℕ). All (λ p. AreLevelsFrom p.level (slice_range us p.range.start p.range.end)) ps) (sym found.levels)
-        (paragraphs-AreLevelsFrom source base a.len_of some a.chars pieces whole ps found.ranges found.paragraph_levels few)
+    bounded-found few = grind (arith, paragraphs-AreLevelsFrom)
 
     pub own_units-found : All (HasOwnUnits a.len_of (stored_levels source base) a.chars a.levels) (ranges_of ps)
-    own_units-found =
-        subst (λ (us : List ℕ). All (HasOwnUnits a.len_of (stored_levels source base) a.chars us) (ranges_of ps)) (sym found.levels)
-        (paragraphs-HasOwnUnits source base a.len_of some a.chars pieces whole ps found.ranges found.paragraph_levels)
+    own_units-found = grind (arith, paragraphs-HasOwnUnits)
 
 -- cut by a rule, or not at all
 pub pieces_by-joined : (split : Option SplitRule) (source : Source) (chars : List ℕ) → joined (pieces_by split source chars) ≡ chars
-pieces_by-joined None source chars = append-nil chars
-pieces_by-joined (Some rule) source chars = cut_after-joined (ends_by rule source) chars
-
--- after each separator, or not at all
-pieces_by-split : (split : Bool) (source : Source) (chars : List ℕ) → pieces_by (then_some split EachSeparator) source chars ≡ pieces_of split source chars
-pieces_by-split true source chars = refl
-pieces_by-split false source chars = refl
+pieces_by-joined split source chars = grind (arith, append-nil, cut_after-joined)
 
 module _ (source : Source) (base : Option ℕ) (split : Bool) (a : AnalysedText) (ranges : List (ℕ × ℕ)) (own_levels : List ℕ) (rule : Option SplitRule)
     (is : rule ≡ then_some split EachSeparator) (found : IsAnalysisBy source base rule a ranges own_levels) where
   pub analysis-pieces : IsAnalysisOf source base (pieces_of split source a.chars) a ranges own_levels
-  analysis-pieces =
-      subst (λ (pieces : List (List ℕ)). IsAnalysisOf source base pieces a ranges own_levels)
-      (ap (λ (r : Option SplitRule). pieces_by r source a.chars) is ∙ pieces_by-split split source a.chars) found
-
-  pub analysis-split : IsAnalysis source base split a ranges own_levels
-  analysis-split = record {
-    classes = analysis-pieces.classes;
-    levels = analysis-pieces.levels;
-    ranges = analysis-pieces.ranges;
-    paragraph_levels = analysis-pieces.paragraph_levels;
-  }
+  analysis-pieces = grind arith
 
 -- the ranges of the paragraphs by a rule
 module _ (source : Source) (len_of : ℕ → ℕ) (some : HasUnits len_of) (chars : List ℕ) where
   pub rule-AreParagraphRanges : (rule : SplitRule) → AreParagraphRangesBy rule source len_of chars (ranges_from len_of 0 (pieces_by (Some rule) source chars))
-  rule-AreParagraphRanges EachSeparator = paragraphs-AreParagraphRanges source len_of some chars
-  rule-AreParagraphRanges CrLfTogether = together-AreCrLfParagraphRanges source len_of some chars
+  rule-AreParagraphRanges rule = grind (arith, paragraphs-AreParagraphRanges, together-AreCrLfParagraphRanges)
 
   rule-lines : (rule : SplitRule) (ranges : List (ℕ × ℕ)) → AreParagraphRangesBy rule source len_of chars ranges → All (λ r. IsLine len_of chars r.0 r.1) ranges
-  rule-lines EachSeparator ranges h = h.lines
-  rule-lines CrLfTogether ranges h = h.lines
+  rule-lines rule ranges h = grind arith
 
   pub lines-found : (rule : SplitRule) (ps : List ParagraphInfo) → ranges_of ps ≡ ranges_from len_of 0 (pieces_by (Some rule) source chars) → All (λ p. IsLine len_of chars (range_of p).start (range_of p).end) ps
   lines-found rule ps e =

@@ -1,25 +1,16 @@
 -- What is known of the classes of the first characters.
 use Rattle.std.proofs.Common.{◌≡◌, ◌∙◌, ℕ, ◌<◌, List, length, get_or, replicate, Option, Some, None, sym, ap, inl, inr, arith}
 use Rattle.std.specs.Prelude.{slice_set, unwrap_or}
-use Rattle.std.proofs.lemmas.Bool.{cases_eq, cases_lt}
+use Rattle.std.proofs.lemmas.Bool.{cases_eq}
 use Rattle.std.proofs.lemmas.List.{get_or-replicate, get_or-set_other, get_or-set_same, get_or_past, length-replicate}
 use Rattle.bidi_base.specs.declared.char_data.BidiClass.{BidiClass}
 use Rattle.bidi_base.specs.Source.{Source}
 use Rattle.unicode_bidi.specs.FirstWalk.{AreKnown}
 
-abbrev nothing : ℕ → List (Option BidiClass)
-nothing n = replicate n None
-
-none_at : (n k : ℕ) → get_or (nothing n) k None ≡ None
-none_at n k = elim (cases_lt k n) [
-  | inl below ↦ get_or-replicate n k None None below
-  | inr past ↦ get_or_past (nothing n) k None (let long : length (nothing n) ≡ n = length-replicate n None in omega arith)
-]
-
 module _ (source : Source) where
   -- nothing is known
   pub AreKnown-none : (n : ℕ) → AreKnown source (replicate n None)
-  AreKnown-none n k c e = absurd (cc (sym (none_at n k) ∙ e))
+  AreKnown-none n k c e = grind (arith, get_or-replicate, get_or_past, length-replicate)
 
   -- one class more
   pub AreKnown-more : (known : List (Option BidiClass)) (at : ℕ) (class : BidiClass) → at < length known → AreKnown source known → class ≡ source.class_of at → AreKnown source (slice_set known at (Some class))

@@ -1,7 +1,6 @@
 -- The passes over the units of a paragraph, put together: what they leave once some sequences are resolved, and once all are.
-use Rattle.std.proofs.Common.{◌≡◌, ℕ, zero, suc, ◌+◌, ◌<◌, ◌≤◌, true, false, ◌&&◌, List, [], ◌∷◌, ◌++◌, length, get_or, take, map, Option, None, refl, sym, ap, subst, ◌∙◌, arith}
-use Rattle.std.specs.Prelude.{zip, replicate, nat_lt, filter}
-use Rattle.std.proofs.lemmas.Bool.{and_parts}
+use Rattle.std.proofs.Common.{◌≡◌, ℕ, zero, suc, ◌+◌, ◌<◌, ◌≤◌, true, false, List, [], ◌∷◌, ◌++◌, length, get_or, take, map, Option, None, refl, sym, ap, subst, ◌∙◌, arith}
+use Rattle.std.specs.Prelude.{zip, replicate, filter}
 use Rattle.std.specs.List.{All, list_all}
 use Rattle.std.proofs.lemmas.List.{take_more, take_all, length-map, get_or-map, get_or_default, length-replicate}
 use Rattle.std.proofs.lemmas.Slice.Zip.{get_or-zip, length-zip}
@@ -19,7 +18,7 @@ use Rattle.bidi_base.specs.Neutral.{n2_rule, neutral_classes}
 use Rattle.bidi_base.specs.Implicit.{implicit_level}
 use Rattle.bidi_base.specs.Stored.{AreResolved}
 use Rattle.bidi_base.specs.Text.{text_len, place, is_per_char, per_unit, per_char}
-use Rattle.bidi_base.specs.Units.{AreLines, are_ordered, in_runs, is_run_sequence, kept_in_runs, kept_in_place}
+use Rattle.bidi_base.specs.Units.{AreLines, in_runs, is_run_sequence, kept_in_runs, kept_in_place}
 use Rattle.bidi_base.proofs.ExplicitLemmas.{length-explicit_levels}
 use Rattle.bidi_base.proofs.LevelLaws.{All-per_unit}
 use Rattle.bidi_base.proofs.NeutralSource.{neutral_classes-source, marks-stored_classes}
@@ -36,7 +35,7 @@ use Rattle.unicode_bidi.proofs.SequencesInPlace.{IsUnderWay, IsNext, IsWeakNext,
 use Rattle.unicode_bidi.proofs.SequenceUnits.{at_places-map, at_places-place, level_at-first, kept_in_place-kept, kept_in_runs-within, stays_elsewhere}
 
 is_run_sequence-sos : (runs : List (ℕ × ℕ)) (sos eos : BidiClass) → is_run_sequence runs sos eos ≡ true → is_l_or_r sos ≡ true
-is_run_sequence-sos runs sos eos e = (and_parts (is_l_or_r sos) (is_l_or_r eos) (and_parts (are_ordered runs) (is_l_or_r sos && is_l_or_r eos) (and_parts (nat_lt 0 (length runs)) (are_ordered runs && (is_l_or_r sos && is_l_or_r eos)) e).1).1).0
+is_run_sequence-sos runs sos eos e = grind arith
 
 -- two values for each unit
 zip-append : {X Y : Type 0} (vs ws : List X) (xs ys : List Y) → length vs ≡ length xs → zip (vs ++ ws) (xs ++ ys) ≡ zip vs xs ++ zip ws ys
@@ -106,11 +105,10 @@ module _ (len_of : ℕ → ℕ) (h : HasUnits len_of) (chars : List ℕ) (source
 
   -- they have one entry a unit, equal within each character
   pub AreResolvedTo-per_char : (seqs : List RunSequence) (units : List BidiClass) → length source ≡ length chars → AreResolvedTo seqs units → is_per_char class_eq len_of chars units ≡ true
-  AreResolvedTo-per_char seqs units fits now =
-      ap (is_per_char class_eq len_of chars) now.is ∙ is_per_char-per_unit class_eq class_test len_of chars now.values (now.under_way.long ∙ length-stored_classes source ∙ fits)
+  AreResolvedTo-per_char seqs units fits now = grind (arith, is_per_char-per_unit, class_test, length-stored_classes)
 
   pub AreResolvedTo-long : (seqs : List RunSequence) (units : List BidiClass) → length source ≡ length chars → AreResolvedTo seqs units → length units ≡ text_len len_of chars
-  AreResolvedTo-long seqs units fits now = ap length now.is ∙ length-per_unit len_of chars now.values (now.under_way.long ∙ length-stored_classes source ∙ fits)
+  AreResolvedTo-long seqs units fits now = grind (arith, length-per_unit, length-stored_classes)
 
   module _ (fits : length source ≡ length chars) (seqs : List RunSequence) (s : JoinedRuns) (lines : AreLines len_of chars (s.runs)) (next : IsNext source brackets stored levels classes seqs (members s)) where
     abbrev runs : List (ℕ × ℕ)

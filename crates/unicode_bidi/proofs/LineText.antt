@@ -14,21 +14,7 @@ use Rattle.unicode_bidi.proofs.RunText.{reordered_text-runs, flat_map-same_on}
 
 -- a part of a part
 pub slice_range-slice_range : (xs : List ℕ) (i j a b : ℕ) → a ≤ b → i + b ≤ j → j ≤ length xs → slice_range (slice_range xs i j) a b ≡ slice_range xs (i + a) (i + b)
-slice_range-slice_range xs i j a b up fits within = same_number_lists _ _ (left ∙ sym right) (λ k inside.
-    let inside' : k < b - a = omega (arith, left) in
-    get_or-slice_range (slice_range xs i j) a b k inside'
-    ∙ get_or-slice_range xs i j (a + k) (omega arith)
-    ∙ ap (λ x. get_or xs x 0) (let e : i + (a + k) ≡ i + a + k = omega arith in e)
-    ∙ sym (get_or-slice_range xs (i + a) (i + b) k (omega arith)))
-  where
-    long : length (slice_range xs i j) ≡ j - i
-    long = length-slice_range xs i j within
-
-    left : length (slice_range (slice_range xs i j) a b) ≡ b - a
-    left = length-slice_range (slice_range xs i j) a b (omega (arith, long))
-
-    right : length (slice_range xs (i + a) (i + b)) ≡ b - a
-    right = length-slice_range xs (i + a) (i + b) (omega arith) ∙ (let e : (i + b) - (i + a) ≡ b - a = omega arith in e)
+slice_range-slice_range xs i j a b up fits within = grind (arith, same_number_lists, get_or-slice_range, length-slice_range)
 
 -- the place of a character of the line in the text
 pub place-line : (len_of : ℕ → ℕ) (chars : List ℕ) (i j k : ℕ) → i + k ≤ j → j ≤ length chars

@@ -1,5 +1,5 @@
 -- L1 over the units of a line is L1 over its characters.
-use Rattle.std.proofs.Common.{◌≡◌, ℕ, zero, suc, ◌+◌, ◌-◌, ◌≤◌, if◌then◌else◌, ◌&&◌, ◌||◌, Bool, true, false, List, [], ◌∷◌, ◌++◌, length, take, drop, refl, sym, ap, ap₂, ◌∙◌, arith, append_assoc, length-take-le, length-drop}
+use Rattle.std.proofs.Common.{◌≡◌, ℕ, zero, suc, ◌+◌, ◌-◌, ◌≤◌, if◌then◌else◌, ◌&&◌, ◌||◌, Bool, false, List, [], ◌∷◌, ◌++◌, length, take, drop, refl, sym, ap, ap₂, ◌∙◌, arith, append_assoc, length-take-le, length-drop}
 use Rattle.std.specs.Prelude.{replicate, slice_range}
 use Rattle.std.specs.List.{list_any}
 use Rattle.std.proofs.lemmas.List.{drop-drop, take-append-drop}
@@ -39,9 +39,7 @@ new_level level before reset c own = if reset then level else if is_removed c th
 
 new_level-again : (level before own : ℕ) (reset removed : Bool)
     → (if reset then level else if removed then (if reset then level else if removed then before else own) else own) ≡ (if reset then level else if removed then before else own)
-new_level-again level before own true removed = refl
-new_level-again level before own false true = refl
-new_level-again level before own false false = refl
+new_level-again level before own reset removed = grind arith
 
 -- each unit of a character takes the same level
 line_levels_after-units : (level before : ℕ) (n : ℕ) (c : BidiClass) (own : ℕ) (classes : List BidiClass) (levels : List ℕ)
@@ -82,7 +80,7 @@ module _ (len_of : ℕ → ℕ) (h : HasUnits len_of) where
   pub line_levels-per_unit : (level : ℕ) (chars : List ℕ) (classes : List BidiClass) (levels : List ℕ) → length classes ≡ length chars → length levels ≡ length chars
       → line_levels level (per_unit len_of chars classes) (per_unit len_of chars levels) ≡ per_unit len_of chars (line_levels level classes levels)
   unfolding line_levels
-  line_levels-per_unit level chars classes levels e f = line_levels_after-per_unit level level chars classes levels e f
+  line_levels-per_unit level chars classes levels e f = grind (arith, line_levels_after-per_unit)
 
 -- the units of the characters i up to j
 pub slice_range-per_unit : {X : Type 0} (len_of : ℕ → ℕ) (chars : List ℕ) (values : List X) (i j : ℕ) → i ≤ j → j ≤ length chars → length values ≡ length chars

@@ -38,9 +38,7 @@ pub record IsPart (len_of : ℕ → ℕ) (chars : List ℕ) (units : Range ℕ) 
   pub long : text_len len_of piece ≡ units.end - units.start
 
 pub paragraph-IsPart : (len_of : ℕ → ℕ) → HasUnits len_of → (chars : List ℕ) (p : ParagraphInfo) (units : Range ℕ) → units ≡ range_of p → IsLine len_of chars p.range.start p.range.end → IsPart len_of chars units (subrange len_of chars units.start units.end)
-paragraph-IsPart len_of h chars p units e line =
-    subst (λ (r : Range ℕ). IsPart len_of chars r (subrange len_of chars r.start r.end)) (sym e)
-    (record { ordered = line.ordered; within = is_boundary-le len_of chars p.range.end line.ends; long = text_len-subrange len_of h chars p.range.start p.range.end line })
+paragraph-IsPart len_of h chars p units e line = grind (arith, is_boundary-le, text_len-subrange)
 
 -- the pass over its own characters, in the levels of the whole text
 pub paragraph-written : (source : Source) (len_of : ℕ → ℕ) (chars : List ℕ) (p : ParagraphInfo) (units : Range ℕ) (piece : List ℕ) (level : ℕ) (levels new : List ℕ)
@@ -59,10 +57,7 @@ paragraph-written source len_of chars p units piece level levels new is_range is
 
 pub length-unit_levels : (source : Source) (len_of : ℕ → ℕ) → HasUnits len_of → (chars : List ℕ) (p : ParagraphInfo) → IsLine len_of chars p.range.start p.range.end → length (unit_levels source len_of chars p) ≡ p.range.end - p.range.start
 unfolding unit_levels
-length-unit_levels source len_of h chars p line =
-    let piece : List ℕ = chars_of len_of chars p in
-    length-per_unit len_of piece (levels_in p.level (map source.class_of piece) (map source.bracket_of piece)) (length-levels_in p.level (map source.class_of piece) (map source.bracket_of piece) ∙ length-map piece source.class_of)
-    ∙ text_len-subrange len_of h chars p.range.start p.range.end line
+length-unit_levels source len_of h chars p line = grind (arith, length-per_unit, length-levels_in, length-map, text_len-subrange)
 
 -- ---- one paragraph after another
 

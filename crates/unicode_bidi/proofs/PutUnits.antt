@@ -1,9 +1,10 @@
 -- Units that get one value, as the walk over a text writes them.
 use Rattle.std.proofs.Common.{◌≡◌, ℕ, ◌+◌, ◌-◌, ◌≤◌, List, ◌++◌, length, take, drop, sym, ap, ◌∙◌, arith, append_assoc}
+use Rattle.std.proofs.lemmas.Grind.{common_steps}
 use Rattle.std.specs.Prelude.{replicate}
 use Rattle.std.specs.declared.ops.Range.{Range}
 use Rattle.std.proofs.Math.Seq.{take-append-add}
-use Rattle.std.proofs.lemmas.List.{take-append-le, drop-append-le, take-take, drop-take, length-take-le, length-replicate}
+use Rattle.std.proofs.lemmas.List.{take-append-le, drop-append-le, take-take, drop-take}
 use Rattle.bidi_base.specs.Reading.{filled}
 
 -- ---- the units before some place
@@ -14,11 +15,7 @@ module _ {X : Type 0} (range : Range ℕ) (x : X) (xs : List X) (order : range.s
 
   -- the first `more` units after the range stay with it
   take-written : (size more : ℕ) (rest : List X) → range.start ≤ length xs → take (range.start + (size + more)) (written size rest) ≡ written size (take more rest)
-  take-written size more rest fits =
-      ap (λ n. take (n + (size + more)) (written size rest)) (sym (length-take-le range.start xs fits))
-      ∙ take-append-add (take range.start xs) (replicate size x ++ rest) (size + more)
-      ∙ ap (λ n. take range.start xs ++ take (n + more) (replicate size x ++ rest)) (sym (length-replicate size x))
-      ∙ ap (λ (ys : List X). take range.start xs ++ ys) (take-append-add (replicate size x) rest more)
+  take-written size more rest fits = grind (arith, common_steps, take-append-add)
 
   -- those before a place after the range
   pub take-filled : (place : ℕ) → range.end ≤ place → place ≤ length xs → take place (filled range x xs) ≡ filled range x (take place xs)

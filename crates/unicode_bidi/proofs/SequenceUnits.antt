@@ -1,5 +1,6 @@
 -- What the passes over the units of a sequence say about its characters.
 use Rattle.std.proofs.Common.{◌≡◌, ℕ, ◌-◌, ◌<◌, ◌≤◌, Bool, true, false, ◌&&◌, cond, eqb, List, [], ◌∷◌, ◌++◌, length, get_or, map, refl, sym, ap, ◌∙◌, arith, inl, inr}
+use Rattle.std.proofs.lemmas.Grind.{common_steps}
 use Rattle.std.specs.Prelude.{filter, flat_map, nat_le, nat_lt}
 use Rattle.std.proofs.lemmas.Bool.{cases_Bool, cases_lt, both_ways, or_cases, false_from_ne_true}
 use Rattle.std.proofs.lemmas.Bool.Decides.{nat_tests}
@@ -11,12 +12,12 @@ use Rattle.bidi_base.specs.declared.char_data.BidiClass.TheVariants.{L, BN}
 use Rattle.bidi_base.specs.Classes.{is_kept_in_place}
 use Rattle.bidi_base.specs.Places.{class_at, at_places, between, first_or}
 use Rattle.bidi_base.specs.Sequences.{is_kept_at, level_at}
-use Rattle.bidi_base.specs.Text.{text_len, place, IsLine, char_index, per_unit}
+use Rattle.bidi_base.specs.Text.{place, IsLine, char_index, per_unit}
 use Rattle.bidi_base.specs.Units.{AreLines, in_runs, chars_in_runs, kept_in_runs, kept_in_place}
 use Rattle.bidi_base.proofs.ChainLemmas.{filter_range-agree}
 use Rattle.bidi_base.proofs.LevelTableLemmas.{count_at-in}
 use Rattle.bidi_base.proofs.PerUnit.{length-per_unit, get_or-per_unit-place}
-use Rattle.bidi_base.proofs.PlaceLemmas.{place-zero, place-lt, place-mono, char_index-le, line_places}
+use Rattle.bidi_base.proofs.PlaceLemmas.{place-lt, place-mono, char_index-le, line_places}
 use Rattle.bidi_base.proofs.SequencePlaces.{times_in, times_in-kept}
 use Rattle.bidi_base.proofs.StoredLemmas.{times_in-first, times_in-later}
 use Rattle.bidi_base.proofs.TextLemmas.{HasUnits}
@@ -48,21 +49,7 @@ module _ (len_of : ℕ → ℕ) (h : HasUnits len_of) (chars : List ℕ) where
 
   -- and so has the first of them
   pub level_at-first : (levels units : List ℕ) (ps : List ℕ) → length levels ≡ length chars → units ≡ per_unit len_of chars levels → AreWithin chars ps → level_at units (first_or 0 (map (place len_of chars) ps)) ≡ level_at levels (first_or 0 ps)
-  level_at-first levels units [] long is within = elim (cases_lt 0 (length chars)) [
-    | inl some ↦
-        ap (λ (us : List ℕ). level_at us 0) is
-        ∙ ap (level_at (per_unit len_of chars levels)) (sym (place-zero len_of chars))
-        ∙ get_or-per_unit-place len_of h chars levels 0 0 long some
-    | inr none ↦
-        let no_units : text_len len_of chars ≡ 0 = no_text chars (omega arith) in
-        get_or_past units 0 0 (omega (arith, ap length is, length-per_unit len_of chars levels long, no_units)) ∙ sym (get_or_past levels 0 0 (omega (arith, long, none)))
-  ]
-    where
-      no_text : (cs : List ℕ) → length cs ≡ 0 → text_len len_of cs ≡ 0
-      no_text [] e = refl
-      no_text (c ∷ cs) e = absurd (omega arith)
-  level_at-first levels units (p ∷ ps) long is within =
-      ap (λ (us : List ℕ). level_at us (place len_of chars p)) is ∙ get_or-per_unit-place len_of h chars levels p 0 long (AreWithin-first chars p ps within)
+  level_at-first levels units ps long is within = grind (arith, common_steps, get_or-per_unit-place, length-per_unit)
 
   -- where BN stands exactly for what X9 removed, what is read is what it keeps
   pub kept_in_place-kept : (stored values units : List BidiClass) (runs : List (ℕ × ℕ)) → length values ≡ length chars → units ≡ per_unit len_of chars values
@@ -129,8 +116,7 @@ module _ (len_of : ℕ → ℕ) (h : HasUnits len_of) (chars : List ℕ) where
       in_range low u high e = grind (arith, nat_tests)
 
   is_bn : (c : BidiClass) → is_kept_in_place c ≡ false → c ≡ BN
-  is_bn BN e = refl
-  is_bn _ e = absurd (cc e)
+  is_bn c e = grind arith
 
   -- a pass that leaves BN and what stands outside some runs changes no other character than theirs
   pub stays_elsewhere : (stored old new units units' : List BidiClass) (runs : List (ℕ × ℕ)) → AreLines len_of chars runs → length old ≡ length chars → length new ≡ length chars → units ≡ per_unit len_of chars old → units' ≡ per_unit len_of chars new

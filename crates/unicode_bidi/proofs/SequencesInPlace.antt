@@ -1,21 +1,21 @@
 -- The sequences of a paragraph, resolved in place one after another: what the classes of its characters say once some of them are.
-use Rattle.std.proofs.Common.{◌≡◌, ℕ, zero, suc, ◌+◌, ◌<◌, Bool, true, false, not, cond, eqb, lt-ltb, List, [], ◌∷◌, ◌++◌, length, map, get_or, take, append-nil, Option, None, refl, sym, ap, subst, ◌∙◌, arith, inl, inr}
-use Rattle.std.specs.Prelude.{filter, nat_lt, if◌then◌else◌}
+use Rattle.std.proofs.Common.{◌≡◌, ℕ, zero, suc, ◌+◌, ◌<◌, Bool, true, false, cond, eqb, lt-ltb, List, [], ◌∷◌, ◌++◌, length, map, get_or, take, Option, None, refl, sym, ap, subst, ◌∙◌, arith, inl, inr}
+use Rattle.std.specs.Prelude.{filter, nat_lt}
 use Rattle.std.specs.List.{list_all}
-use Rattle.std.proofs.lemmas.Bool.{cases_Bool, cases_eq, cond-true, cond-false, cond_both, both_ways, and_parts, and_from, not-true}
+use Rattle.std.proofs.lemmas.Bool.{cases_Bool, cases_eq, cond-true, cond-false, cond_both, both_ways, and_parts, and_from}
 use Rattle.std.proofs.lemmas.Grind.{flat_map-append}
 use Rattle.std.proofs.lemmas.List.Sums.{sum_by-append, count_by-le-length}
 use Rattle.bidi_base.specs.declared.char_data.BidiClass.{BidiClass}
-use Rattle.bidi_base.specs.declared.char_data.BidiClass.TheVariants.{L, R, EN, AN, BN}
+use Rattle.bidi_base.specs.declared.char_data.BidiClass.TheVariants.{L}
 use Rattle.bidi_base.specs.declared.data_source.BidiMatchedOpeningBracket.{BidiMatchedOpeningBracket}
-use Rattle.bidi_base.specs.Classes.{has_direction, is_kept, is_l_or_r, is_kept_in_place, is_neutral, is_removed, is_weak_resolved}
+use Rattle.bidi_base.specs.Classes.{has_direction, is_kept, is_l_or_r, is_kept_in_place, is_weak_resolved}
 use Rattle.bidi_base.specs.Places.{class_at, at_places, first_or}
-use Rattle.bidi_base.specs.Explicit.{explicit_class, explicit_levels, explicit_classes, processing_class, processing_classes}
+use Rattle.bidi_base.specs.Explicit.{explicit_levels, explicit_classes, processing_class, processing_classes}
 use Rattle.bidi_base.specs.Sequences.{RunSequence, is_kept_at, level_at, has_places, sequences}
 use Rattle.bidi_base.specs.Weak.{weak_classes}
-use Rattle.bidi_base.specs.Levels.{is_odd, direction_of}
+use Rattle.bidi_base.specs.Levels.{direction_of}
 use Rattle.bidi_base.specs.Neutral.{n2_rule, neutral_classes}
-use Rattle.bidi_base.specs.Implicit.{added_at_odd, added_at_even, implicit_level, implicit_levels}
+use Rattle.bidi_base.specs.Implicit.{implicit_level, implicit_levels}
 use Rattle.bidi_base.specs.Stored.{resolved_levels, AreResolved}
 use Rattle.bidi_base.proofs.ExplicitLemmas.{class_at-explicit_classes, class_at-processing_classes, length-processing_classes}
 use Rattle.bidi_base.proofs.MatchLevelsLemmas.{sequence-one_level}
@@ -25,16 +25,13 @@ use Rattle.bidi_base.proofs.StoredLemmas.{explicit_class-kept, explicit_classes-
 use Rattle.bidi_base.proofs.WeakLemmas.{weak_classes-resolved}
 
 is_kept_in_place-kept : (c : BidiClass) → is_kept c ≡ true → is_kept_in_place c ≡ true
-is_kept_in_place-kept BN h = absurd (cc h)
-is_kept_in_place-kept _ h = refl
+is_kept_in_place-kept c h = grind arith
 
 is_kept_in_place-directed : (e c : BidiClass) → has_direction (n2_rule e c) ≡ true → is_kept_in_place c ≡ true
-is_kept_in_place-directed e BN h = absurd (cc h)
-is_kept_in_place-directed e _ h = refl
+is_kept_in_place-directed e c h = grind arith
 
 is_kept_in_place-resolved : (c : BidiClass) → is_weak_resolved c ≡ true → is_kept_in_place c ≡ true
-is_kept_in_place-resolved BN h = absurd (cc h)
-is_kept_in_place-resolved _ h = refl
+is_kept_in_place-resolved c h = grind arith
 
 module _ (source : List BidiClass) (brackets : List (Option BidiMatchedOpeningBracket)) (stored : List BidiClass) (levels : List ℕ) (classes : List BidiClass) where
   -- the classes that W1 to N2 give a sequence
@@ -134,9 +131,7 @@ module _ (source : List BidiClass) (brackets : List (Option BidiMatchedOpeningBr
     weak_next-resolved now h = ap (list_all is_weak_resolved) h.weak ∙ weak_resolved
 
     places_push : (p : ℕ) → times_in (places_of (seqs ++ s ∷ [])) p ≡ times_in (places_of seqs) p + times_in s.places p
-    places_push p =
-        ap (λ (ps : List ℕ). times_in ps p) (flat_map-append (λ (r : RunSequence). r.places) seqs (s ∷ []) ∙ ap (λ (ps : List ℕ). places_of seqs ++ ps) (append-nil s.places))
-        ∙ sum_by-append (λ q. cond (eqb q p) 1 0) (places_of seqs) s.places
+    places_push p = grind (arith, flat_map-append, sum_by-append)
 
     pub IsUnderWay-more : (old new : List BidiClass) → IsWeakNext seqs s old → length new ≡ length old → StaysElsewhere s.places old new
         → map (n2_rule (own_direction s)) (at_places L new s.places) ≡ neutral_classes (level_at levels (first_or 0 s.places)) s.sos s.eos (at_places L source s.places) (at_places None brackets s.places) (at_places L old s.places)
@@ -161,26 +156,7 @@ module _ (source : List BidiClass) (brackets : List (Option BidiMatchedOpeningBr
 
   -- N2 changes no level: neither a neutral nor the direction of its level adds to it
   implicit_level-n2 : (level : ℕ) (c : BidiClass) → implicit_level level (n2_rule (direction_of level) c) ≡ implicit_level level c
-  implicit_level-n2 level c = elim (cases_Bool (is_neutral c)) [
-    | inl neutral ↦ ap (implicit_level level) (cond-true (is_neutral c) (direction_of level) c neutral) ∙ ap (λ n. level + n) (nothing_added level c neutral)
-    | inr other ↦ ap (implicit_level level) (cond-false (is_neutral c) (direction_of level) c other)
-  ]
-    where
-      added : Bool → BidiClass → ℕ
-      added odd c = if odd then added_at_odd c else added_at_even c
-
-      none : (odd : Bool) (c : BidiClass) → is_neutral c ≡ true → added odd (if odd then R else L) ≡ added odd c
-      none true L neutral = absurd (cc neutral)
-      none true EN neutral = absurd (cc neutral)
-      none true AN neutral = absurd (cc neutral)
-      none true _ neutral = refl
-      none false R neutral = absurd (cc neutral)
-      none false EN neutral = absurd (cc neutral)
-      none false AN neutral = absurd (cc neutral)
-      none false _ neutral = refl
-
-      nothing_added : (level : ℕ) (c : BidiClass) → is_neutral c ≡ true → added (is_odd level) (direction_of level) ≡ added (is_odd level) c
-      nothing_added level c neutral = none (is_odd level) c neutral
+  implicit_level-n2 level c = grind arith
 
   implicit_levels-n2 : (level : ℕ) (cs : List BidiClass) → implicit_levels level cs ≡ implicit_levels level (map (n2_rule (direction_of level)) cs)
   implicit_levels-n2 level [] = refl
@@ -223,24 +199,8 @@ module _ (source : List BidiClass) (brackets : List (Option BidiMatchedOpeningBr
 pub IsUnderWay-start : (paragraph : ℕ) (source : List BidiClass) (brackets : List (Option BidiMatchedOpeningBracket)) (stored : List BidiClass) (levels : List ℕ)
     → IsUnderWay source brackets stored levels (explicit_classes paragraph stored) [] (processing_classes paragraph stored)
 unfolding processing_class
-IsUnderWay-start paragraph source brackets stored levels = record {
-  long = length-processing_classes paragraph stored;
-  read = λ p within. ap is_kept_in_place (class_at-processing_classes paragraph stored p within) ∙ by_test p;
-  done = tt;
-  rest = λ p within kept none.
-      class_at-processing_classes paragraph stored p within
-      ∙ cond-false (is_removed (class_at stored p)) BN (explicit_class paragraph stored p) (not-true (is_removed (class_at stored p)) kept)
-      ∙ sym (class_at-explicit_classes paragraph stored p within);
-}
-  where
-    by_test : (p : ℕ) → is_kept_in_place (cond (is_removed (class_at stored p)) BN (explicit_class paragraph stored p)) ≡ is_kept_at stored p
-    by_test p = elim (cases_Bool (is_removed (class_at stored p))) [
-      | inl gone ↦ ap is_kept_in_place (cond-true (is_removed (class_at stored p)) BN (explicit_class paragraph stored p) gone) ∙ sym (ap not gone)
-      | inr stays ↦
-          ap is_kept_in_place (cond-false (is_removed (class_at stored p)) BN (explicit_class paragraph stored p) stays)
-          ∙ is_kept_in_place-kept (explicit_class paragraph stored p) (explicit_class-kept paragraph stored p (ap not stays))
-          ∙ sym (ap not stays)
-    ]
+IsUnderWay-start paragraph source brackets stored levels =
+    grind (arith, length-processing_classes, class_at-processing_classes, class_at-explicit_classes, is_kept_in_place-kept, explicit_class-kept)
 
 filter-at : {X : Type 0} (test : X → Bool) (xs : List X) (k : ℕ) (d : X) → k < length xs → test (get_or xs k d) ≡ true → (j : ℕ) × (j < length (filter test xs)) × (get_or (filter test xs) j d ≡ get_or xs k d)
 filter-at test [] k d within passes = absurd (omega arith)

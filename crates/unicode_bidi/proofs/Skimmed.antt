@@ -1,5 +1,5 @@
 -- Characters on which nothing depends, read one after another.
-use Rattle.std.proofs.Common.{suc, ◌≡◌, ℕ, ◌+◌, ◌-◌, ◌<◌, ◌≤◌, true, false, List, [], ◌∷◌, ◌++◌, length, take, drop, map, Some, set, inl, inr, refl, sym, ap, subst, ◌∙◌, arith, add-one, append_assoc, length-take, length-drop}
+use Rattle.std.proofs.Common.{suc, ◌≡◌, ℕ, ◌+◌, ◌-◌, ◌<◌, ◌≤◌, true, false, List, [], ◌∷◌, ◌++◌, length, take, drop, Some, set, inl, inr, refl, sym, ap, subst, ◌∙◌, arith, add-one, append_assoc, length-take, length-drop, rules}
 use Rattle.std.specs.Prelude.{replicate}
 use Rattle.std.proofs.Math.Seq.{drop-append_seam, take-suc-set}
 use Rattle.std.proofs.lemmas.List.{append-nil, map-append, length-map, take-append-le, take-append-drop}
@@ -9,7 +9,7 @@ use Rattle.std.proofs.lemmas.List.Elements.{All-nil, All-append, All-push}
 use Rattle.std.proofs.lemmas.List.Sums.{sum_by-append, sum_by-cons}
 use Rattle.bidi_base.specs.declared.char_data.BidiClass.{BidiClass}
 use Rattle.bidi_base.specs.Source.{Source}
-use Rattle.bidi_base.specs.Text.{text_len, char_at, ascii_of, ascii_at, char_index, is_boundary, subrange, per_unit, IsLine}
+use Rattle.bidi_base.specs.Text.{text_len, char_at, ascii_of, ascii_at, char_index, is_boundary, subrange, IsLine}
 use Rattle.bidi_base.proofs.TextLemmas.{HasUnits, char_at-append, char_index-append, is_boundary-append, is_boundary-le, cut_at}
 use Rattle.bidi_base.proofs.PlaceLemmas.{text_len-subrange}
 use Rattle.bidi_base.proofs.PerUnit.{per_unit-push, per_unit-append}
@@ -28,7 +28,7 @@ pub record AheadOf (len_of : ℕ → ℕ) (chars : List ℕ) (u : ℕ) : Type 0 
 
 module _ (len_of : ℕ → ℕ) (units : HasUnits len_of) where
   pub ahead-append : (xs ys : List ℕ) → ahead len_of (xs ++ ys) (text_len len_of xs) ≡ ys
-  ahead-append xs ys = ap (λ n. drop n (xs ++ ys)) (char_index-append len_of units xs ys) ∙ drop-append_seam xs ys
+  ahead-append xs ys = grind (arith, char_index-append, drop-append_seam)
 
   pub ahead_of : (chars : List ℕ) (u : ℕ) → is_boundary len_of chars u ≡ true → AheadOf len_of chars u
   ahead_of chars u b =
@@ -64,30 +64,14 @@ ascii_next len_of (d ∷ ds) c e =
     is_that d l c e = grind (arith, nat_tests)
 
 module _ (source : Source) (len_of : ℕ → ℕ) (minded : ClassSet) where
-  abbrev classes_of : List ℕ → List BidiClass
-  classes_of cs = map source.class_of cs
-
   -- ---- one character, and some characters, more
 
   pub AreWritten-push : (read : List ℕ) (from at c : ℕ) (old new after : List BidiClass) → AreWritten source len_of read from at old new
       → take (at + len_of c) after ≡ take at new ++ replicate (len_of c) (source.class_of c) → AreWritten source len_of (read ++ c ∷ []) from (at + len_of c) old after
-  AreWritten-push read from at c old new after h is = record {
-    long = omega (arith, h.long, sum_by-append len_of read (c ∷ []), sum_by-cons len_of c []);
-    classes =
-        is ∙ ap (λ us. us ++ replicate (len_of c) (source.class_of c)) h.classes
-        ∙ append_assoc (take from old) (per_unit len_of read (classes_of read)) (replicate (len_of c) (source.class_of c))
-        ∙ ap (λ us. take from old ++ us)
-        (sym (per_unit-push len_of read (classes_of read) c (source.class_of c) (length-map read source.class_of)) ∙ ap (per_unit len_of (read ++ c ∷ [])) (sym (map-append source.class_of read (c ∷ []))));
-  }
+  AreWritten-push read from at c old new after h is = grind (arith, sum_by-append, append_assoc, per_unit-push, length-map, map-append)
 
   AreWritten-join : (xs ys : List ℕ) (from at to : ℕ) (old new after : List BidiClass) → AreWritten source len_of xs from at old new → AreWritten source len_of ys at to new after → AreWritten source len_of (xs ++ ys) from to old after
-  AreWritten-join xs ys from at to old new after h k = record {
-    long = omega (arith, h.long, k.long, sum_by-append len_of xs ys);
-    classes =
-        k.classes ∙ ap (λ us. us ++ per_unit len_of ys (classes_of ys)) h.classes
-        ∙ append_assoc (take from old) (per_unit len_of xs (classes_of xs)) (per_unit len_of ys (classes_of ys))
-        ∙ ap (λ us. take from old ++ us) (sym (per_unit-append len_of xs ys (classes_of xs) (classes_of ys) (length-map xs source.class_of)) ∙ ap (per_unit len_of (xs ++ ys)) (sym (map-append source.class_of xs ys)));
-  }
+  AreWritten-join xs ys from at to old new after h k = grind (arith, sum_by-append, append_assoc, per_unit-append, length-map, map-append)
 
   -- where the units from `at` on were handed on
   AreWritten-part : (read : List ℕ) (at to : ℕ) (old part new tail : List BidiClass) → at ≤ length old → to ≤ length new → AreWritten source len_of read 0 to part new → AreWritten source len_of read at (at + to) old (take at old ++ (new ++ tail))
@@ -107,7 +91,7 @@ module _ (source : Source) (len_of : ℕ → ℕ) (minded : ClassSet) where
 
   -- it begins in what came
   pub IsMet-within : (coming : List ℕ) (from : ℕ) (met : Met) (old new : List BidiClass) → IsMet source len_of minded coming from met old new → met.start ≤ from + text_len len_of coming
-  IsMet-within coming from met old new h = omega (arith, h.begins, ap (text_len len_of) h.joined, sum_by-append len_of h.read (met.c ∷ h.rest))
+  IsMet-within coming from met old new h = grind (arith, sum_by-append)
 
   unfoldable pub IsSkimmed-start : (coming : List ℕ) (at : ℕ) (classes : List BidiClass) → IsSkimmed source len_of minded coming at at classes classes
   IsSkimmed-start coming at classes = record {
@@ -175,15 +159,11 @@ module _ (source : Source) (len_of : ℕ → ℕ) (minded : ClassSet) where
 
       split : chars ≡ passed ++ h.rest
       unfolding passed
-      split =
-          let w = ahead_of len_of units chars from begins in
-          w.joined ∙ ap (λ cs. w.front ++ cs) (sym is_ahead ∙ h.joined) ∙ sym (append_assoc w.front h.read h.rest)
+      split = grind (arith, append_assoc)
 
       passed_long : text_len len_of passed ≡ at
       unfolding passed
-      passed_long =
-          let w = ahead_of len_of units chars from begins in
-          omega (arith, sum_by-append len_of w.front h.read, w.long, h.written.long)
+      passed_long = grind (arith, sum_by-append)
 
       pub is_boundary-skimmed : is_boundary len_of chars at ≡ true
       is_boundary-skimmed = ap (λ cs. is_boundary len_of cs at) split ∙ ap (is_boundary len_of (passed ++ h.rest)) (sym passed_long) ∙ is_boundary-append len_of passed h.rest
@@ -282,7 +262,7 @@ module _ (source : Source) (len_of : ℕ → ℕ) (minded : ClassSet) (units : H
   skimmed = IsSkimmed-on source len_of minded (ahead len_of chars from) from at old now h units chars begins refl start new k
 
   pub start-within : start ≤ text_len len_of chars
-  start-within = within-skimmed source len_of minded (ahead len_of chars from) from start old new skimmed units chars begins refl
+  start-within = search (rules, within-skimmed, skimmed)
 
   -- a block begins there
   module _ (end : ℕ) (order : start ≤ end) (boundary : is_boundary len_of chars end ≡ true) where

@@ -1,21 +1,20 @@
 -- A line of a text whose stored classes and levels pass the test `is_per_char`, as those of the info types do.
-use Rattle.std.proofs.Common.{◌≡◌, ◌∙◌, ℕ, ◌≤◌, List, length, ap, sym, subst, false, arith}
+use Rattle.std.proofs.Common.{◌≡◌, ◌∙◌, ℕ, ◌≤◌, List, length, ap, sym, false, arith}
 use Rattle.std.specs.Prelude.{IsTrue, slice_range}
 use Rattle.std.specs.declared.ops.Range.{Range}
-use Rattle.bidi_base.specs.Analysed.{AnalysedText, line_levels_per_char, AreLevelsWithLine, AreLevelsOfLine, AreRunsOfLine, IsTextOfLine, levels_with_line_per_char}
+use Rattle.bidi_base.specs.Analysed.{AnalysedText, line_levels_per_char, AreLevelsWithLine, AreLevelsOfLine, IsTextOfLine, levels_with_line_per_char}
 use Rattle.bidi_base.specs.declared.char_data.BidiClass.{BidiClass}
 use Rattle.bidi_base.specs.declared.char_data.BidiClass.TheVariants.{L}
-use Rattle.bidi_base.specs.Display.{Run, line_text, visual_runs, AreVisualRuns}
+use Rattle.bidi_base.specs.Display.{line_text}
 use Rattle.bidi_base.specs.Levels.{has_rtl}
 use Rattle.bidi_base.specs.Line.{levels_of_line, levels_with_line, char_levels_of_line, char_levels_with_line}
-use Rattle.bidi_base.specs.Text.{text_len, char_index, subrange, per_char, is_per_char, IsLine, IsPerChar}
+use Rattle.bidi_base.specs.Text.{text_len, subrange, per_char, is_per_char, IsLine, IsPerChar}
 use Rattle.bidi_base.proofs.PerUnit.{length-per_char, per_char-per_unit}
 use Rattle.bidi_base.proofs.PlaceLemmas.{line_places, text_len-subrange}
 use Rattle.bidi_base.proofs.PerCharTests.{class_eq, class_test, level_eq, level_test}
 use Rattle.bidi_base.proofs.TextLemmas.{HasUnits}
 use Rattle.bidi_base.proofs.UnitsLemmas.{IsPerChar-from_is_per_char, length-from_IsPerChar}
 use Rattle.bidi_lines.proofs.LineInText.{length-part, length-line}
-use Rattle.bidi_lines.proofs.VisualRuns.{visual_runs-are}
 use Rattle.unicode_bidi.proofs.TextOfLine as line_of
 
 module _ (len_of : ℕ → ℕ) (some : HasUnits len_of) (chars : List ℕ) where
@@ -85,25 +84,11 @@ module _ (len_of : ℕ → ℕ) (some : HasUnits len_of) (chars : List ℕ) wher
         of_text encode units shown
         (e ∙ sym (line_of.line_text-still len_of some chars level classes levels line.start line.end (classes_IsPerChar classes of_classes) (levels_IsPerChar levels of_levels) is_line encode units long even))
 
--- the runs of the line's levels are the runs of the line
-pub AreRunsOfLine-from_levels : (a : AnalysedText) (level : ℕ) (line : Range ℕ) (levels : List ℕ) (runs : List Run) → AreLevelsOfLine a level line levels
-    → runs ≡ visual_runs line.start levels → AreRunsOfLine a level line runs
-AreRunsOfLine-from_levels a level line levels runs h e =
-    let shown : List ℕ = levels_of_line level a.classes a.levels line.start line.end in
-    let same : runs ≡ visual_runs line.start shown = e ∙ ap (visual_runs line.start) h.units in
-    record { runs = same; visual = subst (AreVisualRuns line.start shown) (sym same) (visual_runs-are line.start shown) }
-
 -- ---- the levels of the line's characters
 
 module _ (a : AnalysedText) (some : HasUnits a.len_of) (level : ℕ) (line : Range ℕ) (is_line : IsLine a.len_of a.chars line.start line.end) where
   length-line_levels_per_char : length (line_levels_per_char a level line) ≡ length (subrange a.len_of a.chars line.start line.end)
-  length-line_levels_per_char =
-      let w = line_places a.len_of some a.chars line.start line.end is_line in
-      let i : ℕ = char_index a.len_of a.chars line.start in
-      let j : ℕ = char_index a.len_of a.chars line.end in
-      length-line level (per_char L a.len_of a.chars a.classes) (per_char 0 a.len_of a.chars a.levels) i j
-      (length-per_char 0 a.len_of a.chars a.levels ∙ sym (length-per_char L a.len_of a.chars a.classes)) w.ordered (omega (arith, w.within, length-per_char 0 a.len_of a.chars a.levels))
-      ∙ sym (length-part a.chars i j w.within)
+  length-line_levels_per_char = grind (arith, line_places, length-line, length-per_char, length-part)
 
   module _ (shown : List ℕ) (levels : AreLevelsOfLine a level line shown) where
     -- one level a unit of the line's text

@@ -27,9 +27,7 @@ use Rattle.bidi_lines.proofs.VisualRuns.{visual_runs-are}
 pub line_text-empty : (len_of : ℕ → ℕ) (encode : ℕ → List ℕ) (chars units : List ℕ) (level : ℕ) (classes : List BidiClass) (levels : List ℕ) (start end : ℕ) → start ≡ end
     → line_text len_of encode chars units level classes levels start end ≡ []
 unfolding line_text line_levels line_levels_after reordered_text visual_order
-line_text-empty len_of encode chars units level classes levels start end same =
-    let none : char_index len_of chars end - char_index len_of chars start ≡ 0 = rw same (omega arith) in
-    rw none
+line_text-empty len_of encode chars units level classes levels start end same = grind arith
 
 -- each run is a level run, where it begins
 pub runs_begin : (start : ℕ) (levels : List ℕ) (ranges : List (Range ℕ)) → AreVisualRuns start levels (map run_of ranges)
@@ -49,7 +47,7 @@ module _ (len_of : ℕ → ℕ) (h : HasUnits len_of) (chars : List ℕ) (level 
   line-same_len = length-from_IsPerChar len_of chars levels of_levels ∙ sym (length-from_IsPerChar len_of chars classes of_classes)
 
   pub line-within : end ≤ length levels
-  line-within = omega (arith, ends.ends, place-le len_of chars (char_index len_of chars end), length-from_IsPerChar len_of chars levels of_levels)
+  line-within = grind (arith, ends, place-le, length-from_IsPerChar)
 
   pub length-levels_of_line : length (levels_of_line level classes levels start end) ≡ end - start
   length-levels_of_line = length-line level classes levels start end line-same_len line.ordered line-within
@@ -59,14 +57,10 @@ module _ (len_of : ℕ → ℕ) (h : HasUnits len_of) (chars : List ℕ) (level 
   of_chars = levels_of_line level (per_char L len_of chars classes) (per_char 0 len_of chars levels) (char_index len_of chars start) (char_index len_of chars end)
 
   part_long : {X : Type 0} (values : List X) → length values ≡ length chars → length (slice_range values (char_index len_of chars start) (char_index len_of chars end)) ≡ length (subrange len_of chars start end)
-  part_long values e =
-      length-part values (char_index len_of chars start) (char_index len_of chars end) (omega (arith, ends.within))
-      ∙ sym (length-part chars (char_index len_of chars start) (char_index len_of chars end) ends.within)
+  part_long values e = grind (arith, length-part, ends)
 
   length-of_chars : length of_chars ≡ char_index len_of chars end - char_index len_of chars start
-  length-of_chars =
-      length-line level (per_char L len_of chars classes) (per_char 0 len_of chars levels) (char_index len_of chars start) (char_index len_of chars end)
-      (length-per_char 0 len_of chars levels ∙ sym (length-per_char L len_of chars classes)) ends.ordered (omega (arith, ends.within, length-per_char 0 len_of chars levels))
+  length-of_chars = grind (arith, length-line, length-per_char, ends)
 
   -- L1 on the line's units is L1 on its characters
   pub levels_of_line-per_unit : levels_of_line level classes levels start end
@@ -83,7 +77,7 @@ module _ (len_of : ℕ → ℕ) (h : HasUnits len_of) (chars : List ℕ) (level 
       (part_long (per_char L len_of chars classes) (length-per_char L len_of chars classes)) (part_long (per_char 0 len_of chars levels) (length-per_char 0 len_of chars levels))
 
   of_chars_long : length of_chars ≡ length (subrange len_of chars start end)
-  of_chars_long = length-of_chars ∙ sym (length-part chars (char_index len_of chars start) (char_index len_of chars end) ends.within)
+  of_chars_long = grind (arith, length-of_chars, length-part, ends)
 
   -- the ends of the runs cut no character
   pub runs_at_boundaries : (ranges : List (Range ℕ)) → map run_of ranges ≡ visual_runs start (levels_of_line level classes levels start end) → All (λ r. IsLine len_of chars r.start r.end) ranges
@@ -111,13 +105,7 @@ module _ (len_of : ℕ → ℕ) (h : HasUnits len_of) (chars : List ℕ) (level 
       → flat_map (run_text_in len_of encode chars units start (levels_of_line level classes levels start end)) runs
       ≡ line_text len_of encode chars units level (per_char L len_of chars classes) (per_char 0 len_of chars levels) start end
   unfolding line_text
-  flat_map-runs encode units runs long e =
-      ap (flat_map (run_text_in len_of encode chars units start (levels_of_line level classes levels start end))) e
-      ∙ ap (λ (ls : List ℕ). flat_map (run_text_in len_of encode chars units start ls) (visual_runs start ls)) levels_of_line-per_unit
-      ∙ ap (λ (u : ℕ). flat_map (run_text_in len_of encode chars units u (per_unit len_of (subrange len_of chars start end) of_chars)) (visual_runs u (per_unit len_of (subrange len_of chars start end) of_chars))) ends.begins
-      ∙ sym (reordered_text-line len_of h encode chars units of_chars (char_index len_of chars start) (char_index len_of chars end) ends.ordered ends.within
-      (long ∙ sym (place-end len_of chars (length chars) (omega arith))) length-of_chars)
-      ∙ ap₂ (λ (a b : ℕ). reordered_text len_of encode (subrange len_of chars start end) (slice_range units a b) of_chars) (sym ends.begins) (sym ends.ends)
+  flat_map-runs encode units runs long e = grind (arith, levels_of_line-per_unit, ends, reordered_text-line, place-end, length-of_chars)
 
   -- where no level is odd the text stays as it is
   pub line_text-still : (encode : ℕ → List ℕ) (units : List ℕ) → length units ≡ text_len len_of chars → has_rtl (levels_of_line level classes levels start end) ≡ false
@@ -130,10 +118,7 @@ module _ (len_of : ℕ → ℕ) (h : HasUnits len_of) (chars : List ℕ) (level 
       (none_odd of_chars (sym (ap has_rtl levels_of_line-per_unit ∙ list_any-per_unit is_odd len_of h (subrange len_of chars start end) of_chars of_chars_long) ∙ even))
 
   length-char_levels_with_line : length (char_levels_with_line len_of chars level classes levels start end) ≡ length chars
-  length-char_levels_with_line =
-      length-levels_with_line level (per_char L len_of chars classes) (per_char 0 len_of chars levels) (char_index len_of chars start) (char_index len_of chars end)
-      (length-per_char 0 len_of chars levels ∙ sym (length-per_char L len_of chars classes)) ends.ordered (omega (arith, ends.within, length-per_char 0 len_of chars levels))
-      ∙ length-per_char 0 len_of chars levels
+  length-char_levels_with_line = grind (arith, length-levels_with_line, length-per_char, ends)
 
   -- the levels of all units, those of the line after L1, are those of their characters
   pub levels_with_line-chars : levels_with_line level classes levels start end ≡ per_unit len_of chars (char_levels_with_line len_of chars level classes levels start end)
@@ -148,4 +133,4 @@ module _ (len_of : ℕ → ℕ) (h : HasUnits len_of) (chars : List ℕ) (level 
 
   -- a unit of the line has an odd level just where a character has
   pub has_rtl-chars : has_rtl (levels_of_line level classes levels start end) ≡ has_rtl (char_levels_of_line len_of chars level classes levels start end)
-  has_rtl-chars = ap has_rtl levels_of_line-per_unit ∙ list_any-per_unit is_odd len_of h (subrange len_of chars start end) of_chars of_chars_long
+  has_rtl-chars = grind (arith, levels_of_line-per_unit, list_any-per_unit, of_chars_long)

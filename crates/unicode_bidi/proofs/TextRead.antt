@@ -1,7 +1,8 @@
 -- What the walk over a text holds once n characters were read.
-use Rattle.std.proofs.Common.{◌≡◌, ℕ, ◌+◌, ◌<◌, ◌≤◌, Bool, true, false, cond, ◌&&◌, ◌==◌, List, [], ◌∷◌, ◌++◌, length, get_or, take, drop, map, Option, Some, None, option_map, unwrap_or, refl, sym, ap, subst, ◌∙◌, arith, ◌⊎◌, inl, inr, append_assoc, length-append, length-take}
+use Rattle.std.proofs.Common.{◌≡◌, ℕ, ◌+◌, ◌<◌, ◌≤◌, Bool, true, false, cond, List, [], ◌∷◌, ◌++◌, length, get_or, take, drop, map, Option, Some, None, option_map, unwrap_or, refl, sym, ap, subst, ◌∙◌, arith, ◌⊎◌, inl, inr, append_assoc, length-append, length-take}
+use Rattle.std.proofs.lemmas.Grind.{common_steps}
 use Rattle.std.specs.Prelude.{All, replicate}
-use Rattle.std.specs.Option.{option_or, is_none}
+use Rattle.std.specs.Option.{is_none}
 use Rattle.std.specs.declared.ops.Range.{Range}
 use Rattle.std.proofs.lemmas.List.{append-nil, map-append, length-map, take_more, take_all, drop_all, get_or-append-add, length-take-le, take-append-drop}
 use Rattle.std.proofs.lemmas.Bool.{cases_Bool, both_ways, cond-true, cond-false}
@@ -12,14 +13,14 @@ use Rattle.bidi_base.specs.declared.char_data.BidiClass.TheVariants.{L}
 use Rattle.bidi_base.specs.Classes.{is_strong, is_paragraph_separator}
 use Rattle.bidi_base.specs.Isolates.{deciding_class, level_by, paragraph_level, resolved_fsi, stored_classes}
 use Rattle.bidi_base.specs.Places.{class_at}
-use Rattle.bidi_base.specs.Paragraphs.{begins_with_line_feed, ranges_from}
-use Rattle.bidi_base.specs.Reading.{innermost, decided_by, is_fsi, met_units, filled}
+use Rattle.bidi_base.specs.Paragraphs.{ranges_from}
+use Rattle.bidi_base.specs.Reading.{innermost, is_fsi, met_units, filled}
 use Rattle.bidi_base.specs.Source.{Source}
 use Rattle.bidi_base.specs.Stored.{text_classes, paragraph_levels}
 use Rattle.bidi_base.specs.Text.{char_at, place, text_len, per_unit}
 use Rattle.bidi_base.proofs.TextLemmas.{HasUnits, char_at-append, length-le-text_len}
 use Rattle.bidi_base.proofs.PerUnit.{per_unit-push, get_or-per_unit-place}
-use Rattle.bidi_base.proofs.PlaceLemmas.{place-le, place-end, place-lt, place-mono, place-more}
+use Rattle.bidi_base.proofs.PlaceLemmas.{place-le, place-lt, place-mono, place-more}
 use Rattle.bidi_base.proofs.ParagraphsLemmas.{joined, length-text_classes, IsCut, IsCut-start, IsCut-more, IsCut-stop, IsCut-last, IsCut-none, ranges_from-push}
 use Rattle.bidi_base.proofs.ReadingLemmas.{char_units, char_units-take, met_units-char, innermost-All}
 use Rattle.bidi_base.proofs.StoredSteps.{open_initiators, open_initiators-push, met_by, stored_classes-push, stored_classes-nil, length-stored_classes, length-met_by, open_initiators-below, deciding_class-push, deciding_class-nil}
@@ -28,18 +29,17 @@ use Rattle.unicode_bidi.specs.declared.first_walk.Reading.{Reading}
 use Rattle.unicode_bidi.specs.declared.first_walk.TextReading.{TextReading}
 use Rattle.unicode_bidi.specs.declared.first_walk.Undecided.{Undecided}
 use Rattle.unicode_bidi.specs.declared.paragraph_info.ParagraphInfo.{ParagraphInfo}
-use Rattle.unicode_bidi.specs.FirstWalk.{waiting, depth_after, undecided_after, deciding_after, classes_after, IsFresh, IsReadBy, IsClosed}
+use Rattle.unicode_bidi.specs.FirstWalk.{waiting, classes_after, IsFresh, IsReadBy, IsClosed}
 use Rattle.unicode_bidi.specs.ParagraphInfo.{ranges_of, levels_of}
-use Rattle.unicode_bidi.specs.ParagraphFlags.{flags_of, with_class, paragraph_flags}
+use Rattle.unicode_bidi.specs.ParagraphFlags.{flags_of, paragraph_flags}
 use Rattle.unicode_bidi.specs.SplitRule.{ends_by, ends_after, pieces_by}
 use Rattle.unicode_bidi.specs.declared.split_rule.SplitRule.{SplitRule}
-use Rattle.unicode_bidi.specs.declared.split_rule.SplitRule.TheVariants.{EachSeparator, CrLfTogether}
 use Rattle.unicode_bidi.proofs.FlagsLemmas.{with_classes-push}
 use Rattle.unicode_bidi.proofs.PutUnits.{take-filled, filled-append}
 use Rattle.unicode_bidi.proofs.Undecided.{undecided_from, waits_of, fsi_at, waiting-is, undecided-more, deciding-more, length-opened_by, open_initiators-few, All-undecided}
 
 pub take-turn : (chars : List ℕ) (n c : ℕ) → n < length chars → get_or chars n 0 ≡ c → take (n + 1) chars ≡ take n chars ++ c ∷ []
-take-turn chars n c within is_char = take_more chars n 0 within ∙ ap (λ (x : ℕ). take n chars ++ x ∷ []) is_char
+take-turn chars n c within is_char = grind (arith, take_more)
 
 -- what the walk has seen: the classes of the units, and the paragraphs that ended
 pub record Seen : Type 0 where
@@ -85,37 +85,24 @@ module _ (source : Source) (len_of : ℕ → ℕ) (chars : List ℕ) where
 
   text_classes-push : (done : List (List ℕ)) (p : List ℕ) → text_classes source (done ++ p ∷ []) ≡ text_classes source done ++ stored_classes (classes_of p)
   unfolding text_classes
-  text_classes-push done p =
-      flat_map-append (λ (piece : List ℕ). stored_classes (classes_of piece)) done (p ∷ []) ∙ ap (λ (cs : List BidiClass). text_classes source done ++ cs) (append-nil (stored_classes (classes_of p)))
+  text_classes-push done p = grind (arith, flat_map-append, append-nil)
 
   paragraph_levels-push : (base : Option ℕ) (done : List (List ℕ)) (p : List ℕ) → paragraph_levels source base (done ++ p ∷ []) ≡ paragraph_levels source base done ++ unwrap_or base (level_by (deciding_class (classes_of p))) ∷ []
   unfolding paragraph_levels paragraph_level
-  paragraph_levels-push base done p = map-append (λ (piece : List ℕ). paragraph_level base (classes_of piece)) done (p ∷ [])
+  paragraph_levels-push base done p = grind (arith, map-append)
 
   paragraph_flags-push : (done : List (List ℕ)) (p : List ℕ) → paragraph_flags source (done ++ p ∷ []) ≡ paragraph_flags source done ++ flags_of (classes_of p) ∷ []
   unfolding paragraph_flags
   paragraph_flags-push done p = map-append (λ (piece : List ℕ). flags_of (classes_of piece)) done (p ∷ [])
 
   joined-push : (done : List (List ℕ)) (p : List ℕ) → joined (done ++ p ∷ []) ≡ joined done ++ p
-  joined-push done p = flat_map-append (λ (piece : List ℕ). piece) done (p ∷ []) ∙ ap (λ (cs : List ℕ). joined done ++ cs) (append-nil p)
+  joined-push done p = grind (arith, flat_map-append, append-nil)
 
   -- ---- the start
 
   pub IsTextRead-start : (base : Option ℕ) (found : Seen) (reading : Reading) → length found.units ≡ text_len len_of chars → found.paragraphs ≡ [] → found.flags ≡ [] → IsFresh reading 0 → IsTextRead base 0 [] [] found reading
   unfolding text_classes paragraph_levels paragraph_flags
-  IsTextRead-start base found reading sized no_paragraphs no_flags fresh = record {
-    whole = refl;
-    sized = sized;
-    classes = sym (ap (per_unit len_of []) stored_classes-nil);
-    ranges = ap ranges_of no_paragraphs;
-    levels = ap levels_of no_paragraphs;
-    flags = no_flags;
-    start = fresh.here;
-    depth = fresh.depth;
-    undecided = fresh.undecided;
-    deciding = fresh.deciding ∙ sym deciding_class-nil;
-    turns = fresh.turns;
-  }
+  IsTextRead-start base found reading sized no_paragraphs no_flags fresh = grind (arith, deciding_class-nil)
 
   -- ---- the end of a paragraph
 
@@ -129,11 +116,7 @@ module _ (source : Source) (len_of : ℕ → ℕ) (chars : List ℕ) where
 
     -- it is not empty exactly if it begins before the end
     pub current-some : HasUnits len_of → reading.start < place len_of chars n → 0 < length current
-    current-some units order = some current read_to
-      where
-        some : (cs : List ℕ) → place len_of chars n ≡ text_len len_of (joined done) + text_len len_of cs → 0 < length cs
-        some [] e = absurd (omega (arith, h.start))
-        some (c ∷ cs) e = omega arith
+    current-some units order = grind (arith, common_steps)
 
     pub current-none : HasUnits len_of → place len_of chars n ≤ reading.start → current ≡ []
     current-none units order = none current read_to
@@ -144,49 +127,15 @@ module _ (source : Source) (len_of : ℕ → ℕ) (chars : List ℕ) where
 
     pub IsTextDone-close : (closed : Seen) (end : ℕ) → end ≡ place len_of chars n → closed.units ≡ found.units
         → IsClosed base reading end found.paragraphs found.flags closed.paragraphs closed.flags → IsTextDone base n (done ++ current ∷ []) closed
-    IsTextDone-close closed end here same ended = record {
-      whole = joined-push done current ∙ h.whole;
-      sized = ap length same ∙ h.sized;
-      classes = ap (take (place len_of chars n)) same ∙ h.classes ∙ ap (per_unit len_of (take n chars)) (sym (text_classes-push done current));
-      ranges =
-          let front : 0 + text_len len_of (joined done) ≡ text_len len_of (joined done) = omega arith in
-          ended.ranges ∙ ap (λ (rs : List (ℕ × ℕ)). rs ++ (reading.start, end) ∷ []) h.ranges
-          ∙ ap (λ (a : ℕ). ranges_from len_of 0 done ++ (a, end) ∷ []) (h.start ∙ sym front)
-          ∙ ap (λ (b : ℕ). ranges_from len_of 0 done ++ (0 + text_len len_of (joined done), b) ∷ []) (here ∙ read_to ∙ ap (λ (a : ℕ). a + text_len len_of current) (sym front))
-          ∙ sym (ranges_from-push len_of 0 done current);
-      levels =
-          ended.levels ∙ ap (λ (ls : List ℕ). ls ++ unwrap_or base (level_by reading.deciding) ∷ []) h.levels
-          ∙ ap (λ (d : Option BidiClass). paragraph_levels source base done ++ unwrap_or base (level_by d) ∷ []) h.deciding ∙ sym (paragraph_levels-push base done current);
-      flags = ended.flags ∙ ap (λ (fs : List ParagraphFlags). fs ++ reading.flags ∷ []) h.flags ∙ ap (λ (f : ParagraphFlags). paragraph_flags source done ++ f ∷ []) h.turns ∙ sym (paragraph_flags-push done current);
-    }
+    IsTextDone-close closed end here same ended =
+        grind (arith, joined-push, text_classes-push, read_to, ranges_from-push, paragraph_levels-push, paragraph_flags-push)
 
   pub IsTextDone-none : (base : Option ℕ) (n : ℕ) (done : List (List ℕ)) (current : List ℕ) (found : Seen) (reading : Reading) → current ≡ [] → IsTextRead base n done current found reading → IsTextDone base n done found
-  IsTextDone-none base n done current found reading none h = record {
-    whole = sym (append-nil (joined done)) ∙ ap (λ (cs : List ℕ). joined done ++ cs) (sym none) ∙ h.whole;
-    sized = h.sized;
-    classes =
-        h.classes ∙ ap (λ (cs : List ℕ). per_unit len_of (take n chars) (text_classes source done ++ stored_classes (classes_of cs))) none
-        ∙ ap (λ (cs : List BidiClass). per_unit len_of (take n chars) (text_classes source done ++ cs)) stored_classes-nil ∙ ap (per_unit len_of (take n chars)) (append-nil (text_classes source done));
-    ranges = h.ranges;
-    levels = h.levels;
-    flags = h.flags;
-  }
+  IsTextDone-none base n done current found reading none h = grind (arith, append-nil, stored_classes-nil)
 
   -- the next paragraph begins
   pub IsTextRead-next : (base : Option ℕ) (n : ℕ) (done : List (List ℕ)) (found : Seen) (reading : Reading) → IsTextDone base n done found → IsFresh reading (place len_of chars n) → IsTextRead base n done [] found reading
-  IsTextRead-next base n done found reading h fresh = record {
-    whole = append-nil (joined done) ∙ h.whole;
-    sized = h.sized;
-    classes = h.classes ∙ ap (per_unit len_of (take n chars)) (sym (append-nil (text_classes source done)) ∙ ap (λ (cs : List BidiClass). text_classes source done ++ cs) (sym stored_classes-nil));
-    ranges = h.ranges;
-    levels = h.levels;
-    flags = h.flags;
-    start = fresh.here ∙ ap (text_len len_of) (sym h.whole);
-    depth = fresh.depth;
-    undecided = fresh.undecided;
-    deciding = fresh.deciding ∙ sym deciding_class-nil;
-    turns = fresh.turns;
-  }
+  IsTextRead-next base n done found reading h fresh = grind (arith, append-nil, stored_classes-nil, deciding_class-nil)
 
   -- ---- one more character
 
@@ -196,9 +145,7 @@ module _ (source : Source) (len_of : ℕ → ℕ) (chars : List ℕ) where
 
     -- the open initiators stand among the units read
     units_within : (q : ℕ) → q < length (classes_of current) → ((units_after done q).start < (units_after done q).end) × ((units_after done q).end ≤ place len_of chars n)
-    units_within q below =
-        let index : length (joined done) + q < n = omega (arith, long, length-map current source.class_of) in
-        (place-lt len_of chars units (length (joined done) + q) (length (joined done) + q + 1) (omega arith) (omega arith), place-mono len_of chars (length (joined done) + q + 1) n (omega arith))
+    units_within q below = grind (arith, long, length-map, place-lt)
 
     pub open_within : All (λ (u : Undecided). (u.units.start ≤ u.units.end) × (u.units.end ≤ length found.units)) reading.undecided.items
     open_within =
@@ -210,16 +157,11 @@ module _ (source : Source) (len_of : ℕ → ℕ) (chars : List ℕ) where
 
     -- where none is open, none is undecided
     pub undecided-none : reading.depth ≡ 0 → reading.undecided.items ≡ []
-    undecided-none none = h.undecided ∙ ap (undecided_from (units_after done) 0 (stored_classes (classes_of current))) (nothing (open_initiators (classes_of current)) (sym h.depth ∙ none))
-      where
-        nothing : (qs : List ℕ) → length qs ≡ 0 → qs ≡ []
-        nothing [] e = refl
-        nothing (q ∷ qs) e = absurd (omega arith)
+    undecided-none none = grind (arith, common_steps)
 
     -- and there are no more of them than units
     pub depth-le : reading.depth ≤ place len_of chars n
-    depth-le =
-        omega (arith, h.depth, open_initiators-few (classes_of current), length-map current source.class_of, long, length-take n chars, length-le-text_len len_of units (take n chars))
+    depth-le = grind (arith, open_initiators-few, length-map, long, length-take, length-le-text_len)
 
     module _ (c : ℕ) (is_char : get_or chars n 0 ≡ c) (class : BidiClass) (is_class : class ≡ source.class_of c) where
       read_more : take (n + 1) chars ≡ take n chars ++ c ∷ []
@@ -242,9 +184,7 @@ module _ (source : Source) (len_of : ℕ → ℕ) (chars : List ℕ) where
       index-below q e = innermost-All (λ (q : ℕ). q < length so_far) (open_initiators so_far) q (open_initiators-below so_far) e
 
       units_taken : (q : ℕ) → q < length so_far → char_units len_of (take n chars) (length (text_classes source done) + q) ≡ units_after done q
-      units_taken q below =
-          let index : length (joined done) + q < n = omega (arith, long, length-map current source.class_of) in
-          ap (λ (m : ℕ). char_units len_of (take n chars) (m + q)) (length-text_classes source done) ∙ char_units-take len_of chars n (length (joined done) + q) index
+      units_taken q below = grind (arith, long, length-map, length-text_classes, char_units-take)
 
       stored_below : (q : ℕ) → q < length so_far → q < length (stored_classes so_far)
       stored_below q below = omega (arith, below, length-stored_classes so_far)
@@ -273,9 +213,7 @@ module _ (source : Source) (len_of : ℕ → ℕ) (chars : List ℕ) where
       -- its units, as they are written
       pub drawn-is : (drawn : List BidiClass) (from : ℕ) → from ≡ place len_of chars n → take (from + len_of c) drawn ≡ take from found.units ++ replicate (len_of c) class
           → take (place len_of chars (n + 1)) drawn ≡ read_units ++ replicate (len_of c) class
-      drawn-is drawn from from_is written =
-          let to_is : place len_of chars (n + 1) ≡ from + len_of c = omega (arith, from_is, place-more len_of chars n 0 within, ap len_of is_char) in
-          ap (λ (m : ℕ). take m drawn) to_is ∙ written ∙ ap (λ (m : ℕ). take m found.units ++ replicate (len_of c) class) from_is
+      drawn-is drawn from from_is written = grind (arith, place-more)
 
       -- once the units of the character are written
       module _ (drawn : List BidiClass) (drawn_is : take (place len_of chars (n + 1)) drawn ≡ read_units ++ replicate (len_of c) class) (drawn_long : length drawn ≡ length found.units) where
@@ -285,14 +223,7 @@ module _ (source : Source) (len_of : ℕ → ℕ) (chars : List ℕ) where
         -- what the one that waits takes stays before them
         take-after : (u : Undecided) → u.units.start < u.units.end → u.units.end ≤ place len_of chars n
             → take (place len_of chars (n + 1)) (classes_after class (Some u) drawn) ≡ classes_after class (Some u) read_units ++ row
-        take-after u some fits = by_test (is_strong class)
-          where
-            by_test : (b : Bool) → take (place len_of chars (n + 1)) (cond b (filled u.units (resolved_fsi (Some class)) drawn) drawn) ≡ cond b (filled u.units (resolved_fsi (Some class)) read_units) read_units ++ row
-            by_test true =
-                take-filled u.units (resolved_fsi (Some class)) drawn (omega arith) (place len_of chars (n + 1)) (omega (arith, place-mono len_of chars n (n + 1) (omega arith))) (omega (arith, drawn_long, h.sized, place-le len_of chars (n + 1)))
-                ∙ ap (filled u.units (resolved_fsi (Some class))) drawn_is
-                ∙ filled-append u.units (resolved_fsi (Some class)) read_units row (omega arith) (omega (arith, fits, length-take-le (place len_of chars n) found.units (omega (arith, h.sized, place-le len_of chars n))))
-            by_test false = drawn_is
+        take-after u some fits = grind (arith, take-filled, place-mono, place-le, filled-append, length-take-le)
 
         after : (o : Option ℕ) → innermost (open_initiators so_far) ≡ o
             → take (place len_of chars (n + 1)) (classes_after class (waits_of (units_after done) so_far class o) drawn) ≡ per_unit len_of (take n chars) (text_classes source done ++ met_by class o (stored_classes so_far)) ++ row
@@ -329,40 +260,8 @@ module _ (source : Source) (len_of : ℕ → ℕ) (chars : List ℕ) where
 
         pub IsTextRead-more : (range : Range ℕ) (longer : Seen) (after : Reading) → range ≡ char_units len_of chars n → longer.units ≡ classes_after class (waiting reading.depth reading.undecided.items) drawn
             → length longer.units ≡ length found.units → longer.paragraphs ≡ found.paragraphs → longer.flags ≡ found.flags → IsReadBy class range reading after → IsTextRead base (n + 1) done (current ++ c ∷ []) longer after
-        IsTextRead-more range longer new is_range is_longer same_length same_paragraphs same_flags read = record {
-          whole = sym (append_assoc (joined done) current (c ∷ [])) ∙ ap (λ (cs : List ℕ). cs ++ c ∷ []) h.whole ∙ sym read_more;
-          sized = same_length ∙ h.sized;
-          classes =
-              ap (take (place len_of chars (n + 1))) (is_longer ∙ ap (λ (o : Option Undecided). classes_after class o drawn) waits) ∙ after (innermost (open_initiators so_far)) refl
-              ∙ sym (per_unit-push len_of (take n chars) (text_classes source done ++ met_by class (innermost (open_initiators so_far)) (stored_classes so_far)) c class values_long)
-              ∙ ap (per_unit len_of (take n chars ++ c ∷ [])) (append_assoc (text_classes source done) (met_by class (innermost (open_initiators so_far)) (stored_classes so_far)) (class ∷ []) ∙ ap (λ (cs : List BidiClass). text_classes source done ++ cs) (sym (stored_classes-push so_far class) ∙ ap stored_classes (sym classes_more)))
-              ∙ ap (λ (cs : List ℕ). per_unit len_of cs (text_classes source done ++ stored_classes (classes_of (current ++ c ∷ [])))) (sym read_more);
-          ranges = ap ranges_of same_paragraphs ∙ h.ranges;
-          levels = ap levels_of same_paragraphs ∙ h.levels;
-          flags = same_flags ∙ h.flags;
-          start = read.start ∙ h.start;
-          depth =
-              read.depth ∙ ap (depth_after class) h.depth ∙ sym (length-opened_by class (length so_far) (open_initiators so_far))
-              ∙ ap length (sym (open_initiators-push so_far class) ∙ ap open_initiators (sym classes_more));
-          undecided =
-              read.undecided ∙ ap (λ d. undecided_after class range d reading.undecided.items) h.depth ∙ ap (undecided_after class range (length (open_initiators so_far))) h.undecided
-              ∙ ap (λ (r : Range ℕ). undecided_after class r (length (open_initiators so_far)) (undecided_from (units_after done) 0 (stored_classes so_far) (open_initiators so_far))) (is_range ∙ ap (char_units len_of chars) last)
-              ∙ sym (undecided-more (units_after done) so_far class)
-              ∙ ap (λ (cs : List BidiClass). undecided_from (units_after done) 0 (stored_classes cs) (open_initiators cs)) (sym classes_more);
-          deciding =
-              read.deciding ∙ ap (λ d. deciding_after class d reading.deciding) h.depth ∙ sym (deciding-more (units_after done) so_far class reading.deciding)
-              ∙ ap (λ (o : Option BidiClass). option_or o (decided_by class (open_initiators so_far))) h.deciding ∙ sym (deciding_class-push so_far class) ∙ ap deciding_class (sym classes_more);
-          turns =
-              read.turns ∙ ap (λ (f : ParagraphFlags). with_class f class) h.turns
-              ∙ sym (with_classes-push (flags_of []) so_far class) ∙ ap flags_of (sym classes_more);
-        }
-          where
-            values_long : length (text_classes source done ++ met_by class (innermost (open_initiators so_far)) (stored_classes so_far)) ≡ length (take n chars)
-            values_long =
-                omega (arith, length-append (text_classes source done) (met_by class (innermost (open_initiators so_far)) (stored_classes so_far)), length-met_by class (innermost (open_initiators so_far)) (stored_classes so_far), whole_long)
-
-            last : n ≡ length (joined done) + length so_far
-            last = omega (arith, long, length-map current source.class_of)
+        IsTextRead-more range longer new is_range is_longer same_length same_paragraphs same_flags read =
+            grind (arith, append_assoc, read_more, waits, after, per_unit-push, stored_classes-push, classes_more, length-opened_by, open_initiators-push, undecided-more, deciding-more, deciding_class-push, with_classes-push, length-append, length-met_by, whole_long, long, length-map)
 
   -- ---- the whole walk
 
@@ -438,40 +337,16 @@ module _ (source : Source) (len_of : ℕ → ℕ) (chars : List ℕ) where
     pub flags : found.flags ≡ paragraph_flags source (pieces_by split source chars)
 
   pub IsTextDone-answer : (split : Option SplitRule) (base : Option ℕ) (n : ℕ) (done : List (List ℕ)) (found : Seen) → n ≡ length chars → done ≡ pieces_by split source chars → IsTextDone base n done found → IsAnswer split base found
-  IsTextDone-answer split base n done found all is h =
-      let last : IsTextDone base n (pieces_by split source chars) found = subst (λ (ps : List (List ℕ)). IsTextDone base n ps found) is h in
-      record {
-        classes =
-            sym (take_all (place len_of chars n) found.units (omega (arith, last.sized, place-end len_of chars n (omega arith))))
-            ∙ last.classes ∙ ap (λ (cs : List ℕ). per_unit len_of cs (text_classes source (pieces_by split source chars))) (take_all n chars (omega arith));
-        ranges = last.ranges;
-        levels = last.levels;
-        flags = last.flags;
-      }
+  IsTextDone-answer split base n done found all is h = grind (arith, take_all)
 
 -- what is no separator ends no paragraph
 pub ends_after-other : (split : Option SplitRule) (source : Source) (c : ℕ) (after : List ℕ) → is_paragraph_separator (source.class_of c) ≡ false → ends_after split source c after ≡ false
-ends_after-other None source c after other = refl
-ends_after-other (Some EachSeparator) source c after other = other
-ends_after-other (Some CrLfTogether) source c after other = rw other refl
+ends_after-other split source c after other = grind arith
 
 -- the character that begins at a place is the first of those that follow
 pub next-at : (len_of : ℕ → ℕ) → HasUnits len_of → (chars : List ℕ) (n : ℕ) → char_at len_of chars (place len_of chars n) ≡ char_at len_of (drop n chars) 0
 next-at len_of units chars n =
     subst (λ (cs : List ℕ). char_at len_of cs (place len_of chars n) ≡ char_at len_of (drop n chars) 0) (take-append-drop n chars) (char_at-append len_of units (take n chars) (drop n chars))
-
--- so whether a line feed comes next is seen in it
-pub line_feed-next : (source : Source) (len_of : ℕ → ℕ) (after : List ℕ) (c len : ℕ) → char_at len_of after 0 ≡ Some (c, len) → begins_with_line_feed source after ≡ (c == 0x0A && is_paragraph_separator (source.class_of c))
-line_feed-next source len_of [] c len e = absurd (cc e)
-line_feed-next source len_of (d ∷ ds) c len e = ap (λ (x : ℕ). x == 0x0A && is_paragraph_separator (source.class_of x)) (ap char_of e)
-  where
-    char_of : Option (ℕ × ℕ) → ℕ
-    char_of None = c
-    char_of (Some p) = p.0
-
-pub line_feed-none : (source : Source) (len_of : ℕ → ℕ) (after : List ℕ) → char_at len_of after 0 ≡ None → begins_with_line_feed source after ≡ false
-line_feed-none source len_of [] e = refl
-line_feed-none source len_of (d ∷ ds) e = absurd (cc e)
 
 pub same_range : (a b c d : ℕ) → a ≡ b → c ≡ d → ◌≡◌ {A = Range ℕ} (record { start = a; end = c }) (record { start = b; end = d })
 same_range a b c d e f = λ i. record { start = e i; end = f i }

@@ -1,16 +1,15 @@
 -- The open isolates of an FSI that no character decided yet: what they are once some characters were read, and after one more.
-use Rattle.std.proofs.Common.{◌≡◌, ℕ, suc, ◌+◌, ◌-◌, ◌<◌, ◌≤◌, ◌≢◌, Bool, true, false, ◌==◌, ◌&&◌, ◌||◌, cond, List, [], ◌∷◌, ◌++◌, length, get_or, set, take, map, Option, Some, None, refl, sym, ap, subst, ◌∙◌, arith, inl, inr, length-append, get_or-set_same, get_or-set_other}
+use Rattle.std.proofs.Common.{◌≡◌, ℕ, suc, ◌+◌, ◌-◌, ◌<◌, ◌≤◌, ◌≢◌, Bool, true, false, ◌==◌, ◌&&◌, cond, List, [], ◌∷◌, ◌++◌, length, get_or, set, take, map, Option, Some, None, refl, sym, ap, subst, ◌∙◌, arith, inl, inr, length-append, get_or-set_same, get_or-set_other}
 use Rattle.std.specs.Prelude.{All}
-use Rattle.std.specs.Option.{is_some, is_none, option_or, option_to_list}
-use Rattle.std.proofs.Math.Bool.{or-true}
+use Rattle.std.specs.Option.{is_some, option_or, option_to_list}
 use Rattle.std.proofs.Math.ListN.{get_or-append}
 use Rattle.std.proofs.Math.Seq.{get_or-append_seam}
 use Rattle.std.specs.declared.ops.Range.{Range}
-use Rattle.std.proofs.lemmas.Bool.{cases_Bool, both_ways, and_from, cond-true, cond-false, eq-eqb}
+use Rattle.std.proofs.lemmas.Bool.{cases_Bool, and_from, cond-true, cond-false}
 use Rattle.std.proofs.lemmas.List.{append-nil, length-take-le, length-map}
 use Rattle.std.proofs.lemmas.List.Elements.{All-nil, All-cons, All-head, All-tail, All-take}
 use Rattle.bidi_base.specs.declared.char_data.BidiClass.{BidiClass}
-use Rattle.bidi_base.specs.declared.char_data.BidiClass.TheVariants.{L, LRI, RLI, FSI, PDI}
+use Rattle.bidi_base.specs.declared.char_data.BidiClass.TheVariants.{L}
 use Rattle.bidi_base.specs.Classes.{is_strong, is_initiator, is_pdi}
 use Rattle.bidi_base.specs.Isolates.{resolved_fsi, stored_classes}
 use Rattle.bidi_base.specs.Places.{class_at}
@@ -51,30 +50,11 @@ innermost-none (x ∷ y ∷ xs) e = let none : y ∷ xs ≡ [] = innermost-none 
 
 -- ---- the one that waits, as code takes it
 
-pub at_depth-some : (d : ℕ) (o : Option Undecided) → is_some (at_depth d o) ≡ true → at_depth d o ≡ o
-at_depth-some d None e = refl
-at_depth-some d (Some u) e = by_test (u.depth == d) e
-  where
-    by_test : (b : Bool) → is_some (cond b (Some u) None) ≡ true → cond b (Some u) None ≡ Some u
-    by_test true e = refl
-    by_test false e = absurd (both_ways false refl e)
-
 pub popped : (items rest : List Undecided) (r : Option Undecided) → items ≡ rest ++ option_to_list r → rest ≡ take (length items - 1) items → r ≡ innermost items
-popped items rest (Some u) is less = sym (ap innermost is ∙ innermost-push rest u)
-popped items rest None is less = sym (ap innermost none)
-  where
-    short : length items ≡ 0
-    short = omega (arith, ap length less, ap length is, length-take-le (length items - 1) items (omega arith), length-append rest [])
-
-    nothing : (xs : List Undecided) → length xs ≡ 0 → xs ≡ []
-    nothing [] e = refl
-    nothing (x ∷ xs) e = absurd (omega arith)
-
-    none : items ≡ []
-    none = nothing items short
+popped items rest r is less = grind (arith, innermost-push, length-take-le, length-append)
 
 pub waiting-innermost : (d : ℕ) (us : List Undecided) (u : Undecided) → waiting d us ≡ Some u → innermost us ≡ Some u
-waiting-innermost d us u e = sym (at_depth-some d (innermost us) (ap is_some e)) ∙ e
+waiting-innermost d us u e = grind arith
 
 -- ---- the open initiators ascend
 
@@ -174,35 +154,17 @@ too_deep d m xs h less = by_last (innermost xs) refl
         let low : u.depth ≤ m = innermost-All (λ (u : Undecided). u.depth ≤ m) xs u h e in
         cond-false (u.depth == d) (Some u) None (apart_eqb u.depth d (λ same. omega arith))
 
-initiator-weak : (c : BidiClass) → is_initiator c ≡ true → is_strong c ≡ false
-initiator-weak LRI e = refl
-initiator-weak RLI e = refl
-initiator-weak FSI e = refl
-initiator-weak _ e = absurd (both_ways false refl e)
-
 pdi-weak : (c : BidiClass) → is_pdi c ≡ true → is_strong c ≡ false
-pdi-weak PDI e = refl
-pdi-weak _ e = absurd (both_ways false refl e)
-
-pub met_by-weak : (c : BidiClass) (o : Option ℕ) (stored : List BidiClass) → is_strong c ≡ false → met_by c o stored ≡ stored
-met_by-weak c None stored weak = refl
-met_by-weak c (Some q) stored weak =
-    ap (λ b. cond (b && is_fsi (class_at stored q)) (set stored q (resolved_fsi (Some c))) stored) weak
+pdi-weak c e = grind arith
 
 and_none : (a b : Bool) → b ≡ false → (a && b) ≡ false
-and_none true b e = e
-and_none false b e = refl
+and_none a b e = grind arith
 
 length-outer : {X : Type 0} (xs : List X) → length (outer xs) ≡ length xs - 1
 length-outer xs = ap length (sym (outer-take xs)) ∙ length-take-le (length xs - 1) xs (omega arith)
 
 pub length-opened_by : (c : BidiClass) (n : ℕ) (qs : List ℕ) → length (opened_by c n qs) ≡ depth_after c (length qs)
-length-opened_by c n qs = by_tests (is_initiator c) (is_pdi c)
-  where
-    by_tests : (b p : Bool) → length (cond b (qs ++ n ∷ []) (cond p (outer qs) qs)) ≡ cond b (length qs + 1) (cond p (length qs - 1) (length qs))
-    by_tests true p = length-append qs (n ∷ [])
-    by_tests false true = length-outer qs
-    by_tests false false = refl
+length-opened_by c n qs = grind (arith, length-append, length-outer)
 
 module _ (units : ℕ → Range ℕ) (cs : List BidiClass) (c : BidiClass) where
   abbrev pub qs : List ℕ
@@ -233,10 +195,7 @@ module _ (units : ℕ → Range ℕ) (cs : List BidiClass) (c : BidiClass) where
     under = undecided_from units 0 stored (outer qs)
 
     before_cut : before ≡ under ++ cond (is_fsi (class_at stored q)) (fsi_at q ∷ []) []
-    before_cut =
-        let deep : 0 + length (outer qs) + 1 ≡ length qs = omega (arith, ap length cut, length-append (outer qs) (q ∷ [])) in
-        ap (undecided_from units 0 stored) cut ∙ undecided-push units 0 stored (outer qs) q
-        ∙ ap (λ n. under ++ cond (is_fsi (class_at stored q)) (record { units = units q; depth = n } ∷ []) []) deep
+    before_cut = grind (arith, cut, length-append, undecided-push)
 
     is_before : is_fsi (class_at stored q) ≡ true → before ≡ under ++ fsi_at q ∷ []
     is_before fsi = before_cut ∙ ap (λ b. under ++ cond b (fsi_at q ∷ []) []) fsi
@@ -245,9 +204,7 @@ module _ (units : ℕ → Range ℕ) (cs : List BidiClass) (c : BidiClass) where
     not_before other = before_cut ∙ ap (λ b. under ++ cond b (fsi_at q ∷ []) []) other ∙ append-nil under
 
     is_waiting : is_fsi (class_at stored q) ≡ true → waiting (length qs) before ≡ Some (fsi_at q)
-    is_waiting fsi =
-        ap (waiting (length qs)) (is_before fsi) ∙ ap (at_depth (length qs)) (innermost-push under (fsi_at q))
-        ∙ cond-true (length qs == length qs) (Some (fsi_at q)) None (eq-eqb (length qs) (length qs) refl)
+    is_waiting fsi = grind (arith, is_before, innermost-push)
 
     not_waiting : is_fsi (class_at stored q) ≡ false → waiting (length qs) before ≡ None
     not_waiting other =
@@ -255,11 +212,7 @@ module _ (units : ℕ → Range ℕ) (cs : List BidiClass) (c : BidiClass) where
         ∙ too_deep (length qs) (0 + length (outer qs)) under (depths units 0 stored (outer qs)) (omega (arith, ap length cut, length-append (outer qs) (q ∷ [])))
 
   pub waiting-is : (o : Option ℕ) → innermost qs ≡ o → waiting (length qs) before ≡ waits_of o
-  waiting-is None e = ap (waiting (length qs)) (none_before e)
-  waiting-is (Some q) e = elim (cases_Bool (is_fsi (class_at stored q))) [
-    | inl fsi ↦ is_waiting q e fsi ∙ sym (cond-true (is_fsi (class_at stored q)) (Some (fsi_at q)) None fsi)
-    | inr other ↦ not_waiting q e other ∙ sym (cond-false (is_fsi (class_at stored q)) (Some (fsi_at q)) None other)
-  ]
+  waiting-is o e = grind (arith, none_before, is_waiting, not_waiting)
 
   -- ---- the step
 
@@ -268,9 +221,7 @@ module _ (units : ℕ → Range ℕ) (cs : List BidiClass) (c : BidiClass) where
 
   -- what is read at the initiators so far stays
   appended : (st : List BidiClass) → length st ≡ length cs → (xs : List ℕ) → All (λ (q : ℕ). q < length cs) xs → undecided_from units 0 (st ++ c ∷ []) xs ≡ undecided_from units 0 st xs
-  appended st long xs below =
-      undecided-agree units 0 st (st ++ c ∷ []) xs
-      (λ i d within. let small : get_or xs i d < length cs = below i d within in get_or-append st (c ∷ []) L (get_or xs i d) (omega arith))
+  appended st long xs below = grind (arith, undecided-agree, get_or-append)
 
   stored_long : length stored ≡ length cs
   stored_long = length-stored_classes cs
@@ -279,34 +230,13 @@ module _ (units : ℕ → Range ℕ) (cs : List BidiClass) (c : BidiClass) where
   all_below = open_initiators-below cs
 
   pushed : undecided_from units 0 (stored_classes (cs ++ c ∷ [])) (open_initiators (cs ++ c ∷ [])) ≡ undecided_from units 0 (met_by c (innermost qs) stored ++ c ∷ []) (opened_by c n qs)
-  pushed = ap (λ (st : List BidiClass). undecided_from units 0 st (open_initiators (cs ++ c ∷ []))) (stored_classes-push cs c) ∙ ap (undecided_from units 0 (met_by c (innermost qs) stored ++ c ∷ [])) (open_initiators-push cs c)
+  pushed = grind (arith, stored_classes-push, open_initiators-push)
 
   weak_stored : is_strong c ≡ false → undecided_from units 0 (met_by c (innermost qs) stored ++ c ∷ []) (opened_by c n qs) ≡ undecided_from units 0 (stored ++ c ∷ []) (opened_by c n qs)
-  weak_stored weak = ap (λ (st : List BidiClass). undecided_from units 0 (st ++ c ∷ []) (opened_by c n qs)) (met_by-weak c (innermost qs) stored weak)
-
-  abbrev opened : List Undecided
-  opened = cond (is_fsi c) (before ++ record { units = units n; depth = length qs + 1 } ∷ []) before
+  weak_stored weak = grind arith
 
   abbrev closed : Bool → List Undecided
   closed b = cond (b && is_some (waiting (length qs) before)) (outer before) before
-
-  -- an initiator
-  at_initiator : is_initiator c ≡ true → undecided_from units 0 (stored_classes (cs ++ c ∷ [])) (open_initiators (cs ++ c ∷ [])) ≡ opened
-  at_initiator init =
-      pushed ∙ weak_stored (initiator-weak c init)
-      ∙ ap (undecided_from units 0 (stored ++ c ∷ [])) (cond-true (is_initiator c) (qs ++ n ∷ []) (cond (is_pdi c) (outer qs) qs) init)
-      ∙ undecided-push units 0 (stored ++ c ∷ []) qs n
-      ∙ ap (λ (us : List Undecided). us ++ cond (is_fsi (class_at (stored ++ c ∷ []) n)) (record { units = units n; depth = 0 + length qs + 1 } ∷ []) []) (appended stored stored_long qs all_below)
-      ∙ ap (λ (x : BidiClass). before ++ cond (is_fsi x) (record { units = units n; depth = 0 + length qs + 1 } ∷ []) []) (last_class stored c n stored_long)
-      ∙ (let same : 0 + length qs + 1 ≡ length qs + 1 = omega arith in ap (λ m. before ++ cond (is_fsi c) (record { units = units n; depth = m } ∷ []) []) same)
-      ∙ by_test (is_fsi c)
-    where
-      last_class : (st : List BidiClass) (x : BidiClass) (m : ℕ) → length st ≡ m → class_at (st ++ x ∷ []) m ≡ x
-      last_class st x m long = ap (class_at (st ++ x ∷ [])) (sym long) ∙ get_or-append_seam st x [] L
-
-      by_test : (b : Bool) → before ++ cond b (record { units = units n; depth = length qs + 1 } ∷ []) [] ≡ cond b (before ++ record { units = units n; depth = length qs + 1 } ∷ []) before
-      by_test true = refl
-      by_test false = append-nil before
 
   -- an isolate ends, or its FSI is decided
   closes : (o : Option ℕ) → innermost qs ≡ o → undecided_from units 0 stored (outer qs) ≡ closed true
@@ -331,8 +261,7 @@ module _ (units : ℕ → Range ℕ) (cs : List BidiClass) (c : BidiClass) where
       outer_below = subst (All (λ (q : ℕ). q < length cs)) (outer-take qs) (All-take (λ (q : ℕ). q < length cs) (length qs - 1) qs all_below)
 
   elsewhere : (b : Bool) (q p : ℕ) → p ≢ q → class_at (cond b (set stored q (resolved_fsi (Some c))) stored) p ≡ class_at stored p
-  elsewhere true q p other = get_or-set_other stored q p (resolved_fsi (Some c)) L other
-  elsewhere false q p other = refl
+  elsewhere b q p other = grind (arith, get_or-set_other)
 
   at_strong : is_initiator c ≡ false → is_pdi c ≡ false → is_strong c ≡ true → undecided_from units 0 (stored_classes (cs ++ c ∷ [])) (open_initiators (cs ++ c ∷ [])) ≡ closed true
   at_strong init pdi strong =
@@ -360,39 +289,8 @@ module _ (units : ℕ → Range ℕ) (cs : List BidiClass) (c : BidiClass) where
           ∙ undecided-agree units 0 stored met (outer qs) (λ i d within. elsewhere (is_strong c && is_fsi (class_at stored q)) q (get_or (outer qs) i d) (λ same. let less : get_or (outer qs) i d < q = apart i d within in omega arith))
 
   pub undecided-more : undecided_from units 0 (stored_classes (cs ++ c ∷ [])) (open_initiators (cs ++ c ∷ [])) ≡ undecided_after c (units n) (length qs) before
-  undecided-more = elim (cases_Bool (is_initiator c)) [
-    | inl init ↦ at_initiator init ∙ sym (cond-true (is_initiator c) opened (closed (is_strong c || is_pdi c)) init)
-    | inr rest ↦ elim (cases_Bool (is_pdi c)) [
-      | inl pdi ↦ at_pdi rest pdi ∙ sym (cond-false (is_initiator c) opened (closed (is_strong c || is_pdi c)) rest ∙ ap closed (ap (λ b. is_strong c || b) pdi ∙ or-true (is_strong c)))
-      | inr on ↦ elim (cases_Bool (is_strong c)) [
-        | inl strong ↦ at_strong rest on strong ∙ sym (cond-false (is_initiator c) opened (closed (is_strong c || is_pdi c)) rest ∙ ap (λ b. closed (b || is_pdi c)) strong)
-        | inr weak ↦
-            pushed ∙ weak_stored weak
-            ∙ ap (undecided_from units 0 (stored ++ c ∷ [])) (cond-false (is_initiator c) (qs ++ n ∷ []) (cond (is_pdi c) (outer qs) qs) rest ∙ cond-false (is_pdi c) (outer qs) qs on)
-            ∙ appended stored stored_long qs all_below
-            ∙ sym (cond-false (is_initiator c) opened (closed (is_strong c || is_pdi c)) rest ∙ ap (λ b. closed (b || is_pdi c)) weak ∙ ap closed on)
-      ]
-    ]
-  ]
+  undecided-more = grind (arith, at_pdi, at_strong, pushed, appended, stored_long, all_below, undecided-push, get_or-append_seam, append-nil)
 
   -- the deciding class
   pub deciding-more : (deciding : Option BidiClass) → option_or deciding (decided_by c qs) ≡ deciding_after c (length qs) deciding
-  deciding-more deciding = by_open qs deciding
-    where
-      no_more : (b : Bool) (o : Option BidiClass) → o ≡ cond (b && false) (Some c) o
-      no_more true o = refl
-      no_more false o = refl
-
-      first : (b : Bool) → cond b (Some c) None ≡ cond (b && true) (Some c) None
-      first true = refl
-      first false = refl
-
-      no_other : (o : Option BidiClass) → option_or o None ≡ o
-      no_other None = refl
-      no_other (Some x) = refl
-
-      by_open : (xs : List ℕ) (o : Option BidiClass) → option_or o (decided_by c xs) ≡ deciding_after c (length xs) o
-      by_open [] None = first (is_strong c)
-      by_open [] (Some x) = no_more (is_strong c) (Some x)
-      by_open (q ∷ xs) o =
-          no_other o ∙ no_more (is_strong c) o ∙ ap (λ b. cond (is_strong c && (b && is_none o)) (Some c) o) (sym (apart_eqb (suc (length xs)) 0 (λ e. omega arith)))
+  deciding-more deciding = grind arith

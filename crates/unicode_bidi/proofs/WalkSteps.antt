@@ -37,14 +37,10 @@ module _ (source : Source) (len_of : ℕ → ℕ) where
     back = per_unit len_of ys (map source.class_of ys)
 
     both : take to new ≡ front ++ back
-    both =
-        h.classes
-        ∙ ap (λ us. take from old ++ us) (ap (per_unit len_of (xs ++ ys)) (map-append source.class_of xs ys) ∙ per_unit-append len_of xs ys (map source.class_of xs) (map source.class_of ys) (length-map xs source.class_of))
-        ∙ sym (append_assoc (take from old) (per_unit len_of xs (map source.class_of xs)) back)
+    both = grind (arith, map-append, per_unit-append, length-map, append_assoc)
 
     front_long : length front ≡ from + text_len len_of xs
-    front_long =
-        omega (arith, length-append (take from old) (per_unit len_of xs (map source.class_of xs)), length-take from old, length-per_unit len_of xs (map source.class_of xs) (length-map xs source.class_of))
+    front_long = grind (arith, length-append, length-take, length-per_unit, length-map)
 
     front_is : take (from + text_len len_of xs) new ≡ front
     front_is =
@@ -58,9 +54,7 @@ module _ (source : Source) (len_of : ℕ → ℕ) where
     AreWritten-back = record { long = omega (arith, h.long, sum_by-append len_of xs ys); classes = both ∙ ap (λ us. us ++ back) (sym front_is) }
 
   AreWritten-one : (c from to : ℕ) (old new : List BidiClass) → AreWritten source len_of (c ∷ []) from to old new → take (from + len_of c) new ≡ take from old ++ replicate (len_of c) (source.class_of c)
-  AreWritten-one c from to old new h =
-      let end : from + len_of c ≡ to = omega (arith, h.long, sum_by-cons len_of c []) in
-      ap (λ n. take n new) end ∙ h.classes ∙ ap (λ us. take from old ++ us) (append-nil (replicate (len_of c) (source.class_of c)))
+  AreWritten-one c from to old new h = grind (arith, append-nil)
 
   -- ---- where the walk is
 
@@ -109,25 +103,7 @@ module _ (source : Source) (len_of : ℕ → ℕ) where
     -- what was written behind the characters that were read does not count
     IsRead-drawn : (n : ℕ) (found : Seen) (reading : Reading) (drawn : List BidiClass) → IsRead source len_of chars split base n found reading → length drawn ≡ length found.units
         → take (place len_of chars n) drawn ≡ take (place len_of chars n) found.units → IsRead source len_of chars split base n (with_units drawn found) reading
-    IsRead-drawn n found reading drawn h long same = record {
-      done = h.done;
-      current = h.current;
-      cut = h.cut;
-      one = h.one;
-      read = record {
-        whole = h.read.whole;
-        sized = long ∙ h.read.sized;
-        classes = same ∙ h.read.classes;
-        ranges = h.read.ranges;
-        levels = h.read.levels;
-        flags = h.read.flags;
-        start = h.read.start;
-        depth = h.read.depth;
-        undecided = h.read.undecided;
-        deciding = h.read.deciding;
-        turns = h.read.turns;
-      };
-    }
+    IsRead-drawn n found reading drawn h long same = grind arith
 
     IsRead-idles : (read rest : List ℕ) (n to : ℕ) (found : Seen) (reading : Reading) (drawn : List BidiClass) → IsRead source len_of chars split base n found reading → drop n chars ≡ read ++ rest
         → All (λ c. minds reading (source.class_of c) ≡ false) read → length drawn ≡ length found.units → AreWritten source len_of read (place len_of chars n) to found.units drawn

@@ -1,7 +1,6 @@
 -- A pass that writes the runs of a line, one after the other.
 use Rattle.std.proofs.Common.{◌≡◌, ℕ, ◌+◌, ◌-◌, ◌<◌, Bool, true, false, List, [], ◌∷◌, ◌++◌, flat_map, reverse, slice_range, length, get_or, take, map, sym, ap, ◌∙◌, arith, append_assoc}
 use Rattle.std.specs.declared.ops.Range.{Range}
-use Rattle.std.proofs.lemmas.Bool.{cond-true, cond-false}
 use Rattle.std.proofs.lemmas.List.{get_or-map, get_or_default, length-map, take_more, append-nil}
 use Rattle.std.proofs.lemmas.Grind.{flat_map-append}
 use Rattle.bidi_base.specs.Levels.{is_odd}
@@ -27,8 +26,8 @@ module _ (len_of : ℕ → ℕ) (encode : ℕ → List ℕ) (chars units : List 
   -- the text of an odd run, and of an even one
   pub run_text_in-odd : run.start - start < length levels → level ≡ get_or levels (run.start - start) level → odd ≡ is_odd level → odd ≡ true
       → flat_map encode (reverse (subrange len_of chars run.start run.end)) ≡ run_text_in len_of encode chars units start levels (run_of run)
-  run_text_in-odd fits e f is = sym (cond-true (is_odd (run_level start levels (run_of run))) _ _ (level_odd fits e f ∙ is))
+  run_text_in-odd fits e f is = grind (arith, level_odd)
 
   pub run_text_in-even : run.start - start < length levels → level ≡ get_or levels (run.start - start) level → odd ≡ is_odd level → odd ≡ false
       → slice_range units run.start run.end ≡ run_text_in len_of encode chars units start levels (run_of run)
-  run_text_in-even fits e f is = sym (cond-false (is_odd (run_level start levels (run_of run))) _ _ (level_odd fits e f ∙ is))
+  run_text_in-even fits e f is = grind (arith, level_odd)

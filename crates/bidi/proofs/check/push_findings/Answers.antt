@@ -1,12 +1,10 @@
-use Rattle.std.proofs.Common.{length, map, ap, arith}
+use Rattle.std.proofs.Common.{arith}
 use Rattle.std.proofs.lemmas.List.FromFn.{length-map-range_with_len}
-use Rattle.bidi.specs.Matches.{is_unmatched}
 use Rattle.bidi.proofs.FindingsLemmas.{more_findings}
 use Rattle.bidi.proofs.check.push_findings.Goals as goal
 
 pub bounds-unmatched-place : goal.bounds-unmatched-place
-bounds-unmatched-place g c =
-    omega (arith, ap length c.requires, length-map-range_with_len (is_unmatched (map (g.D.BidiDataSource.source c.args.data_source.now).class_of c.args.line.now)) 0 (length c.args.line.now))
+bounds-unmatched-place g c = grind (arith, length-map-range_with_len)
 
 pub loop-place-preserved : goal.loop-place-preserved
 loop-place-preserved g c =

@@ -1,7 +1,5 @@
-use Rattle.std.proofs.Common.{◌∙◌, ◌++◌, List, ℕ, map, string_bytes, ap, subst}
-use Rattle.bidi_base.specs.Isolates.{paragraph_level}
+use Rattle.std.proofs.Common.{◌∙◌, ◌++◌, List, ℕ, string_bytes, ap, subst, arith}
 use Rattle.bidi_base.specs.Source.{Source}
-use Rattle.bidi_base.specs.Stored.{stored_levels}
 use Rattle.bidi_base.proofs.LevelLaws.{length-stored_levels}
 use Rattle.bidi.specs.Explained.{stages_text}
 use Rattle.bidi.specs.Shown.{own_chars}
@@ -10,16 +8,10 @@ use Rattle.bidi.proofs.StagesLemmas.{line_levels-long, order-within}
 use Rattle.bidi.proofs.explain.push_paragraph.Goals as goal
 
 pub push_stages-requires-clause-levels : goal.push_stages-requires-clause-levels
-push_stages-requires-clause-levels g c =
-    let source : Source = g.D.BidiDataSource.source c.args.data_source.now in
-    let own : List ℕ = c.own_chars-own.result.now in
-    c.in_ok-stages.stages.line_levels.ok.0 ∙ line_levels-long source own (paragraph_level c.level.result (map source.class_of own)) (stored_levels source c.level.result own) (length-stored_levels source c.level.result own) c.in_ok-stages.stages c.in_ok-stages.ensures
+push_stages-requires-clause-levels g c = grind (arith, line_levels-long, length-stored_levels)
 
 pub push_stages-requires-clause-order : goal.push_stages-requires-clause-order
-push_stages-requires-clause-order g c =
-    let source : Source = g.D.BidiDataSource.source c.args.data_source.now in
-    let own : List ℕ = c.own_chars-own.result.now in
-    order-within source own (paragraph_level c.level.result (map source.class_of own)) (stored_levels source c.level.result own) (length-stored_levels source c.level.result own) c.in_ok-stages.stages c.in_ok-stages.ensures
+push_stages-requires-clause-order g c = grind (arith, order-within, length-stored_levels)
 
 pub returns : goal.returns
 returns g c =

@@ -1,10 +1,10 @@
-use Rattle.std.proofs.Common.{◌≡◌, ◌≤◌, ◌∙◌, ◌++◌, true, List, [], ℕ, map, flat_map, get_or, string_bytes, length, ap, ap₂, subst, arith}
+use Rattle.std.proofs.Common.{◌≡◌, ◌≤◌, ◌∙◌, ◌++◌, true, List, [], ℕ, map, flat_map, get_or, string_bytes, length, ap, ap₂, arith}
 use Rattle.std.specs.Prelude.{codes}
 use Rattle.std.proofs.lemmas.Result.{on_ok_weaker}
 use Rattle.std.specs.Char.{len_utf8}
 use Rattle.std.specs.Str.{chars}
 use Rattle.std.specs.declared.ops.Range.{Range}
-use Rattle.bidi_base.specs.Analysed.{AnalysedText, IsAnalysis}
+use Rattle.bidi_base.specs.Analysed.{IsAnalysis}
 use Rattle.bidi_base.specs.declared.char_data.BidiClass.{BidiClass}
 use Rattle.bidi_base.specs.Display.{Run, run_of}
 use Rattle.bidi_base.specs.Source.{Source}
@@ -22,16 +22,13 @@ use Rattle.unicode_bidi.specs.declared.paragraph_info.ParagraphInfo.{ParagraphIn
 
 -- the text has the line's own characters
 own_text : (g : Over) (c : In_ok-info g) → chars (text_of c.in_ok-info.info) ≡ own_chars (g.D.BidiDataSource.source c.args.data_source.now) c.args.paragraph.now
-own_text g c = ap chars (c.in_ok-info.ensures.text ∙ c.as_str.ensures.value) ∙ c.in_ok-text.ensures ∙ c.own_chars.ensures
+own_text g c = grind arith
 
 -- and is analysed
 own_analysis : (g : Over) (c : In_ok-info g) → IsAnalysis (g.D.BidiDataSource.source c.args.data_source.now) (level_of_base c.args.view.base) true
     (record { len_of = len_utf8; chars = own_chars (g.D.BidiDataSource.source c.args.data_source.now) c.args.paragraph.now; classes = original_classes c.in_ok-info.info; levels = levels_of_info c.in_ok-info.info })
     (ranges_of (paragraphs c.in_ok-info.info)) (levels_of (paragraphs c.in_ok-info.info))
-own_analysis g c =
-    let at : List ℕ → AnalysedText = λ cs. record { len_of = len_utf8; chars = cs; classes = original_classes c.in_ok-info.info; levels = levels_of_info c.in_ok-info.info } in
-    subst (λ b. IsAnalysis (g.D.BidiDataSource.source c.args.data_source.now) b true (at (own_chars (g.D.BidiDataSource.source c.args.data_source.now) c.args.paragraph.now)) (ranges_of (paragraphs c.in_ok-info.info)) (levels_of (paragraphs c.in_ok-info.info))) c.level-base.ensures
-    (subst (λ cs. IsAnalysis (g.D.BidiDataSource.source c.args.data_source.now) c.level-base.result true (at cs) (ranges_of (paragraphs c.in_ok-info.info)) (levels_of (paragraphs c.in_ok-info.info))) (own_text g c) c.in_ok-info.ensures.analysis)
+own_analysis g c = grind arith
 
 pub returns-in-len1-up : goal.returns-in-len1-up
 returns-in-len1-up g c =

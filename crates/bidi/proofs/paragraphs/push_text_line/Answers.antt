@@ -1,9 +1,9 @@
-use Rattle.std.proofs.Common.{◌≡◌, ◌∙◌, ◌++◌, ℕ, List, length, string_bytes, append_assoc, sym, ap, ap₂, subst}
+use Rattle.std.proofs.Common.{◌≡◌, ◌∙◌, ◌++◌, ℕ, List, string_bytes, append_assoc, sym, ap, ap₂, arith}
 use Rattle.std.specs.Prelude.{codes}
 use Rattle.std.specs.Char.{len_utf8}
-use Rattle.std.specs.Str.{chars, IsUtf8}
+use Rattle.std.specs.Str.{chars}
 use Rattle.bidi_base.specs.Analysed.{line_levels_per_char}
-use Rattle.bidi_base.specs.Text.{text_len, per_char, subrange, IsLine}
+use Rattle.bidi_base.specs.Text.{text_len, per_char, subrange}
 use Rattle.bidi_base.proofs.PerUnit.{length-per_char}
 use Rattle.bidi_base.proofs.StrLemmas.{has_units, subrange-from_str}
 use Rattle.unicode_bidi.specs.BidiInfo.{text, analysed}
@@ -16,11 +16,7 @@ use Rattle.bidi.proofs.paragraphs.push_text_line.Given.{Over}
 
 -- the characters of the line
 chars_of_line : (g : Over) (c : In_ok-levels g) → chars c.text_of_line-text.result.now ≡ subrange len_utf8 (chars (text c.args.info.now)) c.args.line.now.start c.args.line.now.end
-chars_of_line g c =
-    let line : IsLine len_utf8 (chars c.text.result.now) c.args.line.now.start c.args.line.now.end = rw c.text.ensures c.requires in
-    ap chars c.text_of_line-text.ensures
-    ∙ sym (subrange-from_str c.text.result.now c.args.line.now.start c.args.line.now.end c.text.utf8 line (subst IsUtf8 c.text_of_line-text.ensures c.text_of_line-text.utf8))
-    ∙ ap (λ (bytes : List ℕ). subrange len_utf8 (chars bytes) c.args.line.now.start c.args.line.now.end) c.text.ensures
+chars_of_line g c = grind (arith, subrange-from_str)
 
 pub first_units-levels-requires : goal.first_units-levels-requires
 first_units-levels-requires g c =
@@ -36,9 +32,7 @@ levels_of_line g c here =
     ∙ per_char-shown (analysed c.args.info.now) has_units (level_of c.args.paragraph.now) c.args.line.now c.requires c.in_ok-levels.levels.items c.in_ok-levels.ensures
 
 pub push_line-requires : goal.push_line-requires
-push_line-requires g c =
-    ap length (c.as_slice-2.ensures.value ∙ c.first_units-levels.ensures) ∙ length-per_char 0 len_utf8 (chars c.new.result.text.now) c.in_ok-levels.levels.items
-    ∙ ap length (ap chars c.new.ensures ∙ sym c.in_ok-chars.ensures ∙ sym c.as_slice.ensures.value)
+push_line-requires g c = grind (arith, length-per_char)
 
 pub returns : goal.returns
 returns g c =

@@ -1,4 +1,4 @@
-use Rattle.std.proofs.Common.{◌≡◌, ◌∙◌, ◌≤◌, List, ℕ, false, length, map, ap, subst, sym}
+use Rattle.std.proofs.Common.{◌≡◌, ◌∙◌, List, ℕ, false, length, map, ap, subst, arith, rules}
 use Rattle.std.proofs.lemmas.Result.{IfOk-weaker}
 use Rattle.bidi_base.specs.Analysed.{IsAnalysis}
 use Rattle.bidi_base.specs.Isolates.{paragraph_level}
@@ -18,10 +18,7 @@ use Rattle.unicode_bidi.specs.ParagraphInfo.{ranges_of, levels_of}
 alone : (g : Over) (c : After-first_level-level g) → IsAnalysis (g.D.BidiDataSource.source c.args.data_source.now) c.args.base false
     (record { len_of = one_unit; chars = c.args.chars.now; classes = c.in_ok-analysis.analysis.original_classes.items; levels = c.in_ok-analysis.analysis.levels.items })
     (ranges_of c.in_ok-analysis.analysis.paragraphs.items) (levels_of c.in_ok-analysis.analysis.paragraphs.items)
-alone g c =
-    subst (λ (l : List ℕ). IsAnalysis (g.D.BidiDataSource.source c.args.data_source.now) c.args.base false
-    (record { len_of = one_unit; chars = l; classes = c.in_ok-analysis.analysis.original_classes.items; levels = c.in_ok-analysis.analysis.levels.items })
-    (ranges_of c.in_ok-analysis.analysis.paragraphs.items) (levels_of c.in_ok-analysis.analysis.paragraphs.items)) c.new.ensures c.in_ok-analysis.ensures.analysis
+alone g c = grind arith
 
 level_is : (g : Over) (c : After-first_level-level g) → c.first_level-level.result ≡ paragraph_level c.args.base (map (g.D.BidiDataSource.source c.args.data_source.now).class_of c.args.chars.now)
 level_is g c =
@@ -29,8 +26,7 @@ level_is g c =
     ∙ alone-level (g.D.BidiDataSource.source c.args.data_source.now) c.args.base c.args.chars.now c.in_ok-analysis.analysis.original_classes.items c.in_ok-analysis.analysis.levels.items (levels_of c.in_ok-analysis.analysis.paragraphs.items) (ranges_of c.in_ok-analysis.analysis.paragraphs.items) (alone g c)
 
 pub stages_of-requires-clause-low : goal.stages_of-requires-clause-low
-stages_of-requires-clause-low g c = subst (λ (n : ℕ). n ≤ 125) (sym (level_is g (goal.at.stages_of-requires-clause-low g c).After-first_level-level))
-    (paragraph_level-few c.args.base (map (g.D.BidiDataSource.source c.args.data_source.now).class_of c.args.chars.now) c.requires)
+stages_of-requires-clause-low g c = search (rules, level_is, paragraph_level-few)
 
 pub stages_of-requires-clause-stored : goal.stages_of-requires-clause-stored
 stages_of-requires-clause-stored g c =

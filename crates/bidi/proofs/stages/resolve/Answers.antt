@@ -1,5 +1,5 @@
-use Rattle.std.proofs.Common.{◌≡◌, ◌∙◌, ℕ, List, Option, None, length, replicate, zip, flat_map, ap, ap₂}
-use Rattle.std.proofs.lemmas.List.{take_all}
+use Rattle.std.proofs.Common.{◌≡◌, ◌∙◌, ℕ, List, Option, None, length, replicate, zip, ap, ap₂, arith}
+use Rattle.std.proofs.lemmas.Grind.{common_steps}
 use Rattle.bidi_base.specs.declared.char_data.BidiClass.{BidiClass}
 use Rattle.bidi_base.specs.Sequences.{RunSequence}
 use Rattle.bidi.specs.Stages.{written, row_of, weak_in, neutral_in}
@@ -29,14 +29,8 @@ loop-sequence-preserved c =
 
 pub returns-clause-weak : goal.returns-clause-weak
 unfolding row_of
-returns-clause-weak c =
-    let entries : RunSequence → List (ℕ × BidiClass) = λ s. zip s.places (weak_in c.args.paragraph.classes.now s) in
-    c.loop-sequence.invariant.weak
-    ∙ ap (λ (ss : List RunSequence). written (replicate (length c.args.paragraph.classes.now) None) (flat_map entries ss)) (take_all c.loop-sequence.sequence-index c.args.sequences.now c.loop-sequence-test.false)
+returns-clause-weak c = grind (arith, common_steps)
 
 pub returns-clause-neutral : goal.returns-clause-neutral
 unfolding row_of
-returns-clause-neutral c =
-    let entries : RunSequence → List (ℕ × BidiClass) = λ s. zip s.places (neutral_in c.args.paragraph.source.now c.args.paragraph.brackets.now c.args.paragraph.levels.now c.args.paragraph.classes.now s) in
-    c.loop-sequence.invariant.neutral
-    ∙ ap (λ (ss : List RunSequence). written (replicate (length c.args.paragraph.classes.now) None) (flat_map entries ss)) (take_all c.loop-sequence.sequence-index c.args.sequences.now c.loop-sequence-test.false)
+returns-clause-neutral c = grind (arith, common_steps)

@@ -1,6 +1,4 @@
-use Rattle.std.proofs.Common.{◌≡◌, ◌∙◌, ℕ, List, Option, length, map, refl, ap, ap₂, subst, sym}
-use Rattle.std.specs.List.Sorted.{IsPermutation}
-use Rattle.std.specs.Prelude.{All}
+use Rattle.std.proofs.Common.{◌≡◌, ◌∙◌, ℕ, List, Option, length, map, refl, ap, ap₂, subst, sym, arith, rules}
 use Rattle.std.proofs.lemmas.List.{length-map}
 use Rattle.bidi_base.specs.declared.char_data.BidiClass.{BidiClass}
 use Rattle.bidi_base.specs.declared.data_source.BidiMatchedOpeningBracket.{BidiMatchedOpeningBracket}
@@ -9,13 +7,12 @@ use Rattle.bidi_base.specs.Isolates.{stored_classes}
 use Rattle.bidi_base.specs.Layout.{visual_places, AreInverse}
 use Rattle.bidi_base.specs.Line.{levels_of_line}
 use Rattle.bidi_base.specs.Order.{visual_order}
-use Rattle.bidi_base.specs.Places.{indexes}
 use Rattle.bidi_base.specs.Sequences.{RunSequence, sequences}
 use Rattle.bidi_base.specs.Source.{Source}
 use Rattle.bidi_base.proofs.ExplicitLemmas.{length-explicit_classes}
 use Rattle.bidi_base.proofs.LayoutLemmas.{own_indexes, visual_places-inverse}
 use Rattle.bidi_base.proofs.StoredSteps.{length-stored_classes}
-use Rattle.bidi.specs.Stages.{CanResolve, row_of, weak_in, neutral_in}
+use Rattle.bidi.specs.Stages.{row_of, weak_in, neutral_in}
 use Rattle.bidi.proofs.SequencesLemmas.{can_resolve}
 use Rattle.bidi.proofs.stages.stages_of.Given.{Over}
 use Rattle.bidi.proofs.stages.stages_of.Goals as goal
@@ -29,42 +26,23 @@ brackets_are : (g : Over) (c : After-as_slice-3 g) → c.as_slice-2.result.now �
 brackets_are g c = c.as_slice-2.ensures.value ∙ c.in_ok-brackets.ensures
 
 explicit_classes_are : (g : Over) (c : After-as_slice-3 g) → c.classes.result.now ≡ explicit_classes c.args.level (stored_classes (map (g.D.BidiDataSource.source c.args.data_source.now).class_of c.args.chars.now))
-explicit_classes_are g c = c.classes.ensures ∙ c.in_ok-explicit.ensures.classes ∙ ap (explicit_classes c.args.level) c.requires.stored
+explicit_classes_are g c = grind arith
 
 explicit_levels_are : (g : Over) (c : After-as_slice-3 g) → c.levels-2.result.now ≡ explicit_levels c.args.level (stored_classes (map (g.D.BidiDataSource.source c.args.data_source.now).class_of c.args.chars.now))
-explicit_levels_are g c = c.levels-2.ensures ∙ c.in_ok-explicit.ensures.levels ∙ ap (explicit_levels c.args.level) c.requires.stored
+explicit_levels_are g c = grind arith
 
 sequences_are : (g : Over) (c : After-as_slice-3 g) → c.as_slice-3.result.now
     ≡ sequences c.args.level (stored_classes (map (g.D.BidiDataSource.source c.args.data_source.now).class_of c.args.chars.now)) (explicit_levels c.args.level (stored_classes (map (g.D.BidiDataSource.source c.args.data_source.now).class_of c.args.chars.now)))
-sequences_are g c =
-    c.as_slice-3.ensures.value ∙ c.in_ok-sequences.ensures.given
-    ∙ ap₂ (λ (ks : List BidiClass) (ls : List ℕ). sequences c.args.level ks ls) c.requires.stored (c.levels.ensures ∙ c.in_ok-explicit.ensures.levels ∙ ap (explicit_levels c.args.level) c.requires.stored)
+sequences_are g c = grind arith
 
 pub resolve-requires : goal.resolve-requires
-resolve-requires g c =
-    let at : After-as_slice-3 g = (goal.at.resolve-requires g c).After-as_slice-3 in
-    let source : Source = g.D.BidiDataSource.source c.args.data_source.now in
-    let own : List BidiClass = map source.class_of c.args.chars.now in
-    let many : length (map source.bracket_of c.args.chars.now) ≡ length own = length-map c.args.chars.now source.bracket_of ∙ sym (length-map c.args.chars.now source.class_of) in
-    let found : List RunSequence = sequences c.args.level (stored_classes own) (explicit_levels c.args.level (stored_classes own)) in
-    let all : All (CanResolve own (map source.bracket_of c.args.chars.now) (explicit_classes c.args.level (stored_classes own)) (explicit_levels c.args.level (stored_classes own))) found =
-    λ k d within. can_resolve c.args.level own (map source.bracket_of c.args.chars.now) k d c.requires.low many within in
-    subst (λ (ss : List RunSequence). All (CanResolve c.as_slice.result.now c.as_slice-2.result.now c.classes.result.now c.levels-2.result.now) ss) (sym (sequences_are g at))
-    (subst (λ (ls : List ℕ). All (CanResolve c.as_slice.result.now c.as_slice-2.result.now c.classes.result.now ls) found) (sym (explicit_levels_are g at))
-    (subst (λ (ks : List BidiClass). All (CanResolve c.as_slice.result.now c.as_slice-2.result.now ks (explicit_levels c.args.level (stored_classes own))) found) (sym (explicit_classes_are g at))
-    (subst (λ (bs : List (Option BidiMatchedOpeningBracket)). All (CanResolve c.as_slice.result.now bs (explicit_classes c.args.level (stored_classes own)) (explicit_levels c.args.level (stored_classes own))) found) (sym (brackets_are g at))
-    (subst (λ (ks : List BidiClass). All (CanResolve ks (map source.bracket_of c.args.chars.now) (explicit_classes c.args.level (stored_classes own)) (explicit_levels c.args.level (stored_classes own))) found) (sym (classes_are g at)) all))))
+resolve-requires g c = search (rules, length-map, can_resolve, sequences_are, explicit_levels_are, explicit_classes_are, brackets_are, classes_are)
 
 pub levels_of_line-requires-clause-same_len : goal.levels_of_line-requires-clause-same_len
-levels_of_line-requires-clause-same_len g c =
-    let source : Source = g.D.BidiDataSource.source c.args.data_source.now in
-    let own : List BidiClass = map source.class_of c.args.chars.now in
-    c.requires.levels ∙ sym (ap length c.requires.stored ∙ length-stored_classes own ∙ length-map c.args.chars.now source.class_of)
+levels_of_line-requires-clause-same_len g c = grind (arith, length-stored_classes, length-map)
 
 pub inverse-requires : goal.inverse-requires
-inverse-requires g c =
-    subst (λ (order : List ℕ). IsPermutation (indexes order) order) (sym c.as_slice-5.ensures.value)
-    (own_indexes c.as_slice-4.result.now c.in_ok-order.order.items c.in_ok-order.ensures.visual)
+inverse-requires g c = grind (arith, own_indexes)
 
 pub returns : goal.returns
 returns g c =

@@ -1,4 +1,4 @@
-use Rattle.std.proofs.Common.{◌≡◌, [], length, refl, sym, ◌∙◌, eqb-true}
+use Rattle.std.proofs.Common.{◌≡◌, [], refl, sym, ◌∙◌, arith}
 use Rattle.std.proofs.lemmas.List.{nil_from_length}
 use Rattle.bidi_base.specs.Brackets.{counted_brackets, bracket_pairs}
 use Rattle.bidi_base.specs.FoundBrackets.{found_brackets}
@@ -9,5 +9,5 @@ pub returns-then-is_empty : goal.returns-then-is_empty
 unfolding found_brackets bracket_pairs
 returns-then-is_empty c = λ classes sources is.
     let counted = counted_brackets classes sources in
-    let none : c.args.brackets.now ≡ [] = nil_from_length c.args.brackets.now (eqb-true (length c.args.brackets.now) 0 (sym c.is_empty.ensures ∙ c.if-is_empty.true)) in
+    let none : c.args.brackets.now ≡ [] = grind (arith, nil_from_length) in
     c.clear.ensures.items ∙ IsAt-end counted [] [] (IsAt-start counted [] [] [] refl refl (sym none ∙ is))

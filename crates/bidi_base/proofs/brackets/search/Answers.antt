@@ -20,7 +20,7 @@ loop-bracket-init c = record {
 -- where the loop reads
 here : (brackets : List Bracket) (i : ℕ) (slots : List (ℕ × ℕ)) (waiting : List Waiting) (counted : List (Option BidiMatchedOpeningBracket)) → i < length brackets → IsAt counted slots waiting (drop i brackets)
     → IsAt counted slots waiting (get_or brackets i (record { index = 0; opening = 0; is_open = false }) ∷ drop (i + 1) brackets)
-here brackets i slots waiting counted within at = subst (λ (rest : List Bracket). IsAt counted slots waiting rest) (drop_more brackets i (record { index = 0; opening = 0; is_open = false }) within) at
+here brackets i slots waiting counted within at = grind (arith, drop_more)
 
 pub loop-bracket-preserved : goal.loop-bracket-preserved
 loop-bracket-preserved c =

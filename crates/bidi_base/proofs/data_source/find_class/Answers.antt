@@ -1,15 +1,9 @@
-use Rattle.std.proofs.Common.{sym, arith}
+use Rattle.std.proofs.Common.{sym, arith, rules}
 use Rattle.bidi_base.proofs.TableLemmas.{all_before, all_after, table_class-holder, table_class-between}
 use Rattle.bidi_base.proofs.data_source.find_class.Goals as goal
 
 pub loop-low-preserved-then-c-first : goal.loop-low-preserved-then-c-first
-loop-low-preserved-then-c-first c =
-    let high_fits = c.loop-low.invariant.high_fits in
-    record {
-      high_fits = omega arith;
-      before = c.loop-low.invariant.before;
-      after = all_after c.args.ranges.now c.args.c _ c.requires c.if-c-first.true;
-    }
+loop-low-preserved-then-c-first c = search (rules, all_after)
 
 pub loop-low-preserved : goal.loop-low-preserved
 loop-low-preserved c =

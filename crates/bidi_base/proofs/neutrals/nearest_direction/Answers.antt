@@ -1,21 +1,17 @@
 use Rattle.std.proofs.Common.{◌≡◌, ℕ, ◌<◌, ◌+◌, List, length, get_or, drop, reverse, None, unwrap_or, Option, sym, ap, ◌∙◌, arith}
+use Rattle.std.proofs.lemmas.Grind.{common_steps}
 use Rattle.std.proofs.lemmas.Iterator.Adapters.{YieldsList-from_rev_slice}
 use Rattle.std.proofs.lemmas.Iterator.Consumers.{YieldsList-turn, YieldsList-end}
-use Rattle.std.proofs.lemmas.List.{at_drop_more, at_drop_all, length_push}
+use Rattle.std.proofs.lemmas.List.{at_drop_all, length_push}
 use Rattle.bidi_base.specs.declared.char_data.BidiClass.{BidiClass}
 use Rattle.bidi_base.specs.Classes.{as_direction}
 use Rattle.bidi_base.specs.Neutral.{nearest_direction}
-use Rattle.bidi_base.proofs.NeutralLemmas.{nearest_direction-more}
 use Rattle.bidi_base.proofs.neutrals.nearest_direction.Goals as goal
 
 -- what the next class says
 nearest_direction-drop : (d : BidiClass) (all : List BidiClass) (n : ℕ) (c : BidiClass) (o : Option BidiClass) → (n < length all) × (c ≡ get_or all n c) → o ≡ as_direction c
     → nearest_direction d (drop n all) ≡ unwrap_or o (nearest_direction d (drop (n + 1) all))
-nearest_direction-drop d all n c o h is =
-    at_drop_more (nearest_direction d) all n c h.0
-    ∙ nearest_direction-more d (get_or all n c) (drop (n + 1) all)
-    ∙ ap (λ (x : BidiClass). unwrap_or (as_direction x) (nearest_direction d (drop (n + 1) all))) (sym h.1)
-    ∙ ap (λ (x : Option BidiClass). unwrap_or x (nearest_direction d (drop (n + 1) all))) (sym is)
+nearest_direction-drop d all n c o h is = grind (arith, common_steps)
 
 pub returns-in-Some-as_direction : goal.returns-in-Some-as_direction
 returns-in-Some-as_direction c =

@@ -16,8 +16,7 @@ returns-then-not-all_equal g c =
     let eq = g.E.PartialEq.eq in
     let len = g.T.TextSource.units in
     let d = turn_drop c.chars-c-items.ensures c.into_iter-c-iterator.ensures.into_iter_gives c.loop-c.yielded _ c.loop-c.yielded_by _ _ c.in-Some.c c.in-Some.is c.next.ensures.steps in
-    let e : all_same eq (take (len c.in-Some.c) c.loop-c.rest.now) ≡ false =
-    ap (λ n. all_same eq (take n c.loop-c.rest.now)) (sym c.char_len-len.ensures) ∙ ap (all_same eq) (sym c.split_at.ensures.front) ∙ sym c.all_equal.ensures ∙ c.if-not-all_equal.true in
+    let e : all_same eq (take (len c.in-Some.c) c.loop-c.rest.now) ≡ false = grind arith in
     sym (sym c.loop-c.invariant.2 ∙ step_unequal eq len _ _ c.in-Some.c c.loop-c.rest.now d e)
 
 pub loop-c-preserved : goal.loop-c-preserved
@@ -25,8 +24,7 @@ loop-c-preserved g c =
     let eq = g.E.PartialEq.eq in
     let len = g.T.TextSource.units in
     let d = turn_drop c.chars-c-items.ensures c.into_iter-c-iterator.ensures.into_iter_gives c.loop-c.yielded _ c.loop-c.yielded_by _ _ c.in-Some.c c.in-Some.is c.next.ensures.steps in
-    let e : all_same eq (take (len c.in-Some.c) c.loop-c.rest.now) ≡ true =
-    ap (λ n. all_same eq (take n c.loop-c.rest.now)) (sym c.char_len-len.ensures) ∙ ap (all_same eq) (sym c.split_at.ensures.front) ∙ sym c.all_equal.ensures ∙ c.if-not-all_equal.false in
+    let e : all_same eq (take (len c.in-Some.c) c.loop-c.rest.now) ≡ true = grind arith in
     let back : c.split_at.result.1.now ≡ drop (len c.in-Some.c) c.loop-c.rest.now = c.split_at.ensures.back ∙ ap (λ n. drop n c.loop-c.rest.now) c.char_len-len.ensures in (
       c.in-Some.ensures.goes.keeps,
       (c.in-Some.ensures.goes.on c.loop-c.invariant.1).1,

@@ -1,11 +1,11 @@
-use Rattle.std.proofs.Common.{◌≡◌, ◌∙◌, ℕ, List, length, sym, ap, subst, rules, None, true}
+use Rattle.std.proofs.Common.{◌≡◌, ◌∙◌, ℕ, List, length, sym, ap, subst, rules, None, arith}
 use Rattle.unicode_bidi.specs.Engine.{with_analysis, paragraphs}
 use Rattle.bidi_base.specs.Text.{text_len}
 use Rattle.bidi_c.specs.declared.rows.Paragraph.{Paragraph}
-use Rattle.bidi_c.specs.Faults.{FaultsAs, has_room_or_none}
+use Rattle.bidi_c.specs.Faults.{FaultsAs}
 use Rattle.bidi_c.specs.Kept.{analysis_fault, written_if_room}
 use Rattle.bidi_c.specs.Numbers.{base_of, split_of}
-use Rattle.bidi_c.proofs.FoundText.{rows-found, count-found, length-classes, length-levels, holds, fit-both, length-front}
+use Rattle.bidi_c.proofs.FoundText.{rows-found, count-found, length-classes, length-levels, fit-both, length-front}
 use Rattle.bidi_c.proofs.checked.analyse.Goals as goal
 
 pub write_classes-requires : goal.write_classes-requires
@@ -46,10 +46,7 @@ returns-clause-fault g c =
     count (search rules)
 
 pub put_paragraphs-requires : goal.put_paragraphs-requires
-put_paragraphs-requires g c =
-    subst (λ (n : ℕ). has_room_or_none n (length c.args.paragraphs.now) ≡ true)
-    (ap length (c.paragraphs-count.ensures ∙ sym c.paragraphs.ensures))
-    (holds _ _ c.in_ok-check_room_or_none.ensures)
+put_paragraphs-requires g c = grind arith
 
 pub returns-clause-paragraphs : goal.returns-clause-paragraphs
 returns-clause-paragraphs g c =

@@ -1,38 +1,15 @@
-use Rattle.std.proofs.Common.{◌≡◌, ◌∙◌, ℕ, ◌++◌, List, length, subst, ap, rules, None, nat_le, drop}
-use Rattle.std.specs.Char.{len_utf8}
-use Rattle.std.specs.Cow.{cow_str_bytes}
-use Rattle.std.specs.Option.{option_or}
-use Rattle.std.specs.Prelude.{encode_utf8}
-use Rattle.std.specs.Str.{chars}
-use Rattle.bidi_c.specs.declared.fault.Fault.TheVariants.{UnevenCharacter, NoRoom}
-use Rattle.bidi_c.specs.Faults.{FaultsAs, fault_unless}
-use Rattle.bidi_c.specs.Kept.{written}
-use Rattle.bidi_c.specs.Shown.{is_even}
+use Rattle.std.proofs.Common.{arith}
 use Rattle.bidi_c.proofs.KeptLines.{reordered-own}
 use Rattle.bidi_c.proofs.utf8.reorder.Goals as goal
 
 pub returns-in_err-check-2-clause-fault : goal.returns-in_err-check-2-clause-fault
-returns-in_err-check-2-clause-fault c =
-    let bytes : c.as_bytes-bytes.result.now ≡ cow_str_bytes c.in_ok-shown.shown = search rules in
-    subst (λ (l : List ℕ). FaultsAs c.from_residual-in_err-check-2.result (option_or (fault_unless (is_even len_utf8 (chars c.args.text.now) c.args.line.now) UnevenCharacter) (fault_unless (nat_le (length l) (length c.args.out.now)) NoRoom)))
-    (bytes ∙ reordered-own len_utf8 encode_utf8 (chars c.args.text.now) c.args.text.now c.args.line.now _ _ _ _ c.level.ensures c.in_ok-classes.ensures c.in_ok-levels.ensures c.in_ok-shown.ensures.text)
-    (search rules)
+returns-in_err-check-2-clause-fault c = grind (arith, reordered-own)
 
 pub returns-clause-fault : goal.returns-clause-fault
-returns-clause-fault c =
-    let bytes : c.as_bytes-bytes.result.now ≡ cow_str_bytes c.in_ok-shown.shown = search rules in
-    subst (λ (l : List ℕ). option_or (fault_unless (is_even len_utf8 (chars c.args.text.now) c.args.line.now) UnevenCharacter) (fault_unless (nat_le (length l) (length c.args.out.now)) NoRoom) ≡ None)
-    (bytes ∙ reordered-own len_utf8 encode_utf8 (chars c.args.text.now) c.args.text.now c.args.line.now _ _ _ _ c.level.ensures c.in_ok-classes.ensures c.in_ok-levels.ensures c.in_ok-shown.ensures.text)
-    (search rules)
+returns-clause-fault c = grind (arith, reordered-own)
 
 pub returns-clause-text : goal.returns-clause-text
-returns-clause-text c =
-    let bytes : c.as_bytes-bytes.result.now ≡ cow_str_bytes c.in_ok-shown.shown = search rules in
-    subst (λ (l : List ℕ). c.copy_from_slice.new.self ++ drop (length c.as_bytes-bytes.result.now) c.args.out.now ≡ written l c.args.out.now)
-    (bytes ∙ reordered-own len_utf8 encode_utf8 (chars c.args.text.now) c.args.text.now c.args.line.now _ _ _ _ c.level.ensures c.in_ok-classes.ensures c.in_ok-levels.ensures c.in_ok-shown.ensures.text)
-    (search rules)
+returns-clause-text c = grind (arith, reordered-own)
 
 pub returns-clause-count : goal.returns-clause-count
-returns-clause-count c =
-    let bytes : c.as_bytes-bytes.result.now ≡ cow_str_bytes c.in_ok-shown.shown = search rules in
-    ap length (bytes ∙ reordered-own len_utf8 encode_utf8 (chars c.args.text.now) c.args.text.now c.args.line.now _ _ _ _ c.level.ensures c.in_ok-classes.ensures c.in_ok-levels.ensures c.in_ok-shown.ensures.text)
+returns-clause-count c = grind (arith, reordered-own)

@@ -1,19 +1,11 @@
-use Rattle.std.proofs.Common.{◌≡◌, ◌<◌, ◌-◌, ◌+◌, ◌&&◌, Bool, true, false, not, drop, length, sym, subst, ap, ◌∙◌, arith, ℕ}
+use Rattle.std.proofs.Common.{◌≡◌, ◌<◌, ◌-◌, ◌+◌, drop, length, sym, subst, ap, ◌∙◌, arith, ℕ}
 use Rattle.std.proofs.lemmas.List.{get_or_default}
-use Rattle.bidi_base.specs.Levels.{is_odd, is_even}
 use Rattle.bidi_base.specs.Line.{is_reset}
-use Rattle.bidi_base.proofs.LevelsLemmas.{is_odd-not_even}
 use Rattle.bidi_lines.proofs.LineLevels.{IsQuietFrom, IsQuietFrom-start, IsQuietFrom-more, read-at, has_rtl-shown, has_rtl-even, has_rtl-end}
 use Rattle.bidi_lines.proofs.line_levels.line_has_rtl.Goals as goal
 
-not_odd : (a b : Bool) → a ≡ not b → b ≡ true → a ≡ false
-not_odd a b e f = grind arith
-
 pub returns-then-not-has_rtl : goal.returns-then-not-has_rtl
-returns-then-not-has_rtl c =
-    sym (has_rtl-even c.args.level c.args.classes.now c.args.levels.now c.requires
-    (not_odd (is_odd c.args.level) (is_even c.args.level) (is_odd-not_even c.args.level) (sym c.is_ltr.ensures ∙ c.if-is_ltr.true))
-    (sym c.has_rtl.ensures ∙ c.if-not-has_rtl.true))
+returns-then-not-has_rtl c = grind (arith, has_rtl-even)
 
 pub loop-at-init : goal.loop-at-init
 loop-at-init c = IsQuietFrom-start c.args.level c.args.classes.now c.args.levels.now
@@ -41,18 +33,8 @@ loop-at-preserved c =
     IsQuietFrom-more c.args.level c.args.classes.now c.args.levels.now at c.loop-at.reset c.is_reset-reset.result fits w.0 (sym w.1 ∙ c.if-shows_rtl.false)
     (subst (λ (n : ℕ). IsQuietFrom c.args.level c.args.classes.now c.args.levels.now c.loop-at.reset n) same c.loop-at.invariant)
 
-both : (r a b : Bool) → a ≡ true → r ≡ b → r ≡ (a && b)
-both r a b e f = grind arith
-
-neither : (r a b : Bool) → r ≡ a → r ≡ false → r ≡ (a && b)
-neither r a b e f = grind arith
-
 pub returns-then-is_rtl : goal.returns-then-is_rtl
-returns-then-is_rtl c =
-    has_rtl-end c.args.level c.args.classes.now c.args.levels.now c.requires c.starts_removed.result (λ k fits. c.loop-at.invariant.none k (omega arith) fits)
-    (both c.starts_removed.result (is_odd c.args.level) _ (sym c.is_rtl.ensures ∙ c.if-is_rtl.true) c.starts_removed.ensures)
+returns-then-is_rtl c = grind (arith, has_rtl-end)
 
 pub returns-else-is_rtl : goal.returns-else-is_rtl
-returns-else-is_rtl c =
-    has_rtl-end c.args.level c.args.classes.now c.args.levels.now c.requires c.is_rtl.result (λ k fits. c.loop-at.invariant.none k (omega arith) fits)
-    (neither c.is_rtl.result (is_odd c.args.level) _ c.is_rtl.ensures c.if-is_rtl.false)
+returns-else-is_rtl c = grind (arith, has_rtl-end)

@@ -1,5 +1,5 @@
-use Rattle.std.proofs.Common.{◌≡◌, ℕ, List, le_refl, ◌<◌, ◌≤◌, slice_index, arith, ◌∙◌, sym, inl, inr}
-use Rattle.std.proofs.lemmas.Bool.{cases_lt, leb-true}
+use Rattle.std.proofs.Common.{◌≡◌, ℕ, List, le_refl, ◌<◌, ◌≤◌, slice_index, arith, ◌∙◌, sym}
+use Rattle.std.proofs.lemmas.Bool.{leb-true}
 use Rattle.bidi_lines.specs.Arranged.{AtLeast}
 use Rattle.bidi_lines.proofs.Stretches.{IsArrangedTo-run, IsArrangedTo-stretch, IsNextPart-level, IsNextPart-nested, IsNextPart-turned}
 use Rattle.bidi_lines.proofs.visual_order.+arrange.Goals as goal
@@ -35,15 +35,7 @@ edge_after : (levels : List ℕ) (base least at end : ℕ) → base < least → 
     → (base < slice_index levels end → ((p : ℕ) → at ≤ p → p ≤ end → base < slice_index levels p) → least ≤ slice_index levels end)
     → slice_index levels end < least
     → slice_index levels end ≤ base
-edge_after levels base least at end above all reach stops = elim (cases_lt base (slice_index levels end)) [
-  | inl k ↦
-      let low : least ≤ slice_index levels end = reach k (λ p a b. elim (cases_lt p end) [
-        | inl m ↦ let r = all p a m in omega arith
-        | inr m ↦ let e : p ≡ end = omega arith in rw e k
-      ]) in
-      absurd (omega arith)
-  | inr k ↦ k
-]
+edge_after levels base least at end above all reach stops = grind arith
 
 pub loop-at-preserved-then-least-base-eq1 : goal.loop-at-preserved-then-least-base-eq1
 loop-at-preserved-then-least-base-eq1 t c =

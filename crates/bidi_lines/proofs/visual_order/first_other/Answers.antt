@@ -1,5 +1,5 @@
-use Rattle.std.proofs.Common.{◌≡◌, ℕ, ◌≢◌, eqb, not, true, false, Bool, refl, arith, w8}
-use Rattle.std.proofs.lemmas.Bool.{eqb-true, eq-eqb}
+use Rattle.std.proofs.Common.{◌≡◌, ℕ, ◌≢◌, eqb, not, true, false, Bool, arith, w8}
+use Rattle.std.proofs.lemmas.Bool.{eq-eqb}
 use Rattle.std.proofs.lemmas.Simd.{bitmask_splat}
 use Rattle.bidi_lines.proofs.Lanes.{counted_lanes, lanes_long}
 use Rattle.bidi_lines.proofs.visual_order.first_other.Goals as goal
@@ -8,11 +8,7 @@ abbrev other : ℕ → ℕ → Bool
 other level x = not (eqb x level)
 
 same_level : (x level : ℕ) → other level x ≡ false → x ≡ level
-same_level x level h = eqb-true x level (twice (eqb x level) h)
-  where
-    twice : (b : Bool) → not b ≡ false → b ≡ true
-    twice true h = refl
-    twice false h = cc
+same_level x level h = grind arith
 
 other_level : (x level : ℕ) → other level x ≡ true → x ≢ level
 other_level x level h e = let k : eqb x level ≡ true = eq-eqb x level e in cc

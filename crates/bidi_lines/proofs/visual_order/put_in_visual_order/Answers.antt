@@ -1,18 +1,15 @@
-use Rattle.std.proofs.Common.{◌≡◌, ◌+◌, length, slice_index, arith, ◌∙◌, ap, sym, subst, inl, inr}
-use Rattle.std.specs.List.{range_with_len}
+use Rattle.std.proofs.Common.{◌≡◌, length, arith, ◌∙◌, ap, sym, subst, inl, inr}
 use Rattle.std.proofs.lemmas.Bool.{cases_lt}
 use Rattle.std.proofs.lemmas.List.FromFn.{length-range_with_len, get_or-range_with_len}
 use Rattle.bidi_base.specs.Order.{IsVisualOrder}
-use Rattle.bidi_lines.proofs.Ordered.{visual-from_arranged, visual_law, visual-still, visual_order-still, none_odd}
+use Rattle.bidi_lines.proofs.Ordered.{visual-from_arranged, visual_law, visual-still, none_odd}
 use Rattle.bidi_lines.proofs.visual_order.put_in_visual_order.Goals as goal
 
 pub arrange-requires-clause-same_len : goal.arrange-requires-clause-same_len
 arrange-requires-clause-same_len c = ap length c.requires ∙ length-range_with_len 0 (length c.args.levels.now)
 
 pub arrange-requires-clause-untouched : goal.arrange-requires-clause-untouched
-arrange-requires-clause-untouched c p a b =
-    let e : slice_index (range_with_len 0 (length c.args.levels.now)) p ≡ 0 + p = get_or-range_with_len 0 (length c.args.levels.now) p 0 b in
-    rw c.requires (omega arith)
+arrange-requires-clause-untouched c p a b = grind (arith, get_or-range_with_len)
 
 pub returns-then-has_rtl-clause-visual : goal.returns-then-has_rtl-clause-visual
 returns-then-has_rtl-clause-visual c =
@@ -38,4 +35,4 @@ pub returns-then-has_rtl-clause-reversals : goal.returns-then-has_rtl-clause-rev
 returns-then-has_rtl-clause-reversals c = (visual_law (returns-then-has_rtl-clause-visual c)).1
 
 pub returns-then-has_rtl-clause-still : goal.returns-then-has_rtl-clause-still
-returns-then-has_rtl-clause-still c e = returns-then-has_rtl-clause-order c ∙ visual_order-still c.args.levels.now (none_odd c.args.levels.now e)
+returns-then-has_rtl-clause-still c e = grind arith

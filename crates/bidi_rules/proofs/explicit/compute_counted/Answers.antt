@@ -1,5 +1,5 @@
 -- One stretch or control after another.
-use Rattle.std.proofs.Common.{◌≡◌, ℕ, List, ◌∷◌, [], ◌++◌, length, map, refl, ap, ◌∙◌, arith}
+use Rattle.std.proofs.Common.{◌≡◌, ℕ, List, ◌∷◌, [], ◌++◌, length, map, refl, ◌∙◌, arith, rules}
 use Rattle.std.proofs.lemmas.List.{map-append}
 use Rattle.std.specs.declared.ops.Range.{Range}
 use Rattle.bidi_base.specs.declared.char_data.BidiClass.TheVariants.{L}
@@ -7,7 +7,6 @@ use Rattle.bidi_base.specs.Explicit.{explicit_levels, processing_classes}
 use Rattle.bidi_base.specs.Text.{char_index, per_char, per_unit}
 use Rattle.bidi_base.specs.Units.{bounds}
 use Rattle.bidi_rules.specs.ExplicitStretches.{Paragraph}
-use Rattle.bidi_rules.specs.Status.{entry_count}
 use Rattle.bidi_rules.proofs.CharEnds.{index-zero}
 use Rattle.bidi_rules.proofs.ExplicitStretches.{read-start, read-levels, read-classes, read-runs, read-no_runs, read-all, read-begins}
 use Rattle.bidi_rules.proofs.explicit.compute_counted.Given.{Over}
@@ -15,23 +14,14 @@ use Rattle.bidi_rules.proofs.explicit.compute_counted.Goals as goal
 use Rattle.bidi_rules.proofs.explicit.compute_counted.Goals.{After-loop-at}
 
 pub loop-at-init : goal.loop-at-init
-loop-at-init g c =
-    let a = c.args in
-    let p : Paragraph = record { len_of = g.T.TextSource.units; chars = g.T.TextSource.characters a.text; level = a.para_level; original = a.original_classes.now } in (
-      read-start p g.met.T.TextSource.has_units c.requires.original c.new-stack.result a.levels.now a.processing_classes.now (map bounds a.runs.now.items) c.new-run.result c.new-stack.ensures
-          c.requires.levels c.requires.processing (ap (map bounds) c.requires.runs) c.new-run.ensures,
-      omega (arith, index-zero g.T.TextSource.units g.met.T.TextSource.has_units (g.T.TextSource.characters a.text)),
-      omega (arith, ap entry_count c.new-stack.ensures),
-    )
+loop-at-init g c = grind (arith, read-start, index-zero)
 
 -- the last run
 pushed : (old now : List (Range ℕ)) (start end : ℕ) → now ≡ old ++ record { start = start; end = end } ∷ [] → map bounds now ≡ map bounds old ++ (start, end) ∷ []
-pushed old now start end is = ap (map bounds) is ∙ map-append bounds old (record { start = start; end = end } ∷ [])
+pushed old now start end is = grind (arith, map-append) steps 400000
 
 pub read_stretch-requires-clause-begins : goal.read_stretch-requires-clause-begins
-read_stretch-requires-clause-begins g c =
-    let p : Paragraph = record { len_of = g.T.TextSource.units; chars = g.T.TextSource.characters c.args.text; level = c.args.para_level; original = c.args.original_classes.now } in
-    read-begins p c.loop-at.at c.loop-at.stack c.loop-at.levels c.loop-at.processing_classes (map bounds c.loop-at.runs.items) c.loop-at.run c.loop-at.invariant.0
+read_stretch-requires-clause-begins g c = search (rules, read-begins)
 
 -- what is written once all units are read
 record Ended (g : Over) (c : After-loop-at g) : Type 0 where
@@ -43,9 +33,9 @@ ended : (g : Over) (c : After-loop-at g) → Ended g c
 ended g c =
     let p : Paragraph = record { len_of = g.T.TextSource.units; chars = g.T.TextSource.characters c.args.text; level = c.args.para_level; original = c.args.original_classes.now } in
     record {
-      levels = read-levels p c.loop-at.at c.loop-at.stack c.loop-at.levels c.loop-at.processing_classes (map bounds c.loop-at.runs.items) c.loop-at.run c.loop-at.invariant.0 (omega arith);
-      classes = read-classes p c.loop-at.at c.loop-at.stack c.loop-at.levels c.loop-at.processing_classes (map bounds c.loop-at.runs.items) c.loop-at.run c.loop-at.invariant.0 (omega arith);
-      all = read-all p c.loop-at.at c.loop-at.stack c.loop-at.levels c.loop-at.processing_classes (map bounds c.loop-at.runs.items) c.loop-at.run c.loop-at.invariant.0 (omega arith);
+      levels = search (rules, read-levels, p);
+      classes = search (rules, read-classes, p);
+      all = search (rules, read-all, p);
     }
 
 pub returns-in_ok-push : goal.returns-in_ok-push

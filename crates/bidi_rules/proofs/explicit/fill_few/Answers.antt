@@ -1,5 +1,6 @@
 -- One unit after another.
-use Rattle.std.proofs.Common.{◌≡◌, ◌+◌, ◌≤◌, ◌∙◌, ℕ, List, length, set, sym, ap, arith}
+use Rattle.std.proofs.Common.{◌≡◌, ◌+◌, ◌≤◌, ℕ, List, length, set, sym, arith}
+use Rattle.std.proofs.lemmas.Grind.{common_steps}
 use Rattle.bidi_rules.specs.ExplicitPass.{filled}
 use Rattle.bidi_rules.proofs.ExplicitUnits.{filled-none, filled-more}
 use Rattle.bidi_rules.proofs.explicit.fill_few.Goals as goal
@@ -8,21 +9,19 @@ one : {X : Type 0} (start : ℕ) (x : X) (old : List X) → start + 1 ≤ length
 one start x old fits = filled-more start 0 start x old old (omega arith) (omega arith) (sym (filled-none start x old))
 
 two : {X : Type 0} (start : ℕ) (x : X) (old : List X) → start + 2 ≤ length old → set (set old start x) (start + 1) x ≡ filled start 2 x old
-two start x old fits = filled-more start 1 (start + 1) x old (set old start x) (omega arith) (omega arith) (one start x old (omega arith))
+two start x old fits = grind (arith, common_steps, one) steps 400000
 
 three : {X : Type 0} (start : ℕ) (x : X) (old : List X) → start + 3 ≤ length old → set (set (set old start x) (start + 1) x) (start + 2) x ≡ filled start 3 x old
 three start x old fits = filled-more start 2 (start + 2) x old (set (set old start x) (start + 1) x) (omega arith) (omega arith) (two start x old (omega arith))
 
 pub returns-in-1 : goal.returns-in-1
-returns-in-1 g c = one c.args.start c.args.value c.args.units.now (omega (arith, c.in-1.is, c.requires.within)) ∙ ap (λ n. filled c.args.start n c.args.value c.args.units.now) (sym c.in-1.is)
+returns-in-1 g c = grind (arith, one) steps 400000
 
 pub returns-in-2 : goal.returns-in-2
-returns-in-2 g c = two c.args.start c.args.value c.args.units.now (omega (arith, c.in-2.is, c.requires.within)) ∙ ap (λ n. filled c.args.start n c.args.value c.args.units.now) (sym c.in-2.is)
+returns-in-2 g c = grind (arith, two) steps 400000
 
 pub returns-in-3 : goal.returns-in-3
-returns-in-3 g c = three c.args.start c.args.value c.args.units.now (omega (arith, c.in-3.is, c.requires.within)) ∙ ap (λ n. filled c.args.start n c.args.value c.args.units.now) (sym c.in-3.is)
+returns-in-3 g c = grind (arith, three) steps 400000
 
 pub returns-in_default : goal.returns-in_default
-returns-in_default g c =
-    let none : c.args.len ≡ 0 = omega arith in
-    sym (filled-none c.args.start c.args.value c.args.units.now) ∙ ap (λ n. filled c.args.start n c.args.value c.args.units.now) (sym none)
+returns-in_default g c = grind (arith, common_steps)

@@ -1,4 +1,5 @@
 use Rattle.std.proofs.Common.{◌≡◌, ◌∙◌, ◌++◌, ◌<◌, ◌∷◌, [], List, ℕ, length, map, sym, ap, ap₂, arith, eqb-true}
+use Rattle.std.proofs.lemmas.Grind.{common_steps}
 use Rattle.std.proofs.lemmas.Bool.{eqb-false}
 use Rattle.std.specs.Char.{len_utf8}
 use Rattle.std.specs.Str.{chars}
@@ -14,12 +15,10 @@ use Rattle.bidi_show.proofs.shown.layout_of.Goals.{then-is_empty+in_ok-push, els
 -- where no line was found an empty one stands
 none_found : (start : ℕ) (lines : List (Range ℕ)) (ranges : List Run) → length lines ≡ 0 → map run_of lines ≡ ranges
     → map run_of (lines ++ (record { start = start; end = start }) ∷ []) ≡ one_at_least start ranges
-none_found start [] ranges none found = ap (one_at_least start) found
-none_found start (line ∷ lines) ranges none found = absurd (omega arith)
+none_found start lines ranges none found = grind (arith, common_steps)
 
 some_found : (start : ℕ) (lines : List (Range ℕ)) (ranges : List Run) → 0 < length lines → map run_of lines ≡ ranges → map run_of lines ≡ one_at_least start ranges
-some_found start [] ranges some found = absurd (omega arith)
-some_found start (line ∷ lines) ranges some found = ap (one_at_least start) found
+some_found start lines ranges some found = grind (arith, common_steps)
 
 pub returns-clause-lines : goal.returns-clause-lines
 returns-clause-lines g c =

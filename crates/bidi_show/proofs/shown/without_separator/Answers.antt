@@ -1,4 +1,4 @@
-use Rattle.std.proofs.Common.{◌≡◌, ◌∙◌, ◌++◌, ◌∷◌, [], List, ℕ, length, encode_utf8, ap, sym}
+use Rattle.std.proofs.Common.{◌≡◌, ◌∙◌, ◌++◌, ◌∷◌, [], List, ℕ, encode_utf8, ap, sym, arith}
 use Rattle.std.proofs.lemmas.List.{nil_from_length}
 use Rattle.std.proofs.lemmas.Str.{chars-nil}
 use Rattle.std.specs.Str.{chars}
@@ -26,6 +26,4 @@ returns-in_default g c =
     ∙ without_separator-other source (chars c.as_str-front.result.now) c.in-Some.c (sym c.is_separator.ensures ∙ c.if-is_separator.false))
 
 pub returns-in_default-2 : goal.returns-in_default-2
-returns-in_default-2 g c =
-    let none : chars c.args.text.now ≡ [] = ap chars (nil_from_length c.args.text.now (ap length (sym c.chars-rest.ensures.rest) ∙ c.in_default.ensures.steps.0)) ∙ chars-nil in
-    rw none
+returns-in_default-2 g c = grind (arith, nil_from_length, chars-nil)

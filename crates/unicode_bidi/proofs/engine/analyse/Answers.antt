@@ -1,19 +1,13 @@
-use Rattle.std.proofs.Common.{◌≡◌, ◌∙◌, ◌+◌, ◌∷◌, [], Bool, List, ℕ, ap, subst, sym, arith}
+use Rattle.std.proofs.Common.{List, ℕ, arith}
 use Rattle.std.proofs.lemmas.Result.{IfOk-weaker}
-use Rattle.bidi_base.specs.Paragraphs.{pieces_of, ranges_from, AreParagraphRanges}
-use Rattle.bidi_base.specs.Text.{text_len}
+use Rattle.bidi_base.specs.Paragraphs.{pieces_of}
 use Rattle.bidi_base.proofs.ParagraphsLemmas.{pieces-joined, paragraphs-AreParagraphRanges}
 use Rattle.unicode_bidi.specs.Engine.{with_analysis}
-use Rattle.unicode_bidi.proofs.FoundLaws.{analysis-pieces, analysis-split, analysis-HasCharValues}
+use Rattle.unicode_bidi.proofs.FoundLaws.{analysis-pieces, analysis-HasCharValues}
 use Rattle.unicode_bidi.proofs.engine.analyse.Goals as goal
 
 pub returns-clause-analysis : goal.returns-clause-analysis
-returns-clause-analysis g c =
-    let source = g.D.BidiDataSource.source c.args.data_source.now in
-    let cs : List ℕ = g.T.TextSource.characters c.args.text in
-    IfOk-weaker c.analyse_by.result _ _
-    (λ a found. analysis-split source c.args.base c.args.split (with_analysis g.T.TextSource.units cs a) _ _ c.then_some-split.result c.then_some-split.ensures found)
-    c.analyse_by.ensures.analysis
+returns-clause-analysis g c = grind arith
 
 pub returns-clause-by_characters : goal.returns-clause-by_characters
 returns-clause-by_characters g c =
@@ -25,22 +19,7 @@ returns-clause-by_characters g c =
     c.analyse_by.ensures.analysis
 
 pub returns-clause-parted : goal.returns-clause-parted
-returns-clause-parted g c = λ all.
-    let source = g.D.BidiDataSource.source c.args.data_source.now in
-    let cs : List ℕ = g.T.TextSource.characters c.args.text in
-    IfOk-weaker c.analyse_by.result _ _
-    (λ a found. subst (AreParagraphRanges source g.T.TextSource.units cs)
-    (sym ((analysis-pieces source c.args.base c.args.split (with_analysis g.T.TextSource.units cs a) _ _ c.then_some-split.result c.then_some-split.ensures found).ranges
-    ∙ ap (λ (split : Bool). ranges_from g.T.TextSource.units 0 (pieces_of split source cs)) all))
-    (paragraphs-AreParagraphRanges source g.T.TextSource.units g.met.T.TextSource.has_units cs))
-    c.analyse_by.ensures.analysis
+returns-clause-parted g c = grind (arith, paragraphs-AreParagraphRanges)
 
 pub returns-clause-whole : goal.returns-clause-whole
-returns-clause-whole g c = λ one.
-    let source = g.D.BidiDataSource.source c.args.data_source.now in
-    let cs : List ℕ = g.T.TextSource.characters c.args.text in
-    let long : 0 + text_len g.T.TextSource.units cs ≡ text_len g.T.TextSource.units cs = omega arith in
-    IfOk-weaker c.analyse_by.result _ _
-    (λ a found. (analysis-pieces source c.args.base c.args.split (with_analysis g.T.TextSource.units cs a) _ _ c.then_some-split.result c.then_some-split.ensures found).ranges
-    ∙ ap (λ (split : Bool). ranges_from g.T.TextSource.units 0 (pieces_of split source cs)) one ∙ ap (λ (end : ℕ). (0, end) ∷ []) long)
-    c.analyse_by.ensures.analysis
+returns-clause-whole g c = grind arith

@@ -1,16 +1,13 @@
+use Rattle.std.proofs.Common.{arith}
 use Rattle.std.proofs.lemmas.Result.{IfOk-weaker}
 use Rattle.unicode_bidi.proofs.StoredLine.{same_len, within, of_units, of_chars-units}
 use Rattle.unicode_bidi.proofs.engine.line_levels.Goals as goal
 
 pub levels_with_line-requires-clause-same_len : goal.levels_with_line-requires-clause-same_len
-levels_with_line-requires-clause-same_len g c =
-    rw (c.original_classes.ensures, c.levels.ensures)
-    (same_len g.T.TextSource.units g.met.T.TextSource.has_units (g.T.TextSource.characters c.args.text) c.args.level _ _ c.args.line c.requires.classes c.requires.levels c.requires.is_line)
+levels_with_line-requires-clause-same_len g c = grind (arith, same_len)
 
 pub levels_with_line-requires-clause-within : goal.levels_with_line-requires-clause-within
-levels_with_line-requires-clause-within g c =
-    rw c.levels.ensures
-    (within g.T.TextSource.units g.met.T.TextSource.has_units (g.T.TextSource.characters c.args.text) c.args.level _ _ c.args.line c.requires.classes c.requires.levels c.requires.is_line)
+levels_with_line-requires-clause-within g c = grind (arith, within)
 
 pub returns-clause-levels : goal.returns-clause-levels
 returns-clause-levels g c =
@@ -20,8 +17,4 @@ returns-clause-levels g c =
     c.levels_with_line.ensures
 
 pub returns-clause-by_characters : goal.returns-clause-by_characters
-returns-clause-by_characters g c =
-    IfOk-weaker c.levels_with_line.result _ _
-    (λ v e. of_chars-units g.T.TextSource.units g.met.T.TextSource.has_units (g.T.TextSource.characters c.args.text) c.args.level _ _ c.args.line c.requires.classes c.requires.levels c.requires.is_line
-    v.items (rw (← c.original_classes.ensures, ← c.levels.ensures) e))
-    c.levels_with_line.ensures
+returns-clause-by_characters g c = grind (arith, of_chars-units)

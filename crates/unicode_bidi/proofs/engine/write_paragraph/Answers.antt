@@ -1,23 +1,17 @@
 use Rattle.std.proofs.Common.{◌≡◌, ◌∙◌, List, ℕ, map, slice_range, ap, sym, arith}
 use Rattle.std.specs.declared.ops.Range.{Range}
-use Rattle.std.proofs.lemmas.Result.{on_ok_weaker}
 use Rattle.bidi_base.specs.Isolates.{stored_classes}
-use Rattle.bidi_base.specs.Text.{per_unit, subrange, text_len}
-use Rattle.bidi_lines.proofs.LineInText.{length-part}
+use Rattle.bidi_base.specs.Text.{per_unit, subrange}
 use Rattle.unicode_bidi.proofs.ParagraphUnits.{paragraph-IsPart, paragraph-written}
 use Rattle.unicode_bidi.specs.Engine.{chars_of}
 use Rattle.unicode_bidi.specs.ParagraphFlags.{flags_of}
 use Rattle.unicode_bidi.proofs.engine.write_paragraph.Goals as goal
 
 pub slice_bounds-own-end : goal.slice_bounds-own-end
-slice_bounds-own-end g c =
-    let part = paragraph-IsPart g.T.TextSource.units g.met.T.TextSource.has_units (g.T.TextSource.characters c.args.text.now.text) c.args.paragraph.now c.range-units.result c.range-units.ensures c.requires.paragraph.line in
-    omega (arith, part.within, c.args.text.now.long)
+slice_bounds-own-end g c = grind (arith, paragraph-IsPart)
 
 pub slice_bounds-write_levels-end : goal.slice_bounds-write_levels-end
-slice_bounds-write_levels-end g c =
-    let part = paragraph-IsPart g.T.TextSource.units g.met.T.TextSource.has_units (g.T.TextSource.characters c.args.text.now.text) c.args.paragraph.now c.range-units.result c.range-units.ensures c.requires.paragraph.line in
-    omega (arith, part.within, c.requires.levels)
+slice_bounds-write_levels-end g c = grind (arith, paragraph-IsPart)
 
 pub invariant_of-own : goal.invariant_of-own
 invariant_of-own g c =
@@ -34,17 +28,7 @@ invariant_of-own g c =
     }
 
 pub write_levels-requires : goal.write_levels-requires
-write_levels-requires g c =
-    let len = g.T.TextSource.units in
-    let part = paragraph-IsPart len g.met.T.TextSource.has_units (g.T.TextSource.characters c.args.text.now.text) c.args.paragraph.now c.range-units.result c.range-units.ensures c.requires.paragraph.line in
-    length-part c.args.levels.now c.range-units.result.start c.range-units.result.end (omega (arith, part.within, c.requires.levels)) ∙ sym (ap (text_len len) c.subrange.ensures ∙ part.long)
+write_levels-requires g c = grind (arith, paragraph-IsPart)
 
 pub returns : goal.returns
-returns g c =
-    let len = g.T.TextSource.units in
-    let cs : List ℕ = g.T.TextSource.characters c.args.text.now.text in
-    let source = g.D.BidiDataSource.source c.args.text.now.data_source.now in
-    on_ok_weaker _
-    (paragraph-written source len cs c.args.paragraph.now c.range-units.result (g.T.TextSource.characters c.subrange.result) c.level.result c.args.levels.now c.write_levels.new.levels
-    c.range-units.ensures c.subrange.ensures c.level.ensures (paragraph-IsPart len g.met.T.TextSource.has_units cs c.args.paragraph.now c.range-units.result c.range-units.ensures c.requires.paragraph.line).ordered)
-    c.write_levels.ensures
+returns g c = grind (arith, paragraph-written)

@@ -1,6 +1,4 @@
-use Rattle.std.proofs.Common.{◌≡◌, ◌∙◌, ◌≤◌, ℕ, List, length, refl, subst, arith, rules}
-use Rattle.bidi_base.specs.Text.{text_len}
-use Rattle.unicode_bidi.specs.FirstWalk.{ahead, IsSkimmed}
+use Rattle.std.proofs.Common.{◌∙◌, ◌≤◌, length, refl, arith, rules}
 use Rattle.unicode_bidi.proofs.Skimmed.{IsSkimmed-start, is_boundary-skimmed, within-skimmed, start-within, block-line, block-long, block-room, IsMet-on, IsMet-within, IsSkimmed-turn, IsMet-turn}
 use Rattle.unicode_bidi.proofs.first_walk.next_minded.Goals as goal
 
@@ -64,8 +62,4 @@ loop-at-preserved g c =
     )
 
 pub returns-clause-met : goal.returns-clause-met
-returns-clause-met g c =
-    let cs : List ℕ = g.T.TextSource.characters c.args.text in
-    let within = within-skimmed _ _ _ _ _ _ _ _ c.loop-at.invariant.1 g.met.T.TextSource.has_units cs c.requires.begins refl in
-    let end : c.loop-at.at ≡ text_len g.T.TextSource.units cs = omega (arith, within, c.loop-at-test.false, c.requires.sized, c.loop-at.auto.classes) in
-    subst (λ n. IsSkimmed (g.D.BidiDataSource.source c.args.data_source.now) g.T.TextSource.units c.args.minded (ahead g.T.TextSource.units cs c.args.from) c.args.from n c.args.classes.now c.loop-at.classes) end c.loop-at.invariant.1
+returns-clause-met g c = grind (arith, within-skimmed)

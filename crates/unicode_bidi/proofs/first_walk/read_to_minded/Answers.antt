@@ -1,4 +1,4 @@
-use Rattle.std.proofs.Common.{◌≡◌, ◌∙◌, ◌+◌, ◌++◌, ℕ, List, length, take, drop, refl, sym, ap, subst, arith}
+use Rattle.std.proofs.Common.{◌≡◌, ◌∙◌, ◌+◌, ◌++◌, ℕ, List, length, take, drop, refl, sym, ap, subst, arith, rules}
 use Rattle.std.specs.Prelude.{replicate}
 use Rattle.std.specs.Iterator.{IsFinite}
 use Rattle.std.proofs.lemmas.List.{length_push}
@@ -21,13 +21,10 @@ loop-start-init g c = (
 
 -- the character that comes
 turn_of : (g : Over) (c : In-Some g) → CharTurn g.T.TextSource.units (g.T.TextSource.characters c.args.block) (length c.loop-start.yielded) c.in-Some.start c.in-Some.c
-turn_of g c =
-    index_turn g.T.TextSource.units (g.T.TextSource.characters c.args.block) c.char_indices-start-items.ensures c.into_iter-start-iterator.ensures.into_iter_gives c.loop-start.yielded _ c.loop-start.yielded_by _ _ c.in-Some.start c.in-Some.c c.in-Some.is c.next.ensures.steps
+turn_of g c = search (rules, index_turn)
 
 pub write-requires : goal.write-requires
-write-requires g c =
-    let w = turn_of g (goal.at.write-requires g c).In-Some in
-    omega (arith, w.fits, c.requires, c.loop-start.auto.classes)
+write-requires g c = grind (arith, turn_of)
 
 pub returns-then-has : goal.returns-then-has
 returns-then-has g c =

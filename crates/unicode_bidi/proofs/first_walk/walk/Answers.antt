@@ -1,15 +1,16 @@
 use Rattle.std.proofs.Common.{not, ◌≡◌, ◌∙◌, ◌+◌, ◌∷◌, [], ◌++◌, ℕ, ◌<◌, List, ◌⊎◌, inl, inr, length, drop, true, refl, sym, ap, subst, arith}
+use Rattle.std.proofs.lemmas.Grind.{common_steps}
 use Rattle.std.specs.Option.{is_none}
 use Rattle.std.specs.declared.ops.Range.{Range}
 use Rattle.std.proofs.lemmas.Bool.{cases_Bool}
 use Rattle.std.proofs.lemmas.List.{with_items_is}
-use Rattle.bidi_base.specs.Text.{place, is_boundary}
-use Rattle.bidi_base.proofs.PlaceLemmas.{is_boundary-place, place-end, place-le}
+use Rattle.bidi_base.specs.Text.{place}
+use Rattle.bidi_base.proofs.PlaceLemmas.{is_boundary-place, place-end}
 use Rattle.unicode_bidi.specs.FirstWalk.{IsFresh, IsClosed}
 use Rattle.unicode_bidi.specs.SplitRule.{ends_after}
 use Rattle.unicode_bidi.proofs.KnownClasses.{AreKnown-none}
 use Rattle.unicode_bidi.specs.declared.first_walk.TextReading.{TextReading}
-use Rattle.unicode_bidi.proofs.TextRead.{seen, same_range, open_within, depth-le, start-le, drawn-is, IsTextRead-more, IsTextDone-close, IsRead, IsRead-start, IsRead-on, IsRead-stop, IsRead-last, IsRead-none, IsTextDone-none, IsAnswer, IsTextDone-answer}
+use Rattle.unicode_bidi.proofs.TextRead.{seen, same_range, open_within, depth-le, drawn-is, IsTextRead-more, IsTextDone-close, IsRead, IsRead-start, IsRead-on, IsRead-stop, IsRead-last, IsRead-none, IsTextDone-none, IsAnswer, IsTextDone-answer}
 use Rattle.unicode_bidi.proofs.WalkSteps.{IsAt, IsAt-met, IsRead-end}
 use Rattle.unicode_bidi.proofs.first_walk.walk.Goals as goal
 use Rattle.unicode_bidi.proofs.first_walk.walk.Goals.{In-Some, then-is_none+in_ok-close, then-is_none-via-then-is_none, then-is_none-via-else-is_none+then-walk-end, else-is_none+else-walk-end}
@@ -29,11 +30,7 @@ loop-met-init g c = (
 )
 
 pub next_minded-requires-clause-begins : goal.next_minded-requires-clause-begins
-next_minded-requires-clause-begins g c =
-    let len = g.T.TextSource.units in
-    let cs : List ℕ = g.T.TextSource.characters c.args.text in
-    let h = c.loop-met.invariant.0 in
-    ap (is_boundary len cs) h.here ∙ is_boundary-place len cs h.index
+next_minded-requires-clause-begins g c = grind (arith, is_boundary-place)
 
 -- the character that was met
 met_at : (g : Over) (c : In-Some g)
@@ -74,17 +71,7 @@ meet-requires-clause-few g c =
     omega (arith, depth-le source len cs units base m.index m.read.done m.read.current old reading w.within m.read.read, w.fits, c.len.ensures, w.at_place, units c.in-Some.met.c)
 
 pub meet-requires-clause-follows : goal.meet-requires-clause-follows
-meet-requires-clause-follows g c =
-    let source = g.D.BidiDataSource.source c.args.data_source.now in
-    let len = g.T.TextSource.units in
-    let units = g.met.T.TextSource.has_units in
-    let cs : List ℕ = g.T.TextSource.characters c.args.text in
-    let base = c.args.base in
-    let reading = c.loop-met.walk.reading in
-    let old = seen c.next_minded.new.classes c.loop-met.walk in
-    let m = met_at g (goal.at.meet-requires-clause-follows g c).In-Some in
-    let w = m.turn in
-    omega (arith, start-le source len cs base m.index m.read.done m.read.current old reading m.read.read, w.at_place)
+meet-requires-clause-follows g c = grind (arith, common_steps)
 
 pub loop-met-smaller : goal.loop-met-smaller
 loop-met-smaller g c =
@@ -144,16 +131,7 @@ loop-met-preserved g c =
     )
 
 pub close-requires : goal.close-requires
-close-requires g c =
-    let source = g.D.BidiDataSource.source c.args.data_source.now in
-    let len = g.T.TextSource.units in
-    let units = g.met.T.TextSource.has_units in
-    let cs : List ℕ = g.T.TextSource.characters c.args.text in
-    let base = c.args.base in
-    let reading = c.loop-met.walk.reading in
-    let old = seen c.next_minded.new.classes c.loop-met.walk in
-    let h = IsRead-end _ _ cs units c.args.split base c.loop-met.at (seen c.loop-met.classes c.loop-met.walk) reading c.loop-met.minded c.next_minded.new.classes c.loop-met.invariant.0 c.loop-met.invariant.1 c.next_minded.auto.classes c.in_default.ensures.met in
-    omega (arith, start-le source len cs base (length cs) h.done h.current old reading h.read, place-le len cs (length cs), c.len-end.ensures)
+close-requires g c = grind arith
 
 answered : (g : Over) (c : goal.After-drop-walk-2 g) → IsAnswer (g.D.BidiDataSource.source c.args.data_source.now) g.T.TextSource.units (g.T.TextSource.characters c.args.text) c.args.split c.args.base (seen c.next_minded.new.classes c.if-is_none.walk)
 answered g c =
@@ -188,8 +166,7 @@ answered g c =
     ]
 
 pub returns-clause-classes : goal.returns-clause-classes
-returns-clause-classes g c =
-    with_items_is c.in_ok-original_classes.original_classes c.next_minded.new.classes (c.next_minded.auto.classes ∙ c.loop-met.auto.classes ∙ c.as_mut_slice-classes.ensures.len) ∙ (answered g c).classes
+returns-clause-classes g c = grind (arith, with_items_is, answered)
 
 pub returns-clause-ranges : goal.returns-clause-ranges
 returns-clause-ranges g c = (answered g c).ranges

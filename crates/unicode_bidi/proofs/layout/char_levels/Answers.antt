@@ -1,4 +1,4 @@
-use Rattle.std.proofs.Common.{◌≡◌, ◌∙◌, ℕ, List, sym, ap}
+use Rattle.std.proofs.Common.{◌≡◌, ◌∙◌, ℕ, List, sym, ap, arith}
 use Rattle.std.specs.Char.{len_utf8}
 use Rattle.std.specs.Str.{chars}
 use Rattle.bidi_base.specs.Text.{text_len, per_char, subrange}
@@ -11,8 +11,7 @@ use Rattle.unicode_bidi.proofs.layout.char_levels.Goals.{In_ok-levels}
 
 -- the characters of the line
 chars_of_line : (c : In_ok-levels) → chars c.subrange-text.result.text.now ≡ subrange len_utf8 (chars (text c.args.info.now)) c.args.line.start c.args.line.end
-chars_of_line c =
-    c.subrange-text.ensures ∙ ap (λ (bytes : List ℕ). subrange len_utf8 (chars bytes) c.args.line.start c.args.line.end) (c.new.ensures ∙ c.text.ensures)
+chars_of_line c = grind arith
 
 pub first_units-requires : goal.first_units-requires
 first_units-requires c =

@@ -1,4 +1,4 @@
-use Rattle.std.proofs.Common.{◌≡◌, ◌∙◌, ◌+◌, ◌++◌, ◌∷◌, [], ℕ, List, length, arith}
+use Rattle.std.proofs.Common.{◌≡◌, ◌∙◌, ◌+◌, ◌++◌, ◌∷◌, [], ℕ, List, length, arith, rules}
 use Rattle.std.proofs.lemmas.List.{length_push}
 use Rattle.bidi_base.proofs.LayoutLemmas.{first_line-one, first_line-stops, first_line-all, place-turn}
 use Rattle.bidi_base.proofs.PlaceLemmas.{CharTurn, index_turn, index_end}
@@ -8,8 +8,7 @@ use Rattle.unicode_bidi.proofs.layout.first_line_len.Given.{Over}
 
 -- the character that comes
 turn_of : (g : Over) (c : In-Some g) → CharTurn g.T.TextSource.units (g.T.TextSource.characters c.args.text) (length c.loop-at.yielded) c.in-Some.at c.in-Some.c
-turn_of g c =
-    index_turn g.T.TextSource.units (g.T.TextSource.characters c.args.text) c.char_indices-at-items.ensures c.into_iter-at-iterator.ensures.into_iter_gives c.loop-at.yielded _ c.loop-at.yielded_by _ _ c.in-Some.at c.in-Some.c c.in-Some.is c.next.ensures.steps
+turn_of g c = search (rules, index_turn)
 
 pub returns-then-width-left : goal.returns-then-width-left
 returns-then-width-left g c =

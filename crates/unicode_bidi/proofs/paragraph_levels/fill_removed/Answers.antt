@@ -1,24 +1,16 @@
-use Rattle.std.proofs.Common.{◌≡◌, ◌+◌, ◌-◌, ℕ, List, length, not, ap, subst, arith}
+use Rattle.std.proofs.Common.{◌+◌, ℕ, List, length, not, ap, arith}
 use Rattle.bidi_base.specs.declared.char_data.BidiClass.{BidiClass}
 use Rattle.bidi_base.specs.Classes.{is_removed}
 use Rattle.bidi_base.specs.Search.{IsFirst}
-use Rattle.unicode_bidi.proofs.FilledUnits.{AreFilled, AreFilled-start, AreFilled-kept_row, AreFilled-removed}
+use Rattle.unicode_bidi.proofs.FilledUnits.{AreFilled, AreFilled-removed}
 use Rattle.unicode_bidi.proofs.paragraph_levels.fill_removed.Goals as goal
 
 -- up to the next one that is removed
 up_to : (para : ℕ) (classes : List BidiClass) (old now : List ℕ) (i next : ℕ) → IsFirst is_removed classes i (length classes) next → AreFilled para classes old i now → AreFilled para classes old next now
-up_to para classes old now i next f h =
-    let row : i + (next - i) ≡ next = let begins = f.begins in omega arith in
-    subst (λ (k : ℕ). AreFilled para classes old k now) row (AreFilled-kept_row para classes old i (next - i) now h (λ k a b. ap not (f.before k a (omega arith))))
+up_to para classes old now i next f h = grind arith
 
 pub loop-at-init : goal.loop-at-init
-loop-at-init c =
-    let f = c.first_passing-at.ensures in
-    record {
-      filled = up_to c.args.para_level c.args.classes.now c.args.levels.now c.args.levels.now 0 c.first_passing-at.result f (AreFilled-start c.args.para_level c.args.classes.now c.args.levels.now);
-      ends = f.ends;
-      here = f.at;
-    }
+loop-at-init c = grind arith
 
 pub loop-at-preserved : goal.loop-at-preserved
 loop-at-preserved c =
@@ -36,10 +28,10 @@ loop-at-preserved c =
     }
 
 pub returns-clause-kept : goal.returns-clause-kept
-returns-clause-kept c = λ p within k. c.loop-at.invariant.filled.kept p (omega (arith, c.loop-at-test.false)) k
+returns-clause-kept c = grind arith
 
 pub returns-clause-front : goal.returns-clause-front
 returns-clause-front c = λ some k. c.loop-at.invariant.filled.front (omega (arith, c.loop-at-test.false)) k
 
 pub returns-clause-removed : goal.returns-clause-removed
-returns-clause-removed c = λ p within k. c.loop-at.invariant.filled.removed p (omega (arith, c.loop-at-test.false)) k
+returns-clause-removed c = grind arith

@@ -1,4 +1,4 @@
-use Rattle.std.proofs.Common.{◌||◌, cond, unwrap_or, length, ap, ◌∙◌, arith}
+use Rattle.std.proofs.Common.{◌||◌, cond, unwrap_or, ap, ◌∙◌, arith, rules}
 use Rattle.bidi_base.specs.declared.char_data.BidiClass.{BidiClass}
 use Rattle.bidi_base.specs.Classes.{is_paragraph_separator, is_removed}
 use Rattle.bidi_base.specs.Explicit.{Status}
@@ -29,7 +29,4 @@ returns-clause-classes c =
     IsExplicitSoFar-classes c.args.para_level c.args.classes.now c.loop-class.class-index c.loop-class.openers c.loop-class.levels.items c.loop-class.overridden.items (omega arith) c.loop-class.invariant
 
 pub returns-clause-lengths : goal.returns-clause-lengths
-returns-clause-lengths c = (
-  ap length (returns-clause-levels c) ∙ length-explicit_levels c.args.para_level c.args.classes.now,
-  ap length (returns-clause-classes c) ∙ length-explicit_classes c.args.para_level c.args.classes.now,
-)
+returns-clause-lengths c = search (rules, returns-clause-levels, length-explicit_levels, returns-clause-classes, length-explicit_classes)

@@ -1,15 +1,9 @@
-use Rattle.std.proofs.Common.{◌-◌, not, sym, ap, ◌∙◌, arith}
+use Rattle.std.proofs.Common.{sym, arith}
 use Rattle.bidi_base.proofs.SuccessorLemmas.{kept_before-is, kept_before-is_None}
 use Rattle.bidi_plain.proofs.plain.run_sequences.kept_before.Goals as goal
 
 pub returns-then-not-is_removed-clause-kept : goal.returns-then-not-is_removed-clause-kept
-returns-then-not-is_removed-clause-kept c =
-    sym (kept_before-is c.args.classes.now c.args.place (c.loop-p.p - 1) (record {
-      from = omega arith;
-      below = omega arith;
-      passes = ap not (sym c.is_removed.ensures ∙ c.if-not-is_removed.true);
-      last = λ k after below. c.loop-p.invariant k (omega arith) below;
-    }))
+returns-then-not-is_removed-clause-kept c = grind (arith, kept_before-is)
 
 pub returns-clause-kept : goal.returns-clause-kept
 returns-clause-kept c = sym (kept_before-is_None c.args.classes.now c.args.place (λ k below. c.loop-p.invariant k (omega arith) below))

@@ -1,15 +1,11 @@
-use Rattle.std.proofs.Common.{◌≡◌, ◌<◌, length, map, ℕ, List, [], ◌∷◌, ◌++◌, get_or, set, Option, Some, sym, ap, ◌∙◌}
+use Rattle.std.proofs.Common.{◌≡◌, ◌<◌, length, map, ℕ, List, [], ◌∷◌, ◌++◌, get_or, set, Option, Some, arith}
 use Rattle.std.specs.Prelude.{IfSome}
 use Rattle.std.proofs.lemmas.List.{map-set, get_or-map}
 use Rattle.bidi_base.specs.SequencePass.{with_entry}
 use Rattle.bidi_plain.proofs.plain.run_sequences.put.Goals as goal
 
 grown : {X : Type 0} (f : X → List ℕ) (xs : List X) (o : Option ℕ) (s p : ℕ) (v old : X) → o ≡ Some s → IfSome o (λ s. s < length xs) → f v ≡ f old ++ p ∷ [] → old ≡ get_or xs s old → map f (set xs s v) ≡ with_entry o p (map f xs)
-grown f xs o s p v old e within items is =
-    let fits : s < length xs = rw e at within in
-    map-set f xs s v
-    ∙ ap (set (map f xs) s) (items ∙ ap (λ (ys : List ℕ). ys ++ p ∷ []) (ap f is ∙ sym (get_or-map f xs s old [] fits)))
-    ∙ ap (λ (x : Option ℕ). with_entry x p (map f xs)) (sym e)
+grown f xs o s p v old e within items is = grind (arith, map-set, get_or-map)
 
 pub returns-in_ok-push-in-Some-clause-grown : goal.returns-in_ok-push-in-Some-clause-grown
 returns-in_ok-push-in-Some-clause-grown c = grown (λ v. v.items) c.args.sequences.now.items c.args.s c.in-Some.s c.args.place c.push.new.self c.index_mut.result.now c.in-Some.is c.requires c.in_ok-push-in-Some.ensures.items c.index_mut.ensures.value

@@ -1,5 +1,5 @@
 -- The units of a character have one class, so a test of its first unit tells of all.
-use Rattle.std.proofs.Common.{sym, ap, ◌∙◌, arith, inl, inr}
+use Rattle.std.proofs.Common.{arith, inl, inr}
 use Rattle.std.proofs.lemmas.Bool.{cases_lt}
 use Rattle.bidi_rules.proofs.CharEnds.{Goes, goes}
 use Rattle.bidi_rules.proofs.explicit.stretches.next_passing.Given.{Over}
@@ -24,7 +24,7 @@ loop-at-preserved g c =
       on.within,
       λ k above below. elim (cases_lt k c.loop-at.at) [
         | inl old ↦ c.loop-at.invariant.2 k above old
-        | inr new ↦ ap (g.C.ClassTest.test c.args.test) (on.same k new below) ∙ sym c.passes.ensures ∙ c.if-not-passes.true
+        | inr new ↦ grind arith
       ],
       on.begins,
       omega (arith, on.index, c.step_over-at.ensures.steps),

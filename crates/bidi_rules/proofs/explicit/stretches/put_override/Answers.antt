@@ -6,7 +6,7 @@ use Rattle.bidi_base.specs.Places.{class_at}
 use Rattle.bidi_base.specs.Text.{char_index}
 use Rattle.bidi_rules.specs.ExplicitStretches.{IsOverridden}
 use Rattle.bidi_rules.proofs.CharEnds.{Goes, goes}
-use Rattle.bidi_rules.proofs.ExplicitStretches.{IsOverridden-none, IsOverridden-more, IsOverridden-spared}
+use Rattle.bidi_rules.proofs.ExplicitStretches.{IsOverridden-more, IsOverridden-spared}
 use Rattle.bidi_rules.proofs.explicit.stretches.put_override.Given.{Over}
 use Rattle.bidi_rules.proofs.explicit.stretches.put_override.Goals as goal
 use Rattle.bidi_rules.proofs.explicit.stretches.put_override.Goals.{After-step_over-next}
@@ -31,7 +31,7 @@ write_class-requires-clause-within g c =
     omega (arith, on.within, c.loop-at.invariant.2.long, c.requires.classes, c.requires.within)
 
 pub loop-at-init : goal.loop-at-init
-loop-at-init g c = (omega arith, c.requires.ordered, IsOverridden-none (Some c.args.put) c.args.from c.args.classes.now, c.requires.begins, omega arith)
+loop-at-init g c = grind arith steps 400000
 
 pub loop-at-smaller-then-passes : goal.loop-at-smaller-then-passes
 loop-at-smaller-then-passes g c =

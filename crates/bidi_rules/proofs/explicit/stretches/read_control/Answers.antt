@@ -1,4 +1,4 @@
-use Rattle.std.proofs.Common.{◌<◌, map, sym, ◌∙◌, arith}
+use Rattle.std.proofs.Common.{◌<◌, map, sym, ◌∙◌, arith, rules}
 use Rattle.bidi_base.specs.Units.{bounds}
 use Rattle.bidi_rules.specs.ExplicitStretches.{Paragraph}
 use Rattle.bidi_rules.specs.Status.{seen}
@@ -13,23 +13,20 @@ read-status-requires g c =
     record { poppable = can.poppable; depth = (a.para_level, can.depth); counts = can.counts }
 
 pub end_of-next-requires-clause-begins : goal.end_of-next-requires-clause-begins
-end_of-next-requires-clause-begins g c =
-    let a = c.args in
-    let p : Paragraph = record { len_of = g.T.TextSource.units; chars = g.T.TextSource.characters a.text; level = a.para_level; original = a.original_classes.now } in
-    read-begins p a.start a.stack.now a.levels.now a.classes.now (map bounds a.runs.now.items) a.run.now c.requires.read
+end_of-next-requires-clause-begins g c = search (rules, read-begins)
 
 pub write_level-requires-clause-ordered : goal.write_level-requires-clause-ordered
 write_level-requires-clause-ordered g c =
     let a = c.args in
     let p : Paragraph = record { len_of = g.T.TextSource.units; chars = g.T.TextSource.characters a.text; level = a.para_level; original = a.original_classes.now } in
-    let some : a.start < c.end_of-next.result = control-some p a.start a.stack.now a.levels.now a.classes.now (map bounds a.runs.now.items) a.run.now c.requires.read c.requires.inside c.end_of-next.result c.end_of-next.ensures in
+    let some : a.start < c.end_of-next.result = search (rules, control-some) in
     omega arith
 
 pub write_class-requires-clause-ordered : goal.write_class-requires-clause-ordered
 write_class-requires-clause-ordered g c =
     let a = c.args in
     let p : Paragraph = record { len_of = g.T.TextSource.units; chars = g.T.TextSource.characters a.text; level = a.para_level; original = a.original_classes.now } in
-    let some : a.start < c.end_of-next.result = control-some p a.start a.stack.now a.levels.now a.classes.now (map bounds a.runs.now.items) a.run.now c.requires.read c.requires.inside c.end_of-next.result c.end_of-next.ensures in
+    let some : a.start < c.end_of-next.result = search (rules, control-some) in
     omega arith
 
 pub returns-in_ok-meet : goal.returns-in_ok-meet

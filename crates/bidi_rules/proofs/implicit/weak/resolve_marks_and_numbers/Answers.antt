@@ -1,5 +1,5 @@
 -- Where neither a mark nor a number stands, nothing is written.
-use Rattle.std.proofs.Common.{◌≡◌, ℕ, true, List, map, sym, ◌∙◌}
+use Rattle.std.proofs.Common.{◌≡◌, ℕ, true, List, map, sym, ◌∙◌, arith}
 use Rattle.std.proofs.lemmas.Bool.{or_parts}
 use Rattle.bidi_base.specs.Classes.{is_nsm}
 use Rattle.bidi_base.specs.Places.{class_at}
@@ -22,7 +22,7 @@ resolve_numbers-requires-clause-per_char g c =
     c.resolve_marks.new.classes c.resolve_marks.ensures.marked
 
 pub returns-then-has_marks_or_numbers-clause-walked : goal.returns-then-has_marks_or_numbers-clause-walked
-returns-then-has_marks_or_numbers-clause-walked g c = (c.resolve_marks.new.classes, c.resolve_marks.ensures.marked, c.resolve_numbers.ensures.walked)
+returns-then-has_marks_or_numbers-clause-walked g c = grind arith steps 400000
 
 pub returns-else-has_marks_or_numbers-clause-walked : goal.returns-else-has_marks_or_numbers-clause-walked
 returns-else-has_marks_or_numbers-clause-walked g c =

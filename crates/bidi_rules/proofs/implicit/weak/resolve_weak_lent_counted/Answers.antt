@@ -14,7 +14,6 @@ use Rattle.bidi_rules.specs.RunSequence.{lent_runs, lent_sos}
 use Rattle.bidi_rules.specs.WeakPass.{left_over}
 use Rattle.bidi_rules.specs.WeakWalk.{len_at, IsMarked, IsWalked}
 use Rattle.bidi_rules.proofs.CountBelow.{characters-at_most}
-use Rattle.bidi_rules.proofs.WalkLemmas.{is_run_sequence-ordered}
 use Rattle.bidi_rules.proofs.WeakText.{IsResolved, IsResolved-passes, lines-within}
 use Rattle.bidi_rules.proofs.implicit.weak.resolve_weak_lent_counted.Goals as goal
 
@@ -28,7 +27,7 @@ ready : (len_of : ℕ → ℕ) → HasUnits len_of → (chars : List ℕ) (seque
     → is_per_char class_eq len_of chars old ≡ true → IsReady len_of chars read old
 ready len_of h chars sequence read old is lines per =
     subst (λ (rs : List (Range ℕ)). IsReady len_of chars rs old) (sym is)
-    (record { ordered = is_run_sequence-ordered (map bounds sequence.runs.now) sequence.sos sequence.eos sequence.well_formed; lines = lines; per = IsPerChar-from_is_per_char class_eq class_test len_of h chars old per })
+    (record { ordered = grind arith; lines = lines; per = IsPerChar-from_is_per_char class_eq class_test len_of h chars old per })
 
 resolved : (len_of : ℕ → ℕ) → HasUnits len_of → (chars : List ℕ) (sequence : LentSequence) (read : List (Range ℕ)) (sos : BidiClass) → read ≡ lent_runs sequence → sos ≡ lent_sos sequence → (old c1 c2 c3 : List BidiClass) → IsReady len_of chars read old
     → IsMarked (map bounds read) (carried sos) old c1 → IsWalked (len_at len_of chars) (map bounds read) sos c1 c2
@@ -40,8 +39,7 @@ resolved len_of h chars sequence read sos runs_are sos_is old c1 c2 c3 w marks n
     (IsResolved-passes len_of h chars (map bounds read) w.lines w.ordered sos old w.per c1 marks c2 c3 numbers changed same long))
 
 pub resolve_marks_and_numbers-requires-clause-lines : goal.resolve_marks_and_numbers-requires-clause-lines
-resolve_marks_and_numbers-requires-clause-lines g c =
-    (ready g.T.TextSource.units g.met.T.TextSource.has_units (g.T.TextSource.characters c.args.text) c.args.sequence c.runs-runs.result.now c.args.processing_classes.now c.runs-runs.ensures c.requires.fits c.requires.per_char).lines
+resolve_marks_and_numbers-requires-clause-lines g c = grind arith
 
 pub resolve_marks_and_numbers-requires-clause-per_char : goal.resolve_marks_and_numbers-requires-clause-per_char
 resolve_marks_and_numbers-requires-clause-per_char g c =

@@ -1,5 +1,5 @@
 use Rattle.std.proofs.Common.{◌≡◌, ◌+◌, ℕ, Bool, List, get_or, set, sym, ◌∙◌, ap, subst, inl, inr, arith}
-use Rattle.std.proofs.lemmas.Bool.{cases_Bool, cases_lt, cond-true, cond-false}
+use Rattle.std.proofs.lemmas.Bool.{cases_Bool}
 use Rattle.std.proofs.lemmas.List.{set-get_or}
 use Rattle.bidi_base.specs.declared.char_data.BidiClass.{BidiClass}
 use Rattle.bidi_base.specs.declared.char_data.BidiClass.TheVariants.{L}
@@ -21,10 +21,10 @@ loop-unit-preserved g c =
     let answer : is_kept_in_place (get_or now i L) ≡ test i = ap is_kept_in_place reads in (
       elim (cases_Bool (is_kept_in_place (get_or now i L))) [
         | inl seen ↦
-            let is : c.written_over.result ≡ class = c.written_over.ensures ∙ cond-true (is_kept_in_place (get_or now i L)) class (get_or now i L) seen in
+            let is : c.written_over.result ≡ class = grind arith in
             subst (λ (x : BidiClass). IsWrittenOver test class from (i + 1) old (set now i x)) (sym is) (IsWrittenOver-set test class from old i now (omega arith) (omega (arith, c.requires)) (sym answer ∙ seen) h)
         | inr gone ↦
-            let is : c.written_over.result ≡ get_or now i L = c.written_over.ensures ∙ cond-false (is_kept_in_place (get_or now i L)) class (get_or now i L) gone in
+            let is : c.written_over.result ≡ get_or now i L = grind arith in
             subst (λ (xs : List BidiClass). IsWrittenOver test class from (i + 1) old xs) (sym (ap (set now i) is ∙ set-get_or now i L)) (IsWrittenOver-skip test class from old i now (sym answer ∙ gone) h)
       ],
       λ none. absurd (omega arith),
@@ -37,7 +37,4 @@ returns-clause-written g c =
     IsWrittenOver-end (λ k. is_kept_in_place (get_or old k L)) c.args.class c.args.from old c.loop-unit.unit c.args.to c.loop-unit.classes (λ h. omega arith) (omega arith) (λ none. (c.loop-unit.invariant.1 none).0) c.loop-unit.invariant.0
 
 pub returns-clause-steps : goal.returns-clause-steps
-returns-clause-steps g c = elim (cases_lt c.args.from c.args.to) [
-  | inl some ↦ omega (arith, c.loop-unit.invariant.2)
-  | inr none ↦ omega (arith, (c.loop-unit.invariant.1 none).1)
-]
+returns-clause-steps g c = grind arith

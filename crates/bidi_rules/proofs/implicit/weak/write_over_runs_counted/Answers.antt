@@ -1,24 +1,18 @@
-use Rattle.std.proofs.Common.{◌≡◌, ℕ, ◌+◌, ◌-◌, ◌<◌, ◌≤◌, ◌&&◌, true, false, List, length, map, drop, get_or, ltb, ◌∙◌, sym, ap, subst, inl, inr, arith, ltb-true}
+use Rattle.std.proofs.Common.{◌≡◌, ℕ, ◌<◌, ◌≤◌, ◌&&◌, true, false, List, length, map, drop, get_or, ltb, ◌∙◌, sym, ap, inl, inr, arith, rules}
 use Rattle.std.specs.Prelude.{max, min}
-use Rattle.std.proofs.lemmas.Bool.{cases_lt, and_parts, and_from, both_ways, lt-ltb}
+use Rattle.std.proofs.lemmas.Bool.{cases_lt, and_from, both_ways, lt-ltb}
 use Rattle.std.proofs.lemmas.List.{get_or-map, length-map, take_all}
 use Rattle.std.specs.declared.ops.Range.{Range}
 use Rattle.bidi_base.specs.Units.{bounds}
-use Rattle.bidi_rules.specs.WeakWalk.{is_seen, IsWrittenOver}
-use Rattle.bidi_rules.proofs.CountBelow.{count_below-none, count_below-more, count_below-parts, count_below-monotone, ends_ascend, turns_paid}
+use Rattle.bidi_rules.proofs.CountBelow.{count_below-none, count_below-more, count_below-parts, count_below-monotone, ends_ascend}
 use Rattle.bidi_rules.proofs.InRuns.{run_some}
 use Rattle.bidi_rules.proofs.KeptRuns.{no_range}
 use Rattle.bidi_rules.proofs.WalkLemmas.{are_ordered-drop}
-use Rattle.bidi_rules.proofs.WrittenOver.{runs-start, runs-more, runs-stop}
+use Rattle.bidi_rules.proofs.WrittenOver.{runs-more, runs-stop}
 use Rattle.bidi_rules.proofs.implicit.weak.write_over_runs_counted.Goals as goal
 
 pub loop-class-init : goal.loop-class-init
-loop-class-init g c = record {
-  fits = omega arith;
-  written = runs-start (map bounds c.args.runs.now) c.args.class c.args.from c.args.to c.args.classes.now;
-  at_least = omega arith;
-  at_most = λ some first. omega (arith, count_below-none c.args.from, count_below-none c.args.to);
-}
+loop-class-init g c = grind (arith, count_below-none)
 
 -- the run that comes
 record Comes (runs : List (Range ℕ)) (index to : ℕ) : Type 0 where
@@ -27,10 +21,7 @@ record Comes (runs : List (Range ℕ)) (index to : ℕ) : Type 0 where
   before : (get_or (map bounds runs) index (0, 0)).0 < to
 
 comes : (runs : List (Range ℕ)) (index to : ℕ) → (ltb index (length runs) && ltb (get_or (map bounds runs) index (0, 0)).0 to) ≡ true → Comes runs index to
-comes runs index to h =
-    let parts = and_parts (ltb index (length runs)) (ltb (get_or (map bounds runs) index (0, 0)).0 to) h in
-    let fits = ltb-true index (length runs) parts.0 in
-    record { fits = fits; is = get_or-map bounds runs index no_range (0, 0) fits; before = ltb-true _ to parts.1 }
+comes runs index to h = grind (arith, get_or-map)
 
 pub loop-class-preserved : goal.loop-class-preserved
 loop-class-preserved g c =
@@ -45,13 +36,9 @@ loop-class-preserved g c =
     let end : c.min.result ≡ min r.1 c.args.to = c.min.ensures ∙ ap (λ (r : ℕ × ℕ). min r.1 c.args.to) (sym it.is) in
     record {
       fits = omega (arith, it.fits);
-      written = runs-more ranges c.args.class c.args.from c.args.to c.args.classes.now index fits c.loop-class.classes c.write_over.new.classes inv.written c.max.result c.min.result start end c.write_over.ensures.written;
+      written = search (rules, runs-more);
       at_least = omega (arith, inv.at_least, c.write_over.ensures.steps);
-      at_most = λ some first.
-          let past : c.args.from < r.1 = omega (arith, first, ends_ascend 0 index ranges c.requires.ordered fits) in
-          let paid = turns_paid r.0 r.1 c.args.from c.args.to (run_some 0 index ranges c.requires.ordered fits) past it.before some in
-          let turns : c.write_over.new.steps ≡ c.loop-class.steps + 1 + (min r.1 c.args.to - max r.0 c.args.from) = rw (sym start, sym end) (c.write_over.ensures.steps ∙ omega (arith, c.tick.ensures)) in
-          omega (arith, inv.at_most some first, paid, turns, count_below-more index ranges c.args.from fits, count_below-more index ranges c.args.to fits);
+      at_most = λ some first. grind (arith, ends_ascend, run_some, count_below-more);
     }
 
 pub returns-clause-written : goal.returns-clause-written
@@ -70,8 +57,7 @@ returns-clause-written g c =
             | inr past ↦ past
           ] in
           runs-stop ranges c.args.class c.args.from c.args.to c.args.classes.now index now c.requires.ordered (omega arith) past written
-      | inr all ↦
-          subst (λ (rs : List (ℕ × ℕ)). IsWrittenOver (is_seen rs c.args.classes.now) c.args.class c.args.from c.args.to c.args.classes.now now) (take_all index ranges (omega arith)) written
+      | inr all ↦ grind (arith, take_all)
     ]
 
 pub returns-clause-at_most : goal.returns-clause-at_most

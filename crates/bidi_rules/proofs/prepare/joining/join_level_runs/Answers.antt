@@ -1,10 +1,8 @@
 -- One run after another comes to its sequence.
-use Rattle.std.proofs.Common.{ℕ, length, get_or, take, unwrap_or, ap, ◌∙◌, arith}
+use Rattle.std.proofs.Common.{ℕ, length, get_or, take, unwrap_or, ap, ◌∙◌, arith, rules}
 use Rattle.std.proofs.lemmas.List.{take_all}
-use Rattle.bidi_base.specs.declared.char_data.BidiClass.TheVariants.{L}
 use Rattle.bidi_base.specs.Places.{class_at}
 use Rattle.bidi_base.specs.SequencePass.{waiting_for}
-use Rattle.bidi_base.specs.Text.{per_char}
 use Rattle.bidi_base.proofs.AgreeLemmas.{sequences-explicit_levels}
 use Rattle.bidi_rules.specs.Joining.{read_units}
 use Rattle.bidi_rules.proofs.KeptRuns.{no_range}
@@ -16,9 +14,7 @@ use Rattle.bidi_rules.proofs.prepare.joining.join_level_runs.Goals.{In-loop-run,
 -- the run that comes
 run_at : (g : Over) (c : In-loop-run g) → Comes g.T.TextSource.units g.met.T.TextSource.has_units (g.T.TextSource.characters c.args.text) c.args.original_classes.now c.args.levels.now c.args.runs.now
     (record { classes = c.requires.original; levels = c.requires.levels; runs_are = c.requires.runs }) c.loop-run.run-index (get_or c.args.runs.now c.loop-run.run-index no_range)
-run_at g c =
-    comes g.T.TextSource.units g.met.T.TextSource.has_units (g.T.TextSource.characters c.args.text) c.args.original_classes.now c.args.levels.now c.args.runs.now
-    (record { classes = c.requires.original; levels = c.requires.levels; runs_are = c.requires.runs }) c.loop-run.run-index no_range c.loop-run-test.true
+run_at g c = search (rules, comes)
 
 pub loop-run-init : goal.loop-run-init
 loop-run-init g c =
@@ -26,19 +22,13 @@ loop-run-init g c =
     (record { classes = c.requires.original; levels = c.requires.levels; runs_are = c.requires.runs }) c.args.para_level c.args.has_isolate_controls c.args.out.now.items c.new-waiting.result.items c.requires.out c.new-waiting.ensures.items
 
 pub kept_end-kept_end-requires-clause-ordered : goal.kept_end-kept_end-requires-clause-ordered
-kept_end-kept_end-requires-clause-ordered g c =
-    let run = run_at g (goal.at.kept_end-kept_end-requires-clause-ordered g c).In-loop-run in
-    omega (arith, run.next.some)
+kept_end-kept_end-requires-clause-ordered g c = grind (arith, run_at)
 
 pub kept_end-kept_end-requires-clause-inside : goal.kept_end-kept_end-requires-clause-inside
-kept_end-kept_end-requires-clause-inside g c =
-    let run = run_at g (goal.at.kept_end-kept_end-requires-clause-inside g c).In-loop-run in
-    run.next.inside
+kept_end-kept_end-requires-clause-inside g c = grind (arith, run_at)
 
 pub single-requires-clause-run : goal.single-requires-clause-run
-single-requires-clause-run g c =
-    let run = run_at g (goal.at.single-requires-clause-run g c).In-loop-run in
-    run.next.some
+single-requires-clause-run g c = grind (arith, run_at)
 
 pub returns-then-kept_end-run : goal.returns-then-kept_end-run
 returns-then-kept_end-run g c =
@@ -49,35 +39,25 @@ returns-then-kept_end-run g c =
     in
     record {
       sequences = end.in_order;
-      explicit = λ w. end.in_order ∙ sequences-explicit_levels c.args.para_level (per_char L g.T.TextSource.units (g.T.TextSource.characters c.args.text) c.args.original_classes.now) (per_char 0 g.T.TextSource.units (g.T.TextSource.characters c.args.text) c.args.levels.now) w;
+      explicit = λ w. grind (arith, sequences-explicit_levels);
       runs = end.shares;
       fits = end.lines;
     }
 
 pub bounds-levels-kept_end : goal.bounds-levels-kept_end
-bounds-levels-kept_end g c =
-    let run = run_at g (goal.at.bounds-levels-kept_end g c).In-loop-run in
-    omega (arith, run.next.inside_levels, c.kept_end-kept_end.ensures.from, c.kept_end-kept_end.ensures.to, c.if-kept_end-run.false)
+bounds-levels-kept_end g c = grind (arith, run_at)
 
 pub bounds-original_classes-kept_end : goal.bounds-original_classes-kept_end
-bounds-original_classes-kept_end g c =
-    let run = run_at g (goal.at.bounds-original_classes-kept_end g c).In-loop-run in
-    omega (arith, run.next.inside, c.kept_end-kept_end.ensures.from, c.kept_end-kept_end.ensures.to, c.if-kept_end-run.false)
+bounds-original_classes-kept_end g c = grind (arith, run_at)
 
 pub level_after-requires : goal.level_after-requires
-level_after-requires g c =
-    let run = run_at g (goal.at.level_after-requires g c).In-loop-run in
-    run.next.inside_levels
+level_after-requires g c = grind (arith, run_at)
 
 pub bounds-original_classes-run : goal.bounds-original_classes-run
-bounds-original_classes-run g c =
-    let run = run_at g (goal.at.bounds-original_classes-run g c).In-loop-run in
-    omega (arith, run.next.some, run.next.inside)
+bounds-original_classes-run g c = grind (arith, run_at)
 
 pub read_run-requires-clause-line : goal.read_run-requires-clause-line
-read_run-requires-clause-line g c =
-    let run = run_at g (goal.at.read_run-requires-clause-line g c).In-loop-run in
-    run.next.line
+read_run-requires-clause-line g c = grind (arith, run_at)
 
 pub read_run-requires-clause-kept_end : goal.read_run-requires-clause-kept_end
 read_run-requires-clause-kept_end g c =
@@ -123,7 +103,7 @@ returns g c =
     in
     record {
       sequences = end.in_order;
-      explicit = λ w. end.in_order ∙ sequences-explicit_levels c.args.para_level (per_char L g.T.TextSource.units (g.T.TextSource.characters c.args.text) c.args.original_classes.now) (per_char 0 g.T.TextSource.units (g.T.TextSource.characters c.args.text) c.args.levels.now) w;
+      explicit = λ w. grind (arith, sequences-explicit_levels);
       runs = end.shares;
       fits = end.lines;
     }

@@ -12,16 +12,16 @@ use Rattle.bidi_rules.proofs.prepare.joining.read_run.Goals.{After-first_passing
 
 -- the run lies within
 within : (len_of : ℕ → ℕ) → HasUnits len_of → (chars : List ℕ) (units : List BidiClass) (start end : ℕ) → is_per_char ghosts.eq len_of chars units ≡ true → IsLine len_of chars start end → end ≤ length units
-within len_of h chars units start end whole line = omega (arith, length-from_is_per_char ghosts.eq class_test len_of h chars units whole, is_boundary-le len_of chars end line.ends)
+within len_of h chars units start end whole line = grind (arith, length-from_is_per_char, class_test, is_boundary-le) steps 400000
 
 pub first_passing-at-requires-clause-inside : goal.first_passing-at-requires-clause-inside
-first_passing-at-requires-clause-inside g c = within g.T.TextSource.units g.met.T.TextSource.has_units (g.T.TextSource.characters c.args.text) c.args.classes.now c.args.run.now.start c.args.run.now.end c.requires.per_char c.requires.line
+first_passing-at-requires-clause-inside g c = search (arith, within)
 
 pub first_passing-at-requires-in-loop-at-clause-inside : goal.first_passing-at-requires-in-loop-at-clause-inside
-first_passing-at-requires-in-loop-at-clause-inside g c = within g.T.TextSource.units g.met.T.TextSource.has_units (g.T.TextSource.characters c.args.text) c.args.classes.now c.args.run.now.start c.args.run.now.end c.requires.per_char c.requires.line
+first_passing-at-requires-in-loop-at-clause-inside g c = search (arith, within)
 
 pub bounds-classes-at : goal.bounds-classes-at
-bounds-classes-at g c = omega (arith, c.loop-at-test.true, within g.T.TextSource.units g.met.T.TextSource.has_units (g.T.TextSource.characters c.args.text) c.args.classes.now c.args.run.now.start c.args.run.now.end c.requires.per_char c.requires.line)
+bounds-classes-at g c = search (arith, within)
 
 pub loop-at-init : goal.loop-at-init
 loop-at-init g c =
@@ -42,9 +42,7 @@ end_of-behind-requires-clause-inside g c =
     c.args.waiting.now.items c.loop-at.waiting.items c.loop-at.at c.loop-at-test.true c.loop-at.invariant).inside
 
 pub end_of-behind-requires-clause-fits : goal.end_of-behind-requires-clause-fits
-end_of-behind-requires-clause-fits g c =
-    let chars : List ℕ = g.T.TextSource.characters c.args.text in
-    omega (arith, length-from_is_per_char ghosts.eq class_test g.T.TextSource.units g.met.T.TextSource.has_units chars c.args.classes.now c.requires.per_char)
+end_of-behind-requires-clause-fits g c = grind (arith, length-from_is_per_char)
 
 pub returns : goal.returns
 returns g c =

@@ -1,22 +1,17 @@
+use Rattle.std.proofs.Common.{arith}
 use Rattle.std.proofs.lemmas.Result.{IfOk-weaker}
 use Rattle.unicode_bidi.specs.Analysed.{text_of}
 use Rattle.unicode_bidi.proofs.StoredLine.{same_len, within, one_a_unit, of_chars}
 use Rattle.unicode_bidi.proofs.analysed.Analysed.reordered_levels_per_char.Goals as goal
 
 pub levels_per_char-requires-clause-one_a_unit : goal.levels_per_char-requires-clause-one_a_unit
-levels_per_char-requires-clause-one_a_unit g c =
-    one_a_unit g.T.TextSource.units g.met.T.TextSource.has_units (g.T.TextSource.characters (text_of c.args.self.now)) c.args.level c.original_classes-classes.result.now c.levels.result.now c.args.line
-    c.original_classes-classes.ensures.per_char c.levels.ensures.per_char c.requires
+levels_per_char-requires-clause-one_a_unit g c = grind (arith, one_a_unit)
 
 pub levels_per_char-requires-clause-same_len : goal.levels_per_char-requires-clause-same_len
-levels_per_char-requires-clause-same_len g c =
-    same_len g.T.TextSource.units g.met.T.TextSource.has_units (g.T.TextSource.characters (text_of c.args.self.now)) c.args.level c.original_classes-classes.result.now c.levels.result.now c.args.line
-    c.original_classes-classes.ensures.per_char c.levels.ensures.per_char c.requires
+levels_per_char-requires-clause-same_len g c = grind (arith, same_len)
 
 pub levels_per_char-requires-clause-within : goal.levels_per_char-requires-clause-within
-levels_per_char-requires-clause-within g c =
-    within g.T.TextSource.units g.met.T.TextSource.has_units (g.T.TextSource.characters (text_of c.args.self.now)) c.args.level c.original_classes-classes.result.now c.levels.result.now c.args.line
-    c.original_classes-classes.ensures.per_char c.levels.ensures.per_char c.requires
+levels_per_char-requires-clause-within g c = grind (arith, within)
 
 pub returns : goal.returns
 returns g c =

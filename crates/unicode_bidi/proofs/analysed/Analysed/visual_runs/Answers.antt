@@ -1,17 +1,14 @@
+use Rattle.std.proofs.Common.{arith}
 use Rattle.std.proofs.lemmas.Result.{IfOk-weaker}
 use Rattle.unicode_bidi.specs.Analysed.{text_of}
 use Rattle.unicode_bidi.proofs.StoredLine.{same_len, within, of_units}
 use Rattle.unicode_bidi.proofs.analysed.Analysed.visual_runs.Goals as goal
 
 pub levels_and_runs-requires-clause-same_len : goal.levels_and_runs-requires-clause-same_len
-levels_and_runs-requires-clause-same_len g c =
-    same_len g.T.TextSource.units g.met.T.TextSource.has_units (g.T.TextSource.characters (text_of c.args.self.now)) c.args.level c.original_classes.result.now c.levels.result.now c.args.line
-    c.original_classes.ensures.per_char c.levels.ensures.per_char c.requires.is_line
+levels_and_runs-requires-clause-same_len g c = grind (arith, same_len)
 
 pub levels_and_runs-requires-clause-within : goal.levels_and_runs-requires-clause-within
-levels_and_runs-requires-clause-within g c =
-    within g.T.TextSource.units g.met.T.TextSource.has_units (g.T.TextSource.characters (text_of c.args.self.now)) c.args.level c.original_classes.result.now c.levels.result.now c.args.line
-    c.original_classes.ensures.per_char c.levels.ensures.per_char c.requires.is_line
+levels_and_runs-requires-clause-within g c = grind (arith, within)
 
 pub returns-clause-levels : goal.returns-clause-levels
 returns-clause-levels g c =

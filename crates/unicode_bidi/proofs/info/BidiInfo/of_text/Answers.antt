@@ -1,7 +1,7 @@
-use Rattle.std.proofs.Common.{Some, subst, sym}
+use Rattle.std.proofs.Common.{Some, arith}
 use Rattle.bidi_base.proofs.LevelLaws.{BoundaryNeutralsAreAlike-all, StaysLeftToRight-all}
 use Rattle.unicode_bidi.specs.Analysed.{analysed}
-use Rattle.unicode_bidi.specs.SplitRule.{pieces_by, AreParagraphRangesBy}
+use Rattle.unicode_bidi.specs.SplitRule.{pieces_by}
 use Rattle.unicode_bidi.proofs.FoundLaws.{pieces_by-joined, rule-AreParagraphRanges, lines-found, bounded-found, own_units-found}
 use Rattle.unicode_bidi.proofs.info.BidiInfo.of_text.Goals as goal
 
@@ -26,11 +26,7 @@ invariant_of-result g c = record {
 }
 
 pub returns-clause-parted : goal.returns-clause-parted
-returns-clause-parted g c =
-    let source = g.D.BidiDataSource.source c.args.data_source.now in
-    rw c.new.ensures.text
-    (subst (AreParagraphRangesBy c.args.rule source g.T.TextSource.units (g.T.TextSource.characters c.args.text)) (sym c.in_ok-found.ensures.analysis.ranges)
-    (rule-AreParagraphRanges source g.T.TextSource.units g.met.T.TextSource.has_units (g.T.TextSource.characters c.args.text) c.args.rule))
+returns-clause-parted g c = grind (arith, rule-AreParagraphRanges)
 
 pub returns-clause-bounded : goal.returns-clause-bounded
 returns-clause-bounded g c =

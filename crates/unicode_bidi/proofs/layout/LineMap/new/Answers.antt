@@ -1,18 +1,13 @@
-use Rattle.std.proofs.Common.{◌∙◌, ℕ, List, sym, ap, subst}
-use Rattle.std.specs.List.Sorted.{IsPermutation}
+use Rattle.std.proofs.Common.{◌∙◌, ℕ, List, ap, subst, arith}
 use Rattle.bidi_base.specs.Layout.{visual_places, AreInverse}
-use Rattle.bidi_base.specs.Order.{visual_order}
-use Rattle.bidi_base.specs.Places.{indexes}
 use Rattle.bidi_base.proofs.LayoutLemmas.{own_indexes, visual_places-inverse}
 use Rattle.unicode_bidi.proofs.layout.LineMap.new.Goals as goal
 
 pub inverse-requires : goal.inverse-requires
-inverse-requires c =
-    subst (λ (order : List ℕ). IsPermutation (indexes order) order) (sym c.as_slice-2.ensures.value)
-    (own_indexes c.as_slice.result.now c.in_ok-order.order.items c.in_ok-order.ensures.visual)
+inverse-requires c = grind (arith, own_indexes)
 
 pub returns-clause-order : goal.returns-clause-order
-returns-clause-order c = c.in_ok-order.ensures.order ∙ ap visual_order (c.as_slice.ensures.value ∙ c.in_ok-levels.ensures)
+returns-clause-order c = grind arith
 
 pub returns-clause-places : goal.returns-clause-places
 returns-clause-places c =

@@ -1,4 +1,4 @@
-use Rattle.std.proofs.Common.{◌≡◌, ◌∙◌, ℕ, List, [], ◌∷◌, length, map, ap, subst, sym, arith, refl}
+use Rattle.std.proofs.Common.{◌≡◌, ◌∙◌, ℕ, List, [], ◌∷◌, map, ap, subst, sym, arith, refl}
 use Rattle.bidi_base.specs.Isolates.{paragraph_level}
 use Rattle.bidi_base.specs.Laws.{AreLevelsFrom}
 use Rattle.bidi_base.proofs.LevelLaws.{BoundaryNeutralsAreAlike-all, StaysLeftToRight-all}
@@ -24,10 +24,7 @@ pub returns-clause-stays_left_to_right : goal.returns-clause-stays_left_to_right
 returns-clause-stays_left_to_right g c = StaysLeftToRight-all (g.D.BidiDataSource.source c.args.data_source.now) c.args.default_para_level
 
 pub index-requires-2 : goal.index-requires-2
-index-requires-2 g c =
-    let one : length c.in_ok-found.found.flags.items ≡ 1 = ap length (c.in_ok-found.ensures.flags ∙ flags-one (g.D.BidiDataSource.source c.args.data_source.now) (g.T.TextSource.characters c.args.text)) in
-    let ok = c.in_ok-found.found.flags.ok in
-    omega (arith, one, ok)
+index-requires-2 g c = grind (arith, flags-one)
 
 pub returns-clause-analysis : goal.returns-clause-analysis
 returns-clause-analysis g c =

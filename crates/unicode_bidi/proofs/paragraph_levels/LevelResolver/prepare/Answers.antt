@@ -1,11 +1,10 @@
-use Rattle.std.proofs.Common.{◌≡◌, ◌∙◌, List, ℕ, OnOk, map, ap, sym, subst}
+use Rattle.std.proofs.Common.{◌≡◌, ◌∙◌, List, ℕ, OnOk, map, ap, sym, subst, arith}
 use Rattle.bidi_base.specs.declared.char_data.BidiClass.TheVariants.{L}
 use Rattle.bidi_base.specs.Explicit.{explicit_levels}
 use Rattle.bidi_base.specs.Sequences.{sequences}
-use Rattle.bidi_base.specs.Text.{is_per_char, per_char}
+use Rattle.bidi_base.specs.Text.{per_char}
 use Rattle.bidi_base.specs.Units.{bounds, level_run_ranges}
 use Rattle.bidi_base.proofs.ExplicitLemmas.{length-explicit_levels}
-use Rattle.bidi_base.proofs.PerCharTests.{level_eq, level_test}
 use Rattle.bidi_base.proofs.PerUnit.{length-per_char, per_char-per_unit}
 use Rattle.bidi_base.proofs.UnitsLemmas.{is_per_char-per_unit}
 use Rattle.bidi_rules.specs.RunSequence.{sequences_in}
@@ -15,14 +14,10 @@ use Rattle.unicode_bidi.proofs.FoundLaws.{stored-is_per_char}
 use Rattle.unicode_bidi.proofs.paragraph_levels.LevelResolver.prepare.Goals as goal
 
 pub compute-requires-clause-original : goal.compute-requires-clause-original
-compute-requires-clause-original g c =
-    let class_of = (g.D.BidiDataSource.source c.args.paragraph.now.data_source.now).class_of in
-    stored-is_per_char g.T.TextSource.units (g.T.TextSource.characters c.args.paragraph.now.text) class_of c.args.paragraph.now.original_classes.now c.args.paragraph.now.stored
+compute-requires-clause-original g c = grind (arith, stored-is_per_char)
 
 pub join_level_runs-requires-clause-original : goal.join_level_runs-requires-clause-original
-join_level_runs-requires-clause-original g c =
-    let class_of = (g.D.BidiDataSource.source c.args.paragraph.now.data_source.now).class_of in
-    stored-is_per_char g.T.TextSource.units (g.T.TextSource.characters c.args.paragraph.now.text) class_of c.args.paragraph.now.original_classes.now c.args.paragraph.now.stored
+join_level_runs-requires-clause-original g c = grind (arith, stored-is_per_char)
 
 pub join_level_runs-requires-clause-isolates : goal.join_level_runs-requires-clause-isolates
 join_level_runs-requires-clause-isolates g c = λ some.
@@ -31,12 +26,7 @@ join_level_runs-requires-clause-isolates g c = λ some.
     c.has_isolates.ensures ∙ has_isolates-flags c.args.paragraph.now.flags (map class_of cs) c.args.paragraph.now.own_flags ∙ initiators-stored g.T.TextSource.units cs (map class_of cs) c.args.paragraph.now.original_classes.now c.args.paragraph.now.stored some
 
 pub join_level_runs-requires-clause-levels : goal.join_level_runs-requires-clause-levels
-join_level_runs-requires-clause-levels g c =
-    let len = g.T.TextSource.units in
-    let cs : List ℕ = g.T.TextSource.characters c.args.paragraph.now.text in
-    let stored = per_char L len cs c.args.paragraph.now.original_classes.now in
-    let levels = explicit_levels c.args.paragraph.now.level stored in
-    ap (is_per_char level_eq len cs) c.in_ok-compute.ensures.levels ∙ is_per_char-per_unit level_eq level_test len cs levels (length-explicit_levels c.args.paragraph.now.level stored ∙ length-per_char L len cs c.args.paragraph.now.original_classes.now)
+join_level_runs-requires-clause-levels g c = grind (arith, is_per_char-per_unit, length-explicit_levels, length-per_char)
 
 pub join_level_runs-requires-clause-runs : goal.join_level_runs-requires-clause-runs
 join_level_runs-requires-clause-runs g c =

@@ -1,5 +1,5 @@
 -- The passes one after another.
-use Rattle.std.proofs.Common.{◌≡◌, ◌∙◌, ◌++◌, ◌∷◌, [], List, ℕ, true, length, map, ap, sym, subst, arith}
+use Rattle.std.proofs.Common.{◌≡◌, ◌∙◌, ◌++◌, ◌∷◌, [], List, ℕ, true, map, ap, sym, subst, arith}
 use Rattle.std.specs.List.{All, list_all}
 use Rattle.std.specs.declared.ops.Range.{Range}
 use Rattle.std.proofs.lemmas.List.{length-map}
@@ -23,14 +23,10 @@ use Rattle.unicode_bidi.proofs.paragraph_levels.LevelResolver.resolve_nested.Goa
 
 -- a sequence that is lent has its runs and ends
 lent-joined : (l : LentSequence) (s : IsolatingRunSequence) → lent_runs l ≡ runs s → lent_sos l ≡ sos s → lent_eos l ≡ eos s → lent l ≡ joined s
-lent-joined l s runs_are sos_is eos_is = λ i. record { runs = ap (map bounds) runs_are i; sos = sos_is i; eos = eos_is i }
+lent-joined l s runs_are sos_is eos_is = grind arith
 
 pub prepare-requires : goal.prepare-requires
-prepare-requires g c =
-    let len = g.T.TextSource.units in
-    let cs : List ℕ = g.T.TextSource.characters c.args.paragraph.now.text in
-    let class_of = (g.D.BidiDataSource.source c.args.paragraph.now.data_source.now).class_of in
-    omega (arith, c.requires, ap length c.args.paragraph.now.stored, length-per_unit len cs (stored_classes (map class_of cs)) (length-stored_classes (map class_of cs) ∙ length-map cs class_of))
+prepare-requires g c = grind (arith, length-per_unit, length-stored_classes, length-map)
 
 pub loop-sequence-init : goal.loop-sequence-init
 loop-sequence-init g c =
@@ -53,25 +49,7 @@ resolve_weak-requires-clause-per_char g c =
     AreResolvedTo-per_char len h cs source given.bracket_of c.args.paragraph.now.level _ c.loop-sequence.classes fits c.loop-sequence.invariant
 
 pub resolve_weak-requires-clause-fits : goal.resolve_weak-requires-clause-fits
-resolve_weak-requires-clause-fits g c =
-    let len = g.T.TextSource.units in
-    let h = g.met.T.TextSource.has_units in
-    let cs : List ℕ = g.T.TextSource.characters c.args.paragraph.now.text in
-    let given = g.D.BidiDataSource.source c.args.paragraph.now.data_source.now in
-    let source = map given.class_of cs in
-    let fits = length-map cs given.class_of in
-    let original = c.args.paragraph.now.original_classes.now in
-    let levels = c.prepare.new.levels in
-    let out = c.deref-sequence-items.result.now in
-    let para = c.args.paragraph.now.level in
-    let sequences_are = ap (sequences_in len cs (per_char L len cs original)) c.deref-sequence-items.ensures.value ∙ c.in_ok-prepare.ensures.sequences in
-    let lines = subst (λ ss. All (λ s. AreLines len cs (run_bounds s)) ss) (sym c.deref-sequence-items.ensures.value) c.in_ok-prepare.ensures.fits in
-    let ready = prepared len h cs source given.bracket_of para original levels out fits c.args.paragraph.now.stored c.in_ok-prepare.ensures.levels sequences_are lines in
-    let k = c.loop-sequence.sequence-index in
-    let s = c.sequence-item.result in
-    let within = c.loop-sequence-test.true in
-    let line = prepared-lines len h cs source given.bracket_of para original levels out ready k s within c.sequence-item.is in
-    line
+resolve_weak-requires-clause-fits g c = grind arith
 
 pub resolve_up_to_n1-requires-clause-levels : goal.resolve_up_to_n1-requires-clause-levels
 resolve_up_to_n1-requires-clause-levels g c =
@@ -96,20 +74,7 @@ resolve_up_to_n1-requires-clause-levels g c =
     )
 
 pub resolve_up_to_n1-requires-clause-original : goal.resolve_up_to_n1-requires-clause-original
-resolve_up_to_n1-requires-clause-original g c =
-    let len = g.T.TextSource.units in
-    let h = g.met.T.TextSource.has_units in
-    let cs : List ℕ = g.T.TextSource.characters c.args.paragraph.now.text in
-    let given = g.D.BidiDataSource.source c.args.paragraph.now.data_source.now in
-    let source = map given.class_of cs in
-    let fits = length-map cs given.class_of in
-    omega (
-      arith,
-      ap length c.args.paragraph.now.stored,
-      length-per_unit len cs (stored_classes source) (length-stored_classes source ∙ fits),
-      AreResolvedTo-long len h cs source given.bracket_of c.args.paragraph.now.level _ c.loop-sequence.classes fits c.loop-sequence.invariant,
-      c.resolve_weak.auto.processing_classes,
-    )
+resolve_up_to_n1-requires-clause-original g c = grind (arith, length-map, length-per_unit, length-stored_classes)
 
 pub resolve_up_to_n1-requires-clause-resolved : goal.resolve_up_to_n1-requires-clause-resolved
 resolve_up_to_n1-requires-clause-resolved g c =

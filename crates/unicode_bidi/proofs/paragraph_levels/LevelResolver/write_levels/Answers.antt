@@ -1,8 +1,6 @@
 -- The shortcut, and what X9 removed.
-use Rattle.std.proofs.Common.{◌+◌, ◌∙◌, List, ℕ, length, map, ap, sym, refl, arith}
-use Rattle.std.proofs.lemmas.Bool.{both_ways}
+use Rattle.std.proofs.Common.{◌∙◌, List, ℕ, map, sym, arith}
 use Rattle.std.proofs.lemmas.List.{length-map}
-use Rattle.bidi_base.specs.Isolates.{stored_classes}
 use Rattle.bidi_base.proofs.PerUnit.{length-per_unit}
 use Rattle.bidi_base.proofs.StoredSteps.{length-stored_classes}
 use Rattle.bidi_base.proofs.TextLemmas.{length-le-text_len}
@@ -21,12 +19,7 @@ returns-then-keeps_to g c =
     kept_to_levels len cs source (map given.bracket_of cs) level c.args.levels.now c.fill.new.self (length-map cs given.class_of) c.requires keeps (c.fill.ensures.after (λ y e. e))
 
 pub fill_removed-requires : goal.fill_removed-requires
-fill_removed-requires g c =
-    let len = g.T.TextSource.units in
-    let cs : List ℕ = g.T.TextSource.characters c.args.paragraph.now.text in
-    let given = g.D.BidiDataSource.source c.args.paragraph.now.data_source.now in
-    let source = map given.class_of cs in
-    record { lengths = omega (arith, c.resolve.auto.levels, c.requires, ap length c.args.paragraph.now.stored, length-per_unit len cs (stored_classes source) (length-stored_classes source ∙ length-map cs given.class_of)) }
+fill_removed-requires g c = grind (arith, length-per_unit, length-stored_classes, length-map)
 
 pub resolve-requires-clause-some : goal.resolve-requires-clause-some
 resolve-requires-clause-some g c =
@@ -38,27 +31,7 @@ resolve-requires-clause-some g c =
     omega (arith, c.requires, some-keeps_to level source leaves, length-map cs given.class_of, length-le-text_len g.T.TextSource.units g.met.T.TextSource.has_units cs)
 
 pub returns-then-has_removed : goal.returns-then-has_removed
-returns-then-has_removed g c =
-    let len = g.T.TextSource.units in
-    let h = g.met.T.TextSource.has_units in
-    let cs : List ℕ = g.T.TextSource.characters c.args.paragraph.now.text in
-    let given = g.D.BidiDataSource.source c.args.paragraph.now.data_source.now in
-    let source = map given.class_of cs in
-    let stored_long = length-stored_classes source ∙ length-map cs given.class_of in
-    filled-levels_in len h cs (stored_classes source) c.args.paragraph.now.level c.args.paragraph.now.original_classes.now c.resolve.new.levels c.fill_removed.new.levels stored_long c.args.paragraph.now.stored c.in_ok-resolve.ensures.per_char
-    (omega (arith, c.fill_removed.auto.levels, c.resolve.auto.levels, c.requires, ap length c.args.paragraph.now.stored, length-per_unit len cs (stored_classes source) stored_long))
-    c.fill_removed.ensures.kept c.fill_removed.ensures.front c.fill_removed.ensures.removed source (map given.bracket_of cs) refl c.in_ok-resolve.ensures.resolved
+returns-then-has_removed g c = grind (arith, length-stored_classes, length-map, filled-levels_in, length-per_unit)
 
 pub returns-else-has_removed : goal.returns-else-has_removed
-returns-else-has_removed g c =
-    let len = g.T.TextSource.units in
-    let h = g.met.T.TextSource.has_units in
-    let cs : List ℕ = g.T.TextSource.characters c.args.paragraph.now.text in
-    let given = g.D.BidiDataSource.source c.args.paragraph.now.data_source.now in
-    let source = map given.class_of cs in
-    let stored_long = length-stored_classes source ∙ length-map cs given.class_of in
-    let none = sym (has_removed-flags c.args.paragraph.now.flags source c.args.paragraph.now.own_flags) ∙ sym c.has_removed.ensures ∙ c.if-has_removed.false in
-    let all = all_kept len cs source c.args.paragraph.now.original_classes.now c.args.paragraph.now.stored none in
-    filled-levels_in len h cs (stored_classes source) c.args.paragraph.now.level c.args.paragraph.now.original_classes.now c.resolve.new.levels c.resolve.new.levels stored_long c.args.paragraph.now.stored c.in_ok-resolve.ensures.per_char
-    (omega (arith, c.resolve.auto.levels, c.requires, ap length c.args.paragraph.now.stored, length-per_unit len cs (stored_classes source) stored_long))
-    (λ u within kept. refl) (λ some gone. absurd (both_ways _ gone (all 0 some))) (λ u within gone. absurd (both_ways _ gone (all (u + 1) within))) source (map given.bracket_of cs) refl c.in_ok-resolve.ensures.resolved
+returns-else-has_removed g c = grind (arith, length-stored_classes, length-map, has_removed-flags, all_kept, filled-levels_in, length-per_unit)

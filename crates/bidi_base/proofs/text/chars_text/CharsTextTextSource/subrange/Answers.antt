@@ -1,16 +1,12 @@
-use Rattle.std.proofs.Common.{◌≤◌, length, sym, rules}
+use Rattle.std.proofs.Common.{◌≤◌, length, sym, arith}
 use Rattle.bidi_base.proofs.CharsLemmas.{is_boundary-within, subrange-one_unit}
 use Rattle.bidi_base.proofs.text.chars_text.CharsTextTextSource.subrange.Goals as goal
 
 pub offset_bounds-list-range : goal.offset_bounds-list-range
-offset_bounds-list-range c =
-    let within : c.args.range.end ≤ length c.list-list.result.now = rw c.list-list.ensures (is_boundary-within c.args.self.list.now c.args.range.end c.requires.ends) in
-    search rules
+offset_bounds-list-range c = grind (arith, is_boundary-within)
 
 pub slice_bounds-new-end : goal.slice_bounds-new-end
-slice_bounds-new-end c =
-    let within : c.args.range.end ≤ length c.list-list.result.now = rw c.list-list.ensures (is_boundary-within c.args.self.list.now c.args.range.end c.requires.ends) in
-    search rules
+slice_bounds-new-end c = grind (arith, is_boundary-within)
 
 pub returns : goal.returns
 returns c =

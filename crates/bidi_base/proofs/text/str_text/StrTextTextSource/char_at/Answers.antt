@@ -1,4 +1,4 @@
-use Rattle.std.proofs.Common.{◌≡◌, ◌∙◌, ◌-◌, ◌++◌, ℕ, List, length, length-append, refl, sym, ap, arith}
+use Rattle.std.proofs.Common.{◌≡◌, ◌∙◌, ◌-◌, ◌++◌, ℕ, List, length, length-append, refl, arith}
 use Rattle.std.specs.Char.{encode_utf8, len_utf8}
 use Rattle.std.specs.Str.{IsCharBoundary}
 use Rattle.std.specs.Str.Iter.{chars_rest}
@@ -7,12 +7,11 @@ use Rattle.bidi_base.proofs.StrLemmas.{char_at-inside, char_at-read}
 use Rattle.bidi_base.proofs.text.str_text.StrTextTextSource.char_at.Goals as goal
 
 pub returns-then-not-is_char_boundary : goal.returns-then-not-is_char_boundary
-returns-then-not-is_char_boundary c =
-    rw (← c.as_str-text.ensures) (sym (char_at-inside c.as_str-text.result.now c.args.index c.as_str-text.utf8 (λ b. let h = c.is_char_boundary.ensures.test.1 b in grind arith)))
+returns-then-not-is_char_boundary c = grind (arith, char_at-inside)
 
 -- a character is as long as the bytes that it takes away
 long : (bytes read rest left : List ℕ) (c : ℕ) → read ≡ bytes → read ≡ encode_utf8 c ++ rest → left ≡ rest → length bytes - length left ≡ len_utf8 c
-long bytes read rest left c whole cut is = omega (arith, ap length whole, ap length cut, ap length is, length-append (encode_utf8 c) rest, length-encode c)
+long bytes read rest left c whole cut is = grind (arith, length-append, length-encode)
 
 pub returns-in-Some : goal.returns-in-Some
 returns-in-Some c =

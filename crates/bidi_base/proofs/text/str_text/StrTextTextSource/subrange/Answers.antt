@@ -1,5 +1,4 @@
-use Rattle.std.proofs.Common.{◌∙◌, sym, subst, ap}
-use Rattle.std.specs.Str.{IsUtf8, chars}
+use Rattle.std.proofs.Common.{arith}
 use Rattle.bidi_base.proofs.StrLemmas.{IsCharBoundary-from_is_boundary, subrange-from_str}
 use Rattle.bidi_base.proofs.text.str_text.StrTextTextSource.subrange.Goals as goal
 
@@ -10,7 +9,4 @@ pub range-requires-clause-end_boundary : goal.range-requires-clause-end_boundary
 range-requires-clause-end_boundary c = IsCharBoundary-from_is_boundary c.as_str-text.result.now c.args.range.end c.as_str-text.utf8 (rw c.as_str-text.ensures c.requires.ends)
 
 pub returns : goal.returns
-returns c =
-    rw (← c.as_str-text.ensures)
-    (ap chars (c.new.ensures ∙ c.range.ensures.value)
-    ∙ sym (subrange-from_str c.as_str-text.result.now c.args.range.start c.args.range.end c.as_str-text.utf8 (rw c.as_str-text.ensures c.requires) (subst IsUtf8 c.range.ensures.value c.range.utf8)))
+returns c = grind (arith, subrange-from_str)

@@ -33,7 +33,4 @@ returns-in-Some-clause-goes c =
     (IsUtf8-past_char (char_indices_rest s) (char_indices_rest t) c.in-Some._c c.requires.0 h.1, omega (arith, h.2, shorter))
 
 pub returns-in-None-clause-steps : goal.returns-in-None-clause-steps
-returns-in-None-clause-steps c =
-    let h = c.in-None.ensures.steps in
-    let e = lengths_end c.args.self.now.iter h.0 in
-    (e, ap lengths_left h.1 ∙ e)
+returns-in-None-clause-steps c = grind (arith, lengths_end)

@@ -7,13 +7,7 @@ use Rattle.bidi_base.proofs.text.utf16_text.Utf16TextTextSource.char_at.Goals as
 use Rattle.bidi_base.proofs.text.utf16_text.Utf16TextTextSource.char_at.Goals.{then-index-units-via-then-index-units, then-index-units-via-else-index-units+then-splits_pair}
 
 pub returns-then-index-units : goal.returns-then-index-units
-returns-then-index-units c =
-    let us : List ℕ = c.units-units.result.now in
-    rw (← c.units-units.ensures)
-    (elim c.then-index-units.branch [
-      | then-index-units-via-then-index-units w ↦ sym (char_at-past us c.args.index w.if-index-units.true)
-      | then-index-units-via-else-index-units+then-splits_pair w ↦ sym (char_at-inside us c.args.index (sym w.splits_pair.ensures ∙ w.if-splits_pair.true))
-    ])
+returns-then-index-units c = grind (arith, char_at-past, char_at-inside)
 
 pub returns : goal.returns
 returns c =

@@ -1,4 +1,4 @@
-use Rattle.std.proofs.Common.{◌∷◌, ℕ, List, [], map, take, get_or, sym, ap, subst, ◌∙◌}
+use Rattle.std.proofs.Common.{◌∷◌, ℕ, List, [], map, take, get_or, sym, ap, subst, ◌∙◌, arith, rules}
 use Rattle.bidi_base.specs.PairSearch.{HasRead}
 use Rattle.bidi_base.specs.Source.{Source}
 use Rattle.bidi_base.specs.Units.{bounds, kept_in_place}
@@ -8,15 +8,10 @@ use Rattle.bidi_rules.proofs.KeptRuns.{no_range, line_at, kept_in_place-none, ke
 use Rattle.bidi_rules.proofs.implicit.neutral.NeutralResolver.gather.Goals as goal
 
 pub loop-run-init : goal.loop-run-init
-loop-run-init g c =
-    let len_of = g.T.TextSource.units in
-    let chars : List ℕ = g.T.TextSource.characters c.args.text in
-    let source : Source = g.D.BidiDataSource.source c.args.data_source.now in
-    subst (HasRead c.clear.new.self) (ap (placed_brackets len_of chars source c.args.classes.now) (sym (kept_in_place-none len_of chars c.args.classes.now))) c.clear.ensures
+loop-run-init g c = grind (arith, kept_in_place-none)
 
 pub gather_run-requires-clause-line : goal.gather_run-requires-clause-line
-gather_run-requires-clause-line g c =
-    line_at g.T.TextSource.units (g.T.TextSource.characters c.args.text) c.args.runs.now c.loop-run.run-index c.loop-run-test.true c.requires.lines
+gather_run-requires-clause-line g c = search (rules, line_at)
 
 pub loop-run-preserved : goal.loop-run-preserved
 loop-run-preserved g c =

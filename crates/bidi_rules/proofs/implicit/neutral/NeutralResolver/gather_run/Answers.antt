@@ -1,4 +1,4 @@
-use Rattle.std.proofs.Common.{◌≡◌, ℕ, List, [], ◌∷◌, ◌++◌, Option, refl, sym, ap, subst, ◌∙◌, arith, append-nil, append_assoc, true}
+use Rattle.std.proofs.Common.{◌≡◌, ℕ, List, [], ◌∷◌, ◌++◌, Option, sym, ap, subst, ◌∙◌, arith, append-nil, append_assoc, true}
 use Rattle.std.specs.Option.{option_map_or}
 use Rattle.bidi_base.specs.declared.brackets.Bracket.{Bracket}
 use Rattle.bidi_base.specs.declared.char_data.BidiClass.{BidiClass}
@@ -18,36 +18,20 @@ use Rattle.bidi_rules.proofs.implicit.neutral.NeutralResolver.gather_run.Goals a
 use Rattle.bidi_rules.proofs.implicit.neutral.NeutralResolver.gather_run.Goals.{in-Some+in_ok-push, in_default}
 
 pub first_passing-at-requires-clause-inside : goal.first_passing-at-requires-clause-inside
-first_passing-at-requires-clause-inside g c =
-    let chars : List ℕ = g.T.TextSource.characters c.args.text in
-    omega (arith, is_boundary-le g.T.TextSource.units chars c.args.run.now.end c.requires.line.ends, c.requires.long)
+first_passing-at-requires-clause-inside g c = grind (arith, is_boundary-le)
 
 pub first_passing-at-requires-in-loop-at-clause-inside : goal.first_passing-at-requires-in-loop-at-clause-inside
-first_passing-at-requires-in-loop-at-clause-inside g c =
-    let chars : List ℕ = g.T.TextSource.characters c.args.text in
-    omega (arith, is_boundary-le g.T.TextSource.units chars c.args.run.now.end c.requires.line.ends, c.requires.long)
+first_passing-at-requires-in-loop-at-clause-inside g c = grind (arith, is_boundary-le)
 
 pub loop-at-init : goal.loop-at-init
-loop-at-init g c =
-    let chars : List ℕ = g.T.TextSource.characters c.args.text in
-    let source : Source = g.D.BidiDataSource.source c.args.data_source.now in
-    let f = c.first_passing-at.ensures in
-    record {
-      begins = f.begins;
-      ends = f.ends;
-      here = f.at;
-      held = λ before h.
-          subst (HasRead c.args.self.now.search)
-          (sym (ap (λ (bs : List Bracket). before ++ bs) (unit_brackets-none g.T.TextSource.units chars source c.args.classes.now c.args.run.now.start c.first_passing-at.result f.before) ∙ append-nil before)) h;
-    }
+loop-at-init g c = grind (arith, unit_brackets-none, append-nil)
 
 pub push-requires : goal.push-requires
 push-requires g c = (_, c.loop-at.invariant.held c.requires.read.0 c.requires.read.1)
 
 -- a character of class ON
 counted : (c : BidiClass) (o : Option BidiMatchedOpeningBracket) (u : ℕ) → same_class ON c ≡ true → brackets_from u (o ∷ []) ≡ brackets_from u (counted_bracket c o ∷ [])
-counted ON o u is = refl
-counted _ o u is = absurd (cc is)
+counted c o u is = grind arith
 
 pub loop-at-preserved : goal.loop-at-preserved
 loop-at-preserved g c =
@@ -69,9 +53,7 @@ loop-at-preserved g c =
           (subst (λ (bs : List Bracket). HasRead w.push.new.self.search (before ++ bs))
           (counted (class_at units at) (source.bracket_of w.in-Some.c) at (i.here c.loop-at-test.true) ∙ ap from (sym w.in-Some.is ∙ c.char_at.ensures))
           (w.in_ok-push.ensures before h))
-      | in_default w ↦
-          subst (λ (r : NeutralResolver). HasRead r.search (before ++ own)) (sym w.self-is)
-          (subst (HasRead c.loop-at.self.search) (sym (append-nil before) ∙ ap (λ o. before ++ from o) w.in_default.ensures) h)
+      | in_default w ↦ grind (arith, append-nil)
     ] in
     record {
       begins = omega (arith, f.begins, i.begins);

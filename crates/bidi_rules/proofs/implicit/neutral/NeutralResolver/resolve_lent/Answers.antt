@@ -1,4 +1,4 @@
-use Rattle.std.proofs.Common.{◌≡◌, ◌<◌, ◌≤◌, ℕ, List, length, get_or, map, find, Some, refl, sym, ap, subst, ◌∙◌, arith}
+use Rattle.std.proofs.Common.{◌≡◌, ◌<◌, ◌≤◌, ℕ, List, length, get_or, map, find, Some, refl, sym, ap, subst, ◌∙◌, arith, rules}
 use Rattle.std.specs.Prelude.{All}
 use Rattle.std.specs.declared.ops.Range.{Range}
 use Rattle.std.proofs.lemmas.List.{get_or_default}
@@ -31,9 +31,7 @@ level_is levels first level fits is = is ∙ get_or_default levels first level 0
 
 -- the runs at hand are those of the sequence
 found : (g : Over) (c : In-Some g) → Some c.in-Some.first ≡ find (λ u. is_kept_in_place (class_at c.args.processing_classes.now u)) (units_in_runs (map bounds (lent_runs c.args.sequence)))
-found g c =
-    sym c.in-Some.is ∙ c.first_kept.ensures
-    ∙ ap (λ (rs : List (Range ℕ)). find (λ u. is_kept_in_place (class_at c.args.processing_classes.now u)) (units_in_runs (map bounds rs))) c.runs-runs.ensures
+found g c = grind arith
 
 within : (g : Over) (c : In-Some g) → c.in-Some.first < length c.args.levels.now
 within g c =
@@ -55,8 +53,7 @@ returns-in_default-clause-kept g c =
     (lent_runs c.args.sequence) (lent_sos c.args.sequence) (lent_eos c.args.sequence) (ready g (goal.at.returns-in_default-clause-kept g c).After-runs-runs) none
 
 pub settle_rest-requires : goal.settle_rest-requires
-settle_rest-requires g c =
-    subst (λ (n : ℕ). All (λ r. r.1 ≤ n) (map bounds c.runs-runs.result.now)) (sym c.resolve_up_to_n1.auto.processing_classes) (first_kept-requires g (goal.at.settle_rest-requires g c).After-runs-runs)
+settle_rest-requires g c = search (rules, first_kept-requires)
 
 -- N2 is done
 resolved : (g : Over) (c : goal.After-processing_classes-2-1 g) → IsResolved g.T.TextSource.units (g.T.TextSource.characters c.args.text) (g.D.BidiDataSource.source c.args.data_source.now) c.args.levels.now c.args.original_classes.now c.args.processing_classes.now c.settle_rest.new.classes
@@ -70,12 +67,8 @@ resolved g c =
     let sos = lent_sos c.args.sequence in
     let old = c.args.processing_classes.now in
     let now = c.resolve_up_to_n1.new.processing_classes in
-    let up : IsUpToN1 units chars (g.D.BidiDataSource.source c.args.data_source.now) c.args.levels.now c.args.original_classes.now old now runs sos (lent_eos c.args.sequence) = record {
-      kept = c.in_ok-resolve_up_to_n1.ensures.kept;
-      removed = c.resolve_up_to_n1.ensures.removed;
-      outside = c.resolve_up_to_n1.ensures.outside;
-      per_char = c.resolve_up_to_n1.ensures.per_char;
-    } in
+    let up : IsUpToN1 units chars (g.D.BidiDataSource.source c.args.data_source.now) c.args.levels.now c.args.original_classes.now old now runs sos (lent_eos c.args.sequence) =
+        grind arith in
     let same_runs = ap (map bounds) c.runs-runs.ensures in
     IsResolved-settled units g.met.T.TextSource.has_units chars runs sos (lent_eos c.args.sequence) (g.D.BidiDataSource.source c.args.data_source.now) c.args.levels.now c.args.original_classes.now old r now c.settle_rest.new.classes up
     c.bidi_class-embedding.result

@@ -30,14 +30,12 @@ begins g c r =
     let within : c.in-Some.first < length c.args.levels.now = omega (arith, first-within g.T.TextSource.units g.met.T.TextSource.has_units (g.T.TextSource.characters c.args.text) c.runs-runs.result.now c.sos-sos.result c.args.processing_classes.now r c.in-Some.first found, c.requires.levels) in
     record {
       is_ready = r;
-      embedding = c.bidi_class-embedding.ensures ∙ ap direction_of (level_is c.args.levels.now c.in-Some.first c.index-levels-first.result within c.index-levels-first.is);
+      embedding = grind (arith, level_is);
     }
 
 -- the embedding direction is L or R
 side : (g : Over) (c : After-eos-eos g) → IsReady g.T.TextSource.units (g.T.TextSource.characters c.args.text) c.runs-runs.result.now c.sos-sos.result c.args.processing_classes.now → is_l_or_r c.bidi_class-embedding.result ≡ true
-side g c r =
-    let it = begins g c r in
-    ap is_l_or_r it.embedding ∙ direction_of-l_or_r (level_at c.args.levels.now c.in-Some.first)
+side g c r = grind arith
 
 pub first_kept-requires : goal.first_kept-requires
 first_kept-requires g c =
@@ -69,23 +67,19 @@ returns-then-stands_alone-clause-kept g c =
     (g.D.BidiDataSource.source c.args.data_source.now) c.args.levels.now c.args.original_classes.now c.eos-eos.result c.in-Some.first (c.stands_alone.ensures.sos c.if-stands_alone.true) (c.stands_alone.ensures.eos c.if-stands_alone.true) (sym c.in-Some.is ∙ c.first_kept.ensures) it.embedding)).kept
 
 pub resolve_brackets-requires-clause-ready : goal.resolve_brackets-requires-clause-ready
-resolve_brackets-requires-clause-ready g c = ready g (goal.at.resolve_brackets-requires-clause-ready g c).After-sos-sos
+resolve_brackets-requires-clause-ready g c = grind (arith, ready) steps 400000
 
 pub resolve_brackets-requires-clause-side : goal.resolve_brackets-requires-clause-side
-resolve_brackets-requires-clause-side g c = side g (goal.at.resolve_brackets-requires-clause-side g c).After-eos-eos (ready g (goal.at.resolve_brackets-requires-clause-side g c).After-sos-sos)
+resolve_brackets-requires-clause-side g c = grind arith steps 400000
 
 pub resolve_opposite-requires-clause-ordered : goal.resolve_opposite-requires-clause-ordered
-resolve_opposite-requires-clause-ordered g c = (ready g (goal.at.resolve_opposite-requires-clause-ordered g c).After-sos-sos).ordered
+resolve_opposite-requires-clause-ordered g c = grind arith steps 400000
 
 pub resolve_opposite-requires-clause-inside : goal.resolve_opposite-requires-clause-inside
-resolve_opposite-requires-clause-inside g c =
-    mid-within g.T.TextSource.units g.met.T.TextSource.has_units (g.T.TextSource.characters c.args.text) (g.D.BidiDataSource.source c.args.data_source.now) c.args.original_classes.now c.args.processing_classes.now c.resolve_brackets.new.classes c.runs-runs.result.now c.bidi_class-embedding.result c.sos-sos.result
-    (ready g (goal.at.resolve_opposite-requires-clause-inside g c).After-sos-sos) c.in_ok-resolve_brackets.ensures.paired
+resolve_opposite-requires-clause-inside g c = grind (arith, mid-within, ready)
 
 pub resolve_opposite-requires-clause-resolved : goal.resolve_opposite-requires-clause-resolved
-resolve_opposite-requires-clause-resolved g c =
-    mid-resolved g.T.TextSource.units g.met.T.TextSource.has_units (g.T.TextSource.characters c.args.text) (g.D.BidiDataSource.source c.args.data_source.now) c.args.original_classes.now c.args.processing_classes.now c.resolve_brackets.new.classes c.runs-runs.result.now c.bidi_class-embedding.result c.sos-sos.result
-    (ready g (goal.at.resolve_opposite-requires-clause-resolved g c).After-sos-sos) c.in_ok-resolve_brackets.ensures.paired (side g (goal.at.resolve_opposite-requires-clause-resolved g c).After-eos-eos (ready g (goal.at.resolve_opposite-requires-clause-resolved g c).After-sos-sos))
+resolve_opposite-requires-clause-resolved g c = grind (arith, mid-resolved, ready, side)
 
 pub resolve_opposite-requires-clause-eos : goal.resolve_opposite-requires-clause-eos
 resolve_opposite-requires-clause-eos g c = eos-side c.args.sequence c.eos-eos.result c.eos-eos.ensures
@@ -99,19 +93,13 @@ resolved g c embedding r =
     r c.in_ok-resolve_brackets.ensures.paired (ap is_l_or_r embedding ∙ direction_of-l_or_r (level_at c.args.levels.now c.in-Some.first)) c.eos-eos.result c.resolve_opposite.new.classes c.resolve_opposite.auto.classes c.resolve_opposite.ensures.kept c.resolve_opposite.ensures.others c.resolve_opposite.ensures.own c.args.levels.now c.in-Some.first (sym c.in-Some.is ∙ c.first_kept.ensures) embedding)
 
 pub returns-clause-kept : goal.returns-clause-kept
-returns-clause-kept g c =
-    let it = begins g (goal.at.returns-clause-kept g c).After-eos-eos (ready g (goal.at.returns-clause-kept g c).After-sos-sos) in
-    (resolved g (goal.at.returns-clause-kept g c).After-resolve_opposite it.embedding it.is_ready).kept
+returns-clause-kept g c = grind (arith, begins, ready, resolved)
 
 pub returns-clause-removed : goal.returns-clause-removed
-returns-clause-removed g c =
-    let it = begins g (goal.at.returns-clause-removed g c).After-eos-eos (ready g (goal.at.returns-clause-removed g c).After-sos-sos) in
-    (resolved g (goal.at.returns-clause-removed g c).After-resolve_opposite it.embedding it.is_ready).removed
+returns-clause-removed g c = grind arith
 
 pub returns-clause-outside : goal.returns-clause-outside
-returns-clause-outside g c =
-    let it = begins g (goal.at.returns-clause-outside g c).After-eos-eos (ready g (goal.at.returns-clause-outside g c).After-sos-sos) in
-    (resolved g (goal.at.returns-clause-outside g c).After-resolve_opposite it.embedding it.is_ready).outside
+returns-clause-outside g c = grind arith
 
 pub returns-clause-per_char : goal.returns-clause-per_char
 returns-clause-per_char g c =

@@ -1,7 +1,6 @@
 use Rattle.std.proofs.Common.{◌≡◌, ◌≤◌, ◌<◌, ◌+◌, ℕ, List, length, map, get_or, drop, true, Bool, if◌then◌else◌, refl, sym, ap, subst, ◌∙◌, arith}
 use Rattle.std.proofs.lemmas.List.{length-map}
 use Rattle.bidi_base.specs.declared.char_data.BidiClass.{BidiClass}
-use Rattle.bidi_base.specs.declared.char_data.BidiClass.TheVariants.{L, R}
 use Rattle.bidi_base.specs.Classes.{is_l_or_r, stands_for}
 use Rattle.bidi_base.specs.Units.{bounds}
 use Rattle.bidi_rules.specs.JoinPass.{Unjoined, IsUnderWay}
@@ -15,13 +14,7 @@ use Rattle.bidi_rules.proofs.implicit.neutral.directions.resolve_opposite.Goals.
 
 -- the direction that stands before the first unit
 before_first : (e sos : BidiClass) → is_l_or_r e ≡ true → is_l_or_r sos ≡ true → (if stands_for (opposite_of e) sos then opposite_of e else e) ≡ sos
-before_first L L a b = refl
-before_first L R a b = refl
-before_first R L a b = refl
-before_first R R a b = refl
-before_first L _ a b = absurd (cc b)
-before_first R _ a b = absurd (cc b)
-before_first _ sos a b = absurd (cc a)
+before_first e sos a b = grind arith
 
 pub loop-run-init : goal.loop-run-init
 loop-run-init c =
@@ -54,7 +47,7 @@ loop-run-preserved c =
       reads = λ s runs_are e_is sos_is old_is.
           let u = inv.reads s runs_are e_is sos_is old_is in
           let old = c.args.classes.now in
-          let at : IsUnderWay s c.loop-run.classes c.loop-run.join (get_or runs i (0, 0)).0 = subst (IsUnderWay s c.loop-run.classes c.loop-run.join) (start_or-at runs i (length old) here) u in
+          let at : IsUnderWay s c.loop-run.classes c.loop-run.join (get_or runs i (0, 0)).0 = grind (arith, start_or-at) in
           let read : IsUnderWay s c.read_run.new.classes c.read_run.new.self (get_or runs i (0, 0)).1 =
           c.read_run.ensures.reads s runs_are (ap opposite_of e_is ∙ sym inv.opposite) at in
           let gap = IsUnderWay-gap s c.read_run.new.classes c.read_run.new.self i (subst (λ (rs : List (ℕ × ℕ)). i < length rs) (sym runs_are) here)
@@ -85,7 +78,7 @@ read c =
     (c.loop-run.invariant.reads (sequence c) refl refl refl refl)
 
 asked : (c : After-stands_for-2) → c.stands_for-2.result ≡ stands_for (opposite_of c.args.directions.embedding) c.args.directions.eos
-asked c = c.stands_for-2.ensures ∙ ap (λ (x : BidiClass). stands_for x c.args.directions.eos) c.opposite_of-opposite.ensures
+asked c = grind arith steps 400000
 
 -- the direction at the end is the opposite one
 turned : (c : goal.After-classes-then-stands_for-1) → IsFinished (sequence (goal.at.returns-then-stands_for-clause-kept c).After-loop-run) c.settle.new.classes

@@ -1,8 +1,6 @@
-use Rattle.std.proofs.Common.{◌≢◌, ◌<◌, length, set, ap, ◌∙◌, sym, inl, inr, arith, get_or-set_same, get_or-set_other}
+use Rattle.std.proofs.Common.{◌≢◌, ◌<◌, length, ◌∙◌, inl, inr, arith, get_or-set_same, get_or-set_other}
 use Rattle.std.proofs.lemmas.Bool.{cases_eq}
 use Rattle.bidi_base.specs.declared.char_data.BidiClass.TheVariants.{L}
-use Rattle.bidi_base.specs.Places.{class_at}
-use Rattle.bidi_base.specs.Neutral.{n2_rule}
 use Rattle.bidi_rules.proofs.implicit.neutral.directions.settle_run.Goals as goal
 
 pub loop-unit-preserved : goal.loop-unit-preserved
@@ -14,12 +12,10 @@ loop-unit-preserved c =
     let within : i < length now = omega (arith, c.requires, c.loop-unit.auto.classes) in
     record {
       changed = λ u from below ends. elim (cases_eq u i) [
-        | inl here ↦
-            ap (class_at (set now i new)) here ∙ get_or-set_same now i new L within ∙ c.settled.ensures
-            ∙ ap (n2_rule c.args.embedding) (s.rest i (omega arith) ∙ sym (ap (class_at c.args.classes.now) here))
+        | inl here ↦ grind (arith, get_or-set_same)
         | inr other ↦ get_or-set_other now i u new L other ∙ s.changed u from (omega arith) ends
       ];
       below = λ u low. let other : u ≢ i = omega arith in get_or-set_other now i u new L other ∙ s.below u low;
-      rest = λ u high. let other : u ≢ i = omega arith in get_or-set_other now i u new L other ∙ s.rest u (omega arith);
+      rest = λ u high. grind (arith, get_or-set_other);
       past = λ u high. let other : u ≢ i = omega arith in get_or-set_other now i u new L other ∙ s.past u high;
     }

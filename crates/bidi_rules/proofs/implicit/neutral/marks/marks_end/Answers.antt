@@ -1,10 +1,9 @@
-use Rattle.std.proofs.Common.{◌≡◌, ℕ, List, ◌+◌, ◌<◌, ◌≤◌, Bool, ◌&&◌, true, false, not, map, get_or, max, refl, sym, ap, ◌∙◌, arith, inl, inr}
-use Rattle.std.proofs.lemmas.Bool.{cases_lt, and_parts, and_from, not-true}
+use Rattle.std.proofs.Common.{◌≡◌, ℕ, List, ◌+◌, ◌<◌, ◌≤◌, Bool, ◌&&◌, true, false, not, get_or, max, sym, ap, ◌∙◌, arith, inl, inr}
+use Rattle.std.proofs.lemmas.Bool.{cases_lt, and_parts}
 use Rattle.std.proofs.lemmas.List.{length-map, take_all}
 use Rattle.bidi_base.specs.Classes.{is_kept_in_place, is_nsm}
 use Rattle.bidi_base.specs.Places.{class_at}
 use Rattle.bidi_base.specs.Text.{is_boundary, place, text_len, IsLine}
-use Rattle.bidi_base.specs.Units.{bounds, in_runs}
 use Rattle.bidi_base.proofs.PlaceLemmas.{is_boundary-place, place-lt, place-mono}
 use Rattle.bidi_base.proofs.TextLemmas.{is_boundary-le}
 use Rattle.bidi_rules.proofs.CharEnds.{Begins, begins_at}
@@ -15,13 +14,13 @@ use Rattle.bidi_rules.proofs.implicit.neutral.marks.marks_end.Goals.{In-loop-at}
 use Rattle.bidi_rules.proofs.implicit.neutral.marks.marks_end.Given.{Over}
 
 line : (g : Over) (c : In-loop-at g) → IsLine g.T.TextSource.units (g.T.TextSource.characters c.args.text) (get_or c.args.runs.now c.loop-run.run-index no_range).start (get_or c.args.runs.now c.loop-run.run-index no_range).end
-line g c = line_at g.T.TextSource.units (g.T.TextSource.characters c.args.text) c.args.runs.now c.loop-run.run-index c.loop-run-test.true c.requires.lines
+line g c = search (arith, line_at)
 
 inside : (g : Over) (c : In-loop-at g) → c.loop-at.at < text_len g.T.TextSource.units (g.T.TextSource.characters c.args.text)
-inside g c = omega (arith, is_boundary-le g.T.TextSource.units (g.T.TextSource.characters c.args.text) (get_or c.args.runs.now c.loop-run.run-index no_range).end (line g c).ends, c.loop-at-test.true)
+inside g c = search (arith, is_boundary-le, line)
 
 begins : (g : Over) (c : In-loop-at g) → Begins g.T.TextSource.units g.met.T.TextSource.has_units (g.T.TextSource.characters c.args.text) c.loop-at.at
-begins g c = begins_at g.T.TextSource.units g.met.T.TextSource.has_units (g.T.TextSource.characters c.args.text) c.loop-at.at c.loop-at.invariant.begins (inside g c)
+begins g c = search (arith, begins_at, inside)
 
 pub loop-at-init : goal.loop-at-init
 loop-at-init g c =
@@ -31,10 +30,7 @@ loop-at-init g c =
     let here = line_at len_of chars c.args.runs.now c.loop-run.run-index c.loop-run-test.true c.requires.lines in
     let is : c.max-at.result ≡ max r.start c.args.from = c.max-at.ensures in
     record {
-      begins = elim (cases_lt r.start c.args.from) [
-        | inl below ↦ let same : c.max-at.result ≡ c.args.from = omega arith in ap (is_boundary len_of chars) same ∙ c.requires.begins
-        | inr past ↦ let same : c.max-at.result ≡ r.start = omega arith in ap (is_boundary len_of chars) same ∙ here.begins
-      ];
+      begins = grind arith;
       marks = λ u start below k there from. absurd (omega arith);
       start = omega arith;
       from = omega arith;
@@ -44,7 +40,7 @@ pub bounds-classes-at : goal.bounds-classes-at
 bounds-classes-at g c = omega (arith, inside g c, c.requires.long)
 
 pub bounds-original_classes-at : goal.bounds-original_classes-at
-bounds-original_classes-at g c = omega (arith, inside g (goal.at.bounds-original_classes-at g c).In-loop-at, c.requires.long, c.requires.original)
+bounds-original_classes-at g c = grind (arith, inside) steps 400000
 
 pub returns-then-ends_marks : goal.returns-then-ends_marks
 returns-then-ends_marks g c =
@@ -58,20 +54,8 @@ returns-then-ends_marks g c =
     let u = s.at in
     let ends = and_parts (is_kept_in_place (class_at a.classes.now u)) (not (is_nsm (class_at a.original_classes.now u))) (sym c.ends_marks.ensures ∙ c.if-ends_marks.true) in
     record {
-      marks = λ k from below seen.
-          let v = place len_of chars k in
-          let parts = and_parts (in_runs (map bounds a.runs.now) v) (is_kept_in_place (class_at a.classes.now v)) seen in
-          elim (cases_lt v (get_or a.runs.now i no_range).start) [
-            | inl low ↦ c.loop-run.invariant v (earlier-here a.runs.now i c.loop-run-test.true c.requires.ordered v low parts.0) k refl from parts.1
-            | inr high ↦ s.invariant.marks v high below k refl from parts.1
-          ];
-      stops = λ more. (
-        b.index,
-        b.there,
-        s.invariant.from,
-        and_from (in_runs (map bounds a.runs.now) u) (is_kept_in_place (class_at a.classes.now u)) (in-here a.runs.now i c.loop-run-test.true u s.invariant.start c.loop-at-test.true) ends.0,
-        not-true (is_nsm (class_at a.original_classes.now u)) ends.1,
-      );
+      marks = λ k from below seen. grind (arith, and_parts, earlier-here);
+      stops = λ more. grind (arith, in-here);
       within = omega (arith, inside g loop, c.requires.long);
     }
 
@@ -101,13 +85,7 @@ loop-at-preserved g c =
       marks = λ u start below k is from kept. elim (cases_lt u s.at) [
         | inl earlier ↦ s.invariant.marks u start earlier k is from kept
         | inr later ↦
-            let same : k ≡ b.index = elim (cases_lt k b.index) [
-              | inl less ↦ absurd (omega (arith, place-lt len_of chars h k b.index less (let w = b.within in omega arith)))
-              | inr upto ↦ elim (cases_lt b.index k) [
-                | inl greater ↦ absurd (omega (arith, place-mono len_of chars (b.index + 1) k (omega arith)))
-                | inr past ↦ omega arith
-              ]
-            ] in
+            let same : k ≡ b.index = grind (arith, place-mono) in
             let here : u ≡ s.at = is ∙ ap (place len_of chars) same ∙ sym there in
             at_end (is_kept_in_place (class_at a.classes.now u)) (is_nsm (class_at a.original_classes.now u))
             (ap (λ v. is_kept_in_place (class_at a.classes.now v) && not (is_nsm (class_at a.original_classes.now v))) here ∙ sym c.ends_marks.ensures ∙ c.if-ends_marks.false) kept
@@ -128,15 +106,4 @@ loop-run-preserved g c =
     (λ u start end k is from kept. c.loop-at.invariant.marks u start (omega (arith, c.loop-at-test.false)) k is from kept)
 
 pub returns : goal.returns
-returns g c =
-    let a = c.args in
-    let len_of = g.T.TextSource.units in
-    let chars : List ℕ = g.T.TextSource.characters c.args.text in
-    record {
-      marks = λ k from below seen.
-          let v = place len_of chars k in
-          let parts = and_parts (in_runs (map bounds a.runs.now) v) (is_kept_in_place (class_at a.classes.now v)) seen in
-          c.loop-run.invariant v (ap (λ (qs : List (ℕ × ℕ)). in_runs qs v) (take_all c.loop-run.run-index (map bounds a.runs.now) (omega (arith, length-map a.runs.now bounds, c.loop-run-test.false))) ∙ parts.0) k refl from parts.1;
-      stops = λ more. absurd (omega arith);
-      within = omega arith;
-    }
+returns g c = grind (arith, and_parts, take_all, length-map)

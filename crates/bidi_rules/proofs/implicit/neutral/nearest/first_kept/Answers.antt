@@ -21,6 +21,4 @@ returns-then-is_kept_in_place c =
     sym (find-stops (λ u. is_kept_in_place (class_at c.args.classes.now u)) c.args.runs.now c.loop-run.run-index c.loop-run-test.true c.loop-run.invariant c.loop-unit.unit (omega arith) (omega arith) c.loop-unit.invariant here)
 
 pub loop-run-preserved : goal.loop-run-preserved
-loop-run-preserved c =
-    find-passes (λ u. is_kept_in_place (class_at c.args.classes.now u)) c.args.runs.now c.loop-run.run-index c.loop-run-test.true c.loop-run.invariant
-    (λ k from below. c.loop-unit.invariant k from (omega (arith, c.loop-unit-test.false)))
+loop-run-preserved c = grind (arith, find-passes)

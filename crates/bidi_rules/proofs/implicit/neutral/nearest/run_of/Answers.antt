@@ -36,11 +36,7 @@ loop-low-preserved c =
     }
 
 pub returns-clause-later : goal.returns-clause-later
-returns-clause-later c = λ k from. in_runs-later c.loop-low.low (map bounds c.args.runs.now) k (λ i below. omega (arith, c.loop-low.invariant.below i below))
+returns-clause-later c = grind (arith, in_runs-later) steps 400000
 
 pub returns-clause-upto : goal.returns-clause-upto
-returns-clause-upto c = λ k before.
-    let s = c.loop-low in
-    let long = length-map c.args.runs.now bounds in
-    in_runs-upto s.low (map bounds c.args.runs.now) k c.requires (omega (arith, s.invariant.order, s.invariant.within))
-    (λ less. omega (arith, s.invariant.above s.low (omega (arith, c.loop-low-test.false)) (omega arith)))
+returns-clause-upto c = grind (arith, length-map, in_runs-upto)

@@ -5,7 +5,6 @@ use Rattle.bidi_base.specs.Text.{place, text_len}
 use Rattle.bidi_base.specs.Units.{bounds, kept_in_place}
 use Rattle.std.specs.Prelude.{All}
 use Rattle.bidi_base.proofs.PlaceLemmas.{place-mono}
-use Rattle.bidi_base.proofs.UnitsLemmas.{length-from_IsPerChar}
 use Rattle.bidi_rules.specs.NeutralPass.{IsPaired}
 use Rattle.bidi_rules.specs.PairWalk.{spot, IsSet, IsTaken}
 use Rattle.bidi_rules.proofs.NeutralSteps.{runs-within}
@@ -25,10 +24,10 @@ loop-pair-init g c = (
 
 -- where the pair stands
 here : (g : Over) (c : In-loop-pair g) → Stands g.T.TextSource.units g.met.T.TextSource.has_units (g.T.TextSource.characters c.args.text) c.args.original_classes.now c.args.runs.now c.args.directions.sos c.args.classes.now c.requires.ready c.args.directions.embedding c.requires.side c.requires.original c.requires.pairs.0 c.requires.pairs.1 (get_or c.args.pairs.now c.loop-pair.pair-index (0, 0)) c.loop-pair.pair-index
-here g c = stands g.T.TextSource.units g.met.T.TextSource.has_units (g.T.TextSource.characters c.args.text) c.args.original_classes.now c.args.runs.now c.args.directions.sos c.args.classes.now c.requires.ready c.args.directions.embedding c.requires.side c.requires.original c.requires.pairs.0 c.requires.pairs.1 c.args.pairs.now c.requires.pairs.2 c.loop-pair.pair-index c.loop-pair-test.true
+here g c = search (arith, stands)
 
 long : (g : Over) (c : In-loop-pair g) → length c.args.classes.now ≡ text_len g.T.TextSource.units (g.T.TextSource.characters c.args.text)
-long g c = length-from_IsPerChar g.T.TextSource.units (g.T.TextSource.characters c.args.text) c.args.classes.now c.requires.ready.per_char
+long g c = grind arith steps 400000
 
 pub end_of-inside-requires-clause-begins : goal.end_of-inside-requires-clause-begins
 end_of-inside-requires-clause-begins g c = (here g (goal.at.end_of-inside-requires-clause-begins g c).In-loop-pair).first_begins
@@ -57,7 +56,7 @@ pair_direction-taken-requires-clause-closing g c =
     omega (arith, (here g loop).last_inside, long g loop, c.loop-pair.auto.classes)
 
 pub set_direction-requires-clause-long : goal.set_direction-requires-clause-long
-set_direction-requires-clause-long g c = c.loop-pair.auto.classes ∙ long g (goal.at.set_direction-requires-clause-long g c).In-loop-pair
+set_direction-requires-clause-long g c = grind arith steps 400000
 
 pub set_direction-requires-clause-begins : goal.set_direction-requires-clause-begins
 set_direction-requires-clause-begins g c = (here g (goal.at.set_direction-requires-clause-begins g c).In-loop-pair).first_begins
@@ -66,7 +65,7 @@ pub set_direction-requires-clause-inside : goal.set_direction-requires-clause-in
 set_direction-requires-clause-inside g c = (here g (goal.at.set_direction-requires-clause-inside g c).In-loop-pair).first_inside
 
 pub set_direction-requires-in-Some-clause-long : goal.set_direction-requires-in-Some-clause-long
-set_direction-requires-in-Some-clause-long g c = c.set_direction.auto.classes ∙ c.loop-pair.auto.classes ∙ long g (goal.at.set_direction-requires-in-Some-clause-long g c).In-loop-pair
+set_direction-requires-in-Some-clause-long g c = grind arith steps 400000
 
 pub set_direction-requires-in-Some-clause-begins : goal.set_direction-requires-in-Some-clause-begins
 set_direction-requires-in-Some-clause-begins g c = (here g (goal.at.set_direction-requires-in-Some-clause-begins g c).In-loop-pair).last_begins

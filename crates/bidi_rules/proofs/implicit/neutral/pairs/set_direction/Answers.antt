@@ -1,21 +1,20 @@
-use Rattle.std.proofs.Common.{◌+◌, ◌-◌, ℕ, List, length, map, take, drop, refl, sym, ap, subst, ◌∙◌, arith}
+use Rattle.std.proofs.Common.{◌+◌, ◌-◌, ℕ, List, length, map, take, drop, refl, ap, subst, ◌∙◌, arith}
+use Rattle.std.proofs.lemmas.Grind.{common_steps}
 use Rattle.bidi_base.specs.Text.{is_boundary, place}
-use Rattle.bidi_base.specs.Units.{bounds, AreLines}
+use Rattle.bidi_base.specs.Units.{bounds}
 use Rattle.bidi_base.proofs.PlaceLemmas.{is_boundary-place, place-mono}
 use Rattle.bidi_rules.specs.PairWalk.{IsMarksEnd}
 use Rattle.bidi_rules.specs.WeakWalk.{is_seen, IsWrittenOver}
 use Rattle.bidi_rules.proofs.CharEnds.{begins_at}
-use Rattle.bidi_rules.proofs.RunOf.{IsSet-later, lines-later}
+use Rattle.bidi_rules.proofs.RunOf.{IsSet-later}
 use Rattle.bidi_rules.proofs.WalkLemmas.{forwards-in_order, part_after}
 use Rattle.bidi_rules.proofs.implicit.neutral.pairs.set_direction.Goals as goal
 
 pub marks_end-end-requires-clause-lines : goal.marks_end-end-requires-clause-lines
-marks_end-end-requires-clause-lines g c =
-    subst (AreLines g.T.TextSource.units (g.T.TextSource.characters c.args.text)) (sym (part_after c.args.runs.now c.args.runs.now c.run_of.result refl))
-    (lines-later g.T.TextSource.units (g.T.TextSource.characters c.args.text) c.run_of.result (map bounds c.args.runs.now) c.requires.lines)
+marks_end-end-requires-clause-lines g c = grind (arith, common_steps, part_after)
 
 pub marks_end-end-requires-clause-ordered : goal.marks_end-end-requires-clause-ordered
-marks_end-end-requires-clause-ordered g c = forwards-in_order c.args.runs.now c.args.runs.now c.run_of.result refl c.requires.ordered
+marks_end-end-requires-clause-ordered g c = grind (arith, forwards-in_order) steps 400000
 
 pub marks_end-end-requires-clause-begins : goal.marks_end-end-requires-clause-begins
 marks_end-end-requires-clause-begins g c =
@@ -25,7 +24,7 @@ marks_end-end-requires-clause-begins g c =
     ap (is_boundary len_of chars) (c.end_of-inside.ensures b.index b.within b.there) ∙ is_boundary-place len_of chars (b.index + 1)
 
 pub write_over_runs-requires-clause-ordered : goal.write_over_runs-requires-clause-ordered
-write_over_runs-requires-clause-ordered g c = forwards-in_order c.args.runs.now c.args.runs.now c.run_of.result refl c.requires.ordered
+write_over_runs-requires-clause-ordered g c = grind (arith, forwards-in_order) steps 400000
 
 pub returns : goal.returns
 returns g c = λ k within there.

@@ -1,28 +1,24 @@
-use Rattle.std.proofs.Common.{◌≡◌, ◌||◌, ◌+◌, ◌-◌, ◌<◌, ◌≤◌, ℕ, List, true, false, length, map, take, get_or, refl, sym, ap, subst, ◌∙◌, inl, inr, arith}
-use Rattle.std.proofs.lemmas.Bool.{cases_Bool, cases_lt, or_cases, or_parts, both_ways}
+use Rattle.std.proofs.Common.{◌≡◌, ◌||◌, ◌+◌, ◌-◌, ◌<◌, ◌≤◌, ℕ, List, true, false, length, map, take, get_or, ap, ◌∙◌, inl, inr, arith}
+use Rattle.std.proofs.lemmas.Grind.{common_steps}
+use Rattle.std.proofs.lemmas.Bool.{cases_Bool, or_cases, or_parts}
 use Rattle.std.proofs.lemmas.List.{get_or-map, length-map, take_all}
 use Rattle.bidi_base.specs.declared.char_data.BidiClass.{BidiClass}
-use Rattle.bidi_base.specs.declared.char_data.BidiClass.TheVariants.{AL, ES, ET, CS}
 use Rattle.bidi_base.specs.Places.{class_at}
 use Rattle.bidi_base.specs.Units.{bounds, are_ordered, in_runs, units_in_runs}
 use Rattle.bidi_rules.specs.WeakPass.{left_over}
 use Rattle.bidi_rules.proofs.CountBelow.{length-units_in_runs-more}
-use Rattle.bidi_rules.proofs.InRuns.{run_some, in_run, in_run-inside, in_run-true, in_runs-more}
+use Rattle.bidi_rules.proofs.InRuns.{run_some, in_run, in_run-true, in_runs-more}
 use Rattle.bidi_rules.proofs.KeptRuns.{no_range}
 use Rattle.bidi_rules.proofs.implicit.weak.left_over.change.Goals as goal
 
 -- a class that has changed stays
 left_over-twice : (c : BidiClass) → left_over (left_over c) ≡ left_over c
-left_over-twice AL = refl
-left_over-twice ES = refl
-left_over-twice ET = refl
-left_over-twice CS = refl
-left_over-twice _ = refl
+left_over-twice c = grind arith
 
 -- the turns of the run that came
 units_more : (runs : List (ℕ × ℕ)) (i start end : ℕ) → are_ordered runs ≡ true → i < length runs → (get_or runs i (0, 0)).0 ≡ start → (get_or runs i (0, 0)).1 ≡ end
     → (length (units_in_runs (take (i + 1) runs)) ≡ length (units_in_runs (take i runs)) + (end - start)) × (start < end)
-units_more runs i start end ordered fits starts ends = (omega (arith, length-units_in_runs-more i runs fits), omega (arith, run_some 0 i runs ordered fits))
+units_more runs i start end ordered fits starts ends = grind (arith, length-units_in_runs-more, run_some) steps 400000
 
 pub change_run-requires : goal.change_run-requires
 change_run-requires g c =
@@ -47,13 +43,7 @@ loop-run-preserved g c =
     let now = c.loop-run.classes in
     let more : (u : ℕ) → in_runs (take (i + 1) (map bounds runs)) u ≡ (in_runs (take i (map bounds runs)) u || in_run r u) = λ u. in_runs-more i (map bounds runs) u (omega arith) in
     let outside : (u : ℕ) → in_run r u ≡ false → class_at c.change_run.new.classes u ≡ class_at now u =
-    λ u out. elim (cases_lt u r.0) [
-      | inl low ↦ c.change_run.ensures.below u (omega (arith, from_is))
-      | inr high ↦ elim (cases_lt u r.1) [
-        | inl within ↦ absurd (both_ways (in_run r u) out (in_run-inside r u high within))
-        | inr past ↦ c.change_run.ensures.above u (omega (arith, to_is))
-      ]
-    ] in
+    λ u out. grind (arith, common_steps) in
     record {
       changed = λ u inside. elim (cases_Bool (in_run r u)) [
         | inl within ↦
@@ -63,43 +53,25 @@ loop-run-preserved g c =
               | inl before ↦ ap left_over (c.loop-run.invariant.changed u before) ∙ left_over-twice (class_at old u)
               | inr fresh ↦ ap left_over (c.loop-run.invariant.same u fresh)
             ]
-        | inr out ↦ outside u out
-            ∙ elim (or_cases (in_runs (take i (map bounds runs)) u) (in_run r u) (sym (more u) ∙ inside)) [
-              | inl before ↦ c.loop-run.invariant.changed u before
-              | inr within ↦ absurd (both_ways (in_run r u) out within)
-            ]
+        | inr out ↦ grind (arith, or_cases)
       ];
-      same = λ u none.
-          let parts = or_parts (in_runs (take i (map bounds runs)) u) (in_run r u) (sym (more u) ∙ none) in
-          outside u parts.1 ∙ c.loop-run.invariant.same u parts.0;
+      same = λ u none. grind (arith, or_parts);
       at_least = omega (arith, c.loop-run.invariant.at_least, turns.0, c.change_run.ensures.steps);
       at_most = omega (arith, c.loop-run.invariant.at_most, turns.0, turns.1, c.change_run.ensures.steps);
     }
 
 pub returns-clause-changed : goal.returns-clause-changed
-returns-clause-changed g c =
-    let runs = c.args.runs.now in
-    let long = length-map runs bounds in
-    λ u inside. c.loop-run.invariant.changed u (subst (λ (rs : List (ℕ × ℕ)). in_runs rs u ≡ true) (sym (take_all c.loop-run.run-index (map bounds runs) (omega arith))) inside)
+returns-clause-changed g c = grind (arith, length-map, take_all)
 
 pub returns-clause-same : goal.returns-clause-same
-returns-clause-same g c =
-    let runs = c.args.runs.now in
-    let long = length-map runs bounds in
-    λ u out. c.loop-run.invariant.same u (subst (λ (rs : List (ℕ × ℕ)). in_runs rs u ≡ false) (sym (take_all c.loop-run.run-index (map bounds runs) (omega arith))) out)
+returns-clause-same g c = grind (arith, length-map, take_all)
 
 -- all runs came
 all_runs : (i : ℕ) (runs : List (ℕ × ℕ)) → length runs ≤ i → length (units_in_runs (take i runs)) ≡ length (units_in_runs runs)
 all_runs i runs past = ap (λ (rs : List (ℕ × ℕ)). length (units_in_runs rs)) (take_all i runs past)
 
 pub returns-clause-at_least : goal.returns-clause-at_least
-returns-clause-at_least g c =
-    let runs = c.args.runs.now in
-    let long = length-map runs bounds in
-    omega (arith, c.loop-run.invariant.at_least, all_runs c.loop-run.run-index (map bounds runs) (omega arith))
+returns-clause-at_least g c = grind (arith, length-map, all_runs)
 
 pub returns-clause-at_most : goal.returns-clause-at_most
-returns-clause-at_most g c =
-    let runs = c.args.runs.now in
-    let long = length-map runs bounds in
-    omega (arith, c.loop-run.invariant.at_most, all_runs c.loop-run.run-index (map bounds runs) (omega arith))
+returns-clause-at_most g c = grind (arith, length-map, all_runs)

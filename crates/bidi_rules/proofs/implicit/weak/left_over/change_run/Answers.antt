@@ -1,8 +1,6 @@
-use Rattle.std.proofs.Common.{◌≢◌, ◌<◌, length, set, ap, ◌∙◌, sym, inl, inr, arith, get_or-set_same, get_or-set_other}
-use Rattle.std.proofs.lemmas.Bool.{cases_eq, cases_lt}
+use Rattle.std.proofs.Common.{◌≢◌, ◌<◌, length, ◌∙◌, inl, inr, arith, get_or-set_same, get_or-set_other}
+use Rattle.std.proofs.lemmas.Bool.{cases_eq}
 use Rattle.bidi_base.specs.declared.char_data.BidiClass.TheVariants.{L}
-use Rattle.bidi_base.specs.Places.{class_at}
-use Rattle.bidi_rules.specs.WeakPass.{left_over}
 use Rattle.bidi_rules.proofs.implicit.weak.left_over.change_run.Goals as goal
 
 pub loop-unit-preserved : goal.loop-unit-preserved
@@ -14,20 +12,15 @@ loop-unit-preserved g c =
     let within : i < length now = omega (arith, c.requires, c.loop-unit.auto.classes) in
     record {
       changed = λ u from below ends. elim (cases_eq u i) [
-        | inl here ↦
-            ap (class_at (set now i new)) here ∙ get_or-set_same now i new L within ∙ c.left_over.ensures
-            ∙ ap left_over (s.rest i (omega arith) ∙ sym (ap (class_at c.args.classes.now) here))
+        | inl here ↦ grind (arith, get_or-set_same)
         | inr other ↦ get_or-set_other now i u new L other ∙ s.changed u from (omega arith) ends
       ];
       below = λ u low. let other : u ≢ i = omega arith in get_or-set_other now i u new L other ∙ s.below u low;
-      rest = λ u high. let other : u ≢ i = omega arith in get_or-set_other now i u new L other ∙ s.rest u (omega arith);
+      rest = λ u high. grind (arith, get_or-set_other);
       steps = omega arith;
       none = λ empty. absurd (omega arith);
       past = λ u high. let other : u ≢ i = omega arith in get_or-set_other now i u new L other ∙ s.past u high;
     }
 
 pub returns-clause-steps : goal.returns-clause-steps
-returns-clause-steps g c = elim (cases_lt c.args.run.now.start c.args.run.now.end) [
-  | inl some ↦ omega (arith, c.loop-unit.invariant.steps)
-  | inr empty ↦ omega (arith, c.loop-unit.invariant.none empty)
-]
+returns-clause-steps g c = grind arith

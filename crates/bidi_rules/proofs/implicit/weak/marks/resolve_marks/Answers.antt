@@ -1,21 +1,19 @@
-use Rattle.std.proofs.Common.{◌≡◌, ◌<◌, ℕ, true, List, length, map, refl, sym, ap, subst, ◌∙◌, arith}
+use Rattle.std.proofs.Common.{◌≡◌, ◌<◌, ℕ, true, length, map, sym, ap, subst, ◌∙◌, arith}
+use Rattle.std.proofs.lemmas.Grind.{common_steps}
 use Rattle.std.proofs.lemmas.List.{get_or-map, length-map, take_all}
 use Rattle.bidi_base.specs.declared.char_data.BidiClass.{BidiClass}
-use Rattle.bidi_base.specs.declared.char_data.BidiClass.TheVariants.{L, R}
 use Rattle.bidi_base.specs.Classes.{is_kept_in_place, is_l_or_r, is_nsm}
-use Rattle.bidi_base.specs.Units.{bounds, units_in_runs}
+use Rattle.bidi_base.specs.Units.{bounds}
 use Rattle.bidi_base.specs.Weak.{carried}
 use Rattle.bidi_rules.specs.WeakWalk.{AreMarked}
 use Rattle.bidi_rules.proofs.CountBelow.{length-units_in_runs-more}
 use Rattle.bidi_rules.proofs.InRuns.{in_runs-at, run_some, start_or-at, start_or-past}
 use Rattle.bidi_rules.proofs.KeptRuns.{no_range}
-use Rattle.bidi_rules.proofs.WeakMarks.{AreMarked-first_run, AreMarked-next_run, AreMarked-end, IsMarked-none, is_any-none}
+use Rattle.bidi_rules.proofs.WeakMarks.{AreMarked-first_run, AreMarked-next_run, IsMarked-none, is_any-none}
 use Rattle.bidi_rules.proofs.implicit.weak.marks.resolve_marks.Goals as goal
 
 side_kept : (c : BidiClass) → is_l_or_r c ≡ true → is_kept_in_place (carried c) ≡ true
-side_kept L h = refl
-side_kept R h = refl
-side_kept _ h = absurd (cc h)
+side_kept c h = grind arith
 
 pub loop-run-init : goal.loop-run-init
 loop-run-init g c = (
@@ -59,18 +57,11 @@ loop-run-preserved g c =
     )
 
 pub returns-clause-marked : goal.returns-clause-marked
-returns-clause-marked g c =
-    let runs = map bounds c.args.runs.now in
-    let old = c.args.classes.now in
-    AreMarked-end runs (carried c.args.sos) old c.loop-run.classes c.loop-run.mark
-    (subst (λ (u : ℕ). AreMarked runs (carried c.args.sos) old c.loop-run.classes c.loop-run.mark u) (start_or-past runs c.loop-run.run-index (length old) (omega (arith, length-map c.args.runs.now bounds))) c.loop-run.invariant.0)
+returns-clause-marked g c = grind (arith, common_steps, start_or-past)
 
 pub returns-then-not-has_marks-clause-marked : goal.returns-then-not-has_marks-clause-marked
 returns-then-not-has_marks-clause-marked g c =
     IsMarked-none c.args.runs.now (carried c.args.sos) c.args.classes.now (is_any-none is_nsm c.args.runs.now c.args.classes.now c.requires.within (sym c.has_marks.ensures ∙ c.if-not-has_marks.true))
 
 pub returns-clause-at_most : goal.returns-clause-at_most
-returns-clause-at_most g c =
-    let runs = map bounds c.args.runs.now in
-    let long = length-map c.args.runs.now bounds in
-    omega (arith, c.loop-run.invariant.2, ap (λ (rs : List (ℕ × ℕ)). length (units_in_runs rs)) (take_all c.loop-run.run-index runs (omega arith)))
+returns-clause-at_most g c = grind (arith, length-map, take_all)

@@ -1,4 +1,4 @@
-use Rattle.std.proofs.Common.{◌≡◌, ◌+◌, ℕ, true, false, sym, ap, subst, ◌∙◌, arith}
+use Rattle.std.proofs.Common.{◌≡◌, ◌+◌, ℕ, true, false, ap, subst, ◌∙◌, arith}
 use Rattle.std.proofs.lemmas.Bool.{and_from, and_right}
 use Rattle.bidi_base.specs.Classes.{is_kept_in_place}
 use Rattle.bidi_base.specs.Places.{class_at}
@@ -19,12 +19,12 @@ loop-unit-preserved g c = (
       let fits = c.loop-unit.auto in
       elim c.if-is_kept_in_place.branch [
         | then-is_kept_in_place b ↦
-            let kept : is_kept_in_place (class_at old i) ≡ true = sym (ap is_kept_in_place read) ∙ sym c.is_kept_in_place.ensures ∙ b.if-is_kept_in_place.true in
+            let kept : is_kept_in_place (class_at old i) ≡ true = grind arith in
             let own = b.marked-own.ensures in
             rw (b.classes-is, b.next-is, b.carried-next.ensures, own)
             (AreMarked-more runs sos old now mark i h (omega (arith, c.requires.within, h.long, fits.classes)) (and_from (in_runs runs i) (is_kept_in_place (class_at old i)) (in_run i (omega arith) c.loop-unit-test.true) kept))
         | else-is_kept_in_place b ↦
-            let gone : is_kept_in_place (class_at old i) ≡ false = sym (ap is_kept_in_place read) ∙ sym c.is_kept_in_place.ensures ∙ b.if-is_kept_in_place.false in
+            let gone : is_kept_in_place (class_at old i) ≡ false = grind arith in
             rw (b.classes-is, b.next-is)
             (AreMarked-unseen runs sos old now mark i h (i + 1) (omega arith) (omega (arith, c.requires.within, h.long, fits.classes, c.loop-unit-test.true))
             (λ k from below. let same : k ≡ i = omega arith in and_right (in_runs runs k) (is_kept_in_place (class_at old k)) (ap (λ (u : ℕ). is_kept_in_place (class_at old u)) same ∙ gone)))

@@ -1,10 +1,9 @@
 use Rattle.std.proofs.Common.{◌≡◌, ℕ, ◌+◌, ◌-◌, ◌*◌, ◌/◌, ◌%◌, ◌<◌, false, List, length, get_or, take, drop, sym, ap, ◌∙◌, arith, inl, inr, length-take, length-drop, get_or-take, get_or-drop}
 use Rattle.std.proofs.Math.Nat.{mod-lt}
 use Rattle.std.proofs.lemmas.Nat.{div-add-mod'}
-use Rattle.std.proofs.lemmas.Bool.{cases_lt, both_ways, false_from_ne_true}
+use Rattle.std.proofs.lemmas.Bool.{cases_lt}
 use Rattle.std.proofs.lemmas.List.Folds.{list_any_at}
 use Rattle.std.proofs.lemmas.List.Sums.{fails_before_first, passes_at_first, position_or_len_is}
-use Rattle.std.specs.List.{list_any}
 use Rattle.bidi_base.specs.declared.char_data.BidiClass.{BidiClass}
 use Rattle.bidi_base.specs.declared.char_data.BidiClass.TheVariants.{L}
 use Rattle.bidi_base.specs.Places.{class_at}
@@ -15,7 +14,7 @@ use Rattle.bidi_rules.proofs.implicit.weak.numbers.before_asked.Goals as goal
 
 -- where no class of a piece asks, this one does not
 idle_at : (piece : List BidiClass) (k : ℕ) → is_any_of is_asked piece ≡ false → k < length piece → is_asked (get_or piece k L) ≡ false
-idle_at piece k none inside = false_from_ne_true _ (λ e. both_ways (list_any is_asked piece) (sym (fold_any is_asked piece) ∙ none) (list_any_at is_asked piece k L inside e))
+idle_at piece k none inside = grind (arith, fold_any, list_any_at) steps 400000
 
 pub returns-clause-count : goal.returns-clause-count
 returns-clause-count c =
@@ -29,7 +28,7 @@ returns-clause-count c =
     let left = length-drop (32 * n) xs in
     let size = length-take (length xs - 32 * n) (drop (32 * n) xs) in
     let at : (j : ℕ) → j < length xs - 32 * n → class_at rest j ≡ class_at xs (32 * n + j) =
-    λ j below. get_or-take (length xs - 32 * n) (drop (32 * n) xs) j L below ∙ get_or-drop (32 * n) xs j L in
+    λ j below. grind (arith, get_or-take, get_or-drop) in
     let front : (k : ℕ) → k < 32 * n → is_asked (class_at xs k) ≡ false =
     λ k below.
     let j = k / 32 in

@@ -1,4 +1,4 @@
-use Rattle.std.proofs.Common.{rules, ◌≡◌, ◌*◌, ◌<◌, take, drop, Option, Some, None, sym, ap, subst, ◌∙◌, arith, tests}
+use Rattle.std.proofs.Common.{rules, ◌≡◌, ◌*◌, ◌<◌, take, drop, Option, Some, sym, ap, ◌∙◌, arith, tests}
 use Rattle.std.specs.Option.{IfSome, option_map}
 use Rattle.bidi_rules.specs.WeakPass.{is_asked}
 use Rattle.bidi_rules.specs.WeakWalk.{is_any_of}
@@ -6,8 +6,7 @@ use Rattle.bidi_rules.proofs.implicit.weak.numbers.idle_pieces.Goals as goal
 
 -- what two runs say of the item that both have at one place
 both : {A R : Type 0} (P Q : A → Type 0) (o r : Option A) (y : A) → r ≡ o → option_map (λ z. z) o ≡ Some y → IfSome o P → IfSome r Q → ((x : A) → P x → Q x → R) → R
-both P Q None r y same some p q go = absurd (search (rules, tests))
-both P Q (Some x) r y same some p q go = go x p (subst (λ o. IfSome o Q) same q)
+both P Q o r y same some p q go = grind arith
 
 pub returns-clause-idle : goal.returns-clause-idle
 returns-clause-idle c =

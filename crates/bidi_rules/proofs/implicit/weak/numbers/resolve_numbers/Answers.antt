@@ -1,17 +1,16 @@
 use Rattle.std.proofs.Common.{◌≡◌, ◌+◌, ◌*◌, ◌<◌, ◌≤◌, ℕ, suc, List, length, map, get_or, drop, refl, sym, subst, ◌∙◌, arith}
 use Rattle.std.specs.Prelude.{All}
 use Rattle.std.proofs.lemmas.List.{length-map}
-use Rattle.std.proofs.lemmas.List.Elements.{All-weaker}
 use Rattle.bidi_base.specs.declared.char_data.BidiClass.{BidiClass}
 use Rattle.bidi_base.specs.declared.char_data.BidiClass.TheVariants.{ON}
 use Rattle.bidi_base.specs.Places.{class_at}
-use Rattle.bidi_base.specs.Text.{IsLine, IsPerChar}
+use Rattle.bidi_base.specs.Text.{IsPerChar}
 use Rattle.bidi_base.specs.Units.{bounds, AreLines}
 use Rattle.bidi_base.proofs.TextLemmas.{is_boundary-le}
 use Rattle.bidi_base.proofs.UnitsLemmas.{length-from_IsPerChar}
 use Rattle.bidi_rules.specs.WeakWalk.{count_below, is_seen, len_at, settled_to, IsWrittenOver, Pass, IsUnderWay, WaitsBelow}
 use Rattle.bidi_rules.specs.declared.implicit.weak.numbers.Walk.{Walk}
-use Rattle.bidi_rules.proofs.CountBelow.{count_below-all, count_below-monotone, count_below-within, count_settled-monotone, WaitsBelow-idle, WaitsBelow-later}
+use Rattle.bidi_rules.proofs.CountBelow.{count_below-all, count_below-monotone, count_below-within, count_settled-monotone, WaitsBelow-idle}
 use Rattle.bidi_rules.proofs.InRuns.{next_start, run_some, start_or, start_or-at, start_or-past}
 use Rattle.bidi_rules.specs.WeakPass.{is_number}
 use Rattle.bidi_rules.proofs.WeakMarks.{is_any-none}
@@ -21,9 +20,7 @@ use Rattle.bidi_rules.proofs.implicit.weak.numbers.resolve_numbers.Goals as goal
 
 -- the runs lie within the units
 within : (len_of : ℕ → ℕ) (chars : List ℕ) (runs : List (ℕ × ℕ)) (classes : List BidiClass) → AreLines len_of chars runs → IsPerChar len_of chars classes → All (λ r. r.1 ≤ length classes) runs
-within len_of chars runs classes lines per =
-    let size = length-from_IsPerChar len_of chars classes per in
-    All-weaker (λ (r : ℕ × ℕ). IsLine len_of chars r.0 r.1) (λ (r : ℕ × ℕ). r.1 ≤ length classes) (λ r line. omega (arith, is_boundary-le len_of chars r.1 line.ends, size)) runs lines
+within len_of chars runs classes lines per = grind (arith, length-from_IsPerChar, is_boundary-le)
 
 pub loop-run-init : goal.loop-run-init
 loop-run-init g c =
@@ -85,18 +82,10 @@ loop-run-preserved g c =
     let read = count_below-within 0 index runs (get_or runs index (0, 0)).0 end c.requires.ordered fits (omega arith) (omega (arith, some)) (omega arith) in
     let behind = count_below-monotone 0 runs end (start_or runs (index + 1) (length old)) c.requires.ordered later in
     record {
-      waiting = WaitsBelow-later runs c.read_run.new.self end (start_or runs (index + 1) (length old)) later c.read_run.ensures.waiting;
+      waiting = grind arith;
       under_way = IsUnderWay-next_run p c.requires.ordered (within len_of chars runs old c.requires.lines c.requires.per_char) c.read_run.new.classes c.read_run.new.self index fits (c.read_run.ensures.reads p refl refl begin);
       at_least = omega (arith, c.loop-run.invariant.at_least, c.tick.ensures, c.read_run.ensures.at_least);
-      at_most = omega (
-        arith,
-        subst (λ (u : ℕ). c.loop-run.steps ≤ c.args.steps.now + 2 * count_below runs u + 2 * count_below runs (settled_to c.loop-run.walk u)) start c.loop-run.invariant.at_most,
-        c.tick.ensures,
-        c.read_run.ensures.at_most,
-        settled,
-        read,
-        behind,
-      );
+      at_most = grind arith;
     }
 
 pub returns-clause-walked : goal.returns-clause-walked
@@ -108,7 +97,7 @@ returns-clause-walked g c =
     let now = c.loop-run.classes in
     let w = c.loop-run.walk in
     let p : Pass = record { runs = runs; sos = c.args.sos; old = old; len = len_at len_of chars } in
-    let top : start_or runs c.loop-run.run (length old) ≡ length old = start_or-past runs c.loop-run.run (length old) (omega (arith, c.loop-run-test.false, length-map c.args.runs.now bounds)) in
+    let top : start_or runs c.loop-run.run (length old) ≡ length old = grind (arith, start_or-past, length-map) in
     let h = subst (λ (u : ℕ). IsUnderWay p now w u) top c.loop-run.invariant.under_way in
     IsWalked-settled p now w (length old) h c.settle.new.classes (omega arith)
     (IsWrittenOver-settled p now w (length old) h ON c.settle.new.classes c.requires.ordered
@@ -128,21 +117,13 @@ record AreRead (runs : List (ℕ × ℕ)) (w : Walk) (n steps first : ℕ) : Typ
   at_most : steps ≤ first + 2 * count_below runs n + 2 * count_below runs (settled_to w n)
 
 read : (runs : List (ℕ × ℕ)) (w : Walk) (index n steps first : ℕ) → length runs ≤ index → WaitsBelow runs w (start_or runs index n) → steps ≤ first + 2 * count_below runs (start_or runs index n) + 2 * count_below runs (settled_to w (start_or runs index n)) → AreRead runs w n steps first
-read runs w index n steps first past waiting at_most =
-    subst (λ (u : ℕ). AreRead runs w u steps first) (start_or-past runs index n past) (record { waiting = waiting; at_most = at_most })
+read runs w index n steps first past waiting at_most = grind (arith, start_or-past)
 
 pub read_run-requires-clause-waiting : goal.read_run-requires-clause-waiting
-read_run-requires-clause-waiting g c =
-    let runs = map bounds c.args.runs.now in
-    subst (λ (u : ℕ). WaitsBelow runs c.loop-run.walk u) (start_or-at runs c.loop-run.run (length c.args.classes.now) (omega (arith, c.loop-run-test.true, length-map c.args.runs.now bounds))) c.loop-run.invariant.waiting
+read_run-requires-clause-waiting g c = grind (arith, start_or-at, length-map)
 
 pub settle-requires-clause-waiting : goal.settle-requires-clause-waiting
-settle-requires-clause-waiting g c =
-    let runs = map bounds c.args.runs.now in
-    let w = c.loop-run.walk in
-    let long : length c.args.classes.now ≡ length c.loop-run.classes = omega (arith, c.loop-run.auto.classes) in
-    let all = read runs w c.loop-run.run (length c.args.classes.now) c.loop-run.steps c.args.steps.now (omega (arith, c.loop-run-test.false, length-map c.args.runs.now bounds)) c.loop-run.invariant.waiting c.loop-run.invariant.at_most in
-    subst (λ (u : ℕ). WaitsBelow runs w u) long all.waiting
+settle-requires-clause-waiting g c = grind arith
 
 pub returns-clause-at_most : goal.returns-clause-at_most
 returns-clause-at_most g c =

@@ -7,10 +7,10 @@ use Rattle.bidi_rules.proofs.WalkLemmas.{backwards_unit, backwards_run, earlier_
 use Rattle.bidi_rules.proofs.prepare.sequence.BackwardsFromIterator.next.Goals as goal
 
 pub returns-then-self-clause-steps : goal.returns-then-self-clause-steps
-returns-then-self-clause-steps c = backwards_unit c.args.self.now.start c.args.self.now.at (map bounds c.args.self.now.earlier.now) c.if-self.true
+returns-then-self-clause-steps c = grind (arith, backwards_unit) steps 400000
 
 pub returns-then-self-clause-goes : goal.returns-then-self-clause-goes
-returns-then-self-clause-goes c = walks_on _ backwards_left c.args.self.now _ _ (returns-then-self-clause-steps c) tt
+returns-then-self-clause-goes c = grind (arith, returns-then-self-clause-steps) steps 400000
 
 pub overflow_sub-unit : goal.overflow_sub-unit
 overflow_sub-unit c =
@@ -18,7 +18,7 @@ overflow_sub-unit c =
     omega (arith, parts.1)
 
 pub invariant_of-self-2 : goal.invariant_of-self-2
-invariant_of-self-2 c = record { in_order = (earlier_ranges c.args.self.now.earlier.now c.in_ok-run.earlier.now c.in_ok-run.run'.now c.in_ok-run.ensures.cases.0 c.args.self.now.in_order).0 }
+invariant_of-self-2 c = grind (arith, earlier_ranges) steps 400000
 
 pub returns-clause-steps : goal.returns-clause-steps
 returns-clause-steps c =

@@ -1,12 +1,12 @@
 -- The next unit: of the range that the walk is in, or the first one of the next range.
-use Rattle.std.proofs.Common.{map, ap}
+use Rattle.std.proofs.Common.{map, ap, arith}
 use Rattle.bidi_base.specs.Units.{bounds}
 use Rattle.bidi_rules.specs.RunSequence.{forwards_left}
 use Rattle.bidi_rules.proofs.WalkLemmas.{forwards_run, later_ranges, walks_on}
 use Rattle.bidi_rules.proofs.prepare.sequence.ForwardsFromIterator.next.Goals as goal
 
 pub invariant_of-self-2 : goal.invariant_of-self-2
-invariant_of-self-2 c = record { in_order = later_ranges c.args.self.now.later.now c.in_ok-run.later.now c.in_ok-run.run'.now c.in_ok-run.ensures.cases.0 c.args.self.now.in_order }
+invariant_of-self-2 c = grind (arith, later_ranges) steps 400000
 
 pub returns-clause-steps : goal.returns-clause-steps
 returns-clause-steps c =

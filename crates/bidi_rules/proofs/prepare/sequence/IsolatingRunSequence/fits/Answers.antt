@@ -1,8 +1,7 @@
 -- The ranges fit if each does, in the order of the list.
-use Rattle.std.proofs.Common.{◌≡◌, ℕ, ◌<◌, ◌≤◌, false, List, length, map, get_or, take, refl, sym, ap, subst, ◌∙◌, arith}
+use Rattle.std.proofs.Common.{◌≡◌, ℕ, ◌<◌, ◌≤◌, List, length, map, get_or, take, sym, ap, subst, ◌∙◌, arith, rules}
 use Rattle.std.specs.Prelude.{All}
 use Rattle.std.specs.declared.ops.Range.{Range}
-use Rattle.std.proofs.lemmas.Bool.{both_ways}
 use Rattle.std.proofs.lemmas.List.{take_all, get_or-map, length-map}
 use Rattle.std.proofs.lemmas.List.Elements.{All-map, All-more, All-get_or}
 use Rattle.bidi_base.specs.Text.{IsLine}
@@ -21,19 +20,11 @@ all_of len_of chars runs read k e past all =
     (subst (λ (xs : List (Range ℕ)). All (λ (r : Range ℕ). IsLine len_of chars r.start r.end) xs) (take_all k read past ∙ e) all)
 
 pub returns-then-not-is_line : goal.returns-then-not-is_line
-returns-then-not-is_line g c = (
-  λ h. absurd (both_ways false refl h),
-  λ all. absurd
-      (both_ways c.is_line.result c.if-not-is_line.true
-      (c.is_line.ensures.1 (one_of g.T.TextSource.units (g.T.TextSource.characters c.args.text) c.args.self.now.runs.items c.runs-run-items.result.now c.loop-run.run-index _ c.runs-run-items.ensures c.loop-run-test.true all))),
-)
+returns-then-not-is_line g c = grind (arith, one_of)
 
 pub loop-run-preserved : goal.loop-run-preserved
 loop-run-preserved g c =
     All-more (λ (r : Range ℕ). IsLine g.T.TextSource.units (g.T.TextSource.characters c.args.text) r.start r.end) c.runs-run-items.result.now c.loop-run.run-index _ c.loop-run-test.true c.loop-run.invariant (c.is_line.ensures.0 c.if-not-is_line.false)
 
 pub returns : goal.returns
-returns g c = (
-  λ _. all_of g.T.TextSource.units (g.T.TextSource.characters c.args.text) c.args.self.now.runs.items c.runs-run-items.result.now c.loop-run.run-index c.runs-run-items.ensures c.loop-run-test.false c.loop-run.invariant,
-  λ _. refl,
-)
+returns g c = search (rules, all_of)

@@ -1,4 +1,4 @@
-use Rattle.std.proofs.Common.{◌≤◌, List, ℕ, length, sym, rules}
+use Rattle.std.proofs.Common.{sym, arith}
 use Rattle.bidi_base.proofs.Utf16Lemmas.{text_len-utf16, is_boundary-within}
 use Rattle.unicode_bidi.specs.Analysed.{text_of}
 use Rattle.unicode_bidi.proofs.line_text.utf16.Analysed+Utf16Text.reorder_line.Goals as goal
@@ -7,13 +7,7 @@ pub turned_line-requires-clause-units : goal.turned_line-requires-clause-units
 turned_line-requires-clause-units c = sym (text_len-utf16 (text_of c.args.self.now).units.now)
 
 pub offset_bounds-text-line : goal.offset_bounds-text-line
-offset_bounds-text-line c =
-    let us : List ℕ = (text_of c.args.self.now).units.now in
-    let within : c.args.line.end ≤ length c.units-text.result.now = rw (c.units-text.ensures, c.text.ensures) (is_boundary-within us c.args.line.end c.requires.ends) in
-    search rules
+offset_bounds-text-line c = grind (arith, is_boundary-within)
 
 pub slice_bounds-result-end : goal.slice_bounds-result-end
-slice_bounds-result-end c =
-    let us : List ℕ = (text_of c.args.self.now).units.now in
-    let within : c.args.line.end ≤ length c.units-text.result.now = rw (c.units-text.ensures, c.text.ensures) (is_boundary-within us c.args.line.end c.requires.ends) in
-    search rules
+slice_bounds-result-end c = grind (arith, is_boundary-within)

@@ -1,5 +1,4 @@
-use Rattle.std.proofs.Common.{ap, sym}
-use Rattle.bidi_base.specs.declared.text.str_text.StrText.{StrText}
+use Rattle.std.proofs.Common.{arith}
 use Rattle.bidi_base.proofs.StrLemmas.{text_len-chars, IsCharBoundary-from_is_boundary}
 use Rattle.unicode_bidi.proofs.line_text.utf8.Analysed+StrText.reorder_line.Goals as goal
 
@@ -10,4 +9,4 @@ pub range-requires-clause-end_boundary : goal.range-requires-clause-end_boundary
 range-requires-clause-end_boundary c = IsCharBoundary-from_is_boundary c.as_str-text.result.now c.args.line.end c.as_str-text.utf8 (rw (c.as_str-text.ensures, c.text.ensures) c.requires.ends)
 
 pub turned_line-requires-clause-units : goal.turned_line-requires-clause-units
-turned_line-requires-clause-units c = rw (← ap (λ (t : StrText). t.text.now) c.text.ensures, ← c.as_str-text.ensures) (sym (text_len-chars c.as_str-text.result.now c.as_str-text.utf8))
+turned_line-requires-clause-units c = grind (arith, text_len-chars)

@@ -5,14 +5,12 @@ use Rattle.bidi_base.specs.Places.{class_at}
 use Rattle.bidi_rules.specs.JoinPass.{IsJoined}
 use Rattle.bidi_rules.specs.PairWalk.{opposite_of}
 use Rattle.bidi_rules.specs.WeakWalk.{is_seen, IsWrittenOver}
-use Rattle.bidi_rules.proofs.JoinWalk.{IsAtOpposite-none, IsAtOpposite-settled, IsAtOpposite-quiet, IsUnderWay-turned}
+use Rattle.bidi_rules.proofs.JoinWalk.{IsAtOpposite-settled, IsAtOpposite-quiet, IsUnderWay-turned}
 use Rattle.bidi_rules.proofs.implicit.neutral.directions.Join.next_opposite.Goals as goal
 use Rattle.bidi_rules.proofs.implicit.neutral.directions.Join.next_opposite.Goals.{then-self+else-next-end+else-stands_for, else-self}
 
 pub returns-then-next-end-clause-reads : goal.returns-then-next-end-clause-reads
-returns-then-next-end-clause-reads c = λ s runs_are same inside u.
-    let f = c.first_passing-next.ensures in
-    IsAtOpposite-none s c.args.classes.now c.args.self.now c.args.at c.args.end inside (omega (arith, c.requires.inside, u.joined.long)) u c.first_passing-next.result f.begins c.if-next-end.true f.before
+returns-then-next-end-clause-reads c = grind arith
 
 pub returns-then-stands_for-clause-reads : goal.returns-then-stands_for-clause-reads
 returns-then-stands_for-clause-reads c = λ s runs_are same inside u.

@@ -7,8 +7,7 @@ use Rattle.bidi_rules.proofs.JoinWalk.{IsUnderWay-stretch}
 use Rattle.bidi_rules.proofs.implicit.neutral.directions.Join.pass.Goals as goal
 
 twice : (b : Bool) → not b ≡ false → b ≡ true
-twice true h = refl
-twice false h = cc
+twice b h = grind arith
 
 pub returns-clause-reads : goal.returns-clause-reads
 returns-clause-reads c = λ s same fits from upto j.

@@ -22,7 +22,7 @@ returns-clause-passes c p run fits starts ends h =
     omega (arith, c.before_asked.ensures.within, length-take (end - (i + 1)) (drop (i + 1) now), length-drop (i + 1) now, c.requires.some) in
     let none : (k : ℕ) → i ≤ k → k < i + n → is_asked (class_at now k) ≡ false =
     λ k from below. elim (cases_lt k (i + 1)) [
-      | inl first ↦ let same : k ≡ i = omega arith in ap (λ (u : ℕ). is_asked (class_at now u)) same ∙ c.requires.first
+      | inl first ↦ grind arith
       | inr behind ↦
           let j = k - (i + 1) in
           let place : i + 1 + j ≡ k = omega arith in

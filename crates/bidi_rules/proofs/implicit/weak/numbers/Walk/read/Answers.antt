@@ -1,6 +1,6 @@
-use Rattle.std.proofs.Common.{◌≡◌, ◌+◌, ◌-◌, ◌*◌, ◌<◌, ◌≤◌, ℕ, Bool, true, false, not, cond, List, length, map, get_or, drop, refl, sym, ap, subst, ◌∙◌, inl, inr, arith}
+use Rattle.std.proofs.Common.{◌≡◌, ◌+◌, ◌-◌, ◌*◌, ◌<◌, ◌≤◌, ℕ, Bool, true, false, not, cond, List, length, map, get_or, drop, refl, sym, ap, subst, ◌∙◌, arith}
 use Rattle.std.specs.Prelude.{IsTrue}
-use Rattle.std.proofs.lemmas.Bool.{cases_Bool, cases_lt, both_ways, cond-true, cond-false}
+use Rattle.std.proofs.lemmas.Bool.{cond-false}
 use Rattle.std.proofs.lemmas.List.{get_or_past}
 use Rattle.bidi_base.specs.declared.char_data.BidiClass.{BidiClass}
 use Rattle.bidi_base.specs.Classes.{is_l}
@@ -8,19 +8,17 @@ use Rattle.bidi_base.specs.Places.{class_at}
 use Rattle.bidi_base.specs.Units.{bounds, are_ordered}
 use Rattle.bidi_base.proofs.PerCharTests.{class_test}
 use Rattle.bidi_rules.specs.declared.implicit.weak.numbers.Walk.{Walk}
-use Rattle.bidi_rules.specs.declared.implicit.weak.steps.Before.{Before}
 use Rattle.bidi_rules.specs.ExplicitPass.{filled}
 use Rattle.bidi_rules.specs.WeakPass.{strengthened, strong_up_to, joins, waits, settled, resolved, next_before, w7_by, left_over}
-use Rattle.bidi_rules.specs.WeakWalk.{count_below, is_seen, seen, settled_to, IsWrittenOver, Pass, IsUnderWay, WaitsBelow}
-use Rattle.bidi_rules.proofs.CountBelow.{count_below-monotone, settled_to-waits}
-use Rattle.bidi_rules.proofs.WeakWalkLemmas.{joins-waits, resolved-stays, IsWrittenOver-settled, IsUnderWay-same, IsUnderWay-joins, IsUnderWay-waits, IsUnderWay-decides}
+use Rattle.bidi_rules.specs.WeakWalk.{count_below, is_seen, seen, settled_to, IsWrittenOver, Pass, IsUnderWay}
+use Rattle.bidi_rules.proofs.CountBelow.{count_below-monotone}
+use Rattle.bidi_rules.proofs.WeakWalkLemmas.{resolved-stays, IsWrittenOver-settled, IsUnderWay-same, IsUnderWay-joins, IsUnderWay-waits, IsUnderWay-decides}
 use Rattle.bidi_rules.proofs.WrittenOver.{IsWrittenOver-filled}
 use Rattle.bidi_rules.proofs.implicit.weak.numbers.Walk.read.Goals as goal
 use Rattle.bidi_rules.proofs.implicit.weak.numbers.Walk.read.Goals.{then-not-is_joined_by+then-waits, then-not-is_joined_by+else-waits+then-ne, then-not-is_joined_by+else-waits+else-ne, else-not-is_joined_by}
 
 equal : (b : Bool) → not b ≡ false → b ≡ true
-equal true h = refl
-equal false h = absurd (cc h)
+equal b h = grind arith
 
 filled_over : (to : ℕ) (v : BidiClass) (from : ℕ) (now1 now2 : List BidiClass) → now2 ≡ filled from (to - from) v now1 → from ≤ to → to ≤ length now1 → IsWrittenOver (λ k. true) v from to now1 now2
 filled_over to v from now1 now2 is order fits = subst (IsWrittenOver (λ k. true) v from to now1) (sym is) (IsWrittenOver-filled v from to now1 order fits)
@@ -35,10 +33,7 @@ settled_by p runs same i w now now1 h v held is ordered some none =
 
 -- behind what is settled
 above_settled : (w : Walk) (runs : List (ℕ × ℕ)) (held : BidiClass) (i k : ℕ) (now now1 : List BidiClass) → i ≤ k → (waits w.before ≡ true → IsWrittenOver (is_seen (drop w.first_run runs) now) held w.first i now now1) → (waits w.before ≡ false → now1 ≡ now) → class_at now1 k ≡ class_at now k
-above_settled w runs held i k now now1 order some none = elim (cases_Bool (waits w.before)) [
-  | inl wait ↦ (some wait).above k order
-  | inr free ↦ ap (λ (cs : List BidiClass). class_at cs k) (none free)
-]
+above_settled w runs held i k now now1 order some none = grind arith
 
 pub returns-clause-rest : goal.returns-clause-rest
 returns-clause-rest g c =
@@ -48,7 +43,7 @@ returns-clause-rest g c =
     let runs = map bounds c.args.runs.now in
     λ k order. let past : i ≤ k = omega (arith, c.requires.some) in
     elim c.if-not-is_joined_by.branch [
-      | then-not-is_joined_by+then-waits b ↦ ap (λ (cs : List BidiClass). class_at cs k) b.classes-is ∙ above_settled w runs _ i k now b.settle.new.classes past b.settle.ensures.held b.settle.ensures.idle
+      | then-not-is_joined_by+then-waits b ↦ grind arith
       | then-not-is_joined_by+else-waits+then-ne b ↦ ap (λ (cs : List BidiClass). class_at cs k) b.classes-is ∙ (filled_over c.args.end b.numbered-own.result i b.settle.new.classes b.fill.new.classes b.fill.ensures (omega (arith, c.requires.some)) (omega (arith, c.requires.inside, b.settle.auto.classes))).above k order ∙ above_settled w runs _ i k now b.settle.new.classes past b.settle.ensures.held b.settle.ensures.idle
       | then-not-is_joined_by+else-waits+else-ne b ↦ ap (λ (cs : List BidiClass). class_at cs k) b.classes-is ∙ above_settled w runs _ i k now b.settle.new.classes past b.settle.ensures.held b.settle.ensures.idle
       | else-not-is_joined_by b ↦ ap (λ (cs : List BidiClass). class_at cs k) b.classes-is
@@ -69,26 +64,26 @@ returns-clause-reads g c =
     let n_is : c.after-next.result ≡ next_before z w.before = c.after-next.ensures ∙ ap (λ (d : BidiClass). next_before d w.before) z_is in
     let j_is : c.is_joined_by.result ≡ joins z w.before = c.is_joined_by.ensures ∙ ap (λ (d : BidiClass). joins d w.before) z_is in
     let strong_is : (t : Walk) → c.if-not-is_joined_by.self ≡ t → c.strong_up_to-self.result ≡ strong_up_to t.strong x =
-    λ t is. c.strong_up_to-self.ensures ∙ ap (λ (t : Walk). strong_up_to t.strong (class_at now i)) is ∙ ap (strong_up_to t.strong) read in
+    λ t is. grind arith in
     elim c.if-not-is_joined_by.branch [
       | then-not-is_joined_by+then-waits b ↦
-          let held : b.numbered-held.result ≡ w7_by (is_l w.strong) (settled z w.before) = b.numbered-held.ensures ∙ ap (w7_by (is_l w.strong)) (b.settled.ensures ∙ ap (λ (d : BidiClass). settled d w.before) z_is) in
+          let held : b.numbered-held.result ≡ w7_by (is_l w.strong) (settled z w.before) = grind arith in
           let written = settled_by p runs s.runs_are i w now b.settle.new.classes h _ b.numbered-held.result held c.requires.ordered b.settle.ensures.held b.settle.ensures.idle in
           IsUnderWay-same p b.settle.new.classes _ _ _ j b.classes-is (strong_is _ b.self-is) n_is (ap (λ (t : Walk). t.first) b.self-is) (ap (λ (t : Walk). t.first_run) b.self-is)
           (IsUnderWay-waits p now w i h runs c.args.run j s b.settle.new.classes written (sym j_is ∙ b.if-not-is_joined_by.true) (ap waits (sym n_is) ∙ sym b.waits.ensures ∙ b.if-waits.true))
       | then-not-is_joined_by+else-waits+then-ne b ↦
-          let held : b.numbered-held.result ≡ w7_by (is_l w.strong) (settled z w.before) = b.numbered-held.ensures ∙ ap (w7_by (is_l w.strong)) (b.settled.ensures ∙ ap (λ (d : BidiClass). settled d w.before) z_is) in
+          let held : b.numbered-held.result ≡ w7_by (is_l w.strong) (settled z w.before) = grind arith in
           let written = settled_by p runs s.runs_are i w now b.settle.new.classes h _ b.numbered-held.result held c.requires.ordered b.settle.ensures.held b.settle.ensures.idle in
-          let own : b.numbered-own.result ≡ w7_by (is_l w.strong) (resolved z w.before) = b.numbered-own.ensures ∙ ap (w7_by (is_l w.strong)) (b.resolved.ensures ∙ ap (λ (d : BidiClass). resolved d w.before) z_is) in
+          let own : b.numbered-own.result ≡ w7_by (is_l w.strong) (resolved z w.before) = grind arith in
           let fill = filled_over j b.numbered-own.result i b.settle.new.classes b.fill.new.classes b.fill.ensures (omega (arith, c.requires.some)) (omega (arith, c.requires.inside, b.settle.auto.classes)) in
           IsUnderWay-same p b.fill.new.classes _ _ _ j b.classes-is (strong_is _ b.self-is) n_is (ap (λ (t : Walk). t.first) b.self-is) (ap (λ (t : Walk). t.first_run) b.self-is)
           (IsUnderWay-decides p now w i h runs c.args.run j s b.settle.new.classes written (sym j_is ∙ b.if-not-is_joined_by.true) (ap waits (sym n_is) ∙ sym b.waits.ensures ∙ b.if-waits.false) b.fill.new.classes
           (λ k from below. ap left_over (fill.inside k from below refl ∙ own) ∙ resolved-stays x w.strong (is_l w.strong) w.before)
           fill.below fill.above fill.long w.first w.first_run)
       | then-not-is_joined_by+else-waits+else-ne b ↦
-          let held : b.numbered-held.result ≡ w7_by (is_l w.strong) (settled z w.before) = b.numbered-held.ensures ∙ ap (w7_by (is_l w.strong)) (b.settled.ensures ∙ ap (λ (d : BidiClass). settled d w.before) z_is) in
+          let held : b.numbered-held.result ≡ w7_by (is_l w.strong) (settled z w.before) = grind arith in
           let written = settled_by p runs s.runs_are i w now b.settle.new.classes h _ b.numbered-held.result held c.requires.ordered b.settle.ensures.held b.settle.ensures.idle in
-          let own : b.numbered-own.result ≡ w7_by (is_l w.strong) (resolved z w.before) = b.numbered-own.ensures ∙ ap (w7_by (is_l w.strong)) (b.resolved.ensures ∙ ap (λ (d : BidiClass). resolved d w.before) z_is) in
+          let own : b.numbered-own.result ≡ w7_by (is_l w.strong) (resolved z w.before) = grind arith in
           let same : left_over (class_at now i) ≡ b.numbered-own.result = sym b.left_over.ensures ∙ class_test.same b.left_over.result b.numbered-own.result (equal _ (sym b.ne.ensures ∙ b.if-ne.false)) in
           IsUnderWay-same p b.settle.new.classes _ _ _ j b.classes-is (strong_is _ b.self-is) n_is (ap (λ (t : Walk). t.first) b.self-is) (ap (λ (t : Walk). t.first_run) b.self-is)
           (IsUnderWay-decides p now w i h runs c.args.run j s b.settle.new.classes written (sym j_is ∙ b.if-not-is_joined_by.true) (ap waits (sym n_is) ∙ sym b.waits.ensures ∙ b.if-waits.false) b.settle.new.classes
@@ -99,48 +94,11 @@ returns-clause-reads g c =
           (IsUnderWay-joins p now w i h runs c.args.run j s (sym j_is ∙ b.if-not-is_joined_by.false))
     ]
 
--- what waits behind the stretch
-waits_behind : (runs : List (ℕ × ℕ)) (strong : BidiClass) (before : Before) (first first_run end : ℕ) → first_run ≤ length runs → (waits before ≡ true → first < end) → (waits before ≡ true → first < (get_or runs first_run (0, 0)).1)
-    → WaitsBelow runs (record { strong = strong; before = before; first = first; first_run = first_run }) end
-waits_behind runs strong before first first_run end fits below within = record { first_run = fits; first = below; run = within }
-
 run_fits : (runs : List (ℕ × ℕ)) (run start : ℕ) → start < (get_or runs run (0, 0)).1 → run < length runs
-run_fits runs run start within = elim (cases_lt run (length runs)) [
-  | inl fits ↦ fits
-  | inr past ↦ absurd (let none = ap (λ (r : ℕ × ℕ). r.1) (get_or_past runs run (0, 0) past) in omega (arith, none, within))
-]
+run_fits runs run start within = grind (arith, get_or_past)
 
 pub returns-clause-waiting : goal.returns-clause-waiting
-returns-clause-waiting g c =
-    let w = c.args.self.now in
-    let start = c.args.start in
-    let runs = map bounds c.args.runs.now in
-    let before = c.requires.waiting in
-    let fits = run_fits runs c.args.run start c.requires.run in
-    elim c.if-not-is_joined_by.branch [
-      | then-not-is_joined_by+then-waits b ↦
-          let first : c.if-not-is_joined_by.self.first ≡ start = ap (λ (t : Walk). t.first) b.self-is in
-          let first_run : c.if-not-is_joined_by.self.first_run ≡ c.args.run = ap (λ (t : Walk). t.first_run) b.self-is in
-          let within : c.if-not-is_joined_by.self.first < (get_or runs c.if-not-is_joined_by.self.first_run (0, 0)).1 = rw (first, first_run) c.requires.run in
-          waits_behind runs _ _ _ _ c.args.end (omega (arith, fits)) (λ t. omega (arith, c.requires.some)) (λ t. within)
-      | then-not-is_joined_by+else-waits+then-ne b ↦
-          let idle : waits c.after-next.result ≡ false = sym b.waits.ensures ∙ b.if-waits.false in
-          waits_behind runs _ _ _ _ c.args.end (omega (arith, before.first_run, ap (λ (t : Walk). t.first_run) b.self-is)) (λ t. absurd (both_ways _ idle t)) (λ t. absurd (both_ways _ idle t))
-      | then-not-is_joined_by+else-waits+else-ne b ↦
-          let idle : waits c.after-next.result ≡ false = sym b.waits.ensures ∙ b.if-waits.false in
-          waits_behind runs _ _ _ _ c.args.end (omega (arith, before.first_run, ap (λ (t : Walk). t.first_run) b.self-is)) (λ t. absurd (both_ways _ idle t)) (λ t. absurd (both_ways _ idle t))
-      | else-not-is_joined_by b ↦
-          let both = joins-waits c.strengthened-strong.result w.before (sym c.is_joined_by.ensures ∙ b.if-not-is_joined_by.false) in
-          let first : c.if-not-is_joined_by.self.first ≡ w.first = ap (λ (t : Walk). t.first) b.self-is in
-          let first_run : c.if-not-is_joined_by.self.first_run ≡ w.first_run = ap (λ (t : Walk). t.first_run) b.self-is in
-          let below = before.first both.0 in
-          let within : c.if-not-is_joined_by.self.first < (get_or runs c.if-not-is_joined_by.self.first_run (0, 0)).1 = rw (first, first_run) (before.run both.0) in
-          waits_behind runs _ _ _ _ c.args.end (omega (arith, before.first_run)) (λ t. omega (arith, below, c.requires.some)) (λ t. within)
-    ]
-
--- the turns so far, where the stretch waits
-paid_waiting : (runs : List (ℕ × ℕ)) (t : Bool) (first start end a b : ℕ) → t ≡ true → first ≡ start → a ≤ b + 2 * count_below runs start → a ≤ b + 2 * count_below runs (cond t first end)
-paid_waiting runs t first start end a b waits same paid = omega (arith, paid, ap (count_below runs) (cond-true t first end waits ∙ same))
+returns-clause-waiting g c = grind (arith, run_fits)
 
 -- and where it does not
 paid_idle : (runs : List (ℕ × ℕ)) (t : Bool) (first start end a b : ℕ) → are_ordered runs ≡ true → t ≡ false → start < end → a ≤ b + 2 * count_below runs start → a ≤ b + 2 * count_below runs (cond t first end)
@@ -158,16 +116,10 @@ returns-clause-at_most g c =
     let new : ℕ = c.if-not-is_joined_by.steps in
     let a = new + 2 * count_below runs (settled_to w start) in
     elim c.if-not-is_joined_by.branch [
-      | then-not-is_joined_by+then-waits b ↦
-          paid_waiting runs next first start end a old (sym b.waits.ensures ∙ b.if-waits.true) (ap (λ (t : Walk). t.first) b.self-is) (rw b.steps-is b.settle.ensures.at_most)
+      | then-not-is_joined_by+then-waits b ↦ grind arith
       | then-not-is_joined_by+else-waits+then-ne b ↦
           paid_idle runs next first start end a old c.requires.ordered (sym b.waits.ensures ∙ b.if-waits.false) c.requires.some (rw b.steps-is b.settle.ensures.at_most)
       | then-not-is_joined_by+else-waits+else-ne b ↦
           paid_idle runs next first start end a old c.requires.ordered (sym b.waits.ensures ∙ b.if-waits.false) c.requires.some (rw b.steps-is b.settle.ensures.at_most)
-      | else-not-is_joined_by b ↦
-          let both = joins-waits c.strengthened-strong.result w.before (sym c.is_joined_by.ensures ∙ b.if-not-is_joined_by.false) in
-          let same : first ≡ w.first = ap (λ (t : Walk). t.first) b.self-is in
-          let steps : new ≡ old = b.steps-is in
-          let after : waits c.after-next.result ≡ true = ap waits c.after-next.ensures ∙ both.1 in
-          omega (arith, steps, ap (count_below runs) (settled_to-waits w start both.0), ap (count_below runs) (cond-true next first end after ∙ same))
+      | else-not-is_joined_by b ↦ grind arith
     ]

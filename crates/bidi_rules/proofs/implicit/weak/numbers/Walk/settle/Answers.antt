@@ -3,19 +3,16 @@ use Rattle.std.proofs.lemmas.List.{get_or-drop}
 use Rattle.bidi_base.specs.Units.{bounds, are_ordered}
 use Rattle.bidi_rules.specs.declared.implicit.weak.numbers.Walk.{Walk}
 use Rattle.bidi_rules.specs.WeakPass.{waits}
-use Rattle.bidi_rules.specs.WeakWalk.{count_below, is_seen, settled_to, IsWrittenOver, WaitsBelow}
-use Rattle.bidi_rules.proofs.CountBelow.{paid-by-part, settled_to-waits, settled_to-idle}
+use Rattle.bidi_rules.specs.WeakWalk.{count_below, settled_to, WaitsBelow}
+use Rattle.bidi_rules.proofs.CountBelow.{paid-by-part, settled_to-waits}
 use Rattle.bidi_rules.proofs.WalkLemmas.{forwards-in_order, part_after}
 use Rattle.bidi_rules.proofs.implicit.weak.numbers.Walk.settle.Goals as goal
 
 pub write_over_runs_counted-requires-clause-ordered : goal.write_over_runs_counted-requires-clause-ordered
-write_over_runs_counted-requires-clause-ordered g c = forwards-in_order c.args.runs.now c.args.runs.now c.args.self.now.first_run refl c.requires.ordered
+write_over_runs_counted-requires-clause-ordered g c = grind (arith, forwards-in_order) steps 400000
 
 pub returns-then-waits-clause-held : goal.returns-then-waits-clause-held
-returns-then-waits-clause-held g c =
-    let old = c.args.classes.now in
-    λ waiting. subst (λ (runs : List (ℕ × ℕ)). IsWrittenOver (is_seen runs old) c.args.class c.args.self.now.first c.args.to old c.write_over_runs_counted.new.classes)
-    (part_after c.args.runs.now c.args.runs.now c.args.self.now.first_run refl) c.write_over_runs_counted.ensures.written
+returns-then-waits-clause-held g c = grind (arith, part_after)
 
 -- the turns over the runs from the one where what waits begins
 paid : (runs : List (ℕ × ℕ)) (w : Walk) (to old new : ℕ) → are_ordered runs ≡ true → WaitsBelow runs w to → waits w.before ≡ true
@@ -40,5 +37,4 @@ returns-then-waits-clause-at_most g c =
     (part_after c.args.runs.now c.args.runs.now w.first_run refl) c.write_over_runs_counted.ensures.at_most)
 
 pub returns-else-waits-clause-at_most : goal.returns-else-waits-clause-at_most
-returns-else-waits-clause-at_most g c =
-    omega (arith, ap (count_below (map bounds c.args.runs.now)) (settled_to-idle c.args.self.now c.args.to (sym c.waits.ensures ∙ c.if-waits.false)))
+returns-else-waits-clause-at_most g c = grind arith
