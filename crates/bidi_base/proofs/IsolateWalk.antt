@@ -265,7 +265,7 @@ find_deciding classes p (x ∷ rest) e =
     let more : p + 1 ≡ suc p = omega arith in
     let within : p < length classes = omega (arith, length-drop p classes, ap length e) in
     let test : (is_strong (class_at classes p) && not (is_isolated classes p)) ≡ (is_strong x && is_zero (depth_after 0 (take p classes))) =
-        grind (arith, is_isolated-depth) in
+    grind (arith, is_isolated-depth) in
     elim (cases_Bool (is_strong x && is_zero (depth_after 0 (take p classes)))) [
       | inl here ↦ rw (test, here, at.is) refl
       | inr gone ↦

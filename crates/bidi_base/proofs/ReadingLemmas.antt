@@ -67,7 +67,7 @@ met_units-char len_of units chars front stored class q long within =
     let all : length (front ++ stored) ≡ length chars = omega (arith, length-append front stored) in
     let inside : k < length chars = omega arith in
     let read : class_at (per_unit len_of chars (front ++ stored)) (place len_of chars k) ≡ class_at stored q =
-        grind (arith, get_or-per_unit-place, get_or-append-add) in
+    grind (arith, get_or-per_unit-place, get_or-append-add) in
     let place_in : length front + q - length front ≡ q = omega arith in
     let changed : set (front ++ stored) k (resolved_fsi (Some class)) ≡ front ++ set stored q (resolved_fsi (Some class)) =
     grind (arith, set-append_right) in

@@ -68,7 +68,7 @@ resolved g c =
     let old = c.args.processing_classes.now in
     let now = c.resolve_up_to_n1.new.processing_classes in
     let up : IsUpToN1 units chars (g.D.BidiDataSource.source c.args.data_source.now) c.args.levels.now c.args.original_classes.now old now runs sos (lent_eos c.args.sequence) =
-        grind arith in
+    grind arith in
     let same_runs = ap (map bounds) c.runs-runs.ensures in
     IsResolved-settled units g.met.T.TextSource.has_units chars runs sos (lent_eos c.args.sequence) (g.D.BidiDataSource.source c.args.data_source.now) c.args.levels.now c.args.original_classes.now old r now c.settle_rest.new.classes up
     c.bidi_class-embedding.result
