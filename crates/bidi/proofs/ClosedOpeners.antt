@@ -1,7 +1,7 @@
 -- The opener that a character closes, by the openers that are open before it: it is the one whose match that character is (BD9, BD11).
 use Rattle.std.proofs.Common.{◌≡◌, ℕ, suc, ◌+◌, ◌-◌, ◌<◌, Bool, true, false, ◌||◌, cond, List, [], ◌∷◌, length, find, Option, Some, None, refl, sym, ap, subst, ◌∙◌, arith, inl, inr}
 use Rattle.std.specs.Prelude.{filter}
-use Rattle.std.proofs.lemmas.Bool.{cases_Bool, cond-true, cond-false, and_parts, and_from, false_from_ne_true}
+use Rattle.std.proofs.lemmas.Bool.{cases_Bool, and_parts, and_from, false_from_ne_true}
 use Rattle.bidi_base.specs.declared.char_data.BidiClass.{BidiClass}
 use Rattle.bidi_base.specs.Classes.{is_embedding, is_opener, is_pdf}
 use Rattle.bidi_base.specs.Places.{class_at}
@@ -13,7 +13,7 @@ use Rattle.bidi_base.proofs.IsolatesLemmas.{initiators_apart, matching_pdi-IsLea
 use Rattle.bidi_base.proofs.EmbeddingsLemmas.{is_level_with-each, is_level_with-same, is_level_with-refl}
 use Rattle.bidi_base.proofs.ReadStack.{read_closed, IsReadStack}
 use Rattle.bidi_base.proofs.OpenMatches.{IsReadStack-match, IsReadStack-matched}
-use Rattle.bidi_base.proofs.OpenersStack.{openers_read, closed_by, below_embedding, left_at, Leaves, leaves_at, IsPushed, openers_read-IsPushed, pdf_apart, initiators-IsReadStack, is_inside-parts, is_inside-sooner, same_inside, level-Leaves, level-IsReadStack}
+use Rattle.bidi_base.proofs.OpenersStack.{openers_read, closed_by, left_at, Leaves, leaves_at, IsPushed, openers_read-IsPushed, pdf_apart, initiators-IsReadStack, is_inside-parts, is_inside-sooner, same_inside, level-Leaves, level-IsReadStack}
 use Rattle.bidi.specs.Matches.{closer_of}
 
 -- the innermost opener, if that is an embedding or an override
@@ -30,23 +30,15 @@ closed_opener classes p stack =
 found_first : (test : ℕ → Bool) (xs : List ℕ) (x : ℕ) → find test xs ≡ Some x → (rest : List ℕ) × (filter test xs ≡ x ∷ rest)
 found_first test [] x e = absurd (cc e)
 found_first test (y ∷ ys) x e = elim (cases_Bool (test y)) [
-  | inl passes ↦
-      let here : Some y ≡ Some x = sym (cond-true (test y) (Some y) (find test ys) passes) ∙ e in
-      let same : y ≡ x = cc here in
-      (filter test ys, cond-true (test y) _ _ passes ∙ ap (λ z. z ∷ filter test ys) same)
-  | inr fails ↦
-      let later = found_first test ys x (sym (cond-false (test y) (Some y) (find test ys) fails) ∙ e) in
-      (later.0, cond-false (test y) _ _ fails ∙ later.1)
+  | inl passes ↦ let same : y ≡ x = cc (simp passes at e) in (filter test ys, simp passes (ap (λ z. z ∷ filter test ys) same))
+  | inr fails ↦ let later = found_first test ys x (simp fails at e) in (later.0, simp (fails, later.1))
 ]
 
 first_found : (test : ℕ → Bool) (xs : List ℕ) (x : ℕ) (rest : List ℕ) → filter test xs ≡ x ∷ rest → find test xs ≡ Some x
 first_found test [] x rest e = absurd (cc e)
 first_found test (y ∷ ys) x rest e = elim (cases_Bool (test y)) [
-  | inl passes ↦
-      let here : y ∷ filter test ys ≡ x ∷ rest = sym (cond-true (test y) (y ∷ filter test ys) (filter test ys) passes) ∙ e in
-      let same : y ≡ x = cc here in
-      cond-true (test y) _ _ passes ∙ ap Some same
-  | inr fails ↦ cond-false (test y) _ _ fails ∙ first_found test ys x rest (sym (cond-false (test y) (y ∷ filter test ys) (filter test ys) fails) ∙ e)
+  | inl passes ↦ let same : y ≡ x = cc (simp passes at e) in simp passes (ap Some same)
+  | inr fails ↦ simp (fails, first_found test ys x rest (simp fails at e))
 ]
 
 not_longer : (q : ℕ) (rest : List ℕ) → q ∷ rest ≡ rest → ⊥
@@ -68,13 +60,8 @@ module _ (classes : List BidiClass) where
   level_stack p q order fits same =
       let n : ℕ = p - 1 in
       let next : suc n ≡ p = omega arith in
-      subst (λ (k : ℕ). IsReadStack (is_embedding_level_with classes q) (is_pdf_level_with classes q) k (filter (is_embedding_level_with classes q) (openers_read classes k))) next
-      (level-IsReadStack classes q n (omega arith) lasts)
-    where
-      lasts : (r : ℕ) → is_inside classes r q ≡ true → is_inside classes r (p - 1) ≡ true
-      lasts r inside =
-          let early : r < q = (is_inside-parts classes r q inside).1 in
-          is_inside-sooner classes r (p - 1) p (sym (same r (omega arith)) ∙ inside) (omega arith) (omega arith)
+      simp next at (level-IsReadStack classes q n (omega arith) (λ r inside.
+      let early : r < q = (is_inside-parts classes r q inside).1 in is_inside-sooner classes r n p (sym (same r (omega arith)) ∙ inside) (omega arith) (omega arith)))
 
   -- ---- what p closes has p as its match
 
@@ -82,53 +69,37 @@ module _ (classes : List BidiClass) where
   unfolding matching_pdi
   closed_isolate p q fits pdi e =
       let first = found_first (is_initiator_at classes) (openers_read classes p) q e in
-      let h : IsReadStack (is_initiator_at classes) (is_pdi_at classes) p (q ∷ first.0) = subst (IsReadStack (is_initiator_at classes) (is_pdi_at classes) p) first.1 (initiators-IsReadStack classes p) in
+      let h = simp first.1 at (initiators-IsReadStack classes p) in
       let opens : is_initiator_at classes q ≡ true = h.are_open.0 in
       record {
         before = h.are_open.1.read;
         opener = ap (λ b. b || is_embedding (class_at classes q)) opens;
-        closes = cond-true (is_initiator_at classes q) _ _ opens ∙ IsReadStack-match (is_initiator_at classes) (is_pdi_at classes) (initiators_apart classes) (length classes) p q first.0 h pdi fits;
+        closes = simp (opens, IsReadStack-match (is_initiator_at classes) (is_pdi_at classes) (initiators_apart classes) (length classes) p q first.0 h pdi fits);
       }
 
   closed_embedding : (p q : ℕ) (below : List ℕ) → p < length classes → is_pdi_at classes p ≡ false → is_pdf (class_at classes p) ≡ true → openers_read classes p ≡ q ∷ below → is_initiator_at classes q ≡ false → IsCloser p q
   unfolding closed_by closing_pdf
   closed_embedding p q below fits pdi pdf top other =
       let pushed = subst (IsPushed classes p) top (openers_read-IsPushed classes p) in
-      let left_p : left_at classes p ≡ below =
-      cond-false (is_pdi_at classes p) _ _ pdi ∙ cond-true (is_pdf (class_at classes p)) _ _ pdf ∙ ap (below_embedding classes) top ∙ cond-false (is_initiator_at classes q) _ _ other in
-      let same : (r : ℕ) → is_inside classes r q ≡ is_inside classes r p = same_inside classes q p (omega (arith, pushed.0)) fits (sym pushed.2 ∙ sym left_p) in
+      let same : (r : ℕ) → is_inside classes r q ≡ is_inside classes r p = same_inside classes q p (omega (arith, pushed.0)) fits (simp (← pushed.2, pdi, pdf, top, other)) in
       let level : is_level_with classes q p ≡ true = is_level_with-same classes q p q (λ r. sym (same r)) ∙ is_level_with-refl classes q in
-      let embedding : is_embedding (class_at classes q) ≡ true = sym (ap (λ b. b || is_embedding (class_at classes q)) other) ∙ pushed.1 in
-      let itself : is_embedding_level_with classes q q ≡ true = and_from _ _ embedding (is_level_with-refl classes q) in
-      let stack : filter (is_embedding_level_with classes q) (openers_read classes p) ≡ q ∷ filter (is_embedding_level_with classes q) below =
-      ap (filter (is_embedding_level_with classes q)) top ∙ cond-true (is_embedding_level_with classes q q) _ _ itself in
-      let h = subst (IsReadStack (is_embedding_level_with classes q) (is_pdf_level_with classes q) p) stack (level_stack p q pushed.0 fits (λ r within. same r)) in
+      let itself : is_embedding_level_with classes q q ≡ true = and_from _ _ (simp other at pushed.1) (is_level_with-refl classes q) in
+      let stack : filter (is_embedding_level_with classes q) (openers_read classes p) ≡ q ∷ filter (is_embedding_level_with classes q) below = simp (top, itself) in
+      let h = simp stack at (level_stack p q pushed.0 fits (λ r within. same r)) in
       record {
         before = pushed.0;
         opener = pushed.1;
-        closes = cond-false (is_initiator_at classes q) _ _ other
-            ∙ IsReadStack-match (is_embedding_level_with classes q) (is_pdf_level_with classes q) (levels_apart q) (length classes) p q (filter (is_embedding_level_with classes q) below) h (and_from _ _ pdf level) fits;
+        closes = simp (other, IsReadStack-match (is_embedding_level_with classes q) (is_pdf_level_with classes q) (levels_apart q) (length classes) p q _ h (and_from _ _ pdf level) fits);
       }
+
+  closed_top : (p q : ℕ) (stack : List ℕ) → p < length classes → openers_read classes p ≡ stack → is_pdi_at classes p ≡ false → is_pdf (class_at classes p) ≡ true
+      → top_embedding classes stack ≡ Some q → IsCloser p q
+  closed_top p q [] fits top pdi pdf e = absurd (cc e)
+  closed_top p q (x ∷ below) fits top pdi pdf e = grind (arith, closed_embedding)
 
   pub closed_opener-IsCloser : (p q : ℕ) → p < length classes → closed_opener classes p (openers_read classes p) ≡ Some q → IsCloser p q
   unfolding closed_opener
-  closed_opener-IsCloser p q fits e = by_tests (is_pdi_at classes p) (is_pdf (class_at classes p)) refl refl e
-    where
-      by_top : (stack : List ℕ) → openers_read classes p ≡ stack → is_pdi_at classes p ≡ false → is_pdf (class_at classes p) ≡ true → top_embedding classes stack ≡ Some q → IsCloser p q
-      by_top [] top pdi pdf f = absurd (cc f)
-      by_top (x ∷ below) top pdi pdf f = elim (cases_Bool (is_initiator_at classes x)) [
-        | inl opens ↦ let none : None ≡ Some q = sym (cond-true (is_initiator_at classes x) None (Some x) opens) ∙ f in absurd (cc none)
-        | inr other ↦
-            let here : Some x ≡ Some q = sym (cond-false (is_initiator_at classes x) None (Some x) other) ∙ f in
-            let same : x ≡ q = cc here in
-            subst (IsCloser p) same (closed_embedding p x below fits pdi pdf top other)
-      ]
-
-      by_tests : (a b : Bool) → is_pdi_at classes p ≡ a → is_pdf (class_at classes p) ≡ b
-          → cond a (find (is_initiator_at classes) (openers_read classes p)) (cond b (top_embedding classes (openers_read classes p)) None) ≡ Some q → IsCloser p q
-      by_tests true b pdi pdf f = closed_isolate p q fits pdi f
-      by_tests false true pdi pdf f = by_top (openers_read classes p) refl pdi pdf f
-      by_tests false false pdi pdf f = absurd (cc f)
+  closed_opener-IsCloser p q fits e = grind (arith, closed_isolate p q fits, closed_top p q (openers_read classes p) fits refl)
 
   -- ---- and what has p as its match is what p closes
 
@@ -136,8 +107,7 @@ module _ (classes : List BidiClass) where
   unfolding closed_opener matching_pdi
   matched_isolate p q opens e =
       let on_top = IsReadStack-matched (is_initiator_at classes) (is_pdi_at classes) (initiators_apart classes) (length classes) p q _ (initiators-IsReadStack classes p) opens e in
-      cond-true (is_pdi_at classes p) _ _ (match_of-closes (is_initiator_at classes) (is_pdi_at classes) (length classes) q p e)
-      ∙ first_found (is_initiator_at classes) (openers_read classes p) q on_top.0 on_top.1
+      simp (match_of-closes (is_initiator_at classes) (is_pdi_at classes) (length classes) q p e, first_found (is_initiator_at classes) (openers_read classes p) q on_top.0 on_top.1)
 
   top_from : (p q : ℕ) (stack left rest : List ℕ) → is_pdf (class_at classes p) ≡ true → Leaves classes p stack left
       → filter (is_embedding_level_with classes q) stack ≡ q ∷ rest → filter (is_embedding_level_with classes q) left ≡ rest → top_embedding classes stack ≡ Some q
@@ -149,17 +119,13 @@ module _ (classes : List BidiClass) where
       let least : IsLeast _ (q + 1) (length classes) p = match_of-IsLeast (is_embedding_level_with classes q) (is_pdf_level_with classes q) (length classes) q p e in
       let level_pdf : is_pdf_level_with classes q p ≡ true = match_of-closes (is_embedding_level_with classes q) (is_pdf_level_with classes q) (length classes) q p e in
       let parts = and_parts (is_pdf (class_at classes p)) (is_level_with classes q p) level_pdf in
-      let order : q < p = omega (arith, least.from) in
       let same : (r : ℕ) → r < length classes → is_inside classes r q ≡ is_inside classes r p = is_level_with-each classes q p parts.1 in
       let itself : is_embedding_level_with classes q q ≡ true = and_from _ _ embedding (is_level_with-refl classes q) in
-      let on_top = IsReadStack-matched (is_embedding_level_with classes q) (is_pdf_level_with classes q) (levels_apart q) (length classes) p q _ (level_stack p q order least.below same) itself e in
-      let left : filter (is_embedding_level_with classes q) (left_at classes p) ≡ on_top.0 =
-      level-Leaves classes q p (openers_read classes p) (left_at classes p) least.below (openers_read-IsPushed classes p) refl
-      (λ r early inside. sym (same r (omega (arith, least.below))) ∙ inside) (leaves_at classes p)
-      ∙ ap (λ b. read_closed b (filter (is_embedding_level_with classes q) (openers_read classes p))) level_pdf ∙ ap (read_closed true) on_top.1 in
-      cond-false (is_pdi_at classes p) _ _ (false_from_ne_true (is_pdi_at classes p) (λ pdi. absurd (pdf_apart _ parts.0 pdi)))
-      ∙ cond-true (is_pdf (class_at classes p)) _ _ parts.0
-      ∙ top_from p q (openers_read classes p) (left_at classes p) on_top.0 parts.0 (leaves_at classes p) on_top.1 left
+      let on_top = IsReadStack-matched (is_embedding_level_with classes q) (is_pdf_level_with classes q) (levels_apart q) (length classes) p q _ (level_stack p q (omega (arith, least.from)) least.below same) itself e in
+      let left = level-Leaves classes q p (openers_read classes p) (left_at classes p) least.below (openers_read-IsPushed classes p) refl
+      (λ r early inside. sym (same r (omega (arith, least.below))) ∙ inside) (leaves_at classes p) in
+      let other : is_pdi_at classes p ≡ false = false_from_ne_true (is_pdi_at classes p) (λ pdi. absurd (pdf_apart _ parts.0 pdi)) in
+      simp (other, parts.0) (top_from p q (openers_read classes p) (left_at classes p) on_top.0 parts.0 (leaves_at classes p) on_top.1 (left ∙ rw level_pdf (ap (read_closed true) on_top.1)))
 
   pub IsCloser-closed_opener : (p q : ℕ) → is_opener (class_at classes q) ≡ true → closer_of classes q ≡ Some p → closed_opener classes p (openers_read classes p) ≡ Some q
   IsCloser-closed_opener p q opener e = grind (arith, matched_isolate, matched_embedding)
@@ -168,9 +134,6 @@ module _ (classes : List BidiClass) where
   pub closer_of-within : (q m : ℕ) → closer_of classes q ≡ Some m → (q < m) × (m < length classes)
   unfolding closing_pdf
   closer_of-within q m e = elim (cases_Bool (is_initiator_at classes q)) [
-    | inl opens ↦
-        let least = matching_pdi-IsLeast classes q m (sym (cond-true (is_initiator_at classes q) _ _ opens) ∙ e) in (omega (arith, least.from), least.below)
-    | inr other ↦
-        let least = match_of-IsLeast (is_embedding_level_with classes q) (is_pdf_level_with classes q) (length classes) q m (sym (cond-false (is_initiator_at classes q) _ _ other) ∙ e) in
-        (omega (arith, least.from), least.below)
+    | inl opens ↦ let least = matching_pdi-IsLeast classes q m (simp opens at e) in (omega (arith, least.from), least.below)
+    | inr other ↦ let least = match_of-IsLeast (is_embedding_level_with classes q) (is_pdf_level_with classes q) _ q m (simp other at e) in (omega (arith, least.from), least.below)
   ]

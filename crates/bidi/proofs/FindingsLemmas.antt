@@ -1,5 +1,5 @@
 -- The findings of a line, one character more.
-use Rattle.std.proofs.Common.{◌≡◌, ℕ, suc, ◌+◌, ◌<◌, Bool, false, List, [], ◌∷◌, ◌++◌, Option, Some, None, length, get_or, take, map, refl, ap, ◌∙◌, arith, append_assoc}
+use Rattle.std.proofs.Common.{◌≡◌, ℕ, ◌+◌, ◌<◌, Bool, false, List, [], ◌∷◌, ◌++◌, Option, Some, None, length, get_or, take, map, refl, arith, append_assoc}
 use Rattle.std.proofs.lemmas.Grind.{common_steps}
 use Rattle.std.specs.Prelude.{filter_map}
 use Rattle.std.specs.List.{range_with_len, cons_option}
@@ -7,7 +7,7 @@ use Rattle.std.specs.Option.{option_to_list}
 use Rattle.std.proofs.lemmas.List.{get_or-map, get_or_default}
 use Rattle.std.proofs.lemmas.List.FromFn.{get_or-map-range_with_len}
 use Rattle.std.proofs.lemmas.List.Elements.{filter_map-append}
-use Rattle.bidi_base.proofs.PlacesLemmas.{range_with_len-more}
+use Rattle.bidi.proofs.PagesLemmas.{next_index}
 use Rattle.bidi_base.specs.declared.char_data.BidiClass.{BidiClass}
 use Rattle.bidi_base.specs.Places.{indexes}
 use Rattle.bidi.specs.Findings.{finding_of, finding_at, finding_line, report_of}
@@ -15,12 +15,7 @@ use Rattle.bidi.specs.Matches.{is_unmatched}
 use Rattle.bidi.specs.declared.finding.Finding.{Finding}
 
 filter_map-range : {Y : Type 0} (f : ℕ → Option Y) (p : ℕ) → filter_map f (range_with_len 0 (p + 1)) ≡ filter_map f (range_with_len 0 p) ++ option_to_list (f p)
-filter_map-range f p =
-    let one : p + 1 ≡ suc p = omega arith in
-    let place : 0 + p ≡ p = omega arith in
-    ap (λ (n : ℕ). filter_map f (range_with_len 0 n)) one ∙ ap (filter_map f) (range_with_len-more 0 p)
-    ∙ filter_map-append f (range_with_len 0 p) ((0 + p) ∷ []) ∙ ap (λ (n : ℕ). filter_map f (range_with_len 0 p) ++ filter_map f (n ∷ [])) place
-    ∙ ap (λ found. filter_map f (range_with_len 0 p) ++ found) (one_found (f p))
+filter_map-range f p = simp (next_index p, filter_map-append f (range_with_len 0 p) (p ∷ []), one_found (f p))
   where
     one_found : {Y : Type 0} (o : Option Y) → cons_option o [] ≡ option_to_list o
     one_found None = refl

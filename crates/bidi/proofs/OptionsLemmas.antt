@@ -1,10 +1,8 @@
 -- What options before others ask for, where words are texts.
-use Rattle.std.proofs.Common.{◌≡◌, ℕ, ◌-◌, ◌≤◌, Bool, true, false, List, [], ◌∷◌, Some, length, get_or, map, drop, string_bytes, sym, ap, subst, ◌∙◌, arith}
+use Rattle.std.proofs.Common.{◌≡◌, ℕ, ◌-◌, ◌≤◌, Bool, true, false, List, [], ◌∷◌, Some, length, get_or, map, drop, string_bytes, arith}
 use Rattle.std.specs.Prelude.{codes, slice_range}
-use Rattle.std.specs.Option.{option_and_then}
 use Rattle.std.specs.Str.{bytes_eq}
 use Rattle.std.specs.declared.string.String.{String}
-use Rattle.std.proofs.lemmas.Bool.{cond-true, cond-false}
 use Rattle.std.proofs.lemmas.List.{take_all, length-drop}
 use Rattle.bidi_terminal.specs.Bases.{base_named}
 use Rattle.bidi_terminal.specs.Numbers.{number_of}
@@ -27,11 +25,9 @@ module _ {Z : Type 0} where
       → show_of (record view { plain = true }) (map string_bytes (slice_range words 1 (length words))) ≡ show_of view (map string_bytes words)
   show_of-plain view [] first some is named = absurd (omega arith)
   show_of-plain view (w ∷ []) first some is named =
-      ap (λ ws. show_of (record view { plain = true }) (map string_bytes ws)) (rest-all 1 (w ∷ []))
-      ∙ sym (cond-true (is_named w (codes "--plain")) _ _ (subst (λ s. is_named s (codes "--plain") ≡ true) is named))
+      simp (simp is at named)
   show_of-plain view (w ∷ v ∷ words) first some is named =
-      ap (λ ws. show_of (record view { plain = true }) (map string_bytes ws)) (rest-all 1 (w ∷ v ∷ words))
-      ∙ sym (cond-true (is_named w (codes "--plain")) _ _ (subst (λ s. is_named s (codes "--plain") ≡ true) is named))
+      simp (rest-all 1 (w ∷ v ∷ words), simp is at named)
 
   pub show_of-base : (view : View) (words : List (String Z)) (first again second : String Z) (base : Base) → 2 ≤ length words → first ≡ get_or words 0 first → again ≡ get_or words 0 again
       → second ≡ get_or words 1 second → is_named first (codes "--plain") ≡ false → is_named again (codes "--base") ≡ true → base_named (string_bytes second) ≡ Some base
@@ -39,10 +35,7 @@ module _ {Z : Type 0} where
   show_of-base view [] first again second base some is is' next other named level = absurd (omega arith)
   show_of-base view (w ∷ []) first again second base some is is' next other named level = absurd (omega arith)
   show_of-base view (w ∷ v ∷ words) first again second base some is is' next other named level =
-      ap (λ ws. show_of (record view { base = base }) (map string_bytes ws)) (rest-all 2 (w ∷ v ∷ words))
-      ∙ sym (cond-false (is_named w (codes "--plain")) _ _ (subst (λ s. is_named s (codes "--plain") ≡ false) is other)
-      ∙ cond-true (is_named w (codes "--base")) _ _ (subst (λ s. is_named s (codes "--base") ≡ true) is' named)
-      ∙ ap (option_and_then (λ b. show_of (record view { base = b }) (map string_bytes words))) (subst (λ s. base_named (string_bytes s) ≡ Some base) next level))
+      simp (rest-all 2 (w ∷ v ∷ words), simp is at other, simp is' at named, simp next at level)
 
   pub show_of-width : (view : View) (words : List (String Z)) (first again third second : String Z) (width : ℕ) → 2 ≤ length words → first ≡ get_or words 0 first → again ≡ get_or words 0 again → third ≡ get_or words 0 third
       → second ≡ get_or words 1 second → is_named first (codes "--plain") ≡ false → is_named again (codes "--base") ≡ false → is_named third (codes "--width") ≡ true → number_of (string_bytes second) ≡ Some width
@@ -50,21 +43,15 @@ module _ {Z : Type 0} where
   show_of-width view [] first again third second width some is is' is'' next other another named number = absurd (omega arith)
   show_of-width view (w ∷ []) first again third second width some is is' is'' next other another named number = absurd (omega arith)
   show_of-width view (w ∷ v ∷ words) first again third second width some is is' is'' next other another named number =
-      ap (λ ws. show_of (record view { width = Some width }) (map string_bytes ws)) (rest-all 2 (w ∷ v ∷ words))
-      ∙ sym (cond-false (is_named w (codes "--plain")) _ _ (subst (λ s. is_named s (codes "--plain") ≡ false) is other)
-      ∙ cond-false (is_named w (codes "--base")) _ _ (subst (λ s. is_named s (codes "--base") ≡ false) is' another)
-      ∙ cond-true (is_named w (codes "--width")) _ _ (subst (λ s. is_named s (codes "--width") ≡ true) is'' named)
-      ∙ ap (option_and_then (λ n. show_of (record view { width = Some n }) (map string_bytes words))) (subst (λ s. number_of (string_bytes s) ≡ Some width) next number))
+      simp (rest-all 2 (w ∷ v ∷ words), simp is at other, simp is' at another, simp is'' at named, simp next at number)
 
   pub explain_of-html : (view : StageView) (words : List (String Z)) (first : String Z) → 1 ≤ length words → first ≡ get_or words 0 first → is_named first (codes "--html") ≡ true
       → explain_of (record view { form = Page }) (map string_bytes (slice_range words 1 (length words))) ≡ explain_of view (map string_bytes words)
   explain_of-html view [] first some is named = absurd (omega arith)
   explain_of-html view (w ∷ []) first some is named =
-      ap (λ ws. explain_of (record view { form = Page }) (map string_bytes ws)) (rest-all 1 (w ∷ []))
-      ∙ sym (cond-true (is_named w (codes "--html")) _ _ (subst (λ s. is_named s (codes "--html") ≡ true) is named))
+      simp (simp is at named)
   explain_of-html view (w ∷ v ∷ words) first some is named =
-      ap (λ ws. explain_of (record view { form = Page }) (map string_bytes ws)) (rest-all 1 (w ∷ v ∷ words))
-      ∙ sym (cond-true (is_named w (codes "--html")) _ _ (subst (λ s. is_named s (codes "--html") ≡ true) is named))
+      simp (rest-all 1 (w ∷ v ∷ words), simp is at named)
 
   pub explain_of-base : (view : StageView) (words : List (String Z)) (first again second : String Z) (base : Base) → 2 ≤ length words → first ≡ get_or words 0 first → again ≡ get_or words 0 again
       → second ≡ get_or words 1 second → is_named first (codes "--html") ≡ false → is_named again (codes "--base") ≡ true → base_named (string_bytes second) ≡ Some base
@@ -72,7 +59,4 @@ module _ {Z : Type 0} where
   explain_of-base view [] first again second base some is is' next other named level = absurd (omega arith)
   explain_of-base view (w ∷ []) first again second base some is is' next other named level = absurd (omega arith)
   explain_of-base view (w ∷ v ∷ words) first again second base some is is' next other named level =
-      ap (λ ws. explain_of (record view { base = base }) (map string_bytes ws)) (rest-all 2 (w ∷ v ∷ words))
-      ∙ sym (cond-false (is_named w (codes "--html")) _ _ (subst (λ s. is_named s (codes "--html") ≡ false) is other)
-      ∙ cond-true (is_named w (codes "--base")) _ _ (subst (λ s. is_named s (codes "--base") ≡ true) is' named)
-      ∙ ap (option_and_then (λ b. explain_of (record view { base = b }) (map string_bytes words))) (subst (λ s. base_named (string_bytes s) ≡ Some base) next level))
+      simp (rest-all 2 (w ∷ v ∷ words), simp is at other, simp is' at named, simp next at level)

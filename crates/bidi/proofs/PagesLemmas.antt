@@ -1,5 +1,5 @@
 -- What stands for a character between tags neither begins nor ends one.
-use Rattle.std.proofs.Common.{◌≡◌, ◌∙◌, ℕ, ◌+◌, ◌≤◌, true, false, List, [], ◌∷◌, ◌++◌, append_assoc, ap, arith}
+use Rattle.std.proofs.Common.{◌≡◌, ◌∙◌, ℕ, ◌+◌, ◌≤◌, true, false, [], ◌∷◌, ◌++◌, ap, arith}
 use Rattle.std.specs.Prelude.{◌==◌}
 use Rattle.std.proofs.Math.Utf8.{encode}
 use Rattle.std.specs.List.{list_all, range_with_len}
@@ -10,10 +10,6 @@ use Rattle.bidi.specs.Pages.{escaped, is_text_byte}
 -- one more index
 pub next_index : (i : ℕ) → range_with_len 0 (i + 1) ≡ range_with_len 0 i ++ i ∷ []
 next_index i = range_with_len-append 0 i 1 ∙ ap (λ (n : ℕ). range_with_len 0 i ++ n ∷ []) (omega arith)
-
--- what is appended behind something appended
-pub and_then : (x b c : List ℕ) {y z : List ℕ} → y ≡ x ++ b → z ≡ y ++ c → z ≡ x ++ (b ++ c)
-and_then x b c first second = second ∙ ap (λ (l : List ℕ). l ++ c) first ∙ append_assoc x b c
 
 high : (b : ℕ) → 128 ≤ b → is_text_byte b ≡ true
 high b h = grind arith

@@ -1,17 +1,18 @@
 -- The lines of a paragraph, read in a text of UTF-8 whose classes and levels are known, are those of its characters.
-use Rattle.std.proofs.Common.{◌≡◌, ℕ, suc, ◌+◌, ◌<◌, ◌≤◌, Bool, true, false, not, ◌&&◌, List, [], ◌∷◌, ◌++◌, Option, Some, None, length, get_or, map, flat_map, refl, sym, ap, ap₂, ◌∙◌, arith, append_assoc, append-nil, length-append}
+use Rattle.std.proofs.Common.{◌≡◌, ℕ, suc, ◌+◌, ◌<◌, ◌≤◌, Bool, true, false, not, ◌&&◌, List, [], ◌∷◌, ◌++◌, Option, Some, None, length, get_or, map, flat_map, refl, sym, ap, ◌∙◌, arith, append_assoc, append-nil, length-append, zero-add, inl, inr}
 use Rattle.std.proofs.lemmas.Grind.{common_steps}
 use Rattle.std.specs.Prelude.{codes}
-use Rattle.std.specs.List.{list_all, onto_first, prefix_len}
+use Rattle.std.specs.List.{list_all, prefix_len}
 use Rattle.std.specs.Char.{len_utf8}
-use Rattle.std.proofs.lemmas.Bool.{cond-false, and_parts}
+use Rattle.std.specs.declared.ops.Range.{Range}
+use Rattle.std.proofs.lemmas.Bool.{cases_Bool, and_parts}
 use Rattle.std.proofs.lemmas.List.{length-map}
 use Rattle.std.proofs.lemmas.List.Sums.{sum_by-append}
 use Rattle.bidi_base.specs.declared.char_data.BidiClass.{BidiClass}
 use Rattle.bidi_base.specs.declared.char_data.BidiClass.TheVariants.{L}
 use Rattle.bidi_base.specs.Analysed.{AnalysedText, IsAnalysis}
 use Rattle.bidi_base.specs.Classes.{is_paragraph_separator}
-use Rattle.bidi_base.specs.Display.{visual_runs}
+use Rattle.bidi_base.specs.Display.{visual_runs, run_of}
 use Rattle.bidi_base.specs.Isolates.{paragraph_level, stored_classes}
 use Rattle.bidi_base.specs.Layout.{lines_of}
 use Rattle.bidi_base.specs.Line.{line_levels, line_levels_after}
@@ -29,6 +30,7 @@ use Rattle.bidi_base.proofs.StoredSteps.{length-stored_classes}
 use Rattle.bidi_base.proofs.StrLemmas.{has_units}
 use Rattle.bidi_base.proofs.TextLemmas.{char_index-append, subrange-middle}
 use Rattle.bidi_terminal.specs.Bases.{level_of_base}
+use Rattle.bidi.proofs.ShownLemmas.{flat_map-map}
 use Rattle.bidi_terminal.specs.Columns.{columns}
 use Rattle.bidi.specs.Shown.{own_chars, shown_line, shown_levels, shown_ranges, shown_range, shown_paragraph, line_ranges_of, shown_in}
 use Rattle.bidi.specs.declared.view.View.{View}
@@ -43,24 +45,21 @@ has_none source chars = list_all (λ c. not (is_paragraph_separator (source.clas
 
 pub own_chars-none : (source : Source) (chars : List ℕ) → has_none source (own_chars source chars) ≡ true
 own_chars-none source [] = refl
-own_chars-none source (c ∷ chars) = by_test (not (is_paragraph_separator (source.class_of c))) refl (own_chars-none source chars)
-  where
-    by_test : (b : Bool) → not (is_paragraph_separator (source.class_of c)) ≡ b → has_none source (own_chars source chars) ≡ true → has_none source (own_chars source (c ∷ chars)) ≡ true
-    by_test true e rest =
-        let next : 1 + prefix_len (λ x. not (is_paragraph_separator (source.class_of x))) chars ≡ suc (prefix_len (λ x. not (is_paragraph_separator (source.class_of x))) chars) = omega arith in
-        rw (e, next) (rw e rest)
-    by_test false e rest = rw e
+own_chars-none source (c ∷ chars) = elim (cases_Bool (not (is_paragraph_separator (source.class_of c)))) [
+  | inl own ↦
+      let next : 1 + prefix_len (λ x. not (is_paragraph_separator (source.class_of x))) chars ≡ suc (prefix_len (λ x. not (is_paragraph_separator (source.class_of x))) chars) = omega arith in
+      simp (own, next, own_chars-none source chars)
+  | inr ends ↦ simp ends
+]
 
 first_test : (a b : Bool) → (not a && b) ≡ true → a ≡ false
 first_test a b e = grind arith
 
 -- so it is one piece
 pub one_piece : (source : Source) (c : ℕ) (chars : List ℕ) → has_none source (c ∷ chars) ≡ true → paragraphs_of (each_separator source) (c ∷ chars) ≡ (c ∷ chars) ∷ []
-one_piece source c [] none = cond-false (is_paragraph_separator (source.class_of c)) _ _ (first_test (is_paragraph_separator (source.class_of c)) true none)
+one_piece source c [] none = simp (first_test (is_paragraph_separator (source.class_of c)) true none)
 one_piece source c (d ∷ chars) none =
-    let rest : has_none source (d ∷ chars) ≡ true = (and_parts (not (is_paragraph_separator (source.class_of c))) (has_none source (d ∷ chars)) none).1 in
-    cond-false (is_paragraph_separator (source.class_of c)) _ _ (first_test (is_paragraph_separator (source.class_of c)) (has_none source (d ∷ chars)) none)
-    ∙ ap (onto_first c) (one_piece source d chars rest)
+    simp (first_test (is_paragraph_separator (source.class_of c)) _ none, one_piece source d chars (and_parts _ (has_none source (d ∷ chars)) none).1)
 
 -- ---- its lines
 
@@ -77,11 +76,10 @@ module _ (source : Source) (view : View) (own : List ℕ) (classes : List BidiCl
 
   char_classes : per_char L len_utf8 own classes ≡ stored_classes (map source.class_of own)
   char_classes =
-      ap (per_char L len_utf8 own) is_classes
-      ∙ per_char-per_unit len_utf8 has_units L own (stored_classes (map source.class_of own)) (length-stored_classes (map source.class_of own) ∙ length-map own source.class_of)
+      simp is_classes (per_char-per_unit len_utf8 has_units L own (stored_classes (map source.class_of own)) (length-stored_classes (map source.class_of own) ∙ length-map own source.class_of))
 
   char_levels : per_char 0 len_utf8 own levels ≡ stored_levels source base own
-  char_levels = ap (per_char 0 len_utf8 own) is_levels ∙ per_char-per_unit len_utf8 has_units 0 own (stored_levels source base own) (length-stored_levels source base own)
+  char_levels = simp is_levels (per_char-per_unit len_utf8 has_units 0 own (stored_levels source base own) (length-stored_levels source base own))
 
   one_line : (start end i j : ℕ) → char_index len_utf8 own start ≡ i → char_index len_utf8 own end ≡ j → shown_in source view.plain text level (start, end) ≡ shown_range source view own (i, j)
   unfolding shown_levels
@@ -96,35 +94,26 @@ module _ (source : Source) (view : View) (own : List ℕ) (classes : List BidiCl
       let many : length (front ++ piece) ≡ length front + text_len one_unit piece = omega (arith, length-append front piece, text_len-one_unit piece) in
       let first : char_index len_utf8 own (text_len len_utf8 front) ≡ length front = ap (λ cs. char_index len_utf8 cs (text_len len_utf8 front)) whole ∙ char_index-append len_utf8 has_units front (piece ++ joined pieces) in
       let last : char_index len_utf8 own (text_len len_utf8 front + text_len len_utf8 piece) ≡ length front + text_len one_unit piece =
-      ap (char_index len_utf8 own) (sym sum) ∙ ap (λ cs. char_index len_utf8 cs (text_len len_utf8 (front ++ piece))) next ∙ char_index-append len_utf8 has_units (front ++ piece) (joined pieces) ∙ many in
-      ap₂ (λ (xs ys : List ℕ). xs ++ ys) (one_line (text_len len_utf8 front) (text_len len_utf8 front + text_len len_utf8 piece) (length front) (length front + text_len one_unit piece) first last)
-      (ap (λ (n : ℕ). flat_map (shown_in source view.plain text level) (ranges_from len_utf8 n pieces)) (sym sum)
-      ∙ lines_from (front ++ piece) pieces next
-      ∙ ap (λ (n : ℕ). flat_map (shown_range source view own) (ranges_from one_unit n pieces)) many)
+      simp (← sum, next, char_index-append len_utf8 has_units (front ++ piece) (joined pieces), many) in
+      simp (one_line (text_len len_utf8 front) (text_len len_utf8 front + text_len len_utf8 piece) (length front) (length front + text_len one_unit piece) first last, ← sum, ← many, lines_from (front ++ piece) pieces next)
 
   pub lines-shown : (start end : ℕ) → 0 < length own → start ≡ 0 → end ≡ text_len len_utf8 own
       → flat_map (shown_in source view.plain text level) (line_ranges_of view.width text (record { start = start; end = end })) ≡ shown_paragraph source view own
   unfolding shown_paragraph
   lines-shown start end some first last =
-      ap₂ (λ (s e : ℕ). flat_map (shown_in source view.plain text level) (line_ranges_of view.width text (record { start = s; end = e }))) first last
-      ∙ by_width view.width refl own refl some
+      simp (first, last) (by_width view.width refl own refl some)
     where
       by_width : (width : Option ℕ) → view.width ≡ width → (cs : List ℕ) → own ≡ cs → 0 < length cs
           → flat_map (shown_in source view.plain text level) (line_ranges_of width text (record { start = 0; end = text_len len_utf8 own })) ≡ flat_map (shown_range source view own) (shown_ranges width cs)
       by_width None w cs e some =
-          let long : 0 + text_len one_unit own ≡ length cs = omega (arith, text_len-one_unit own, ap length e) in
-          let units : text_len len_utf8 own ≡ 0 + text_len len_utf8 own = omega arith in
-          ap (λ (n : ℕ). flat_map (shown_in source view.plain text level) ((0, n) ∷ [])) units
-          ∙ lines_from [] (own ∷ []) (sym (append-nil own))
-          ∙ ap (λ (n : ℕ). flat_map (shown_range source view own) ((0, n) ∷ [])) long
+          let all : flat_map (shown_in source view.plain text level) ((0, 0 + text_len len_utf8 own) ∷ []) ≡ flat_map (shown_range source view own) ((0, 0 + text_len one_unit own) ∷ []) =
+          lines_from [] (own ∷ []) (sym (append-nil own)) in
+          simp (← e) (simp (zero-add, text_len-one_unit own) at all)
       by_width (Some width) w [] e some = absurd (omega arith)
       by_width (Some width) w (c ∷ cs) e some =
-          let all : subrange len_utf8 own 0 (text_len len_utf8 own) ≡ own =
-          let units : text_len len_utf8 own ≡ 0 + text_len len_utf8 own = omega arith in
-          ap₂ (λ (l : List ℕ) (n : ℕ). subrange len_utf8 l 0 n) (sym (append-nil own)) units ∙ subrange-middle len_utf8 has_units [] own [] in
-          ap (λ l. flat_map (shown_in source view.plain text level) (ranges_from len_utf8 0 (lines_of columns width l))) all
-          ∙ lines_from [] (lines_of columns width own) (sym (lines_of-joined columns width own))
-          ∙ ap (λ l. flat_map (shown_range source view own) (ranges_from one_unit 0 (lines_of columns width l))) e
+          let all : subrange len_utf8 own 0 (text_len len_utf8 own) ≡ own = simp (zero-add, append-nil own) at (subrange-middle len_utf8 has_units [] own []) in
+          simp (all, lines_from [] (lines_of columns width own) (sym (lines_of-joined columns width own)))
+          (ap (λ l. flat_map (shown_range source view own) (ranges_from one_unit 0 (lines_of columns width l))) e)
 
 -- an empty paragraph is an empty line
 empty-line : (source : Source) (view : View) → shown_range source view [] (0, 0) ≡ codes "\n"
@@ -137,22 +126,19 @@ nothing-shown source view own e = grind (arith, empty-line)
 
 -- ---- what is known of the paragraphs of a text without separators
 
+pieces-one : (source : Source) (own : List ℕ) → has_none source own ≡ true → 0 < length own → paragraphs_of (each_separator source) own ≡ own ∷ []
+pieces-one source [] none some = absurd (omega arith)
+pieces-one source (c ∷ cs) none some = one_piece source c cs none
+
 module _ (source : Source) (base : Option ℕ) (own : List ℕ) (none : has_none source own ≡ true) (classes : List BidiClass) (levels : List ℕ) (ps : List ParagraphInfo)
     (h : IsAnalysis source base true (record { len_of = len_utf8; chars = own; classes = classes; levels = levels }) (ranges_of ps) (levels_of ps)) where
-  pieces-one : 0 < length own → paragraphs_of (each_separator source) own ≡ own ∷ []
-  pieces-one some = by_chars own refl none some
-    where
-      by_chars : (cs : List ℕ) → own ≡ cs → has_none source cs ≡ true → 0 < length cs → paragraphs_of (each_separator source) own ≡ own ∷ []
-      by_chars [] e none some = absurd (omega arith)
-      by_chars (c ∷ cs) e none some = ap (paragraphs_of (each_separator source)) e ∙ one_piece source c cs none ∙ ap (λ l. l ∷ []) (sym e)
-
   pub own-classes : 0 < length own → classes ≡ per_unit len_utf8 own (stored_classes (map source.class_of own))
   unfolding text_classes
-  own-classes some = grind (arith, pieces-one, append-nil)
+  own-classes some = grind (arith, pieces-one source own none, append-nil)
 
   pub own-levels : 0 < length own → levels ≡ per_unit len_utf8 own (stored_levels source base own)
   unfolding text_levels
-  own-levels some = grind (arith, pieces-one, append-nil)
+  own-levels some = grind (arith, pieces-one source own none, append-nil)
 
   -- the first of them
   pub record IsWhole (p : ParagraphInfo) : Type 0 where
@@ -163,8 +149,21 @@ module _ (source : Source) (base : Option ℕ) (own : List ℕ) (none : has_none
 
   pub whole : (p : ParagraphInfo) → 1 ≤ length ps → p ≡ get_or ps 0 p → IsWhole p
   unfolding paragraph_levels
-  whole p is_some is = grind (arith, common_steps, pieces-one)
+  whole p is_some is = grind (arith, common_steps, pieces-one source own none)
 
   -- where there is none the text is empty
   pub nothing : length ps ≡ 0 → own ≡ []
-  nothing few = grind (arith, common_steps, pieces-one)
+  nothing few = grind (arith, common_steps, pieces-one source own none)
+
+-- ---- all of its lines, in a text of these characters
+
+pub whole-shown : (source : Source) (view : View) (chars own : List ℕ) (classes : List BidiClass) (levels : List ℕ) (ps : List ParagraphInfo) (p : ParagraphInfo) (lines : List (Range ℕ))
+    → chars ≡ own → has_none source own ≡ true
+    → IsAnalysis source (level_of_base view.base) true (record { len_of = len_utf8; chars = own; classes = classes; levels = levels }) (ranges_of ps) (levels_of ps) → 1 ≤ length ps → p ≡ get_or ps 0 p
+    → map run_of lines ≡ line_ranges_of view.width (record { len_of = len_utf8; chars = chars; classes = classes; levels = levels }) (range_of p)
+    → flat_map (λ (r : Range ℕ). shown_in source view.plain (record { len_of = len_utf8; chars = chars; classes = classes; levels = levels }) (level_of p) (run_of r)) lines ≡ shown_paragraph source view own
+whole-shown source view chars own classes levels ps p lines is_own none h some first lines_are =
+    let w = whole source (level_of_base view.base) own none classes levels ps h p some first in
+    flat_map-map (shown_in source view.plain (record { len_of = len_utf8; chars = chars; classes = classes; levels = levels }) (level_of p)) run_of lines
+    ∙ simp (lines_are, is_own, w.own_level)
+    (lines-shown source view own classes levels (own-classes source _ own none classes levels ps h w.some) (own-levels source _ own none classes levels ps h w.some) _ _ w.some w.first w.last)

@@ -1,9 +1,9 @@
 -- The isolating run sequences of a paragraph can be resolved.
-use Rattle.std.proofs.Common.{◌≡◌, ℕ, ◌<◌, ◌≤◌, true, List, length, get_or, Option, sym, subst, ◌∙◌, arith}
+use Rattle.std.proofs.Common.{◌≡◌, ℕ, ◌<◌, ◌≤◌, List, length, get_or, Option, sym, ◌∙◌, arith}
 use Rattle.bidi_base.specs.declared.char_data.BidiClass.{BidiClass}
 use Rattle.bidi_base.specs.declared.char_data.BidiClass.TheVariants.{L}
 use Rattle.bidi_base.specs.declared.data_source.BidiMatchedOpeningBracket.{BidiMatchedOpeningBracket}
-use Rattle.bidi_base.specs.Classes.{is_kept, is_l_or_r}
+use Rattle.bidi_base.specs.Classes.{is_kept}
 use Rattle.bidi_base.specs.Explicit.{explicit_levels, explicit_classes}
 use Rattle.bidi_base.specs.Isolates.{stored_classes}
 use Rattle.bidi_base.specs.Sequences.{RunSequence, sequences, sequence_from, start_class, end_class}
@@ -15,17 +15,10 @@ use Rattle.bidi_base.proofs.StoredLemmas.{is_kept_at-stored_classes, explicit_cl
 use Rattle.bidi_base.proofs.StoredSteps.{length-stored_classes}
 use Rattle.bidi.specs.Stages.{CanResolve}
 
-sequence_from-sos : (paragraph : ℕ) (classes : List BidiClass) (levels : List ℕ) (first : ℕ) → is_l_or_r (sequence_from paragraph classes levels first).sos ≡ true
-unfolding sequence_from start_class
-sequence_from-sos paragraph classes levels first = direction_of-l_or_r _
-
-sequence_from-eos : (paragraph : ℕ) (classes : List BidiClass) (levels : List ℕ) (first : ℕ) → is_l_or_r (sequence_from paragraph classes levels first).eos ≡ true
-unfolding sequence_from end_class
-sequence_from-eos paragraph classes levels first = direction_of-l_or_r _
-
 pub can_resolve : (paragraph : ℕ) (source : List BidiClass) (brackets : List (Option BidiMatchedOpeningBracket)) (k : ℕ) (d : RunSequence) → paragraph ≤ 125 → length brackets ≡ length source
     → k < length (sequences paragraph (stored_classes source) (explicit_levels paragraph (stored_classes source)))
     → CanResolve source brackets (explicit_classes paragraph (stored_classes source)) (explicit_levels paragraph (stored_classes source)) (get_or (sequences paragraph (stored_classes source) (explicit_levels paragraph (stored_classes source))) k d)
+unfolding sequence_from start_class end_class
 can_resolve paragraph source brackets k d fits bracketed within =
     let stored : List BidiClass = stored_classes source in
     let levels : List ℕ = explicit_levels paragraph stored in
@@ -33,21 +26,17 @@ can_resolve paragraph source brackets k d fits bracketed within =
     let s : RunSequence = get_or (sequences paragraph stored levels) k d in
     let many : length classes ≡ length source = length-explicit_classes paragraph stored ∙ length-stored_classes source in
     let begun = sequence-begun paragraph stored levels k d within in
+    let own = sequence-kept paragraph stored levels k d within in
     record {
       sources = sym many;
       bracketed = bracketed ∙ sym many;
       leveled = length-explicit_levels paragraph stored ∙ sym (length-explicit_classes paragraph stored);
       some = sequence-not_empty paragraph stored levels k d within;
-      within = λ i e inside. omega (arith, (sequence-kept paragraph stored levels k d within (get_or s.places i e) (times_in-at s.places i e inside)).1, length-explicit_classes paragraph stored);
-      sos = subst (λ (t : RunSequence). is_l_or_r t.sos ≡ true) (sym begun.1) (sequence_from-sos paragraph stored levels begun.0);
-      eos = subst (λ (t : RunSequence). is_l_or_r t.eos ≡ true) (sym begun.1) (sequence_from-eos paragraph stored levels begun.0);
-      kept = list_all-at_places is_kept L classes s.places
-          (λ p there.
-          let own = sequence-kept paragraph stored levels k d within p there in
-          explicit_classes-kept paragraph stored p own.1 own.0);
+      within = λ i e inside. omega (arith, (own (get_or s.places i e) (times_in-at s.places i e inside)).1, length-explicit_classes paragraph stored);
+      sos = rw begun.1 (direction_of-l_or_r _);
+      eos = rw begun.1 (direction_of-l_or_r _);
+      kept = list_all-at_places is_kept L classes s.places (λ p there. explicit_classes-kept paragraph stored p (own p there).1 (own p there).0);
       source_kept = list_all-at_places is_kept L source s.places
-          (λ p there.
-          let own = sequence-kept paragraph stored levels k d within p there in
-          sym (is_kept_at-stored_classes source p (omega (arith, own.1, length-stored_classes source))) ∙ own.0);
+          (λ p there. sym (is_kept_at-stored_classes source p (omega (arith, (own p there).1, length-stored_classes source))) ∙ (own p there).0);
       level = (sequence-level paragraph stored k d fits within).below;
     }

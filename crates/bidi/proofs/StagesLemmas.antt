@@ -1,5 +1,5 @@
 -- The rows that sequences write.
-use Rattle.std.proofs.Common.{◌≡◌, ℕ, ◌+◌, ◌-◌, ◌<◌, true, List, [], ◌∷◌, ◌++◌, Option, Some, length, get_or, map, zip, take, flat_map, refl, sym, ap, ◌∙◌, arith}
+use Rattle.std.proofs.Common.{◌≡◌, ℕ, ◌+◌, ◌<◌, true, List, [], ◌∷◌, ◌++◌, Option, Some, length, get_or, map, zip, take, flat_map, refl, ◌∙◌, arith}
 use Rattle.std.proofs.lemmas.Grind.{common_steps}
 use Rattle.std.specs.Prelude.{slice_set, All}
 use Rattle.std.specs.List.{list_all}
@@ -54,8 +54,7 @@ module _ (source : Source) (chars : List ℕ) (paragraph : ℕ) (stored : List �
   -- it has a level in line for each character
   pub line_levels-long : length s.line_levels.items ≡ length chars
   line_levels-long =
-      let many : length (stored_classes (map source.class_of chars)) ≡ length chars = length-stored_classes (map source.class_of chars) ∙ length-map chars source.class_of in
-      ap length from.line_levels ∙ length-line paragraph (stored_classes (map source.class_of chars)) stored 0 (length chars) (long ∙ sym many) (omega arith) (omega arith) ∙ (let all : length chars - 0 ≡ length chars = omega arith in all)
+      simp (from.line_levels, length-line paragraph (stored_classes (map source.class_of chars)) stored 0 (length chars) (simp (long, length-stored_classes, length-map)) (omega arith) (omega arith)) (omega arith)
 
   pub order-within : All (λ p. p < length chars) s.order.items
   order-within = grind (arith, line_levels-long, order-below)

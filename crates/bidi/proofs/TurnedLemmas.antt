@@ -1,5 +1,5 @@
 -- A run of an odd level, read from its last character back.
-use Rattle.std.proofs.Common.{◌≡◌, ℕ, suc, ◌-◌, ◌<◌, ◌≤◌, Bool, true, false, List, ◌∷◌, ◌++◌, length, get_or, take, drop, reverse, sym, ap₂, ◌∙◌, arith, drop-cons}
+use Rattle.std.proofs.Common.{◌≡◌, ℕ, suc, ◌-◌, ◌<◌, ◌≤◌, Bool, true, false, List, ◌∷◌, ◌++◌, length, get_or, take, reverse, arith, drop-cons}
 use Rattle.std.proofs.lemmas.Grind.{common_steps}
 use Rattle.std.specs.Prelude.{slice_range}
 use Rattle.bidi.specs.Shown.{with_marks}
@@ -15,7 +15,7 @@ module _ (is_mark : ℕ → Bool) (chars : List ℕ) (start end x : ℕ) (some :
       let n : ℕ = start - 1 in
       let many : end - n ≡ suc (end - start) = omega arith in
       let next : suc n ≡ start = omega arith in
-      sym (ap₂ (λ (k : ℕ) (l : List ℕ). take k l) many (drop-cons chars n x (omega arith)) ∙ ap₂ (λ (c : ℕ) (k : ℕ). c ∷ take (end - start) (drop k chars)) (sym here) next)
+      simp (many, drop-cons chars n x (omega arith), next, ← here)
 
   pub turned_step-mark : is_mark x ≡ true
       → with_marks is_mark (slice_range chars start end) (reverse (take start chars)) ≡ with_marks is_mark (slice_range chars (start - 1) end) (reverse (take (start - 1) chars))

@@ -1,15 +1,14 @@
 -- The walk along a line: what is open, and which of the characters read so far are controls without a match.
-use Rattle.std.proofs.Common.{◌≡◌, ℕ, zero, suc, ◌+◌, ◌<◌, ◌≤◌, Bool, true, false, ◌||◌, ◌&&◌, cond, leb, List, [], ◌∷◌, ◌++◌, length, get_or, map, find, Option, Some, None, refl, sym, ap, subst, ◌∙◌, arith, ◌-◌, inl, inr, eq-eqb, length-append}
+use Rattle.std.proofs.Common.{◌≡◌, ℕ, zero, suc, ◌+◌, ◌<◌, ◌≤◌, Bool, true, false, ◌||◌, ◌&&◌, cond, leb, List, [], ◌∷◌, ◌++◌, length, get_or, map, find, Option, Some, None, refl, sym, ap, subst, ◌∙◌, arith, ◌-◌, inl, inr, eq-eqb, length-append, add-one}
 use Rattle.std.specs.Prelude.{is_some, is_none}
 use Rattle.std.specs.List.{list_any, range_with_len}
-use Rattle.std.proofs.lemmas.Bool.{cases_Bool, cases_eq, and_left, le-leb, leb-true, or_right, and_parts, and_from, cases_lt, false_from_ne_true}
+use Rattle.std.proofs.lemmas.Bool.{cases_Bool, cases_eq, or_right, and_from, cases_lt, false_from_ne_true}
 use Rattle.std.proofs.lemmas.List.{length-set, get_or-set_same, get_or-set_other, get_or_append_left, get_or_push}
 use Rattle.std.proofs.lemmas.List.FromFn.{fill_by_all}
 use Rattle.bidi_base.specs.declared.char_data.BidiClass.{BidiClass}
 use Rattle.bidi_base.specs.Classes.{is_opener}
 use Rattle.bidi_base.specs.Places.{class_at, between, holds_number}
 use Rattle.bidi_base.specs.Isolates.{is_initiator_at}
-use Rattle.bidi_base.proofs.EmbeddingsLemmas.{same_if}
 use Rattle.bidi_base.proofs.OpenersStack.{openers_read, closed_by, opened_by, left_at, below_isolate}
 use Rattle.bidi.specs.declared.openers.Opener.{Opener}
 use Rattle.bidi.specs.OpenOpeners.{innermost_isolate, outside_isolate, closed_place, left_open, then_open, with_closed}
@@ -33,13 +32,10 @@ innermost_isolate-at classes (q ∷ stack) = ap (λ rest. cond (is_initiator_at 
 left_by_pdi : (classes : List BidiClass) (whole stack : List ℕ)
     → cond (is_some (innermost_isolate (openers_at classes stack))) (outside_isolate (openers_at classes stack)) (openers_at classes whole) ≡ openers_at classes (below_isolate classes whole stack)
 left_by_pdi classes whole [] = refl
-left_by_pdi classes whole (q ∷ stack) = by_test (is_initiator_at classes q) (left_by_pdi classes whole stack)
-  where
-    by_test : (b : Bool) → cond (is_some (innermost_isolate (openers_at classes stack))) (outside_isolate (openers_at classes stack)) (openers_at classes whole) ≡ openers_at classes (below_isolate classes whole stack)
-        → cond (is_some (cond b (Some q) (innermost_isolate (openers_at classes stack)))) (cond b (openers_at classes stack) (outside_isolate (openers_at classes stack))) (openers_at classes whole)
-        ≡ openers_at classes (cond b stack (below_isolate classes whole stack))
-    by_test true later = refl
-    by_test false later = later
+left_by_pdi classes whole (q ∷ stack) = elim (cases_Bool (is_initiator_at classes q)) [
+  | inl isolate ↦ simp isolate
+  | inr other ↦ simp (other, left_by_pdi classes whole stack)
+]
 
 module _ (classes : List BidiClass) (p : ℕ) (stack : List ℕ) where
   closed_place-at : closed_place (class_at classes p) (openers_at classes stack) ≡ closed_opener classes p stack
@@ -68,8 +64,7 @@ unmatched_by classes p k = (is_opener (class_at classes k) && is_from p (closer_
 any_range-none : (test : ℕ → Bool) (low n : ℕ) → ((k : ℕ) → low ≤ k → k < low + n → test k ≡ false) → list_any test (range_with_len low n) ≡ false
 any_range-none test low zero none = refl
 any_range-none test low (suc n) none =
-    ap (λ b. b || list_any test (range_with_len (low + 1) n)) (none low (omega arith) (omega arith))
-    ∙ any_range-none test (low + 1) n (λ k from below. none k (omega arith) (omega arith))
+    simp (none low (omega arith) (omega arith), any_range-none test (low + 1) n (λ k from below. none k (omega arith) (omega arith)))
 
 any_range-some : (test : ℕ → Bool) (low n k : ℕ) → low ≤ k → k < low + n → test k ≡ true → list_any test (range_with_len low n) ≡ true
 any_range-some test low zero k from below e = absurd (omega arith)
@@ -89,29 +84,16 @@ module _ (classes : List BidiClass) where
   -- another character reads on past an opener that it does not close
   unmatched_by-other : (p k : ℕ) → (closed p ≡ Some k → ⊥) → unmatched_by classes (p + 1) k ≡ unmatched_by classes p k
   unmatched_by-other p k apart = elim (cases_Bool (is_opener (class_at classes k))) [
-    | inl opener ↦ ap (λ b. (is_opener (class_at classes k) && b) || closes_nothing classes k) (by_match opener (closer_of classes k) refl)
-    | inr other ↦ ap (λ b. b || closes_nothing classes k) (and_left _ _ other ∙ sym (and_left _ _ other))
+    | inl opener ↦ let same : is_from (p + 1) (closer_of classes k) ≡ is_from p (closer_of classes k) = grind (arith, IsCloser-closed_opener) in simp same
+    | inr other ↦ simp other
   ]
-    where
-      by_match : is_opener (class_at classes k) ≡ true → (o : Option ℕ) → closer_of classes k ≡ o → is_from (p + 1) o ≡ is_from p o
-      by_match opener None e = refl
-      by_match opener (Some m) e = elim (cases_eq m p) [
-        | inl here ↦ absurd (apart (IsCloser-closed_opener classes p k opener (e ∙ ap Some here)))
-        | inr other ↦ same_if (leb (p + 1) m) (leb p m) (λ f. le-leb p m (omega (arith, leb-true (p + 1) m f))) (λ f. le-leb (p + 1) m (omega (arith, leb-true p m f)))
-      ]
 
   -- whether it closes something itself
   closes_some : (p : ℕ) → p < length classes → list_any (is_closed_by classes p) (between 0 p) ≡ is_some (closed p)
   closes_some p fits = by_closed (closed p) refl
     where
-      open_still : (q : ℕ) → closed p ≡ None → is_closed_by classes p q ≡ true → ⊥
-      open_still q e f =
-          let parts = and_parts (is_opener (class_at classes q)) (holds_number (closer_of classes q) p) f in
-          let none : None ≡ Some q = sym e ∙ IsCloser-closed_opener classes p q parts.0 (holds_number-true (closer_of classes q) p parts.1) in
-          cc none
-
       by_closed : (o : Option ℕ) → closed p ≡ o → list_any (is_closed_by classes p) (between 0 p) ≡ is_some o
-      by_closed None e = any_range-none (is_closed_by classes p) 0 (p - 0) (λ q from below. false_from_ne_true (is_closed_by classes p q) (λ f. open_still q e f))
+      by_closed None e = any_range-none (is_closed_by classes p) 0 (p - 0) (λ q from below. false_from_ne_true (is_closed_by classes p q) (λ f. grind (arith, IsCloser-closed_opener, holds_number-true)))
       by_closed (Some q) e =
           let h = closed_opener-IsCloser classes p q fits e in
           any_range-some (is_closed_by classes p) 0 (p - 0) q (omega arith) (omega (arith, h.before))
@@ -162,24 +144,16 @@ module _ (classes : List BidiClass) where
       → next ≡ with_closed o unmatched ++ (is_none o && is_control c) ∷ [] → IsReadSoFar (p + 1) now next
   unfolding openers_read
   IsReadSoFar-more p c openers left now o unmatched next fits is h e left_is now_is next_is = record {
-    are_open =
-        let closed_now : left ≡ openers_at classes (left_at classes p) =
-        left_is ∙ ap (λ x. left_open x openers) (sym is) ∙ ap (left_open (class_at classes p)) h.are_open ∙ left_open-at classes p (openers_read classes p) in
-        let one : suc p ≡ p + 1 = omega arith in
-        now_is ∙ ap (λ x. then_open p x left) (sym is) ∙ ap (then_open p (class_at classes p)) closed_now ∙ then_open-at classes p (left_at classes p)
-        ∙ ap (λ (n : ℕ). openers_at classes (openers_read classes n)) one;
-    long = ap length next_is ∙ length-append (with_closed o unmatched) ((is_none o && is_control c) ∷ []) ∙ ap (λ n. n + 1) (length-with_closed o unmatched ∙ h.long);
-    each = λ k before. ap (λ (l : List Bool). get_or l k false) next_is ∙ elim (cases_lt k p) [
+    are_open = simp (now_is, left_is, ← is, h.are_open, left_open-at classes p (openers_read classes p), then_open-at classes p (left_at classes p), add-one p);
+    long = simp (next_is, length-append, length-with_closed o unmatched, h.long);
+    each = λ k before. rw next_is (elim (cases_lt k p) [
       | inl early ↦
-          get_or_append_left (with_closed o unmatched) ((is_none o && is_control c) ∷ []) false k (omega (arith, length-with_closed o unmatched, h.long))
+          get_or_append_left (with_closed o unmatched) _ false k (omega (arith, length-with_closed o unmatched, h.long))
           ∙ with_closed-each p k unmatched o fits h.long early (sym closes) (h.each k early)
       | inr late ↦
           let here : k ≡ p = omega arith in
-          let place : k ≡ length (with_closed o unmatched) = omega (arith, length-with_closed o unmatched, h.long) in
-          get_or_push (with_closed o unmatched) (is_none o && is_control c) false k (sym place)
-          ∙ ap (λ x. is_none x && is_control c) closes ∙ ap (λ x. is_none (closed p) && is_control x) (sym is)
-          ∙ sym (unmatched_by-last p fits) ∙ ap (unmatched_by classes (p + 1)) (sym here)
-    ];
+          get_or_push (with_closed o unmatched) _ false k (omega (arith, length-with_closed o unmatched, h.long)) ∙ simp (here, closes, ← is, unmatched_by-last p fits)
+    ]);
   }
     where
       closes : o ≡ closed p

@@ -1,24 +1,21 @@
 -- Sequences and level runs read levels at kept characters alone.
-use Rattle.std.proofs.Common.{◌≡◌, ℕ, zero, suc, ◌<◌, true, List, [], ◌∷◌, length, map, Option, Some, refl, sym, ap, subst, ◌∙◌, arith, inl, inr}
+use Rattle.std.proofs.Common.{◌≡◌, ℕ, zero, suc, ◌<◌, true, List, [], ◌∷◌, length, map, Some, refl, ap, ◌∙◌, arith, inl, inr}
 use Rattle.std.specs.Prelude.{filter}
 use Rattle.std.proofs.lemmas.List.Elements.{filter_agree}
 use Rattle.bidi_base.specs.declared.char_data.BidiClass.{BidiClass}
 use Rattle.bidi_base.specs.Places.{class_at, chain, last_or}
 use Rattle.bidi_base.specs.Isolates.{matching_pdi}
-use Rattle.bidi_base.specs.Sequences.{RunSequence, is_kept_at, kept_places, next_kept, kept_before, level_at, have_one_level, resumed_at, successor, is_first, start_class, end_class, sequence_from, sequences, HasExplicitLevels}
+use Rattle.bidi_base.specs.Sequences.{is_kept_at, kept_places, next_kept, kept_before, level_at, resumed_at, successor, is_first, start_class, end_class, sequence_from, sequences, HasExplicitLevels}
 use Rattle.bidi_base.specs.Explicit.{explicit_levels}
 use Rattle.std.proofs.lemmas.List.FromFn.{get_or-map-range_with_len}
 use Rattle.bidi_base.proofs.ChainLemmas.{chain-None, IsMaximal-chain}
-use Rattle.bidi_base.proofs.SuccessorLemmas.{next_kept-IsLeast, kept_before-IsGreatest, IsLaterKept, successor-IsLaterKept, is_kept-pdi}
+use Rattle.bidi_base.proofs.SuccessorLemmas.{next_kept-IsLeast, kept_before-IsGreatest, successor-IsLaterKept, is_kept-pdi}
 use Rattle.bidi_base.proofs.IsolatesLemmas.{matching_pdi-IsLeast, matching_pdi-is_pdi}
 use Rattle.bidi_base.proofs.SequencesLemmas.{IsLinked-successor, places_from, is_first-none, is_first-from_none, AllFirst}
 use Rattle.bidi_base.proofs.PassLemmas.{AreSuccessors, AllFirst-filter}
 use Rattle.bidi_base.proofs.Lists.{cases_Option}
 
 module _ (classes : List BidiClass) (levels other : List ℕ) (agree : (p : ℕ) → is_kept_at classes p ≡ true → p < length classes → level_at levels p ≡ level_at other p) where
-  one_level : (o : Option ℕ) (p : ℕ) → ((q : ℕ) → o ≡ Some q → level_at levels q ≡ level_at other q) → level_at levels p ≡ level_at other p → have_one_level levels o p ≡ have_one_level other o p
-  one_level o p there here = grind arith
-
   next_level : (p q : ℕ) → next_kept classes p ≡ Some q → level_at levels q ≡ level_at other q
   next_level p q e = grind (arith, next_kept-IsLeast)
 
@@ -29,9 +26,7 @@ module _ (classes : List BidiClass) (levels other : List ℕ) (agree : (p : ℕ)
   unfolding resumed_at
   resumed_at-agree p = elim (cases_Option (matching_pdi classes p)) [
     | inl e ↦ rw e refl
-    | inr q ↦
-        let least = matching_pdi-IsLeast classes p q.0 q.1 in
-        rw (q.1, one_level (kept_before classes q.0) q.0 (λ r f. before_level q.0 r least.below f) (agree q.0 (is_kept-pdi (class_at classes q.0) (matching_pdi-is_pdi classes p q.0 q.1)) least.below)) refl
+    | inr q ↦ grind (arith, q.1, matching_pdi-IsLeast classes p q.0 q.1, matching_pdi-is_pdi classes p q.0 q.1, is_kept-pdi (class_at classes q.0), before_level q.0, agree q.0)
   ]
 
   pub successor-agree : (p : ℕ) → is_kept_at classes p ≡ true → p < length classes → successor classes levels p ≡ successor classes other p
@@ -43,14 +38,7 @@ module _ (classes : List BidiClass) (levels other : List ℕ) (agree : (p : ℕ)
 
   chain-agree : (k p : ℕ) → is_kept_at classes p ≡ true → p < length classes → chain (successor classes levels) k (Some p) ≡ chain (successor classes other) k (Some p)
   chain-agree zero p kept within = refl
-  chain-agree (suc k) p kept within =
-      rw (← successor-agree p kept within) (elim (cases_Option (successor classes levels p)) [
-        | inl e ↦ rw (e, chain-None (successor classes levels) k, chain-None (successor classes other) k) refl
-        | inr q ↦ (
-            let h : IsLaterKept classes p q.0 = successor-IsLaterKept classes levels p q.0 q.1 in
-            rw (q.1, chain-agree k q.0 h.kept h.within) refl
-            )
-      ])
+  chain-agree (suc k) p kept within = grind (arith, successor-agree p, successor-IsLaterKept classes levels p, chain-agree k, chain-None)
 
   start_class-agree : (paragraph p : ℕ) → is_kept_at classes p ≡ true → p < length classes → start_class paragraph classes levels p ≡ start_class paragraph classes other p
   unfolding start_class
@@ -62,14 +50,10 @@ module _ (classes : List BidiClass) (levels other : List ℕ) (agree : (p : ℕ)
 
   last_along : (p : ℕ) (ps : List ℕ) → is_kept_at classes p ≡ true → p < length classes → AreSuccessors classes levels (p ∷ ps) → (is_kept_at classes (last_or p ps) ≡ true) × (last_or p ps < length classes)
   last_along p [] kept within follows = (kept, within)
-  last_along p (q ∷ ps) kept within follows =
-      let h : IsLaterKept classes p q = successor-IsLaterKept classes levels p q follows.0 in
-      last_along q ps h.kept h.within follows.1
+  last_along p (q ∷ ps) kept within follows = grind (arith, successor-IsLaterKept classes levels p q, last_along q ps)
 
   last_kept : (p : ℕ) → is_kept_at classes p ≡ true → p < length classes → (is_kept_at classes (last_or p (places_from classes levels p)) ≡ true) × (last_or p (places_from classes levels p) < length classes)
-  last_kept p kept within =
-      let m = IsMaximal-chain (length classes) (is_kept_at classes) (successor classes levels) (IsLinked-successor classes levels) p kept within in
-      subst (λ (xs : List ℕ). (is_kept_at classes (last_or p xs) ≡ true) × (last_or p xs < length classes)) (sym m.1.is) (last_along p m.0 kept within m.1.follows)
+  last_kept p kept within = grind (arith, IsMaximal-chain (length classes) (is_kept_at classes) (successor classes levels) (IsLinked-successor classes levels) p, last_along p)
 
   sequence_from-agree : (paragraph p : ℕ) → is_kept_at classes p ≡ true → p < length classes → sequence_from paragraph classes levels p ≡ sequence_from paragraph classes other p
   unfolding sequence_from
@@ -83,9 +67,7 @@ module _ (classes : List BidiClass) (levels other : List ℕ) (agree : (p : ℕ)
     where
       all_agree : (ps : List ℕ) → AllFirst classes other ps → map (sequence_from paragraph classes levels) ps ≡ map (sequence_from paragraph classes other) ps
       all_agree [] h = refl
-      all_agree (p ∷ ps) h =
-          ap (λ (s : RunSequence). s ∷ map (sequence_from paragraph classes levels) ps) (sequence_from-agree paragraph p h.0 h.1)
-          ∙ ap {B = List RunSequence} (λ seqs. sequence_from paragraph classes other p ∷ seqs) (all_agree ps h.3)
+      all_agree (p ∷ ps) h = grind (arith, sequence_from-agree paragraph p, all_agree ps)
 
 -- with the explicit levels at kept characters, the sequences are those of all explicit levels
 pub sequences-explicit_levels : (paragraph : ℕ) (classes : List BidiClass) (levels : List ℕ) → HasExplicitLevels paragraph classes levels → sequences paragraph classes levels ≡ sequences paragraph classes (explicit_levels paragraph classes)

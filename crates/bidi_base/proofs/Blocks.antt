@@ -1,5 +1,5 @@
 -- A block of classes that pass a test: what is seen over it, and how a pass that rewrites block by block goes on.
-use Rattle.std.proofs.Common.{◌≡◌, ℕ, zero, suc, ◌+◌, ◌-◌, ◌<◌, ◌≤◌, Bool, true, false, List, [], ◌∷◌, ◌++◌, length, get_or, take, drop, replicate, reverse, refl, sym, ap, subst, ◌∙◌, arith, inl, inr, length-take, length-drop, length-append, drop-drop, get_or-take, get_or-drop}
+use Rattle.std.proofs.Common.{◌≡◌, ℕ, zero, suc, ◌+◌, ◌-◌, ◌<◌, ◌≤◌, Bool, true, false, List, [], ◌∷◌, ◌++◌, length, get_or, take, drop, replicate, reverse, sym, ap, ◌∙◌, arith, inl, inr, length-take, length-drop, length-append, drop-drop, get_or-take, get_or-drop}
 use Rattle.std.proofs.lemmas.Grind.{common_steps}
 use Rattle.std.proofs.lemmas.Bool.{cases_lt}
 use Rattle.std.proofs.lemmas.List.{length-replicate, get_or-replicate, drop_more, drop_all, take_rest, ext_get_or, length-take-le, get_or-append_right}
@@ -24,8 +24,7 @@ IsBlock-prefix_len test xs i n fits is = grind (arith, length-drop, prefix_len-l
 
 -- the same from what a pass counts, behind i nothing being written yet
 pub IsBlock-counted : (test : BidiClass → Bool) (old now : List BidiClass) (i n : ℕ) → i ≤ length old → drop i now ≡ drop i old → n ≡ prefix_len test (take (length now - i) (drop i now)) → IsBlock test old i n
-IsBlock-counted test old now i n fits rest is =
-    IsBlock-prefix_len test old i n fits (is ∙ ap (prefix_len test) (take_rest now i ∙ rest))
+IsBlock-counted test old now i n fits rest is = grind (arith, IsBlock-prefix_len test old i n fits, take_rest now i)
 
 -- the length of the part that is filled
 pub length-part : (now : List BidiClass) (i n : ℕ) → i + n ≤ length now → length (take (i + n - i) (drop i now)) ≡ n
@@ -36,21 +35,11 @@ module _ {V : Type 0} (test : BidiClass → Bool) (look : List BidiClass → V) 
   pub look-drop : (i n : ℕ) → i + n ≤ length xs → ((k : ℕ) → k < n → test (get_or xs (i + k) L) ≡ true) → look (drop i xs) ≡ look (drop (i + n) xs)
   look-drop i zero room inside = ap (λ (j : ℕ). look (drop j xs)) (let same : i ≡ i + 0 = omega arith in same)
   look-drop i (suc n) room inside =
-      let first : test (get_or xs i L) ≡ true = subst (λ (j : ℕ). test (get_or xs j L) ≡ true) (omega arith) (inside 0 (omega arith)) in
-      let place : i + 1 + n ≡ i + suc n = omega arith in
-      ap look (drop_more xs i L (omega arith))
-      ∙ passes (get_or xs i L) (drop (i + 1) xs) first
-      ∙ look-drop (i + 1) n (omega arith) (λ k below. subst (λ (j : ℕ). test (get_or xs j L) ≡ true) (omega arith) (inside (suc k) (omega arith)))
-      ∙ ap (λ (j : ℕ). look (drop j xs)) place
+      grind (arith, drop_more xs i L, passes (get_or xs i L) (drop (i + 1) xs), inside 0, look-drop (i + 1) n (omega arith) (λ k below. grind (arith, inside (suc k))))
 
   pub look-take : (i n : ℕ) → i + n ≤ length xs → ((k : ℕ) → k < n → test (get_or xs (i + k) L) ≡ true) → look (reverse (take (i + n) xs)) ≡ look (reverse (take i xs))
   look-take i zero room inside = ap (λ (j : ℕ). look (reverse (take j xs))) (let same : i + 0 ≡ i = omega arith in same)
-  look-take i (suc n) room inside =
-      let place : i + suc n ≡ i + n + 1 = omega arith in
-      ap (λ (j : ℕ). look (reverse (take j xs))) place
-      ∙ ap look (reverse-take_more xs (i + n) L (omega arith))
-      ∙ passes (get_or xs (i + n) L) (reverse (take (i + n) xs)) (inside n (omega arith))
-      ∙ look-take i n (omega arith) (λ k below. inside k (omega arith))
+  look-take i (suc n) room inside = grind (arith, reverse-take_more xs (i + n) L, look-take i n)
 
 drop_later : (xs ys : List BidiClass) (i n : ℕ) → drop i xs ≡ drop i ys → drop (i + n) xs ≡ drop (i + n) ys
 drop_later xs ys i n e = sym (drop-drop n i xs) ∙ ap (drop n) e ∙ drop-drop n i ys
@@ -77,8 +66,7 @@ module _ (rule : List BidiClass → BidiClass → List BidiClass → BidiClass) 
     where
       at : (k : ℕ) → k < i + n → get_or now1 k L ≡ get_or (in_context rule [] old) k L
       at k below = elim (cases_lt k i) [
-        | inl before ↦
-            sym (get_or-take i now1 k L before) ∙ ap (λ (xs : List BidiClass). get_or xs k L) (front ∙ h.front) ∙ get_or-take i (in_context rule [] old) k L before
+        | inl before ↦ grind (arith, get_or-take i now1 k L before, front, h.front, get_or-take i (in_context rule [] old) k L before)
         | inr after ↦
             let place : i + (k - i) ≡ k = omega arith in
             ap (λ (j : ℕ). get_or now1 j L) (sym place) ∙ inside (k - i) (omega arith) ∙ ap (answer old) place ∙ sym (answer_is old k (omega arith))
@@ -106,22 +94,14 @@ module _ (rule : List BidiClass → BidiClass → List BidiClass → BidiClass) 
       (rest ∙ drop_later now old i n h.rest)
       long1
       (λ k below.
-      sym (get_or-take (i + n) now1 (i + k) L (omega arith)) ∙ ap (λ (xs : List BidiClass). get_or xs (i + k) L) front
-      ∙ get_or-append_right (take i now) ys i (i + k) L size (omega arith)
-      ∙ ap (λ (j : ℕ). get_or ys j L) (let place : i + k - i ≡ k = omega arith in place)
-      ∙ get_or-replicate n k y L below ∙ sym (answers k below))
+      let place : i + k - i ≡ k = omega arith in
+      cc (get_or-take (i + n) now1 (i + k) L (omega arith), front, get_or-append_right (take i now) ys i (i + k) L size (omega arith), place, get_or-replicate n k y L below, answers k below))
 
   -- a block that stays
   pub IsRewritten-unchanged : (old now : List BidiClass) (i n : ℕ) → IsRewritten rule old now i → i + n ≤ length old → ((k : ℕ) → k < n → answer old (i + k) ≡ get_or old (i + k) L)
       → IsRewritten rule old now (i + n)
-  IsRewritten-unchanged old now i n h room answers =
-      IsRewritten-block old now now i n h room refl (drop_later now old i n h.rest) h.long
-      (λ k below. read_later now old i k h.rest ∙ sym (answers k below))
+  IsRewritten-unchanged old now i n h room answers = grind (arith, IsRewritten-block, drop_later, read_later)
 
   -- past the end nothing is left to do
   pub IsRewritten-past : (old now : List BidiClass) (i j : ℕ) → length old ≤ i → i ≤ j → IsRewritten rule old now i → IsRewritten rule old now j
-  IsRewritten-past old now i j past later h = record {
-    front = ap (take j) (IsRewritten-end rule old now i past h);
-    rest = drop_all j now (omega (arith, h.long)) ∙ sym (drop_all j old (omega arith));
-    long = h.long;
-  }
+  IsRewritten-past old now i j past later h = grind (arith, IsRewritten-end, drop_all)

@@ -1,7 +1,7 @@
 -- Brackets pair alike where their indexes are other numbers that rise with them, as places do.
-use Rattle.std.proofs.Common.{◌≡◌, ℕ, zero, suc, ◌+◌, ◌-◌, ◌<◌, ◌≤◌, Bool, ltb, eqb, List, [], ◌∷◌, ◌++◌, map, length, get_or, slice_get, take, set, filter, Option, Some, None, refl, sym, ap, subst, ◌∙◌, arith, inl, inr}
+use Rattle.std.proofs.Common.{◌≡◌, ℕ, zero, suc, ◌+◌, ◌-◌, ◌<◌, ◌≤◌, Bool, ltb, eqb, List, [], ◌∷◌, ◌++◌, map, length, get_or, slice_get, take, set, filter, Option, Some, None, refl, sym, ap, ◌∙◌, arith, inl, inr}
 use Rattle.std.specs.Prelude.{replicate}
-use Rattle.std.proofs.lemmas.Bool.{cases_Bool, cases_lt, cond-true, cond-false}
+use Rattle.std.proofs.lemmas.Bool.{cases_Bool, cases_lt}
 use Rattle.std.proofs.lemmas.List.{length-map, map-set, map_push, get_or-map, get_or_default}
 use Rattle.std.proofs.lemmas.List.Elements.{All-nil}
 use Rattle.std.proofs.lemmas.Option.{slice_get-get_or}
@@ -37,8 +37,7 @@ spread-is low [] h = refl
 spread-is low (b ∷ bs) h =
     let upto = h.0 in
     let there : low + (b.index - low) ≡ b.index = omega arith in
-    let one : Option BidiMatchedOpeningBracket = Some (record { opening = b.opening; is_open = b.is_open }) in
-    past_none (b.index - low) low (one ∷ spread (b.index + 1) bs) ∙ ap (λ k. brackets_from k (one ∷ spread (b.index + 1) bs)) there ∙ ap (λ (xs : List Bracket). b ∷ xs) (spread-is (b.index + 1) bs h.1)
+    simp (past_none (b.index - low) low, there, spread-is (b.index + 1) bs h.1)
 
 counted_all : (xs : List (Option BidiMatchedOpeningBracket)) → counted_brackets (map (λ _. ON) xs) xs ≡ xs
 counted_all [] = refl
@@ -59,16 +58,7 @@ module _ (f : ℕ → ℕ) (rises : (i j : ℕ) → i < j → f i < f j) where
 
   filter_both : (slots : List (ℕ × ℕ)) → filter is_pair (map both slots) ≡ map both (filter is_pair slots)
   filter_both [] = refl
-  filter_both (p ∷ slots) = elim (cases_Bool (is_pair p)) [
-    | inl yes' ↦
-        cond-true (is_pair (both p)) (both p ∷ filter is_pair (map both slots)) (filter is_pair (map both slots)) (same_order p.0 p.1 ∙ yes')
-        ∙ ap (λ (ps : List (ℕ × ℕ)). both p ∷ ps) (filter_both slots)
-        ∙ ap (map both) (sym (cond-true (is_pair p) (p ∷ filter is_pair slots) (filter is_pair slots) yes'))
-    | inr no' ↦
-        cond-false (is_pair (both p)) (both p ∷ filter is_pair (map both slots)) (filter is_pair (map both slots)) (same_order p.0 p.1 ∙ no')
-        ∙ filter_both slots
-        ∙ ap (map both) (sym (cond-false (is_pair p) (p ∷ filter is_pair slots) (filter is_pair slots) no'))
-  ]
+  filter_both (p ∷ slots) = grind (arith, same_order p.0 p.1, filter_both slots)
 
   module _ (near far : List (Option BidiMatchedOpeningBracket)) where
     alike : (bs : List Bracket) (slots : List (ℕ × ℕ)) (waiting : List Waiting) → AreWithin (length slots) waiting → IsAt near slots waiting bs → IsAt far (map both slots) waiting (map moved bs)
@@ -78,11 +68,8 @@ module _ (f : ℕ → ℕ) (rises : (i j : ℕ) → i < j → f i < f j) where
       | inl opens ↦ elim (cases_lt (length waiting) max_open_brackets) [
         | inl room ↦
             let e : Waiting = record { opening = b.opening; pair = length slots } in
-            let long = length-map slots both in
             alike bs (slots ++ (b.index, b.index) ∷ []) (waiting ++ e ∷ []) (AreWithin-opening slots (b.index, b.index) waiting e within refl) (IsAt-opening near slots waiting b bs n opens room)
-            (subst (λ (ps : List (ℕ × ℕ)). IsAt far ps (waiting ++ e ∷ []) (map moved bs)) (sym (map_push both slots (b.index, b.index)))
-            (subst (λ (k : ℕ). IsAt far (map both slots ++ both (b.index, b.index) ∷ []) (waiting ++ record { opening = b.opening; pair = k } ∷ []) (map moved bs)) long
-            (IsAt-opening far (map both slots) waiting (moved b) (map moved bs) m opens room)))
+            (simp map_push (simp length-map at (IsAt-opening far (map both slots) waiting (moved b) (map moved bs) m opens room)))
         | inr full ↦
             sym (IsAt-full far (map both slots) waiting (moved b) (map moved bs) m opens full) ∙ filter_both slots ∙ ap (map both) (IsAt-full near slots waiting b bs n opens full)
       ]
@@ -98,8 +85,7 @@ module _ (f : ℕ → ℕ) (rises : (i j : ℕ) → i < j → f i < f j) where
                 let old = get_or slots e.0.pair (0, 0) in
                 alike bs (set slots e.0.pair (old.0, b.index)) (take k waiting) (AreWithin-pair slots e.0.pair k (old.0, b.index) waiting within)
                 (IsAt-pair near slots waiting b bs k e.0 old n closes at.1 hit at.2 (get_or_default slots e.0.pair (0, 0) old inside))
-                (subst (λ (ps : List (ℕ × ℕ)). IsAt far ps (take k waiting) (map moved bs)) (sym (map-set both slots e.0.pair (old.0, b.index)))
-                (IsAt-pair far (map both slots) waiting (moved b) (map moved bs) k e.0 (both old) m closes at.1 hit at.2 (sym (get_or-map both slots e.0.pair (0, 0) (both old) inside))))
+                (simp map-set (IsAt-pair far (map both slots) waiting (moved b) (map moved bs) k e.0 (both old) m closes at.1 hit at.2 (sym (get_or-map both slots e.0.pair (0, 0) (both old) inside))))
           ]
     ]
 

@@ -1,9 +1,9 @@
 -- N0 pair by pair: what a pair takes, and which characters take it.
-use Rattle.std.proofs.Common.{◌≡◌, ℕ, zero, suc, ◌+◌, ◌-◌, ◌<◌, ◌≤◌, Bool, true, false, ◌&&◌, ◌||◌, cond, eqb, ltb, leb, List, [], ◌∷◌, map, length, get_or, take, drop, reverse, slice_range, replicate, find, filter_map, Option, Some, None, option_map, is_some, refl, sym, ap, ◌∙◌, arith, inl, inr, length-take, length-drop}
+use Rattle.std.proofs.Common.{◌≡◌, ℕ, zero, suc, ◌+◌, ◌-◌, ◌<◌, ◌≤◌, Bool, true, false, ◌&&◌, ◌||◌, cond, eqb, ltb, leb, List, [], ◌∷◌, map, length, get_or, take, drop, reverse, slice_range, replicate, find, filter_map, Some, None, option_map, is_some, refl, sym, ap, ◌∙◌, arith, length-take, length-drop}
 use Rattle.std.proofs.lemmas.Grind.{common_steps}
 use Rattle.std.specs.List.{list_all, list_any, prefix_len}
 use Rattle.std.specs.Option.{option_map_or}
-use Rattle.std.proofs.lemmas.Bool.{cases_Bool, lt-leb, le-leb}
+use Rattle.std.proofs.lemmas.Bool.{le-leb}
 use Rattle.std.proofs.lemmas.List.{take_rest}
 use Rattle.std.proofs.lemmas.List.FromFn.{fill_by_all, length-map-range_with_len, get_or-map-range_with_len}
 use Rattle.std.proofs.lemmas.List.Sums.{prefix_len-le-length, fold_more}
@@ -12,17 +12,17 @@ use Rattle.bidi_base.specs.declared.char_data.BidiClass.{BidiClass}
 use Rattle.bidi_base.specs.declared.char_data.BidiClass.TheVariants.{L}
 use Rattle.bidi_base.specs.Classes.{as_direction, is_nsm, same_class}
 use Rattle.bidi_base.specs.Places.{class_at, indexes}
-use Rattle.bidi_base.specs.Neutral.{nearest_direction, directions_between, pair_direction, is_mark_after, goes_with_pair, with_pair, n0_pair, n0}
-use Rattle.bidi_base.proofs.Lists.{cases_Option, put_mid-after, length-put_mid}
+use Rattle.bidi_base.specs.Neutral.{nearest_direction, pair_direction, is_mark_after, goes_with_pair, with_pair, n0_pair, n0}
+use Rattle.bidi_base.proofs.Lists.{put_mid-after, length-put_mid}
 
 -- a test of the directions, as one of the classes
 pub any_direction : (test : BidiClass → Bool) (cs : List BidiClass) → list_any test (filter_map as_direction cs) ≡ list_any (λ c. option_map_or test (as_direction c) false) cs
 any_direction test [] = refl
-any_direction test (c ∷ cs) = elim (cases_Option (as_direction c)) [ inl e ↦ rw e (any_direction test cs) | inr d ↦ rw (d.1, any_direction test cs) refl ]
+any_direction test (c ∷ cs) = grind (arith, any_direction test cs)
 
 pub some_direction : (x : BidiClass) (cs : List BidiClass) → option_map (λ (_ : BidiClass). x) (find (λ _. true) (filter_map as_direction cs)) ≡ cond (list_any (λ c. is_some (as_direction c)) cs) (Some x) None
 some_direction x [] = refl
-some_direction x (c ∷ cs) = elim (cases_Option (as_direction c)) [ inl e ↦ rw e (some_direction x cs) | inr d ↦ rw d.1 refl ]
+some_direction x (c ∷ cs) = grind (arith, some_direction x cs)
 
 -- what a pair takes, by the two tests
 pub pair_direction-tests : (e sos : BidiClass) (classes : List BidiClass) (pair : ℕ × ℕ) (same some : Bool)
@@ -31,22 +31,13 @@ pub pair_direction-tests : (e sos : BidiClass) (classes : List BidiClass) (pair 
     → pair_direction e sos classes pair ≡ cond same (Some e) (cond some (Some (nearest_direction sos (reverse (take pair.0 classes)))) None)
 unfolding pair_direction
 pair_direction-tests e sos classes pair same some k l =
-    let inside = slice_range classes (pair.0 + 1) pair.1 in
-    let context = nearest_direction sos (reverse (take pair.0 classes)) in
-    ap (λ b. cond b (Some e) (option_map (λ (_ : BidiClass). context) (find (λ _. true) (directions_between classes pair)))) (any_direction (same_class e) inside ∙ sym k)
-    ∙ ap (λ (o : Option BidiClass). cond same (Some e) o) (some_direction context inside ∙ ap (λ b. cond b (Some context) None) (sym l))
+    simp (any_direction, some_direction, k, l)
 
 -- of the first n elements all pass if at least n do from the front on
 list_all-front : (p : BidiClass → Bool) (xs : List BidiClass) (n : ℕ) → n ≤ length xs → list_all p (take n xs) ≡ leb n (prefix_len p xs)
 list_all-front p xs zero fits = sym (le-leb 0 (prefix_len p xs) (omega arith))
 list_all-front p [] (suc n) fits = absurd (omega arith)
-list_all-front p (x ∷ xs) (suc n) fits = elim (cases_Bool (p x)) [
-  | inl here ↦ rw (here, list_all-front p xs n (omega arith)) (same_test n (prefix_len p xs))
-  | inr gone ↦ rw gone (sym (lt-leb (suc n) 0 (omega arith)))
-]
-  where
-    same_test : (n m : ℕ) → leb n m ≡ leb (suc n) (1 + m)
-    same_test n m = grind arith
+list_all-front p (x ∷ xs) (suc n) fits = grind (arith, list_all-front p xs n)
 
 -- k is a mark after b where it lies within the marks that begin there
 is_mark_after-prefix_len : (source : List BidiClass) (b k : ℕ) → b < length source → k < length source
@@ -71,18 +62,10 @@ with_bracket-filled source classes ys b m d long inside counted filled =
     rw (filled, part, same)
     (fill_by_all (λ k. cond (eqb k b || is_mark_after source b k) d (class_at classes k)) (put_mid b (1 + m) classes (replicate (1 + m) d)) (length classes) L
     (length-put_mid b (1 + m) classes d room)
-    (λ k fits.
-    at k room fits ∙ ap (λ t. cond (eqb k b || t) d (class_at classes k)) (ap (λ (n : ℕ). ltb b k && ltb k (b + 1 + n)) marks ∙ sym (is_mark_after-prefix_len source b k (omega arith) (omega arith)))))
-  where
-    at : (k : ℕ) → b + (1 + m) ≤ length classes → k < length classes
-        → get_or (put_mid b (1 + m) classes (replicate (1 + m) d)) k L ≡ cond (eqb k b || (ltb b k && ltb k (b + 1 + m))) d (class_at classes k)
-    at k room fits = grind (arith, common_steps, put_mid-after)
+    (λ k fits. simp (is_mark_after-prefix_len source b k (omega arith) (omega arith), ← marks) (grind (arith, common_steps, put_mid-after))))
 
 pub length-with_bracket : (source classes : List BidiClass) (b : ℕ) (d : BidiClass) → length (with_bracket source b classes d) ≡ length classes
 length-with_bracket source classes b d = grind (arith, length-map-range_with_len)
-
-twice : (a b s t : Bool) (d x : BidiClass) → cond (b || t) d (cond (a || s) d x) ≡ cond (((a || b) || s) || t) d x
-twice a b s t d x = grind arith
 
 -- both brackets, one after the other
 pub with_bracket-both : (source classes : List BidiClass) (pair : ℕ × ℕ) (d : BidiClass) → with_bracket source pair.1 (with_bracket source pair.0 classes d) d ≡ with_pair source pair classes d
@@ -93,10 +76,11 @@ with_bracket-both source classes pair d =
     fill_by_all (λ k. cond (goes_with_pair source pair k) d (class_at classes k)) (with_bracket source pair.1 first d) (length classes) L
     (length-with_bracket source first pair.1 d ∙ long)
     (λ k fits.
-    get_or-map-range_with_len (λ j. cond (eqb j pair.1 || is_mark_after source pair.1 j) d (class_at first j)) 0 (length first) k k L (omega arith) (omega arith)
-    ∙ ap (λ (x : BidiClass). cond (eqb k pair.1 || is_mark_after source pair.1 k) d x)
-    (get_or-map-range_with_len (λ j. cond (eqb j pair.0 || is_mark_after source pair.0 j) d (class_at classes j)) 0 (length classes) k k L fits (omega arith))
-    ∙ twice (eqb k pair.0) (eqb k pair.1) (is_mark_after source pair.0 k) (is_mark_after source pair.1 k) d (class_at classes k))
+    simp (
+      get_or-map-range_with_len (λ j. cond (eqb j pair.1 || is_mark_after source pair.1 j) d (class_at first j)) 0 (length first) k k L (omega arith) (omega arith),
+      get_or-map-range_with_len (λ j. cond (eqb j pair.0 || is_mark_after source pair.0 j) d (class_at classes j)) 0 (length classes) k k L fits (omega arith),
+    )
+    (grind arith))
 
 -- N0 for one pair, by what it takes
 pub n0_pair-Some : (e sos : BidiClass) (source classes : List BidiClass) (pair : ℕ × ℕ) (d : BidiClass) → pair_direction e sos classes pair ≡ Some d

@@ -1,7 +1,7 @@
 -- A list of characters as a text: each is one unit long, so a place is an index.
 use Rattle.std.proofs.Common.{◌≡◌, ℕ, ◌<◌, ◌≤◌, true, List, length, get_or, Some, None, sym, ◌∙◌, ap, arith}
 use Rattle.std.specs.Prelude.{slice_range}
-use Rattle.bidi_base.specs.Text.{char_at, place, subrange, one_unit, is_boundary}
+use Rattle.bidi_base.specs.Text.{char_at, subrange, one_unit, is_boundary}
 use Rattle.bidi_base.proofs.TextLemmas.{HasUnits, char_at-end, is_boundary-le}
 use Rattle.bidi_base.proofs.PlaceLemmas.{char_at-place, place-one_unit, text_len-one_unit, subrange-places}
 
@@ -19,6 +19,4 @@ char_at-past cs k past = char_at-end one_unit has_units cs k (omega (arith, text
 
 pub subrange-one_unit : (cs : List ℕ) (start end : ℕ) → start ≤ end → end ≤ length cs → subrange one_unit cs start end ≡ slice_range cs start end
 subrange-one_unit cs start end ordered within =
-    ap (λ u. subrange one_unit cs u end) (sym (place-one_unit cs start (omega arith)))
-    ∙ ap (subrange one_unit cs (place one_unit cs start)) (sym (place-one_unit cs end within))
-    ∙ subrange-places one_unit cs has_units start end (omega arith) within
+    cc (place-one_unit cs start (omega arith), place-one_unit cs end within, subrange-places one_unit cs has_units start end (omega arith) within)

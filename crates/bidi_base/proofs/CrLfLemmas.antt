@@ -1,13 +1,13 @@
 -- What the paragraphs of a text are where a carriage return and the line feed after it stay together.
-use Rattle.std.proofs.Common.{◌≡◌, ℕ, true, false, not, ◌&&◌, ◌==◌, List, [], ◌∷◌, refl, sym, subst, inl, inr, arith}
+use Rattle.std.proofs.Common.{◌≡◌, ℕ, true, false, not, ◌&&◌, ◌==◌, List, [], ◌∷◌, refl, inl, inr, arith}
 use Rattle.std.specs.Prelude.{All}
 use Rattle.std.specs.List.{onto_first}
-use Rattle.std.proofs.lemmas.List.Elements.{All-nil, All-cons, All-head, All-tail}
+use Rattle.std.proofs.lemmas.List.Elements.{All-nil, All-cons, All-tail}
 use Rattle.std.proofs.lemmas.Bool.{cases_Bool, and_parts}
 use Rattle.bidi_base.specs.CrLf.{has_unpaired_separator, AreCrLfParagraphRanges}
 use Rattle.bidi_base.specs.Paragraphs.{SplitTest, cut_after, begins_with_line_feed, cr_lf_together, paragraphs_of, ranges_from}
 use Rattle.bidi_base.specs.Source.{Source}
-use Rattle.bidi_base.proofs.ParagraphsLemmas.{is_stop, Ends, cut_after-ended, cut_after-partition, cut_after-lines, cut_after-AllButLast, cut_after-All}
+use Rattle.bidi_base.proofs.ParagraphsLemmas.{All-onto_first, is_stop, Ends, cut_after-ended, cut_after-partition, cut_after-lines, cut_after-AllButLast, cut_after-All}
 use Rattle.bidi_base.proofs.TextLemmas.{HasUnits}
 
 module _ (source : Source) where
@@ -23,10 +23,6 @@ module _ (source : Source) where
   -- a character that is no separator
   longer : (c : ℕ) (p : List ℕ) → is_stop source c ≡ false → Holds p → Holds (c ∷ p)
   longer c p on h = grind arith
-
-  onto : (c : ℕ) (ps : List (List ℕ)) → is_stop source c ≡ false → All Holds ps → All Holds (onto_first c ps)
-  onto c [] on h = All-cons Holds (c ∷ []) [] refl (All-nil Holds)
-  onto c (p ∷ ps) on h = All-cons Holds (c ∷ p) ps (longer c p on (All-head Holds p ps h)) (All-tail Holds p ps h)
 
   -- a line feed that is a separator ends its paragraph
   line_feed-ends : (d : ℕ) (cs : List ℕ) → begins_with_line_feed source (d ∷ cs) ≡ true → ends d cs ≡ true
@@ -45,7 +41,7 @@ module _ (source : Source) where
     | inl stop ↦ rw stop (All-cons Holds (c ∷ []) (cut_after ends cs) refl (together-undivided cs))
     | inr on ↦ rw on (elim (cases_Bool (is_stop source c)) [
       | inl pair ↦ paired cs (pair-of c cs pair on) (together-undivided cs)
-      | inr other ↦ onto c (cut_after ends cs) other (together-undivided cs)
+      | inr other ↦ All-onto_first Holds c (cut_after ends cs) refl (λ p. longer c p other) (together-undivided cs)
     ])
   ]
     where
@@ -54,9 +50,7 @@ module _ (source : Source) where
       paired (d ∷ ds) p h =
           let stop : ends d ds ≡ true = line_feed-ends d ds p.1 in
           let pieces : cut_after ends (d ∷ ds) ≡ (d ∷ []) ∷ cut_after ends ds = rw stop refl in
-          let rest : All Holds ((d ∷ []) ∷ cut_after ends ds) = subst (All Holds) pieces h in
-          subst (λ (ps : List (List ℕ)). All Holds (onto_first c ps)) (sym pieces)
-          (All-cons Holds (c ∷ d ∷ []) (cut_after ends ds) (pair-Holds c d p.0 p.1) (All-tail Holds (d ∷ []) (cut_after ends ds) rest))
+          rw pieces (All-cons Holds (c ∷ d ∷ []) (cut_after ends ds) (pair-Holds c d p.0 p.1) (All-tail Holds (d ∷ []) (cut_after ends ds) (rw pieces at h)))
 
 -- the ranges of the paragraphs of a text
 pub together-AreCrLfParagraphRanges : (source : Source) (len_of : ℕ → ℕ) → HasUnits len_of → (chars : List ℕ) → AreCrLfParagraphRanges source len_of chars (ranges_from len_of 0 (paragraphs_of (cr_lf_together source) chars))

@@ -1,5 +1,5 @@
 -- The base direction of a text in one walk, which counts the isolates that are open.
-use Rattle.std.proofs.Common.{◌≡◌, ◌↔◌, ℕ, ◌+◌, ◌-◌, ◌≤◌, Bool, true, false, ◌&&◌, cond, if◌then◌else◌, List, [], ◌∷◌, drop, map, find, Option, Some, None, is_some, refl, ap, ◌∙◌, ◌⊎◌, inl, inr, arith}
+use Rattle.std.proofs.Common.{◌≡◌, ◌↔◌, ℕ, ◌+◌, ◌-◌, ◌≤◌, Bool, true, false, ◌&&◌, cond, if◌then◌else◌, List, [], ◌∷◌, drop, map, find, Option, Some, None, is_some, refl, ap, ◌⊎◌, inl, inr, arith}
 use Rattle.std.specs.Prelude.{option_and_then}
 use Rattle.std.specs.List.{onto_first}
 use Rattle.std.specs.Option.{option_or}
@@ -47,24 +47,14 @@ class_pieces-first c (d ∷ cs) = elim (cases_Bool (is_paragraph_separator c)) [
 pieces-map : (source : Source) (chars : List ℕ) → map (map source.class_of) (paragraphs_of (each_separator source) chars) ≡ class_pieces (map source.class_of chars)
 unfolding class_pieces
 pieces-map source [] = refl
-pieces-map source (c ∷ cs) = elim (cases_Bool (is_paragraph_separator (source.class_of c))) [
-  | inl ends ↦ rw (ends, pieces-map source cs) refl
-  | inr on ↦ rw on (onto-map (paragraphs_of (each_separator source) cs) ∙ ap (onto_first (source.class_of c)) (pieces-map source cs))
-]
-  where
-    onto-map : (ps : List (List ℕ)) → map (map source.class_of) (onto_first c ps) ≡ onto_first (source.class_of c) (map (map source.class_of) ps)
-    onto-map [] = refl
-    onto-map (p ∷ ps) = refl
+pieces-map source (c ∷ cs) = grind (arith, pieces-map source cs)
 
 -- ---- the first paragraph
 
 first_direction : (d : ℕ) (cs : List BidiClass) → direction_by (deciding_from d (first_piece cs)) ≡ direction_from false d cs
 unfolding first_piece
 first_direction d [] = refl
-first_direction d (c ∷ cs) = elim (cases_Bool (is_strong c && is_zero d)) [
-  | inl decides ↦ rw decides refl
-  | inr not_yet ↦ elim (cases_Bool (is_paragraph_separator c)) [ inl ends ↦ rw (not_yet, ends) refl | inr on ↦ rw (not_yet, on) (first_direction (depth_by (kind_of c) d) cs) ]
-]
+first_direction d (c ∷ cs) = grind (arith, first_direction (depth_by (kind_of c) d) cs)
 
 first_or-pieces : (cs : List BidiClass) → first_or [] (class_pieces cs) ≡ first_piece cs
 unfolding first_piece class_pieces
@@ -84,19 +74,12 @@ found_in-cons p ps = elim (cases_Option (deciding_class p)) [ inl e ↦ rw e ref
 found_from : (cs : List BidiClass) → found_in (class_pieces cs) ≡ option_or (deciding_from 0 (first_piece cs)) (found_in (other_pieces cs))
 unfolding first_piece class_pieces other_pieces found_in
 found_from [] = refl
-found_from (c ∷ cs) =
-    ap found_in (class_pieces-first c cs) ∙ found_in-cons (first_piece (c ∷ cs)) (other_pieces (c ∷ cs)) ∙ ap (λ (o : Option BidiClass). option_or o (found_in (other_pieces (c ∷ cs)))) (deciding_class-from (first_piece (c ∷ cs)))
+found_from (c ∷ cs) = grind (arith, found_in, class_pieces-first, found_in-cons, first_piece, other_pieces, deciding_class-from)
 
 full_direction : (d : ℕ) (cs : List BidiClass) → direction_by (option_or (deciding_from d (first_piece cs)) (found_in (other_pieces cs))) ≡ direction_from true d cs
 unfolding first_piece other_pieces found_in
 full_direction d [] = refl
-full_direction d (c ∷ cs) = elim (cases_Bool (is_strong c && is_zero d)) [
-  | inl decides ↦ rw decides refl
-  | inr not_yet ↦ elim (cases_Bool (is_paragraph_separator c)) [
-    | inl ends ↦ rw (not_yet, ends) (ap direction_by (found_from cs) ∙ full_direction 0 cs)
-    | inr on ↦ rw (not_yet, on) (full_direction (depth_by (kind_of c) d) cs)
-  ]
-]
+full_direction d (c ∷ cs) = grind (arith, found_from, full_direction 0 cs, full_direction (depth_by (kind_of c) d) cs)
 
 -- ---- what the walk answers
 

@@ -1,8 +1,9 @@
 -- Isolates in one walk from the front, which counts those that are open: the matching PDI (BD9), the deciding character (P2), and what an FSI becomes (X5c).
-use Rattle.std.proofs.Common.{◌≡◌, ℕ, zero, suc, ◌+◌, ◌-◌, ◌<◌, ◌≤◌, Bool, true, false, not, ◌&&◌, ◌||◌, cond, ltb, List, [], ◌∷◌, ◌++◌, length, take, drop, map, find, Option, Some, None, unwrap_or, option_map, refl, sym, ap, ◌∙◌, arith, inl, inr, lt-ltb, le-ltb, length-drop}
+use Rattle.std.proofs.Common.{◌≡◌, ℕ, zero, suc, ◌+◌, ◌-◌, ◌<◌, ◌≤◌, Bool, true, false, not, ◌&&◌, ◌||◌, cond, List, [], ◌∷◌, ◌++◌, length, take, drop, map, find, Option, Some, None, unwrap_or, option_map, refl, ◌∙◌, arith, inl, inr, lt-ltb, le-ltb, length-drop}
 use Rattle.std.specs.List.{range_with_len, list_any}
 use Rattle.std.proofs.lemmas.List.{get_or-drop, take_more}
-use Rattle.std.proofs.lemmas.Bool.{cases_Bool, and_left, and_right, or_from}
+use Rattle.std.proofs.Math.Seq.{take-nil}
+use Rattle.std.proofs.lemmas.Bool.{cases_Bool}
 use Rattle.bidi_base.specs.declared.char_data.BidiClass.{BidiClass}
 use Rattle.bidi_base.specs.declared.char_data.BidiClass.TheVariants.{L, LRI, RLI, FSI, PDI}
 use Rattle.bidi_base.specs.Classes.{is_strong, is_initiator}
@@ -10,7 +11,6 @@ use Rattle.bidi_base.specs.Places.{class_at, count_between}
 use Rattle.bidi_base.specs.Matching.{is_closed_at, is_before, match_of}
 use Rattle.bidi_base.specs.Isolates.{is_initiator_at, is_pdi_at, matching_pdi, is_inside, is_isolated, deciding_class, isolated_classes, resolved_fsi, stored_class, stored_classes}
 use Rattle.bidi_base.proofs.MatchingLemmas.{count_between-more, count_between-none}
-use Rattle.std.proofs.Math.Bool.{or-false}
 
 -- what a character does to the number of open isolates
 pub data Kind : Type 0 where
@@ -27,13 +27,7 @@ kind_of _ = neither
 
 abbrev pub opens_one : Kind → Bool
 opens_one opening = true
-opens_one closing = false
-opens_one neither = false
-
-abbrev pub closes_one : Kind → Bool
-closes_one opening = false
-closes_one closing = true
-closes_one neither = false
+opens_one _ = false
 
 pub is_initiator-kind : (c : BidiClass) → is_initiator c ≡ opens_one (kind_of c)
 is_initiator-kind c = grind arith
@@ -56,9 +50,8 @@ is_zero (suc n) = false
 
 -- the character is a PDI that no open isolate awaits
 abbrev pub ends_by : Kind → ℕ → Bool
-ends_by opening d = false
 ends_by closing d = is_zero d
-ends_by neither d = false
+ends_by _ d = false
 
 -- some character is
 abbrev pub has_end : ℕ → List BidiClass → Bool
@@ -93,13 +86,13 @@ stored_from (c ∷ cs) = stored_by c (resolving_from 0 cs) ∷ stored_from cs
 
 record IsAt (xs : List BidiClass) (p : ℕ) (x : BidiClass) (rest : List BidiClass) : Type 0 where
   is : class_at xs p ≡ x
-  next : drop (suc p) xs ≡ rest
+  next : drop (p + 1) xs ≡ rest
 
 at_front : (xs : List BidiClass) (p : ℕ) (x : BidiClass) (rest : List BidiClass) → drop p xs ≡ x ∷ rest → IsAt xs p x rest
 at_front [] zero x rest e = absurd (cc e)
 at_front [] (suc p) x rest e = absurd (cc e)
 at_front (y ∷ xs) zero x rest e = record { is = cc; next = cc }
-at_front (y ∷ xs) (suc p) x rest e = let h = at_front xs p x rest e in record { is = h.is; next = h.next }
+at_front (y ∷ xs) (suc p) x rest e = grind (arith, at_front xs p x rest e)
 
 -- ---- the matching PDI
 
@@ -112,67 +105,36 @@ module _ (classes : List BidiClass) (q p d : ℕ) (x : BidiClass) (here : class_
   openings_more : count_between (is_initiator_at classes) (q + 1) (p + 1) ≡ count_between (is_initiator_at classes) (q + 1) p + cond (opens_one (kind_of x)) 1 0
   openings_more = grind (arith, count_between-more)
 
-  closings_more : count_between (is_pdi_at classes) (q + 1) (p + 1) ≡ count_between (is_pdi_at classes) (q + 1) p + cond (closes_one (kind_of x)) 1 0
-  closings_more = grind (arith, count_between-more)
-
-  tested : (k : Kind) (e : ℕ) → count_between (is_initiator_at classes) (q + 1) (p + 1) ≡ count_between (is_initiator_at classes) (q + 1) p + cond (opens_one k) 1 0
-      → count_between (is_pdi_at classes) (q + 1) (p + 1) ≡ count_between (is_pdi_at classes) (q + 1) p + cond (closes_one k) 1 0
-      → count_between (is_initiator_at classes) (q + 1) p ≡ count_between (is_pdi_at classes) (q + 1) p + e
-      → (is_closed_at (is_initiator_at classes) (is_pdi_at classes) q p ≡ ends_by k e) × (ends_by k e ≡ false → count_between (is_initiator_at classes) (q + 1) (p + 1) ≡ count_between (is_pdi_at classes) (q + 1) (p + 1) + depth_by k e)
-  tested k e o c under = grind arith
-
   closed_here : is_closed_at (is_initiator_at classes) (is_pdi_at classes) q p ≡ ends_by (kind_of x) d
-  closed_here = (tested (kind_of x) d openings_more closings_more h.counts).0
+  closed_here = grind (arith, openings_more, count_between-more)
 
   under_more : ends_by (kind_of x) d ≡ false → IsUnder classes q (p + 1) (depth_by (kind_of x) d)
-  under_more more = grind (arith, openings_more, closings_more)
+  under_more more = grind (arith, openings_more, count_between-more)
 
 find_end : (classes : List BidiClass) (q p d : ℕ) (rest : List BidiClass) → drop p classes ≡ rest → IsUnder classes q p d → find (is_closed_at (is_initiator_at classes) (is_pdi_at classes) q) (range_with_len p (length rest)) ≡ end_from d p rest
 find_end classes q p d [] e h = refl
 find_end classes q p d (x ∷ rest) e h =
-    let at : IsAt classes p x rest = at_front classes p x rest e in
-    let more : p + 1 ≡ suc p = omega arith in
-    elim (cases_Bool (ends_by (kind_of x) d)) [
-      | inl ends ↦ rw (closed_here classes q p d x at.is h, ends) refl
-      | inr on ↦
-          rw (closed_here classes q p d x at.is h, on)
-          (find_end classes q (p + 1) (depth_by (kind_of x) d) rest (ap (λ (n : ℕ). drop n classes) more ∙ at.next) (under_more classes q p d x at.is h on)
-          ∙ ap (λ (n : ℕ). end_from (depth_by (kind_of x) d) n rest) more)
-    ]
+    grind (arith, at_front classes p x rest e, closed_here classes q p d x, under_more classes q p d x, find_end classes q (p + 1) (depth_by (kind_of x) d) rest)
 
 -- the match of q is the first PDI after q that no open isolate awaits
 pub matching_pdi-end_from : (classes : List BidiClass) (q : ℕ) → matching_pdi classes q ≡ end_from 0 (q + 1) (drop (q + 1) classes)
 unfolding matching_pdi match_of
 matching_pdi-end_from classes q =
-    let long : length classes - (q + 1) ≡ length (drop (q + 1) classes) = sym (length-drop (q + 1) classes) in
-    ap (λ (n : ℕ). find (is_closed_at (is_initiator_at classes) (is_pdi_at classes) q) (range_with_len (q + 1) n)) long
-    ∙ find_end classes q (q + 1) 0 (drop (q + 1) classes) refl (record { later = omega arith; counts = omega (arith, count_between-none (is_initiator_at classes) (q + 1), count_between-none (is_pdi_at classes) (q + 1)) })
+    let under : IsUnder classes q (q + 1) 0 = record { later = omega arith; counts = omega (arith, count_between-none (is_initiator_at classes) (q + 1), count_between-none (is_pdi_at classes) (q + 1)) } in
+    cc (length-drop (q + 1) classes, find_end classes q (q + 1) 0 (drop (q + 1) classes) refl under)
 
 -- ---- what stands in an isolate
-
--- one character on
-before_one : (k : Kind) (d u n : ℕ) (xs front : List BidiClass) → is_before (u + n) (end_from (depth_by k d) (suc u) xs) ≡ not (has_end (depth_by k d) front)
-    → is_before (u + n) (cond (ends_by k d) (Some u) (end_from (depth_by k d) (suc u) xs)) ≡ not (ends_by k d || has_end (depth_by k d) front)
-before_one k d u n xs front rest = grind arith
 
 -- a walk that starts later finds only later ends
 end_from-from : (d u k : ℕ) (xs : List BidiClass) → end_from d u xs ≡ Some k → u ≤ k
 end_from-from d u k [] e = absurd (cc e)
-end_from-from d u k (x ∷ xs) e = elim (cases_Bool (ends_by (kind_of x) d)) [
-  | inl ends ↦ let here : Some u ≡ Some k = rw ends at e in let same : u ≡ k = cc here in omega arith
-  | inr on ↦ omega (arith, end_from-from (depth_by (kind_of x) d) (suc u) k xs (rw on at e))
-]
-
-end_from-later : (d p u : ℕ) (xs : List BidiClass) → p < u → is_before p (end_from d u xs) ≡ true
-end_from-later d p u xs order = grind (arith, end_from-from)
+end_from-from d u k (x ∷ xs) e = grind (arith, end_from-from (depth_by (kind_of x) d) (suc u) k xs)
 
 -- the index u + n is before the first end exactly if there is no end up to it
 before_end : (d u n : ℕ) (xs : List BidiClass) → is_before (u + n) (end_from d u xs) ≡ not (has_end d (take (suc n) xs))
 before_end d u n [] = refl
-before_end d u zero (x ∷ xs) = grind (arith, end_from-later)
-before_end d u (suc n) (x ∷ xs) =
-    let place : u + suc n ≡ suc u + n = omega arith in
-    before_one (kind_of x) d u (suc n) xs (take (suc n) xs) (ap (λ (k : ℕ). is_before k (end_from (depth_by (kind_of x) d) (suc u) xs)) place ∙ before_end (depth_by (kind_of x) d) (suc u) n xs)
+before_end d u zero (x ∷ xs) = grind (arith, end_from-from)
+before_end d u (suc n) (x ∷ xs) = grind (arith, before_end (depth_by (kind_of x) d) (suc u) n xs)
 
 -- the characters read leave an isolate open
 abbrev pub is_open_after : List BidiClass → Bool
@@ -186,42 +148,26 @@ depth_after-append d (x ∷ xs) ys = depth_after-append (depth_by (kind_of x) d)
 
 pub has_end-append : (d : ℕ) (xs ys : List BidiClass) → has_end d (xs ++ ys) ≡ (has_end d xs || has_end (depth_after d xs) ys)
 has_end-append d [] ys = refl
-has_end-append d (x ∷ xs) ys = elim (cases_Bool (ends_by (kind_of x) d)) [ inl ends ↦ rw ends refl | inr on ↦ rw on (has_end-append (depth_by (kind_of x) d) xs ys) ]
+has_end-append d (x ∷ xs) ys = grind (arith, has_end-append (depth_by (kind_of x) d) xs ys)
 
 -- one more open isolate stays open until the first end
 pub depth_after-deeper : (d : ℕ) (xs : List BidiClass) → depth_after (suc d) xs ≡ cond (has_end d xs) (depth_after d xs) (suc (depth_after d xs))
 depth_after-deeper d [] = refl
-depth_after-deeper d (x ∷ xs) = deeper (kind_of x) d (λ e. depth_after-deeper e xs)
-  where
-    deeper : (k : Kind) (d : ℕ) → ((e : ℕ) → depth_after (suc e) xs ≡ cond (has_end e xs) (depth_after e xs) (suc (depth_after e xs)))
-        → depth_after (depth_by k (suc d)) xs ≡ cond (ends_by k d || has_end (depth_by k d) xs) (depth_after (depth_by k d) xs) (suc (depth_after (depth_by k d) xs))
-    deeper opening d rest = rest (suc d)
-    deeper closing zero rest = refl
-    deeper closing (suc d) rest = rest d
-    deeper neither d rest = rest d
+depth_after-deeper d (x ∷ xs) = grind (arith, depth_after-deeper (depth_by (kind_of x) d) xs)
 
 -- an isolate is open exactly if their number is not zero
 pub is_open_after-depth : (xs : List BidiClass) → is_open_after xs ≡ not (is_zero (depth_after 0 xs))
 is_open_after-depth [] = refl
-is_open_after-depth (x ∷ xs) = one (kind_of x) (is_open_after-depth xs) (depth_after-deeper 0 xs)
-  where
-    one : (k : Kind) → is_open_after xs ≡ not (is_zero (depth_after 0 xs)) → depth_after 1 xs ≡ cond (has_end 0 xs) (depth_after 0 xs) (suc (depth_after 0 xs))
-        → ((opens_one k && not (has_end 0 xs)) || is_open_after xs) ≡ not (is_zero (depth_after (depth_by k 0) xs))
-    one opening rest deeper = grind arith
-    one closing rest deeper = rest
-    one neither rest deeper = rest
+is_open_after-depth (x ∷ xs) = grind (arith, is_open_after-depth xs, depth_after-deeper 0 xs)
 
 -- a character that closes nothing is no end
 has_end-more : (d k : ℕ) (xs : List BidiClass) → k < length xs → kind_of (class_at xs k) ≡ neither → has_end d (take (suc k) xs) ≡ has_end d (take k xs)
-has_end-more d k xs within other =
-    let more : suc k ≡ k + 1 = omega arith in
-    ap (λ (n : ℕ). has_end d (take n xs)) more ∙ ap (has_end d) (take_more xs k L within) ∙ has_end-append d (take k xs) (class_at xs k ∷ [])
-    ∙ ap (λ (x : Kind). has_end d (take k xs) || (ends_by x (depth_after d (take k xs)) || false)) other ∙ or-false (has_end d (take k xs))
+has_end-more d k xs within other = grind (arith, take_more xs k L within, has_end-append, other)
 
 none_inside : (classes : List BidiClass) (p s n : ℕ) → p ≤ s → list_any (λ q. is_inside classes q p) (range_with_len s n) ≡ false
 unfolding is_inside
 none_inside classes p s zero order = refl
-none_inside classes p s (suc n) order = or_from _ _ (and_left _ _ (and_right _ _ (le-ltb s p order))) (none_inside classes p (s + 1) n (omega arith))
+none_inside classes p s (suc n) order = grind (arith, le-ltb s p order, none_inside classes p (s + 1) n)
 
 -- the isolates round p that begin at s or later
 some_inside : (classes : List BidiClass) (p s k : ℕ) (rest : List BidiClass) → drop s classes ≡ rest → s + k ≡ p → k < length rest → kind_of (class_at classes p) ≡ neither
@@ -230,19 +176,7 @@ unfolding is_inside
 some_inside classes p s zero rest e place within other = none_inside classes p s (length rest) (omega arith)
 some_inside classes p s (suc k) [] e place within other = absurd (omega arith)
 some_inside classes p s (suc k) (x ∷ rest) e place within other =
-    let at : IsAt classes s x rest = at_front classes s x rest e in
-    let more : s + 1 ≡ suc s = omega arith in
-    let next : drop (s + 1) classes ≡ rest = ap (λ (n : ℕ). drop n classes) more ∙ at.next in
-    let here : s + 1 + k ≡ p = omega arith in
-    let opens : is_initiator_at classes s ≡ opens_one (kind_of x) = ap is_initiator at.is ∙ is_initiator-kind x in
-    let class_there : class_at rest k ≡ class_at classes p = grind (arith, get_or-drop) in
-    let match : is_before p (matching_pdi classes s) ≡ not (has_end 0 (take k rest)) = grind (arith, matching_pdi-end_from, before_end, has_end-more) in
-    ap (λ (b : Bool). b || list_any (λ q. (is_initiator_at classes q && ltb q p) && is_before p (matching_pdi classes q)) (range_with_len (s + 1) (length rest)))
-    (joined (is_initiator_at classes s) (ltb s p) (is_before p (matching_pdi classes s)) (opens_one (kind_of x)) (not (has_end 0 (take k rest))) opens (lt-ltb s p (omega arith)) match)
-    ∙ ap (λ (b : Bool). (opens_one (kind_of x) && not (has_end 0 (take k rest))) || b) (some_inside classes p (s + 1) k rest next here (omega arith) other)
-  where
-    joined : (a b c x y : Bool) → a ≡ x → b ≡ true → c ≡ y → ((a && b) && c) ≡ (x && y)
-    joined a b c x y f g h = grind arith
+    grind (arith, at_front classes s x rest e, is_initiator-kind x, get_or-drop, matching_pdi-end_from, before_end, has_end-more, lt-ltb s p, some_inside classes p (s + 1) k rest)
 
 -- a character that neither opens nor closes stands in an isolate exactly if one is open there
 pub is_isolated-depth : (classes : List BidiClass) (p : ℕ) → p < length classes → kind_of (class_at classes p) ≡ neither → is_isolated classes p ≡ not (is_zero (depth_after 0 (take p classes)))
@@ -251,28 +185,14 @@ is_isolated-depth classes p within other = some_inside classes p 0 p classes ref
 
 -- ---- the deciding character (P2)
 
-depth_after-more : (classes : List BidiClass) (p : ℕ) (x : BidiClass) → p < length classes → class_at classes p ≡ x → depth_after 0 (take (suc p) classes) ≡ depth_by (kind_of x) (depth_after 0 (take p classes))
-depth_after-more classes p x within is =
-    let more : suc p ≡ p + 1 = omega arith in
-    ap (λ (n : ℕ). depth_after 0 (take n classes)) more ∙ ap (depth_after 0) (take_more classes p L within) ∙ depth_after-append 0 (take p classes) (class_at classes p ∷ [])
-    ∙ ap (λ (c : BidiClass). depth_by (kind_of c) (depth_after 0 (take p classes))) is
+depth_after-more : (classes : List BidiClass) (p : ℕ) (x : BidiClass) → p < length classes → class_at classes p ≡ x → depth_after 0 (take (p + 1) classes) ≡ depth_by (kind_of x) (depth_after 0 (take p classes))
+depth_after-more classes p x within is = grind (arith, take_more classes p L within, depth_after-append, is)
 
 find_deciding : (classes : List BidiClass) (p : ℕ) (rest : List BidiClass) → drop p classes ≡ rest
     → option_map (class_at classes) (find (λ k. is_strong (class_at classes k) && not (is_isolated classes k)) (range_with_len p (length rest))) ≡ deciding_from (depth_after 0 (take p classes)) rest
 find_deciding classes p [] e = refl
 find_deciding classes p (x ∷ rest) e =
-    let at : IsAt classes p x rest = at_front classes p x rest e in
-    let more : p + 1 ≡ suc p = omega arith in
-    let within : p < length classes = omega (arith, length-drop p classes, ap length e) in
-    let test : (is_strong (class_at classes p) && not (is_isolated classes p)) ≡ (is_strong x && is_zero (depth_after 0 (take p classes))) =
-    grind (arith, is_isolated-depth) in
-    elim (cases_Bool (is_strong x && is_zero (depth_after 0 (take p classes)))) [
-      | inl here ↦ rw (test, here, at.is) refl
-      | inr gone ↦
-          rw (test, gone)
-          (find_deciding classes (p + 1) rest (ap (λ (n : ℕ). drop n classes) more ∙ at.next)
-          ∙ ap (λ (n : ℕ). deciding_from (depth_after 0 (take n classes)) rest) more ∙ ap (λ (d : ℕ). deciding_from d rest) (depth_after-more classes p x within at.is))
-    ]
+    grind (arith, at_front classes p x rest e, length-drop p classes, is_isolated-depth, find_deciding classes (p + 1) rest, depth_after-more classes p x)
 
 -- the deciding character is found in one walk
 pub deciding_class-from : (classes : List BidiClass) → deciding_class classes ≡ deciding_from 0 classes
@@ -281,21 +201,14 @@ deciding_class-from classes = find_deciding classes 0 classes refl
 
 -- ---- what an FSI becomes (X5c)
 
-end_from-late : (d u n : ℕ) (xs : List BidiClass) → u ≤ n → u ≤ unwrap_or (end_from d u xs) n
-end_from-late d u n xs order = grind (arith, end_from-from)
-
 -- the deciding character of what stands before the first end
 resolved : (d u n : ℕ) (xs : List BidiClass) → u + length xs ≤ n → deciding_from d (take (unwrap_or (end_from d u xs) n - u) xs) ≡ resolving_from d xs
-resolved d u n [] fits = ap (deciding_from d) (take_nil (n - u))
-  where
-    take_nil : (k : ℕ) → take {A = BidiClass} k [] ≡ []
-    take_nil zero = refl
-    take_nil (suc k) = refl
+resolved d u n [] fits = grind (arith, take-nil)
 resolved d u n (x ∷ xs) fits = elim (cases_Bool (ends_by (kind_of x) d)) [
   | inl ends ↦ let none : u - u ≡ 0 = omega arith in rw (ends, none) refl
   | inr on ↦
-      let late : suc u ≤ unwrap_or (end_from (depth_by (kind_of x) d) (suc u) xs) n = end_from-late (depth_by (kind_of x) d) (suc u) n xs (omega arith) in
-      let more : unwrap_or (end_from (depth_by (kind_of x) d) (suc u) xs) n - u ≡ suc (unwrap_or (end_from (depth_by (kind_of x) d) (suc u) xs) n - suc u) = omega arith in
+      let more : unwrap_or (end_from (depth_by (kind_of x) d) (suc u) xs) n - u ≡ suc (unwrap_or (end_from (depth_by (kind_of x) d) (suc u) xs) n - suc u) =
+      grind (arith, end_from-from) in
       rw (on, more, resolved (depth_by (kind_of x) d) (suc u) n xs (omega arith)) refl
 ]
 
@@ -305,19 +218,7 @@ deciding_class-isolated classes q within = grind (arith, deciding_class-from, ma
 
 all_stored : (classes : List BidiClass) (p : ℕ) (rest : List BidiClass) → drop p classes ≡ rest → map (λ q. stored_class classes q (class_at classes q)) (range_with_len p (length rest)) ≡ stored_from rest
 all_stored classes p [] e = refl
-all_stored classes p (x ∷ rest) e =
-    let at : IsAt classes p x rest = at_front classes p x rest e in
-    let more : p + 1 ≡ suc p = omega arith in
-    let next : drop (p + 1) classes ≡ rest = ap (λ (n : ℕ). drop n classes) more ∙ at.next in
-    let first : stored_class classes p (class_at classes p) ≡ stored_by x (resolving_from 0 rest) =
-    ap (stored_class classes p) at.is ∙ by_deciding x
-    ∙ ap (stored_by x) (deciding_class-isolated classes p (omega (arith, length-drop p classes, ap length e)) ∙ ap (resolving_from 0) next) in
-    ap (λ (c : BidiClass). c ∷ map (λ q. stored_class classes q (class_at classes q)) (range_with_len (p + 1) (length rest))) first
-    ∙ ap (λ (cs : List BidiClass). stored_by x (resolving_from 0 rest) ∷ cs) (all_stored classes (p + 1) rest next)
-  where
-    by_deciding : (c : BidiClass) → stored_class classes p c ≡ stored_by c (deciding_class (isolated_classes classes p))
-    by_deciding FSI = refl
-    by_deciding _ = refl
+all_stored classes p (x ∷ rest) e = grind (arith, at_front classes p x rest e, deciding_class-isolated classes p, length-drop p classes, all_stored classes (p + 1) rest)
 
 -- what a class is stored as depends on what follows it alone
 pub stored_classes-from : (classes : List BidiClass) → stored_classes classes ≡ stored_from classes

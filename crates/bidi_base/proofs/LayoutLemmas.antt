@@ -1,7 +1,7 @@
 -- Lines of given width: how many characters fit, and the lines of a paragraph as ranges of units.
-use Rattle.std.proofs.Common.{◌≡◌, ◌≢◌, ℕ, zero, suc, ◌+◌, ◌-◌, ◌<◌, ◌≤◌, Bool, true, leb, List, [], ◌∷◌, ◌++◌, length, get_or, map, take, drop, Option, Some, None, All, slice_get, refl, sym, ap, subst, ◌∙◌, arith, inl, inr, length-take-le, length-drop}
+use Rattle.std.proofs.Common.{◌≡◌, ◌≢◌, ℕ, zero, suc, ◌+◌, ◌-◌, ◌<◌, ◌≤◌, Bool, leb, List, [], ◌∷◌, length, get_or, map, take, drop, Some, All, slice_get, refl, sym, ap, ◌∙◌, arith, inl, inr, length-take-le, length-drop}
 use Rattle.std.proofs.lemmas.Grind.{common_steps}
-use Rattle.std.specs.Prelude.{slice_range, unwrap_or}
+use Rattle.std.specs.Prelude.{slice_range}
 use Rattle.std.specs.List.{range_with_len}
 use Rattle.std.specs.List.Sorted.{IsPermutation}
 use Rattle.std.proofs.lemmas.Bool.{both_ways, le-leb, cases_lt}
@@ -15,9 +15,10 @@ use Rattle.bidi_base.specs.Order.{visual_place, IsVisualOrder}
 use Rattle.bidi_base.specs.Paragraphs.{ranges_from, IsPartition}
 use Rattle.bidi_base.specs.Places.{indexes, find_last}
 use Rattle.bidi_base.specs.Text.{place, text_len, char_index, subrange, IsLine}
+use Rattle.bidi_base.proofs.Lists.{cases_Option}
 use Rattle.bidi_base.proofs.ParagraphsLemmas.{joined, ranges_from-IsPartition}
 use Rattle.bidi_base.proofs.PlaceLemmas.{CharTurn, place-more, place-end, place-mono, place-lt, place-slice_range, char_index-place, IsLine-places, line_places, text_len-subrange}
-use Rattle.bidi_base.proofs.PlacesLemmas.{IsGreatest, find_last-range_with_len, find_last-range_with_len-None}
+use Rattle.bidi_base.proofs.PlacesLemmas.{find_last-range_with_len, find_last-range_with_len-None}
 use Rattle.bidi_base.proofs.TextLemmas.{HasUnits}
 use Rattle.bidi_base.proofs.VisualOrderLemmas.{visual_place-order, contains_index, all_below}
 
@@ -34,17 +35,12 @@ module _ (width_of : ℕ → ℕ) (limit : ℕ) where
 
   pub fitting-is : (chars : List ℕ) (n : ℕ) → n ≤ length chars → place width_of chars n ≤ limit → (n < length chars → limit < place width_of chars (n + 1)) → fitting width_of limit chars ≡ n
   unfolding fitting fits
-  fitting-is chars n short fit full = found (find_last (fits chars) (range_with_len 0 (length chars + 1))) refl
-    where
-      passes : fits chars n ≡ true
-      passes = le-leb (place width_of chars n) limit fit
-
-      equal : (p : ℕ) → IsGreatest (fits chars) 0 (0 + (length chars + 1)) p → p ≡ n
-      equal p g = grind (arith, place-mono)
-
-      found : (o : Option ℕ) → find_last (fits chars) (range_with_len 0 (length chars + 1)) ≡ o → unwrap_or o 0 ≡ n
-      found None e = absurd (both_ways (fits chars n) (find_last-range_with_len-None (fits chars) 0 (length chars + 1) e n (omega arith) (omega arith)) passes)
-      found (Some p) e = equal p (find_last-range_with_len (fits chars) 0 (length chars + 1) p e)
+  fitting-is chars n short fit full = elim (cases_Option (find_last (fits chars) (range_with_len 0 (length chars + 1)))) [
+    | inl e ↦ absurd (both_ways (fits chars n) (find_last-range_with_len-None (fits chars) 0 (length chars + 1) e n (omega arith) (omega arith)) (le-leb (place width_of chars n) limit fit))
+    | inr (p, e) ↦
+        let g = find_last-range_with_len (fits chars) 0 (length chars + 1) p e in
+        let same : p ≡ n = grind (arith, place-mono) in simp (e, same)
+  ]
 
   pub fitting-within : (chars : List ℕ) → fitting width_of limit chars ≤ length chars
   unfolding fitting fits
@@ -59,14 +55,13 @@ module _ (width_of : ℕ → ℕ) (limit : ℕ) where
   lines_up_to-enough : (n m : ℕ) (chars : List ℕ) → length chars ≤ n → length chars ≤ m → lines_up_to width_of limit n chars ≡ lines_up_to width_of limit m chars
   lines_up_to-enough zero zero chars few many = refl
   lines_up_to-enough zero (suc m) [] few many = refl
-  lines_up_to-enough zero (suc m) (c ∷ chars) few many = absurd (omega arith)
   lines_up_to-enough (suc n) zero [] few many = refl
-  lines_up_to-enough (suc n) zero (c ∷ chars) few many = absurd (omega arith)
   lines_up_to-enough (suc n) (suc m) [] few many = refl
   lines_up_to-enough (suc n) (suc m) (c ∷ chars) few many =
       let here : ℕ = line_length width_of limit (c ∷ chars) in
       let left = length-drop here (c ∷ chars) in
-      ap (λ (ls : List (List ℕ)). take here (c ∷ chars) ∷ ls) (lines_up_to-enough n m (drop here (c ∷ chars)) (omega arith) (omega arith))
+      simp (lines_up_to-enough n m (drop here (c ∷ chars)) (omega arith) (omega arith))
+  lines_up_to-enough _ _ (c ∷ chars) few many = absurd (omega arith)
 
   pub lines_of-none : lines_of width_of limit [] ≡ []
   unfolding lines_of
@@ -85,7 +80,7 @@ module _ (width_of : ℕ → ℕ) (limit : ℕ) where
   up_to-joined (suc n) (c ∷ chars) few =
       let here : ℕ = line_length width_of limit (c ∷ chars) in
       let left = length-drop here (c ∷ chars) in
-      ap (λ (cs : List ℕ). take here (c ∷ chars) ++ cs) (up_to-joined n (drop here (c ∷ chars)) (omega arith)) ∙ take-append-drop here (c ∷ chars)
+      simp (up_to-joined n (drop here (c ∷ chars)) (omega arith), take-append-drop)
 
   -- the lines are the paragraph
   pub lines_of-joined : (chars : List ℕ) → joined (lines_of width_of limit chars) ≡ chars
@@ -133,7 +128,7 @@ module _ (width_of : ℕ → ℕ) (limit : ℕ) where
         let cs : List ℕ = subrange len_of chars start end in
         let all : start + text_len len_of (joined (lines_of width_of limit cs)) ≡ end =
         omega (arith, ap (text_len len_of) (lines_of-joined cs), text_len-subrange len_of units chars start end line, line.ordered) in
-        subst (λ (n : ℕ). IsPartition start n (line_ranges len_of chars width_of limit start end)) all (ranges_from-IsPartition len_of units start (lines_of width_of limit cs) (lines_of-some cs))
+        simp all at (ranges_from-IsPartition len_of units start (lines_of width_of limit cs) (lines_of-some cs))
 
     -- the first line of a range ends at `next`, and the others are those of what follows
     pub record FirstLine (start end next : ℕ) : Type 0 where
@@ -158,16 +153,12 @@ module _ (width_of : ℕ → ℕ) (limit : ℕ) where
         let last : char_index len_of chars next ≡ i + n = ap (char_index len_of chars) stop ∙ char_index-place len_of chars units (i + n) (omega (arith, w.within)) in
         let both : n + (j - (i + n)) ≡ j - i = omega arith in
         let left : subrange len_of chars next end ≡ drop n cs =
-        ap (λ (a : ℕ). slice_range chars a j) last
-        ∙ sym (ap (λ (m : ℕ). drop n (take m (drop i chars))) (sym both) ∙ drop-take n (j - (i + n)) (drop i chars) ∙ ap (take (j - (i + n))) (drop-drop n i chars)) in
+        ap (λ (a : ℕ). slice_range chars a j) last ∙ sym (simp (both, drop-drop n i chars) at (drop-take n (j - (i + n)) (drop i chars))) in
         record {
-          line = subst (λ (a : ℕ). IsLine len_of chars a next) (sym w.begins) (subst (λ (b : ℕ). IsLine len_of chars (place len_of chars i) b) (sym stop) (IsLine-places len_of chars i (i + n) (omega arith)));
-          rest = subst (λ (a : ℕ). IsLine len_of chars a end) (sym stop) (subst (λ (b : ℕ). IsLine len_of chars (place len_of chars (i + n)) b) (sym w.ends) (IsLine-places len_of chars (i + n) j inside));
+          line = rw (w.begins, stop) (IsLine-places len_of chars i (i + n) (omega arith));
+          rest = rw (w.ends, stop) (IsLine-places len_of chars (i + n) j inside);
           some = omega (arith, stop, w.begins, place-lt len_of chars units i (i + n) (omega arith) (omega (arith, w.within)));
-          ranges =
-              ap (ranges_from len_of start) (lines_of-more cs (omega arith))
-              ∙ ap (λ (m : ℕ). (start, m) ∷ ranges_from len_of m (lines_of width_of limit (drop n cs))) (sym e)
-              ∙ ap (λ (ds : List ℕ). (start, next) ∷ ranges_from len_of next (lines_of width_of limit ds)) (sym left);
+          ranges = ap (ranges_from len_of start) (lines_of-more cs (omega arith)) ∙ simp (← e, left);
         }
 
 -- ---- the maps between places in a line and on the screen
@@ -192,9 +183,7 @@ module _ (levels order : List ℕ) (visual : IsVisualOrder levels order) where
       at_each k d within =
           let fits : k < length (indexes levels) = omega (arith, order-long, inverse.same_len, length-range_with_len 0 (length levels)) in
           let here : get_or (indexes levels) k 0 ≡ k = grind (arith, get_or-range_with_len, order-long) in
-          get_or_default places k d 0 within
-          ∙ at_place (get_or places k 0) (inverse.forth k within)
-          ∙ sym (get_or-map (visual_place levels) (indexes levels) k 0 d fits ∙ ap (visual_place levels) here)
+          get_or_default places k d 0 within ∙ at_place (get_or places k 0) (inverse.forth k within) ∙ sym (simp here at (get_or-map (visual_place levels) (indexes levels) k 0 d fits))
         where
           at_place : (v : ℕ) → slice_get order v ≡ Some k → v ≡ visual_place levels k
           at_place v e = grind (arith, visual_place-order, slice_get_within, get_or_from_slice_get)

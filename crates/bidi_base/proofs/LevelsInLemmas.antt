@@ -1,11 +1,10 @@
 -- The levels of a paragraph do not depend on the order in which its sequences are resolved.
-use Rattle.std.proofs.Common.{◌≡◌, ℕ, suc, ◌+◌, ◌<◌, ◌≤◌, Bool, true, false, not, cond, eqb, List, [], ◌∷◌, ◌++◌, map, length, count_by, Option, eqb-true, refl, sym, ap, ◌∙◌, arith, inl, inr, rules}
+use Rattle.std.proofs.Common.{◌≡◌, ℕ, suc, ◌+◌, ◌<◌, ◌≤◌, Bool, true, false, not, cond, eqb, List, [], ◌∷◌, map, length, count_by, Option, add-one, refl, sym, ap, ◌∙◌, arith, rules}
 use Rattle.std.specs.Prelude.{flat_map, zip}
 use Rattle.std.proofs.lemmas.List.{map-append}
 use Rattle.std.specs.List.{sum_by}
 use Rattle.std.specs.List.Sorted.{IsPermutation}
 use Rattle.std.proofs.lemmas.List.Sums.{sum_by-cons, sum_by-le-sum_by}
-use Rattle.std.proofs.lemmas.Bool.{cases_Bool, cond-false}
 use Rattle.std.proofs.lemmas.List.Sorted.{sum_by-IsPermutation}
 use Rattle.bidi_base.specs.declared.char_data.BidiClass.{BidiClass}
 use Rattle.bidi_base.specs.declared.data_source.BidiMatchedOpeningBracket.{BidiMatchedOpeningBracket}
@@ -25,8 +24,8 @@ module _ (entries : RunSequence → List (ℕ × ℕ)) (few : (test : ℕ → Bo
   unfolding kept_places
   once_in_table classes seqs p shared =
       let test : ℕ → Bool = λ q. eqb q p in
-      let by_sequence : count_by (λ (e : ℕ × ℕ). eqb e.0 p) (flat_map entries seqs) ≡ sum_by (λ s. count_by (λ (e : ℕ × ℕ). eqb e.0 p) (entries s)) seqs = sum_by-flat_map (λ (e : ℕ × ℕ). cond (eqb e.0 p) 1 0) entries seqs in
-      let places : count_by (λ q. eqb q p) (flat_map (λ (s : RunSequence). s.places) seqs) ≡ sum_by (λ (s : RunSequence). count_by (λ q. eqb q p) s.places) seqs = sum_by-flat_map (λ q. cond (eqb q p) 1 0) (λ (s : RunSequence). s.places) seqs in
+      let by_sequence = sum_by-flat_map (λ (e : ℕ × ℕ). cond (eqb e.0 p) 1 0) entries seqs in
+      let places = sum_by-flat_map (λ q. cond (eqb q p) 1 0) (λ (s : RunSequence). s.places) seqs in
       let least : sum_by (λ s. count_by (λ (e : ℕ × ℕ). eqb e.0 p) (entries s)) seqs ≤ sum_by (λ (s : RunSequence). count_by (λ q. eqb q p) s.places) seqs
       = grind (arith, sum_by-le-sum_by) in
       let moved : count_by (λ q. eqb q p) (flat_map (λ (s : RunSequence). s.places) seqs) ≡ count_by (λ q. eqb q p) (kept_places classes)
@@ -41,10 +40,8 @@ module _ (entries : RunSequence → List (ℕ × ℕ)) (few : (test : ℕ → Bo
       let counts : count_by (λ (e : ℕ × ℕ). eqb e.0 p) (flat_map entries other) ≡ count_by (λ (e : ℕ × ℕ). eqb e.0 p) (flat_map entries seqs) =
       grind (arith, sum_by-flat_map, sum_by-IsPermutation) in
       let once : count_by (λ (e : ℕ × ℕ). eqb e.0 p) (flat_map entries seqs) ≤ 1 = once_in_table classes seqs p shared in
-      level_in-sum (flat_map entries other) p (omega arith)
-      ∙ sum_by-flat_map (λ (e : ℕ × ℕ). cond (eqb e.0 p) e.1 0) entries other
-      ∙ sum_by-IsPermutation (λ s. sum_by (λ (e : ℕ × ℕ). cond (eqb e.0 p) e.1 0) (entries s)) seqs other moved
-      ∙ sym (level_in-sum (flat_map entries seqs) p once ∙ sum_by-flat_map (λ (e : ℕ × ℕ). cond (eqb e.0 p) e.1 0) entries seqs)
+      simp (level_in-sum (flat_map entries other) p (omega arith), level_in-sum (flat_map entries seqs) p once, sum_by-flat_map)
+      (sum_by-IsPermutation (λ s. sum_by (λ (e : ℕ × ℕ). cond (eqb e.0 p) e.1 0) (entries s)) seqs other moved)
 
 few_entries : (source : List BidiClass) (brackets : List (Option BidiMatchedOpeningBracket)) (levels : List ℕ) (classes : List BidiClass) (test : ℕ → Bool) (s : RunSequence)
     → count_by (λ (e : ℕ × ℕ). test e.0) (sequence_levels source brackets levels classes s) ≤ count_by test s.places
@@ -60,19 +57,11 @@ table_of_resolved : (source : List BidiClass) (brackets : List (Option BidiMatch
 unfolding sequence_levels
 table_of_resolved source brackets levels classes new [] h = refl
 table_of_resolved source brackets levels classes new (s ∷ seqs) h =
-    ap (λ (vs : List ℕ). zip s.places vs ++ flat_map (sequence_levels source brackets levels classes) seqs) (sym h.0)
-    ∙ ap (λ (xs : List (ℕ × ℕ)). xs ++ flat_map (sequence_levels source brackets levels classes) seqs) (zip-at_places new s.places)
-    ∙ ap (λ (xs : List (ℕ × ℕ)). map (λ p. (p, level_at new p)) s.places ++ xs) (table_of_resolved source brackets levels classes new seqs h.1)
-    ∙ sym (map-append (λ p. (p, level_at new p)) s.places (flat_map (λ (r : RunSequence). r.places) seqs))
+    simp (← h.0, zip-at_places, table_of_resolved source brackets levels classes new seqs h.1, map-append)
 
 level_in-map : (new ps : List ℕ) (p : ℕ) → 0 < count_by (λ q. eqb q p) ps → level_in (map (λ q. (q, level_at new q)) ps) p ≡ level_at new p
 level_in-map new [] p h = absurd (omega arith)
-level_in-map new (q ∷ ps) p h = elim (cases_Bool (eqb q p)) [
-  | inl here ↦ rw here (ap (level_at new) (eqb-true q p here))
-  | inr other ↦
-      let none : cond {A = ℕ} (eqb q p) 1 0 ≡ 0 = cond-false (eqb q p) 1 0 other in
-      rw other (level_in-map new ps p (omega (arith, sum_by-cons (λ r. cond (eqb r p) 1 0) q ps)))
-]
+level_in-map new (q ∷ ps) p h = grind (arith, sum_by-cons, level_in-map new ps p)
 
 -- so the table says what the list has at each kept character
 pub level_in-resolved : (paragraph : ℕ) (source stored : List BidiClass) (brackets : List (Option BidiMatchedOpeningBracket)) (levels : List ℕ) (classes : List BidiClass) (new : List ℕ) (seqs : List RunSequence) (p : ℕ)
@@ -87,8 +76,7 @@ level_in-resolved paragraph source stored brackets levels classes new seqs p mov
     let second : count_by (λ q. eqb q p) (flat_map (λ (s : RunSequence). s.places) seqs) ≡ count_by (λ q. eqb q p) (flat_map (λ (s : RunSequence). s.places) (sequences paragraph stored levels)) =
     search (rules, sum_by-flat_map, sum_by-IsPermutation) in
     sym (level_in-order entries (few_entries source brackets levels classes) stored (sequences paragraph stored levels) seqs p (IsPermutation-sequences stored levels paragraph) moved)
-    ∙ ap (λ (t : List (ℕ × ℕ)). level_in t p) (table_of_resolved source brackets levels classes new seqs resolved)
-    ∙ level_in-map new (flat_map (λ (s : RunSequence). s.places) seqs) p (omega arith)
+    ∙ simp (table_of_resolved source brackets levels classes new seqs resolved) (level_in-map new (flat_map (λ (s : RunSequence). s.places) seqs) p (omega arith))
 
 filled_is : (table : List (ℕ × ℕ)) (new : List ℕ) (classes : List BidiClass) (p before : ℕ) → length new ≡ length classes
     → ((k : ℕ) → k < length classes → is_removed (class_at classes k) ≡ false → level_at new k ≡ level_in table (p + k))
@@ -100,10 +88,11 @@ filled_is table [] [] p before long kept front removed = refl
 filled_is table [] (c ∷ classes) p before long kept front removed = absurd (omega arith)
 filled_is table (v ∷ new) [] p before long kept front removed = absurd (omega arith)
 filled_is table (v ∷ new) (c ∷ classes) p before long kept front removed =
-    ap (λ (x : ℕ). x ∷ new) here
-    ∙ ap (λ (xs : List ℕ). cond (is_removed c) before (level_in table p) ∷ xs)
-    (filled_is table new classes (p + 1) v (omega arith) (λ k below is. kept (suc k) (omega arith) is ∙ ap (level_in table) (omega arith)) (λ some is. removed 0 (omega arith) is) (λ k below is. removed (suc k) (omega arith) is)
-    ∙ ap (λ (x : ℕ). filled_levels table (p + 1) x classes) here)
+    simp (
+      ← here,
+      ← filled_is table new classes (p + 1) v (omega arith) (λ k below is. kept (suc k) (omega arith) is ∙ ap (level_in table) (omega arith))
+          (λ some is. removed 0 (omega arith) is) (λ k below is. removed (suc k) (omega arith) is),
+    )
   where
     here : v ≡ cond (is_removed c) before (level_in table p)
     here = grind arith
@@ -118,10 +107,7 @@ filled_levels-is table new classes before long kept front removed =
     filled_is table new classes 0 before long
     (λ k below stays. sym (kept k (ap not stays) below) ∙ ap (level_in table) (omega arith))
     (λ some gone. front some (ap not gone))
-    (λ k below gone. ap (level_at new) (suc_one k) ∙ removed k (omega arith) (ap (λ x. not (is_removed (class_at classes x))) (sym (suc_one k)) ∙ ap not gone))
-  where
-    suc_one : (k : ℕ) → suc k ≡ k + 1
-    suc_one k = omega arith
+    (λ k below gone. simp add-one at (removed k (omega arith) (simp (add-one k, gone))))
 
 -- the levels of a paragraph, as a pass leaves them: some places were resolved, in sequences of any order, and what X9 removed was filled
 pub levels_in-written : (paragraph : ℕ) (source : List BidiClass) (brackets : List (Option BidiMatchedOpeningBracket)) (stored : List BidiClass) (levels : List ℕ) (classes : List BidiClass) (seqs : List RunSequence) (resolved new : List ℕ)
@@ -133,12 +119,6 @@ pub levels_in-written : (paragraph : ℕ) (source : List BidiClass) (brackets : 
     → new ≡ levels_in paragraph source brackets
 unfolding levels_in
 levels_in-written paragraph source brackets stored levels classes seqs resolved new is_stored is_levels is_classes moved done long kept front removed =
-    filled_levels-is (flat_map (sequence_levels source brackets levels classes) (sequences paragraph stored levels)) new stored paragraph long
+    rw (← is_stored, ← is_levels, ← is_classes) (filled_levels-is _ new stored paragraph long
     (λ p stays within. level_in-resolved paragraph source stored brackets levels classes resolved seqs p moved done stays within ∙ sym (kept p within stays))
-    front removed
-    ∙ ap (λ (ls : List ℕ). filled stored ls classes) is_levels
-    ∙ ap (λ (cs : List BidiClass). filled stored (explicit_levels paragraph stored) cs) is_classes
-    ∙ ap (λ (cs : List BidiClass). filled cs (explicit_levels paragraph cs) (explicit_classes paragraph cs)) is_stored
-  where
-    filled : List BidiClass → List ℕ → List BidiClass → List ℕ
-    filled st ls cs = filled_levels (flat_map (sequence_levels source brackets ls cs) (sequences paragraph st ls)) 0 paragraph st
+    front removed)

@@ -3,7 +3,7 @@ use Rattle.std.proofs.Common.{◌≡◌, ℕ, zero, suc, ◌+◌, ◌-◌, ◌<�
 use Rattle.std.specs.Prelude.{replicate}
 use Rattle.std.specs.List.{list_all}
 use Rattle.std.specs.Option.{option_or}
-use Rattle.std.proofs.lemmas.Bool.{cases_Bool, and_parts, and_from}
+use Rattle.std.proofs.lemmas.Bool.{cases_Bool, and_parts}
 use Rattle.std.proofs.lemmas.List.{reverse-append, reverse-reverse, take-append-le, take_all, length-take-le, get_or-append_right, get_or-drop, length-replicate}
 use Rattle.std.proofs.lemmas.List.Elements.{filter-append}
 use Rattle.bidi_base.specs.Places.{last_or}
@@ -27,9 +27,7 @@ chosen p b x y h k = grind arith
 pub list_all-take : {X : Type 0} (p : X → Bool) (n : ℕ) (xs : List X) → list_all p xs ≡ true → list_all p (take n xs) ≡ true
 list_all-take p zero xs h = refl
 list_all-take p (suc n) [] h = refl
-list_all-take p (suc n) (x ∷ xs) h =
-    let parts = and_parts _ _ h in
-    and_from _ _ parts.0 (list_all-take p n xs parts.1)
+list_all-take p (suc n) (x ∷ xs) h = grind (arith, list_all-take p n xs)
 
 pub list_all-drop : {X : Type 0} (p : X → Bool) (n : ℕ) (xs : List X) → list_all p xs ≡ true → list_all p (drop n xs) ≡ true
 list_all-drop p zero xs h = h
@@ -45,10 +43,7 @@ pub reverse_front : {X : Type 0} (xs : List X) (v : X) (vs : List X) → reverse
 reverse_front {X} xs v vs e =
     let whole : xs ≡ reverse vs ++ v ∷ [] = split_last xs v vs e in
     let count : length xs - 1 ≡ length (reverse vs) = omega (arith, ap length whole, length-append (reverse vs) (v ∷ [])) in
-    ap reverse
-    (ap (λ k. take k xs) count ∙ ap (take (length (reverse vs))) whole
-    ∙ take-append-le (length (reverse vs)) (reverse vs) (v ∷ []) (le_refl _) ∙ take_all (length (reverse vs)) (reverse vs) (le_refl _))
-    ∙ reverse-reverse vs
+    rw (count, whole) (simp (take-append-le (length (reverse vs)) (reverse vs) (v ∷ []) (le_refl _), take_all (length (reverse vs)) (reverse vs) (le_refl _), reverse-reverse))
 
 pub reverse_none : {X : Type 0} (xs : List X) → reverse xs ≡ [] → xs ≡ []
 reverse_none xs e = sym (reverse-reverse xs) ∙ ap reverse e
@@ -69,32 +64,28 @@ map-reverse f xs = map_onto f xs []
 
 pub filter-reverse : {X : Type 0} (p : X → Bool) (xs : List X) → filter p (reverse xs) ≡ reverse (filter p xs)
 filter-reverse p [] = refl
-filter-reverse {X} p (x ∷ xs) =
-    ap (filter p) (reverse-append (x ∷ []) xs) ∙ filter-append p (reverse xs) (x ∷ []) ∙ ap (λ (ys : List X). ys ++ filter p (x ∷ [])) (filter-reverse p xs)
-    ∙ elim (cases_Bool (p x)) [ inl here ↦ rw here (sym (reverse-append (x ∷ []) (filter p xs))) | inr gone ↦ rw gone (append-nil (reverse (filter p xs))) ]
+filter-reverse p (x ∷ xs) = simp (reverse-append (x ∷ []) xs, filter-append, filter-reverse p xs)
+    (elim (cases_Bool (p x)) [ inl here ↦ rw here (sym (reverse-append (x ∷ []) (filter p xs))) | inr gone ↦ rw gone (append-nil (reverse (filter p xs))) ])
 
 -- ---- tests one after another
 
 pub filter_twice : {X : Type 0} (p q : X → Bool) (xs : List X) → filter q (filter p xs) ≡ filter (λ x. p x && q x) xs
 filter_twice p q [] = refl
-filter_twice p q (x ∷ xs) = elim (cases_Bool (p x)) [ inl here ↦ rw (here, filter_twice p q xs) refl | inr gone ↦ rw (gone, filter_twice p q xs) refl ]
+filter_twice p q (x ∷ xs) = grind (arith, filter_twice p q xs)
 
 pub find-filter : {X : Type 0} (p q : X → Bool) (xs : List X) → find q (filter p xs) ≡ find (λ x. p x && q x) xs
 find-filter p q [] = refl
-find-filter p q (x ∷ xs) = elim (cases_Bool (p x)) [ inl here ↦ rw (here, find-filter p q xs) refl | inr gone ↦ rw (gone, find-filter p q xs) refl ]
+find-filter p q (x ∷ xs) = grind (arith, find-filter p q xs)
 
 pub find-map : {X Y : Type 0} (q : Y → Bool) (f : X → Y) (xs : List X) → find q (map f xs) ≡ option_map f (find (λ x. q (f x)) xs)
 find-map q f [] = refl
-find-map q f (x ∷ xs) = elim (cases_Bool (q (f x))) [ inl here ↦ rw here refl | inr gone ↦ rw gone (find-map q f xs) ]
+find-map q f (x ∷ xs) = grind (arith, find-map q f xs)
 
 -- ---- what a search finds
 
 pub find-passes : {X : Type 0} (test : X → Bool) (xs : List X) (x : X) → find test xs ≡ Some x → test x ≡ true
 find-passes test [] x e = absurd (cc e)
-find-passes test (y ∷ xs) x e = elim (cases_Bool (test y)) [
-  | inl here ↦ let same : Some y ≡ Some x = rw here at e in grind (arith, here, same)
-  | inr gone ↦ find-passes test xs x (rw gone at e)
-]
+find-passes test (y ∷ xs) x e = grind (arith, find-passes test xs x)
 
 pub find-index : {X : Type 0} (test : X → Bool) (xs : List X) (x d : X) → find test xs ≡ Some x → (k : ℕ) × (k < length xs) × (get_or xs k d ≡ x)
 find-index test [] x d e = absurd (cc e)

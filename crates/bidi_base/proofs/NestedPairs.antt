@@ -1,5 +1,5 @@
 -- Bracket pairs never cross: each stands behind those that open before it, or within them.
-use Rattle.std.proofs.Common.{◌≡◌, ℕ, zero, suc, ◌+◌, ◌<◌, true, false, ◌&&◌, eqb, ltb, leb, List, [], ◌∷◌, ◌++◌, length, get_or, find, filter_map, Option, Some, sym, ap, subst, ◌∙◌, ◌⊎◌, arith, inl, inr, add-one, eqb-true, rules}
+use Rattle.std.proofs.Common.{◌≡◌, ℕ, zero, suc, ◌+◌, ◌<◌, true, false, ◌&&◌, eqb, ltb, leb, List, [], ◌∷◌, ◌++◌, length, get_or, find, filter_map, Option, Some, ap, subst, ◌⊎◌, arith, inl, inr, add-one, eqb-true, rules}
 use Rattle.std.specs.Prelude.{All}
 use Rattle.std.specs.List.{range_with_len, AllByRecursion, AllPairs}
 use Rattle.std.proofs.lemmas.Bool.{cases_lt, and_parts}
@@ -21,8 +21,7 @@ module _ (f : ℕ → Option (ℕ × ℕ)) (apart : (i m : ℕ) (p q : ℕ × �
   later_found : (i low n : ℕ) (p : ℕ × ℕ) → f i ≡ Some p → i < low → AllByRecursion (IsBehindOrWithin p) (filter_map f (range_with_len low n))
   later_found i low zero p e order = tt
   later_found i low (suc n) p e order =
-      let rest = later_found i (low + 1) n p e (omega arith) in
-      elim (cases_Option (f low)) [ inl none ↦ rw none rest | inr q ↦ rw q.1 (apart i low p q.0 e q.1 order, rest) ]
+      grind (arith, later_found i (low + 1) n p e, apart i low p)
 
   found_nested : (low n : ℕ) → AllPairs IsBehindOrWithin (filter_map f (range_with_len low n))
   found_nested low zero = λ i j d order fits. absurd (omega arith)
@@ -55,26 +54,19 @@ module _ (brackets : List (Option BidiMatchedOpeningBracket)) where
   waiting-opening : (pairs : List (ℕ × ℕ)) (j i : ℕ) → is_available brackets pairs j i ≡ true → is_opening (bracket_at brackets i) ≡ true
   waiting-opening pairs j i h = grind arith
 
-  waiting-free : (pairs : List (ℕ × ℕ)) (j i : ℕ) → is_available brackets pairs j i ≡ true → is_taken pairs j i ≡ false
-  waiting-free pairs j i h = grind arith
-
   pub closed_before-pairs : (j : ℕ) → All (IsClosedPair j) (closed_before brackets j)
   closed_before-pairs zero = All-nil (IsClosedPair 0)
   closed_before-pairs (suc j) =
       let before = closed_before brackets j in
-      let later : All (IsClosedPair (j + 1)) before = λ k d fits. one_later j (get_or before k d) (closed_before-pairs j k d fits) in
-      let next : All (IsClosedPair (j + 1)) (closed_before brackets (j + 1)) = elim (closes j) [
-        | inl same ↦ subst (All (IsClosedPair (j + 1))) (sym same) later
+      let later : All (IsClosedPair (j + 1)) before = λ k d fits.
+      let h = closed_before-pairs j k d fits in record { order = h.order; below = omega (arith, h.below); opening = h.opening; closing = h.closing } in
+      subst (λ (n : ℕ). All (IsClosedPair n) (closed_before brackets n)) (add-one j) (elim (closes j) [
+        | inl same ↦ simp same later
         | inr pair ↦
             let i = pair.0 in
             let new : IsClosedPair (j + 1) (i, j) = record { order = pair.1.order; below = omega arith; opening = waiting-opening before j i pair.1.waits; closing = pair.1.closing } in
-            subst (All (IsClosedPair (j + 1))) (sym pair.1.pairs) (All-append (IsClosedPair (j + 1)) before ((i, j) ∷ []) later (All-cons (IsClosedPair (j + 1)) (i, j) [] new (All-nil (IsClosedPair (j + 1)))))
-      ]
-      in
-      subst (λ (n : ℕ). All (IsClosedPair n) (closed_before brackets n)) (add-one j) next
-    where
-      one_later : (j : ℕ) (p : ℕ × ℕ) → IsClosedPair j p → IsClosedPair (j + 1) p
-      one_later j p h = record { order = h.order; below = omega (arith, h.below); opening = h.opening; closing = h.closing }
+            simp pair.1.pairs (All-append (IsClosedPair (j + 1)) before ((i, j) ∷ []) later (All-cons (IsClosedPair (j + 1)) (i, j) [] new (All-nil (IsClosedPair (j + 1)))))
+      ])
 
   -- two pairs never cross
   abbrev pub AreApart : List (ℕ × ℕ) → Type 0
@@ -99,34 +91,24 @@ module _ (brackets : List (Option BidiMatchedOpeningBracket)) where
         | inl below ↦ inl (below, get_or_append_left before ((i, j) ∷ []) (0, 0) k below)
         | inr above ↦
             let last : k ≡ length before = omega (arith, length-append before ((i, j) ∷ [])) in
-            inr (ap (λ (n : ℕ). get_or (before ++ (i, j) ∷ []) n (0, 0)) last ∙ get_or-append_seam before (i, j) [] (0, 0))
+            inr (simp last (get_or-append_seam before (i, j) [] (0, 0)))
       ]
 
-      first : (p q : ℕ × ℕ) → p ≡ q → p.0 ≡ q.0
-      first p q e = ap (λ (x : ℕ × ℕ). x.0) e
-
       apart_by : (p q : ℕ × ℕ) (k m : ℕ) → ((k < length before) × (p ≡ get_or before k (0, 0))) ⊎ (p ≡ (i, j)) → ((m < length before) × (q ≡ get_or before m (0, 0))) ⊎ (q ≡ (i, j)) → p.0 < q.0 → IsBehindOrWithin p q
-      apart_by p q k m (inl old) (inl old1) order =
-          rw (old.1, old1.1) (earlier k m old.0 old1.0 (omega (arith, first p (get_or before k (0, 0)) old.1, first q (get_or before m (0, 0)) old1.1)))
+      apart_by p q k m (inl old) (inl old1) order = rw (old.1, old1.1) (earlier k m old.0 old1.0 (rw (old.1, old1.1) at order))
       apart_by p q k m (inl old) (inr new) order =
-          let x = get_or before k (0, 0) in
-          let lower : x.0 < i = omega (arith, first p x old.1, first q (i, j) new) in
-          rw (old.1, new) (inl (free_between j i x (closed_before-pairs j k (0, 0) old.0) (waiting-opening before j i h.waits) (free_at before j i k (waiting-free before j i h.waits) old.0) lower))
-      apart_by p q k m (inr new) (inl old) order =
-          let x = get_or before m (0, 0) in
-          let lower : i < x.0 = omega (arith, first p (i, j) new, first q x old.1) in
-          rw (new, old.1) (inr (lower, (closed_before-pairs j m (0, 0) old.0).below))
-      apart_by p q k m (inr new) (inr new1) order = absurd (omega (arith, first p (i, j) new, first q (i, j) new1))
+          let free = free_at before j i k (grind (arith, h.waits)) old.0 in
+          rw (old.1, new) (inl (free_between j i _ (closed_before-pairs j k (0, 0) old.0) (waiting-opening before j i h.waits) free (rw (old.1, new) at order)))
+      apart_by p q k m (inr new) (inl old) order = rw (new, old.1) (inr (rw (new, old.1) at order, (closed_before-pairs j m (0, 0) old.0).below))
+      apart_by p q k m (inr new) (inr new1) order = absurd (omega (arith, rw (new, new1) at order))
 
   pub closed_before-apart : (j : ℕ) → AreApart (closed_before brackets j)
   closed_before-apart zero = λ k m fits fits1 order. absurd (omega arith)
   closed_before-apart (suc j) =
-      let next : AreApart (closed_before brackets (j + 1)) = elim (closes j) [
-        | inl same ↦ subst AreApart (sym same) (closed_before-apart j)
-        | inr pair ↦ subst AreApart (sym pair.1.pairs) (apart-more j pair.0 pair.1 (closed_before-apart j))
-      ]
-      in
-      subst (λ (n : ℕ). AreApart (closed_before brackets n)) (add-one j) next
+      subst (λ (n : ℕ). AreApart (closed_before brackets n)) (add-one j) (elim (closes j) [
+        | inl same ↦ simp same (closed_before-apart j)
+        | inr pair ↦ simp pair.1.pairs (apart-more j pair.0 pair.1 (closed_before-apart j))
+      ])
 
   -- those that are found at two indexes
   apart-found : (pairs : List (ℕ × ℕ)) (limit : ℕ) → AreApart pairs → (i m : ℕ) (p q : ℕ × ℕ) → find (λ (r : ℕ × ℕ). eqb r.0 i && ltb r.1 limit) pairs ≡ Some p → find (λ (r : ℕ × ℕ). eqb r.0 m && ltb r.1 limit) pairs ≡ Some q → i < m → IsBehindOrWithin p q

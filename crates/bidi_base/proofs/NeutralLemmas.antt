@@ -1,14 +1,13 @@
 -- The classes that N0 to N2 leave: N0 keeps those that W7 leaves, and after N2 each has a direction.
-use Rattle.std.proofs.Common.{◌≡◌, ℕ, zero, suc, ◌+◌, ◌<◌, ◌≤◌, Bool, true, List, [], ◌∷◌, map, filter_map, fold, Option, Some, unwrap_or, refl, arith, rules}
+use Rattle.std.proofs.Common.{◌≡◌, ℕ, zero, suc, ◌+◌, ◌<◌, ◌≤◌, Bool, true, List, [], ◌∷◌, map, fold, Option, Some, unwrap_or, refl, arith, rules}
 use Rattle.std.proofs.lemmas.Grind.{common_steps}
-use Rattle.std.specs.List.{list_all, range_with_len, cons_option}
+use Rattle.std.specs.List.{list_all, range_with_len}
 use Rattle.std.proofs.lemmas.Bool.{and_from, or_left}
 use Rattle.bidi_base.specs.declared.char_data.BidiClass.{BidiClass}
 use Rattle.bidi_base.specs.declared.char_data.BidiClass.TheVariants.{L, R}
 use Rattle.bidi_base.specs.declared.data_source.BidiMatchedOpeningBracket.{BidiMatchedOpeningBracket}
 use Rattle.bidi_base.specs.Classes.{as_direction, has_direction, is_l_or_r, is_neutral, is_weak_resolved}
 use Rattle.bidi_base.specs.Levels.{is_odd, direction_of}
-use Rattle.bidi_base.specs.Places.{first_or}
 use Rattle.bidi_base.specs.Neutral.{nearest_direction, pair_direction, with_pair, n0_pair, n0, n1_rule, n1_n2, neutral_classes}
 use Rattle.bidi_base.proofs.ContextLemmas.{list_all-in_context, list_all-get_or}
 use Rattle.bidi_base.proofs.Lists.{chosen}
@@ -20,13 +19,10 @@ directed c h = grind arith
 pub nearest_direction-more : (d c : BidiClass) (cs : List BidiClass) → nearest_direction d (c ∷ cs) ≡ unwrap_or (as_direction c) (nearest_direction d cs)
 nearest_direction-more d c cs = grind arith
 
-one_option : (d c : BidiClass) (ds : List BidiClass) → is_l_or_r d ≡ true → is_l_or_r (first_or d ds) ≡ true → is_l_or_r (first_or d (cons_option (as_direction c) ds)) ≡ true
-one_option d c ds h k = grind arith
-
 -- the nearest direction is L or R
 pub nearest_direction-l_or_r : (d : BidiClass) (cs : List BidiClass) → is_l_or_r d ≡ true → is_l_or_r (nearest_direction d cs) ≡ true
 nearest_direction-l_or_r d [] h = h
-nearest_direction-l_or_r d (c ∷ cs) h = one_option d c (filter_map as_direction cs) h (nearest_direction-l_or_r d cs h)
+nearest_direction-l_or_r d (c ∷ cs) h = grind (arith, nearest_direction-l_or_r d cs h)
 
 pub direction_of-l_or_r : (level : ℕ) → is_l_or_r (direction_of level) ≡ true
 direction_of-l_or_r level = chosen is_l_or_r (is_odd level) R L refl refl
@@ -46,13 +42,9 @@ resolved c h = or_left (has_direction c) (is_neutral c) (directed c h)
 -- what each class passes, and each direction that a pair may take, each passes after N0 too
 module _ (p : BidiClass → Bool) (e sos : BidiClass) (source : List BidiClass)
     (takes : (classes : List BidiClass) (pair : ℕ × ℕ) (d : BidiClass) → list_all p classes ≡ true → pair_direction e sos classes pair ≡ Some d → p d ≡ true) where
-  with_pair-keeps : (pair : ℕ × ℕ) (classes : List BidiClass) (d : BidiClass) → p d ≡ true → list_all p classes ≡ true → list_all p (with_pair source pair classes d) ≡ true
-  unfolding with_pair
-  with_pair-keeps pair classes d h k = grind (arith, list_all-map-range, list_all-get_or)
-
   n0_pair-keeps : (classes : List BidiClass) (pair : ℕ × ℕ) → list_all p classes ≡ true → list_all p (n0_pair e sos source classes pair) ≡ true
-  unfolding n0_pair
-  n0_pair-keeps classes pair l = grind (arith, with_pair-keeps)
+  unfolding n0_pair with_pair
+  n0_pair-keeps classes pair l = grind (arith, list_all-map-range, list_all-get_or)
 
   keeps_from : (pairs : List (ℕ × ℕ)) (classes : List BidiClass) → list_all p classes ≡ true → list_all p (fold (n0_pair e sos source) classes pairs) ≡ true
   keeps_from [] classes l = l

@@ -1,5 +1,5 @@
 -- N0 reads source classes for nonspacing marks alone, so stored classes serve as well.
-use Rattle.std.proofs.Common.{◌≡◌, ℕ, Bool, List, [], ◌∷◌, map, fold, Option, refl, ap, ◌∙◌, arith}
+use Rattle.std.proofs.Common.{◌≡◌, ℕ, List, [], ◌∷◌, map, fold, Option, refl, arith}
 use Rattle.std.specs.Prelude.{slice_range}
 use Rattle.std.specs.List.{list_all}
 use Rattle.std.proofs.lemmas.List.{get_or_past, take-map, drop-map}
@@ -22,17 +22,9 @@ module _ (source other : List BidiClass) (same : map is_nsm source ≡ map is_ns
   unfolding is_mark_after
   is_mark_after-source b k = grind (arith, all_marks)
 
-  goes_with_pair-source : (pair : ℕ × ℕ) (k : ℕ) → goes_with_pair source pair k ≡ goes_with_pair other pair k
-  unfolding goes_with_pair
-  goes_with_pair-source pair k = grind (arith, is_mark_after-source)
-
-  with_pair-source : (pair : ℕ × ℕ) (classes : List BidiClass) (d : BidiClass) → with_pair source pair classes d ≡ with_pair other pair classes d
-  unfolding with_pair
-  with_pair-source pair classes d = grind (arith, goes_with_pair-source)
-
   n0_pair-source : (e sos : BidiClass) (classes : List BidiClass) (pair : ℕ × ℕ) → n0_pair e sos source classes pair ≡ n0_pair e sos other classes pair
-  unfolding n0_pair
-  n0_pair-source e sos classes pair = grind (arith, with_pair-source)
+  unfolding n0_pair with_pair goes_with_pair
+  n0_pair-source e sos classes pair = grind (arith, is_mark_after-source)
 
   n0_from : (e sos : BidiClass) (pairs : List (ℕ × ℕ)) (classes : List BidiClass) → fold (n0_pair e sos source) classes pairs ≡ fold (n0_pair e sos other) classes pairs
   n0_from e sos [] classes = refl
@@ -49,5 +41,4 @@ stored_classes-mark classes p = grind (arith, class_at-stored_classes, get_or_pa
 -- the same characters are marks by their stored classes
 pub marks-stored_classes : (classes : List BidiClass) (ps : List ℕ) → map is_nsm (at_places L (stored_classes classes) ps) ≡ map is_nsm (at_places L classes ps)
 marks-stored_classes classes [] = refl
-marks-stored_classes classes (p ∷ ps) =
-    ap (λ (b : Bool). b ∷ map is_nsm (at_places L (stored_classes classes) ps)) (stored_classes-mark classes p) ∙ ap {B = List Bool} (λ bs. is_nsm (class_at classes p) ∷ bs) (marks-stored_classes classes ps)
+marks-stored_classes classes (p ∷ ps) = simp (stored_classes-mark classes p, marks-stored_classes classes ps)

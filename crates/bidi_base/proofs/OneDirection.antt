@@ -1,15 +1,13 @@
 -- A list in which each class is a neutral or one direction, which stands at its ends too: N0 to N2 give that direction to all.
-use Rattle.std.proofs.Common.{◌≡◌, ℕ, Bool, true, cond, List, [], ◌∷◌, length, take, reverse, filter_map, find, Option, Some, option_map, refl, sym, ap, ◌∙◌, arith}
-use Rattle.std.specs.List.{list_all, list_any, cons_option}
-use Rattle.std.proofs.lemmas.Bool.{and_parts}
+use Rattle.std.proofs.Common.{◌≡◌, ℕ, Bool, true, cond, List, [], ◌∷◌, length, take, reverse, filter_map, find, Option, Some, option_map, refl, ap, ◌∙◌, arith}
+use Rattle.std.specs.List.{list_all, list_any}
 use Rattle.bidi_base.specs.declared.char_data.BidiClass.{BidiClass}
 use Rattle.bidi_base.specs.declared.char_data.BidiClass.TheVariants.{L, R}
 use Rattle.bidi_base.specs.declared.data_source.BidiMatchedOpeningBracket.{BidiMatchedOpeningBracket}
 use Rattle.bidi_base.specs.Brackets.{bracket_pairs}
 use Rattle.bidi_base.specs.Classes.{as_direction, is_l_or_r, is_neutral, same_class}
 use Rattle.bidi_base.specs.Levels.{direction_of}
-use Rattle.bidi_base.specs.Neutral.{nearest_direction, pair_direction, n0, n1_rule, n1_n2, neutral_classes}
-use Rattle.bidi_base.specs.Places.{first_or}
+use Rattle.bidi_base.specs.Neutral.{nearest_direction, pair_direction, n0, n1_rule, neutral_classes}
 use Rattle.bidi_base.proofs.ContextLemmas.{list_all-in_context}
 use Rattle.bidi_base.proofs.Lists.{list_all-take, list_all-drop}
 use Rattle.bidi_base.proofs.NeutralLemmas.{n0-keeps}
@@ -20,33 +18,17 @@ goes_with L L = true
 goes_with R R = true
 goes_with _ c = is_neutral c
 
-is_it : (e c : BidiClass) → is_l_or_r e ≡ true → same_class e c ≡ true → c ≡ e
-is_it e c s h = grind arith
-
 pub itself : (e : BidiClass) → is_l_or_r e ≡ true → same_class e e ≡ true
 itself e s = grind arith
-
-with_itself : (e : BidiClass) → is_l_or_r e ≡ true → goes_with e e ≡ true
-with_itself e s = grind arith
-
-nearest_one : (e c : BidiClass) (ds : List BidiClass) → is_l_or_r e ≡ true → goes_with e c ≡ true → first_or e ds ≡ e → first_or e (cons_option (as_direction c) ds) ≡ e
-nearest_one e c ds s h k = grind arith
-
-one_more : (e c : BidiClass) (ds : List BidiClass) → is_l_or_r e ≡ true → goes_with e c ≡ true → list_all (same_class e) ds ≡ true → list_all (same_class e) (cons_option (as_direction c) ds) ≡ true
-one_more e c ds s h k = grind arith
 
 module _ (e : BidiClass) (side : is_l_or_r e ≡ true) where
   nearest-is : (cs : List BidiClass) → list_all (goes_with e) cs ≡ true → nearest_direction e cs ≡ e
   nearest-is [] h = refl
-  nearest-is (c ∷ cs) h =
-      let parts = and_parts (goes_with e c) (list_all (goes_with e) cs) h in
-      nearest_one e c (filter_map as_direction cs) side parts.0 (nearest-is cs parts.1)
+  nearest-is (c ∷ cs) h = grind (arith, nearest-is cs)
 
   directions-are : (cs : List BidiClass) → list_all (goes_with e) cs ≡ true → list_all (same_class e) (filter_map as_direction cs) ≡ true
   directions-are [] h = refl
-  directions-are (c ∷ cs) h =
-      let parts = and_parts (goes_with e c) (list_all (goes_with e) cs) h in
-      one_more e c (filter_map as_direction cs) side parts.0 (directions-are cs parts.1)
+  directions-are (c ∷ cs) h = grind (arith, directions-are cs)
 
   -- a pair takes this direction or nothing
   pair_direction-is : (classes : List BidiClass) (pair : ℕ × ℕ) (d : BidiClass) → list_all (goes_with e) classes ≡ true → pair_direction e e classes pair ≡ Some d → d ≡ e
@@ -68,16 +50,11 @@ module _ (e : BidiClass) (side : is_l_or_r e ≡ true) where
       → list_all (same_class e) (neutral_classes level e e source brackets classes) ≡ true
   unfolding neutral_classes
   neutral_classes-one level source brackets classes is h =
-      ap (λ (d : BidiClass). list_all (same_class e) (n1_n2 d e e (n0 d e source (bracket_pairs classes brackets) classes))) (sym is)
-      ∙ list_all-in_context (n1_rule e e e) (goes_with e) (same_class e) n1_rule-is [] (n0 e e source (bracket_pairs classes brackets) classes) refl
-      (n0-keeps (goes_with e) e e source (λ cs pair d all is. ap (goes_with e) (pair_direction-is cs pair d all is) ∙ with_itself e side) (bracket_pairs classes brackets) classes h)
+      rw (← is) (list_all-in_context (n1_rule e e e) (goes_with e) (same_class e) n1_rule-is [] (n0 e e source (bracket_pairs classes brackets) classes) refl
+      (n0-keeps (goes_with e) e e source (λ cs pair d all is. ap (goes_with e) (pair_direction-is cs pair d all is) ∙ grind arith) (bracket_pairs classes brackets) classes h))
 
   -- lists of this class alone
   pub same_lists : (xs ys : List BidiClass) → list_all (same_class e) xs ≡ true → list_all (same_class e) ys ≡ true → length xs ≡ length ys → xs ≡ ys
   same_lists [] [] h k l = refl
-  same_lists [] (y ∷ ys) h k l = absurd (omega (arith, l))
-  same_lists (x ∷ xs) [] h k l = absurd (omega (arith, l))
-  same_lists (x ∷ xs) (y ∷ ys) h k l =
-      let a = and_parts (same_class e x) (list_all (same_class e) xs) h in
-      let b = and_parts (same_class e y) (list_all (same_class e) ys) k in
-      ap (λ (c : BidiClass). c ∷ xs) (is_it e x side a.0 ∙ sym (is_it e y side b.0)) ∙ ap (λ (cs : List BidiClass). y ∷ cs) (same_lists xs ys a.1 b.1 (omega (arith, l)))
+  same_lists (x ∷ xs) (y ∷ ys) h k l = grind (arith, same_lists xs ys)
+  same_lists _ _ h k l = absurd (omega (arith, l))

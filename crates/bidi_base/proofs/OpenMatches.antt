@@ -1,9 +1,9 @@
 -- Openings and their matches: a closing matches the innermost opening that is open before it, so no two openings have one match.
-use Rattle.std.proofs.Common.{◌≡◌, ℕ, zero, suc, ◌+◌, ◌<◌, Bool, true, false, List, [], ◌∷◌, Some, refl, sym, ap, subst, ◌∙◌, arith, inl, inr, eqb-true}
+use Rattle.std.proofs.Common.{◌≡◌, ℕ, zero, suc, ◌+◌, ◌<◌, Bool, true, false, List, [], ◌∷◌, Some, refl, sym, ap, arith, inl, inr, eqb-true}
 use Rattle.std.proofs.lemmas.Bool.{both_ways, false_from_ne_true}
 use Rattle.bidi_base.specs.Matching.{is_closed_at, match_of}
 use Rattle.bidi_base.proofs.PlacesLemmas.{IsLeast, find-between-is}
-use Rattle.bidi_base.proofs.MatchingLemmas.{closings, openings, at_most_one, match_of-IsLeast}
+use Rattle.bidi_base.proofs.MatchingLemmas.{at_most_one, match_of-IsLeast}
 use Rattle.bidi_base.proofs.ReadStack.{Member, read_closed, read_opened, IsOpenUnder-count, IsOpenUnder-closed, AreOpen, IsReadStack, IsReadStack-start, IsReadStack-more}
 
 module _ (opens closes : ℕ → Bool) (apart : (k : ℕ) → opens k ≡ true → closes k ≡ false) where
@@ -20,10 +20,7 @@ module _ (opens closes : ℕ → Bool) (apart : (k : ℕ) → opens k ≡ true �
   -- what is closed at m has none above it
   none_above : (m depth q : ℕ) (stack : List ℕ) → AreOpen opens closes m depth stack → Member q stack → is_closed_at opens closes q m ≡ true → depth ≡ 0
   none_above m depth q [] h member closed = absurd member
-  none_above m depth q (x ∷ stack) h (inl same) closed =
-      let here : is_closed_at opens closes x m ≡ true = subst (λ (y : ℕ). is_closed_at opens closes y m ≡ true) same closed in
-      omega (arith, IsOpenUnder-count opens closes m depth x h.1, eqb-true (closings opens closes x m) (openings opens closes x m + 1) here, at_most_one (closes m))
-  none_above m depth q (x ∷ stack) h (inr below) closed = absurd (omega (arith, none_above m (depth + 1) q stack h.2 below closed))
+  none_above m depth q (x ∷ stack) h member closed = grind (arith, IsOpenUnder-count opens closes m depth x, eqb-true, at_most_one (closes m), none_above m (depth + 1) q stack)
 
   -- and no other opening matches it
   pub IsReadStack-matched : (n m q : ℕ) (stack : List ℕ) → IsReadStack opens closes m stack → opens q ≡ true → match_of opens closes n q ≡ Some m → (rest : List ℕ) × (stack ≡ q ∷ rest)
@@ -45,15 +42,10 @@ module _ (opens closes : ℕ → Bool) (apart : (k : ℕ) → opens k ≡ true �
   some_stack zero = ([], IsReadStack-start opens closes)
   some_stack (suc m) =
       let h = some_stack m in
-      let next : m + 1 ≡ suc m = omega arith in
-      let stack : List ℕ = read_opened (opens m) m (read_closed (closes m) h.0) in
-      (stack, subst (λ (k : ℕ). IsReadStack opens closes k stack) next (IsReadStack-more opens closes m (opens m) (closes m) h.0 refl refl (apart m) h.1))
+      (read_opened (opens m) m (read_closed (closes m) h.0), grind (arith, IsReadStack-more opens closes m (opens m) (closes m) h.0 refl refl (apart m) h.1))
 
   -- two openings have no match in common
   pub match_of-injective : (n p r q : ℕ) → opens p ≡ true → opens r ≡ true → match_of opens closes n p ≡ Some q → match_of opens closes n r ≡ Some q → p ≡ r
   match_of-injective n p r q opens_p opens_r e f =
       let h = some_stack q in
-      let over_p = IsReadStack-matched n q p h.0 h.1 opens_p e in
-      let over_r = IsReadStack-matched n q r h.0 h.1 opens_r f in
-      let same : p ∷ over_p.0 ≡ r ∷ over_r.0 = sym over_p.1 ∙ over_r.1 in
-      cc same
+      cc ((IsReadStack-matched n q p h.0 h.1 opens_p e).1, (IsReadStack-matched n q r h.0 h.1 opens_r f).1)

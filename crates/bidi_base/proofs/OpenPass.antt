@@ -1,9 +1,8 @@
 -- The pass from the front, with what is open as the code keeps it: the innermost last.
-use Rattle.std.proofs.Common.{◌≡◌, ℕ, ◌+◌, ◌-◌, ◌<◌, ◌≤◌, Bool, true, false, cond, List, [], ◌∷◌, ◌++◌, length, map, get_or, take, reverse, Option, Some, None, refl, sym, ap, subst, ◌∙◌, ◌⊎◌, inl, inr}
-use Rattle.std.proofs.lemmas.Bool.{cases_Bool, cond-true, cond-false}
+use Rattle.std.proofs.Common.{◌≡◌, ℕ, ◌+◌, ◌-◌, ◌<◌, ◌≤◌, true, false, List, [], ◌∷◌, ◌++◌, length, map, get_or, take, reverse, Option, Some, None, refl, sym, ap, subst, ◌⊎◌, inl, inr}
+use Rattle.std.proofs.lemmas.Bool.{cases_Bool}
 use Rattle.std.proofs.lemmas.List.{reverse-append}
 use Rattle.bidi_base.specs.declared.char_data.BidiClass.{BidiClass}
-use Rattle.bidi_base.specs.Classes.{is_initiator, is_pdi}
 use Rattle.bidi_base.specs.Places.{class_at, last_or}
 use Rattle.bidi_base.specs.Isolates.{is_initiator_at, is_pdi_at}
 use Rattle.bidi_base.specs.Sequences.{successor, is_first, sequences}
@@ -28,16 +27,12 @@ module _ (classes : List BidiClass) (levels : List ℕ) where
       a (m + 1) out (read_class (class_at classes m) w waits)
   IsAt-read a m out waits w h wait = elim (cases_Bool (is_initiator_at classes m)) [
     | inl opens ↦
-        rw (cond-true (is_initiator (class_at classes m)) (waits ++ w ∷ []) (cond (is_pdi (class_at classes m)) (take (length waits - 1) waits) waits) opens)
+        rw opens
         (finish (waits ++ w ∷ []) (m ∷ h.stack) (w ∷ reverse waits) (IsPass-initiator classes levels a m out h.stack (reverse waits) w h.pass opens (wait opens)) (sym (reverse-append waits (w ∷ []))))
-    | inr other ↦
-        rw (cond-false (is_initiator (class_at classes m)) (waits ++ w ∷ []) (cond (is_pdi (class_at classes m)) (take (length waits - 1) waits) waits) other)
-        (elim (cases_Bool (is_pdi_at classes m)) [
-          | inl closes ↦ rw (cond-true (is_pdi (class_at classes m)) (take (length waits - 1) waits) waits closes) (popped other closes h.stack (reverse waits) refl h.pass)
-          | inr quiet ↦
-              rw (cond-false (is_pdi (class_at classes m)) (take (length waits - 1) waits) waits quiet)
-              (finish waits h.stack (reverse waits) (IsPass-stay classes levels a m out h.stack (reverse waits) h.pass other (inl quiet)) refl)
-        ])
+    | inr other ↦ elim (cases_Bool (is_pdi_at classes m)) [
+      | inl closes ↦ rw (other, closes) (popped other closes h.stack (reverse waits) refl h.pass)
+      | inr quiet ↦ rw (other, quiet) (finish waits h.stack (reverse waits) (IsPass-stay classes levels a m out h.stack (reverse waits) h.pass other (inl quiet)) refl)
+    ]
   ]
     where
       finish : (now : List (Option ℕ)) (st : List ℕ) (r : List (Option ℕ)) → IsPass classes levels a (m + 1) out st r → r ≡ reverse now → IsAt a (m + 1) out now
@@ -56,32 +51,18 @@ module _ (classes : List BidiClass) (levels : List ℕ) where
   pub goes_on : (a p : ℕ) (out : List (List ℕ)) (waits : List (Option ℕ)) → IsAt a p out waits → a ≤ p → p < length classes → BeginsRun classes levels p
       → ((waiting_for (class_at classes p) waits ≡ None) × (is_first classes levels p ≡ true))
       ⊎ ((t : ℕ) × (waiting_for (class_at classes p) waits ≡ Some t) × (t < length out) × (successor classes levels (last_or 0 (get_or out t [])) ≡ Some p))
-  goes_on a p out waits h from within begins = by_pdi (is_pdi_at classes p) refl
+  goes_on a p out waits h from within begins = elim (cases_Bool (is_pdi_at classes p)) [
+    | inl closes ↦ by_top closes h.stack (reverse waits) refl h.pass
+    | inr other ↦ inl (simp other, is_first-no_pdi classes levels p other begins)
+  ]
     where
       by_top : is_pdi_at classes p ≡ true → (st : List ℕ) (r : List (Option ℕ)) → reverse waits ≡ r → IsPass classes levels a p out st r
           → ((waiting_for (class_at classes p) waits ≡ None) × (is_first classes levels p ≡ true))
           ⊎ ((t : ℕ) × (waiting_for (class_at classes p) waits ≡ Some t) × (t < length out) × (successor classes levels (last_or 0 (get_or out t [])) ≡ Some p))
-      by_top closes [] [] f pass =
-          inl (cond-true (is_pdi (class_at classes p)) (last_or None waits) None closes ∙ ap (last_or None) (reverse_none waits f), is_first-none_open classes levels a p out [] pass begins)
+      by_top closes [] [] f pass = inl (simp (closes, reverse_none waits f), is_first-none_open classes levels a p out [] pass begins)
       by_top closes [] (v ∷ vs) f pass = absurd pass.waiting
       by_top closes (i ∷ st) [] f pass = absurd pass.waiting
       by_top closes (i ∷ st) (None ∷ vs) f pass =
-          inl (
-            cond-true (is_pdi (class_at classes p)) (last_or None waits) None closes ∙ last_or-reverse None waits None vs f,
-            is_first-not_waiting classes levels a p i out st vs pass
-                within closes begins,
-          )
+          inl (simp (closes, last_or-reverse None waits None vs f), is_first-not_waiting classes levels a p i out st vs pass within closes begins)
       by_top closes (i ∷ st) (Some t ∷ vs) f pass =
-          inr (
-            t,
-            cond-true (is_pdi (class_at classes p)) (last_or None waits) None closes ∙ last_or-reverse None waits (Some t) vs f,
-            pass.waiting.0.0,
-            successor-waiting classes levels a p
-                i t out st vs pass from within closes begins,
-          )
-
-      by_pdi : (c : Bool) → is_pdi_at classes p ≡ c
-          → ((waiting_for (class_at classes p) waits ≡ None) × (is_first classes levels p ≡ true))
-          ⊎ ((t : ℕ) × (waiting_for (class_at classes p) waits ≡ Some t) × (t < length out) × (successor classes levels (last_or 0 (get_or out t [])) ≡ Some p))
-      by_pdi true closes = by_top closes h.stack (reverse waits) refl h.pass
-      by_pdi false other = inl (cond-false (is_pdi (class_at classes p)) (last_or None waits) None other, is_first-no_pdi classes levels p other begins)
+          inr (t, simp (closes, last_or-reverse None waits (Some t) vs f), pass.waiting.0.0, successor-waiting classes levels a p i t out st vs pass from within closes begins)

@@ -1,9 +1,9 @@
 -- The search for the opening of a closing, over entries that a stack keeps of the openings that wait.
-use Rattle.std.proofs.Common.{◌≡◌, ℕ, ◌-◌, ◌<◌, Bool, true, eqb, List, map, length, get_or, reverse, find, Option, Some, option_map, sym, ap, ◌∙◌, arith}
+use Rattle.std.proofs.Common.{◌≡◌, ℕ, ◌-◌, ◌<◌, Bool, eqb, List, map, length, get_or, reverse, Option, Some, option_map, sym, ap, ◌∙◌, arith}
 use Rattle.std.proofs.lemmas.List.{length-reverse, get_or-reverse}
 use Rattle.bidi_base.specs.declared.data_source.BidiMatchedOpeningBracket.{BidiMatchedOpeningBracket}
 use Rattle.bidi_base.specs.Places.{find_last}
-use Rattle.bidi_base.specs.Brackets.{bracket_at, is_opening, is_same_bracket}
+use Rattle.bidi_base.specs.Brackets.{bracket_at, is_same_bracket}
 use Rattle.bidi_base.specs.PairSearch.{opening_of, IsUnderWay}
 use Rattle.bidi_base.proofs.PairsLemmas.{IsUnderWay-entry}
 use Rattle.bidi_base.proofs.Lists.{find-map, find-same, map-reverse}
@@ -15,19 +15,11 @@ find_last-same p q xs same = find-same p q (reverse xs) 0 (λ k below.
     let at = get_or-reverse xs k 0 inside in
     ap p at ∙ same (length xs - 1 - k) (omega arith) ∙ ap q (sym at))
 
-same_opening : (o : Option BidiMatchedOpeningBracket) (b : BidiMatchedOpeningBracket) → is_opening o ≡ true → eqb (opening_of o) b.opening ≡ is_same_bracket o (Some b)
-same_opening o b h = grind arith
-
 -- the search over the entries is one over the openings
 pub find_last-entries : {X : Type 0} (brackets : List (Option BidiMatchedOpeningBracket)) (entry : ℕ → X) (q : X → Bool) (j : ℕ) (places : List ℕ) (b : BidiMatchedOpeningBracket) → IsUnderWay brackets j places
     → bracket_at brackets j ≡ Some b → ((i : ℕ) → q (entry i) ≡ eqb (opening_of (bracket_at brackets i)) b.opening)
     → find_last q (map entry places) ≡ option_map entry (find_last (λ i. is_same_bracket (bracket_at brackets i) (bracket_at brackets j)) places)
 find_last-entries brackets entry q j places b h is tests =
-    ap (find q) (sym (map-reverse entry places))
-    ∙ find-map q entry (reverse places)
-    ∙ ap (option_map entry)
-    (
-    find_last-same (λ i. q (entry i)) (λ i. is_same_bracket (bracket_at brackets i) (Some b)) places
-    (λ k below. tests (get_or places k 0) ∙ same_opening (bracket_at brackets (get_or places k 0)) b (IsUnderWay-entry brackets j places k h below).opening)
-    ∙ ap (λ (o : Option BidiMatchedOpeningBracket). find_last (λ i. is_same_bracket (bracket_at brackets i) o) places) (sym is)
-    )
+    simp (← map-reverse entry places, find-map, is)
+    (ap (option_map entry) (find_last-same (λ i. q (entry i)) (λ i. is_same_bracket (bracket_at brackets i) (Some b)) places
+    (λ k below. tests (get_or places k 0) ∙ grind (arith, (IsUnderWay-entry brackets j places k h below).opening))))

@@ -1,10 +1,8 @@
 -- Bracket pairs in one pass from the front: what is closed and what waits at each place, and what the pass has found at its end.
-use Rattle.std.proofs.Common.{◌≡◌, ℕ, zero, suc, ◌+◌, ◌-◌, ◌<◌, ◌≤◌, Bool, true, false, not, ◌&&◌, ◌||◌, eqb, ltb, leb, List, [], ◌∷◌, ◌++◌, length, get_or, take, reverse, filter, filter_map, find, fold, Option, Some, None, unwrap_or, refl, sym, ap, subst, ◌∙◌, ◌⊎◌, arith, inl, inr, append-nil, append_assoc, add-one, ne_eqb, lt-ltb, le-ltb}
+use Rattle.std.proofs.Common.{◌≡◌, ℕ, zero, suc, ◌+◌, ◌-◌, ◌<◌, ◌≤◌, Bool, true, false, ◌&&◌, eqb, ltb, leb, List, [], ◌∷◌, ◌++◌, length, get_or, take, filter, filter_map, find, Option, Some, None, refl, sym, ap, subst, ◌∙◌, ◌⊎◌, arith, inl, inr, append-nil, append_assoc, add-one, lt-ltb, le-ltb}
 use Rattle.std.proofs.lemmas.Grind.{common_steps}
 use Rattle.std.specs.Prelude.{⊤}
 use Rattle.std.specs.List.{range_with_len, AllByRecursion}
-use Rattle.std.specs.Option.{option_or}
-use Rattle.std.proofs.lemmas.Bool.{cases_Bool, cases_eq, both_ways, and_parts, or_parts, not-true, le-leb}
 use Rattle.std.proofs.lemmas.List.Elements.{All-from_recursion}
 use Rattle.std.proofs.lemmas.List.Folds.{find-append, list_any-append}
 use Rattle.std.proofs.lemmas.List.Sums.{fold_push}
@@ -13,9 +11,9 @@ use Rattle.bidi_base.specs.declared.data_source.BidiMatchedOpeningBracket.{BidiM
 use Rattle.bidi_base.specs.Places.{between, indexes, find_last}
 use Rattle.bidi_base.specs.Brackets.{max_open_brackets, counted_brackets, bracket_at, is_opening, is_closing, is_same_bracket, is_taken, is_available, available, partner, with_closing, closed_pairs, bracket_limit, pairs_of, bracket_pairs, ArePairsWithin}
 use Rattle.bidi_base.specs.PairSearch.{closed_before, IsUnderWay}
-use Rattle.bidi_base.proofs.PlacesLemmas.{range_with_len-more, find-between-is, find-between-is_None, find_last-range_with_len}
+use Rattle.bidi_base.proofs.PlacesLemmas.{IsLeast, range_with_len-more, find-between-is, find-between-is_None, find_last-range_with_len}
 use Rattle.bidi_base.proofs.BracketsLemmas.{AllClosedBefore, available-opening, available-pair, available-other}
-use Rattle.bidi_base.proofs.Lists.{find-filter, filter-reverse, filter_map-same, option_or-None, cases_Option}
+use Rattle.bidi_base.proofs.Lists.{find-filter, filter-reverse, option_or-None, cases_Option}
 use Rattle.std.proofs.Math.Bool.{and-true, or-false, and-false}
 
 -- each pair begins before it ends, and ends before j
@@ -46,19 +44,13 @@ AreClosedFrom-push k i j (p ∷ pairs) h l = (h.0, AreClosedFrom-push k i j pair
 
 filter_map-All : (Q : ℕ × ℕ → Type 0) (f : ℕ → Option (ℕ × ℕ)) → ((x : ℕ) (y : ℕ × ℕ) → f x ≡ Some y → Q y) → (xs : List ℕ) → AllByRecursion Q (filter_map f xs)
 filter_map-All Q f each [] = tt
-filter_map-All Q f each (x ∷ xs) = elim (cases_Option (f x)) [
-  | inl e ↦ rw e (filter_map-All Q f each xs)
-  | inr y ↦ rw y.1 (each x y.0 y.1, filter_map-All Q f each xs)
-]
+filter_map-All Q f each (x ∷ xs) = grind (arith, each x, filter_map-All Q f each xs)
 
 module _ (brackets : List (Option BidiMatchedOpeningBracket)) where
   -- a closing pairs with the last opening that waits and has its opening character
   pub partner-available : (pairs : List (ℕ × ℕ)) (j : ℕ) → partner brackets pairs j ≡ find_last (λ i. is_same_bracket (bracket_at brackets i) (bracket_at brackets j)) (available brackets pairs j)
   unfolding partner available
-  partner-available pairs j =
-      let p : ℕ → Bool = is_available brackets pairs j in
-      let q : ℕ → Bool = λ i. is_same_bracket (bracket_at brackets i) (bracket_at brackets j) in
-      sym (find-filter p q (reverse (between 0 j))) ∙ ap (find q) (filter-reverse p (between 0 j))
+  partner-available pairs j = simp (← filter-reverse (is_available brackets pairs j) (between 0 j), find-filter)
 
   -- one step of the pairs
   pub with_closing-none : (pairs : List (ℕ × ℕ)) (j : ℕ) → partner brackets pairs j ≡ None → with_closing brackets pairs j ≡ pairs
@@ -75,82 +67,58 @@ module _ (brackets : List (Option BidiMatchedOpeningBracket)) where
 
   pub closed_before-more : (j : ℕ) → closed_before brackets (j + 1) ≡ with_closing brackets (closed_before brackets j) j
   closed_before-more j =
-      let place : 0 + j ≡ j = omega arith in
-      ap (λ n. fold (with_closing brackets) [] (range_with_len 0 n)) (add-one j)
-      ∙ ap (fold (with_closing brackets) []) (range_with_len-more 0 j ∙ ap (λ k. range_with_len 0 j ++ k ∷ []) place)
-      ∙ fold_push (with_closing brackets) [] (range_with_len 0 j) j
-
-  partner-below : (pairs : List (ℕ × ℕ)) (j i : ℕ) → partner brackets pairs j ≡ Some i → i < j
-  unfolding partner
-  partner-below pairs j i found = grind (arith, find_last-range_with_len)
+      let place : 0 + j ≡ j = omega arith in simp (add-one j, range_with_len-more, place, fold_push)
 
   -- at j nothing is closed, or one pair that ends there
   closed_before-next : (j : ℕ) → (closed_before brackets (j + 1) ≡ closed_before brackets j) ⊎ ((i : ℕ) × (i < j) × (closed_before brackets (j + 1) ≡ closed_before brackets j ++ (i, j) ∷ []))
+  unfolding partner
   closed_before-next j = elim (cases_Option (partner brackets (closed_before brackets j) j)) [
-    | inl e ↦ inl (closed_before-more j ∙ with_closing-none (closed_before brackets j) j e)
-    | inr f ↦ elim (cases_Bool (is_closing (bracket_at brackets j))) [
-      | inl closing ↦ inr (f.0, partner-below (closed_before brackets j) j f.0 f.1, closed_before-more j ∙ with_closing-pair (closed_before brackets j) j f.0 closing f.1)
-      | inr other ↦ inl (closed_before-more j ∙ with_closing-other (closed_before brackets j) j other)
-    ]
+    | inl e ↦ grind (arith, closed_before-more, with_closing-none)
+    | inr f ↦ grind (arith, closed_before-more, find_last-range_with_len, with_closing-pair, with_closing-other)
   ]
 
   pub closed_before-in_order : (j : ℕ) → AreInOrder j (closed_before brackets j)
   closed_before-in_order zero = tt
   closed_before-in_order (suc j) =
       let h : AreInOrder (j + 1) (closed_before brackets j) = AreInOrder-later j (closed_before brackets j) (closed_before-in_order j) in
-      let next : AreInOrder (j + 1) (closed_before brackets (j + 1)) = elim (closed_before-next j) [
-        | inl same ↦ subst (AreInOrder (j + 1)) (sym same) h
-        | inr pair ↦ subst (AreInOrder (j + 1)) (sym pair.2) (AreInOrder-push (j + 1) pair.0 j (closed_before brackets j) h pair.1 (omega arith))
-      ] in
-      subst (λ (n : ℕ). AreInOrder n (closed_before brackets n)) (add-one j) next
+      subst (λ (n : ℕ). AreInOrder n (closed_before brackets n)) (add-one j) (elim (closed_before-next j) [
+        | inl same ↦ simp same h
+        | inr pair ↦ simp pair.2 (AreInOrder-push (j + 1) pair.0 j (closed_before brackets j) h pair.1 (omega arith))
+      ])
 
   pub closed_before-closed : (j : ℕ) → AllClosedBefore j (closed_before brackets j)
   closed_before-closed j = AreInOrder-closed j (closed_before brackets j) (closed_before-in_order j)
 
   -- what is closed later is added behind
   closed_before-split : (k n : ℕ) → (later : List (ℕ × ℕ)) × (closed_before brackets (k + n) ≡ closed_before brackets k ++ later) × AreClosedFrom k later
-  closed_before-split k zero = ([], ap (closed_before brackets) (let same : k + 0 ≡ k = omega arith in same) ∙ sym (append-nil (closed_before brackets k)), tt)
+  closed_before-split k zero = let same : k + 0 ≡ k = omega arith in ([], simp (same, append-nil), tt)
   closed_before-split k (suc n) =
       let h = closed_before-split k n in
       let place : k + suc n ≡ k + n + 1 = omega arith in
       elim (closed_before-next (k + n)) [
-        | inl same ↦ (h.0, ap (closed_before brackets) place ∙ same ∙ h.1, h.2)
-        | inr pair ↦ (
-          h.0 ++ (pair.0, k + n) ∷ [],
-          ap (closed_before brackets) place ∙ pair.2 ∙ ap (λ (ps : List (ℕ × ℕ)). ps ++ (pair.0, k + n) ∷ []) h.1 ∙ append_assoc (closed_before brackets k) h.0 ((pair.0, k + n) ∷ []),
-          AreClosedFrom-push k pair.0 (k + n) h.0 h.2 (omega arith),
-        )
+        | inl same ↦ (h.0, simp (place, same, h.1), h.2)
+        | inr pair ↦ (h.0 ++ (pair.0, k + n) ∷ [], simp (place, pair.2, h.1, append_assoc), AreClosedFrom-push k pair.0 (k + n) h.0 h.2 (omega arith))
       ]
 
   -- at k it does not matter what is closed from there on
   is_taken-later : (pairs later : List (ℕ × ℕ)) (k i : ℕ) → AreClosedFrom k later → is_taken (pairs ++ later) k i ≡ is_taken pairs k i
-  is_taken-later pairs later k i h =
-      list_any-append (λ p. ltb p.1 k && leb p.0 i && ltb i p.1) pairs later ∙ ap (λ b. is_taken pairs k i || b) (none later h) ∙ or-false (is_taken pairs k i)
+  is_taken-later pairs later k i h = simp (list_any-append, none later h, or-false)
     where
       none : (ps : List (ℕ × ℕ)) → AreClosedFrom k ps → is_taken ps k i ≡ false
       none [] g = refl
-      none (p ∷ ps) g = ap (λ b. (b && leb p.0 i && ltb i p.1) || is_taken ps k i) (le-ltb p.1 k g.0) ∙ none ps g.1
+      none (p ∷ ps) g = simp (le-ltb p.1 k g.0, none ps g.1)
 
   available-later : (pairs later : List (ℕ × ℕ)) (k : ℕ) → AreClosedFrom k later → available brackets (pairs ++ later) k ≡ available brackets pairs k
   unfolding available
   available-later pairs later k h = grind (arith, is_taken-later)
 
-  available-at : (k n : ℕ) → available brackets (closed_before brackets (k + n)) k ≡ available brackets (closed_before brackets k) k
-  available-at k n =
-      let h = closed_before-split k n in
-      ap (λ (ps : List (ℕ × ℕ)). available brackets ps k) h.1 ∙ available-later (closed_before brackets k) h.0 k h.2
+  closed_before-upto : (k n : ℕ) → k ≤ n → (later : List (ℕ × ℕ)) × (closed_before brackets n ≡ closed_before brackets k ++ later) × AreClosedFrom k later
+  closed_before-upto k n order = let place : k + (n - k) ≡ n = omega arith in simp place at (closed_before-split k (n - k))
 
   -- an opening that is taken by no pair begins none
   not_taken-find : (j i : ℕ) (pairs : List (ℕ × ℕ)) → AreInOrder j pairs → is_taken pairs j i ≡ false → find (λ p. eqb p.0 i) pairs ≡ None
   not_taken-find j i [] h free = refl
-  not_taken-find j i (p ∷ pairs) h free =
-      let parts = or_parts (ltb p.1 j && leb p.0 i && ltb i p.1) (is_taken pairs j i) free in
-      elim (cases_eq p.0 i) [
-        | inl same ↦
-            let taken : (ltb p.1 j && leb p.0 i && ltb i p.1) ≡ true = rw (lt-ltb p.1 j h.0.1, le-leb p.0 i (omega arith), lt-ltb i p.1 (omega (arith, h.0.0))) refl in
-            absurd (both_ways _ parts.0 taken)
-        | inr other ↦ rw (ne_eqb p.0 i other) (not_taken-find j i pairs h.1 parts.1)
-      ]
+  not_taken-find j i (p ∷ pairs) h free = grind (arith, not_taken-find j i pairs h.1)
 
   -- what is known of each entry of the stack
   pub record IsWaiting (j i : ℕ) : Type 0 where
@@ -169,14 +137,7 @@ module _ (brackets : List (Option BidiMatchedOpeningBracket)) where
   waiting_in : (j low n : ℕ) → low + n ≤ j → AreWaiting j low (filter (is_available brackets (closed_before brackets j) j) (range_with_len low n))
   waiting_in j low zero order = tt
   waiting_in j low (suc n) order =
-      let rest = waiting_in j (low + 1) n (omega arith) in
-      elim (cases_Bool (is_available brackets (closed_before brackets j) j low)) [
-        | inl e ↦
-            let parts = and_parts (is_opening (bracket_at brackets low)) (not (is_taken (closed_before brackets j) j low)) e in
-            let unpaired = not_taken-find j low (closed_before brackets j) (closed_before-in_order j) (not-true (is_taken (closed_before brackets j) j low) parts.1) in
-            rw e (omega arith, record { below = omega arith; opening = parts.0; unpaired = unpaired }, rest)
-        | inr e ↦ rw e (AreWaiting-from j (low + 1) low (filter (is_available brackets (closed_before brackets j) j) (range_with_len (low + 1) n)) (omega arith) rest)
-      ]
+      grind (arith, waiting_in j (low + 1) n, not_taken-find j low (closed_before brackets j) (closed_before-in_order j), AreWaiting-from)
 
   pub available-waiting : (j : ℕ) → AreWaiting j 0 (available brackets (closed_before brackets j) j)
   unfolding available
@@ -196,20 +157,11 @@ module _ (brackets : List (Option BidiMatchedOpeningBracket)) where
   pub AreWaiting-below : (j low : ℕ) (is : List ℕ) (k : ℕ) → AreWaiting j low is → k < length is → filter (λ x. ltb x (get_or is k 0)) is ≡ take k is
   AreWaiting-below j low [] k h fits = absurd (omega arith)
   AreWaiting-below j low (i ∷ is) zero h fits = rw (le-ltb i i (omega arith)) (none_below j (i + 1) i is h.2 (omega arith))
-  AreWaiting-below j low (i ∷ is) (suc k) h fits =
-      let above : i < get_or is k 0 = (let g = AreWaiting-get j (i + 1) is k h.2 (omega arith) in omega (arith, g.1)) in
-      rw (lt-ltb i (get_or is k 0) above, AreWaiting-below j (i + 1) is k h.2 (omega arith)) refl
+  AreWaiting-below j low (i ∷ is) (suc k) h fits = grind (arith, AreWaiting-get j (i + 1) is k h.2, AreWaiting-below j (i + 1) is k h.2)
 
   pub IsUnderWay-start : IsUnderWay brackets 0 []
   unfolding available
   IsUnderWay-start = record { waits = refl; room = λ k below. absurd (omega arith) }
-
-  closing_or_opening : (o : Option BidiMatchedOpeningBracket) → is_closing o ≡ true → is_opening o ≡ false
-  closing_or_opening o h = grind arith
-
-  room_more : (j : ℕ) (waiting : List ℕ) → IsUnderWay brackets j waiting → (is_opening (bracket_at brackets j) ≡ true → length waiting < max_open_brackets)
-      → (k : ℕ) → k < j + 1 → is_opening (bracket_at brackets k) ≡ true → length (available brackets (closed_before brackets k) k) < max_open_brackets
-  room_more j waiting h last k below opening = grind arith
 
   same_after : (j : ℕ) (waiting : List ℕ) → IsUnderWay brackets j waiting → is_opening (bracket_at brackets j) ≡ false → closed_before brackets (j + 1) ≡ closed_before brackets j → IsUnderWay brackets (j + 1) waiting
   same_after j waiting h other same = grind (arith, available-other, closed_before-closed)
@@ -240,21 +192,19 @@ module _ (brackets : List (Option BidiMatchedOpeningBracket)) where
       → IsUnderWay brackets (j + 1) (take k waiting) × (closed_before brackets (j + 1) ≡ closed_before brackets j ++ (get_or waiting k 0, j) ∷ [])
   IsUnderWay-pair j waiting k h closing fits found =
       let i = get_or waiting k 0 in
-      let other = closing_or_opening (bracket_at brackets j) closing in
+      let other : is_opening (bracket_at brackets j) ≡ false = grind arith in
       let same = closed_before-more j ∙ with_closing-pair (closed_before brackets j) j i closing (partner-waiting j waiting h ∙ found) in
-      let waiting_all : AreWaiting j 0 waiting = subst (AreWaiting j 0) (sym h.waits) (available-waiting j) in (
+      let waiting_all : AreWaiting j 0 waiting = rw h.waits (available-waiting j) in (
         record {
-          waits = sym (AreWaiting-below j 0 waiting k waiting_all fits) ∙ ap (filter (λ x. ltb x i)) h.waits
-              ∙ sym (available-pair brackets (closed_before brackets j) j (closed_before-closed j) i other)
-              ∙ ap (λ (ps : List (ℕ × ℕ)). available brackets ps (j + 1)) (sym same);
-          room = room_more j waiting h (λ opening. absurd (both_ways (is_opening (bracket_at brackets j)) other opening));
+          waits = simp (same, available-pair brackets _ j (closed_before-closed j) i other, ← h.waits, AreWaiting-below j 0 waiting k waiting_all fits);
+          room = λ l below opening. grind arith;
         },
         same,
       )
 
   pub IsUnderWay-entry : (j : ℕ) (waiting : List ℕ) (k : ℕ) → IsUnderWay brackets j waiting → k < length waiting → IsWaiting j (get_or waiting k 0)
   IsUnderWay-entry j waiting k h fits =
-      let waiting_all : AreWaiting j 0 waiting = subst (AreWaiting j 0) (sym h.waits) (available-waiting j) in (AreWaiting-get j 0 waiting k waiting_all fits).0
+      let waiting_all : AreWaiting j 0 waiting = rw h.waits (available-waiting j) in (AreWaiting-get j 0 waiting k waiting_all fits).0
 
   -- an opening at k finds no room
   abbrev overflows : List (ℕ × ℕ) → ℕ → Bool
@@ -265,18 +215,10 @@ module _ (brackets : List (Option BidiMatchedOpeningBracket)) where
   HasEnded j waiting = (j ≡ length brackets) ⊎ ((is_opening (bracket_at brackets j) ≡ true) × (max_open_brackets ≤ length waiting))
 
   stack_at : (k n : ℕ) → k ≤ n → available brackets (closed_before brackets n) k ≡ available brackets (closed_before brackets k) k
-  stack_at k n order =
-      let place : k + (n - k) ≡ n = omega arith in
-      ap (λ (m : ℕ). available brackets (closed_before brackets m) k) (sym place) ∙ available-at k (n - k)
+  stack_at k n order = let h = closed_before-upto k n order in simp (h.1, available-later (closed_before brackets k) h.0 k h.2)
 
   has_room : (j n k : ℕ) (waiting : List ℕ) → IsUnderWay brackets j waiting → j ≤ n → k < j → overflows (closed_before brackets n) k ≡ false
   has_room j n k waiting h inside below = grind (arith, stack_at)
-
-  has_none : (j n : ℕ) (waiting : List ℕ) → IsUnderWay brackets j waiting → j ≤ n → is_opening (bracket_at brackets j) ≡ true → max_open_brackets ≤ length waiting → overflows (closed_before brackets n) j ≡ true
-  has_none j n waiting h inside opening full = grind (arith, stack_at)
-
-  opening-within : (j : ℕ) → is_opening (bracket_at brackets j) ≡ true → j < length brackets
-  opening-within j opening = grind (arith, common_steps)
 
   -- the limit is where the pass ends
   limit_is : (j : ℕ) (waiting : List ℕ) → IsUnderWay brackets j waiting → j ≤ length brackets → HasEnded j waiting → bracket_limit brackets (closed_pairs brackets) ≡ j
@@ -284,14 +226,12 @@ module _ (brackets : List (Option BidiMatchedOpeningBracket)) where
   limit_is j waiting h inside ended =
       let n = length brackets in
       let test : ℕ → Bool = overflows (closed_before brackets n) in
-      let whole : n ≡ n - 0 = omega arith in
-      ap (λ m. unwrap_or (find test (range_with_len 0 m)) n) whole
-      ∙ elim ended [
-        | inl end ↦ ap (λ (o : Option ℕ). unwrap_or o n) (find-between-is_None test 0 n (λ k from below. has_room j n k waiting h inside (omega arith))) ∙ sym end
+      let whole : n - 0 ≡ n = omega arith in
+      elim ended [
+        | inl end ↦ simp (simp whole at (find-between-is_None test 0 n (λ k from below. has_room j n k waiting h inside (omega arith)))) (sym end)
         | inr full ↦
-            let here : j < n = opening-within j full.0 in
-            ap (λ (o : Option ℕ). unwrap_or o n)
-            (find-between-is test 0 n j (record { from = omega arith; below = here; passes = has_none j n waiting h inside full.0 full.1; first = λ k from below. has_room j n k waiting h inside below }))
+            let limit : IsLeast test 0 n j = record { from = omega arith; below = grind (arith, common_steps, full.0); passes = grind (arith, stack_at j n, full.0, full.1); first = λ k from below. has_room j n k waiting h inside below } in
+            simp (simp whole at (find-between-is test 0 n j limit))
       ]
 
   -- which pair an opening at i has
@@ -305,43 +245,26 @@ module _ (brackets : List (Option BidiMatchedOpeningBracket)) where
 
   find_limited : (j i : ℕ) → j ≤ length brackets → find (λ p. eqb p.0 i && ltb p.1 j) (closed_before brackets (length brackets)) ≡ find (λ p. eqb p.0 i) (closed_before brackets j)
   find_limited j i inside =
-      let n = length brackets in
-      let place : j + (n - j) ≡ n = omega arith in
-      let split = closed_before-split j (n - j) in
-      let test : ℕ × ℕ → Bool = λ p. eqb p.0 i && ltb p.1 j in
-      ap (λ (m : ℕ). find test (closed_before brackets m)) (sym place)
-      ∙ ap (find test) split.1
-      ∙ find-append test (closed_before brackets j) split.0
-      ∙ ap (option_or (find test (closed_before brackets j))) (find_later j i split.0 split.2)
-      ∙ option_or-None (find test (closed_before brackets j))
-      ∙ find_below j i (closed_before brackets j) (closed_before-closed j)
+      let split = closed_before-upto j (length brackets) inside in
+      simp (split.1, find-append, find_later j i split.0 split.2, option_or-None) (find_below j i (closed_before brackets j) (closed_before-closed j))
 
   -- what the pass has found are the pairs
   pub pairs_of-found : (j : ℕ) (waiting : List ℕ) → IsUnderWay brackets j waiting → j ≤ length brackets → HasEnded j waiting
       → pairs_of brackets ≡ filter_map (λ i. find (λ (p : ℕ × ℕ). eqb p.0 i) (closed_before brackets j)) (indexes brackets)
   unfolding pairs_of closed_pairs
-  pairs_of-found j waiting h inside ended =
-      ap (λ limit. filter_map (λ i. find (λ (p : ℕ × ℕ). eqb p.0 i && ltb p.1 limit) (closed_before brackets (length brackets))) (indexes brackets)) (limit_is j waiting h inside ended)
-      ∙ filter_map-same (λ i. find (λ (p : ℕ × ℕ). eqb p.0 i && ltb p.1 j) (closed_before brackets (length brackets))) (λ i. find (λ (p : ℕ × ℕ). eqb p.0 i) (closed_before brackets j)) (indexes brackets) (λ i. find_limited j i inside)
+  pairs_of-found j waiting h inside ended = simp (limit_is j waiting h inside ended, find_limited j)
 
   find_in_order : (j : ℕ) (test : ℕ × ℕ → Bool) (pairs : List (ℕ × ℕ)) (p : ℕ × ℕ) → AreInOrder j pairs → find test pairs ≡ Some p → (p.0 < p.1) × (p.1 < j)
   find_in_order j test [] p h e = absurd (cc e)
-  find_in_order j test (q ∷ pairs) p h e = elim (cases_Bool (test q)) [
-    | inl here ↦
-        let found : Some q ≡ Some p = rw here at e in
-        subst (λ (x : ℕ × ℕ). (x.0 < x.1) × (x.1 < j)) (let same : q ≡ p = cc found in same) h.0
-    | inr gone ↦ find_in_order j test pairs p h.1 (rw gone at e)
-  ]
+  find_in_order j test (q ∷ pairs) p h e = grind (arith, find_in_order j test pairs p h.1)
 
   -- each pair begins before it ends, within the list
   pub pairs_of-in_order : ArePairsWithin (length brackets) (pairs_of brackets)
   unfolding pairs_of closed_pairs
   pairs_of-in_order =
       let n = length brackets in
-      let limit = bracket_limit brackets (closed_before brackets n) in
       All-from_recursion (λ (p : ℕ × ℕ). (p.0 < p.1) × (p.1 < n)) (pairs_of brackets)
-      (filter_map-All (λ (p : ℕ × ℕ). (p.0 < p.1) × (p.1 < n)) (λ i. find (λ (p : ℕ × ℕ). eqb p.0 i && ltb p.1 limit) (closed_before brackets n))
-      (λ i p e. find_in_order n (λ q. eqb q.0 i && ltb q.1 limit) (closed_before brackets n) p (closed_before-in_order n) e) (indexes brackets))
+      (filter_map-All _ _ (λ i p e. find_in_order n _ (closed_before brackets n) p (closed_before-in_order n) e) (indexes brackets))
 
 -- the counted brackets, one a class
 pub length-counted_brackets : (classes : List BidiClass) (brackets : List (Option BidiMatchedOpeningBracket)) → length brackets ≡ length classes → length (counted_brackets classes brackets) ≡ length classes

@@ -1,5 +1,5 @@
 -- One value a unit of a text that is cut into pieces: the range of each piece has the piece's own values.
-use Rattle.std.proofs.Common.{◌≡◌, ℕ, ◌+◌, List, [], ◌∷◌, ◌++◌, length, refl, sym, ap, subst, ◌∙◌, append_assoc, arith, length-append}
+use Rattle.std.proofs.Common.{◌≡◌, ℕ, ◌+◌, List, [], ◌∷◌, ◌++◌, length, refl, append_assoc, arith, length-append}
 use Rattle.std.proofs.lemmas.Grind.{common_steps}
 use Rattle.std.specs.Prelude.{All, flat_map}
 use Rattle.std.proofs.lemmas.List.Elements.{All-nil, All-cons}
@@ -21,8 +21,7 @@ module _ {X : Type 0} (values_of : List ℕ → List X) (one_each : (piece : Lis
     -- the units of the text are those of the pieces, one after another
     pub per_unit-pieces : (pieces : List (List ℕ)) → per_unit len_of (joined pieces) (flat_map values_of pieces) ≡ flat_map (λ piece. per_unit len_of piece (values_of piece)) pieces
     per_unit-pieces [] = refl
-    per_unit-pieces (p ∷ pieces) =
-        per_unit-append len_of p (joined pieces) (values_of p) (flat_map values_of pieces) (one_each p) ∙ ap (λ (us : List X). per_unit len_of p (values_of p) ++ us) (per_unit-pieces pieces)
+    per_unit-pieces (p ∷ pieces) = grind (arith, per_unit-append, per_unit-pieces pieces)
 
     length-own : (piece : List ℕ) → length (per_unit len_of piece (values_of piece)) ≡ text_len len_of piece
     length-own piece = length-per_unit len_of piece (values_of piece) (one_each piece)
@@ -41,16 +40,10 @@ module _ {X : Type 0} (values_of : List ℕ → List X) (one_each : (piece : Lis
           let own : List X = per_unit len_of p (values_of p) in
           let others : List X = flat_map (λ piece. per_unit len_of piece (values_of piece)) pieces in
           let sum : text_len len_of (front ++ p) ≡ text_len len_of front + text_len len_of p = sum_by-append len_of front p in
-          let rest : All (HasOwnUnits len_of values_of ((front ++ p) ++ joined pieces) ((before ++ own) ++ others)) (ranges_from len_of (text_len len_of (front ++ p)) pieces)
-          = HasOwnUnits-from (front ++ p) (before ++ own) pieces (omega (arith, length-append before own, length-own p, long, sum)) in
-          All-cons (HasOwnUnits len_of values_of (front ++ (p ++ joined pieces)) (before ++ (own ++ others))) (text_len len_of front, text_len len_of front + text_len len_of p) (ranges_from len_of (text_len len_of front + text_len len_of p) pieces)
-          (HasOwnUnits-middle front p (joined pieces) before others long)
-          (subst (λ (n : ℕ). All (HasOwnUnits len_of values_of (front ++ (p ++ joined pieces)) (before ++ (own ++ others))) (ranges_from len_of n pieces)) sum
-          (subst (λ (us : List X). All (HasOwnUnits len_of values_of (front ++ (p ++ joined pieces)) us) (ranges_from len_of (text_len len_of (front ++ p)) pieces)) (append_assoc before own others)
-          (subst (λ (cs : List ℕ). All (HasOwnUnits len_of values_of cs ((before ++ own) ++ others)) (ranges_from len_of (text_len len_of (front ++ p)) pieces)) (append_assoc front p (joined pieces)) rest)))
+          let rest = HasOwnUnits-from (front ++ p) (before ++ own) pieces (omega (arith, length-append before own, length-own p, long, sum)) in
+          All-cons (HasOwnUnits len_of values_of (front ++ (p ++ joined pieces)) (before ++ (own ++ others))) _ _
+          (HasOwnUnits-middle front p (joined pieces) before others long) (rw (sum, append_assoc before own others, append_assoc front p (joined pieces)) at rest)
 
       -- each range of the pieces of a text has its own values
       pub HasOwnUnits-pieces : (chars : List ℕ) (pieces : List (List ℕ)) → joined pieces ≡ chars → All (HasOwnUnits len_of values_of chars (per_unit len_of chars (flat_map values_of pieces))) (ranges_from len_of 0 pieces)
-      HasOwnUnits-pieces chars pieces whole =
-          subst (λ (cs : List ℕ). All (HasOwnUnits len_of values_of cs (per_unit len_of cs (flat_map values_of pieces))) (ranges_from len_of 0 pieces)) whole
-          (subst (λ (us : List X). All (HasOwnUnits len_of values_of (joined pieces) us) (ranges_from len_of 0 pieces)) (sym (per_unit-pieces pieces)) (HasOwnUnits-from [] [] pieces refl))
+      HasOwnUnits-pieces chars pieces whole = grind (arith, per_unit-pieces pieces, HasOwnUnits-from [] [] pieces)

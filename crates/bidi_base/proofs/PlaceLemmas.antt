@@ -1,6 +1,7 @@
 -- Places by index: the place of the k-th character, ranges between two places, and turns of loops over a text.
-use Rattle.std.proofs.Common.{zero, suc, drop-cons, ◌≡◌, ℕ, ◌+◌, ◌-◌, ◌<◌, ◌≤◌, true, List, [], ◌∷◌, ◌++◌, length, take, drop, get_or, Option, Some, None, ◌⊎◌, inl, inr, refl, sym, ◌∙◌, ap, subst, arith, length-take, length-drop, length-append}
+use Rattle.std.proofs.Common.{zero, suc, drop-cons, ◌≡◌, ℕ, ◌+◌, ◌-◌, ◌<◌, ◌≤◌, true, List, [], ◌∷◌, ◌++◌, length, take, drop, get_or, Option, Some, None, inl, inr, refl, sym, ◌∙◌, ap, arith, length-take, length-drop, length-append}
 use Rattle.std.proofs.lemmas.Grind.{common_steps}
+use Rattle.std.proofs.lemmas.Bool.{cases_lt}
 use Rattle.std.specs.Prelude.{slice_range}
 use Rattle.std.specs.Iterator.{Count, Yields}
 use Rattle.std.proofs.Math.Seq.{take-append-add, take-append_seam}
@@ -29,24 +30,14 @@ module _ (len_of : ℕ → ℕ) (chars : List ℕ) where
   place-end k past = ap (text_len len_of) (take_all k chars past)
 
   take_both : (i j : ℕ) → i ≤ j → i ≤ length chars → take j chars ≡ take i chars ++ slice_range chars i j
-  take_both i j le short =
-      let n : length (take i chars) + (j - i) ≡ j = omega (arith, length-take i chars) in
-      subst (λ m. take m chars ≡ take i chars ++ slice_range chars i j) n
-      (subst (λ cs. take (length (take i chars) + (j - i)) cs ≡ take i chars ++ slice_range chars i j) (take-append-drop i chars) (take-append-add (take i chars) (drop i chars) (j - i)))
+  take_both i j le short = grind (arith, take-append-add (take i chars) (drop i chars) (j - i), take-append-drop, length-take)
 
   -- the units between two places
   pub place-sum : (i j : ℕ) → i ≤ j → i ≤ length chars → place len_of chars j ≡ place len_of chars i + text_len len_of (slice_range chars i j)
   place-sum i j le short = ap (text_len len_of) (take_both i j le short) ∙ sum_by-append len_of (take i chars) (slice_range chars i j)
 
   pub place-mono : (i j : ℕ) → i ≤ j → place len_of chars i ≤ place len_of chars j
-  place-mono i j le = first_or_past (bounded i (length chars))
-    where
-      bounded : (m n : ℕ) → (m ≤ n) ⊎ (n < m)
-      bounded m n = grind arith
-
-      first_or_past : (i ≤ length chars) ⊎ (length chars < i) → place len_of chars i ≤ place len_of chars j
-      first_or_past (inl short) = omega (arith, place-sum i j le short)
-      first_or_past (inr past) = omega (arith, place-end i (omega arith), place-end j (omega arith))
+  place-mono i j le = grind (arith, place-sum i j le, place-end i, place-end j)
 
   pub place-lt : HasUnits len_of → (i j : ℕ) → i < j → i < length chars → place len_of chars i < place len_of chars j
   place-lt h i j lt within = omega (arith, place-more i 0 within, h (get_or chars i 0), place-mono (i + 1) j (omega arith))
@@ -58,27 +49,19 @@ module _ (len_of : ℕ → ℕ) (chars : List ℕ) where
   -- ---- boundaries and ranges at places
 
   pub is_boundary-place : (k : ℕ) → is_boundary len_of chars (place len_of chars k) ≡ true
-  is_boundary-place k = subst (λ cs. is_boundary len_of cs (place len_of chars k) ≡ true) (take-append-drop k chars) (is_boundary-append len_of (take k chars) (drop k chars))
+  is_boundary-place k = grind (arith, take-append-drop, is_boundary-append len_of (take k chars) (drop k chars))
 
   pub IsLine-places : (i j : ℕ) → i ≤ j → IsLine len_of chars (place len_of chars i) (place len_of chars j)
   IsLine-places i j le = grind (arith, place-mono, is_boundary-place)
 
   pub char_index-place : HasUnits len_of → (k : ℕ) → k ≤ length chars → char_index len_of chars (place len_of chars k) ≡ k
-  char_index-place h k short =
-      subst (λ cs. char_index len_of cs (place len_of chars k) ≡ k) (take-append-drop k chars)
-      (char_index-append len_of h (take k chars) (drop k chars) ∙ length-take-short k short)
-    where
-      length-take-short : (k : ℕ) → k ≤ length chars → length (take k chars) ≡ k
-      length-take-short k short = omega (arith, length-take k chars)
+  char_index-place h k short = grind (arith, char_index-append len_of h (take k chars) (drop k chars), take-append-drop, length-take)
 
   pub subrange-places : HasUnits len_of → (i j : ℕ) → i ≤ length chars → j ≤ length chars → subrange len_of chars (place len_of chars i) (place len_of chars j) ≡ slice_range chars i j
   subrange-places h i j first second = rw (char_index-place h i first, char_index-place h j second)
 
   pub subrange-front : HasUnits len_of → (j : ℕ) → j ≤ length chars → subrange len_of chars 0 (place len_of chars j) ≡ take j chars
-  subrange-front h j short =
-      let none : j - 0 ≡ j = omega arith in
-      subst (λ u. subrange len_of chars u (place len_of chars j) ≡ slice_range chars 0 j) (place-zero len_of chars) (subrange-places h 0 j (omega arith) short)
-      ∙ ap (λ n. take n chars) none
+  subrange-front h j short = grind (arith, place-zero, subrange-places h 0 j)
 
 -- ---- the index of a boundary
 
@@ -104,22 +87,13 @@ module _ (len_of : ℕ → ℕ) (h : HasUnits len_of) (chars : List ℕ) where
   pub place-char_index : (u : ℕ) → is_boundary len_of chars u ≡ true → place len_of chars (char_index len_of chars u) ≡ u
   place-char_index u e =
       let w = cut_at len_of chars u e in
-      let whole : place len_of chars (length w.front) ≡ u = grind (arith, take-append_seam) in
-      let short : length w.front ≤ length chars = omega (arith, ap length w.joined, length-append w.front w.back) in
-      let index : char_index len_of chars u ≡ length w.front = ap (char_index len_of chars) (sym whole) ∙ char_index-place len_of chars h (length w.front) short in
-      ap (place len_of chars) index ∙ whole
+      grind (arith, w.joined, w.long, take-append_seam w.front w.back, length-append w.front w.back, char_index-place len_of chars h (length w.front))
 
   pub line_places : (start end : ℕ) → IsLine len_of chars start end → IsLineAt len_of chars start end (char_index len_of chars start) (char_index len_of chars end)
   line_places start end line =
       let first = place-char_index start line.begins in
       let last = place-char_index end line.ends in
-      let order = line.ordered in
-      record {
-        begins = sym first;
-        ends = sym last;
-        ordered = grind (arith, common_steps, place-le-back);
-        within = char_index-le len_of chars end;
-      }
+      record { begins = sym first; ends = sym last; ordered = grind (arith, common_steps, place-le-back, line.ordered); within = char_index-le len_of chars end }
 
   -- a line is as long as its range
   pub text_len-subrange : (start end : ℕ) → IsLine len_of chars start end → text_len len_of (subrange len_of chars start end) ≡ end - start
@@ -129,17 +103,12 @@ module _ (len_of : ℕ → ℕ) (h : HasUnits len_of) (chars : List ℕ) where
 
 -- the k-th character of a slice of the characters
 pub place-slice_range : (len_of : ℕ → ℕ) (chars : List ℕ) (i j k : ℕ) → i + k ≤ j → j ≤ length chars → place len_of chars (i + k) ≡ place len_of chars i + place len_of (slice_range chars i j) k
-place-slice_range len_of chars i j k inside within =
-    let long : (i + k) - i ≡ k = omega arith in
-    let part : slice_range chars i (i + k) ≡ take k (slice_range chars i j) = grind (arith, take-take) in
-    place-sum len_of chars i (i + k) (omega arith) (omega arith) ∙ ap (λ cs. place len_of chars i + text_len len_of cs) part
+place-slice_range len_of chars i j k inside within = grind (arith, take-take, place-sum len_of chars i (i + k))
 
 -- ---- the character that begins at a place
 
 pub char_at-place : (len_of : ℕ → ℕ) → HasUnits len_of → (chars : List ℕ) (k c : ℕ) → k < length chars → char_at len_of chars (place len_of chars k) ≡ Some (get_or chars k c, len_of (get_or chars k c))
-char_at-place len_of h chars k c within =
-    subst (λ cs. char_at len_of cs (place len_of chars k) ≡ Some (get_or chars k c, len_of (get_or chars k c))) (take-append-drop k chars)
-    (char_at-append len_of h (take k chars) (drop k chars) ∙ rw (drop-cons chars k c within))
+char_at-place len_of h chars k c within = grind (arith, take-append-drop k chars, char_at-append len_of h (take k chars) (drop k chars), drop-cons chars k c within)
 
 -- each unit is one of a character: of the one at `index`, `offset` units after its place
 pub record UnitOf (len_of : ℕ → ℕ) (chars : List ℕ) (u : ℕ) : Type 0 where
@@ -151,48 +120,31 @@ pub record UnitOf (len_of : ℕ → ℕ) (chars : List ℕ) (u : ℕ) : Type 0 w
 
 pub unit_of : (len_of : ℕ → ℕ) (chars : List ℕ) (u : ℕ) → u < text_len len_of chars → UnitOf len_of chars u
 unit_of len_of [] u within = absurd (omega arith)
-unit_of len_of (c ∷ cs) u within = first_or_later (bounded u (len_of c)) (unit_of len_of cs (u - len_of c))
-  where
-    bounded : (m n : ℕ) → (m < n) ⊎ (n ≤ m)
-    bounded m n = grind arith
-
-    later : len_of c ≤ u → UnitOf len_of cs (u - len_of c) → UnitOf len_of (c ∷ cs) u
-    later le w =
-        record {
-          index = suc w.index;
-          offset = w.offset;
-          at_place = omega (arith, w.at_place, sum_by-cons len_of c (take w.index cs));
-          within = omega (arith, w.within);
-          below = w.below;
-        }
-
-    first_or_later : (u < len_of c) ⊎ (len_of c ≤ u) → (u - len_of c < text_len len_of cs → UnitOf len_of cs (u - len_of c)) → UnitOf len_of (c ∷ cs) u
-    first_or_later (inl short) rest = record { index = 0; offset = u; at_place = omega arith; within = omega arith; below = short }
-    first_or_later (inr le) rest = later le (rest (omega (arith, sum_by-cons len_of c cs)))
+unit_of len_of (c ∷ cs) u within = elim (cases_lt u (len_of c)) [
+  | inl short ↦ record { index = 0; offset = u; at_place = omega arith; within = omega arith; below = short }
+  | inr le ↦
+      let w = unit_of len_of cs (u - len_of c) (omega (arith, sum_by-cons len_of c cs)) in
+      record { index = suc w.index; offset = w.offset; at_place = omega (arith, w.at_place, sum_by-cons len_of c (take w.index cs)); within = omega (arith, w.within); below = w.below }
+]
 
 -- ---- a turn of a `for` over `char_indices`, `indices_lengths` or `chars`
 
 drop-char_indices_from : (len_of : ℕ → ℕ) (from : ℕ) (chars : List ℕ) (k : ℕ) → drop k (char_indices_from len_of from chars) ≡ char_indices_from len_of (from + place len_of chars k) (drop k chars)
 drop-char_indices_from len_of from chars zero = ap (λ m. char_indices_from len_of m chars) (omega arith)
 drop-char_indices_from len_of from [] (suc k) = grind arith
-drop-char_indices_from len_of from (c ∷ cs) (suc k) =
-    drop-char_indices_from len_of (from + len_of c) cs k ∙ ap (λ m. char_indices_from len_of m (drop k cs)) (omega (arith, sum_by-cons len_of c (take k cs)))
+drop-char_indices_from len_of from (c ∷ cs) (suc k) = grind (arith, drop-char_indices_from (len_of) (from + len_of c) cs k, sum_by-cons)
 
 drop-indices_lengths_from : (len_of : ℕ → ℕ) (from : ℕ) (chars : List ℕ) (k : ℕ) → drop k (indices_lengths_from len_of from chars) ≡ indices_lengths_from len_of (from + place len_of chars k) (drop k chars)
 drop-indices_lengths_from len_of from chars zero = ap (λ m. indices_lengths_from len_of m chars) (omega arith)
 drop-indices_lengths_from len_of from [] (suc k) = grind arith
-drop-indices_lengths_from len_of from (c ∷ cs) (suc k) =
-    drop-indices_lengths_from len_of (from + len_of c) cs k ∙ ap (λ m. indices_lengths_from len_of m (drop k cs)) (omega (arith, sum_by-cons len_of c (take k cs)))
-
-nil_cons : {A : Type 0} (y : A) (ys : List A) → [] ≡ y ∷ ys → ⊥
-nil_cons y ys e = cc e
+drop-indices_lengths_from len_of from (c ∷ cs) (suc k) = grind (arith, drop-indices_lengths_from (len_of) (from + len_of c) cs k, sum_by-cons)
 
 first_index : (len_of : ℕ → ℕ) (from : ℕ) (chars : List ℕ) (at c : ℕ) (rest : List (ℕ × ℕ)) → char_indices_from len_of from chars ≡ (at, c) ∷ rest → (at ≡ from) × (chars ≡ c ∷ drop 1 chars)
-first_index len_of from [] at c rest e = absurd (nil_cons (at, c) rest e)
+first_index len_of from [] at c rest e = absurd (cc e)
 first_index len_of from (d ∷ ds) at c rest e = grind arith
 
 first_length : (len_of : ℕ → ℕ) (from : ℕ) (chars : List ℕ) (at l : ℕ) (rest : List (ℕ × ℕ)) → indices_lengths_from len_of from chars ≡ (at, l) ∷ rest → (at ≡ from) × (chars ≡ get_or chars 0 0 ∷ drop 1 chars) × (l ≡ len_of (get_or chars 0 0))
-first_length len_of from [] at l rest e = absurd (nil_cons (at, l) rest e)
+first_length len_of from [] at l rest e = absurd (cc e)
 first_length len_of from (d ∷ ds) at l rest e = grind arith
 
 -- after n turns the character c comes, whose place is `at`
@@ -205,18 +157,7 @@ pub record CharTurn (len_of : ℕ → ℕ) (chars : List ℕ) (n at c : ℕ) : T
   pub fits : at + len_of c ≤ text_len len_of chars
 
 pub char_turn_of : (len_of : ℕ → ℕ) (chars : List ℕ) (n at c : ℕ) → at ≡ place len_of chars n → drop n chars ≡ c ∷ drop (n + 1) chars → CharTurn len_of chars n at c
-char_turn_of len_of chars n at c here next =
-    let below : n < length chars = omega (arith, ap length next, length-drop n chars) in
-    let is_char : get_or chars n 0 ≡ c = grind (arith, drop-cons) in
-    let long : len_of (get_or chars n 0) ≡ len_of c = ap len_of is_char in
-    record {
-      at_place = here;
-      next = next;
-      is_char = is_char;
-      within = below;
-      after = omega (arith, place-more len_of chars n 0 below, here, long);
-      fits = omega (arith, place-more-le len_of chars n 0 below, here, long);
-    }
+char_turn_of len_of chars n at c here next = grind (arith, length-drop n chars, drop-cons, place-more len_of chars n 0, place-more-le len_of chars n 0)
 
 -- `for (at, c) in text.char_indices()`, which has given xs
 pub index_turn : {S : Type 0} {can : S → Type 0} {steps : S → Option (ℕ × ℕ) → S → Type 0} {left : S → Count} {s b : S} (len_of : ℕ → ℕ) (chars : List ℕ) → Gives can steps left s (char_indices len_of chars) → b ≡ s
@@ -236,14 +177,10 @@ pub record LengthTurn (len_of : ℕ → ℕ) (chars : List ℕ) (n at l : ℕ) :
 pub length_turn : {S : Type 0} {can : S → Type 0} {steps : S → Option (ℕ × ℕ) → S → Type 0} {left : S → Count} {s b : S} (len_of : ℕ → ℕ) (chars : List ℕ) → Gives can steps left s (indices_lengths len_of chars) → b ≡ s
     → (xs : List (ℕ × ℕ)) (t : S) → Yields steps b xs t → (r : Option (ℕ × ℕ)) (u : S) (at l : ℕ) → r ≡ Some (at, l) → steps t r u → LengthTurn len_of chars (length xs) at l
 length_turn len_of chars g e xs t y r u at l is st =
-    let n = length xs in
     let d = turn_drop g e xs t y r u (at, l) is st in
     let w = first_length len_of (0 + place len_of chars (length xs)) (drop (length xs) chars) at l _ (sym (drop-indices_lengths_from len_of 0 chars (length xs)) ∙ d) in
-    let here : n + 0 ≡ n = omega arith in
-    let first : get_or (drop n chars) 0 0 ≡ get_or chars n 0 = get_or-drop n chars 0 0 ∙ ap (λ m. get_or chars m 0) here in
-    let turn : CharTurn len_of chars n at (get_or chars n 0) = grind (arith, common_steps) in
-    let long : l ≡ len_of (get_or chars n 0) = w.2 ∙ ap len_of first in
-    record { turn = turn; long = long; after = omega (arith, turn.after, long); fits = omega (arith, turn.fits, long) }
+    let turn : CharTurn len_of chars (length xs) at (get_or chars (length xs) 0) = grind (arith, common_steps) in
+    grind (arith, turn.after, turn.fits, w.2, get_or-drop (length xs) chars 0 0)
 
 -- `for c in text.chars()`
 pub char_turn : {S : Type 0} {can : S → Type 0} {steps : S → Option ℕ → S → Type 0} {left : S → Count} {s b : S} (len_of : ℕ → ℕ) (chars : List ℕ) → Gives can steps left s chars → b ≡ s

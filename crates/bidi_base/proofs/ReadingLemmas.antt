@@ -1,6 +1,6 @@
 -- The steps of the pass that reads a paragraph, as its calls leave them.
-use Rattle.std.proofs.Common.{◌≡◌, ℕ, suc, ◌+◌, ◌-◌, ◌<◌, Bool, true, false, ◌&&◌, cond, List, [], ◌∷◌, ◌++◌, length, get_or, set, take, drop, Some, refl, sym, ap, subst, ◌∙◌, arith, length-take, length-append}
-use Rattle.std.specs.Prelude.{All, slice_get, replicate}
+use Rattle.std.proofs.Common.{◌≡◌, ℕ, suc, ◌+◌, ◌-◌, ◌<◌, Bool, ◌&&◌, cond, List, [], ◌∷◌, ◌++◌, length, get_or, set, take, drop, Some, refl, sym, ap, subst, ◌∙◌, arith, length-take, length-append}
+use Rattle.std.specs.Prelude.{All, slice_get}
 use Rattle.std.specs.declared.ops.Range.{Range}
 use Rattle.std.proofs.lemmas.List.{take-append-drop, take-take, drop_more, set_split, get_or-append-add, set-append_right}
 use Rattle.std.proofs.lemmas.List.Elements.{All-head, All-tail}
@@ -20,15 +20,13 @@ pub innermost-last : {X : Type 0} (xs : List X) → slice_get xs (length xs - 1)
 innermost-last [] = refl
 innermost-last (x ∷ []) = refl
 innermost-last (x ∷ y ∷ xs) =
-    let n : suc (suc (length xs)) - 1 ≡ suc (suc (length xs) - 1) = omega arith in
-    ap (slice_get (x ∷ y ∷ xs)) n ∙ innermost-last (y ∷ xs)
+    let n : suc (suc (length xs)) - 1 ≡ suc (suc (length xs) - 1) = omega arith in rw n (innermost-last (y ∷ xs))
 
 pub outer-take : {X : Type 0} (xs : List X) → take (length xs - 1) xs ≡ outer xs
 outer-take [] = refl
 outer-take (x ∷ []) = refl
 outer-take {X} (x ∷ y ∷ xs) =
-    let n : suc (suc (length xs)) - 1 ≡ suc (suc (length xs) - 1) = omega arith in
-    ap (λ (k : ℕ). take k (x ∷ y ∷ xs)) n ∙ ap (λ (ys : List X). x ∷ ys) (outer-take (y ∷ xs))
+    let n : suc (suc (length xs)) - 1 ≡ suc (suc (length xs) - 1) = omega arith in simp (n, outer-take (y ∷ xs))
 
 pub innermost-All : {X : Type 0} (P : X → Type 0) (xs : List X) (x : X) → All P xs → innermost xs ≡ Some x → P x
 innermost-All P [] x h e = absurd (cc e)
@@ -55,9 +53,7 @@ module _ {X : Type 0} (len_of : ℕ → ℕ) (chars : List ℕ) (values : List X
       let wide : place len_of chars (k + 1) - place len_of chars k ≡ len_of c = omega (arith, place-more len_of chars k 0 within) in
       ap (per_unit len_of chars) changed ∙ ap (λ (cs : List ℕ). per_unit len_of cs (take k values ++ x ∷ drop (k + 1) values)) cut
       ∙ per_unit-append len_of (take k chars) (c ∷ drop (k + 1) chars) (take k values) (x ∷ drop (k + 1) values) (omega (arith, length-take k values, length-take k chars))
-      ∙ ap (λ (us : List X). us ++ (replicate (len_of c) x ++ per_unit len_of (drop (k + 1) chars) (drop (k + 1) values))) (sym (take-per_unit len_of chars values k long))
-      ∙ ap (λ (us : List X). take (place len_of chars k) (per_unit len_of chars values) ++ (replicate (len_of c) x ++ us)) (sym (drop-per_unit len_of chars values (k + 1) long))
-      ∙ ap (λ (n : ℕ). take (place len_of chars k) (per_unit len_of chars values) ++ (replicate n x ++ drop (place len_of chars (k + 1)) (per_unit len_of chars values))) (sym wide)
+      ∙ simp (wide, take-per_unit len_of chars values k long, drop-per_unit len_of chars values (k + 1) long)
 
 -- an initiator of the paragraph that is read, of whose characters `stored` are the classes, meets a character
 pub met_units-char : (len_of : ℕ → ℕ) → HasUnits len_of → (chars : List ℕ) (front stored : List BidiClass) (class : BidiClass) (q : ℕ) → length front + length stored ≡ length chars → q < length stored
@@ -71,11 +67,9 @@ met_units-char len_of units chars front stored class q long within =
     let place_in : length front + q - length front ≡ q = omega arith in
     let changed : set (front ++ stored) k (resolved_fsi (Some class)) ≡ front ++ set stored q (resolved_fsi (Some class)) =
     grind (arith, set-append_right) in
-    ap (λ (c : BidiClass). cond (is_strong class) (cond (is_fsi c) (filled (char_units len_of chars k) (resolved_fsi (Some class)) (per_unit len_of chars (front ++ stored))) (per_unit len_of chars (front ++ stored))) (per_unit len_of chars (front ++ stored))) read
-    ∙ by_tests (is_strong class) (is_fsi (class_at stored q)) (sym (per_unit-set len_of chars (front ++ stored) all k inside (resolved_fsi (Some class))) ∙ ap (per_unit len_of chars) changed)
+    simp read
+    (by_tests (is_strong class) (is_fsi (class_at stored q)) (sym (per_unit-set len_of chars (front ++ stored) all k inside (resolved_fsi (Some class))) ∙ ap (per_unit len_of chars) changed))
   where
     by_tests : (s f : Bool) {us : List BidiClass} → us ≡ per_unit len_of chars (front ++ set stored q (resolved_fsi (Some class)))
         → cond s (cond f us (per_unit len_of chars (front ++ stored))) (per_unit len_of chars (front ++ stored)) ≡ per_unit len_of chars (front ++ cond (s && f) (set stored q (resolved_fsi (Some class))) stored)
-    by_tests true true e = e
-    by_tests true false e = refl
-    by_tests false f e = refl
+    by_tests s f e = grind arith

@@ -1,8 +1,8 @@
 -- The units of some characters: what stands at them is what stands at the characters, repeated; and the units that a pass reads are those of the characters that it reads.
-use Rattle.std.proofs.Common.{◌≡◌, ◌≢◌, ◌⊎◌, subst, ℕ, zero, suc, ◌+◌, ◌-◌, ◌<◌, ◌≤◌, Bool, true, false, List, [], ◌∷◌, ◌++◌, length, map, get_or, replicate, refl, sym, ap, ◌∙◌, arith, inl, inr}
+use Rattle.std.proofs.Common.{◌≡◌, ◌≢◌, ◌⊎◌, ℕ, zero, suc, ◌+◌, ◌-◌, ◌<◌, ◌≤◌, Bool, true, List, [], ◌∷◌, ◌++◌, length, map, get_or, replicate, refl, sym, ap, ◌∙◌, arith, inl, inr}
 use Rattle.std.specs.Prelude.{filter, flat_map}
 use Rattle.std.specs.List.{All, range_with_len}
-use Rattle.std.proofs.lemmas.Bool.{cases_Bool, cases_eq, cond-true, cond-false}
+use Rattle.std.proofs.lemmas.Bool.{cases_Bool, cases_eq}
 use Rattle.std.proofs.lemmas.Grind.{flat_map-append}
 use Rattle.std.proofs.lemmas.List.Elements.{All-nil, All-cons, All-head, All-tail, All-append, All-filter, filter-append}
 use Rattle.std.proofs.lemmas.List.{length-map, ext_get_or}
@@ -12,7 +12,7 @@ use Rattle.bidi_base.specs.Classes.{is_kept_in_place}
 use Rattle.bidi_base.specs.Places.{between, class_at, at_places}
 use Rattle.bidi_base.specs.Text.{text_len, place, per_unit, per_char, IsPerChar, IsLine, char_index}
 use Rattle.bidi_base.specs.Units.{chars_in_runs, kept_in_place, units_in_runs, AreLines}
-use Rattle.bidi_base.proofs.ChainLemmas.{range_with_len-append}
+use Rattle.bidi_base.proofs.ChainLemmas.{range_with_len-append, filter_range-none}
 use Rattle.bidi_base.proofs.PlaceLemmas.{line_places, place-mono, place-more, unit_of}
 use Rattle.bidi_base.proofs.PerUnit.{length-per_unit, length-per_char, get_or-per_char, get_or-per_unit, get_or-per_unit-place}
 use Rattle.bidi_base.proofs.StoredLemmas.{length-at_places, at_places-append}
@@ -32,22 +32,21 @@ AreIndexes chars ks = All (λ k. k < length chars) ks
 
 -- ---- what stands there
 
-row_of : {X : Type 0} (d v : X) (units : List X) (u n : ℕ) → ((j : ℕ) → j < n → get_or units (u + j) d ≡ v) → at_places d units (range_with_len u n) ≡ replicate n v
+row_of : {X : Type 0} (d v : X) (units : List X) (u n : ℕ) → ((p : ℕ) → u ≤ p → p < u + n → get_or units p d ≡ v) → at_places d units (range_with_len u n) ≡ replicate n v
 row_of d v units u zero each = refl
-row_of {X} d v units u (suc n) each =
-    let here : u ≡ u + 0 = omega arith in
-    ap (λ (x : X). x ∷ at_places d units (range_with_len (u + 1) n)) (ap (λ (p : ℕ). get_or units p d) here ∙ each 0 (omega arith))
-    ∙ ap (λ (xs : List X). v ∷ xs) (row_of d v units (u + 1) n (λ j below. let next : u + 1 + j ≡ u + suc j = omega arith in ap (λ (p : ℕ). get_or units p d) next ∙ each (suc j) (omega arith)))
+row_of d v units u (suc n) each =
+    simp (each u (omega arith) (omega arith), row_of d v units (u + 1) n (λ p from below. each p (omega arith) (omega arith)))
 
 pub at_places-units : {X : Type 0} (d : X) (len_of : ℕ → ℕ) (chars : List ℕ) (values : List X) → length values ≡ length chars → (ks : List ℕ) → AreIndexes chars ks
     → at_places d (per_unit len_of chars values) (units_of_chars len_of chars ks) ≡ per_unit len_of (at_places 0 chars ks) (at_places d values ks)
 at_places-units d len_of chars values long [] are = refl
 at_places-units {X} d len_of chars values long (k ∷ ks) are =
     let units = per_unit len_of chars values in
-    at_places-append d units (units_of_char len_of chars k) (units_of_chars len_of chars ks)
-    ∙ ap (λ (xs : List X). xs ++ at_places d units (units_of_chars len_of chars ks))
-    (row_of d (get_or values k d) units (place len_of chars k) (len_of (get_or chars k 0)) (λ j below. get_or-per_unit len_of chars values k j 0 d long (All-head (λ (i : ℕ). i < length chars) k ks are) below))
-    ∙ ap (λ (xs : List X). replicate (len_of (get_or chars k 0)) (get_or values k d) ++ xs) (at_places-units d len_of chars values long ks (All-tail (λ (i : ℕ). i < length chars) k ks are))
+    let start = place len_of chars k in
+    let row = row_of d (get_or values k d) units start (len_of (get_or chars k 0)) (λ p from below.
+    let at : start + (p - start) ≡ p = omega arith in
+    simp at at (get_or-per_unit len_of chars values k (p - start) 0 d long (All-head (λ (i : ℕ). i < length chars) k ks are) (omega arith))) in
+    simp (at_places-append, row, at_places-units d len_of chars values long ks (All-tail (λ (i : ℕ). i < length chars) k ks are))
 
 -- ---- and back: what a pass over units left there it left at the characters
 
@@ -61,16 +60,14 @@ row_first d w units xs ys u n some e = grind arith
 pub at_places-from_units : {X : Type 0} (d : X) (len_of : ℕ → ℕ) → HasUnits len_of → (chars : List ℕ) (units : List X) (ks : List ℕ) (values : List X) → length values ≡ length ks
     → at_places d units (units_of_chars len_of chars ks) ≡ per_unit len_of (at_places 0 chars ks) values → at_places d units (map (place len_of chars) ks) ≡ values
 at_places-from_units d len_of h chars units [] [] long e = refl
-at_places-from_units d len_of h chars units [] (v ∷ values) long e = absurd (omega arith)
-at_places-from_units d len_of h chars units (k ∷ ks) [] long e = absurd (omega arith)
 at_places-from_units {X} d len_of h chars units (k ∷ ks) (v ∷ values) long e =
     let u = place len_of chars k in
     let n = len_of (get_or chars k 0) in
     let xs = at_places d units (units_of_chars len_of chars ks) in
     let ys = per_unit len_of (at_places 0 chars ks) values in
     let parts : at_places d units (range_with_len u n) ++ xs ≡ replicate n v ++ ys = grind (arith, at_places-append) in
-    ap (λ (x : X). x ∷ at_places d units (map (place len_of chars) ks)) (row_first d v units xs ys u n (h (get_or chars k 0)) parts)
-    ∙ ap (λ (vs : List X). v ∷ vs) (at_places-from_units d len_of h chars units ks values (omega arith) (row_rest d v units xs ys u n parts))
+    simp (row_first d v units xs ys u n (h (get_or chars k 0)) parts, at_places-from_units d len_of h chars units ks values (omega arith) (row_rest d v units xs ys u n parts))
+at_places-from_units d len_of h chars units _ _ long e = absurd (omega arith)
 
 row_each : {X : Type 0} (d w : X) (units xs ys : List X) (u n j : ℕ) → j < n → at_places d units (range_with_len u n) ++ xs ≡ replicate n w ++ ys → get_or units (u + j) d ≡ w
 row_each d w units xs ys u zero j below e = absurd (omega arith)
@@ -80,14 +77,11 @@ row_each d w units xs ys u (suc n) (suc j) below e = (let next : u + suc j ≡ u
 -- at each unit of the characters
 pub get_or-from_units : {X : Type 0} (d : X) (len_of : ℕ → ℕ) (chars : List ℕ) (units : List X) (ks : List ℕ) (values : List X) → length values ≡ length ks → at_places d units (units_of_chars len_of chars ks) ≡ per_unit len_of (at_places 0 chars ks) values
     → (i j : ℕ) → i < length ks → j < len_of (get_or chars (get_or ks i 0) 0) → get_or units (place len_of chars (get_or ks i 0) + j) d ≡ get_or values i d
-get_or-from_units d len_of chars units [] values long e i j fits below = absurd (omega arith)
-get_or-from_units d len_of chars units (k ∷ ks) [] long e i j fits below = absurd (omega arith)
 get_or-from_units {X} d len_of chars units (k ∷ ks) (v ∷ values) long e zero j fits below = grind (arith, row_each, at_places-append)
 get_or-from_units {X} d len_of chars units (k ∷ ks) (v ∷ values) long e (suc i) j fits below =
     get_or-from_units d len_of chars units ks values (omega arith)
-    (row_rest d v units (at_places d units (units_of_chars len_of chars ks)) (per_unit len_of (at_places 0 chars ks) values) (place len_of chars k) (len_of (get_or chars k 0))
-    (sym (at_places-append d units (units_of_char len_of chars k) (units_of_chars len_of chars ks)) ∙ e))
-    i j (omega arith) below
+    (row_rest d v units _ _ (place len_of chars k) (len_of (get_or chars k 0)) (simp at_places-append at e)) i j (omega arith) below
+get_or-from_units d len_of chars units _ _ long e i j fits below = absurd (omega arith)
 
 -- ---- where nothing else is written, the units of each character stay alike
 
@@ -104,8 +98,7 @@ among k (q ∷ ks) = elim (cases_eq q k) [
 
 row_without : (p u n : ℕ) → (p < u) ⊎ (u + n ≤ p) → All (λ q. q ≢ p) (range_with_len u n)
 row_without p u zero out = All-nil (λ (q : ℕ). q ≢ p)
-row_without p u (suc n) (inl below) = All-cons (λ (q : ℕ). q ≢ p) u (range_with_len (u + 1) n) (λ same. omega arith) (row_without p (u + 1) n (inl (omega arith)))
-row_without p u (suc n) (inr above) = All-cons (λ (q : ℕ). q ≢ p) u (range_with_len (u + 1) n) (λ same. omega arith) (row_without p (u + 1) n (inr (omega arith)))
+row_without p u (suc n) out = All-cons (λ (q : ℕ). q ≢ p) u (range_with_len (u + 1) n) (λ same. omega arith) (row_without p (u + 1) n (grind arith))
 
 -- the units of a character are not those of others
 units_without : (len_of : ℕ → ℕ) (chars : List ℕ) (k j : ℕ) → k < length chars → j < len_of (get_or chars k 0) → (ks : List ℕ) → AreIndexes chars ks → All (λ q. q ≢ k) ks → All (λ q. q ≢ place len_of chars k + j) (units_of_chars len_of chars ks)
@@ -131,45 +124,28 @@ IsPerChar-units {X} d len_of h chars values new ks answers long are many size e 
       count,
       ext_get_or d new (per_unit len_of chars now) (omega arith) (λ u below.
           let w = unit_of len_of chars u (omega arith) in
-          ap (λ (p : ℕ). get_or new p d) w.at_place
-          ∙ alike w.index w.offset w.within w.below
-          ∙ sym (get_or-per_char d len_of chars new w.index d w.within)
-          ∙ sym (get_or-per_unit len_of chars now w.index w.offset 0 d count w.within w.below)
-          ∙ sym (ap (λ (p : ℕ). get_or (per_unit len_of chars now) p d) w.at_place)),
+          rw w.at_place (alike w.index w.offset w.within w.below
+          ∙ simp (get_or-per_unit len_of chars now w.index w.offset 0 d count w.within w.below, get_or-per_char d len_of chars new w.index d w.within))),
     )
   where
     alike : (k j : ℕ) → k < length chars → j < len_of (get_or chars k 0) → get_or new (place len_of chars k + j) d ≡ get_or new (place len_of chars k) d
     alike k j fits below =
         let first : place len_of chars k + 0 ≡ place len_of chars k = omega arith in
         let some = h (get_or chars k 0) in
-        elim (among k ks) [
-          | inl w ↦
-              let each : (j : ℕ) → j < len_of (get_or chars k 0) → get_or new (place len_of chars k + j) d ≡ get_or answers w.0 d =
-              grind (arith, get_or-from_units) in
-              each j below ∙ sym (each 0 (omega arith)) ∙ ap (λ (p : ℕ). get_or new p d) first
-          | inr none ↦
-              let each : (j : ℕ) → j < len_of (get_or chars k 0) → get_or new (place len_of chars k + j) d ≡ get_or values k d =
-              λ j below. stays (place len_of chars k + j) (units_without len_of chars k j fits below ks are none) ∙ get_or-per_unit len_of chars values k j 0 d long fits below in
-              each j below ∙ sym (each 0 (omega arith)) ∙ ap (λ (p : ℕ). get_or new p d) first
-        ]
+        let each : (v : X) × ((j : ℕ) → j < len_of (get_or chars k 0) → get_or new (place len_of chars k + j) d ≡ v) = elim (among k ks) [
+          | inl w ↦ (get_or answers w.0 d, grind (arith, get_or-from_units))
+          | inr none ↦ (
+            get_or values k d,
+            λ j below. stays (place len_of chars k + j) (units_without len_of chars k j fits below ks are none) ∙ get_or-per_unit len_of chars values k j 0 d long fits below,
+          )
+        ] in
+        each.1 j below ∙ sym (simp first at (each.1 0 (omega arith)))
 
 -- ---- the units that are read
 
-filter_all : (test : ℕ → Bool) (u n : ℕ) → ((j : ℕ) → j < n → test (u + j) ≡ true) → filter test (range_with_len u n) ≡ range_with_len u n
+filter_all : (test : ℕ → Bool) (u n : ℕ) → ((p : ℕ) → u ≤ p → p < u + n → test p ≡ true) → filter test (range_with_len u n) ≡ range_with_len u n
 filter_all test u zero each = refl
-filter_all test u (suc n) each =
-    let here : test u ≡ true = (let same : u ≡ u + 0 = omega arith in ap test same) ∙ each 0 (omega arith) in
-    let rest = filter test (range_with_len (u + 1) n) in
-    cond-true (test u) (u ∷ rest) rest here
-    ∙ ap {B = List ℕ} (λ us. u ∷ us) (filter_all test (u + 1) n (λ j below. let next : u + 1 + j ≡ u + suc j = omega arith in ap test next ∙ each (suc j) (omega arith)))
-
-filter_none : (test : ℕ → Bool) (u n : ℕ) → ((j : ℕ) → j < n → test (u + j) ≡ false) → filter test (range_with_len u n) ≡ []
-filter_none test u zero each = refl
-filter_none test u (suc n) each =
-    let here : test u ≡ false = (let same : u ≡ u + 0 = omega arith in ap test same) ∙ each 0 (omega arith) in
-    let rest = filter test (range_with_len (u + 1) n) in
-    cond-false (test u) (u ∷ rest) rest here
-    ∙ filter_none test (u + 1) n (λ j below. let next : u + 1 + j ≡ u + suc j = omega arith in ap test next ∙ each (suc j) (omega arith))
+filter_all test u (suc n) each = simp (each u (omega arith) (omega arith), filter_all test (u + 1) n (λ p from below. each p (omega arith) (omega arith)))
 
 module _ (len_of : ℕ → ℕ) (h : HasUnits len_of) (chars : List ℕ) (values : List BidiClass) (long : length values ≡ length chars) where
   abbrev reads : ℕ → Bool
@@ -190,19 +166,15 @@ module _ (len_of : ℕ → ℕ) (h : HasUnits len_of) (chars : List ℕ) (values
       let later = filter reads_char (range_with_len (i + 1) n) in
       let end = place len_of chars (i + suc n) in
       let count : end - a ≡ m + (end - (a + m)) = omega arith in
-      let rest : filter reads (range_with_len (a + m) (end - (a + m))) ≡ units_of_chars len_of chars later =
-      ap (λ u. filter reads (between u end)) (sym step) ∙ ap (λ k. filter reads (between (place len_of chars (i + 1)) (place len_of chars k))) (sym next) ∙ in_line (i + 1) n (omega arith)
-      in
-      let one : (j : ℕ) → j < m → class_at (per_unit len_of chars values) (a + j) ≡ class_at (per_unit len_of chars values) a =
-      λ j below. grind (arith, get_or-per_unit, get_or-per_unit-place)
-      in
-      ap (λ k. filter reads (range_with_len a k)) count
-      ∙ ap (filter reads) (range_with_len-append a m (end - (a + m)))
-      ∙ filter-append reads (range_with_len a m) (range_with_len (a + m) (end - (a + m)))
-      ∙ elim (cases_Bool (reads a)) [
-        | inl yes' ↦ grind (arith, filter_all)
-        | inr no' ↦ grind (arith, filter_none)
-      ]
+      let rest : filter reads (range_with_len (a + m) (end - (a + m))) ≡ units_of_chars len_of chars later = simp (next, step) at (in_line (i + 1) n (omega arith)) in
+      let one : (p : ℕ) → a ≤ p → p < a + m → reads p ≡ reads a = λ p from below.
+      let at : a + (p - a) ≡ p = omega arith in
+      let here = simp at at (get_or-per_unit len_of chars values i (p - a) 0 L long (omega arith) (omega arith)) in
+      grind (arith, here, get_or-per_unit-place) in
+      simp (count, range_with_len-append, filter-append) (elim (cases_Bool (reads a)) [
+        | inl yes' ↦ simp (yes', rest, filter_all reads a m (λ p from below. one p from below ∙ yes'))
+        | inr no' ↦ simp (no', rest, filter_range-none reads a m (λ p from below. one p from below ∙ no'))
+      ])
 
   pub read_units-is : (runs : List (ℕ × ℕ)) → AreLines len_of chars runs → filter (λ u. is_kept_in_place (class_at (per_unit len_of chars values) u)) (units_in_runs runs) ≡ units_of_chars len_of chars (kept_in_place len_of chars (per_unit len_of chars values) runs)
   unfolding kept_in_place chars_in_runs
@@ -213,14 +185,8 @@ module _ (len_of : ℕ → ℕ) (h : HasUnits len_of) (chars : List ℕ) (values
       let line = All-head (λ (q : ℕ × ℕ). IsLine len_of chars q.0 q.1) r runs lines in
       let w = line_places len_of h chars r.0 r.1 line in
       let whole : i + (j - i) ≡ j = omega (arith, w.ordered) in
-      filter-append reads (between r.0 r.1) (units_in_runs runs)
-      ∙ ap (λ (us : List ℕ). us ++ filter reads (units_in_runs runs))
-      (ap (λ u. filter reads (between u r.1)) w.begins
-      ∙ ap (λ u. filter reads (between (place len_of chars i) u)) (w.ends ∙ ap (place len_of chars) (sym whole))
-      ∙ in_line i (j - i) (omega (arith, w.within)))
-      ∙ ap (λ (us : List ℕ). units_of_chars len_of chars (filter reads_char (between i j)) ++ us) (read_units-is runs (All-tail (λ (q : ℕ × ℕ). IsLine len_of chars q.0 q.1) r runs lines))
-      ∙ sym (flat_map-append (units_of_char len_of chars) (filter reads_char (between i j)) (filter reads_char (chars_in_runs len_of chars runs)))
-      ∙ ap (units_of_chars len_of chars) (sym (filter-append reads_char (between i j) (chars_in_runs len_of chars runs)))
+      let here = simp (whole, ← w.begins, ← w.ends) at (in_line i (j - i) (omega (arith, w.within))) in
+      simp (filter-append, flat_map-append, here, read_units-is runs (All-tail (λ (q : ℕ × ℕ). IsLine len_of chars q.0 q.1) r runs lines))
 
   -- ---- a pass over the units that are read
 
@@ -261,8 +227,7 @@ module _ (len_of : ℕ → ℕ) (h : HasUnits len_of) (chars : List ℕ) (values
     read_units-per_char new answers many size e stays =
         let ks = kept_in_place len_of chars (per_unit len_of chars values) runs in
         let same = read_units-is runs lines in
-        IsPerChar-units L len_of h chars values new ks answers long (kept_in_place-AreIndexes runs lines) many size (ap (at_places L new) (sym same) ∙ e)
-        (λ u none. stays u (subst (All (λ (q : ℕ). q ≢ u)) (sym same) none))
+        IsPerChar-units L len_of h chars values new ks answers long (kept_in_place-AreIndexes runs lines) many size (simp same at e) (λ u none. stays u (rw same none))
 
     -- so a rule that commutes with repetition may run over the units
     pub read_units-rule : (rule : List BidiClass → List BidiClass) → ((cs : List BidiClass) → length (rule cs) ≡ length cs)

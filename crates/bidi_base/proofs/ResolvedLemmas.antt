@@ -1,22 +1,22 @@
 -- What the levels of sequences are, once some of them are resolved and once all are: bounds, and what they do not depend on.
-use Rattle.std.proofs.Common.{◌≡◌, ℕ, zero, suc, ◌+◌, ◌<◌, ◌≤◌, true, not, cond, eqb, List, [], ◌∷◌, ◌++◌, length, get_or, map, count_by, Option, None, refl, sym, ap, subst, ◌∙◌, arith, inl, inr, le_refl}
+use Rattle.std.proofs.Common.{◌≡◌, ℕ, zero, suc, ◌+◌, ◌<◌, ◌≤◌, true, not, cond, eqb, List, [], ◌∷◌, ◌++◌, length, get_or, map, count_by, Option, None, refl, ap, subst, ◌∙◌, arith, le_refl}
 use Rattle.std.specs.Prelude.{flat_map, zip}
 use Rattle.std.specs.List.{All, AllByRecursion}
-use Rattle.std.proofs.lemmas.Bool.{cases_Bool, cond-false, cond_both}
+use Rattle.std.proofs.lemmas.Bool.{cond_both}
 use Rattle.std.proofs.lemmas.List.{length-map, map-append}
 use Rattle.std.proofs.lemmas.List.Sums.{sum_by-cons, sum_by-append}
 use Rattle.bidi_base.specs.declared.char_data.BidiClass.{BidiClass}
-use Rattle.bidi_base.specs.declared.char_data.BidiClass.TheVariants.{L, BN}
+use Rattle.bidi_base.specs.declared.char_data.BidiClass.TheVariants.{BN}
 use Rattle.bidi_base.specs.declared.data_source.BidiMatchedOpeningBracket.{BidiMatchedOpeningBracket}
 use Rattle.bidi_base.specs.Classes.{is_removed}
-use Rattle.bidi_base.specs.Places.{at_places, first_or}
+use Rattle.bidi_base.specs.Places.{first_or}
 use Rattle.bidi_base.specs.Source.{Source}
 use Rattle.bidi_base.specs.Isolates.{stored_classes}
 use Rattle.bidi_base.specs.Explicit.{explicit_levels, explicit_classes}
 use Rattle.bidi_base.specs.Sequences.{RunSequence, is_kept_at, level_at, sequences}
 use Rattle.bidi_base.specs.Weak.{weak_classes}
 use Rattle.bidi_base.specs.Neutral.{n0_pair, n0, neutral_classes}
-use Rattle.bidi_base.specs.Implicit.{implicit_level, implicit_levels}
+use Rattle.bidi_base.specs.Implicit.{implicit_levels}
 use Rattle.bidi_base.specs.Stored.{resolved_levels, sequence_levels, level_in, filled_levels, levels_in, stored_levels}
 use Rattle.bidi_base.proofs.PlacesLemmas.{length-in_context}
 use Rattle.bidi_base.proofs.StoredSteps.{length-stored_classes}
@@ -57,9 +57,6 @@ pub record IsStoredIn (paragraph level : ℕ) : Type 0 where
   pub above : paragraph ≤ level
   pub below : level ≤ 126
 
-implicit_level-IsStoredIn : (paragraph level : ℕ) (c : BidiClass) → IsExplicitIn paragraph level → IsStoredIn paragraph (implicit_level level c)
-implicit_level-IsStoredIn paragraph level c h = grind arith
-
 AllByRecursion-append : {X : Type 0} (P : X → Type 0) (xs ys : List X) → AllByRecursion P xs → AllByRecursion P ys → AllByRecursion P (xs ++ ys)
 AllByRecursion-append P [] ys h k = k
 AllByRecursion-append P (x ∷ xs) ys h k = (h.0, AllByRecursion-append P xs ys h.1 k)
@@ -82,12 +79,7 @@ times_in-zip p (q ∷ ps) (v ∷ vs) long =
 -- what a table says of a place that has an entry is so, if all its levels are
 level_in-AllByRecursion : (P : ℕ → Type 0) (table : List (ℕ × ℕ)) (p : ℕ) → AllByRecursion (λ (e : ℕ × ℕ). P e.1) table → 0 < count_by (λ (e : ℕ × ℕ). eqb e.0 p) table → P (level_in table p)
 level_in-AllByRecursion P [] p h there = absurd (omega arith)
-level_in-AllByRecursion P (e ∷ table) p h there = elim (cases_Bool (eqb e.0 p)) [
-  | inl here ↦ rw here h.0
-  | inr other ↦
-      let none : cond {A = ℕ} (eqb e.0 p) 1 0 ≡ 0 = cond-false (eqb e.0 p) 1 0 other in
-      rw other (level_in-AllByRecursion P table p h.1 (omega (arith, sum_by-cons (λ (d : ℕ × ℕ). cond (eqb d.0 p) 1 0) e table)))
-]
+level_in-AllByRecursion P (e ∷ table) p h there = grind (arith, sum_by-cons, level_in-AllByRecursion P table p h.1)
 
 AllByRecursion-filled_levels : (P : ℕ → Type 0) (table : List (ℕ × ℕ)) (p before : ℕ) (classes : List BidiClass) → P before → ((k : ℕ) → k < length classes → is_kept_at classes k ≡ true → P (level_in table (p + k)))
     → AllByRecursion P (filled_levels table p before classes)
@@ -107,7 +99,7 @@ first_in (p ∷ ps) some = times_in-at (p ∷ ps) 0 0 (omega arith)
 
 AllByRecursion-implicit_levels : (paragraph level : ℕ) (classes : List BidiClass) → IsExplicitIn paragraph level → AllByRecursion (IsStoredIn paragraph) (implicit_levels level classes)
 AllByRecursion-implicit_levels paragraph level [] h = tt
-AllByRecursion-implicit_levels paragraph level (c ∷ classes) h = (implicit_level-IsStoredIn paragraph level c h, AllByRecursion-implicit_levels paragraph level classes h)
+AllByRecursion-implicit_levels paragraph level (c ∷ classes) h = (grind arith, AllByRecursion-implicit_levels paragraph level classes h)
 
 -- the level of the k-th sequence
 pub sequence-level : (paragraph : ℕ) (classes : List BidiClass) (k : ℕ) (d : RunSequence) → paragraph ≤ 125 → k < length (sequences paragraph classes (explicit_levels paragraph classes))
@@ -139,11 +131,8 @@ levels_in-IsStoredIn paragraph source brackets fits =
     counted [] p = refl
     counted (s ∷ seqs) p =
         let stored = stored_classes source in
-        let entries : RunSequence → List (ℕ × ℕ) = sequence_levels source brackets (explicit_levels paragraph stored) (explicit_classes paragraph stored) in
-        sum_by-append (λ (e : ℕ × ℕ). cond (eqb e.0 p) 1 0) (entries s) (flat_map entries seqs)
-        ∙ ap (λ (n : ℕ). n + count_by (λ (e : ℕ × ℕ). eqb e.0 p) (flat_map entries seqs)) (times_in-zip p s.places (resolved_levels source brackets (explicit_levels paragraph stored) (explicit_classes paragraph stored) s) (length-resolved_levels source brackets (explicit_levels paragraph stored) (explicit_classes paragraph stored) s))
-        ∙ ap (λ (n : ℕ). times_in s.places p + n) (counted seqs p)
-        ∙ sym (sum_by-append (λ q. cond (eqb q p) 1 0) s.places (places_of seqs))
+        let long = length-resolved_levels source brackets (explicit_levels paragraph stored) (explicit_classes paragraph stored) s in
+        simp (sum_by-append, times_in-zip p s.places (resolved_levels source brackets (explicit_levels paragraph stored) (explicit_classes paragraph stored) s) long, counted seqs p)
 
 -- ---- brackets of what X9 removes do not count
 
@@ -154,11 +143,10 @@ unfolding sequence_levels resolved_levels
 sequence_levels-agree source brackets other levels classes [] agree = refl
 sequence_levels-agree source brackets other levels classes (s ∷ seqs) agree =
     let joined : (p : ℕ) → times_in (places_of (s ∷ seqs)) p ≡ times_in s.places p + times_in (places_of seqs) p = λ p. sum_by-append (λ q. cond (eqb q p) 1 0) s.places (places_of seqs) in
-    let level : ℕ = level_at levels (first_or 0 s.places) in
-    let weak : List BidiClass = weak_classes s.sos (at_places L classes s.places) in
-    ap (λ (bs : List (Option BidiMatchedOpeningBracket)). zip s.places (implicit_levels level (neutral_classes level s.sos s.eos (at_places L source s.places) bs weak)) ++ flat_map (sequence_levels source brackets levels classes) seqs)
-    (at_places-agree None brackets other s.places (λ p there. agree p (omega (arith, joined p))))
-    ∙ ap (λ (es : List (ℕ × ℕ)). sequence_levels source other levels classes s ++ es) (sequence_levels-agree source brackets other levels classes seqs (λ p there. agree p (omega (arith, joined p))))
+    simp (
+      at_places-agree None brackets other s.places (λ p there. agree p (omega (arith, joined p))),
+      sequence_levels-agree source brackets other levels classes seqs (λ p there. agree p (omega (arith, joined p))),
+    )
 
 pub levels_in-agree : (paragraph : ℕ) (source : List BidiClass) (brackets other : List (Option BidiMatchedOpeningBracket)) → ((p : ℕ) → p < length source → is_kept_at source p ≡ true → get_or brackets p None ≡ get_or other p None)
     → levels_in paragraph source brackets ≡ levels_in paragraph source other
@@ -166,12 +154,8 @@ unfolding levels_in
 levels_in-agree paragraph source brackets other agree =
     let stored = stored_classes source in
     let levels = explicit_levels paragraph stored in
-    ap (λ (table : List (ℕ × ℕ)). filled_levels table 0 paragraph stored)
-    (sequence_levels-agree source brackets other levels (explicit_classes paragraph stored) (sequences paragraph stored levels)
-    (λ p there.
-    let h = sequences-kept paragraph stored levels p there in
-    let within : p < length source = omega (arith, h.1, length-stored_classes source) in
-    agree p within (sym (is_kept_at-stored_classes source p within) ∙ h.0)))
+    simp (sequence_levels-agree source brackets other levels (explicit_classes paragraph stored) (sequences paragraph stored levels)
+    (λ p there. grind (arith, agree p, sequences-kept paragraph stored levels p there, length-stored_classes, is_kept_at-stored_classes)))
 
 other_there : {X : Type 0} (f : ℕ → X) (front back : List ℕ) (c d : ℕ) (p : ℕ) (e : X) → (p ≡ length front → ⊥) → get_or (map f (front ++ c ∷ back)) p e ≡ get_or (map f (front ++ d ∷ back)) p e
 other_there f [] back c d zero e apart = absurd (apart refl)

@@ -1,8 +1,7 @@
 -- Where the characters of sequences stand: each is kept, no two sequences share one, and none stands twice. What their levels and ends are.
-use Rattle.std.proofs.Common.{◌≡◌, ℕ, zero, suc, ◌+◌, ◌<◌, ◌≤◌, Bool, true, cond, eqb, List, [], ◌∷◌, length, get_or, take, count_by, Option, Some, sym, ap, subst, arith, inl, inr}
+use Rattle.std.proofs.Common.{◌≡◌, ℕ, zero, suc, ◌+◌, ◌<◌, ◌≤◌, Bool, true, cond, eqb, List, [], ◌∷◌, length, get_or, take, count_by, Option, Some, sym, subst, arith}
 use Rattle.std.specs.Prelude.{filter, flat_map}
 use Rattle.std.specs.List.{range_with_len}
-use Rattle.std.proofs.lemmas.Bool.{cases_Bool, cond-true, cond-false}
 use Rattle.std.proofs.lemmas.List.{length-map, get_or-map}
 use Rattle.std.proofs.lemmas.List.Sums.{sum_by-cons, sum_by-append}
 use Rattle.std.proofs.lemmas.List.Sorted.{sum_by-IsPermutation}
@@ -19,30 +18,14 @@ times_in ps p = count_by (λ q. eqb q p) ps
 -- what stands in a part of a range that was kept
 pub times_in-kept : (keep : ℕ → Bool) (p low m : ℕ) → 0 < times_in (filter keep (range_with_len low m)) p → (keep p ≡ true) × (p < low + m)
 times_in-kept keep p low zero there = absurd (omega arith)
-times_in-kept keep p low (suc m) there = elim (cases_Bool (keep low)) [
-  | inl kept ↦
-      let whole : filter keep (range_with_len low (suc m)) ≡ low ∷ filter keep (range_with_len (low + 1) m) = cond-true (keep low) _ _ kept in
-      elim (cases_Bool (eqb low p)) [
-        | inl here ↦ grind arith
-        | inr other ↦
-            let none : cond {A = ℕ} (eqb low p) 1 0 ≡ 0 = cond-false (eqb low p) 1 0 other in
-            let rest : 0 < times_in (filter keep (range_with_len (low + 1) m)) p = omega (arith, ap (λ (qs : List ℕ). times_in qs p) whole, sum_by-cons (λ q. cond (eqb q p) 1 0) low (filter keep (range_with_len (low + 1) m))) in
-            let later = times_in-kept keep p (low + 1) m rest in
-            (later.0, omega (arith, later.1))
-      ]
-  | inr removed ↦
-      let whole : filter keep (range_with_len low (suc m)) ≡ filter keep (range_with_len (low + 1) m) = cond-false (keep low) _ _ removed in
-      let later = times_in-kept keep p (low + 1) m (subst (λ (qs : List ℕ). 0 < times_in qs p) whole there) in
-      (later.0, omega (arith, later.1))
-]
+times_in-kept keep p low (suc m) there = grind (arith, sum_by-cons, times_in-kept keep p (low + 1) m)
 
 -- in joined lists a place stands as often as in the parts: in some first ones, and in the one after them
 pub times_in-parts : {X : Type 0} (f : X → List ℕ) (xs : List X) (k : ℕ) (d : X) (p : ℕ) → k < length xs
     → times_in (flat_map f (take k xs)) p + times_in (f (get_or xs k d)) p ≤ times_in (flat_map f xs) p
 times_in-parts f [] k d p within = absurd (omega arith)
 times_in-parts f (x ∷ xs) zero d p within = omega (arith, sum_by-append (λ q. cond (eqb q p) 1 0) (f x) (flat_map f xs))
-times_in-parts f (x ∷ xs) (suc k) d p within =
-    omega (arith, times_in-parts f xs k d p (omega arith), sum_by-append (λ q. cond (eqb q p) 1 0) (f x) (flat_map f (take k xs)), sum_by-append (λ q. cond (eqb q p) 1 0) (f x) (flat_map f xs))
+times_in-parts f (x ∷ xs) (suc k) d p within = grind (arith, times_in-parts f xs k d p, sum_by-append)
 
 -- the places of some sequences
 abbrev pub places_of : List RunSequence → List ℕ
@@ -67,9 +50,7 @@ module _ (paragraph : ℕ) (classes : List BidiClass) (levels : List ℕ) where
   -- and each is that of a kept character
   pub sequences-kept : (p : ℕ) → 0 < times_in (places_of (sequences paragraph classes levels)) p → (is_kept_at classes p ≡ true) × (p < length classes)
   unfolding kept_places
-  sequences-kept p there =
-      let found = times_in-kept (is_kept_at classes) p 0 (length classes) (omega (arith, times_in-sequences p)) in
-      (found.0, omega (arith, found.1))
+  sequences-kept p there = grind (arith, times_in-kept (is_kept_at classes) p 0 (length classes), times_in-sequences p)
 
   -- each kept character stands in one
   pub sequences-all : (p : ℕ) → is_kept_at classes p ≡ true → p < length classes → 0 < times_in (places_of (sequences paragraph classes levels)) p

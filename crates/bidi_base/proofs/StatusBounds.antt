@@ -1,5 +1,5 @@
 -- The status stack holds at most 126 entries, and each count is at most the number of characters read.
-use Rattle.std.proofs.Common.{◌≡◌, ℕ, ◌+◌, ◌<◌, ◌≤◌, List, [], ◌∷◌, length, sym, subst, arith}
+use Rattle.std.proofs.Common.{◌≡◌, ℕ, ◌+◌, ◌<◌, ◌≤◌, List, [], ◌∷◌, length, arith}
 use Rattle.bidi_base.specs.declared.char_data.BidiClass.{BidiClass}
 use Rattle.bidi_base.specs.Places.{class_at}
 use Rattle.bidi_base.specs.Explicit.{asked_level}
@@ -10,8 +10,7 @@ use Rattle.bidi_base.proofs.StatusMachine.{IsInsideOf, overflowed, inside, split
 
 length_below : (paragraph level : ℕ) (es : List Entry) → paragraph ≤ level → AreBelow paragraph level es → length es + paragraph ≤ level
 length_below paragraph level [] order h = omega arith
-length_below paragraph level (e ∷ es) order h =
-    let rest : length es + paragraph ≤ e.status.level = length_below paragraph e.status.level es h.0 h.2 in omega (arith, h.1)
+length_below paragraph level (e ∷ es) order h = grind (arith, length_below paragraph e.status.level es h.0 h.2)
 
 -- an opener that is taken finds room
 pub IsTaken-room : (paragraph : ℕ) (c : BidiClass) (s : State) → IsWithinDepth paragraph s → asked_level c s.top.status.level ≤ 125 → length (s.top ∷ s.below) < 126
@@ -45,8 +44,7 @@ IsPushed-length classes p (q ∷ stack) h = omega (arith, h.0, IsPushed-length c
 -- so no count is greater than the number of characters read
 pub closed-counted : (paragraph : ℕ) (classes : List BidiClass) (p : ℕ) → p < length classes → counted (closed (class_at classes p) (state_at paragraph classes p)) ≤ p
 closed-counted paragraph classes p fits =
-    subst (λ (x : State). counted x ≤ p) (sym (closed-state_at paragraph classes p))
-    (omega (arith, state_of_counted paragraph classes (left_at classes p), IsPushed-length classes p (left_at classes p) (left_at-IsPushed classes p)))
+    grind (arith, closed-state_at, state_of_counted paragraph classes (left_at classes p), IsPushed-length classes p (left_at classes p) (left_at-IsPushed classes p))
 
 -- one step, as a loop that counts has it
 pub state_at-more : (paragraph : ℕ) (classes : List BidiClass) (p : ℕ) → state_at paragraph classes (p + 1) ≡ step (class_at classes p) (state_at paragraph classes p)

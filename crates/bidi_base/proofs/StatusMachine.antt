@@ -1,7 +1,7 @@
 -- The directional status stack answers at each character the level and the class that the definitions give.
-use Rattle.std.proofs.Common.{◌≡◌, ℕ, zero, suc, ◌+◌, ◌-◌, ◌<◌, ◌≤◌, Bool, true, false, not, ◌&&◌, cond, leb, eqb, List, [], ◌∷◌, ◌++◌, rules}
+use Rattle.std.proofs.Common.{◌≡◌, ℕ, zero, suc, ◌+◌, ◌<◌, ◌≤◌, Bool, true, false, not, ◌&&◌, cond, leb, eqb, List, [], ◌∷◌, ◌++◌}
 use Rattle.std.proofs.lemmas.Grind.{common_steps}
-use Rattle.std.proofs.Common.{length, map, reverse, refl, sym, ap, subst, ◌∙◌, arith, ◌⊎◌, inl, inr, eq-eqb}
+use Rattle.std.proofs.Common.{length, map, reverse, refl, ap, ◌∙◌, arith, ◌⊎◌, inl, inr, eq-eqb}
 use Rattle.std.specs.Prelude.{nat_le, if◌then◌else◌}
 use Rattle.std.proofs.lemmas.Bool.{cases_Bool, cases_eq, both_ways, cond-true, cond-false}
 use Rattle.bidi_base.specs.declared.char_data.BidiClass.{BidiClass}
@@ -11,7 +11,7 @@ use Rattle.bidi_base.specs.Places.{class_at}
 use Rattle.bidi_base.specs.Isolates.{is_initiator_at}
 use Rattle.bidi_base.specs.Explicit.{Status, override_of, asked_level, status_inside, status_at, explicit_level, explicit_class}
 use Rattle.bidi_base.proofs.OpenersStack.{below_isolate, below_embedding, closed_by, opened_by, openers_read, left_at, open_at-closed_by}
-use Rattle.bidi_base.specs.StatusMachine.{State, start_status, start, fits_in, entry_of, taken, refused, entered, drop_isolate, with_stack, close_isolate, close_embedding, closed, opened, step, answer_level, answer_class, state_at}
+use Rattle.bidi_base.specs.StatusMachine.{State, start_status, start, fits_in, entry_of, taken, refused, entered, drop_isolate, close_isolate, close_embedding, closed, opened, answer_level, answer_class, state_at}
 
 -- the state that a stack of openers leaves, each entered in text order
 unfoldable pub state_of : ℕ → List BidiClass → List ℕ → State
@@ -28,9 +28,6 @@ IsTaken-fits_in : (c : BidiClass) (s : State) → fits_in c s ≡ true → IsTak
 IsTaken-fits_in c s e = grind arith
 
 -- what a refusal does, by kind
-pub refused-initiator : (c : BidiClass) (s : State) → is_initiator c ≡ true → refused c s ≡ record s { overflow_isolates = s.overflow_isolates + 1 }
-refused-initiator c s e = cond-true _ _ _ e
-
 pub refused-embedding : (c : BidiClass) (s : State) → is_initiator c ≡ false → s.overflow_isolates ≡ 0 → refused c s ≡ record s { overflow_embeddings = s.overflow_embeddings + 1 }
 refused-embedding c s e none = cond-false _ _ _ e ∙ cond-true _ _ _ (eq-eqb s.overflow_isolates 0 none)
 
@@ -47,14 +44,14 @@ pub data EnteredAs (c : BidiClass) (s : State) : State → Type 0 where
 pub entered_as : (c : BidiClass) (s : State) → EnteredAs c s (entered c s)
 unfolding entered
 entered_as c s = elim (cases_Bool (fits_in c s)) [
-  | inl fits ↦ subst (EnteredAs c s) (sym (cond-true (fits_in c s) (taken c s) (refused c s) fits)) (as_taken fits (IsTaken-fits_in c s fits))
-  | inr high ↦ subst (EnteredAs c s) (sym (cond-false (fits_in c s) (taken c s) (refused c s) high)) (elim (cases_Bool (is_initiator c)) [
-    | inl isolate ↦ subst (EnteredAs c s) (sym (refused-initiator c s isolate)) (as_isolate high isolate)
+  | inl fits ↦ rw fits (as_taken fits (IsTaken-fits_in c s fits))
+  | inr high ↦ elim (cases_Bool (is_initiator c)) [
+    | inl isolate ↦ rw (high, isolate) (as_isolate high isolate)
     | inr other ↦ elim (cases_eq s.overflow_isolates 0) [
-      | inl none ↦ subst (EnteredAs c s) (sym (refused-embedding c s other none)) (as_embedding high other none)
-      | inr some ↦ subst (EnteredAs c s) (sym (refused-inside c s other (omega arith))) (as_unseen high other (omega arith))
+      | inl none ↦ rw (high, refused-embedding c s other none) (as_embedding high other none)
+      | inr some ↦ rw (high, refused-inside c s other (omega arith)) (as_unseen high other (omega arith))
     ]
-  ])
+  ]
 ]
 
 taken_valid : (c : BidiClass) (s : State) (isolate : Bool) → is_initiator c ≡ isolate → (taken c s).valid_isolates ≡ s.valid_isolates + cond isolate 1 0
@@ -89,12 +86,7 @@ IsInsideOf-entered c s t u (as_unseen high same some) other h = h
 -- so a PDI leaves what was there before the isolate
 pub close_isolate-IsInsideOf : (s t : State) → IsInsideOf s t → close_isolate t ≡ s
 unfolding close_isolate
-close_isolate-IsInsideOf s t overflowed = grind arith
-close_isolate-IsInsideOf s t (inside _ no_isolates no_embeddings none more drops) = grind arith
-  where
-    same_counts : t.overflow_isolates ≡ s.overflow_isolates → 0 ≡ s.overflow_embeddings → t.valid_isolates - 1 ≡ s.valid_isolates
-        → with_stack (record t { overflow_embeddings = 0; valid_isolates = t.valid_isolates - 1 }) (s.top ∷ s.below) ≡ s
-    same_counts e f g = λ i. record { top = s.top; below = s.below; overflow_isolates = e i; overflow_embeddings = f i; valid_isolates = g i }
+close_isolate-IsInsideOf s t h = grind arith
 
 pub close_isolate-none : (s : State) → s.overflow_isolates ≡ 0 → s.valid_isolates ≡ 0 → close_isolate s ≡ s
 unfolding close_isolate
@@ -130,22 +122,11 @@ fits_after c cut status = not cut && leb (asked_level c status.level) 125
 status_inside-more : (status : Status) (openers : List BidiClass) (c : BidiClass) → (status_inside status (openers ++ c ∷ []) ≡ inside_one c (is_cut status openers) (status_inside status openers))
     × (not (is_cut status (openers ++ c ∷ [])) ≡ fits_after c (is_cut status openers) (status_inside status openers))
 unfolding status_inside
-status_inside-more status [] c = (refl, by_test (leb (asked_level c status.level) 125))
-  where
-    by_test : (b : Bool) → not (cond b false true) ≡ b
-    by_test true = refl
-    by_test false = refl
-status_inside-more status (o ∷ openers) c = by_test (leb (asked_level o status.level) 125) (status_inside-more (record { level = asked_level o status.level; override = override_of o }) openers c)
-  where
-    inner : Status
-    inner = record { level = asked_level o status.level; override = override_of o }
-
-    by_test : (b : Bool) → (status_inside inner (openers ++ c ∷ []) ≡ inside_one c (is_cut inner openers) (status_inside inner openers))
-        × (not (is_cut inner (openers ++ c ∷ [])) ≡ fits_after c (is_cut inner openers) (status_inside inner openers))
-        → (cond b (status_inside inner (openers ++ c ∷ [])) status ≡ inside_one c (cond b (is_cut inner openers) true) (cond b (status_inside inner openers) status))
-        × (not (cond b (is_cut inner (openers ++ c ∷ [])) true) ≡ fits_after c (cond b (is_cut inner openers) true) (cond b (status_inside inner openers) status))
-    by_test true rest = rest
-    by_test false rest = (refl, refl)
+status_inside-more status [] c = grind arith
+status_inside-more status (o ∷ openers) c = elim (cases_Bool (leb (asked_level o status.level) 125)) [
+  | inl fits ↦ rw fits (status_inside-more (record { level = asked_level o status.level; override = override_of o }) openers c)
+  | inr high ↦ rw high (refl, refl)
+]
 
 -- nothing has overflowed
 abbrev is_clear : State → Bool
@@ -177,25 +158,18 @@ module _ (paragraph : ℕ) (classes : List BidiClass) where
       ⊎ ((below : List ℕ) × ((whole : List ℕ) → below_isolate classes whole stack ≡ below) × IsInsideOf (inside_all below) (inside_all stack))
 
   split_more : (q : ℕ) (stack : List ℕ) → is_initiator_at classes q ≡ false → SplitState stack → SplitState (q ∷ stack)
-  split_more q stack other (inl h) =
-      let s = entered-embedding (class_at classes q) _ _ (state_of-EnteredAs q stack) other in inl (λ whole. cond-false _ _ _ other ∙ h.0 whole, s.0 ∙ h.1, s.1 ∙ h.2)
-  split_more q stack other (inr h) = inr (h.0, λ whole. cond-false _ _ _ other ∙ h.1 whole, IsInsideOf-entered (class_at classes q) _ _ _ (state_of-EnteredAs q stack) other h.2)
+  split_more q stack other z3 = grind (arith, entered-embedding (class_at classes q) _ _ (state_of-EnteredAs q stack) other, IsInsideOf-entered (class_at classes q), state_of-EnteredAs q stack)
 
   pub split_state : (stack : List ℕ) → SplitState stack
   unfolding state_of
   split_state [] = inl (λ whole. refl, refl, refl)
-  split_state (q ∷ stack) = elim (cases_Bool (is_initiator_at classes q)) [
-    | inl initiator ↦ inr (stack, λ whole. cond-true _ _ _ initiator, entered-IsInsideOf (class_at classes q) _ _ (state_of-EnteredAs q stack) initiator)
-    | inr other ↦ split_more q stack other (split_state stack)
-  ]
+  split_state (q ∷ stack) = grind (arith, entered-IsInsideOf (class_at classes q), state_of-EnteredAs q stack, split_more q stack, split_state stack)
 
   close_embedding-state_of : (stack : List ℕ) → close_embedding (inside_all stack) ≡ inside_all (below_embedding classes stack)
   unfolding state_of
   close_embedding-state_of [] = close_embedding-start paragraph
-  close_embedding-state_of (q ∷ stack) = elim (cases_Bool (is_initiator_at classes q)) [
-    | inl initiator ↦ close_embedding-isolate (class_at classes q) _ _ (state_of-EnteredAs q stack) initiator ∙ ap inside_all (sym (cond-true _ _ _ initiator))
-    | inr other ↦ search (rules, close_embedding-embedding, state_of-EnteredAs, cond-false)
-  ]
+  close_embedding-state_of (q ∷ stack) =
+      grind (arith, close_embedding-isolate (class_at classes q) (inside_all stack), close_embedding-embedding (class_at classes q) (inside_all stack), state_of-EnteredAs q stack)
 
   -- what p closes and opens on the stack of indexes is what the machine does
   pub closed-state_of : (p : ℕ) (stack : List ℕ) → closed (class_at classes p) (inside_all stack) ≡ inside_all (closed_by classes p stack)
@@ -209,10 +183,7 @@ module _ (paragraph : ℕ) (classes : List BidiClass) where
   pub state_at-state_of : (p : ℕ) → state_at paragraph classes p ≡ inside_all (openers_read classes p)
   unfolding state_at state_of openers_read
   state_at-state_of zero = refl
-  state_at-state_of (suc p) =
-      ap (λ (s : State). step (class_at classes p) s) (state_at-state_of p)
-      ∙ ap (opened (class_at classes p)) (closed-state_of p (openers_read classes p))
-      ∙ opened-state_of p (left_at classes p)
+  state_at-state_of (suc p) = grind (arith, state_at-state_of p, closed-state_of, opened-state_of)
 
   -- so what a character leaves is the state inside what it leaves open
   pub closed-state_at : (p : ℕ) → closed (class_at classes p) (state_at paragraph classes p) ≡ inside_all (left_at classes p)
@@ -236,17 +207,9 @@ module _ (paragraph : ℕ) (classes : List BidiClass) where
       let c = class_at classes q in
       let s : State = inside_all stack in
       let h : IsStatusOf stack = status_of stack in
-      let cut : Bool = is_cut (start_status paragraph) (classes_of stack) in
       let now = entered-status c s (entered c s) (entered_as c s) in
-      let fits : fits_in c s ≡ fits_after c cut s.top.status = fits_in-clear c s ∙ ap (λ b. b && leb (asked_level c s.top.status.level) 125) h.clear in
-      record {
-        top =
-            now.0 ∙ ap (λ b. cond b (entry_of c s).status s.top.status) fits ∙ ap (inside_one c cut) h.top
-            ∙ sym (ap (status_inside (start_status paragraph)) (classes_of-more q stack) ∙ (status_inside-more (start_status paragraph) (classes_of stack) c).0);
-        clear =
-            now.1 ∙ fits ∙ ap (fits_after c cut) h.top
-            ∙ sym (ap (λ (cs : List BidiClass). not (is_cut (start_status paragraph) cs)) (classes_of-more q stack) ∙ (status_inside-more (start_status paragraph) (classes_of stack) c).1);
-      }
+      let more = status_inside-more (start_status paragraph) (classes_of stack) c in
+      grind (arith, now.0, now.1, fits_in-clear c s, h.top, h.clear, classes_of-more q stack, more.0, more.1)
 
   -- the machine's status at p is the one that the definitions give
   status_at-state_at : (p : ℕ) → p < length classes → (closed (class_at classes p) (state_at paragraph classes p)).top.status ≡ status_at paragraph classes p

@@ -1,8 +1,8 @@
 -- What the rules of a sequence are given: the classes and levels of a paragraph at the places of its sequences.
-use Rattle.std.proofs.Common.{◌≡◌, ℕ, zero, suc, ◌<◌, ◌≤◌, Bool, true, cond, eqb, List, [], ◌∷◌, ◌++◌, length, get_or, unwrap_or, refl, sym, ap, ◌∙◌, arith, inl, inr, eqb-true, leb}
+use Rattle.std.proofs.Common.{◌≡◌, ℕ, zero, suc, ◌<◌, ◌≤◌, Bool, true, cond, eqb, List, [], ◌∷◌, ◌++◌, length, get_or, unwrap_or, refl, ap, arith, leb}
 use Rattle.std.proofs.lemmas.Grind.{common_steps}
 use Rattle.std.specs.List.{list_all}
-use Rattle.std.proofs.lemmas.Bool.{cases_Bool, cond-false, cond_both, and_parts, and_from}
+use Rattle.std.proofs.lemmas.Bool.{cond_both, and_from}
 use Rattle.std.proofs.lemmas.List.Sums.{sum_by-cons}
 use Rattle.std.proofs.lemmas.List.FromFn.{get_or-map-range_with_len}
 use Rattle.bidi_base.specs.declared.char_data.BidiClass.{BidiClass}
@@ -26,16 +26,13 @@ is_kept_at-stored_classes classes p within = grind (arith, class_at-stored_class
 
 -- ---- explicit classes: an override is L or R
 
-override_kept : (opener c : BidiClass) → is_kept c ≡ true → is_kept (unwrap_or (override_of opener) c) ≡ true
-override_kept opener c h = grind arith
-
 status_inside-kept : (status : Status) (openers : List BidiClass) (c : BidiClass) → is_kept c ≡ true → is_kept (unwrap_or status.override c) ≡ true → is_kept (unwrap_or (status_inside status openers).override c) ≡ true
 unfolding status_inside
 status_inside-kept status [] c own h = h
 status_inside-kept status (opener ∷ openers) c own h =
     let inner : Status = record { level = asked_level opener status.level; override = override_of opener } in
     cond_both (leb (asked_level opener status.level) 125) (status_inside inner openers) status (λ (s : Status). is_kept (unwrap_or s.override c) ≡ true)
-    (λ e. status_inside-kept inner openers c own (override_kept opener c own))
+    (λ e. status_inside-kept inner openers c own (grind arith))
     (λ e. h)
 
 pub explicit_class-kept : (paragraph : ℕ) (classes : List BidiClass) (p : ℕ) → is_kept_at classes p ≡ true → is_kept (explicit_class paragraph classes p) ≡ true
@@ -76,8 +73,7 @@ times_in-later q ps p = omega (arith, sum_by-cons (λ q. cond (eqb q p) 1 0) q p
 pub at_places-agree : {X : Type 0} (d : X) (xs ys : List X) (ps : List ℕ) → ((p : ℕ) → 0 < times_in ps p → get_or xs p d ≡ get_or ys p d) → at_places d xs ps ≡ at_places d ys ps
 at_places-agree d xs ys [] agree = refl
 at_places-agree {X} d xs ys (p ∷ ps) agree =
-    ap (λ (x : X). x ∷ at_places d xs ps) (agree p (times_in-first p ps))
-    ∙ ap (λ (zs : List X). get_or ys p d ∷ zs) (at_places-agree d xs ys ps (λ q there. agree q (omega (arith, times_in-later p ps q))))
+    simp (agree p (times_in-first p ps), at_places-agree d xs ys ps (λ q there. agree q (omega (arith, times_in-later p ps q))))
 
 -- each element at the places passes the test
 pub list_all-at_places : {X : Type 0} (test : X → Bool) (d : X) (xs : List X) (ps : List ℕ) → ((p : ℕ) → 0 < times_in ps p → test (get_or xs p d) ≡ true) → list_all test (at_places d xs ps) ≡ true
@@ -89,13 +85,7 @@ list_all-at_places test d xs (p ∷ ps) passes =
 pub list_all-at_places_back : {X : Type 0} (test : X → Bool) (d : X) (xs : List X) (ps : List ℕ) (p : ℕ) → list_all test (at_places d xs ps) ≡ true → 0 < times_in ps p → test (get_or xs p d) ≡ true
 list_all-at_places_back test d xs [] p h there = absurd (omega arith)
 list_all-at_places_back test d xs (q ∷ ps) p h there =
-    let parts = and_parts (test (get_or xs q d)) (list_all test (at_places d xs ps)) h in
-    elim (cases_Bool (eqb q p)) [
-      | inl here ↦ ap (λ n. test (get_or xs n d)) (sym (eqb-true q p here)) ∙ parts.0
-      | inr other ↦
-          let none : cond {A = ℕ} (eqb q p) 1 0 ≡ 0 = cond-false (eqb q p) 1 0 other in
-          list_all-at_places_back test d xs ps p parts.1 (omega (arith, sum_by-cons (λ n. cond (eqb n p) 1 0) q ps))
-    ]
+    grind (arith, sum_by-cons, list_all-at_places_back test d xs ps p)
 
 -- an element that stands in a list stands at one of its indexes
 pub times_in-at : (ps : List ℕ) (k d : ℕ) → k < length ps → 0 < times_in ps (get_or ps k d)

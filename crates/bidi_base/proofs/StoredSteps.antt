@@ -1,17 +1,15 @@
 -- A paragraph that is read from the front, one character more: its stored classes (X5c), its deciding character (P2) and its open isolates. The rules at what was read so far are what a pass holds, since an isolate with no matching PDI ends at the end.
-use Rattle.std.proofs.Common.{◌≡◌, ℕ, suc, ◌<◌, Bool, true, false, not, ◌&&◌, ◌||◌, cond, List, [], ◌∷◌, ◌++◌, length, set, map, Option, Some, None, option_map, refl, sym, ap, ◌∙◌, arith, inl, inr}
+use Rattle.std.proofs.Common.{◌≡◌, ℕ, suc, ◌<◌, Bool, true, false, not, ◌&&◌, ◌||◌, cond, List, [], ◌∷◌, ◌++◌, length, set, map, Option, Some, None, option_map, refl, ap, ◌∙◌, arith}
 use Rattle.std.specs.Prelude.{All}
 use Rattle.std.specs.Option.{option_or}
 use Rattle.std.proofs.lemmas.List.{length-map, map-append, length-set}
 use Rattle.std.proofs.lemmas.List.Elements.{All-nil, All-map}
-use Rattle.std.proofs.lemmas.Bool.{cases_Bool}
 use Rattle.bidi_base.specs.declared.char_data.BidiClass.{BidiClass}
 use Rattle.bidi_base.specs.Classes.{is_strong}
 use Rattle.bidi_base.specs.Places.{class_at}
 use Rattle.bidi_base.specs.Reading.{innermost, outer, opened_by, decided_by, is_fsi}
 use Rattle.bidi_base.specs.Isolates.{deciding_class, resolved_fsi, stored_classes}
 use Rattle.bidi_base.proofs.IsolateWalk.{Kind, opening, closing, neither, kind_of, opens_one, depth_by, depth_after, depth_after-deeper, is_zero, ends_by, has_end, has_end-append, deciding_from, deciding_class-from, resolving_from, stored_by, stored_from, stored_classes-from}
-use Rattle.std.proofs.Math.Bool.{or-false, or-true, and-false}
 
 -- the indexes of the initiators of the isolates that some characters leave open, outermost first
 abbrev pub onto_later : Bool → List ℕ → List ℕ
@@ -42,13 +40,7 @@ is_empty (q ∷ qs) = false
 -- as many as the walk counts
 open_depth : (xs : List BidiClass) → depth_after 0 xs ≡ length (open_initiators xs)
 open_depth [] = refl
-open_depth (x ∷ xs) = one (kind_of x) (open_depth xs) (depth_after-deeper 0 xs)
-  where
-    one : (k : Kind) → depth_after 0 xs ≡ length (open_initiators xs) → depth_after 1 xs ≡ cond (has_end 0 xs) (depth_after 0 xs) (suc (depth_after 0 xs))
-        → depth_after (depth_by k 0) xs ≡ length (onto_later (opens_one k && not (has_end 0 xs)) (map suc (open_initiators xs)))
-    one opening rest deeper = grind (arith, length-map)
-    one closing rest deeper = rest ∙ sym (length-map (open_initiators xs) suc)
-    one neither rest deeper = rest ∙ sym (length-map (open_initiators xs) suc)
+open_depth (x ∷ xs) = grind (arith, open_depth xs, depth_after-deeper 0 xs, length-map)
 
 is_zero-depth : (xs : List BidiClass) → is_zero (depth_after 0 xs) ≡ is_empty (open_initiators xs)
 is_zero-depth xs = grind (arith, open_depth)
@@ -58,12 +50,7 @@ has_end-push xs c = grind (arith, has_end-append)
 
 -- one more character
 open_initiators-push_kind : (xs : List BidiClass) (c : BidiClass) → open_initiators (xs ++ c ∷ []) ≡ opened_kind (kind_of c) (length xs) (open_initiators xs)
-open_initiators-push_kind [] c = first (kind_of c)
-  where
-    first : (k : Kind) → onto_later (opens_one k && true) [] ≡ opened_kind k 0 []
-    first opening = refl
-    first closing = refl
-    first neither = refl
+open_initiators-push_kind [] c = grind arith
 open_initiators-push_kind (x ∷ xs) c =
     rw (has_end-push xs c, open_initiators-push_kind xs c, open_depth xs) (one (kind_of c) (opens_one (kind_of x)) (has_end 0 xs) (length xs) (open_initiators xs))
   where
@@ -72,26 +59,11 @@ open_initiators-push_kind (x ∷ xs) c =
     outer-map (q ∷ []) = refl
     outer-map (q ∷ r ∷ qs) = ap (λ (rs : List ℕ). suc q ∷ rs) (outer-map (r ∷ qs))
 
-    pushed : (b : Bool) (n : ℕ) (qs : List ℕ) → onto_later b (map suc (qs ++ n ∷ [])) ≡ onto_later b (map suc qs) ++ suc n ∷ []
-    pushed true n qs = ap (λ (rs : List ℕ). 0 ∷ rs) (map-append suc qs (n ∷ []))
-    pushed false n qs = map-append suc qs (n ∷ [])
-
-    popped : (b e : Bool) (qs : List ℕ) → onto_later (b && not (e || is_zero (length qs))) (map suc (outer qs)) ≡ outer (onto_later (b && not e) (map suc qs))
-    popped b e [] = rw (or-true e, and-false b) (none (b && not e))
-      where
-        none : (a : Bool) → [] ≡ outer (onto_later a [])
-        none true = refl
-        none false = refl
-    popped b e (q ∷ qs) = rw (or-false e) (some (b && not e))
-      where
-        some : (a : Bool) → onto_later a (map suc (outer (q ∷ qs))) ≡ outer (onto_later a (map suc (q ∷ qs)))
-        some true = ap (λ (rs : List ℕ). 0 ∷ rs) (outer-map (q ∷ qs))
-        some false = outer-map (q ∷ qs)
-
     one : (k : Kind) (b e : Bool) (n : ℕ) (qs : List ℕ) → onto_later (b && not (e || ends_by k (length qs))) (map suc (opened_kind k n qs)) ≡ opened_kind k (suc n) (onto_later (b && not e) (map suc qs))
-    one opening b e n qs = rw (or-false e) (pushed (b && not e) n qs)
-    one closing b e n qs = popped b e qs
-    one neither b e n qs = rw (or-false e) refl
+    one opening b e n qs = grind (arith, map-append)
+    one closing b e n [] = grind arith
+    one closing b e n (q ∷ qs) = grind (arith, outer-map)
+    one neither b e n qs = grind arith
 
 pub open_initiators-push : (xs : List BidiClass) (c : BidiClass) → open_initiators (xs ++ c ∷ []) ≡ opened_by c (length xs) (open_initiators xs)
 open_initiators-push xs c = grind (arith, open_initiators-push_kind)
@@ -100,7 +72,7 @@ open_initiators-push xs c = grind (arith, open_initiators-push_kind)
 
 deciding_from-append : (d : ℕ) (xs ys : List BidiClass) → deciding_from d (xs ++ ys) ≡ option_or (deciding_from d xs) (deciding_from (depth_after d xs) ys)
 deciding_from-append d [] ys = refl
-deciding_from-append d (x ∷ xs) ys = elim (cases_Bool (is_strong x && is_zero d)) [ inl here ↦ rw here refl | inr gone ↦ rw gone (deciding_from-append (depth_by (kind_of x) d) xs ys) ]
+deciding_from-append d (x ∷ xs) ys = grind (arith, deciding_from-append (depth_by (kind_of x) d) xs ys)
 
 pub deciding_class-push : (xs : List BidiClass) (c : BidiClass) → deciding_class (xs ++ c ∷ []) ≡ option_or (deciding_class xs) (decided_by c (open_initiators xs))
 deciding_class-push xs c = grind (arith, deciding_class-from, deciding_from-append, is_zero-depth)
@@ -116,10 +88,7 @@ found_by c xs = cond (has_end 0 xs) None (cond (is_strong c && is_zero (depth_af
 
 resolving-push_from : (d : ℕ) (xs : List BidiClass) (c : BidiClass) → resolving_from d (xs ++ c ∷ []) ≡ option_or (resolving_from d xs) (cond (has_end d xs) None (cond (is_strong c && is_zero (depth_after d xs)) (Some c) None))
 resolving-push_from d [] c = grind arith
-resolving-push_from d (x ∷ xs) c = elim (cases_Bool (ends_by (kind_of x) d)) [
-  | inl ends ↦ rw ends refl
-  | inr on ↦ elim (cases_Bool (is_strong x && is_zero d)) [ inl here ↦ rw (on, here) refl | inr gone ↦ rw (on, gone) (resolving-push_from (depth_by (kind_of x) d) xs c) ]
-]
+resolving-push_from d (x ∷ xs) c = grind (arith, resolving-push_from (depth_by (kind_of x) d) xs c)
 
 resolving-push : (xs : List BidiClass) (c : BidiClass) → resolving_from 0 (xs ++ c ∷ []) ≡ option_or (resolving_from 0 xs) (found_by c xs)
 unfolding found_by
@@ -127,13 +96,7 @@ resolving-push xs c = resolving-push_from 0 xs c
 
 resolving-strong : (d : ℕ) (xs : List BidiClass) (s : BidiClass) → resolving_from d xs ≡ Some s → is_strong s ≡ true
 resolving-strong d [] s e = absurd (cc e)
-resolving-strong d (x ∷ xs) s e = elim (cases_Bool (ends_by (kind_of x) d)) [
-  | inl ends ↦ let none : None ≡ Some s = rw ends at e in absurd (cc none)
-  | inr on ↦ elim (cases_Bool (is_strong x && is_zero d)) [
-    | inl here ↦ grind arith
-    | inr gone ↦ resolving-strong (depth_by (kind_of x) d) xs s (rw (on, gone) at e)
-  ]
-]
+resolving-strong d (x ∷ xs) s e = grind (arith, resolving-strong (depth_by (kind_of x) d) xs s)
 
 -- a direction that was found stays
 pub resolved-strong : (s : BidiClass) → is_strong s ≡ true → is_fsi (resolved_fsi (Some s)) ≡ false
@@ -142,9 +105,6 @@ resolved-strong s e = grind arith
 -- what stands first is stored as before, where the new character says nothing of it
 first_stays : (x c : BidiClass) (xs : List BidiClass) → found_by c xs ≡ None → stored_by x (resolving_from 0 (xs ++ c ∷ [])) ≡ stored_by x (resolving_from 0 xs)
 first_stays x c xs none = grind (arith, resolving-push)
-
-stored_alone : (c : BidiClass) → stored_by c None ≡ c
-stored_alone c = grind arith
 
 -- where no isolate is open after it, what stands first is the innermost open initiator, or none is
 first_met : (x c : BidiClass) (xs stored : List BidiClass) → is_zero (depth_after 0 xs) ≡ true
@@ -165,7 +125,7 @@ later_met c y o stored = grind arith
 
 stored_from-push : (xs : List BidiClass) (c : BidiClass) → stored_from (xs ++ c ∷ []) ≡ met_by c (innermost (open_initiators xs)) (stored_from xs) ++ c ∷ []
 unfolding found_by
-stored_from-push [] c = ap (λ (y : BidiClass). y ∷ []) (stored_alone c)
+stored_from-push [] c = grind arith
 stored_from-push (x ∷ xs) c = ap (λ (ys : List BidiClass). stored_by x (resolving_from 0 (xs ++ c ∷ [])) ∷ ys) (stored_from-push xs c) ∙ by_open (open_initiators xs) refl
   where
     by_open : (qs : List ℕ) → open_initiators xs ≡ qs → stored_by x (resolving_from 0 (xs ++ c ∷ [])) ∷ (met_by c (innermost qs) (stored_from xs) ++ c ∷ [])
@@ -199,5 +159,4 @@ open_initiators-below (x ∷ xs) = first (opens_one (kind_of x) && not (has_end 
     later h = All-map (λ (q : ℕ). q < suc (length xs)) suc (open_initiators xs) (λ k d within. omega (arith, h k d within))
 
     first : (b : Bool) → All (λ (q : ℕ). q < length xs) (open_initiators xs) → All (λ (q : ℕ). q < suc (length xs)) (onto_later b (map suc (open_initiators xs)))
-    first true h = grind (arith, later)
-    first false h = later h
+    first b h = grind (arith, later)

@@ -1,5 +1,5 @@
 -- A text of UTF-8 as a list of characters: `chars bs`, with `len_utf8` for the lengths.
-use Rattle.std.proofs.Common.{◌≡◌, ℕ, ◌+◌, ◌-◌, ◌≤◌, Bool, true, false, List, [], ◌∷◌, ◌++◌, length, take, drop, Option, Some, None, option_map, slice_get, refl, sym, ◌∙◌, ap, arith, subst, append-nil, length-append, length-take, length-drop, get_or, get_or-drop, ◌<◌, if◌then◌else◌, inl, inr}
+use Rattle.std.proofs.Common.{◌≡◌, ℕ, ◌+◌, ◌-◌, ◌≤◌, Bool, true, false, List, [], ◌∷◌, ◌++◌, length, take, drop, Option, Some, None, option_map, slice_get, refl, sym, ◌∙◌, ap, arith, subst, append-nil, length-append, length-take, length-drop, get_or, get_or-drop, ◌<◌, if◌then◌else◌}
 use Rattle.std.proofs.lemmas.Grind.{common_steps}
 use Rattle.std.specs.Prelude.{slice_range}
 use Rattle.std.proofs.Math.Seq.{take-append_seam, drop-append_seam}
@@ -11,7 +11,7 @@ use Rattle.std.specs.Iterator.{AlwaysYields}
 use Rattle.std.proofs.lemmas.List.{take-append-drop}
 use Rattle.std.proofs.lemmas.List.Sums.{sum_by-cons}
 use Rattle.std.proofs.lemmas.Str.{encodes-chars, encodes-append, chars-append, scalars-chars, length-encode, len_utf8_bounds, chars_past_char, chars-nil, IsUtf8-past_char, IsUtf8-take, IsUtf8-drop, IsCharBoundary-at_seam, IsCharBoundary-before_ascii, IsCharBoundary-from_take, byte_from_char, char_from_byte}
-use Rattle.std.proofs.lemmas.Bool.{cases_Bool, cases_lt, and_parts}
+use Rattle.std.proofs.lemmas.Bool.{and_parts}
 use Rattle.std.proofs.lemmas.Bool.Decides.{nat_tests}
 use Rattle.std.proofs.lemmas.Iterator.{YieldsList}
 use Rattle.std.proofs.lemmas.Iterator.Splits.{YieldsList-from_shown_while}
@@ -56,10 +56,7 @@ IsCharBoundary-from_is_boundary bs i u e =
 
 -- what stands at a boundary begins what follows it
 pub char_at-from_str : (bs : List ℕ) (i : ℕ) → IsUtf8 bs → IsCharBoundary bs i → char_at len_utf8 (chars bs) i ≡ char_at len_utf8 (chars (drop i bs)) 0
-char_at-from_str bs i u b =
-    ap (λ cs. char_at len_utf8 cs i) (chars_cut bs i u b)
-    ∙ ap (λ n. char_at len_utf8 (chars (take i bs) ++ chars (drop i bs)) n) (sym (text_len-front bs i u b))
-    ∙ char_at-append len_utf8 has_units (chars (take i bs)) (chars (drop i bs))
+char_at-from_str bs i u b = cc (chars_cut bs i u b, text_len-front bs i u b, char_at-append len_utf8 has_units (chars (take i bs)) (chars (drop i bs)))
 
 -- three parts of a text, cut at the ends of a line
 three : (bs : List ℕ) (start end : ℕ) → start ≤ end → bs ≡ take start bs ++ (slice_range bs start end ++ drop (end - start) (drop start bs))
@@ -78,10 +75,7 @@ subrange-from_str bs start end u line mid =
     let cs : chars bs ≡ chars xs ++ (chars ys ++ chars zs) =
     ap chars (three bs start end line.ordered) ∙ chars-append xs (ys ++ zs) (IsUtf8-take bs start u begins) ∙ ap (λ x. chars xs ++ x) (chars-append ys zs mid) in
     let sums : text_len len_utf8 (chars xs) + text_len len_utf8 (chars ys) ≡ end = omega (arith, front, middle, line.ordered) in
-    ap (λ x. subrange len_utf8 x start end) cs
-    ∙ subst (λ a. subrange len_utf8 (chars xs ++ (chars ys ++ chars zs)) a end ≡ chars ys) front
-    (subst (λ b. subrange len_utf8 (chars xs ++ (chars ys ++ chars zs)) (text_len len_utf8 (chars xs)) b ≡ chars ys) sums
-    (subrange-middle len_utf8 has_units (chars xs) (chars ys) (chars zs)))
+    cc (cs, front, sums, subrange-middle len_utf8 has_units (chars xs) (chars ys) (chars zs))
 
 -- ---- what `char_indices` gives
 
@@ -91,26 +85,18 @@ no_chars bs e len n = grind (arith, common_steps, chars-nil)
 abbrev left : CharIndices → List (ℕ × ℕ)
 left s = char_indices_from len_utf8 (char_indices_offset s) (chars (char_indices_rest s))
 
-one_char : (bs rest : List ℕ) (at c : ℕ) → IsUtf8 bs → bs ≡ encode_utf8 c ++ rest → char_indices_from len_utf8 at (chars bs) ≡ (at, c) ∷ char_indices_from len_utf8 (at + length (encode_utf8 c)) (chars rest)
-one_char bs rest at c u e = grind (arith, chars_past_char, length-encode)
-
 pub YieldsList-from_char_indices : (s : CharIndices) → IsUtf8 (char_indices_rest s) → YieldsList char_indices_steps (λ p. p) s (left s)
 YieldsList-from_char_indices s u =
     YieldsList-from_shown_while char_indices_steps (λ p. p) left (λ t. IsUtf8 (char_indices_rest t))
     (λ s t u h. no_chars (char_indices_rest s) h.0 len_utf8 (char_indices_offset s))
     (λ s p t u h. (
       IsUtf8-past_char (char_indices_rest s) (char_indices_rest t) p.1 u h.1,
-      one_char (char_indices_rest s) (char_indices_rest t) (char_indices_offset s) p.1 u h.1
-          ∙ ap (λ n. (char_indices_offset s, p.1) ∷ char_indices_from len_utf8 n (chars (char_indices_rest t))) (sym h.2)
-          ∙ ap (λ n. (n, p.1) ∷ left t) (sym h.0),
+      grind (arith, h.0, h.2, chars_past_char, length-encode),
     ))
     s u
 
 pub char_indices_gives : (s : CharIndices) (bs : List ℕ) → IsUtf8 bs → char_indices_rest s ≡ bs → char_indices_offset s ≡ 0 → AlwaysYields char_indices_steps (λ p. p) s (char_indices len_utf8 (chars bs))
-char_indices_gives s bs u e z =
-    subst (λ x. AlwaysYields char_indices_steps (λ p. p) s (char_indices len_utf8 (chars x))) e
-    (subst (λ n. AlwaysYields char_indices_steps (λ p. p) s (char_indices_from len_utf8 n (chars (char_indices_rest s)))) z
-    (YieldsList-from_char_indices s (subst IsUtf8 (sym e) u)).runs)
+char_indices_gives s bs u e z = grind (arith, YieldsList-from_char_indices)
 
 not_boundary : (b : Bool) (P : Type 0) → (b ≡ true → P) → (P → ⊥) → b ≡ false
 not_boundary b P f n = grind arith
@@ -132,24 +118,9 @@ ascii_first : (bs cs : List ℕ) → encode_utf8_all cs ≡ bs → 0 < length bs
 ascii_first bs [] e some = absurd (omega (arith, ap length e))
 ascii_first bs (c ∷ cs) e some = grind (arith, byte_from_char, char_from_byte)
 
-ascii_at-boundary : (bs : List ℕ) (i : ℕ) → IsUtf8 bs → IsCharBoundary bs i → i < length bs → ascii_at len_utf8 (chars bs) i ≡ ascii_byte (get_or bs i 0)
-ascii_at-boundary bs i u b within =
-    let here : i + 0 ≡ i = omega arith in
-    ap ascii_of (char_at-from_str bs i u b)
-    ∙ ascii_first (drop i bs) (chars (drop i bs)) (encodes-chars (drop i bs) (IsUtf8-drop bs i u b)) (omega (arith, length-drop i bs))
-    ∙ ap ascii_byte (get_or-drop i bs 0 0 ∙ ap (λ (n : ℕ). get_or bs n 0) here)
-
 pub ascii_at-byte : (bs : List ℕ) (i : ℕ) → IsUtf8 bs → i < length bs → ascii_at len_utf8 (chars bs) i ≡ ascii_byte (get_or bs i 0)
-ascii_at-byte bs i u within = elim (cases_lt (get_or bs i 0) 128) [
-  | inl low ↦ ascii_at-boundary bs i u (IsCharBoundary-before_ascii bs i within low) within
-  | inr high ↦ elim (cases_Bool (is_boundary len_utf8 (chars bs) i)) [
-    | inl b ↦ ascii_at-boundary bs i u (IsCharBoundary-from_is_boundary bs i u b) within
-    | inr inside ↦ grind (arith, char_at-None)
-  ]
-]
-  where
-    none : (b : ℕ) → 128 ≤ b → ascii_byte b ≡ None
-    none b high = grind (arith, nat_tests)
+ascii_at-byte bs i u within =
+    grind (arith, IsCharBoundary-before_ascii, IsCharBoundary-from_is_boundary, char_at-None, nat_tests, char_at-from_str, ascii_first, encodes-chars, IsUtf8-drop, length-drop, get_or-drop)
 
 pub ascii_at-past : (bs : List ℕ) (i : ℕ) → IsUtf8 bs → length bs ≤ i → ascii_at len_utf8 (chars bs) i ≡ None
 ascii_at-past bs i u past = grind (arith, char_at-end, text_len-chars)

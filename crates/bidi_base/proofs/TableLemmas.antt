@@ -1,7 +1,6 @@
 -- What a table of ranges and one of brackets answer, by indexes, and when a table has a fault.
-use Rattle.std.proofs.Common.{◌≡◌, ℕ, zero, suc, ◌+◌, ◌-◌, ◌<◌, ◌≤◌, Bool, true, false, min, List, length, get_or, take, drop, replicate, find, Option, Some, None, is_some, option_map, option_and_then, unwrap_or, refl, ap, subst, ◌∙◌, arith, inl, inr}
+use Rattle.std.proofs.Common.{◌≡◌, ℕ, zero, suc, ◌+◌, ◌-◌, ◌<◌, ◌≤◌, Bool, true, false, min, List, length, get_or, take, drop, replicate, find, Option, Some, None, is_some, option_and_then, ap, ◌∙◌, arith}
 use Rattle.std.proofs.lemmas.Grind.{common_steps}
-use Rattle.std.proofs.lemmas.Bool.{cases_lt, both_ways}
 use Rattle.std.proofs.lemmas.List.{length-take-le}
 use borrow.Rule.Slice.PartMut.{put_mid}
 use Rattle.std.proofs.lemmas.Bool.Decides.{nat_tests}
@@ -18,16 +17,14 @@ pub table_class-at : (ranges : List (ℕ × ℕ × BidiClass)) (c i : ℕ) → i
 table_class-at ranges c i below holds before = grind (arith, find-first)
 
 pub table_class-none : (ranges : List (ℕ × ℕ × BidiClass)) (c : ℕ) → ((k : ℕ) → k < length ranges → in_range c (range_at ranges k) ≡ false) → table_class ranges c ≡ L
-table_class-none ranges c none =
-    ap (λ (r : Option (ℕ × ℕ × BidiClass)). unwrap_or (option_map (λ (r : ℕ × ℕ × BidiClass). r.2) r) L) (find-none (in_range c) ranges (0, 0, L) none)
+table_class-none ranges c none = grind (arith, find-none (in_range c) ranges (0, 0, L) none)
 
 -- the same for brackets
 pub table_bracket-at : (brackets : List (ℕ × ℕ × Option ℕ)) (c i : ℕ) → i < length brackets → is_member c (get_or brackets i (0, 0, None)) ≡ true → ((k : ℕ) → k < i → is_member c (get_or brackets k (0, 0, None)) ≡ false) → table_bracket brackets c ≡ Some (bracket_in (get_or brackets i (0, 0, None)) c)
 table_bracket-at brackets c i below holds before = grind (arith, find-first)
 
 pub table_bracket-none : (brackets : List (ℕ × ℕ × Option ℕ)) (c : ℕ) → ((k : ℕ) → k < length brackets → is_member c (get_or brackets k (0, 0, None)) ≡ false) → table_bracket brackets c ≡ None
-table_bracket-none brackets c none =
-    ap (option_map (λ (t : ℕ × ℕ × Option ℕ). bracket_in t c)) (find-none (is_member c) brackets (0, 0, None) none)
+table_bracket-none brackets c none = grind (arith, find-none (is_member c) brackets (0, 0, None) none)
 
 -- the indexes of a list as the numbers from 0 up to its length
 indexes_between : (ranges : List (ℕ × ℕ × BidiClass)) → between 0 (length ranges) ≡ indexes ranges
@@ -38,14 +35,13 @@ pub table_fault-first : (ranges : List (ℕ × ℕ × BidiClass)) (i : ℕ) (e :
 table_fault-first ranges i e below faulty before =
     let test : ℕ → Bool = λ k. is_some (fault_at ranges k) in
     let least : IsLeast test 0 (length ranges) i = grind arith in
-    let found : find test (indexes ranges) ≡ Some i = subst (λ (ks : List ℕ). find test ks ≡ Some i) (indexes_between ranges) (find-between-is test 0 (length ranges) i least) in
+    let found : find test (indexes ranges) ≡ Some i = rw (← indexes_between ranges) (find-between-is test 0 (length ranges) i least) in
     ap (option_and_then (fault_at ranges)) found ∙ faulty
 
 pub table_fault-none : (ranges : List (ℕ × ℕ × BidiClass)) → ((i : ℕ) → i < length ranges → fault_at ranges i ≡ None) → table_fault ranges ≡ None
 table_fault-none ranges none =
-    let test : ℕ → Bool = λ k. is_some (fault_at ranges k) in
-    let found : find test (indexes ranges) ≡ None = grind (arith, find-between-is_None) in
-    ap (option_and_then (fault_at ranges)) found
+    let found : find (λ k. is_some (fault_at ranges k)) (indexes ranges) ≡ None = grind (arith, find-between-is_None) in
+    simp found
 
 -- a range with no fault
 pub fault_at-in_order : (ranges : List (ℕ × ℕ × BidiClass)) (i : ℕ) → fault_at ranges i ≡ None → ((range_at ranges i).0 ≤ (range_at ranges i).1) × (0 < i → (range_at ranges (i - 1)).1 < (range_at ranges i).0)
@@ -56,26 +52,14 @@ fault_found : (ranges : List (ℕ × ℕ × BidiClass)) → table_fault ranges �
 fault_found ranges none = grind (arith, find-between)
 
 pub faultless-at : (ranges : List (ℕ × ℕ × BidiClass)) (i : ℕ) → table_fault ranges ≡ None → i < length ranges → fault_at ranges i ≡ None
-faultless-at ranges i none below = by_fault (fault_at ranges i) refl (find-between-None (λ k. is_some (fault_at ranges k)) 0 (length ranges) (fault_found ranges none) i (omega arith) (omega arith))
-  where
-    by_fault : (o : Option TableError) → fault_at ranges i ≡ o → is_some (fault_at ranges i) ≡ false → o ≡ None
-    by_fault None e h = refl
-    by_fault (Some x) e h = absurd (both_ways (is_some (fault_at ranges i)) h (ap is_some e))
+faultless-at ranges i none below = grind (arith, find-between-None (λ k. is_some (fault_at ranges k)) 0 (length ranges) (fault_found ranges none) i)
 
 pub faultless-in_order : (ranges : List (ℕ × ℕ × BidiClass)) (i : ℕ) → table_fault ranges ≡ None → i < length ranges → (range_at ranges i).0 ≤ (range_at ranges i).1
 faultless-in_order ranges i none below = (fault_at-in_order ranges i (faultless-at ranges i none below)).0
 
 pub faultless-ascending : (ranges : List (ℕ × ℕ × BidiClass)) (i j : ℕ) → table_fault ranges ≡ None → i < j → j < length ranges → (range_at ranges i).1 < (range_at ranges j).0
 faultless-ascending ranges i zero none before below = absurd (omega arith)
-faultless-ascending ranges i (suc j) none before below =
-    let next : (range_at ranges j).1 < (range_at ranges (suc j)).0 = grind (arith, fault_at-in_order, faultless-at) in
-    elim (cases_lt i j) [
-      | inl earlier ↦
-          let here : (range_at ranges i).1 < (range_at ranges j).0 = faultless-ascending ranges i j none earlier (omega arith) in
-          let ordered : (range_at ranges j).0 ≤ (range_at ranges j).1 = faultless-in_order ranges j none (omega arith) in
-          omega arith
-      | inr later ↦ grind arith
-    ]
+faultless-ascending ranges i (suc j) none before below = grind (arith, fault_at-in_order, faultless-at, faultless-ascending ranges i j none, faultless-in_order)
 
 -- where a range lies, by its numbers
 pub in_range-holds : (c : ℕ) (r : ℕ × ℕ × BidiClass) → r.0 ≤ c → c ≤ r.1 → in_range c r ≡ true
@@ -94,10 +78,7 @@ all_after ranges c i none h k later below = grind (arith, faultless-ascending, f
 -- the class of a character that a range holds, and of one that lies between all ranges
 pub table_class-holder : (ranges : List (ℕ × ℕ × BidiClass)) (c i : ℕ) → table_fault ranges ≡ None → i < length ranges → (range_at ranges i).0 ≤ c → c ≤ (range_at ranges i).1 → table_class ranges c ≡ (range_at ranges i).2
 table_class-holder ranges c i none below from to =
-    table_class-at ranges c i below (in_range-holds c (range_at ranges i) from to)
-    (λ k earlier.
-    let apart : (range_at ranges k).1 < (range_at ranges i).0 = faultless-ascending ranges k i none earlier below in
-    in_range-before c (range_at ranges k) (omega arith))
+    grind (arith, table_class-at ranges c i below, in_range-holds c (range_at ranges i) from to, faultless-ascending ranges, in_range-before c)
 
 pub table_class-between : (ranges : List (ℕ × ℕ × BidiClass)) (c low high : ℕ) → high ≤ low → ((k : ℕ) → k < low → (range_at ranges k).1 < c) → ((k : ℕ) → high ≤ k → k < length ranges → c < (range_at ranges k).0) → table_class ranges c ≡ L
 table_class-between ranges c low high met before after = grind (arith, table_class-none)
@@ -107,5 +88,4 @@ pub kept-filled : (kept : ℕ) (ranges : List (ℕ × ℕ × BidiClass)) (i late
     → part ≡ replicate (length (take (end - (range_at ranges i).0) (drop (range_at ranges i).0 classes))) (range_at ranges i).2
     → ((n : ℕ) → n < kept → get_or classes n L ≡ table_class (drop later ranges) n)
     → (n : ℕ) → n < kept → get_or (put_mid (range_at ranges i).0 (end - (range_at ranges i).0) classes part) n L ≡ table_class (drop i ranges) n
-kept-filled kept ranges i later end classes part next below at_end some long filled so_far n within =
-    grind (arith, common_steps, length-take-le, put_mid-after)
+kept-filled kept ranges i later end classes part next below at_end some long filled so_far n within = grind (arith, common_steps, length-take-le, put_mid-after)

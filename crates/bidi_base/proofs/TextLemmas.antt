@@ -1,8 +1,7 @@
 -- Texts cut at boundaries: a boundary is the length of some first characters.
-use Rattle.std.proofs.Common.{◌≡◌, ◌==◌, ℕ, ◌+◌, ◌-◌, ◌≤◌, Bool, true, false, ◌&&◌, ◌||◌, nat_le, nat_lt, cond, if◌then◌else◌, List, [], ◌∷◌, ◌++◌, length, Option, Some, None, is_some, ◌⊎◌, inl, inr, option_map, slice_get, count_by, refl, sym, ◌∙◌, ap, subst, append_assoc, arith, lt-ltb, le-ltb, length-append}
+use Rattle.std.proofs.Common.{◌≡◌, ◌==◌, ℕ, ◌+◌, ◌-◌, ◌≤◌, true, false, ◌||◌, nat_lt, cond, List, [], ◌∷◌, ◌++◌, length, None, is_some, option_map, slice_get, count_by, refl, sym, ap, append_assoc, arith, le-ltb, length-append}
 use Rattle.std.proofs.Math.Seq.{take-append_seam, drop-append_seam}
 use Rattle.std.proofs.lemmas.List.Sums.{sum_by-cons, sum_by-append}
-use Rattle.std.proofs.lemmas.Bool.{cond-true, cond-false}
 use Rattle.std.proofs.lemmas.Bool.Decides.{nat_tests}
 use Rattle.bidi_base.specs.Text.{text_len, char_at, is_boundary, char_indices_from, char_index, subrange}
 
@@ -16,15 +15,10 @@ length-le-text_len len_of h (c ∷ cs) = omega (arith, length-le-text_len len_of
 
 -- ---- boundaries and what stands there
 
-boundary_step : (u l s : ℕ) (rest : Bool) (at : Option (ℕ × ℕ)) (p : ℕ × ℕ) → 1 ≤ l → rest ≡ ((u - l == s) || is_some at)
-    → (u == 0 || (nat_le l u && rest)) ≡ ((u == l + s) || is_some (if u == 0 then Some p else (if nat_lt u l then None else at)))
-boundary_step u l s rest at p pos e = grind (arith, nat_tests)
-
 -- a boundary is the text's length, or a character begins there
 pub is_boundary-char_at : (len_of : ℕ → ℕ) → HasUnits len_of → (chars : List ℕ) (u : ℕ) → is_boundary len_of chars u ≡ ((u == text_len len_of chars) || is_some (char_at len_of chars u))
 is_boundary-char_at len_of h [] u = grind (arith, nat_tests)
-is_boundary-char_at len_of h (c ∷ cs) u =
-    rw (sum_by-cons len_of c cs) (boundary_step u (len_of c) (text_len len_of cs) _ (char_at len_of cs (u - len_of c)) (c, len_of c) (h c) (is_boundary-char_at len_of h cs (u - len_of c)))
+is_boundary-char_at len_of h (c ∷ cs) u = grind (arith, sum_by-cons, is_boundary-char_at len_of h cs (u - len_of c), nat_tests)
 
 pub char_at-zero : (len_of : ℕ → ℕ) (chars : List ℕ) → char_at len_of chars 0 ≡ option_map (λ c. (c, len_of c)) (slice_get chars 0)
 char_at-zero len_of [] = refl
@@ -34,20 +28,12 @@ char_at-zero len_of (c ∷ cs) = refl
 pub char_at-None : (len_of : ℕ → ℕ) → HasUnits len_of → (chars : List ℕ) (u : ℕ) → is_boundary len_of chars u ≡ false → char_at len_of chars u ≡ None
 char_at-None len_of h chars u e = grind (arith, is_boundary-char_at)
 
-at_end : (o : Option (ℕ × ℕ)) (u l : ℕ) (p : ℕ × ℕ) → 1 ≤ u → l ≤ u → o ≡ None → (if u == 0 then Some p else (if nat_lt u l then None else o)) ≡ None
-at_end o u l p pos le e = grind (arith, nat_tests)
-
 -- nor at the text's length and past it
 pub char_at-end : (len_of : ℕ → ℕ) → HasUnits len_of → (chars : List ℕ) (u : ℕ) → text_len len_of chars ≤ u → char_at len_of chars u ≡ None
 char_at-end len_of h [] u le = refl
-char_at-end len_of h (c ∷ cs) u le =
-    at_end _ u (len_of c) (c, len_of c) (omega (arith, sum_by-cons len_of c cs, h c)) (omega (arith, sum_by-cons len_of c cs))
-    (char_at-end len_of h cs (u - len_of c) (omega (arith, sum_by-cons len_of c cs)))
+char_at-end len_of h (c ∷ cs) u le = grind (arith, sum_by-cons, char_at-end len_of h cs (u - len_of c), nat_tests)
 
 -- ---- a text of two or three parts
-
-step_past : (u l : ℕ) (p : ℕ × ℕ) (at rest : Option (ℕ × ℕ)) → 1 ≤ l → l ≤ u → at ≡ rest → (if u == 0 then Some p else (if nat_lt u l then None else at)) ≡ rest
-step_past u l p at rest pos le e = grind (arith, nat_tests)
 
 minus_plus : (a b : ℕ) → (a + b) - a ≡ b
 minus_plus a b = omega arith
@@ -55,31 +41,22 @@ minus_plus a b = omega arith
 -- what stands after the characters xs stands at their length
 pub char_at-append : (len_of : ℕ → ℕ) → HasUnits len_of → (xs ys : List ℕ) → char_at len_of (xs ++ ys) (text_len len_of xs) ≡ char_at len_of ys 0
 char_at-append len_of h [] ys = refl
-char_at-append len_of h (x ∷ xs) ys =
-    rw (sum_by-cons len_of x xs) (step_past (len_of x + text_len len_of xs) (len_of x) (x, len_of x) _ _ (h x) (omega arith) (rw (minus_plus (len_of x) (text_len len_of xs)) (char_at-append len_of h xs ys)))
-
-step_within : (u l : ℕ) (b : Bool) → l ≤ u → b ≡ true → (u == 0 || (nat_le l u && b)) ≡ true
-step_within u l b le e = grind (arith, nat_tests)
+char_at-append len_of h (x ∷ xs) ys = grind (arith, sum_by-cons, minus_plus, char_at-append len_of h xs ys, nat_tests)
 
 pub is_boundary-append : (len_of : ℕ → ℕ) (xs ys : List ℕ) → is_boundary len_of (xs ++ ys) (text_len len_of xs) ≡ true
 is_boundary-append len_of [] [] = refl
 is_boundary-append len_of [] (y ∷ ys) = refl
-is_boundary-append len_of (x ∷ xs) ys =
-    rw (sum_by-cons len_of x xs) (step_within (len_of x + text_len len_of xs) (len_of x) _ (omega arith) (rw (minus_plus (len_of x) (text_len len_of xs)) (is_boundary-append len_of xs ys)))
+is_boundary-append len_of (x ∷ xs) ys = grind (arith, sum_by-cons, minus_plus, is_boundary-append len_of xs ys, nat_tests)
 
 none_before : (len_of : ℕ → ℕ) (from u : ℕ) (chars : List ℕ) → u ≤ from → count_by (λ (e : ℕ × ℕ). nat_lt e.0 u) (char_indices_from len_of from chars) ≡ 0
 none_before len_of from u [] order = refl
-none_before len_of from u (c ∷ cs) order =
-    let none : cond {A = ℕ} (nat_lt from u) 1 0 ≡ 0 = cond-false (nat_lt from u) 1 0 (le-ltb from u order) in
-    sum_by-cons (λ (e : ℕ × ℕ). cond (nat_lt e.0 u) 1 0) (from, c) (char_indices_from len_of (from + len_of c) cs) ∙ omega (arith, none_before len_of (from + len_of c) u cs (omega arith))
+none_before len_of from u (c ∷ cs) order = grind (arith, le-ltb, sum_by-cons, none_before len_of (from + len_of c) u cs)
 
 counted : (len_of : ℕ → ℕ) → HasUnits len_of → (from u : ℕ) (xs ys : List ℕ) → u ≡ from + text_len len_of xs → count_by (λ (e : ℕ × ℕ). nat_lt e.0 u) (char_indices_from len_of from (xs ++ ys)) ≡ length xs
 counted len_of h from u [] ys e = none_before len_of from u ys (omega arith)
 counted len_of h from u (x ∷ xs) ys e =
-    let first = h x in
-    let long : text_len len_of (x ∷ xs) ≡ len_of x + text_len len_of xs = sum_by-cons len_of x xs in
-    let one : cond {A = ℕ} (nat_lt from u) 1 0 ≡ 1 = cond-true (nat_lt from u) 1 0 (lt-ltb from u (omega arith)) in
-    sum_by-cons (λ (e : ℕ × ℕ). cond (nat_lt e.0 u) 1 0) (from, x) (char_indices_from len_of (from + len_of x) (xs ++ ys)) ∙ omega (arith, counted len_of h (from + len_of x) u xs ys (omega arith))
+    let rest = counted len_of h (from + len_of x) u xs ys in
+    grind (arith, h x, sum_by-cons len_of x xs, sum_by-cons (λ (e : ℕ × ℕ). cond (nat_lt e.0 u) 1 0) (from, x) (char_indices_from len_of (from + len_of x) (xs ++ ys)), rest)
 
 -- the characters before the length of xs are xs
 pub char_index-append : (len_of : ℕ → ℕ) → HasUnits len_of → (xs ys : List ℕ) → char_index len_of (xs ++ ys) (text_len len_of xs) ≡ length xs
@@ -89,9 +66,7 @@ char_index-append len_of h xs ys = counted len_of h 0 (text_len len_of xs) xs ys
 pub subrange-middle : (len_of : ℕ → ℕ) → HasUnits len_of → (xs ys zs : List ℕ) → subrange len_of (xs ++ (ys ++ zs)) (text_len len_of xs) (text_len len_of xs + text_len len_of ys) ≡ ys
 subrange-middle len_of h xs ys zs =
     let last : char_index len_of (xs ++ (ys ++ zs)) (text_len len_of xs + text_len len_of ys) ≡ length xs + length ys =
-    subst (λ (u : ℕ). char_index len_of (xs ++ (ys ++ zs)) u ≡ length xs + length ys) (sum_by-append len_of xs ys)
-    (subst (λ (cs : List ℕ). char_index len_of cs (text_len len_of (xs ++ ys)) ≡ length xs + length ys) (append_assoc xs ys zs)
-    (char_index-append len_of h (xs ++ ys) zs ∙ length-append xs ys)) in
+    cc (char_index-append len_of h (xs ++ ys) zs, append_assoc xs ys zs, sum_by-append len_of xs ys, length-append xs ys) in
     rw (char_index-append len_of h xs (ys ++ zs), last, minus_plus (length xs) (length ys), drop-append_seam xs (ys ++ zs)) (take-append_seam ys zs)
 
 -- ---- a boundary cuts a text in two
@@ -106,21 +81,13 @@ pub record CutAt (len_of : ℕ → ℕ) (chars : List ℕ) (u : ℕ) : Type 0 wh
 cut_later : (len_of : ℕ → ℕ) (c : ℕ) (cs : List ℕ) (u : ℕ) → len_of c ≤ u → CutAt len_of cs (u - len_of c) → CutAt len_of (c ∷ cs) u
 cut_later len_of c cs u le w = record { front = c ∷ w.front; back = w.back; joined = ap (λ ds. c ∷ ds) w.joined; long = rw (sum_by-cons len_of c w.front) (omega (arith, w.long)) }
 
-zero_or_step : (u l : ℕ) (b : Bool) → (u == 0 || (nat_le l u && b)) ≡ true → (u ≡ 0) ⊎ ((l ≤ u) × (b ≡ true))
-zero_or_step u l b e = grind (arith, nat_tests)
-
 pub zero_test : (u : ℕ) → (u == 0) ≡ true → u ≡ 0
 zero_test u e = grind (arith, nat_tests)
 
 pub cut_at : (len_of : ℕ → ℕ) (chars : List ℕ) (u : ℕ) → is_boundary len_of chars u ≡ true → CutAt len_of chars u
 cut_at len_of [] u e = record { front = []; back = []; joined = refl; long = sym (zero_test u e) }
-cut_at len_of (c ∷ cs) u e = elim (zero_or_step u (len_of c) (is_boundary len_of cs (u - len_of c)) e) [
-  | inl z ↦ record { front = []; back = c ∷ cs; joined = refl; long = sym z }
-  | inr w ↦ cut_later len_of c cs u w.0 (cut_at len_of cs (u - len_of c) w.1)
-]
+cut_at len_of (c ∷ cs) u e = grind (arith, cut_later, cut_at len_of cs (u - len_of c), nat_tests)
 
 -- a boundary is within the text
 pub is_boundary-le : (len_of : ℕ → ℕ) (chars : List ℕ) (u : ℕ) → is_boundary len_of chars u ≡ true → u ≤ text_len len_of chars
-is_boundary-le len_of chars u e =
-    let w = cut_at len_of chars u e in
-    rw w.joined (omega (arith, sum_by-append len_of w.front w.back, w.long))
+is_boundary-le len_of chars u e = grind (arith, cut_at len_of chars u e, sum_by-append len_of)

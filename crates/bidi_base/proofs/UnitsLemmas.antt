@@ -1,5 +1,5 @@
 -- What the test `is_per_char` says of entries that go with units.
-use Rattle.std.proofs.Common.{◌≡◌, ℕ, zero, suc, ◌<◌, ◌≤◌, Bool, true, false, ◌&&◌, nat_le, List, [], ◌∷◌, ◌++◌, length, take, drop, refl, sym, ap, ◌∙◌, arith, length-append, length-take}
+use Rattle.std.proofs.Common.{◌≡◌, ℕ, zero, suc, ◌<◌, ◌≤◌, Bool, true, false, nat_le, List, [], ◌∷◌, ◌++◌, length, take, drop, refl, sym, ap, ◌∙◌, arith, length-append, length-take}
 use Rattle.std.proofs.lemmas.Grind.{common_steps}
 use Rattle.std.proofs.lemmas.List.{nil_from_length, take-append-drop, length-replicate}
 use Rattle.std.proofs.lemmas.Bool.Decides.{nat_tests}
@@ -24,9 +24,7 @@ module _ {X : Type 0} (eq : X → X → Bool) (len_of : ℕ → ℕ) (ds cs : Li
 -- ---- units that are those of some values
 
 pub per_unit-from_IsPerChar : {X : Type 0} (d : X) (len_of : ℕ → ℕ) → HasUnits len_of → (chars : List ℕ) (units : List X) → IsPerChar len_of chars units → units ≡ per_unit len_of chars (per_char d len_of chars units)
-per_unit-from_IsPerChar d len_of h chars units w =
-    let values : per_char d len_of chars units ≡ w.0 = ap (per_char d len_of chars) w.2 ∙ per_char-per_unit len_of h d chars w.0 w.1 in
-    w.2 ∙ ap (per_unit len_of chars) (sym values)
+per_unit-from_IsPerChar d len_of h chars units w = grind (arith, per_char-per_unit len_of h d chars w.0 w.1)
 
 pub length-from_IsPerChar : {X : Type 0} (len_of : ℕ → ℕ) (chars : List ℕ) (units : List X) → IsPerChar len_of chars units → length units ≡ text_len len_of chars
 length-from_IsPerChar len_of chars units w = ap length w.2 ∙ length-per_unit len_of chars w.0 w.1
@@ -44,9 +42,7 @@ le_true m n e = grind (arith, nat_tests)
 module _ {X : Type 0} (eq : X → X → Bool) (test : IsSameTest eq) where
   replicate_from_all : (y : X) (xs : List X) → list_all (λ x. eq x y) xs ≡ true → xs ≡ replicate (length xs) y
   replicate_from_all y [] e = refl
-  replicate_from_all y (x ∷ xs) e =
-      let w = and_parts _ _ e in
-      ap (λ z. z ∷ xs) (test.same x y w.0) ∙ ap (λ zs. y ∷ zs) (replicate_from_all y xs w.1)
+  replicate_from_all y (x ∷ xs) e = grind (arith, and_parts, replicate_from_all y xs)
 
   one_value : (n : ℕ) (units : List X) → 1 ≤ n → n ≤ length units → all_same eq (take n units) ≡ true → (v : X) × (take n units ≡ replicate n v)
   one_value zero units pos le e = absurd (omega arith)
@@ -69,28 +65,16 @@ module _ {X : Type 0} (eq : X → X → Bool) (test : IsSameTest eq) where
   all_same-replicate zero x = refl
   all_same-replicate (suc n) x = all (suc n)
     where
-      two : (a b : Bool) → a ≡ true → b ≡ true → (a && b) ≡ true
-      two a b p q = grind arith
-
       all : (n : ℕ) → list_all (λ y. eq y x) (replicate n x) ≡ true
       all zero = refl
-      all (suc n) = two _ _ (test.self x) (all n)
+      all (suc n) = grind (arith, test.self x, all n)
 
   pub is_per_char-per_unit : (len_of : ℕ → ℕ) (chars : List ℕ) (values : List X) → length values ≡ length chars → is_per_char eq len_of chars (per_unit len_of chars values) ≡ true
   is_per_char-per_unit len_of [] values long = refl
   is_per_char-per_unit len_of (c ∷ chars) [] long = absurd (omega arith)
   is_per_char-per_unit len_of (c ∷ chars) (v ∷ values) long =
-      three (len_of c) (length (replicate (len_of c) v ++ per_unit len_of chars values)) _ _
-      (omega (arith, length-append (replicate (len_of c) v) (per_unit len_of chars values), length-replicate (len_of c) v))
-      (ap (all_same eq) front ∙ all_same-replicate (len_of c) v)
-      (ap (is_per_char eq len_of chars) back ∙ is_per_char-per_unit len_of chars values (omega arith))
+      grind (arith, nat_tests, back, length-append, length-replicate, all_same-replicate (len_of c) v, is_per_char-per_unit len_of chars values, common_steps)
     where
-      three : (m n : ℕ) (a b : Bool) → m ≤ n → a ≡ true → b ≡ true → (nat_le m n && (a && b)) ≡ true
-      three m n a b h p q = grind (arith, nat_tests)
-
-      front : take (len_of c) (replicate (len_of c) v ++ per_unit len_of chars values) ≡ replicate (len_of c) v
-      front = grind (arith, common_steps)
-
       back : drop (len_of c) (replicate (len_of c) v ++ per_unit len_of chars values) ≡ per_unit len_of chars values
       back = grind (arith, common_steps)
 

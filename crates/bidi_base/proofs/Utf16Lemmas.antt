@@ -1,7 +1,7 @@
 -- Units of UTF-16 as a list of characters: `utf16_text us`, with `utf16_len` for the lengths.
 use Rattle.std.proofs.Common.{zero, suc, ◌≡◌, ◌==◌, ℕ, ◌+◌, ◌-◌, ◌≤◌, Bool, true, false, ◌&&◌, ◌||◌, nat_le, nat_lt, if◌then◌else◌}
 use Rattle.std.proofs.lemmas.Grind.{common_steps}
-use Rattle.std.proofs.Common.{List, [], ◌∷◌, ◌++◌, length, take, drop, get_or, Option, Some, None, MatchOption, inl, inr, refl, sym, ◌∙◌, ap, subst, arith, length-take, length-drop, get_or-drop, drop-cons, ◌<◌}
+use Rattle.std.proofs.Common.{List, [], ◌∷◌, ◌++◌, length, take, drop, get_or, Option, Some, None, MatchOption, inl, inr, refl, ◌∙◌, ap, arith, length-take, length-drop, get_or-drop, drop-cons, ◌<◌}
 use Rattle.std.specs.Prelude.{slice_range}
 use Rattle.std.proofs.lemmas.Bool.{cases_Bool}
 use Rattle.std.proofs.lemmas.Bool.Decides.{nat_tests}
@@ -32,10 +32,8 @@ module _ (u v : ℕ) (us : List ℕ) where
 pub text_len-utf16 : (us : List ℕ) → text_len utf16_len (utf16_text us) ≡ length us
 text_len-utf16 [] = refl
 text_len-utf16 (u ∷ []) = omega (arith, sum_by-cons utf16_len (lone_char u) [], utf16_len-lone u)
-text_len-utf16 (u ∷ v ∷ us) = elim (cases_Bool (is_pair u v)) [
-  | inl p ↦ rw (text_pair u v us p) (omega (arith, sum_by-cons utf16_len (pair_char u v) (utf16_text us), utf16_len-pair u v, text_len-utf16 us))
-  | inr n ↦ rw (text_lone u v us n) (omega (arith, sum_by-cons utf16_len (lone_char u) (utf16_text (v ∷ us)), utf16_len-lone u, text_len-utf16 (v ∷ us)))
-]
+text_len-utf16 (u ∷ v ∷ us) =
+    grind (arith, text_pair u v us, text_lone u v us, sum_by-cons utf16_len, utf16_len-pair u v, utf16_len-lone u, text_len-utf16 us, text_len-utf16 (v ∷ us))
 
 -- ---- units that are cut between two characters
 
@@ -50,10 +48,8 @@ utf16_text-cut (u ∷ []) (suc zero) h = refl
 utf16_text-cut (u ∷ []) (suc (suc n)) h = refl
 utf16_text-cut (u ∷ v ∷ us) (suc zero) h = text_lone u v us (h 0 refl)
 utf16_text-cut (u ∷ v ∷ us) (suc (suc n)) h = elim (cases_Bool (is_pair u v)) [
-  | inl p ↦ text_pair u v us p ∙ ap (λ z. pair_char u v ∷ z) (utf16_text-cut us n (λ m e. h (suc (suc m)) (ap (λ x. suc (suc x)) e)))
-      ∙ ap (λ z. z ++ utf16_text (drop n us)) (sym (text_pair u v (take n us) p))
-  | inr q ↦ text_lone u v us q ∙ ap (λ z. lone_char u ∷ z) (utf16_text-cut (v ∷ us) (suc n) (λ m e. h (suc m) (ap suc e)))
-      ∙ ap (λ z. z ++ utf16_text (drop n us)) (sym (text_lone u v (take n us) q))
+  | inl p ↦ rw (p, utf16_text-cut us n (λ m e. h (suc (suc m)) (ap (λ x. suc (suc x)) e))) refl
+  | inr q ↦ rw (q, utf16_text-cut (v ∷ us) (suc n) (λ m e. h (suc m) (ap suc e))) refl
 ]
 
 text_len-front : (us : List ℕ) (i : ℕ) → i ≤ length us → text_len utf16_len (utf16_text (take i us)) ≡ i
@@ -61,10 +57,7 @@ text_len-front us i le = omega (arith, text_len-utf16 (take i us), length-take i
 
 -- what stands there begins what follows
 pub char_at-cut : (us : List ℕ) (i : ℕ) → i ≤ length us → NoPairAt us i → char_at utf16_len (utf16_text us) i ≡ char_at utf16_len (utf16_text (drop i us)) 0
-char_at-cut us i le n =
-    ap (λ cs. char_at utf16_len cs i) (utf16_text-cut us i n)
-    ∙ ap (char_at utf16_len (utf16_text (take i us) ++ utf16_text (drop i us))) (sym (text_len-front us i le))
-    ∙ char_at-append utf16_len has_units (utf16_text (take i us)) (utf16_text (drop i us))
+char_at-cut us i le n = cc (utf16_text-cut us i n, text_len-front us i le, char_at-append utf16_len has_units (utf16_text (take i us)) (utf16_text (drop i us)))
 
 -- ---- no boundary lies in a pair
 
@@ -72,32 +65,19 @@ char_at-cut us i le n =
 no_pair : (u : ℕ) → is_pair u 0 ≡ false
 no_pair u = grind (arith, nat_tests)
 
-true_false : (b : Bool) → b ≡ true → b ≡ false → ⊥
-true_false b p q = cc (p, q)
-
 -- a boundary past the first character is one of the rest
 past_first : (len n : ℕ) (rest : ℕ → Bool) (l : ℕ) → len ≡ l → 1 ≤ n → rest (n - l) ≡ false → (n == 0 || (nat_le len n && rest (n - len))) ≡ false
 past_first len n rest l e h f = grind arith
 
 pub is_boundary-inside : (us : List ℕ) (n : ℕ) → is_pair (get_or us n 0) (get_or us (suc n) 0) ≡ true → is_boundary utf16_len (utf16_text us) (suc n) ≡ false
-is_boundary-inside [] n p = absurd (true_false _ p (no_pair 0))
-is_boundary-inside (u ∷ []) n p = absurd (true_false _ p (no_pair (get_or (u ∷ []) n 0)))
+is_boundary-inside [] n p = absurd (cc (p, no_pair 0))
+is_boundary-inside (u ∷ []) n p = absurd (cc (p, no_pair (get_or (u ∷ []) n 0)))
 is_boundary-inside (u ∷ v ∷ us) zero p = grind arith
 is_boundary-inside (u ∷ v ∷ us) (suc zero) p = grind (arith, common_steps)
 is_boundary-inside (u ∷ v ∷ us) (suc (suc n)) p = elim (cases_Bool (is_pair u v)) [
-  | inl q ↦ ap (λ cs. is_boundary utf16_len cs (suc (suc (suc n)))) (text_pair u v us q)
-      ∙ past_first (utf16_len (pair_char u v)) (suc (suc (suc n))) (is_boundary utf16_len (utf16_text us)) 2 (utf16_len-pair u v) (omega arith)
-      (ap (is_boundary utf16_len (utf16_text us)) (less_two n) ∙ is_boundary-inside us n p)
-  | inr q ↦ ap (λ cs. is_boundary utf16_len cs (suc (suc (suc n)))) (text_lone u v us q)
-      ∙ past_first (utf16_len (lone_char u)) (suc (suc (suc n))) (is_boundary utf16_len (utf16_text (v ∷ us))) 1 (utf16_len-lone u) (omega arith)
-      (ap (is_boundary utf16_len (utf16_text (v ∷ us))) (less_one n) ∙ is_boundary-inside (v ∷ us) (suc n) p)
+  | inl q ↦ rw (text_pair u v us q) (past_first _ _ (is_boundary utf16_len (utf16_text us)) 2 (utf16_len-pair u v) (omega arith) (grind (arith, is_boundary-inside us n)))
+  | inr q ↦ rw (text_lone u v us q) (past_first _ _ (is_boundary utf16_len (utf16_text (v ∷ us))) 1 (utf16_len-lone u) (omega arith) (grind (arith, is_boundary-inside (v ∷ us) (suc n))))
 ]
-  where
-    less_two : (n : ℕ) → suc (suc (suc n)) - 2 ≡ suc n
-    less_two n = omega arith
-
-    less_one : (n : ℕ) → suc (suc (suc n)) - 1 ≡ suc (suc n)
-    less_one n = omega arith
 
 NoPairAt-from_is_boundary : (us : List ℕ) (i : ℕ) → is_boundary utf16_len (utf16_text us) i ≡ true → NoPairAt us i
 NoPairAt-from_is_boundary us i e n is = grind (arith, common_steps, is_boundary-inside)
@@ -118,10 +98,7 @@ subrange-utf16 us start end line =
     let front : text_len utf16_len xs ≡ start = text_len-front us start (omega (arith, line.ordered)) in
     let both : text_len utf16_len xs + text_len utf16_len mid ≡ end = omega (arith, front, text_len-front ys (end - start) (omega (arith, length-drop start us)), line.ordered) in
     let parts : utf16_text us ≡ xs ++ (mid ++ zs) = utf16_text-cut us start (NoPairAt-from_is_boundary us start line.begins) ∙ ap (λ z. xs ++ z) (utf16_text-cut ys (end - start) across) in
-    ap (λ cs. subrange utf16_len cs start end) parts
-    ∙ ap (λ s. subrange utf16_len (xs ++ (mid ++ zs)) s end) (sym front)
-    ∙ ap (subrange utf16_len (xs ++ (mid ++ zs)) (text_len utf16_len xs)) (sym both)
-    ∙ subrange-middle utf16_len has_units xs mid zs
+    cc (parts, front, both, subrange-middle utf16_len has_units xs mid zs)
 
 -- ---- the character at an index
 
@@ -140,8 +117,7 @@ pair_at us i e = grind arith
 pub char_at-inside : (us : List ℕ) (i : ℕ) → splits_pair us i ≡ true → char_at utf16_len (utf16_text us) i ≡ None
 char_at-inside us i e =
     let w = pair_at us i e in
-    let pair : is_pair (get_or us w.first 0) (get_or us (suc w.first) 0) ≡ true = subst (λ n. is_pair (get_or us w.first 0) (get_or us n 0) ≡ true) w.second w.pair in
-    char_at-None utf16_len has_units (utf16_text us) i (ap (is_boundary utf16_len (utf16_text us)) w.second ∙ is_boundary-inside us w.first pair)
+    char_at-None utf16_len has_units (utf16_text us) i (grind (arith, w.second, w.pair, is_boundary-inside us w.first))
 
 pub NoPairAt-from_splits_pair : (us : List ℕ) (i : ℕ) → splits_pair us i ≡ false → NoPairAt us i
 NoPairAt-from_splits_pair us i e n is = grind arith
@@ -160,13 +136,9 @@ ascii_first u us = grind (arith, nat_tests)
 
 pub ascii_at-unit : (us : List ℕ) (i : ℕ) → i < length us → ascii_at utf16_len (utf16_text us) i ≡ ascii_unit (get_or us i 0)
 ascii_at-unit us i within = elim (cases_Bool (splits_pair us i)) [
-  | inl inside ↦ grind (arith, char_at-inside, second)
-  | inr apart ↦ ap ascii_of (char_at-cut us i (omega arith) (NoPairAt-from_splits_pair us i apart))
-      ∙ ap (λ x. ascii_of (char_at utf16_len (utf16_text x) 0)) (drop-cons us i 0 within) ∙ ascii_first (get_or us i 0) (drop (suc i) us)
+  | inl inside ↦ grind (arith, nat_tests, char_at-inside us i inside)
+  | inr apart ↦ grind (arith, char_at-cut us i, NoPairAt-from_splits_pair us i apart, drop-cons us i 0 within, ascii_first (get_or us i 0) (drop (suc i) us))
 ]
-  where
-    second : (u v : ℕ) → is_pair u v ≡ true → ascii_unit v ≡ None
-    second u v e = grind (arith, nat_tests)
 
 pub ascii_at-past : (us : List ℕ) (i : ℕ) → length us ≤ i → ascii_at utf16_len (utf16_text us) i ≡ None
 ascii_at-past us i past = ap ascii_of (char_at-past us i past)

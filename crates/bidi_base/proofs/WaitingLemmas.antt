@@ -1,13 +1,13 @@
 -- A pass over level runs: what is open waits for its match, and a run goes on with the sequence whose initiator its first character matches.
-use Rattle.std.proofs.Common.{◌≡◌, ◌≢◌, ℕ, zero, suc, ◌+◌, ◌<◌, ◌≤◌, true, false, cond, eqb}
-use Rattle.std.proofs.Common.{List, [], ◌∷◌, ◌++◌, length, map, get_or, set, length-append, append-nil, Option, Some, None, refl, sym, ap, subst, ◌∙◌, arith, ◌⊎◌, inl, inr, eq-eqb, ne_eqb}
+use Rattle.std.proofs.Common.{◌≡◌, ◌≢◌, ℕ, zero, suc, ◌+◌, ◌<◌, ◌≤◌, true, false}
+use Rattle.std.proofs.Common.{List, [], ◌∷◌, ◌++◌, length, map, get_or, set, length-append, append-nil, Option, Some, None, refl, subst, arith, ◌⊎◌, eq-eqb, ne_eqb}
 use Rattle.std.specs.Prelude.{filter}
 use Rattle.std.specs.List.{range_with_len}
 use Rattle.std.specs.List.Sorted.{IsPermutation}
-use Rattle.std.proofs.lemmas.Bool.{cases_eq, both_ways, cond-true, cond-false, false_from_ne_true}
+use Rattle.std.proofs.lemmas.Bool.{false_from_ne_true}
 use Rattle.std.proofs.lemmas.List.{get_or_append_left, get_or-set_same, get_or-set_other, length-set}
 use Rattle.bidi_base.specs.declared.char_data.BidiClass.{BidiClass}
-use Rattle.bidi_base.specs.Places.{class_at, last_or}
+use Rattle.bidi_base.specs.Places.{last_or}
 use Rattle.bidi_base.specs.Isolates.{is_initiator_at, is_pdi_at, matching_pdi}
 use Rattle.bidi_base.specs.Sequences.{is_kept_at, kept_places, next_kept, have_one_level, successor, is_first, sequences}
 use Rattle.bidi_base.proofs.ReadStack.{Member, IsReadStack, IsReadStack-more, IsReadStack-stay}
@@ -22,19 +22,15 @@ use Rattle.bidi_base.proofs.RunsLemmas.{BeginsRun, EndsRun, AreRunSteps, IsFront
 -- what a list holds its longer lists hold
 pub Member-append : (x : ℕ) (xs ys : List ℕ) → Member x xs → Member x (xs ++ ys)
 Member-append x [] ys member = absurd member
-Member-append x (y ∷ xs) ys (inl here) = inl here
-Member-append x (y ∷ xs) ys (inr there) = inr (Member-append x xs ys there)
+Member-append x (y ∷ xs) ys z3 = grind (arith, Member-append x xs ys)
 
 pub Member-append_right : (x : ℕ) (xs ys : List ℕ) → Member x ys → Member x (xs ++ ys)
 Member-append_right x [] ys member = member
-Member-append_right x (y ∷ xs) ys member = inr (Member-append_right x xs ys member)
+Member-append_right x (y ∷ xs) ys member = grind (arith, Member-append_right x xs ys)
 
 count_of-Member : (x : ℕ) (xs : List ℕ) → Member x xs → 0 < count_of x xs
 count_of-Member x [] member = absurd member
-count_of-Member x (y ∷ xs) (inl here) =
-    let one : cond {A = ℕ} (eqb x y) 1 0 ≡ 1 = cond-true (eqb x y) 1 0 (eq-eqb x y here) in
-    omega (arith, count_of-cons x y xs)
-count_of-Member x (y ∷ xs) (inr there) = omega (arith, count_of-cons x y xs, count_of-Member x xs there)
+count_of-Member x (y ∷ xs) z2 = grind (arith, eq-eqb x y, count_of-cons x y xs, count_of-Member x xs)
 
 Ascends-order : (low high : ℕ) (xs : List ℕ) → Ascends low xs high → low ≤ high
 Ascends-order low high [] h = h
@@ -42,9 +38,7 @@ Ascends-order low high (x ∷ xs) h = omega (arith, h.0, Ascends-order (x + 1) h
 
 count_of-higher : (x low high : ℕ) (ys : List ℕ) → high ≤ x → Ascends low ys high → count_of x ys ≡ 0
 count_of-higher x low high [] after h = refl
-count_of-higher x low high (y ∷ ys) after h =
-    let none : cond {A = ℕ} (eqb x y) 1 0 ≡ 0 = cond-false (eqb x y) 1 0 (ne_eqb x y (λ e. omega (arith, Ascends-order (y + 1) high ys h.1))) in
-    omega (arith, count_of-cons x y ys, count_of-higher x (y + 1) high ys after h.1)
+count_of-higher x low high (y ∷ ys) after h = grind (arith, ne_eqb, Ascends-order, count_of-cons, count_of-higher x (y + 1) high ys after h.1)
 
 module _ (classes : List BidiClass) (levels : List ℕ) where
   Member-all : (x s : ℕ) (out : List (List ℕ)) → s < length out → Member x (get_or out s []) → Member x (all_of classes levels out)
@@ -55,28 +49,19 @@ module _ (classes : List BidiClass) (levels : List ℕ) where
   -- what came so far is earlier
   earlier : (a x s : ℕ) (out : List (List ℕ)) → IsPermutation (kept_below classes levels a) (all_of classes levels out) → s < length out → Member x (get_or out s []) → a ≤ x → ⊥
   earlier a x s out shared within member after =
-      let some : 0 < count_of x (all_of classes levels out) = count_of-Member x (all_of classes levels out) (Member-all x s out within member) in
-      let ascends : Ascends 0 (kept_below classes levels a) a = Ascends-filter (is_kept_at classes) 0 a (range_with_len 0 a) (Ascends-range 0 a a (omega arith)) in
-      let none : count_of x (kept_below classes levels a) ≡ 0 = count_of-higher x 0 a (kept_below classes levels a) after ascends in
-      omega (arith, count_of-IsPermutation x (kept_below classes levels a) (all_of classes levels out) shared)
+      grind (arith, count_of-Member x (all_of classes levels out) (Member-all x s out within member), count_of-higher x 0 a (kept_below classes levels a), Ascends-filter, Ascends-range, count_of-IsPermutation x (kept_below classes levels a))
 
   -- a character whose successor did not come yet is the last of its sequence
   last_if : (i m p : ℕ) (ps : List ℕ) → AreSuccessors classes levels (p ∷ ps) → Member i (p ∷ ps) → successor classes levels i ≡ Some m → (Member m (p ∷ ps) → ⊥) → last_or p ps ≡ i
-  last_if i m p [] follows (inl here) next none = sym here
-  last_if i m p [] follows (inr there) next none = absurd there
-  last_if i m p (q ∷ ps) follows (inl here) next none =
-      let same : Some q ≡ Some m = sym follows.0 ∙ ap (successor classes levels) (sym here) ∙ next in
-      let it : m ≡ q = cc same in
-      absurd (none (inr (inl it)))
-  last_if i m p (q ∷ ps) follows (inr there) next none = last_if i m q ps follows.1 there next (λ member. none (inr member))
+  last_if i m p [] follows z5 next none = grind arith
+  last_if i m p (q ∷ ps) follows z5 next none = grind (arith, last_if i m q ps follows.1)
 
   last_of_sequence : (i m : ℕ) (xs : List ℕ) → IsBegunList classes levels xs → Member i xs → successor classes levels i ≡ Some m → (Member m xs → ⊥) → last_or 0 xs ≡ i
   last_of_sequence i m xs begun member next none = grind (arith, last_if)
 
   begun_at : (out : List (List ℕ)) (s : ℕ) → AllBegun classes levels out → s < length out → IsBegunList classes levels (get_or out s [])
   begun_at [] s begun within = absurd (omega arith)
-  begun_at (xs ∷ out) zero begun within = begun.0
-  begun_at (xs ∷ out) (suc s) begun within = begun_at out s begun.1 (omega arith)
+  begun_at (xs ∷ out) s begun within = grind (arith, begun_at out)
 
   -- an open initiator that ended its level run stands in the sequence at s, which waits; one inside its run waits for nothing
   abbrev pub IsWaiting : List (List ℕ) → ℕ → Option ℕ → Type 0
@@ -94,8 +79,7 @@ module _ (classes : List BidiClass) (levels : List ℕ) where
   IsLonger out more = (length out ≤ length more) × ((s x : ℕ) → s < length out → Member x (get_or out s []) → Member x (get_or more s []))
 
   pub AreWaiting-longer : (out more : List (List ℕ)) (stack : List ℕ) (waits : List (Option ℕ)) → IsLonger out more → AreWaiting out stack waits → AreWaiting more stack waits
-  AreWaiting-longer out more [] [] longer waiting = tt
-  AreWaiting-longer out more [] (w ∷ waits) longer waiting = waiting
+  AreWaiting-longer out more [] waits longer waiting = grind arith
   AreWaiting-longer out more (i ∷ stack) [] longer waiting = waiting
   AreWaiting-longer out more (i ∷ stack) (None ∷ waits) longer waiting = (waiting.0, AreWaiting-longer out more stack waits longer waiting.1)
   AreWaiting-longer out more (i ∷ stack) (Some s ∷ waits) longer waiting =
@@ -103,17 +87,6 @@ module _ (classes : List BidiClass) (levels : List ℕ) where
 
   IsLonger-push : (out : List (List ℕ)) (xs : List ℕ) → IsLonger out (out ++ xs ∷ [])
   IsLonger-push out xs = grind (arith, length-append, get_or_append_left)
-
-  IsLonger-join : (out : List (List ℕ)) (t : ℕ) (ys : List ℕ) → t < length out → IsLonger out (set out t (get_or out t [] ++ ys))
-  IsLonger-join out t ys within = (omega (arith, length-set out t (get_or out t [] ++ ys)), kept_by)
-    where
-      kept_by : (s x : ℕ) → s < length out → Member x (get_or out s []) → Member x (get_or (set out t (get_or out t [] ++ ys)) s [])
-      kept_by s x fits member = elim (cases_eq s t) [
-        | inl same ↦
-            subst (λ (r : ℕ). Member x (get_or (set out t (get_or out t [] ++ ys)) r [])) (sym same)
-            (rw (get_or-set_same out t (get_or out t [] ++ ys) [] within) (Member-append x (get_or out t []) ys (subst (λ (r : ℕ). Member x (get_or out r [])) same member)))
-        | inr other ↦ rw (get_or-set_other out t s (get_or out t [] ++ ys) [] other) member
-      ]
 
   -- the state of a pass: the level runs up to a stand in their sequences, and all before m was read for what is open
   pub record IsPass (a m : ℕ) (out : List (List ℕ)) (stack : List ℕ) (waits : List (Option ℕ)) : Type 0 where
@@ -132,15 +105,7 @@ module _ (classes : List BidiClass) (levels : List ℕ) where
   -- characters that X9 removes come to no sequence
   pub IsPass-removed : (a n m : ℕ) (out : List (List ℕ)) (stack : List ℕ) (waits : List (Option ℕ)) → IsPass a m out stack waits
       → filter (is_kept_at classes) (range_with_len a n) ≡ [] → IsPass (a + n) m out stack waits
-  IsPass-removed a n m out stack waits h none =
-      let same : kept_below classes levels (a + n) ≡ kept_below classes levels a = kept_more classes levels a n [] none ∙ append-nil (kept_below classes levels a) in
-      record {
-        begun = h.begun;
-        shares = subst (λ (xs : List ℕ). IsPermutation xs (all_of classes levels out)) (sym same) h.shares;
-        in_order = Ascends-higher 0 a (a + n) (firsts classes levels out) (omega arith) h.in_order;
-        isolates = h.isolates;
-        waiting = h.waiting;
-      }
+  IsPass-removed a n m out stack waits h none = grind (arith, kept_more, append-nil, Ascends-higher)
 
   -- reading up to k for what is open
   IsPass-read : (a m k : ℕ) (out : List (List ℕ)) (stack next : List ℕ) (waits waits_next : List (Option ℕ)) → IsPass a m out stack waits
@@ -150,23 +115,13 @@ module _ (classes : List BidiClass) (levels : List ℕ) where
   -- one character: nothing happens, an initiator, a PDI
   pub IsPass-stay : (a m : ℕ) (out : List (List ℕ)) (stack : List ℕ) (waits : List (Option ℕ)) → IsPass a m out stack waits
       → is_initiator_at classes m ≡ false → (is_pdi_at classes m ≡ false) ⊎ (stack ≡ []) → IsPass a (m + 1) out stack waits
-  IsPass-stay a m out stack waits h other still =
-      IsPass-read a m (m + 1) out stack stack waits waits h (IsReadStack-stay (is_initiator_at classes) (is_pdi_at classes) m stack h.isolates other still) h.waiting
+  IsPass-stay a m out stack waits h other still = grind (arith, IsPass-read, IsReadStack-stay)
 
   -- characters that X9 removes change nothing of what is open
   pub IsPass-skip : (n a m : ℕ) (out : List (List ℕ)) (stack : List ℕ) (waits : List (Option ℕ)) → IsPass a m out stack waits
       → ((k : ℕ) → m ≤ k → k < m + n → is_kept_at classes k ≡ false) → IsPass a (m + n) out stack waits
   IsPass-skip zero a m out stack waits h none = subst (λ (x : ℕ). IsPass a x out stack waits) (omega arith) h
-  IsPass-skip (suc n) a m out stack waits h none =
-      let gone : is_kept_at classes m ≡ false = none m (omega arith) (omega arith) in
-      let next : IsPass a (m + 1) out stack waits = IsPass-stay a m out stack waits h (removed_initiator m gone) (inl (removed_pdi m gone)) in
-      subst (λ (x : ℕ). IsPass a x out stack waits) (omega arith) (IsPass-skip n a (m + 1) out stack waits next (λ k from below. none k (omega arith) (omega arith)))
-    where
-      removed_initiator : (k : ℕ) → is_kept_at classes k ≡ false → is_initiator_at classes k ≡ false
-      removed_initiator k gone = false_from_ne_true (is_initiator_at classes k) (λ opens. both_ways (is_kept_at classes k) gone (is_kept-initiator (class_at classes k) opens))
-
-      removed_pdi : (k : ℕ) → is_kept_at classes k ≡ false → is_pdi_at classes k ≡ false
-      removed_pdi k gone = false_from_ne_true (is_pdi_at classes k) (λ closes. both_ways (is_kept_at classes k) gone (is_kept-pdi (class_at classes k) closes))
+  IsPass-skip (suc n) a m out stack waits h none = grind (arith, IsPass-stay, IsPass-skip n a (m + 1) out stack waits, false_from_ne_true, is_kept-initiator, is_kept-pdi)
 
   pub IsPass-initiator : (a m : ℕ) (out : List (List ℕ)) (stack : List ℕ) (waits : List (Option ℕ)) (w : Option ℕ) → IsPass a m out stack waits
       → is_initiator_at classes m ≡ true → IsWaiting out m w → IsPass a (m + 1) out (m ∷ stack) (w ∷ waits)
@@ -184,12 +139,10 @@ module _ (classes : List BidiClass) (levels : List ℕ) where
       → IsPass (a + n) m (out ++ (p ∷ ps) ∷ []) stack waits
   IsPass-begin a n m p ps out stack waits h here fits follows first =
       let front : IsFront classes levels a (a + n) p ps = front_of classes levels a n p ps here in
-      let up_to_p : Ascends 0 (firsts classes levels out) p = Ascends-higher 0 a p (firsts classes levels out) front.from h.in_order in
-      let with_p : Ascends 0 (firsts classes levels out ++ p ∷ []) (p + 1) = Ascends-push 0 p (firsts classes levels out) up_to_p in
       record {
         begun = AllBegun-push classes levels out p ps h.begun (record { kept = front.kept; within = omega (arith, front.below); first = first; follows = follows });
         shares = shares-push classes levels a n out (p ∷ ps) h.shares here;
-        in_order = rw (firsts-push classes levels out p ps) (Ascends-higher 0 (p + 1) (a + n) (firsts classes levels out ++ p ∷ []) (omega (arith, front.below)) with_p);
+        in_order = rw (firsts-push classes levels out p ps) (Ascends-higher 0 (p + 1) (a + n) _ (omega (arith, front.below)) (Ascends-push 0 p _ (Ascends-higher 0 a p _ front.from h.in_order)));
         isolates = h.isolates;
         waiting = AreWaiting-longer out (out ++ (p ∷ ps) ∷ []) stack waits (IsLonger-push out (p ∷ ps)) h.waiting;
       }
@@ -199,13 +152,7 @@ module _ (classes : List BidiClass) (levels : List ℕ) where
       → filter (is_kept_at classes) (range_with_len a n) ≡ p ∷ ps → AreSuccessors classes levels (p ∷ ps) → s < length out
       → successor classes levels (last_or 0 (get_or out s [])) ≡ Some p → IsPass (a + n) m (set out s (get_or out s [] ++ p ∷ ps)) stack waits
   IsPass-join a n m p s ps out stack waits h here follows within next =
-      record {
-        begun = AllBegun-join classes levels out s p ps h.begun within next follows;
-        shares = shares-join classes levels a n out s (p ∷ ps) h.shares here within;
-        in_order = rw (firsts-join classes levels out s (p ∷ ps) h.begun) (Ascends-higher 0 a (a + n) (firsts classes levels out) (omega arith) h.in_order);
-        isolates = h.isolates;
-        waiting = AreWaiting-longer out (set out s (get_or out s [] ++ p ∷ ps)) stack waits (IsLonger-join out s (p ∷ ps) within) h.waiting;
-      }
+      grind (arith, AllBegun-join, shares-join, firsts-join, Ascends-higher, AreWaiting-longer, length-set, get_or-set_same, Member-append, get_or-set_other)
 
   -- a run that begins with a PDI goes on with the sequence that waits for it
   pub successor-waiting : (a m i s : ℕ) (out : List (List ℕ)) (stack : List ℕ) (waits : List (Option ℕ)) → IsPass a m out (i ∷ stack) (Some s ∷ waits)
@@ -213,12 +160,9 @@ module _ (classes : List BidiClass) (levels : List ℕ) where
       → successor classes levels (last_or 0 (get_or out s [])) ≡ Some m
   unfolding matching_pdi
   successor-waiting a m i s out stack waits h after fits here begins =
-      let opens : is_initiator_at classes i ≡ true = h.isolates.are_open.0 in
-      let matches : matching_pdi classes i ≡ Some m = IsReadStack-match (is_initiator_at classes) (is_pdi_at classes) (initiators_apart classes) (length classes) m i stack h.isolates here fits in
-      let next : successor classes levels i ≡ Some m = successor-at_match classes levels i m opens matches h.waiting.0.2 begins in
-      let last : last_or 0 (get_or out s []) ≡ i =
-      last_of_sequence i m (get_or out s []) (begun_at out s h.begun h.waiting.0.0) h.waiting.0.1 next (λ member. earlier a m s out h.shares h.waiting.0.0 member after) in
-      ap (successor classes levels) last ∙ next
+      let matches = IsReadStack-match (is_initiator_at classes) (is_pdi_at classes) (initiators_apart classes) (length classes) m i stack h.isolates here fits in
+      let next : successor classes levels i ≡ Some m = successor-at_match classes levels i m h.isolates.are_open.0 matches h.waiting.0.2 begins in
+      rw (last_of_sequence i m (get_or out s []) (begun_at out s h.begun h.waiting.0.0) h.waiting.0.1 next (λ member. earlier a m s out h.shares h.waiting.0.0 member after)) next
 
   -- any other run begins a sequence
   pub is_first-no_pdi : (m : ℕ) → is_pdi_at classes m ≡ false → BeginsRun classes levels m → is_first classes levels m ≡ true
@@ -226,9 +170,7 @@ module _ (classes : List BidiClass) (levels : List ℕ) where
 
   pub is_first-none_open : (a m : ℕ) (out : List (List ℕ)) (waits : List (Option ℕ)) → IsPass a m out [] waits → BeginsRun classes levels m → is_first classes levels m ≡ true
   unfolding matching_pdi
-  is_first-none_open a m out waits h begins =
-      is_first-run classes levels m begins
-      (λ i opens matches ends. IsReadStack-no_match (is_initiator_at classes) (is_pdi_at classes) (initiators_apart classes) (length classes) m i h.isolates opens matches)
+  is_first-none_open a m out waits h begins = grind (arith, is_first-run, IsReadStack-no_match, initiators_apart)
 
   pub is_first-not_waiting : (a m i : ℕ) (out : List (List ℕ)) (stack : List ℕ) (waits : List (Option ℕ)) → IsPass a m out (i ∷ stack) (None ∷ waits)
       → m < length classes → is_pdi_at classes m ≡ true → BeginsRun classes levels m → is_first classes levels m ≡ true
@@ -237,15 +179,9 @@ module _ (classes : List BidiClass) (levels : List ℕ) where
     where
       none : (j : ℕ) → is_initiator_at classes j ≡ true → matching_pdi classes j ≡ Some m → EndsRun classes levels j → ⊥
       none j opens matches ends =
-          let top = IsReadStack-matched (is_initiator_at classes) (is_pdi_at classes) (initiators_apart classes) (length classes) m j (i ∷ stack) h.isolates opens matches in
-          let both : i ∷ stack ≡ j ∷ top.0 = top.1 in
-          let same : j ≡ i = cc both in
-          both_ways (have_one_level levels (next_kept classes i) i) (subst (EndsRun classes levels) same ends) h.waiting.0
+          grind (arith, IsReadStack-matched (is_initiator_at classes) (is_pdi_at classes) (initiators_apart classes) (length classes) m j (i ∷ stack) h.isolates opens matches, ends, h.waiting.0)
 
   -- an initiator that is not the last of its run waits for nothing
   pub inside_run : (x p : ℕ) (ps : List ℕ) → AreRunSteps classes levels (p ∷ ps) → Member x (p ∷ ps) → x ≢ last_or p ps → have_one_level levels (next_kept classes x) x ≡ true
-  inside_run x p [] steps (inl here) other = absurd (other here)
-  inside_run x p [] steps (inr there) other = absurd there
-  inside_run x p (q ∷ ps) steps (inl here) other =
-      subst (λ (y : ℕ). have_one_level levels (next_kept classes y) y ≡ true) (sym here) (have_one_level-from levels (next_kept classes p) p q steps.0.next steps.0.level)
-  inside_run x p (q ∷ ps) steps (inr there) other = inside_run x q ps steps.1 there other
+  inside_run x p [] steps z4 other = grind arith
+  inside_run x p (q ∷ ps) steps z4 other = grind (arith, have_one_level-from, inside_run x q ps steps.1)

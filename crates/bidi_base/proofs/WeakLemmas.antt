@@ -1,7 +1,7 @@
 -- The classes that W1 to W7 leave: of kept classes, those with a direction and the neutrals.
-use Rattle.std.proofs.Common.{◌≡◌, Bool, true, not, ◌&&◌, List, [], ◌∷◌, refl, ap, ◌∙◌, inl, inr, arith}
+use Rattle.std.proofs.Common.{◌≡◌, Bool, true, not, ◌&&◌, List, [], ◌∷◌, refl, arith}
 use Rattle.std.specs.List.{list_all}
-use Rattle.std.proofs.lemmas.Bool.{cases_Bool, and_parts, cond-false}
+use Rattle.std.proofs.lemmas.Bool.{and_parts}
 use Rattle.bidi_base.specs.declared.char_data.BidiClass.{BidiClass}
 use Rattle.bidi_base.specs.Classes.{is_kept, is_nsm, is_al, is_l_or_r, is_weak_resolved}
 use Rattle.bidi_base.specs.Places.{nearest}
@@ -18,15 +18,7 @@ is_after_w3 c = is_kept c && not (is_nsm c) && not (is_al c)
 
 nearest_after_w1 : (sos : BidiClass) (before : List BidiClass) → is_after_w1 sos ≡ true → list_all is_kept before ≡ true → is_after_w1 (nearest (λ c. not (is_nsm c)) before sos) ≡ true
 nearest_after_w1 sos [] h k = h
-nearest_after_w1 sos (b ∷ before) h k =
-    let parts = and_parts (is_kept b) (list_all is_kept before) k in
-    let next = nearest_after_w1 sos before h parts.1 in
-    let rest = nearest (λ c. not (is_nsm c)) before sos in
-    ap is_after_w1 (nearest-more (λ c. not (is_nsm c)) b before sos)
-    ∙ elim (cases_Bool (not (is_nsm b))) [
-      | inl yes' ↦ grind arith
-      | inr no' ↦ ap is_after_w1 (cond-false (not (is_nsm b)) b rest no') ∙ next
-    ]
+nearest_after_w1 sos (b ∷ before) h k = grind (arith, and_parts, nearest_after_w1 sos before h, nearest-more)
 
 w1_answers : (sos : BidiClass) → is_after_w1 sos ≡ true → (before : List BidiClass) (c : BidiClass) (after : List BidiClass) → list_all is_kept before ≡ true → is_kept c ≡ true
     → is_after_w1 (w1_rule sos before c after) ≡ true

@@ -1,6 +1,5 @@
 -- A line whose classes and levels are kept.
 use Rattle.std.proofs.Common.{◌≡◌, ℕ, ◌+◌, ◌-◌, List, length, map, get_or, arith}
-use Rattle.std.specs.Prelude.{slice_range}
 use Rattle.std.proofs.lemmas.List.{take_all, length-map}
 use Rattle.std.proofs.lemmas.List.FromFn.{length-range_with_len}
 use Rattle.bidi_base.specs.declared.char_data.BidiClass.{BidiClass}
@@ -16,9 +15,6 @@ use Rattle.bidi_c.specs.Lines.{IsSound, own_classes, own_levels, shown_levels}
 use Rattle.bidi_c.specs.Numbers.{class_numbered}
 use Rattle.bidi_c.specs.Shown.{line_classes, reordered, order_of_line, reordered_chars}
 
-whole : {X : Type 0} (xs : List X) (n : ℕ) → length xs ≡ n → slice_range xs 0 n ≡ xs
-whole xs n long = take_all (n - 0) xs (omega arith)
-
 pub length-own_levels : (l : KeptLine) → IsSound l → length (own_levels l) ≡ l.end - l.start
 length-own_levels l h = length-part l.levels.now l.start l.end h.within
 
@@ -29,7 +25,7 @@ length-own_classes l h = length-part l.classes.now l.start l.end (omega (arith, 
 pub shown_levels-own : (l : KeptLine) → IsSound l → (level n : ℕ) (classes : List BidiClass) (levels : List ℕ) → level ≡ l.paragraph.now.level
     → classes ≡ map class_numbered (own_classes l) → levels ≡ own_levels l → n ≡ length levels → levels_of_line level classes levels 0 n ≡ shown_levels l
 unfolding shown_levels
-shown_levels-own l h level n classes levels same of_classes of_levels e = grind (arith, length-map, length-own_classes, length-own_levels, whole)
+shown_levels-own l h level n classes levels same of_classes of_levels e = grind (arith, length-map, length-own_classes, length-own_levels, take_all)
 
 pub length-shown_levels : (l : KeptLine) → IsSound l → length (shown_levels l) + l.start ≡ l.end
 unfolding shown_levels

@@ -2,7 +2,6 @@
 use Rattle.std.proofs.Common.{◌≡◌, ℕ, ◌+◌, ◌<◌, ◌≤◌, ◌++◌, false, List, [], ◌∷◌, map, length, get_or, take, All, sym, ap, subst, ◌∙◌, arith, rules}
 use Rattle.std.proofs.lemmas.Grind.{common_steps}
 use Rattle.std.specs.declared.ops.Range.{Range}
-use Rattle.std.specs.List.{range_with_len}
 use Rattle.std.proofs.lemmas.List.{get_or-map, length-map}
 use Rattle.std.proofs.lemmas.List.FromFn.{length-range_with_len}
 use Rattle.std.proofs.lemmas.List.Sorted.{IsPermutation-refl}
@@ -15,16 +14,14 @@ use Rattle.bidi_base.proofs.VisualOrderLemmas.{visual_order-unique}
 use Rattle.bidi_lines.proofs.Pieces.{at_places-map}
 use Rattle.bidi_base.proofs.StoredLemmas.{at_places-append}
 use Rattle.bidi_lines.proofs.RunsLemmas.{level_runs-each}
-use Rattle.bidi_lines.proofs.VisualRuns.{run_at, all-runs, visual_runs-are}
+use Rattle.bidi_lines.proofs.VisualRuns.{all-runs, visual_runs-are}
 
 -- each begins within the line
 pub runs_within : (start : ℕ) (levels : List ℕ) (ranges : List (Range ℕ)) → map run_of ranges ≡ level_runs start levels
     → All (λ r. (start ≤ r.start) × (r.start < start + length levels)) ranges
 runs_within start levels ranges e k d fits =
     let long : length (level_runs start levels) ≡ length ranges = sym (ap length e) ∙ length-map ranges run_of in
-    let here : IsLevelRun start levels (run_at (level_runs start levels) k) = level_runs-each start levels k (0, 0) (omega arith) in
-    let same : run_at (level_runs start levels) k ≡ run_of (get_or ranges k d) = sym (ap (λ l. run_at l k) e) ∙ get_or-map run_of ranges k d (0, 0) fits in
-    let there : IsLevelRun start levels (run_of (get_or ranges k d)) = subst (IsLevelRun start levels) same here in
+    let there : IsLevelRun start levels (run_of (get_or ranges k d)) = simp (← get_or-map run_of ranges k d (0, 0) fits, e) (level_runs-each start levels k (0, 0) (omega arith)) in
     (there.starts_within, omega (arith, there.not_empty, there.ends_within))
 
 -- one more place
@@ -41,10 +38,7 @@ visual_runs-still start levels even = search (rules, visual_order-still, none_od
 -- and so does one run
 pub visual_runs-one : (start : ℕ) (levels : List ℕ) → length (level_runs start levels) ≤ 1 → level_runs start levels ≡ visual_runs start levels
 unfolding visual_runs
-visual_runs-one start levels few = sym (
-    ap (at_places (0, 0) (level_runs start levels)) (sym (visual_order-unique of_runs (indexes of_runs) upwards) ∙ ap (range_with_len 0) long)
-    ∙ at_places-map (0, 0) (level_runs start levels) (range_with_len 0 (length (level_runs start levels)))
-    ∙ all-runs (level_runs start levels))
+visual_runs-one start levels few = simp (← visual_order-unique of_runs (indexes of_runs) upwards, long, at_places-map (0, 0) (level_runs start levels), all-runs (level_runs start levels))
   where
     of_runs : List ℕ
     of_runs = map (run_level start levels) (level_runs start levels)

@@ -13,11 +13,9 @@ pub counted_lanes : (q : ℕ → Bool) (xs v : List ℕ) (at bits r : ℕ) → a
     → (r ≤ 16) × ((p : ℕ) → at ≤ p → p < at + r → q (slice_index xs p) ≡ false) × (r < 16 → q (slice_index xs (at + r)) ≡ true)
 counted_lanes q xs v at bits r room lanes mask e = (
   run_in_chunk_le q xs at 16 r 0 room counted,
-  (λ p a b. run_in_chunk_fails q xs at 16 r 0 room counted p a b),
-  (λ a. run_in_chunk_stops q xs at 16 r 0 room counted a),
+  run_in_chunk_fails q xs at 16 r 0 room counted,
+  run_in_chunk_stops q xs at 16 r 0 room counted,
 )
   where
     counted : r ≡ prefix_len (λ x. not (q x)) (chunk at 16 xs)
-    counted =
-        e ∙ ap (λ b. cond (eqb b 0) 16 (count_trailing_zeros 64 b)) mask ∙ first_set_mask_l q v 16 (lanes_long v xs at lanes room) (omega arith)
-        ∙ ap (prefix_len (λ x. not (q x))) lanes
+    counted = simp (e, mask, ← lanes, first_set_mask_l q v 16 (lanes_long v xs at lanes room) (omega arith))

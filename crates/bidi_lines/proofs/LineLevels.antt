@@ -1,7 +1,8 @@
 -- L1 along a line: the level that each place takes, and what a pass over the line keeps true.
-use Rattle.std.proofs.Common.{◌≡◌, ℕ, zero, suc, ◌+◌, ◌-◌, ◌<◌, ◌≤◌, if◌then◌else◌, ◌&&◌, ◌||◌, Bool, true, false, not, nat_lt, List, [], ◌∷◌, length, get_or, drop, set, All, refl, sym, ap, subst, ◌∙◌, arith, inl, inr, drop-cons, get_or-set_other, get_or-set_same, length-set, ◌≢◌}
-use Rattle.std.proofs.lemmas.Grind.{common_steps}
-use Rattle.std.proofs.lemmas.Bool.{cases_lt, cond-true, cond-false}
+use Rattle.std.proofs.Common.{◌≡◌, ℕ, zero, suc, ◌+◌, ◌-◌, ◌<◌, ◌≤◌, if◌then◌else◌, ◌&&◌, ◌||◌, Bool, true, false, not, nat_lt, List, [], ◌∷◌, length, get_or, drop, set, refl, sym, ap, ◌∙◌, arith, inl, inr, drop-cons, get_or-set_other, get_or-set_same, length-set, ◌≢◌}
+use Rattle.std.proofs.Math.Nat.{add-zero}
+use Rattle.std.proofs.lemmas.Grind.{common_steps, same_number_lists}
+use Rattle.std.proofs.lemmas.Bool.{cases_lt}
 use Rattle.std.proofs.lemmas.List.{get_or_default}
 use Rattle.std.proofs.lemmas.List.Folds.{list_any_at, list_any_none}
 use Rattle.bidi_base.specs.declared.char_data.BidiClass.{BidiClass}
@@ -22,30 +23,22 @@ is_removed-not_blank c e = grind arith
 -- ---- what is reset
 
 module _ (classes : List BidiClass) where
-  first : (i : ℕ) → i < length classes → is_reset (drop i classes) ≡ is_reset (class_at classes i ∷ drop (suc i) classes)
-  first i fits = ap is_reset (drop-cons classes i L fits)
-
   pub is_reset-at_blank : (i : ℕ) → i < length classes → is_blank (class_at classes i) ≡ true → is_reset (drop i classes) ≡ is_reset (drop (suc i) classes)
-  is_reset-at_blank i fits e = grind (arith, first)
+  is_reset-at_blank i fits e = grind (arith, drop-cons classes i L)
 
   pub is_reset-at_separator : (i : ℕ) → i < length classes → is_separator (class_at classes i) ≡ true → is_reset (drop i classes) ≡ true
-  is_reset-at_separator i fits e = grind (arith, first)
+  is_reset-at_separator i fits e = grind (arith, drop-cons classes i L)
 
   pub is_reset-at_other : (i : ℕ) → i < length classes → is_separator (class_at classes i) ≡ false → is_blank (class_at classes i) ≡ false → is_reset (drop i classes) ≡ false
-  is_reset-at_other i fits p q = grind (arith, first)
+  is_reset-at_other i fits p q = grind (arith, drop-cons classes i L)
 
   -- blanks up to i are reset if what follows them is
   pub is_reset-blanks : (n k : ℕ) → k + n ≤ length classes → ((j : ℕ) → k ≤ j → j < k + n → is_blank (class_at classes j) ≡ true) → is_reset (drop k classes) ≡ is_reset (drop (k + n) classes)
-  is_reset-blanks zero k fits blank = ap (λ j. is_reset (drop j classes)) (let e : k ≡ k + zero = omega arith in e)
-  is_reset-blanks (suc n) k fits blank =
-      is_reset-at_blank k (omega arith) (blank k (omega arith) (omega arith))
-      ∙ is_reset-blanks n (suc k) (omega arith) (λ j from below. blank j (omega arith) (omega arith))
-      ∙ ap (λ j. is_reset (drop j classes)) (let e : suc k + n ≡ k + suc n = omega arith in e)
+  is_reset-blanks zero k fits blank = simp (add-zero)
+  is_reset-blanks (suc n) k fits blank = grind (arith, is_reset-at_blank k, is_reset-blanks n (suc k))
 
   pub is_reset-to : (k i : ℕ) → (k ≤ i) × (i ≤ length classes) → ((j : ℕ) → k ≤ j → j < i → is_blank (class_at classes j) ≡ true) → is_reset (drop k classes) ≡ is_reset (drop i classes)
-  is_reset-to k i within blank =
-      let n : k + (i - k) ≡ i = omega arith in
-      is_reset-blanks (i - k) k (omega arith) (λ j low high. blank j low (omega arith)) ∙ ap (λ j. is_reset (drop j classes)) n
+  is_reset-to k i within blank = grind (arith, is_reset-blanks (i - k) k)
 
 -- the line's end counts as reset
 is_reset-end : (xs : List BidiClass) → is_reset (drop (length xs) xs) ≡ true
@@ -73,55 +66,39 @@ kept_level before classes old new i = if is_removed (class_at classes i) then le
 abbrev pub HasLineLevel : ℕ → ℕ → List BidiClass → List ℕ → List ℕ → ℕ → Type 0
 HasLineLevel level before classes old new i = get_or new i 0 ≡ (if is_reset (drop i classes) then level else kept_level before classes old new i)
 
--- a list with these levels everywhere is the line's
-line_levels_after-is : (level before : ℕ) (classes : List BidiClass) (old new : List ℕ) → length old ≡ length classes → length new ≡ length classes
-    → ((i : ℕ) → i < length classes → HasLineLevel level before classes old new i) → new ≡ line_levels_after level before classes old
-unfolding line_levels_after
-line_levels_after-is level before [] old [] e f h = refl
-line_levels_after-is level before [] old (n ∷ new) e f h = absurd (omega arith)
-line_levels_after-is level before (c ∷ classes) [] new e f h = absurd (omega arith)
-line_levels_after-is level before (c ∷ classes) (o ∷ old) [] e f h = absurd (omega arith)
-line_levels_after-is level before (c ∷ classes) (o ∷ old) (n ∷ new) e f h =
-    let here : n ≡ (if is_reset (c ∷ classes) then level else if is_removed c then before else o) = h zero (omega arith) in
-    ap (λ (l : List ℕ). n ∷ l) (line_levels_after-is level n classes old new (omega arith) (omega arith) (later n h))
-    ∙ ap (λ (x : ℕ). x ∷ line_levels_after level x classes old) here
-  where
-    later : (n : ℕ) → ((i : ℕ) → i < suc (length classes) → HasLineLevel level before (c ∷ classes) (o ∷ old) (n ∷ new) i) → (i : ℕ) → i < length classes → HasLineLevel level n classes old new i
-    later n h zero fits = h (suc zero) (omega arith)
-    later n h (suc i) fits = h (suc (suc i)) (omega arith)
-
-pub line_levels-is : (level : ℕ) (classes : List BidiClass) (old new : List ℕ) → length old ≡ length classes → length new ≡ length classes
-    → ((i : ℕ) → i < length classes → HasLineLevel level level classes old new i) → new ≡ line_levels level classes old
-unfolding line_levels
-line_levels-is level classes old new e f h = line_levels_after-is level level classes old new e f h
-
 pub length-line_levels_after : (level before : ℕ) (classes : List BidiClass) (levels : List ℕ) → length levels ≡ length classes → length (line_levels_after level before classes levels) ≡ length classes
 unfolding line_levels_after
 length-line_levels_after level before [] levels e = refl
 length-line_levels_after level before (c ∷ classes) [] e = absurd (omega arith)
-length-line_levels_after level before (c ∷ classes) (o ∷ levels) e =
-    ap suc (length-line_levels_after level (if is_reset (c ∷ classes) then level else if is_removed c then before else o) classes levels (omega arith))
+length-line_levels_after level before (c ∷ classes) (o ∷ levels) e = ap suc (length-line_levels_after level _ classes levels (omega arith))
 
 pub length-line_levels : (level : ℕ) (classes : List BidiClass) (levels : List ℕ) → length levels ≡ length classes → length (line_levels level classes levels) ≡ length classes
 unfolding line_levels
 length-line_levels level classes levels e = length-line_levels_after level level classes levels e
 
--- and the line's list has them
+-- the line's list has these levels
 line_levels_after-at : (level before : ℕ) (classes : List BidiClass) (levels : List ℕ) (i : ℕ) → i < length classes → length levels ≡ length classes
     → HasLineLevel level before classes levels (line_levels_after level before classes levels) i
 unfolding line_levels_after
 line_levels_after-at level before [] levels i fits e = absurd (omega arith)
 line_levels_after-at level before (c ∷ classes) [] i fits e = absurd (omega arith)
 line_levels_after-at level before (c ∷ classes) (o ∷ levels) zero fits e = refl
-line_levels_after-at level before (c ∷ classes) (o ∷ levels) (suc zero) fits e =
-    line_levels_after-at level (if is_reset (c ∷ classes) then level else if is_removed c then before else o) classes levels zero (omega arith) (omega arith)
-line_levels_after-at level before (c ∷ classes) (o ∷ levels) (suc (suc i)) fits e =
-    line_levels_after-at level (if is_reset (c ∷ classes) then level else if is_removed c then before else o) classes levels (suc i) (omega arith) (omega arith)
+line_levels_after-at level before (c ∷ classes) (o ∷ levels) (suc zero) fits e = line_levels_after-at level _ classes levels zero (omega arith) (omega arith)
+line_levels_after-at level before (c ∷ classes) (o ∷ levels) (suc (suc i)) fits e = line_levels_after-at level _ classes levels (suc i) (omega arith) (omega arith)
 
 pub line_levels-at : (level : ℕ) (classes : List BidiClass) (levels : List ℕ) (i : ℕ) → i < length classes → length levels ≡ length classes
     → HasLineLevel level level classes levels (line_levels level classes levels) i
 unfolding line_levels
 line_levels-at level classes levels i fits e = line_levels_after-at level level classes levels i fits e
+
+-- a list with these levels everywhere is the line's
+pub line_levels-is : (level : ℕ) (classes : List BidiClass) (old new : List ℕ) → length old ≡ length classes → length new ≡ length classes
+    → ((i : ℕ) → i < length classes → HasLineLevel level level classes old new i) → new ≡ line_levels level classes old
+line_levels-is level classes old new e f h = same_number_lists new (line_levels level classes old) (f ∙ sym (length-line_levels level classes old e)) (λ k fits. same_at k (omega arith))
+  where
+    same_at : (i : ℕ) → i < length classes → get_or new i 0 ≡ get_or (line_levels level classes old) i 0
+    same_at zero fits = simp (h zero fits, line_levels-at level classes old zero fits e)
+    same_at (suc i) fits = simp (h (suc i) fits, line_levels-at level classes old (suc i) fits e, same_at i (omega arith))
 
 -- ---- a pass over the line
 
@@ -159,40 +136,21 @@ module _ (level : ℕ) (classes : List BidiClass) (old new : List ℕ) (blank_st
     done = λ k below. done_stays level classes old new (set new i before) k (λ j under. sym (other j (omega (arith, h.ordered)))) (h.done k below);
     blank = up_to (λ n. is_blank (class_at classes n) ≡ true) blank_start i h.blank (is_blank-removed (class_at classes i) removed);
     pending = up_to (λ n. get_or (set new i before) n 0 ≡ kept_level level classes old (set new i before) n) blank_start i
-        (λ k from below. other k below ∙ h.pending k from below ∙ stays level classes old new (set new i before) k (λ j under. sym (other j (omega arith)))) at_i;
-    rest = λ k from. later k from ∙ h.rest k (omega arith);
+        (λ k from below. other k (omega arith) ∙ h.pending k from below ∙ stays level classes old new (set new i before) k (λ j under. sym (other j (omega arith))))
+        (simp removed (written ∙ h.last ∙ level_before-same level new (set new i before) i (λ k below. sym (other k (omega arith)))));
+    rest = λ k from. other k (omega arith) ∙ h.rest k (omega arith);
     last = sym (level_before-more level (set new i before) i ∙ written);
   }
     where
-      inside : i < length new
-      inside = omega (arith, h.long)
-
       written : get_or (set new i before) i 0 ≡ before
-      written = let fits : i < length new = inside in rw get_or-set_same refl
+      written = get_or-set_same new i before 0 (omega (arith, h.long))
 
-      other : (k : ℕ) → k < i → get_or (set new i before) k 0 ≡ get_or new k 0
-      other k below = let ne : k ≢ i = omega arith in rw get_or-set_other refl
-
-      later : (k : ℕ) → i + 1 ≤ k → get_or (set new i before) k 0 ≡ get_or new k 0
-      later k from = let ne : k ≢ i = omega arith in rw get_or-set_other refl
-
-      at_i : get_or (set new i before) i 0 ≡ kept_level level classes old (set new i before) i
-      at_i =
-          written ∙ h.last ∙ level_before-same level new (set new i before) i (λ k below. sym (other k below))
-          ∙ sym (cond-true (is_removed (class_at classes i)) (level_before level (set new i before) i) (get_or old i 0) removed)
+      other : (k : ℕ) → k ≢ i → get_or (set new i before) k 0 ≡ get_or new k 0
+      other k ne = get_or-set_other new i k before 0 ne
 
   -- another blank keeps its level for now
   pub IsResetTo-blank : i < length old → own ≡ get_or new i 0 → is_removed (class_at classes i) ≡ false → is_blank (class_at classes i) ≡ true → IsResetTo level classes old new blank_start before i → IsResetTo level classes old new blank_start own (i + 1)
-  IsResetTo-blank fits read kept here h = record {
-    ordered = omega (arith, h.ordered);
-    long = h.long;
-    done = h.done;
-    blank = up_to (λ n. is_blank (class_at classes n) ≡ true) blank_start i h.blank here;
-    pending = up_to (λ n. get_or new n 0 ≡ kept_level level classes old new n) blank_start i h.pending
-        (h.rest i (omega arith) ∙ sym (cond-false (is_removed (class_at classes i)) (level_before level new i) (get_or old i 0) kept));
-    rest = λ k from. h.rest k (omega arith);
-    last = read ∙ sym (level_before-more level new i);
-  }
+  IsResetTo-blank fits read kept here h = grind (arith, up_to (λ n. is_blank (class_at classes n) ≡ true) blank_start i, up_to (λ n. get_or new n 0 ≡ kept_level level classes old new n) blank_start i, level_before-more level new i)
 
   -- any other character keeps its level, and so do the blanks before it
   pub IsResetTo-other : i < length classes → own ≡ get_or new i 0 → is_separator (class_at classes i) ≡ false → is_blank (class_at classes i) ≡ false → IsResetTo level classes old new blank_start before i → IsResetTo level classes old new (i + 1) own (i + 1)
@@ -201,14 +159,9 @@ module _ (level : ℕ) (classes : List BidiClass) (old new : List ℕ) (blank_st
     long = h.long;
     done = λ k below. elim (cases_lt k blank_start) [
       | inl earlier ↦ h.done k earlier
-      | inr from ↦ up_to (HasLineLevel level level classes old new) blank_start i
-          (λ k from below.
-          let stays : is_reset (drop k classes) ≡ false = is_reset-to classes k i (omega arith, omega arith) (λ j low high. h.blank j (omega arith) high) ∙ is_reset-at_other classes i fits apart other in
-          h.pending k from below ∙ sym (cond-false (is_reset (drop k classes)) level (kept_level level classes old new k) stays))
-          (h.rest i (omega arith)
-          ∙ sym (cond-false (is_removed (class_at classes i)) (level_before level new i) (get_or old i 0) (is_removed-not_blank (class_at classes i) other))
-          ∙ sym (cond-false (is_reset (drop i classes)) level (kept_level level classes old new i) (is_reset-at_other classes i fits apart other)))
-          k from below
+      | inr from ↦
+          let ahead = is_reset-to classes k i (omega arith, omega arith) (λ j low high. h.blank j (omega arith) high) ∙ is_reset-at_other classes i fits apart other in
+          grind (arith, ahead, h.pending, h.rest, is_removed-not_blank)
     ];
     blank = λ k from below. absurd (omega arith);
     pending = λ k from below. absurd (omega arith);
@@ -234,22 +187,18 @@ module _ (level : ℕ) (classes : List BidiClass) (old new next : List ℕ) (bla
   IsResetTo-separator fits apart f h = record {
     ordered = omega arith;
     long = f.long ∙ h.long;
-    done = all_done (i + 1) (omega arith) reset f h;
+    done = all_done (i + 1) (omega arith) (λ k from below. is_reset-to classes k i (omega arith, omega arith) (λ j low high. h.blank j (omega arith) high) ∙ is_reset-at_separator classes i fits apart) f h;
     blank = λ k from below. absurd (omega arith);
     pending = λ k from below. absurd (omega arith);
     rest = λ k from. f.after k from ∙ h.rest k (omega arith);
     last = sym (level_before-more level next i ∙ f.inside i h.ordered (omega arith));
   }
-    where
-      reset : (k : ℕ) → blank_start ≤ k → k < i + 1 → is_reset (drop k classes) ≡ true
-      reset k from below = is_reset-to classes k i (omega arith, omega arith) (λ j low high. h.blank j (omega arith) high) ∙ is_reset-at_separator classes i fits apart
 
   -- at the line's end the blanks are reset
   pub IsResetTo-end : i ≡ length classes → length old ≡ length classes → IsFilled new next blank_start (length classes) level → IsResetTo level classes old new blank_start before i → next ≡ line_levels level classes old
-  IsResetTo-end e same f h = line_levels-is level classes old next same (f.long ∙ h.long ∙ same) (all_done (length classes) (omega arith) reset f h)
-    where
-      reset : (k : ℕ) → blank_start ≤ k → k < length classes → is_reset (drop k classes) ≡ true
-      reset k from below = is_reset-to classes k (length classes) (omega arith, omega arith) (λ j low high. h.blank j (omega arith) (omega arith)) ∙ is_reset-end classes
+  IsResetTo-end e same f h =
+      line_levels-is level classes old next same (f.long ∙ h.long ∙ same) (all_done (length classes) (omega arith)
+      (λ k from below. is_reset-to classes k (length classes) (omega arith, omega arith) (λ j low high. h.blank j (omega arith) (omega arith)) ∙ is_reset-end classes) f h)
 
 -- ---- whether some level is odd
 
@@ -261,49 +210,19 @@ shows_rtl level classes levels k =
 module _ (level : ℕ) (classes : List BidiClass) (levels : List ℕ) (same : length levels ≡ length classes) where
   -- one such character settles it
   pub has_rtl-shown : (k : ℕ) → k < length classes → shows_rtl level classes levels k ≡ true → has_rtl (line_levels level classes levels) ≡ true
-  has_rtl-shown k fits e =
-      list_any_at is_odd (line_levels level classes levels) k 0 (omega (arith, length-line_levels level classes levels same))
-      (ap is_odd (line_levels-at level classes levels k fits same)
-      ∙ odd_of (is_reset (drop k classes)) (is_removed (class_at classes k)) (level_before level (line_levels level classes levels) k) (get_or levels k 0) e)
-    where
-      odd_of : (reset removed : Bool) (before own : ℕ) → (if reset then is_odd level else (not removed && is_odd own)) ≡ true → is_odd (if reset then level else if removed then before else own) ≡ true
-      odd_of true removed before own e = e
-      odd_of false true before own e = absurd (cc e)
-      odd_of false false before own e = e
+  has_rtl-shown k fits e = grind (arith, list_any_at is_odd (line_levels level classes levels) k 0, length-line_levels, line_levels-at level classes levels k)
 
   -- and so does a removed one at the line's start
   pub has_rtl-first : 0 < length classes → is_removed (class_at classes 0) ≡ true → is_odd level ≡ true → has_rtl (line_levels level classes levels) ≡ true
-  has_rtl-first some removed odd =
-      list_any_at is_odd (line_levels level classes levels) 0 0 (omega (arith, length-line_levels level classes levels same))
-      (ap is_odd (line_levels-at level classes levels 0 some same) ∙ odd_of (is_reset (drop 0 classes)) (is_removed (class_at classes 0)) removed)
-    where
-      odd_of : (reset removed : Bool) → removed ≡ true → is_odd (if reset then level else if removed then level else get_or levels 0 0) ≡ true
-      odd_of true removed e = odd
-      odd_of false true e = odd
-      odd_of false false e = absurd (cc e)
+  has_rtl-first some removed odd = grind (arith, list_any_at is_odd (line_levels level classes levels) 0 0, length-line_levels, line_levels-at level classes levels 0)
 
   -- where there is none, no level is odd
   pub has_rtl-none : ((k : ℕ) → k < length classes → shows_rtl level classes levels k ≡ false) → (0 < length classes → is_removed (class_at classes 0) ≡ true → is_odd level ≡ false) → has_rtl (line_levels level classes levels) ≡ false
-  has_rtl-none none start = list_any_none is_odd (line_levels level classes levels) each
+  has_rtl-none none start = list_any_none is_odd (line_levels level classes levels) (λ k d fits. simp (get_or_default (line_levels level classes levels) k d 0 fits, even_at k (omega (arith, length-line_levels level classes levels same))))
     where
-      long : length (line_levels level classes levels) ≡ length classes
-      long = length-line_levels level classes levels same
-
-      even_of : (reset removed : Bool) (before own : ℕ) → (if reset then is_odd level else (not removed && is_odd own)) ≡ false → (removed ≡ true → is_odd before ≡ false) → is_odd (if reset then level else if removed then before else own) ≡ false
-      even_of true removed before own e h = e
-      even_of false true before own e h = h refl
-      even_of false false before own e h = e
-
       even_at : (k : ℕ) → k < length classes → is_odd (get_or (line_levels level classes levels) k 0) ≡ false
-      even_at zero fits =
-          ap is_odd (line_levels-at level classes levels zero fits same)
-          ∙ even_of (is_reset (drop zero classes)) (is_removed (class_at classes zero)) level (get_or levels zero 0) (none zero fits) (start fits)
-      even_at (suc k) fits =
-          ap is_odd (line_levels-at level classes levels (suc k) fits same)
-          ∙ even_of (is_reset (drop (suc k) classes)) (is_removed (class_at classes (suc k))) (get_or (line_levels level classes levels) k 0) (get_or levels (suc k) 0) (none (suc k) fits) (λ _. even_at k (omega arith))
-
-      each : All (λ x. is_odd x ≡ false) (line_levels level classes levels)
-      each k d fits = subst (λ (x : ℕ). is_odd x ≡ false) (get_or_default (line_levels level classes levels) k 0 d fits) (even_at k (omega (arith, long)))
+      even_at zero fits = simp (line_levels-at level classes levels zero fits same) (grind (arith, none zero fits, start fits))
+      even_at (suc k) fits = simp (line_levels-at level classes levels (suc k) fits same) (grind (arith, none (suc k) fits, even_at k (omega arith)))
 
   -- where neither the level handed in is odd nor a stored one
   pub has_rtl-even : is_odd level ≡ false → has_rtl levels ≡ false → has_rtl (line_levels level classes levels) ≡ false
@@ -333,10 +252,8 @@ module _ (level : ℕ) (classes : List BidiClass) (levels : List ℕ) where
   read-at at next reset shows own fits e f g h = grind (arith, common_steps)
 
   pub IsQuietFrom-more : (at : ℕ) (next reset : Bool) → at < length classes → reset ≡ is_reset (drop at classes) → shows_rtl level classes levels at ≡ false → IsQuietFrom level classes levels next (at + 1) → IsQuietFrom level classes levels reset at
-  IsQuietFrom-more at next reset fits e here h = record { within = omega arith; reset_next = e; none = each }
-    where
-      each : (k : ℕ) → at ≤ k → k < length classes → shows_rtl level classes levels k ≡ false
-      each k from below = elim (cases_lt at k) [
-        | inl past ↦ h.none k (omega arith) below
-        | inr same ↦ subst (λ (n : ℕ). shows_rtl level classes levels n ≡ false) (let e : at ≡ k = omega arith in e) here
-      ]
+  IsQuietFrom-more at next reset fits e here h = record {
+    within = omega arith;
+    reset_next = e;
+    none = λ k from below. elim (cases_lt at k) [ inl past ↦ h.none k (omega arith) below | inr same ↦ let e : k ≡ at = omega arith in simp (e, here) ];
+  }

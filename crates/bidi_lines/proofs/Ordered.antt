@@ -8,10 +8,10 @@ use Rattle.std.proofs.lemmas.List.Sorted.{IsPermutation-refl, length_permutation
 use Rattle.std.proofs.lemmas.List.Folds.{list_any_at}
 use Rattle.bidi_base.specs.Levels.{has_rtl}
 use Rattle.bidi_base.specs.Places.{indexes}
-use Rattle.bidi_base.specs.Order.{least_between, stands_left, visual_order, IsVisualOrder, order_by_reversals}
+use Rattle.bidi_base.specs.Order.{stands_left, visual_order, IsVisualOrder, order_by_reversals}
 use Rattle.bidi_base.proofs.OrderLemmas.{stands_left-before, stands_left-after}
 use Rattle.bidi_base.proofs.VisualOrderLemmas.{visual_order-unique}
-use Rattle.bidi_lines.specs.Arranged.{IsEven, IsOdd, StandsLeft, IsArranged, NoneIsOdd}
+use Rattle.bidi_lines.specs.Arranged.{IsEven, StandsLeft, IsArranged, NoneIsOdd}
 use Rattle.bidi_lines.proofs.Distinct.{distinct}
 use Rattle.bidi_lines.proofs.Least.{least_between-has}
 use Rattle.bidi_lines.proofs.Reversed.{order_by_reversals-pairs, order_by_reversals-permutation}
@@ -25,12 +25,8 @@ visual-from_pairs levels order perm pairs = record { all_indexes = perm; in_orde
         elim (cases_order (get_or order p d) (get_or order q d)) [
           | inl same ↦ absurd (distinct (length levels) order perm p q d before fits same)
           | inr apart ↦ elim apart [
-            | inl up ↦
-                let even : IsEven (least_between levels (get_or order p d) (get_or order q d)) = omega (arith, s.up up) in
-                stands_left-before levels _ _ up ∙ eq-eqb _ 0 even
-            | inr down ↦
-                let odd : IsOdd (least_between levels (get_or order q d) (get_or order p d)) = omega (arith, s.down down) in
-                stands_left-after levels _ _ down ∙ eq-eqb _ 1 odd
+            | inl up ↦ simp (stands_left-before levels _ _ up) (eq-eqb _ 0 (omega (arith, s.up up)))
+            | inr down ↦ simp (stands_left-after levels _ _ down) (eq-eqb _ 1 (omega (arith, s.down down)))
           ]
         ]
 
@@ -61,10 +57,8 @@ none_odd levels e k h = grind (arith, list_any_at)
 pub visual-still : (levels : List ℕ) → NoneIsOdd levels → IsVisualOrder levels (indexes levels)
 visual-still levels even = visual-from_pairs levels (indexes levels) (IsPermutation-refl (indexes levels)) (λ p q d before fits.
     let n : q < length levels = omega (arith, fits, length-range_with_len 0 (length levels)) in
-    let x : get_or (indexes levels) p d ≡ 0 + p = get_or-range_with_len 0 (length levels) p d (omega arith) in
-    let y : get_or (indexes levels) q d ≡ 0 + q = get_or-range_with_len 0 (length levels) q d n in
-    rw (x, y) (record {
-      up = λ _. let r = least_between-has IsEven levels (0 + p) (0 + q) (omega arith) (omega arith) (λ k a b. even k (omega arith)) in omega arith;
+    simp (get_or-range_with_len 0 (length levels) p d (omega arith), get_or-range_with_len 0 (length levels) q d n) (record {
+      up = λ _. omega (arith, least_between-has IsEven levels (0 + p) (0 + q) (omega arith) (omega arith) (λ k a b. even k (omega arith)));
       down = λ a. absurd (omega arith);
     }))
 

@@ -1,9 +1,10 @@
 -- Lists made of pieces: what holds of each pair in them, and their permutations.
-use Rattle.std.proofs.Common.{◌≡◌, ℕ, zero, suc, ◌+◌, ◌-◌, ◌<◌, ◌≤◌, List, [], ◌∷◌, ◌++◌, map, flat_map, reverse, length, get_or, swap, set, AllPairs, All, refl, ap, arith, append_assoc}
+use Rattle.std.proofs.Common.{◌≡◌, ℕ, zero, suc, ◌+◌, ◌-◌, ◌<◌, ◌≤◌, List, [], ◌∷◌, ◌++◌, map, flat_map, reverse, length, get_or, swap, set, AllPairs, All, refl, arith, append_assoc}
+use Rattle.std.proofs.Math.Nat.{zero-add, suc-add}
 use Rattle.std.specs.List.{range_with_len}
 use Rattle.std.specs.List.Sorted.{IsPermutation}
 use Rattle.std.proofs.lemmas.List.{get_or-reverse, length-reverse}
-use Rattle.std.proofs.lemmas.List.Elements.{All-append, All-head, All-tail}
+use Rattle.std.proofs.lemmas.List.Elements.{All-append, All-head, All-tail, All-map}
 use Rattle.std.proofs.lemmas.List.Kept.{AllPairs-cons}
 use Rattle.std.proofs.lemmas.List.FromFn.{length-range_with_len, get_or-range_with_len}
 use Rattle.std.proofs.lemmas.List.Sorted.{IsPermutation-refl, IsPermutation-sym, IsPermutation-keeps, IsPermutation-trans, IsPermutation-append, IsPermutation-append_left, IsPermutation-append_right, IsPermutation-append_comm}
@@ -24,14 +25,9 @@ module _ {X : Type 0} (R : X → X → Type 0) where
 
   pub AllPairs-map : {Y : Type 0} (f : Y → X) (ys : List Y) → AllPairs (λ a b. R (f a) (f b)) ys → AllPairs R (map f ys)
   AllPairs-map f [] h = λ i j d before fits. absurd (omega arith)
-  AllPairs-map {Y} f (y ∷ ys) h =
-      AllPairs-cons R (f y) (map f ys) (each ys (λ k d fits. h zero (suc k) d (omega arith) (omega arith)))
+  AllPairs-map f (y ∷ ys) h =
+      AllPairs-cons R (f y) (map f ys) (All-map (R (f y)) f ys (λ k d fits. h zero (suc k) d (omega arith) (omega arith)))
       (AllPairs-map f ys (λ i j d before fits. h (suc i) (suc j) d (omega arith) (omega arith)))
-    where
-      each : (zs : List Y) → All (λ z. R (f y) (f z)) zs → All (R (f y)) (map f zs)
-      each [] a k d fits = absurd (omega arith)
-      each (z ∷ zs) a zero d fits = a zero z (omega arith)
-      each (z ∷ zs) a (suc k) d fits = each zs (λ m e b. a (suc m) e (omega arith)) k d (omega arith)
 
   pub AllPairs-reverse : (xs : List X) → AllPairs (λ a b. R b a) xs → AllPairs R (reverse xs)
   AllPairs-reverse xs h i j d before fits = grind (arith, length-reverse, get_or-reverse)
@@ -47,10 +43,7 @@ AllPairs-flat_map R f [] each across = λ i j d before fits. absurd (omega arith
 AllPairs-flat_map {A} {X} R f (a ∷ parts) each across =
     AllPairs-append R (f a) (flat_map f parts) (All-head (λ a. AllPairs R (f a)) a parts each)
     (AllPairs-flat_map R f parts (All-tail (λ a. AllPairs R (f a)) a parts each) (AllPairs-tail (λ a b. All (λ x. All (R x) (f b)) (f a)) a parts across))
-    first
-  where
-    first : All (λ x. All (R x) (flat_map f parts)) (f a)
-    first k d fits = All-flat_map (R (get_or (f a) k d)) f parts (λ j e inside. across zero (suc j) e (omega arith) (omega arith) k d fits)
+    (λ k d fits. All-flat_map (R (get_or (f a) k d)) f parts (λ j e inside. across zero (suc j) e (omega arith) (omega arith) k d fits))
 
 -- the numbers from a up to b
 pub length-between : (a b : ℕ) → length (between a b) ≡ b - a
@@ -66,13 +59,8 @@ pub AllPairs-between : (R : ℕ → ℕ → Type 0) (a b : ℕ) → ((u w : ℕ)
 AllPairs-between R a b h i j d before fits = grind (arith, length-between, get_or-between)
 
 range-append : (a m n b : ℕ) → a + m ≡ b → range_with_len a m ++ range_with_len b n ≡ range_with_len a (m + n)
-range-append a zero n b e =
-    let same : b ≡ a = omega arith in
-    let none : zero + n ≡ n = omega arith in
-    rw (same, none) refl
-range-append a (suc m) n b e =
-    let more : suc m + n ≡ suc (m + n) = omega arith in
-    rw more (ap {B = List ℕ} (λ l. a ∷ l) (range-append (a + 1) m n b (omega arith)))
+range-append a zero n b e = let same : b ≡ a = omega arith in simp (same, zero-add)
+range-append a (suc m) n b e = simp (suc-add m n, range-append (a + 1) m n b (omega arith))
 
 pub between-append : (a b c : ℕ) → a ≤ b → b ≤ c → between a b ++ between b c ≡ between a c
 between-append a b c h k = grind (arith, range-append)
@@ -80,7 +68,7 @@ between-append a b c h k = grind (arith, range-append)
 -- the elements at places
 pub at_places-map : {X : Type 0} (d : X) (xs : List X) (ps : List ℕ) → at_places d xs ps ≡ map (λ p. get_or xs p d) ps
 at_places-map d xs [] = refl
-at_places-map d xs (p ∷ ps) = ap (λ l. get_or xs p d ∷ l) (at_places-map d xs ps)
+at_places-map d xs (p ∷ ps) = simp (at_places-map d xs ps)
 
 -- ---- permutations
 

@@ -1,6 +1,7 @@
 -- What the annex's reversals leave: each pair stands as the levels between its items ask.
-use Rattle.std.proofs.Common.{◌≡◌, ℕ, zero, suc, ◌+◌, ◌-◌, ◌%◌, ◌<◌, ◌≤◌, Bool, true, false, cond, fold, filter, get_or, nat_lt, max, List, [], ◌∷◌, ◌++◌, length, All, AllPairs, Contains, arith, refl, ◌⊎◌, inl, inr, eqb-true, eq-eqb, le_refl, ltb-true, ltb-false, subst, ap, min}
-use Rattle.std.proofs.lemmas.Bool.{cases_lt, cases_Bool, cond-true, cond-false}
+use Rattle.std.proofs.Common.{◌≡◌, ℕ, zero, suc, ◌+◌, ◌-◌, ◌%◌, ◌<◌, ◌≤◌, fold, filter, get_or, nat_lt, max, List, [], ◌∷◌, ◌++◌, length, All, AllPairs, Contains, arith, ◌⊎◌, inl, inr, eqb-true, eq-eqb, le_refl, ltb-true, ltb-false, ap, min}
+use Rattle.std.proofs.Math.Nat.{add-zero, suc-add, add-suc}
+use Rattle.std.proofs.lemmas.Bool.{cases_lt, cases_Bool}
 use Rattle.std.specs.List.Sorted.{IsPermutation}
 use Rattle.std.proofs.lemmas.List.{append-nil}
 use Rattle.std.proofs.lemmas.List.Elements.{All-cons, All-nil, All-tail, filter_passes}
@@ -19,14 +20,10 @@ use Rattle.bidi_lines.proofs.Pieces.{AllPairs-head, AllPairs-tail, AllPairs-appe
 -- a pass moves items, and neither drops nor repeats one
 pass-permutation : (levels : List ℕ) (t : ℕ) (line held : List ℕ) → IsPermutation (held ++ line) (reversed_after levels t held line)
 pass-permutation levels t [] held = rw (append-nil held) (IsPermutation-refl held)
-pass-permutation levels t (x ∷ line) held =
-    go (nat_lt (get_or levels x 0) t) (pass-permutation levels t line (x ∷ held)) (pass-permutation levels t line [])
-  where
-    go : (b : Bool) → IsPermutation ((x ∷ held) ++ line) (reversed_after levels t (x ∷ held) line)
-        → IsPermutation ([] ++ line) (reversed_after levels t [] line)
-        → IsPermutation (held ++ (x ∷ line)) (cond b (held ++ (x ∷ reversed_after levels t [] line)) (reversed_after levels t (x ∷ held) line))
-    go true on past = IsPermutation-append_right held (x ∷ line) (x ∷ reversed_after levels t [] line) (IsPermutation-cons x line (reversed_after levels t [] line) past)
-    go false on past = IsPermutation-trans _ _ _ (IsPermutation-middle held x line) on
+pass-permutation levels t (x ∷ line) held = elim (cases_Bool (nat_lt (get_or levels x 0) t)) [
+  | inl low ↦ simp low (IsPermutation-append_right held (x ∷ line) _ (IsPermutation-cons x line _ (pass-permutation levels t line [])))
+  | inr high ↦ simp high (IsPermutation-trans _ _ _ (IsPermutation-middle held x line) (pass-permutation levels t line (x ∷ held)))
+]
 
 passes-permutation : (levels : List ℕ) (low count : ℕ) (line : List ℕ) → IsPermutation line (reversals levels low count line)
 passes-permutation levels low zero line = IsPermutation-refl line
@@ -36,6 +33,11 @@ passes-permutation levels low (suc count) line =
 pub order_by_reversals-permutation : (levels : List ℕ) → IsPermutation (indexes levels) (order_by_reversals levels)
 unfolding order_by_reversals
 order_by_reversals-permutation levels = grind (arith, passes-permutation)
+
+-- what is to come is the next item, or comes later
+to_come : (i : ℕ) (line : List ℕ) (z : ℕ) → Contains (i ∷ line) z → (i ≡ z) ⊎ Contains line z
+to_come i line z (zero, f, e) = inl e
+to_come i line z (suc m, f, e) = inr (m, omega arith, e)
 
 -- ---- one pass, of the number t + 1
 
@@ -83,32 +85,27 @@ module _ (levels : List ℕ) (t : ℕ) where
       below = All-tail (λ x. x < length levels) i line h.below;
       low = λ z a b. elim (h.low z a b) [
         | inl s ↦ inl (All-cons (λ x. z ≤ x) i held (s.1 0 0 (omega arith)) s.0, All-tail (λ x. z ≤ x) i line s.1)
-        | inr c ↦ to_come z b c.0 c.1 c.2
+        | inr c ↦ elim (to_come i line z c) [ inl e ↦ absurd (omega (arith, ap (λ n. get_or levels n 0) e)) | inr later ↦ inr later ]
       ];
     }
       where
-        to_come : (z : ℕ) → get_or levels z 0 ≤ t → (m : ℕ) → m < suc (length line) → get_or (i ∷ line) m z ≡ z → (All (λ x. z ≤ x) (i ∷ held) × All (λ x. z ≤ x) line) ⊎ Contains line z
-        to_come z low zero f e = absurd (omega (arith, ap (λ n. get_or levels n 0) e))
-        to_come z low (suc m) f e = inr (m, omega arith, e)
-
         deep : (k d : ℕ) → k < length held → (z : ℕ) → (i ≤ z × z ≤ get_or held k d) ⊎ (get_or held k d ≤ z × z ≤ i) → t < get_or levels z 0
         deep k d fits z between = elim (cases_lt t (get_or levels z 0)) [
           | inl high ↦ high
           | inr low ↦ absurd (none_between z i (get_or held k d) above (h.high k d fits).1 low between (elim (h.low z short low) [
             | inl s ↦ inl (s.0 k d fits, s.1 0 0 (omega arith))
-            | inr c ↦ inr (later low c.0 c.1 c.2)
+            | inr c ↦ inr (
+              upwards (get_or held k d) z (h.high k d fits).0 short (inr low) (rw c.2 at (h.across k d fits c.0 z c.1)),
+              elim (to_come i line z c) [
+                | inl e ↦ omega (arith, e)
+                | inr l ↦ upwards i z inside short (inr low) (rw l.2 at (AllPairs-head (StandsLeft levels (suc t)) i line h.line_pairs l.0 z l.1))
+              ],
+            )
           ]))
         ]
           where
             short : z < length levels
             short = elim between [ inl p ↦ omega (arith, p.1, (h.high k d fits).0) | inr p ↦ omega (arith, p.1, inside) ]
-
-            later : get_or levels z 0 ≤ t → (m : ℕ) → m < suc (length line) → get_or (i ∷ line) m z ≡ z → (get_or held k d ≤ z) × (i ≤ z)
-            later low zero f e = absurd (omega (arith, ap (λ n. get_or levels n 0) e))
-            later low (suc m) f e = (
-              upwards (get_or held k d) z (h.high k d fits).0 short (inr low) (subst (StandsLeft levels (suc t) (get_or held k d)) e (h.across k d fits (suc m) z f)),
-              upwards i z inside short (inr low) (subst (StandsLeft levels (suc t) i) e (h.line_pairs 0 (suc m) z (omega arith) f)),
-            )
 
     -- and one at t or below ends it
     module _ (at_most : get_or levels i 0 ≤ t) where
@@ -124,13 +121,9 @@ module _ (levels : List ℕ) (t : ℕ) where
         below = All-tail (λ x. x < length levels) i line h.below;
         low = λ z a b. elim (h.low z a b) [
           | inl s ↦ inl (All-nil (λ x. z ≤ x), All-tail (λ x. z ≤ x) i line s.1)
-          | inr c ↦ to_come z c.0 c.1 c.2
+          | inr c ↦ elim (to_come i line z c) [ inl e ↦ inl (All-nil (λ x. z ≤ x), simp (← e) following) | inr later ↦ inr later ]
         ];
       }
-        where
-          to_come : (z : ℕ) → (m : ℕ) → m < suc (length line) → get_or (i ∷ line) m z ≡ z → (All (λ x. z ≤ x) [] × All (λ x. z ≤ x) line) ⊎ Contains line z
-          to_come z zero f e = inl (All-nil (λ x. z ≤ x), subst (λ (n : ℕ). All (λ x. n ≤ x) line) e following)
-          to_come z (suc m) f e = inr (m, omega arith, e)
 
       finish : (rest : List ℕ) → IsPermutation line rest → AllPairs (StandsLeft levels t) rest → AllPairs (StandsLeft levels t) (held ++ (i ∷ rest))
       finish rest perm pairs =
@@ -145,16 +138,12 @@ module _ (levels : List ℕ) (t : ℕ) where
 
   turned : (held line : List ℕ) → IsUnderWay held line → AllPairs (StandsLeft levels t) (reversed_after levels (suc t) held line)
   turned held [] h = h.held_pairs
-  turned held (i ∷ line) h =
-      go (nat_lt (get_or levels i 0) (suc t)) refl (λ low. finish i held line h low _ (pass-permutation levels (suc t) line []) (turned [] line (begin i held line h low)))
-      (λ above. turned (i ∷ held) line (hold i held line h above))
-    where
-      go : (b : Bool) → nat_lt (get_or levels i 0) (suc t) ≡ b
-          → (get_or levels i 0 ≤ t → AllPairs (StandsLeft levels t) (held ++ (i ∷ reversed_after levels (suc t) [] line)))
-          → (t < get_or levels i 0 → AllPairs (StandsLeft levels t) (reversed_after levels (suc t) (i ∷ held) line))
-          → AllPairs (StandsLeft levels t) (cond b (held ++ (i ∷ reversed_after levels (suc t) [] line)) (reversed_after levels (suc t) (i ∷ held) line))
-      go true e ends on = ends (omega (arith, ltb-true _ _ e))
-      go false e ends on = on (omega (arith, ltb-false _ _ e))
+  turned held (i ∷ line) h = elim (cases_Bool (nat_lt (get_or levels i 0) (suc t))) [
+    | inl below ↦
+        let low : get_or levels i 0 ≤ t = omega (arith, ltb-true _ _ below) in
+        simp below (finish i held line h low _ (pass-permutation levels (suc t) line []) (turned [] line (begin i held line h low)))
+    | inr above ↦ simp above (turned (i ∷ held) line (hold i held line h (omega (arith, ltb-false _ _ above))))
+  ]
 
   pass : (line : List ℕ) → IsPermutation (indexes levels) line → AllPairs (StandsLeft levels (suc t)) line → AllPairs (StandsLeft levels t) (reversed_after levels (suc t) [] line)
   pass line perm pairs = turned [] line (record {
@@ -168,15 +157,10 @@ module _ (levels : List ℕ) (t : ℕ) where
 
 -- ---- all passes
 
-passes : (levels : List ℕ) (l count k : ℕ) (line : List ℕ) → k ≡ l + count → IsPermutation (indexes levels) line → AllPairs (StandsLeft levels k) line
-    → AllPairs (StandsLeft levels l) (reversals levels (suc l) count line)
-passes levels l zero k line e perm pairs = let f : k ≡ l = omega arith in rw f at pairs
-passes levels l (suc count) k line e perm pairs =
-    let f : k ≡ suc (l + count) = omega arith in
-    let g : suc l + count ≡ suc (l + count) = omega arith in
-    rw g (passes levels l count (l + count) (reversed_after levels (suc (l + count)) [] line) refl
-    (IsPermutation-trans _ _ _ perm (pass-permutation levels (suc (l + count)) line []))
-    (pass levels (l + count) line perm (rw f at pairs)))
+passes : (levels : List ℕ) (l count : ℕ) (line : List ℕ) → IsPermutation (indexes levels) line → AllPairs (StandsLeft levels (l + count)) line → AllPairs (StandsLeft levels l) (reversals levels (suc l) count line)
+passes levels l zero line perm pairs = rw add-zero at pairs
+passes levels l (suc count) line perm pairs =
+    rw (suc-add l count) (passes levels l count _ (IsPermutation-trans _ _ _ perm (pass-permutation levels (suc (l + count)) line [])) (pass levels (l + count) line perm (rw (add-suc l count) at pairs)))
 
 le_max : (a : ℕ) (xs : List ℕ) → (a ≤ fold max a xs) × All (λ x. x ≤ fold max a xs) xs
 le_max a [] = (omega arith, All-nil (λ x. x ≤ a))
@@ -201,12 +185,9 @@ lowest_is top xs = record {
   where
     found : (top : ℕ) (xs : List ℕ) (k : ℕ) → k < length xs → IsOdd (get_or xs k 0) → least top (filter is_odd xs) ≤ get_or xs k 0
     found top [] k fits odd = absurd (omega arith)
-    found top (x ∷ xs) zero fits odd =
-        rw (cond-true (is_odd x) (x ∷ filter is_odd xs) (filter is_odd xs) (eq-eqb (x % 2) 1 odd)) (omega (arith, (le-least _ (min top x) (filter is_odd xs) (le_refl _)).0))
-    found top (x ∷ xs) (suc k) fits odd = elim (cases_Bool (is_odd x)) [
-      | inl e ↦ rw (cond-true (is_odd x) (x ∷ filter is_odd xs) (filter is_odd xs) e) (found (min top x) xs k (omega arith) odd)
-      | inr e ↦ rw (cond-false (is_odd x) (x ∷ filter is_odd xs) (filter is_odd xs) e) (found top xs k (omega arith) odd)
-    ]
+    found top (x ∷ xs) zero fits odd = simp (eq-eqb (x % 2) 1 odd) (omega (arith, (le-least _ (min top x) (filter is_odd xs) (le_refl _)).0))
+    found top (x ∷ xs) (suc k) fits odd =
+        elim (cases_Bool (is_odd x)) [ inl e ↦ simp e (found (min top x) xs k (omega arith) odd) | inr e ↦ simp e (found top xs k (omega arith) odd) ]
 
 -- after the pass of the lowest odd number l + 1, or before the first pass where none is odd
 ends : (levels : List ℕ) (l : ℕ) (line : List ℕ) → (l < highest levels → IsEven l)
@@ -215,25 +196,17 @@ ends : (levels : List ℕ) (l : ℕ) (line : List ℕ) → (l < highest levels �
 ends levels l line even lowest within pairs p q d before fits =
     let s = pairs p q d before fits in
     record {
-      up = λ a. up _ (top _ _ a (within q d fits)) (s.up a)
-          (least_between-has (λ n. n ≤ l → IsEven n) levels (get_or line p d) (get_or line q d) (omega arith) (within q d fits) (λ k b c. low_even k (omega (arith, within q d fits))));
-      down = λ a. down _ (top _ _ a (within p d (omega arith))) (s.down a);
+      up = λ a.
+          let low = least_between-has (λ n. n ≤ l → IsEven n) levels (get_or line p d) (get_or line q d) (omega arith) (within q d fits) (λ k b c. low_even k (omega (arith, within q d fits))) in
+          grind (arith, even, low, top _ _ a (within q d fits), s.up a);
+      down = λ a. grind (arith, even, top _ _ a (within p d (omega arith)), s.down a);
     }
   where
     low_even : (k : ℕ) → k < length levels → get_or levels k 0 ≤ l → IsEven (get_or levels k 0)
-    low_even k fits low = elim (cases_lt (get_or levels k 0 % 2) 1) [
-      | inl x ↦ omega arith
-      | inr x ↦ absurd (omega (arith, lowest k fits (omega arith)))
-    ]
+    low_even k fits low = grind (arith, lowest)
 
     top : (i j : ℕ) → i < j → j < length levels → least_between levels i j ≤ highest levels
     top i j a b = omega (arith, least_between-at levels i j i (omega arith) (omega arith) b, (le_max 0 levels).1 i 0 (omega arith))
-
-    up : (m : ℕ) → m ≤ highest levels → IsEven (m - l) → (m ≤ l → IsEven m) → IsEven (m - 0)
-    up m h e f = elim (cases_lt l m) [ inl k ↦ let g = even (omega arith) in omega arith | inr k ↦ let g = f k in omega arith ]
-
-    down : (m : ℕ) → m ≤ highest levels → IsOdd (m - l) → IsOdd (m - 0)
-    down m h e = let g = even (omega arith) in omega arith
 
 pub order_by_reversals-pairs : (levels : List ℕ) → AllPairs (StandsLeft levels 0) (order_by_reversals levels)
 unfolding order_by_reversals
@@ -242,6 +215,6 @@ order_by_reversals-pairs levels = from_low (lowest_odd levels) (lowest_is (highe
     from_low : (low : ℕ) → IsLowestOdd (highest levels + 1) levels low → AllPairs (StandsLeft levels 0) (reversals levels low (highest levels + 1 - low) (indexes levels))
     from_low zero h = absurd (omega (arith, h.parity (omega arith)))
     from_low (suc l) h =
-        ends levels l _ (λ a. let g = h.parity (omega arith) in omega arith) (λ p a b. omega (arith, h.lowest p a b))
+        ends levels l _ (λ a. omega (arith, h.parity (omega arith))) (λ p a b. omega (arith, h.lowest p a b))
         (All-permutation (λ x. x < length levels) (indexes levels) _ (passes-permutation levels (suc l) (highest levels + 1 - suc l) (indexes levels)) (all_below levels))
-        (passes levels l (highest levels + 1 - suc l) (highest levels) (indexes levels) (omega (arith, h.at_most)) (IsPermutation-refl (indexes levels)) (start levels))
+        (passes levels l (highest levels + 1 - suc l) (indexes levels) (IsPermutation-refl (indexes levels)) (let e : l + (highest levels + 1 - suc l) ≡ highest levels = omega (arith, h.at_most) in rw e (start levels)))

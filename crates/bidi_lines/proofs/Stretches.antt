@@ -5,7 +5,7 @@ use Rattle.std.proofs.lemmas.Bool.{cases_lt}
 use Rattle.std.proofs.lemmas.List.Sorted.{IsPermutation-trans}
 use Rattle.bidi_base.specs.Order.{least_between}
 use Rattle.bidi_base.proofs.OrderLemmas.{least_between-le}
-use Rattle.bidi_lines.specs.Arranged.{IsEven, IsOdd, StandsLeft, IsArranged, AtLeast}
+use Rattle.bidi_lines.specs.Arranged.{IsEven, IsOdd, IsArranged, AtLeast}
 use Rattle.bidi_lines.proofs.Least.{least_between-is}
 
 -- what is arranged above a higher level that no item is below
@@ -33,10 +33,10 @@ module _ (levels : List ℕ) (base least at end : ℕ) (fits : end ≤ length le
     pairs = λ p q a b c.
         let v : ℕ = at + end - 1 - p in
         let w : ℕ = at + end - 1 - q in
-        let s : StandsLeft levels least (slice_index mid w) (slice_index mid v) = inner.pairs w v (omega arith) (omega arith) (omega arith) in
+        let s = inner.pairs w v (omega arith) (omega arith) (omega arith) in
         rw (mirrored p a (omega arith), mirrored q (omega arith) c) (record {
-          up = λ d. omega (arith, s.down d, deep (slice_index mid v) (slice_index mid w) (inner.low v (omega arith) (omega arith)) d (inner.high w (omega arith) (omega arith)));
-          down = λ d. omega (arith, s.up d, deep (slice_index mid w) (slice_index mid v) (inner.low w (omega arith) (omega arith)) d (inner.high v (omega arith) (omega arith)));
+          up = λ d. omega (arith, s.down d, deep _ _ (inner.low v (omega arith) (omega arith)) d (inner.high w (omega arith) (omega arith)));
+          down = λ d. omega (arith, s.up d, deep _ _ (inner.low w (omega arith) (omega arith)) d (inner.high v (omega arith) (omega arith)));
         });
   }
     where
@@ -58,13 +58,9 @@ arranged-joined levels base from at end order new fits all parted before old inn
     | inl k ↦ rw (before p (omega arith), before q k) (old.pairs p q a b k)
     | inr k ↦ elim (cases_lt p at) [
       | inl m ↦
-          let f : from ≤ slice_index order p = old.low p a m in
-          let g : slice_index order p < at = old.high p a m in
-          let h : at ≤ slice_index new q = inner.low q k c in
-          let i : slice_index new q < end = inner.high q k c in
-          let s = parted _ _ f g h i in
-          let l : least_between levels (slice_index order p) (slice_index new q) ≡ base = least_between-is levels _ _ base s.0 s.1 s.2 (omega arith) s.3 (λ r u v. all r (omega arith) (omega arith)) in
-          rw (before p m) (record { up = λ _. omega arith; down = λ d. absurd (omega arith) })
+          let s = parted _ _ (old.low p a m) (old.high p a m) (inner.low q k c) (inner.high q k c) in
+          let l = least_between-is levels _ _ base s.0 s.1 s.2 (omega (arith, inner.high q k c)) s.3 (λ r u v. all r (omega (arith, old.low p a m)) (omega (arith, inner.high q k c))) in
+          rw (before p m) (record { up = λ _. omega (arith, l); down = λ d. absurd (omega (arith, old.high p a m, inner.low q k c)) })
       | inr m ↦ inner.pairs p q m b c
     ]
   ];

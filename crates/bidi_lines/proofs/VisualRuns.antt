@@ -1,22 +1,22 @@
 -- The level runs in the visual order of their levels, written out, are the visual order of the units.
-use Rattle.std.proofs.Common.{cond, Bool, ◌≡◌, ◌≢◌, ℕ, zero, suc, ◌+◌, ◌-◌, ◌%◌, ◌<◌, ◌≤◌, max, true, false, List, [], ◌∷◌, ◌++◌, map, flat_map, reverse, length, get_or, AllPairs, All, refl, sym, ap, subst, ◌∙◌, arith, inl, inr, eq-eqb, le_refl}
+use Rattle.std.proofs.Common.{◌≡◌, ℕ, zero, suc, ◌+◌, ◌-◌, ◌<◌, ◌≤◌, max, true, List, [], ◌∷◌, map, flat_map, length, get_or, AllPairs, All, refl, sym, ap, subst, ◌∙◌, arith, inl, inr, le_refl}
 use Rattle.std.specs.List.{range_with_len}
 use Rattle.std.specs.List.Sorted.{IsPermutation}
-use Rattle.std.proofs.lemmas.Bool.{cases_lt, cases_order, both_ways, eqb-false}
+use Rattle.std.proofs.lemmas.Bool.{cases_lt, cases_order, both_ways, cases_Bool}
 use Rattle.std.proofs.lemmas.List.{get_or-map, length-map, same_lists, get_or_default}
 use Rattle.std.proofs.lemmas.List.Folds.{flat_map-map}
 use Rattle.std.proofs.lemmas.List.FromFn.{length-range_with_len, get_or-range_with_len, length-map-range_with_len, get_or-map-range_with_len}
 use Rattle.std.proofs.lemmas.List.Elements.{All-tail, All-map}
 use Rattle.std.proofs.lemmas.List.Sorted.{All-permutation, IsPermutation-refl, IsPermutation-sym, IsPermutation-trans, IsPermutation-reverse, IsPermutation-map}
-use Rattle.bidi_base.specs.Levels.{is_odd, is_even}
+use Rattle.bidi_base.specs.Levels.{is_odd}
 use Rattle.bidi_base.specs.Places.{between, indexes, at_places}
 use Rattle.bidi_base.specs.Order.{least_between, stands_left, visual_order, IsVisualOrder}
 use Rattle.bidi_base.specs.Display.{Run, level_runs, run_level, visual_runs, written_run, written_runs, IsLevelRun, AreVisualRuns}
-use Rattle.bidi_base.proofs.OrderLemmas.{le-least_between, least_between-le, stands_left-before, stands_left-after}
+use Rattle.bidi_base.proofs.OrderLemmas.{least_between-le, stands_left-before, stands_left-after}
 use Rattle.bidi_base.proofs.VisualOrderLemmas.{stands_left-same, visual_order-unique, all_below}
-use Rattle.bidi_lines.proofs.Least.{least_between-is}
+use Rattle.bidi_lines.proofs.Least.{least_between-is, least_between-at}
 use Rattle.bidi_lines.proofs.Ordered.{visual_order-is}
-use Rattle.bidi_lines.proofs.Pieces.{AllPairs-map, AllPairs-reverse, AllPairs-between, All-between, AllPairs-flat_map, between-append, length-between, get_or-between, at_places-map, IsPermutation-flat_map, IsPermutation-flat_map_each}
+use Rattle.bidi_lines.proofs.Pieces.{AllPairs-map, AllPairs-reverse, AllPairs-between, All-between, AllPairs-flat_map, between-append, at_places-map, IsPermutation-flat_map, IsPermutation-flat_map_each}
 use Rattle.bidi_lines.proofs.RunsLemmas.{Follow, level_runs-follow, level_runs-each}
 
 abbrev pub run_at : List Run → ℕ → Run
@@ -31,9 +31,7 @@ follow-reach : (a b : ℕ) (runs : List Run) → Follow a b runs → (u : ℕ) �
 follow-reach a b [] h u low high = absurd (omega arith)
 follow-reach a b (run ∷ runs) h u low high = elim (cases_lt u run.1) [
   | inl here ↦ (0, omega arith, (omega (arith, h.0), here))
-  | inr later ↦
-      let r = follow-reach run.1 b runs h.2 u later high in
-      (suc r.0, omega (arith, r.1), r.2)
+  | inr later ↦ let r = follow-reach run.1 b runs h.2 u later high in (suc r.0, omega (arith, r.1), r.2)
 ]
 
 follow-low : (a b : ℕ) (runs : List Run) → Follow a b runs → (k : ℕ) → k < length runs → a ≤ (run_at runs k).0
@@ -51,10 +49,11 @@ follow-apart a b (run ∷ runs) h (suc j) (suc k) before fits = follow-apart run
 -- and so neither its begin nor its end is after the other's
 follow-ordered : (a b : ℕ) (runs : List Run) → Follow a b runs → (j k : ℕ) → j ≤ k → k < length runs → (run_at runs k).0 < (run_at runs k).1 → (run_at runs j).0 < (run_at runs j).1
     → ((run_at runs j).0 ≤ (run_at runs k).0) × ((run_at runs j).1 ≤ (run_at runs k).1)
-follow-ordered a b runs h j k order fits some some' = elim (cases_lt j k) [
-  | inl before ↦ let g = follow-apart a b runs h j k before fits in (omega arith, omega arith)
-  | inr same ↦ let e : k ≡ j = omega arith in rw e (le_refl _, le_refl _)
-]
+follow-ordered a b runs h j k order fits some some' = grind (arith, follow-apart a b runs h j k)
+
+-- runs stand as their units
+follow-as_units : (a b : ℕ) (runs : List Run) → Follow a b runs → (k l u w : ℕ) → k < length runs → IsUnitOf (run_at runs k) u → IsUnitOf (run_at runs l) w → u ≤ w → k ≤ l
+follow-as_units a b runs h k l u w fits unit unit' up = elim (cases_lt l k) [ inl after ↦ absurd (omega (arith, follow-apart a b runs h l k after fits)) | inr before ↦ before ]
 
 -- a line cut into its level runs
 record Cut (from : ℕ) (levels : List ℕ) (runs : List Run) : Type 0 where
@@ -79,7 +78,9 @@ unit_level from levels runs cut k u fits unit = grind (arith, get_or-map)
 -- the least level from unit to unit is that from run to run
 least-runs : (from : ℕ) (levels : List ℕ) (runs : List Run) → Cut from levels runs → (k l u w : ℕ) → k ≤ l → l < length runs → IsUnitOf (run_at runs k) u → IsUnitOf (run_at runs l) w → u ≤ w
     → least_between levels (u - from) (w - from) ≡ least_between (run_levels from levels runs) k l
-least-runs from levels runs cut k l u w order fits unit unit' up = omega (arith, low, high)
+least-runs from levels runs cut k l u w order fits unit unit' up =
+    let low = least_between-le levels (u - from) (w - from) _ (omega arith) (omega (arith, unit'.1, unit.0, first.starts_within, last.ends_within)) at_unit in
+    omega (arith, low, least_between-le (run_levels from levels runs) k l _ order (omega (arith, long)) at_run)
   where
     long : length (run_levels from levels runs) ≡ length runs
     long = length-run_levels from levels runs
@@ -93,64 +94,35 @@ least-runs from levels runs cut k l u w order fits unit unit' up = omega (arith,
     -- a unit between them is in a run between theirs
     at_unit : (x : ℕ) → u - from ≤ x → x ≤ w - from → least_between (run_levels from levels runs) k l ≤ get_or levels x 0
     at_unit x a b =
-        let begins = first.starts_within in
-        let ends = last.ends_within in
-        let r = follow-reach from (from + length levels) runs cut.follow (from + x) (omega arith) (omega (arith, unit.0, unit'.1)) in
-        let same : get_or levels ((from + x) - from) 0 ≡ get_or (run_levels from levels runs) r.0 0 = unit_level from levels runs cut r.0 (from + x) r.1 r.2 in
         let back : (from + x) - from ≡ x = omega arith in
-        let after_first : k ≤ r.0 = elim (cases_lt r.0 k) [
-          | inl c ↦ absurd (omega (arith, follow-apart from (from + length levels) runs cut.follow r.0 k c (omega arith), r.2.1, unit.0))
-          | inr c ↦ c
-        ] in
-        let before_last : r.0 ≤ l = elim (cases_lt l r.0) [
-          | inl c ↦ absurd (omega (arith, follow-apart from (from + length levels) runs cut.follow l r.0 c r.1, r.2.0, unit'.1))
-          | inr c ↦ c
-        ] in
-        let le : least_between (run_levels from levels runs) k l ≤ get_or (run_levels from levels runs) r.0 0 =
-        le-least_between (run_levels from levels runs) k l (least_between (run_levels from levels runs) k l) order (omega (arith, long)) (le_refl _) r.0 after_first before_last in
-        let same' : get_or levels x 0 ≡ get_or (run_levels from levels runs) r.0 0 = rw back at same in
-        omega arith
+        let r = follow-reach from (from + length levels) runs cut.follow (from + x) (omega arith) (omega (arith, unit.0, unit'.1, first.starts_within, last.ends_within)) in
+        let after_first = follow-as_units from (from + length levels) runs cut.follow k r.0 u (from + x) (omega arith) unit r.2 (omega arith) in
+        let before_last = follow-as_units from (from + length levels) runs cut.follow r.0 l (from + x) w r.1 r.2 unit' (omega (arith, unit.0, first.starts_within)) in
+        omega (arith, ap (λ (y : ℕ). get_or levels y 0) back, unit_level from levels runs cut r.0 (from + x) r.1 r.2, least_between-at (run_levels from levels runs) k l r.0 after_first before_last (omega (arith, long)))
 
     -- each run between theirs has a unit between them
     at_run : (j : ℕ) → k ≤ j → j ≤ l → least_between levels (u - from) (w - from) ≤ get_or (run_levels from levels runs) j 0
     at_run j a b =
-        let here : IsLevelRun from levels (run_at runs j) = cut.each j (0, 0) (omega arith) in
-        let begins = first.starts_within in
-        let ends = last.ends_within in
-        let some = here.not_empty in
-        let g = follow-ordered from (from + length levels) runs cut.follow k j a (omega arith) some first.not_empty in
-        let h = follow-ordered from (from + length levels) runs cut.follow j l b fits last.not_empty some in
-        let unit_y : IsUnitOf (run_at runs j) (max u (run_at runs j).0) = (omega arith, omega (arith, g.1, unit.1)) in
-        let within : max u (run_at runs j).0 ≤ w = omega (arith, h.0, unit'.0) in
-        let same : get_or levels (max u (run_at runs j).0 - from) 0 ≡ get_or (run_levels from levels runs) j 0 = unit_level from levels runs cut j (max u (run_at runs j).0) (omega arith) unit_y in
-        let le : least_between levels (u - from) (w - from) ≤ get_or levels (max u (run_at runs j).0 - from) 0 =
-        le-least_between levels (u - from) (w - from) (least_between levels (u - from) (w - from)) (omega arith) (omega (arith, unit'.1, unit.0)) (le_refl _) (max u (run_at runs j).0 - from) (omega arith) (omega arith) in
-        omega arith
-
-    low : least_between (run_levels from levels runs) k l ≤ least_between levels (u - from) (w - from)
-    low = least_between-le levels (u - from) (w - from) (least_between (run_levels from levels runs) k l) (omega arith) (omega (arith, unit'.1, unit.0, first.starts_within, last.ends_within)) at_unit
-
-    high : least_between levels (u - from) (w - from) ≤ least_between (run_levels from levels runs) k l
-    high = least_between-le (run_levels from levels runs) k l (least_between levels (u - from) (w - from)) order (omega (arith, long)) at_run
+        let here = cut.each j (0, 0) (omega arith) in
+        let g = follow-ordered from (from + length levels) runs cut.follow k j a (omega arith) here.not_empty first.not_empty in
+        let h = follow-ordered from (from + length levels) runs cut.follow j l b fits last.not_empty here.not_empty in
+        let y : ℕ = max u (run_at runs j).0 in
+        let within : y ≤ w = omega (arith, h.0, unit'.0) in
+        let same = unit_level from levels runs cut j y (omega arith) (omega arith, omega (arith, g.1, unit.1, here.not_empty)) in
+        omega (arith, same, least_between-at levels (u - from) (w - from) (y - from) (omega arith) (omega arith) (omega (arith, unit'.1, unit'.0, last.ends_within, last.starts_within)))
 
 -- units of two runs stand as their runs do
 units-apart : (from : ℕ) (levels : List ℕ) (runs : List Run) → Cut from levels runs → (k l u w : ℕ) → k < length runs → l < length runs → IsUnitOf (run_at runs k) u → IsUnitOf (run_at runs l) w
     → stands_left (run_levels from levels runs) k l ≡ true → stands_left levels (u - from) (w - from) ≡ true
 units-apart from levels runs cut k l u w fits fits' unit unit' left = elim (cases_order k l) [
-  | inl same ↦ absurd (both_ways (stands_left (run_levels from levels runs) k k) (stands_left-same (run_levels from levels runs) k) (subst (λ (x : ℕ). stands_left (run_levels from levels runs) k x ≡ true) (sym same) left))
+  | inl same ↦ absurd (both_ways (stands_left (run_levels from levels runs) k k) (stands_left-same (run_levels from levels runs) k) (rw (← same) at left))
   | inr apart ↦ elim apart [
     | inl before ↦
         let g = follow-apart from (from + length levels) runs cut.follow k l before fits' in
-        let begins = (cut.each k (0, 0) fits).starts_within in
-        stands_left-before levels (u - from) (w - from) (omega (arith, g, unit.0, unit.1, unit'.0, begins))
-        ∙ ap is_even (least-runs from levels runs cut k l u w (omega arith) fits' unit unit' (omega (arith, g, unit.1, unit'.0)))
-        ∙ sym (stands_left-before (run_levels from levels runs) k l before) ∙ left
+        grind (arith, stands_left-before, least-runs from levels runs cut k l u w, cut.each k (0, 0))
     | inr after ↦
         let g = follow-apart from (from + length levels) runs cut.follow l k after fits in
-        let begins = (cut.each l (0, 0) fits').starts_within in
-        stands_left-after levels (u - from) (w - from) (omega (arith, g, unit'.0, unit'.1, unit.0, begins))
-        ∙ ap is_odd (least-runs from levels runs cut l k w u (omega arith) fits unit' unit (omega (arith, g, unit'.1, unit.0)))
-        ∙ sym (stands_left-after (run_levels from levels runs) k l after) ∙ left
+        grind (arith, stands_left-after, least-runs from levels runs cut l k w u, cut.each l (0, 0))
   ]
 ]
 
@@ -164,17 +136,9 @@ least-inside from levels runs cut k u w fits unit unit' up =
     ∙ sym (unit_level from levels runs cut k u fits unit)
     ∙ (cut.each k (0, 0) fits).equal u unit.0 unit.1
 
--- a list, or the same the other way round
-turned-permutation : (odd : Bool) (xs : List ℕ) → IsPermutation (cond odd (reverse xs) xs) xs
-turned-permutation true xs = IsPermutation-sym _ _ (IsPermutation-reverse xs)
-turned-permutation false xs = IsPermutation-refl xs
-
-turned-pairs : (R : ℕ → ℕ → Type 0) (odd : Bool) (xs : List ℕ) → (odd ≡ true → AllPairs (λ a b. R b a) xs) → (odd ≡ false → AllPairs R xs) → AllPairs R (cond odd (reverse xs) xs)
-turned-pairs R true xs back on = AllPairs-reverse R xs (back refl)
-turned-pairs R false xs back on = on refl
-
+-- a run written is its units, or the same the other way round
 IsPermutation-written_run : (from : ℕ) (levels : List ℕ) (run : Run) → IsPermutation (written_run from levels run) (between run.0 run.1)
-IsPermutation-written_run from levels run = grind (arith, turned-permutation)
+IsPermutation-written_run from levels run = grind (arith, IsPermutation-sym, IsPermutation-reverse (between run.0 run.1), IsPermutation-refl (between run.0 run.1))
 
 -- what holds of each unit of a run holds of each one written
 All-written_run : (P : ℕ → Type 0) (from : ℕ) (levels : List ℕ) (run : Run) → ((u : ℕ) → run.0 ≤ u → u < run.1 → P u) → All P (written_run from levels run)
@@ -186,21 +150,18 @@ abbrev Left : ℕ → List ℕ → ℕ → ℕ → Type 0
 Left from levels u w = stands_left levels (u - from) (w - from) ≡ true
 
 pairs-written_run : (from : ℕ) (levels : List ℕ) (runs : List Run) → Cut from levels runs → (k : ℕ) → k < length runs → AllPairs (Left from levels) (written_run from levels (run_at runs k))
-pairs-written_run from levels runs cut k fits =
-    turned-pairs (Left from levels) (is_odd (run_level from levels (run_at runs k))) (between (run_at runs k).0 (run_at runs k).1)
-    (λ odd. AllPairs-between (λ a b. Left from levels b a) (run_at runs k).0 (run_at runs k).1 (λ u w a b c.
-    stands_left-after levels (w - from) (u - from) (omega (arith, begins)) ∙ ap is_odd (inside u w a b c) ∙ odd))
-    (λ even. AllPairs-between (Left from levels) (run_at runs k).0 (run_at runs k).1 (λ u w a b c.
-    stands_left-before levels (u - from) (w - from) (omega (arith, begins)) ∙ ap is_even (inside u w a b c) ∙ is_even-from_not_odd _ even))
+pairs-written_run from levels runs cut k fits = elim (cases_Bool (is_odd (run_level from levels (run_at runs k)))) [
+  | inl odd ↦ simp odd (AllPairs-reverse (Left from levels) _ (AllPairs-between (λ a b. Left from levels b a) (run_at runs k).0 (run_at runs k).1
+      (λ u w a b c. simp (stands_left-after levels (w - from) (u - from) (omega (arith, begins)), inside u w a b c, odd))))
+  | inr even ↦ simp even (AllPairs-between (Left from levels) (run_at runs k).0 (run_at runs k).1
+      (λ u w a b c. simp (stands_left-before levels (u - from) (w - from) (omega (arith, begins)), inside u w a b c) (grind arith)))
+]
   where
     begins : from ≤ (run_at runs k).0
     begins = (cut.each k (0, 0) fits).starts_within
 
     inside : (u w : ℕ) → (run_at runs k).0 ≤ u → u < w → w < (run_at runs k).1 → least_between levels (u - from) (w - from) ≡ run_level from levels (run_at runs k)
     inside u w a b c = least-inside from levels runs cut k u w fits (a, omega arith) (omega arith, c) (omega arith)
-
-    is_even-from_not_odd : (n : ℕ) → is_odd n ≡ false → is_even n ≡ true
-    is_even-from_not_odd n e = let odd : n % 2 ≢ 1 = eqb-false _ _ e in eq-eqb (n % 2) 0 (omega arith)
 
 -- a visual order has the indexes alone
 pub order_below : (of_runs order : List ℕ) (n : ℕ) → length of_runs ≡ n → IsVisualOrder of_runs order → All (λ k. k < n) order
@@ -228,30 +189,18 @@ follow-le a b (run ∷ runs) h = omega (arith, h.0, h.1, follow-le run.1 b runs 
 flat_map-follow : (a b : ℕ) (runs : List Run) → Follow a b runs → flat_map (λ (run : Run). between run.0 run.1) runs ≡ between a b
 flat_map-follow a b [] h = let none : 0 ≡ b - a = omega arith in ap (range_with_len a) none
 flat_map-follow a b (run ∷ runs) h =
-    ap (λ (l : List ℕ). between run.0 run.1 ++ l) (flat_map-follow run.1 b runs h.2)
-    ∙ between-append run.0 run.1 b (omega (arith, h.1)) (follow-le run.1 b runs h.2)
-    ∙ ap (λ x. between x b) h.0
+    cc (flat_map-follow run.1 b runs h.2, between-append run.0 run.1 b (omega (arith, h.1)) (follow-le run.1 b runs h.2), h.0)
 
 pub all-runs : (runs : List Run) → map (run_at runs) (range_with_len 0 (length runs)) ≡ runs
 all-runs runs = grind (arith, same_lists, length-map-range_with_len, get_or-map-range_with_len, get_or_default)
 
 -- as numbers from 0 on
 shifted : (from n : ℕ) → map (λ u. u - from) (between from (from + n)) ≡ range_with_len 0 n
-shifted from n = same_lists _ _ (length-map (between from (from + n)) (λ u. u - from) ∙ long ∙ sym (length-range_with_len 0 n)) (λ k d fits.
-    let inside : k < n = omega (arith, length-map (between from (from + n)) (λ u. u - from), long) in
-    get_or-map (λ u. u - from) (between from (from + n)) k 0 d (omega (arith, long))
-    ∙ (let x : get_or (between from (from + n)) k 0 ≡ from + k = get_or-between from (from + n) k 0 (omega arith) in
-    let y : get_or (range_with_len 0 n) k d ≡ 0 + k = get_or-range_with_len 0 n k d inside in omega arith))
-  where
-    long : length (between from (from + n)) ≡ n
-    long = length-between from (from + n) ∙ (let e : (from + n) - from ≡ n = omega arith in e)
+shifted from n = grind (arith, same_lists, length-map-range_with_len, length-range_with_len, get_or-map-range_with_len, get_or-range_with_len)
 
 and_back : (from : ℕ) (us : List ℕ) → All (λ u. from ≤ u) us → map (λ u. from + u) (map (λ u. u - from) us) ≡ us
 and_back from [] h = refl
-and_back from (u ∷ us) h =
-    let e : from + (u - from) ≡ u = let low = h zero 0 (omega arith) in omega arith in
-    let rest = and_back from us (All-tail (λ u. from ≤ u) u us h) in
-    λ i. e i ∷ rest i
+and_back from (u ∷ us) h = grind (arith, h zero 0, and_back from us (All-tail (λ u. from ≤ u) u us h))
 
 -- the units in the order of their runs, and the order of the runs
 abbrev written_in : ℕ → List ℕ → List ℕ → List ℕ
@@ -265,20 +214,18 @@ pub written-visual : (from : ℕ) (levels : List ℕ) (order : List ℕ) → IsV
     → written_runs from levels (at_places (0, 0) (level_runs from levels) order) ≡ map (λ u. from + u) (visual_order levels)
 unfolding run_levels written_runs
 written-visual from levels order h =
-    ap (flat_map (written_run from levels)) (at_places-map (0, 0) (level_runs from levels) order)
-    ∙ flat_map-map (written_run from levels) (run_at (level_runs from levels)) order
-    ∙ sym (and_back from (written_in from levels order) (λ k d fits. (inside k d fits).0))
-    ∙ ap (map (λ u. from + u)) (visual_order-unique levels (map (λ u. u - from) (written_in from levels order)) visual)
+    let back = and_back from (written_in from levels order) (λ k d fits. (inside k d fits).0) in
+    simp (at_places-map (0, 0) (level_runs from levels), flat_map-map (written_run from levels) (run_at (level_runs from levels)), ← visual_order-unique levels _ visual, back)
   where
     cut : Cut from levels (level_runs from levels)
     cut = level_runs-cut from levels
 
     permuted : IsPermutation (between from (from + length levels)) (written_in from levels order)
-    permuted = IsPermutation-sym _ _
-        (IsPermutation-trans _ _ _
-        (IsPermutation-sym _ _ (IsPermutation-flat_map (λ k. written_run from levels (run_at (level_runs from levels) k)) (indexes (run_levels from levels (level_runs from levels))) order h.all_indexes))
-        (rw (length-run_levels from levels (level_runs from levels), ← flat_map-map (written_run from levels) (run_at (level_runs from levels)) (range_with_len 0 (length (level_runs from levels))), all-runs (level_runs from levels), ← flat_map-follow from (from + length levels) (level_runs from levels) cut.follow)
+    permuted = IsPermutation-trans _ _ _
+        (IsPermutation-sym _ _ (rw (← flat_map-follow from (from + length levels) (level_runs from levels) cut.follow)
         (IsPermutation-flat_map_each (written_run from levels) (λ (run : Run). between run.0 run.1) (IsPermutation-written_run from levels) (level_runs from levels))))
+        (rw (length-run_levels from levels (level_runs from levels), ← flat_map-map (written_run from levels) (run_at (level_runs from levels)) (range_with_len 0 (length (level_runs from levels))), all-runs (level_runs from levels)) at
+        (IsPermutation-flat_map (λ k. written_run from levels (run_at (level_runs from levels) k)) (indexes (run_levels from levels (level_runs from levels))) order h.all_indexes))
 
     inside : All (λ u. (from ≤ u) × (u < from + length levels)) (written_in from levels order)
     inside = All-permutation (λ u. (from ≤ u) × (u < from + length levels)) (between from (from + length levels)) (written_in from levels order) permuted (All-between (λ u. (from ≤ u) × (u < from + length levels)) from (from + length levels) (λ u a b. (a, b)))

@@ -1,14 +1,14 @@
 -- What the pass over the characters keeps, and how a character goes into it.
-use Rattle.std.proofs.Common.{◌≡◌, ℕ, suc, ◌+◌, ◌<◌, ◌||◌, cond, List, [], ◌∷◌, ◌++◌, length, map, reverse, None, unwrap_or, refl, sym, ap, ◌∙◌, arith, inl, inr}
+use Rattle.std.proofs.Common.{◌≡◌, ℕ, ◌+◌, ◌<◌, ◌||◌, cond, List, [], ◌∷◌, ◌++◌, length, map, reverse, None, unwrap_or, refl, arith, inl, inr}
+use Rattle.std.proofs.lemmas.List.FromFn.{map-range_with_len_more}
+use Rattle.std.proofs.Math.Nat.{zero-add}
 use Rattle.std.specs.List.{range_with_len, list_any}
-use Rattle.std.proofs.lemmas.Bool.{cases_Bool, cond-true, cond-false}
-use Rattle.std.proofs.lemmas.List.{map-append}
+use Rattle.std.proofs.lemmas.Bool.{cases_Bool}
 use Rattle.bidi_base.specs.declared.char_data.BidiClass.{BidiClass}
 use Rattle.bidi_base.specs.Classes.{is_initiator, is_paragraph_separator, is_removed}
 use Rattle.bidi_base.specs.Places.{class_at}
 use Rattle.bidi_base.specs.Explicit.{Status, status_inside, status_at, explicit_level, explicit_class, explicit_levels, explicit_classes}
 use Rattle.bidi_base.specs.Openers.{outside_isolate, left_open, then_open}
-use Rattle.bidi_base.proofs.PlacesLemmas.{range_with_len-more}
 use Rattle.bidi_base.proofs.OpenersStack.{below_isolate, closed_by, opened_by, openers_read, open_at-closed_by}
 use Rattle.bidi_base.proofs.Lists.{map-reverse}
 
@@ -20,15 +20,8 @@ module _ (classes : List BidiClass) where
   outside : (whole stack : List ℕ) → classes_of (below_isolate classes whole stack) ≡ cond (list_any is_initiator (classes_of stack)) (outside_isolate (classes_of stack)) (classes_of whole)
   outside whole [] = refl
   outside whole (q ∷ stack) = elim (cases_Bool (is_initiator (class_at classes q))) [
-    | inl isolate ↦
-        ap classes_of (cond-true (is_initiator (class_at classes q)) stack (below_isolate classes whole stack) isolate)
-        ∙ sym (cond-true (is_initiator (class_at classes q)) (classes_of stack) (outside_isolate (classes_of stack)) isolate)
-        ∙ sym (cond-true (list_any is_initiator (classes_of (q ∷ stack))) (outside_isolate (classes_of (q ∷ stack))) (classes_of whole) (ap (λ b. b || list_any is_initiator (classes_of stack)) isolate))
-    | inr other ↦
-        ap classes_of (cond-false (is_initiator (class_at classes q)) stack (below_isolate classes whole stack) other)
-        ∙ outside whole stack
-        ∙ ap (λ b. cond b (outside_isolate (classes_of stack)) (classes_of whole)) (ap (λ b. b || list_any is_initiator (classes_of stack)) (sym other))
-        ∙ ap (λ xs. cond (list_any is_initiator (classes_of (q ∷ stack))) xs (classes_of whole)) (sym (cond-false (is_initiator (class_at classes q)) (classes_of stack) (outside_isolate (classes_of stack)) other))
+    | inl isolate ↦ simp isolate
+    | inr other ↦ simp (other, outside whole stack)
   ]
 
   classes_of-closed_by : (p : ℕ) (stack : List ℕ) → classes_of (closed_by classes p stack) ≡ left_open (class_at classes p) (classes_of stack)
@@ -63,14 +56,7 @@ module _ (paragraph : ℕ) (classes : List BidiClass) where
     pub classes_are : overridden ≡ map (explicit_class paragraph classes) (range_with_len 0 p)
 
   one_more : {Y : Type 0} (f : ℕ → Y) (p : ℕ) (ys : List Y) (y : Y) → ys ≡ map f (range_with_len 0 p) → y ≡ f p → ys ++ y ∷ [] ≡ map f (range_with_len 0 (p + 1))
-  one_more {Y} f p ys y e g =
-      let next : suc p ≡ p + 1 = omega arith in
-      let place : 0 + p ≡ p = omega arith in
-      ap (λ zs. zs ++ y ∷ []) e
-      ∙ ap (λ z. map f (range_with_len 0 p) ++ z ∷ []) (g ∙ ap f (sym place))
-      ∙ sym (map-append f (range_with_len 0 p) ((0 + p) ∷ []))
-      ∙ ap (map f) (sym (range_with_len-more 0 p))
-      ∙ ap (λ n. map f (range_with_len 0 n)) next
+  one_more f p ys y e g = simp (map-range_with_len_more f 0 p p (zero-add p), e, g)
 
   pub IsExplicitSoFar-more : (p : ℕ) (openers closed next : List BidiClass) (levels : List ℕ) (overridden : List BidiClass) (status : Status) (x : ℕ) (y : BidiClass) → p < length classes → IsExplicitSoFar p openers levels overridden
       → closed ≡ left_open (class_at classes p) openers → next ≡ then_open (class_at classes p) closed → status ≡ status_inside start (reverse closed)
@@ -87,8 +73,8 @@ module _ (paragraph : ℕ) (classes : List BidiClass) where
 
   pub IsExplicitSoFar-levels : (p : ℕ) (openers : List BidiClass) (levels : List ℕ) (overridden : List BidiClass) → p ≡ length classes → IsExplicitSoFar p openers levels overridden → levels ≡ explicit_levels paragraph classes
   unfolding explicit_levels
-  IsExplicitSoFar-levels p openers levels overridden all h = h.levels_are ∙ ap (λ n. map (explicit_level paragraph classes) (range_with_len 0 n)) all
+  IsExplicitSoFar-levels p openers levels overridden all h = simp (h.levels_are, all)
 
   pub IsExplicitSoFar-classes : (p : ℕ) (openers : List BidiClass) (levels : List ℕ) (overridden : List BidiClass) → p ≡ length classes → IsExplicitSoFar p openers levels overridden → overridden ≡ explicit_classes paragraph classes
   unfolding explicit_classes
-  IsExplicitSoFar-classes p openers levels overridden all h = h.classes_are ∙ ap (λ n. map (explicit_class paragraph classes) (range_with_len 0 n)) all
+  IsExplicitSoFar-classes p openers levels overridden all h = simp (h.classes_are, all)

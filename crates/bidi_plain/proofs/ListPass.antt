@@ -1,13 +1,12 @@
 -- The pass over a list of characters, one by one.
-use Rattle.std.proofs.Common.{◌≡◌, ℕ, zero, suc, ◌+◌, ◌-◌, ◌<◌, Bool, true, false, eqb, List, [], ◌∷◌, ◌++◌, length, map, get_or, set, reverse, length-append, le_refl, Option, Some, None, refl, sym, ap, subst, ◌∙◌, arith, inl, inr, eqb-true, ne_eqb}
-use Rattle.std.specs.Prelude.{filter, IfSome}
-use Rattle.std.specs.List.{range_with_len}
-use Rattle.std.proofs.lemmas.Bool.{cases_eq, cond-true, cond-false, eqb-false}
+use Rattle.std.proofs.Common.{◌≡◌, ℕ, zero, suc, ◌+◌, ◌-◌, ◌<◌, Bool, true, false, eqb, List, [], ◌∷◌, ◌++◌, length, map, get_or, set, reverse, length-append, le_refl, Option, Some, None, refl, sym, ap, ◌∙◌, arith, inl, inr, eqb-true, ne_eqb}
+use Rattle.std.specs.Prelude.{IfSome}
+use Rattle.std.proofs.lemmas.Bool.{cases_eq, eqb-false}
 use Rattle.std.proofs.lemmas.List.{get_or_push, get_or-set_same, length-set}
 use Rattle.bidi_base.specs.declared.char_data.BidiClass.{BidiClass}
 use Rattle.bidi_base.specs.Places.{class_at, last_or}
 use Rattle.bidi_base.specs.Sequences.{with_ends, is_kept_at, next_kept, level_at, have_one_level, successor, is_first, sequences}
-use Rattle.bidi_base.specs.SequencePass.{read_class, waiting_for, wait_of, choice, waits_before, choice_at, with_entry, index_of, ArePlaces}
+use Rattle.bidi_base.specs.SequencePass.{read_class, wait_of, choice, waits_before, choice_at, with_entry, index_of, ArePlaces}
 use Rattle.bidi_base.proofs.ReadStack.{Member}
 use Rattle.bidi_base.proofs.SuccessorLemmas.{successor-IsLaterKept, have_one_level-from, next_kept-is, kept_before-is, kept_before-is_None, successor-run_step}
 use Rattle.bidi_base.proofs.OpenPass.{IsAt, IsAt-read, goes_on}
@@ -33,26 +32,21 @@ module _ (classes : List BidiClass) (levels : List ℕ) where
   IsStateAt p out waits None = (out ≡ []) × (waits ≡ []) × ((k : ℕ) → k < p → is_kept_at classes k ≡ false)
   IsStateAt p out waits (Some e) = IsGoing p out waits e.0 e.1
 
-  one_place : (p : ℕ) → is_kept_at classes p ≡ true → filter (is_kept_at classes) (range_with_len p 1) ≡ p ∷ []
-  one_place p kept = cond-true (is_kept_at classes p) (p ∷ []) [] kept
-
   -- a character that X9 removes
   pub IsStateAt-removed : (p : ℕ) (out : List (List ℕ)) (waits : List (Option ℕ)) (last : Option (ℕ × ℕ)) → IsStateAt p out waits last → is_kept_at classes p ≡ false → IsStateAt (p + 1) out waits last
-  IsStateAt-removed p out waits None h gone = (h.0, h.1, extended)
-    where
-      extended : (k : ℕ) → k < p + 1 → is_kept_at classes k ≡ false
-      extended k below = elim (cases_eq k p) [
-        | inl same ↦ subst (λ (x : ℕ). is_kept_at classes x ≡ false) (sym same) gone
-        | inr other ↦ h.2 k (omega arith)
-      ]
+  IsStateAt-removed p out waits None h gone =
+      (h.0, h.1, λ k below. elim (cases_eq k p) [ inl same ↦ simp (same, gone) | inr other ↦ h.2 k (omega arith) ])
   IsStateAt-removed p out waits (Some e) h gone =
-      record { kept = h.kept; before = omega (arith, h.before); none = extended; within = h.within; last = h.last; some = h.some; stack = h.stack; pass = IsPass-removed classes levels p 1 e.0 out h.stack (reverse waits) h.pass (cond-false (is_kept_at classes p) (p ∷ []) [] gone) }
-    where
-      extended : (k : ℕ) → e.0 < k → k < p + 1 → is_kept_at classes k ≡ false
-      extended k from below = elim (cases_eq k p) [
-        | inl same ↦ subst (λ (x : ℕ). is_kept_at classes x ≡ false) (sym same) gone
-        | inr other ↦ h.none k from (omega arith)
-      ]
+      record {
+        kept = h.kept;
+        before = omega (arith, h.before);
+        none = λ k from below. elim (cases_eq k p) [ inl same ↦ simp (same, gone) | inr other ↦ h.none k from (omega arith) ];
+        within = h.within;
+        last = h.last;
+        some = h.some;
+        stack = h.stack;
+        pass = IsPass-removed classes levels p 1 e.0 out h.stack (reverse waits) h.pass (simp gone);
+      }
 
   -- the last one is read
   abbrev IsRead : ℕ → List (List ℕ) → List (Option ℕ) → Type 0
@@ -61,13 +55,8 @@ module _ (classes : List BidiClass) (levels : List ℕ) where
   reading : (p l s : ℕ) (out : List (List ℕ)) (waits : List (Option ℕ)) (w : Option ℕ) → IsGoing p out waits l s → IsWaiting classes levels out l w → IsRead p out (read_class (class_at classes l) w waits)
   reading p l s out waits w h wait =
       let read = IsAt-read classes levels p l out waits w (record { stack = h.stack; pass = h.pass }) (λ opens. wait) in
-      let now = reverse (read_class (class_at classes l) w waits) in
       let place : l + 1 + (p - (l + 1)) ≡ p = omega (arith, h.before) in
-      record {
-        stack = read.stack;
-        pass = subst (λ (x : ℕ). IsPass classes levels p x out read.stack now) place
-            (IsPass-skip classes levels (p - (l + 1)) p (l + 1) out read.stack now read.pass (λ k from below. h.none k (omega arith) (omega arith)));
-      }
+      record { stack = read.stack; pass = rw place at (IsPass-skip classes levels (p - (l + 1)) p (l + 1) out read.stack _ read.pass (λ k from below. h.none k (omega arith) (omega arith))) }
 
   -- a character that goes on with a sequence, or begins one
   came_join : (p s : ℕ) (out : List (List ℕ)) (waits : List (Option ℕ)) → is_kept_at classes p ≡ true → p < length classes → IsRead p out waits → s < length out → successor classes levels (last_or 0 (get_or out s [])) ≡ Some p → IsGoing (p + 1) (with_entry (Some s) p out) waits p s
@@ -78,15 +67,15 @@ module _ (classes : List BidiClass) (levels : List ℕ) where
         before = omega arith;
         none = λ k from below. absurd (omega arith);
         within = omega (arith, length-set out s (get_or out s [] ++ p ∷ []));
-        last = ap (last_or 0) here ∙ last_or-append 0 (get_or out s []) p;
+        last = simp (here, last_or-append 0 (get_or out s []) p);
         some = rw here (Member-append_right p (get_or out s []) (p ∷ []) (inl refl));
         stack = read.stack;
-        pass = IsPass-join classes levels p 1 p p s [] out read.stack (reverse waits) read.pass (one_place p kept) tt within next;
+        pass = IsPass-join classes levels p 1 p p s [] out read.stack (reverse waits) read.pass (simp kept) tt within next;
       }
 
   came_begin : (p : ℕ) (out : List (List ℕ)) (waits : List (Option ℕ)) → is_kept_at classes p ≡ true → p < length classes → IsRead p out waits → is_first classes levels p ≡ true → IsGoing (p + 1) (with_entry None p out) waits p (length out)
   came_begin p out waits kept fits read first =
-      let here : get_or (out ++ (p ∷ []) ∷ []) (length out) [] ≡ p ∷ [] = get_or_push out (p ∷ []) [] (length out) refl in
+      let here = get_or_push out (p ∷ []) [] (length out) refl in
       record {
         kept = kept;
         before = omega arith;
@@ -95,7 +84,7 @@ module _ (classes : List BidiClass) (levels : List ℕ) where
         last = ap (last_or 0) here;
         some = rw here (inl refl);
         stack = read.stack;
-        pass = IsPass-begin classes levels p 1 p p [] out read.stack (reverse waits) read.pass (one_place p kept) (omega arith) tt first;
+        pass = IsPass-begin classes levels p 1 p p [] out read.stack (reverse waits) read.pass (simp kept) (omega arith) tt first;
       }
 
   pass_none : (p : ℕ) → ((k : ℕ) → k < p → is_kept_at classes k ≡ false) → IsPass classes levels p p [] [] []
@@ -104,9 +93,8 @@ module _ (classes : List BidiClass) (levels : List ℕ) where
   -- the first character that X9 keeps
   pub IsStateAt-first : (p : ℕ) → ((k : ℕ) → k < p → is_kept_at classes k ≡ false) → is_kept_at classes p ≡ true → p < length classes → IsGoing (p + 1) (with_entry None p []) [] p 0
   IsStateAt-first p none kept fits =
-      let pass : IsPass classes levels p p [] [] [] = pass_none p none in
-      let begins : BeginsRun classes levels p = ap (λ o. have_one_level levels o p) (kept_before-is_None classes p none) in
-      came_begin p [] [] kept fits (record { stack = []; pass = pass }) (is_first-none_open classes levels p p [] [] pass begins)
+      let pass = pass_none p none in
+      came_begin p [] [] kept fits (record { stack = []; pass = pass }) (is_first-none_open classes levels p p [] [] pass (simp (kept_before-is_None classes p none)))
 
   next_is : (p l s : ℕ) (out : List (List ℕ)) (waits : List (Option ℕ)) → IsGoing p out waits l s → is_kept_at classes p ≡ true → p < length classes → next_kept classes l ≡ Some p
   next_is p l s out waits h kept fits = next_kept-is classes l p (record { from = omega (arith, h.before); below = fits; passes = kept; first = λ k from below. h.none k (omega arith) below })
@@ -119,32 +107,26 @@ module _ (classes : List BidiClass) (levels : List ℕ) where
 
   pub IsStateAt-next : (p l s : ℕ) (out : List (List ℕ)) (waits : List (Option ℕ)) (same : Bool) → IsGoing p out waits l s → is_kept_at classes p ≡ true → p < length classes → same ≡ eqb (level_at levels l) (level_at levels p) → IsNext p l s out waits same
   IsStateAt-next p l s out waits true h kept fits e =
-      let level : level_at levels l ≡ level_at levels p = eqb-true (level_at levels l) (level_at levels p) (sym e) in
-      let next : next_kept classes l ≡ Some p = next_is p l s out waits h kept fits in
-      let read : IsRead p out (read_class (class_at classes l) None waits) = reading p l s out waits None h (have_one_level-from levels (next_kept classes l) l p next (sym level)) in
-      record { fits = h.within; state = came_join p s out (read_class (class_at classes l) None waits) kept fits read h.within (ap (successor classes levels) h.last ∙ successor-run_step classes levels l p (record { next = next; level = sym level })) }
+      let level : level_at levels p ≡ level_at levels l = sym (eqb-true (level_at levels l) (level_at levels p) (sym e)) in
+      let next = next_is p l s out waits h kept fits in
+      let read = reading p l s out waits None h (have_one_level-from levels (next_kept classes l) l p next level) in
+      record { fits = h.within; state = came_join p s out (read_class (class_at classes l) None waits) kept fits read h.within (simp (h.last, successor-run_step classes levels l p (record { next = next; level = level }))) }
   IsStateAt-next p l s out waits false h kept fits e = elim (goes_on classes levels p p out now read (le_refl _) fits begins) [
-    | inl g ↦ by_choice None g.0 tt (came_begin p out now kept fits read g.1)
-    | inr g ↦ by_choice (Some g.0) g.1 g.2 (came_join p g.0 out now kept fits read g.2 g.3)
+    | inl g ↦ record { fits = simp g.0 tt; state = simp g.0 (came_begin p out now kept fits read g.1) }
+    | inr g ↦ record { fits = simp g.1 g.2; state = simp g.1 (came_join p g.0 out now kept fits read g.2 g.3) }
   ]
     where
       now : List (Option ℕ)
       now = read_class (class_at classes l) (Some s) waits
 
-      next : next_kept classes l ≡ Some p
-      next = next_is p l s out waits h kept fits
-
       ends : EndsRun classes levels l
-      ends = ap (λ o. have_one_level levels o l) next ∙ ne_eqb (level_at levels p) (level_at levels l) (λ same. eqb-false (level_at levels l) (level_at levels p) (sym e) (sym same))
+      ends = ap (λ o. have_one_level levels o l) (next_is p l s out waits h kept fits) ∙ ne_eqb (level_at levels p) (level_at levels l) (λ same. eqb-false (level_at levels l) (level_at levels p) (sym e) (sym same))
 
       begins : BeginsRun classes levels p
       begins = ap (λ o. have_one_level levels o p) (kept_before-is classes p l (record { from = omega arith; below = h.before; passes = h.kept; last = h.none })) ∙ sym e
 
       read : IsRead p out now
       read = reading p l s out waits (Some s) h (h.within, h.some, ends)
-
-      by_choice : (g : Option ℕ) → waiting_for (class_at classes p) now ≡ g → IfSome g (λ r. r < length out) → IsGoing (p + 1) (with_entry g p out) now p (index_of g out) → IsNext p l s out waits false
-      by_choice g is some state = record { fits = subst (λ (o : Option ℕ). IfSome o (λ r. r < length out)) (sym is) some; state = subst (λ (o : Option ℕ). IsGoing (p + 1) (with_entry o p out) now p (index_of o out)) (sym is) state }
 
   -- p has come to the sequence that it goes on with, or to a new one
   pub record HasCome (p : ℕ) (out : List (List ℕ)) (g : Option ℕ) (now : List (Option ℕ)) : Type 0 where
@@ -153,12 +135,8 @@ module _ (classes : List BidiClass) (levels : List ℕ) where
 
   came_by : (p : ℕ) (out : List (List ℕ)) (waits : List (Option ℕ)) (last : Option (ℕ × ℕ)) → IsStateAt p out waits last → is_kept_at classes p ≡ true → p < length classes
       → HasCome p out (choice_at classes levels last p (waits_before classes levels last p waits)) (waits_before classes levels last p waits)
-  came_by p out waits None h kept fits =
-      let state : IsGoing (p + 1) (with_entry None p []) [] p 0 = IsStateAt-first p h.2 kept fits in
-      subst (λ (x : List (Option ℕ)). HasCome p out None x) (sym h.1) (subst (λ (x : List (List ℕ)). HasCome p x None []) (sym h.0) (record { fits = tt; state = state }))
-  came_by p out waits (Some e) h kept fits =
-      let next : IsNext p e.0 e.1 out waits (eqb (level_at levels e.0) (level_at levels p)) = IsStateAt-next p e.0 e.1 out waits (eqb (level_at levels e.0) (level_at levels p)) h kept fits refl in
-      record { fits = next.fits; state = next.state }
+  came_by p out waits None h kept fits = simp (h.0, h.1) (record { fits = tt; state = IsStateAt-first p h.2 kept fits })
+  came_by p out waits (Some e) h kept fits = grind (arith, IsStateAt-next p e.0 e.1 out waits (eqb (level_at levels e.0) (level_at levels p)) h kept fits)
 
   pub HasCome-next : (p : ℕ) (out : List (List ℕ)) (waits now : List (Option ℕ)) (last : Option (ℕ × ℕ)) (g : Option ℕ) → IsStateAt p out waits last → is_kept_at classes p ≡ true → p < length classes
       → now ≡ waits_before classes levels last p waits → g ≡ choice_at classes levels last p now → HasCome p out g now
@@ -173,7 +151,7 @@ module _ (classes : List BidiClass) (levels : List ℕ) where
   IsStateAt-end out waits (Some e) h paragraph = IsPass-end classes levels paragraph e.0 out h.stack (reverse waits) h.pass
 
   begun : (p : ℕ) (out : List (List ℕ)) (waits : List (Option ℕ)) (last : Option (ℕ × ℕ)) → IsStateAt p out waits last → AllBegun classes levels out
-  begun p out waits None h = subst (λ (x : List (List ℕ)). AllBegun classes levels x) (sym h.0) tt
+  begun p out waits None h = simp h.0 tt
   begun p out waits (Some e) h = h.pass.begun
 
   last_in_text : (p : ℕ) (ps : List ℕ) → p < length classes → AreSuccessors classes levels (p ∷ ps) → last_or p ps < length classes

@@ -1,5 +1,5 @@
 -- A pass over a slice of classes that rewrites it by a rule in context, and carries along the nearest class before that passes a test.
-use Rattle.std.proofs.Common.{◌≡◌, ℕ, ◌+◌, ◌<◌, Bool, cond, List, length, get_or, take, drop, set, reverse, sym, ap, ◌∙◌}
+use Rattle.std.proofs.Common.{◌≡◌, ℕ, ◌+◌, ◌<◌, Bool, cond, List, length, get_or, take, drop, set, reverse, sym, ◌∙◌}
 use Rattle.bidi_base.specs.declared.char_data.BidiClass.{BidiClass}
 use Rattle.bidi_base.specs.declared.char_data.BidiClass.TheVariants.{L}
 use Rattle.bidi_base.specs.Places.{nearest}
@@ -15,12 +15,8 @@ module _ (rule : List BidiClass → BidiClass → List BidiClass → BidiClass) 
   nearest_later : (old now : List BidiClass) (s : BidiClass) (i : ℕ) (c : BidiClass) → IsScanned old now s i → i < length old → get_or now i L ≡ c
       → cond (test c) c s ≡ nearest test (reverse (take (i + 1) old)) start
   nearest_later old now s i c h fits is =
-      let x = get_or old i L in
-      let same : c ≡ x = sym is ∙ IsRewritten-read rule old now i L h.rewritten in
-      ap (λ (y : BidiClass). cond (test y) y s) same
-      ∙ ap (λ (y : BidiClass). cond (test x) x y) h.is_nearest
-      ∙ sym (nearest-more test x (reverse (take i old)) start)
-      ∙ ap (λ (before : List BidiClass). nearest test before start) (sym (reverse-take_more old i L fits))
+      let same : c ≡ get_or old i L = sym is ∙ IsRewritten-read rule old now i L h.rewritten in
+      simp (same, h.is_nearest, reverse-take_more old i L fits, nearest-more)
 
   -- what the rule answers at i, where the class is c
   abbrev pub Answers : List BidiClass → BidiClass → ℕ → BidiClass → BidiClass → Type 0
@@ -29,8 +25,7 @@ module _ (rule : List BidiClass → BidiClass → List BidiClass → BidiClass) 
   answer_here : (old now : List BidiClass) (s : BidiClass) (i : ℕ) (c y : BidiClass) → IsScanned old now s i → get_or now i L ≡ c → Answers old s i c y
       → y ≡ rule (reverse (take i old)) (get_or old i L) (drop (i + 1) old)
   answer_here old now s i c y h is answers =
-      answers (reverse (take i old)) (drop (i + 1) old) h.is_nearest
-      ∙ ap (λ (x : BidiClass). rule (reverse (take i old)) x (drop (i + 1) old)) (sym is ∙ IsRewritten-read rule old now i L h.rewritten)
+      simp (← IsRewritten-read rule old now i L h.rewritten, is) (answers (reverse (take i old)) (drop (i + 1) old) h.is_nearest)
 
   -- the rule's answer is written at i
   pub IsScanned-write : (old now : List BidiClass) (s t : BidiClass) (i : ℕ) (c y : BidiClass) → IsScanned old now s i → i < length old → get_or now i L ≡ c → t ≡ cond (test c) c s

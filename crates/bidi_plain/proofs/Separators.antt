@@ -10,12 +10,9 @@ use Rattle.bidi_base.proofs.PlacesLemmas.{reverse-take_more}
 use Rattle.bidi_base.proofs.InPlace.{IsRewritten, IsRewritten-read, IsRewritten-write, IsRewritten-keep, IsRewritten-end}
 use Rattle.bidi_base.proofs.Blocks.{answer_is, read_later}
 
--- the rule reads one class on each side
-neighbours : (b : BidiClass) (bs : List BidiClass) (c a : BidiClass) (as' : List BidiClass) → w4_rule (b ∷ bs) c (a ∷ as') ≡ w4_rule (b ∷ []) c (a ∷ [])
-neighbours b bs c a as' = grind arith
-
-read_before : (bs : List BidiClass) (b c : BidiClass) (cs : List BidiClass) (a : BidiClass) → w4_rule (w4_rule bs b (c ∷ cs) ∷ []) c (a ∷ []) ≡ w4_rule (b ∷ []) c (a ∷ [])
-read_before bs b c cs a = grind arith
+-- the rule reads one class on each side, and that before as it was or as it is
+read_before : (bs : List BidiClass) (b c : BidiClass) (cs : List BidiClass) (a : BidiClass) (as' : List BidiClass) → w4_rule (w4_rule bs b (c ∷ cs) ∷ []) c (a ∷ []) ≡ w4_rule (b ∷ bs) c (a ∷ as')
+read_before bs b c cs a as' = grind arith
 
 alone : (bs : List BidiClass) (c : BidiClass) → w4_rule bs c [] ≡ c
 alone bs c = grind arith
@@ -32,24 +29,13 @@ module _ (old now : List BidiClass) where
       let here : get_or now i L ≡ c = IsRewritten-read w4_rule old now i L h in
       let next : get_or now (i + 1) L ≡ a = read_later now old i 1 h.rest in
       let before : get_or now (i - 1) L ≡ w4_rule bs b (c ∷ drop (i + 1) old) =
-      sym (get_or-take i now (i - 1) L (omega arith)) ∙ ap (λ (xs : List BidiClass). get_or xs (i - 1) L) h.front ∙ get_or-take i (in_context w4_rule [] old) (i - 1) L (omega arith)
-      ∙ answer_is w4_rule old (i - 1) (omega arith)
-      ∙ ap (λ (j : ℕ). w4_rule bs b (drop j old)) place ∙ ap (w4_rule bs b) (drop_more old i L (omega arith))
+      sym (get_or-take i now (i - 1) L (omega arith))
+      ∙ simp (h.front, get_or-take i (in_context w4_rule [] old) (i - 1) L (omega arith), answer_is w4_rule old (i - 1) (omega arith), place, drop_more old i L (omega arith))
       in
-      let left : reverse (take i old) ≡ b ∷ bs = ap (λ (j : ℕ). reverse (take j old)) (sym place) ∙ reverse-take_more old (i - 1) L (omega arith) in
+      let left : reverse (take i old) ≡ b ∷ bs = rw place at (reverse-take_more old (i - 1) L (omega arith)) in
       let right : drop (i + 1) old ≡ a ∷ drop (i + 1 + 1) old = drop_more old (i + 1) L inside in
       IsRewritten-write w4_rule old now i y L (omega arith)
-      (
-      is
-      ∙ ap (λ (x : BidiClass). w4_rule (x ∷ []) (get_or now i L) (get_or now (i + 1) L ∷ [])) before
-      ∙ ap (λ (x : BidiClass). w4_rule (w4_rule bs b (c ∷ drop (i + 1) old) ∷ []) x (get_or now (i + 1) L ∷ [])) here
-      ∙ ap (λ (x : BidiClass). w4_rule (w4_rule bs b (c ∷ drop (i + 1) old) ∷ []) c (x ∷ [])) next
-      ∙ read_before bs b c (drop (i + 1) old) a
-      ∙ sym (neighbours b bs c a (drop (i + 1 + 1) old))
-      ∙ ap (λ (xs : List BidiClass). w4_rule xs c (a ∷ drop (i + 1 + 1) old)) (sym left)
-      ∙ ap (w4_rule (reverse (take i old)) c) (sym right)
-      )
-      h
+      (cc (is, before, here, next, read_before bs b c (drop (i + 1) old) a (drop (i + 1 + 1) old), left, right)) h
 
   -- the last class has none behind it
   pub separators_end : (i : ℕ) → length old ≤ i + 1 → IsRewritten w4_rule old now i → now ≡ in_context w4_rule [] old

@@ -40,27 +40,19 @@ pub record IsAtBlock (old now : List BidiClass) (after_number : Bool) (start : �
 module _ (old : List BidiClass) (start n : ℕ) (block : IsBlock is_et old start n) where
   before_number_is : is_en (class_at old (start + n)) ≡ is_number_next (drop (start + n) old)
   before_number_is = elim (cases_lt (start + n) (length old)) [
-    | inl more ↦ sym (stops (get_or old (start + n) L) (drop (start + n + 1) old) (block.behind more)) ∙ ap is_number_next (sym (drop_more old (start + n) L more))
-    | inr past ↦ ap is_en (get_or_past old (start + n) L past) ∙ ap is_number_next (sym (drop_all (start + n) old past))
+    | inl more ↦ simp (drop_more old (start + n) L more, stops (get_or old (start + n) L) (drop (start + n + 1) old) (block.behind more))
+    | inr past ↦ simp (get_or_past old (start + n) L past, drop_all (start + n) old past)
   ]
 
   -- what each terminator of the block becomes
   answers : (after_number : Bool) → after_number ≡ is_number_next (reverse (take start old)) → (k : ℕ) → k < n
       → answer w5_rule old (start + k) ≡ cond (after_number || is_en (class_at old (start + n))) EN ET
   answers after_number number k below =
-      let room = block.room in
-      let place : start + k + 1 + (n - suc k) ≡ start + n = omega arith in
-      let before : is_number_next (reverse (take (start + k) old)) ≡ after_number =
-      look-take is_et is_number_next passes old start k (omega arith) (λ j less. block.inside j (omega arith)) ∙ sym number
-      in
-      let after : is_number_next (drop (start + k + 1) old) ≡ is_en (class_at old (start + n)) =
-      look-drop is_et is_number_next passes old (start + k + 1) (n - suc k) (omega arith)
-      (λ j less. subst (λ (p : ℕ). is_et (get_or old p L) ≡ true) (omega arith) (block.inside (k + 1 + j) (omega arith)))
-      ∙ ap (λ (p : ℕ). is_number_next (drop p old)) place ∙ sym before_number_is
-      in
-      w5_rule-ET (reverse (take (start + k) old)) (get_or old (start + k) L) (drop (start + k + 1) old) (block.inside k below)
-      ∙ ap (λ b. cond (b || is_number_next (drop (start + k + 1) old)) EN ET) before
-      ∙ ap (λ b. cond (after_number || b) EN ET) after
+      let place : start + k + 1 + (n - suc k) ≡ start + n = omega (arith, block.room) in
+      let before = look-take is_et is_number_next passes old start k (omega (arith, block.room)) (λ j less. block.inside j (omega arith)) in
+      let after = look-drop is_et is_number_next passes old (start + k + 1) (n - suc k) (omega (arith, block.room))
+      (λ j less. subst (λ (p : ℕ). is_et (get_or old p L) ≡ true) (omega arith) (block.inside (k + 1 + j) (omega arith))) in
+      simp (w5_rule-ET (reverse (take (start + k) old)) (get_or old (start + k) L) (drop (start + k + 1) old) (block.inside k below), before, number, after, place, before_number_is)
 
   -- the class behind the block
   behind : (now : List BidiClass) → IsRewritten w5_rule old now (start + n) → IsAtBlock old now (is_en (class_at old (start + n))) (start + n + 1)
@@ -78,18 +70,14 @@ module _ (old : List BidiClass) (start n : ℕ) (block : IsBlock is_et old start
   pub IsAtBlock-filled : (now : List BidiClass) (after_number : Bool) (m : ℕ) → IsAtBlock old now after_number start → m ≡ n → (after_number || is_en (class_at old (start + n))) ≡ true
       → IsAtBlock old (put_mid start m now (replicate n EN)) (is_en (class_at old (start + n))) (start + n + 1)
   IsAtBlock-filled now after_number m h same beside =
-      let room = block.room in
       behind (put_mid start m now (replicate n EN))
-      (IsRewritten-filled w5_rule old now start n m EN h.rewritten block.room same
-      (λ k below. answers after_number (h.number (omega arith)) k below ∙ ap (λ b. cond b EN ET) beside))
+      (IsRewritten-filled w5_rule old now start n m EN h.rewritten block.room same (λ k below. simp (answers after_number (h.number (omega (arith, block.room))) k below, beside)))
 
   pub IsAtBlock-kept : (now : List BidiClass) (after_number : Bool) → IsAtBlock old now after_number start → (after_number || is_en (class_at old (start + n))) ≡ false
       → IsAtBlock old now (is_en (class_at old (start + n))) (start + n + 1)
   IsAtBlock-kept now after_number h alone =
-      let room = block.room in
-      behind now
-      (IsRewritten-unchanged w5_rule old now start n h.rewritten block.room
-      (λ k below. answers after_number (h.number (omega arith)) k below ∙ ap (λ b. cond b EN ET) alone ∙ sym (is_et-ET (get_or old (start + k) L) (block.inside k below))))
+      behind now (IsRewritten-unchanged w5_rule old now start n h.rewritten block.room
+      (λ k below. answers after_number (h.number (omega (arith, block.room))) k below ∙ simp (alone, is_et-ET (get_or old (start + k) L) (block.inside k below))))
 
 -- the same two steps as the pass makes them, which counts the block and reads behind it in the slice as it is now
 module _ (old now : List BidiClass) (after_number before_number : Bool) (start n : ℕ) (h : IsAtBlock old now after_number start) (fits : start ≤ length old)
@@ -103,11 +91,8 @@ module _ (old now : List BidiClass) (after_number before_number : Bool) (start n
   pub step-filled : (ys : List BidiClass) → (after_number || before_number) ≡ true → ys ≡ replicate (length (take (start + n - start) (drop start now))) EN
       → IsAtBlock old (put_mid start (start + n - start) now ys) before_number (start + n + 1)
   step-filled ys beside filled =
-      let room : start + n ≤ length old = block.room in
-      let long : length now ≡ length old = h.rewritten.long in
-      let all : ys ≡ replicate n EN = filled ∙ ap (λ (m : ℕ). replicate m EN) (length-part now start n (omega arith)) in
       let same : start + n - start ≡ n = omega arith in
-      rw (all, next_is) (IsAtBlock-filled old start n block now after_number (start + n - start) h same (ap (λ b. after_number || b) (sym next_is) ∙ beside))
+      simp (filled, length-part now start n (omega (arith, block.room, h.rewritten.long)), next_is) (IsAtBlock-filled old start n block now after_number (start + n - start) h same (rw next_is at beside))
 
   pub step-kept : (after_number || before_number) ≡ false → IsAtBlock old now before_number (start + n + 1)
-  step-kept alone = rw next_is (IsAtBlock-kept old start n block now after_number h (ap (λ b. after_number || b) (sym next_is) ∙ alone))
+  step-kept alone = rw next_is (IsAtBlock-kept old start n block now after_number h (rw next_is at alone))

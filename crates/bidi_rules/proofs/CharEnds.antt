@@ -1,13 +1,12 @@
 -- The character that begins at a boundary, and where it ends.
-use Rattle.std.proofs.Common.{◌≡◌, ℕ, ◌+◌, ◌-◌, ◌<◌, ◌≤◌, true, List, length, get_or, Option, Some, None, sym, ap, ◌∙◌, arith}
+use Rattle.std.proofs.Common.{◌≡◌, ℕ, ◌+◌, ◌<◌, ◌≤◌, true, List, length, get_or, Some, None, sym, ap, ◌∙◌, arith}
 use Rattle.std.proofs.lemmas.Grind.{common_steps}
 use Rattle.bidi_base.specs.declared.char_data.BidiClass.{BidiClass}
-use Rattle.bidi_base.specs.declared.char_data.BidiClass.TheVariants.{L}
 use Rattle.bidi_base.specs.Places.{class_at}
 use Rattle.bidi_base.specs.Text.{char_at, char_index, is_boundary, place, text_len, IsPerChar}
-use Rattle.bidi_base.proofs.PerUnit.{get_or-per_unit}
 use Rattle.bidi_base.proofs.PlaceLemmas.{char_at-place, char_index-place, is_boundary-place, place-char_index, place-end, place-le-back, place-mono, place-more, place-more-le, place-zero}
 use Rattle.bidi_base.proofs.TextLemmas.{HasUnits}
+use Rattle.bidi_rules.proofs.PassOverText.{alike_class}
 
 module _ (len_of : ℕ → ℕ) (h : HasUnits len_of) (chars : List ℕ) where
   -- a character begins at each boundary before the end
@@ -28,14 +27,10 @@ module _ (len_of : ℕ → ℕ) (h : HasUnits len_of) (chars : List ℕ) where
 
   pub end-within : (u c l : ℕ) → char_at len_of chars u ≡ Some (c, l) → is_boundary len_of chars u ≡ true → u < text_len len_of chars → u + l ≤ text_len len_of chars
   end-within u c l e boundary inside =
-      let b = begins_at u boundary inside in
-      omega (arith, b.there, length-at u c l b.index e b.within b.there, place-more-le len_of chars b.index 0 b.within)
-
-  some_none : (p : ℕ × ℕ) → ◌≡◌ {A = Option (ℕ × ℕ)} (Some p) None → ⊥
-  some_none p e = cc e
+      grind (arith, begins_at u boundary inside, length-at u c l, place-more-le)
 
   pub never-None : (u k : ℕ) → char_at len_of chars u ≡ None → k < length chars → u ≡ place len_of chars k → ⊥
-  never-None u k e within there = some_none (get_or chars k 0, len_of (get_or chars k 0)) (sym (char_at-place len_of h chars k 0 within) ∙ ap (char_at len_of chars) (sym there) ∙ e)
+  never-None u k e within there = cc (char_at-place len_of h chars k 0 within, there, e)
 
   pub index-zero : char_index len_of chars 0 ≡ 0
   index-zero = ap (char_index len_of chars) (sym (place-zero len_of chars)) ∙ char_index-place len_of chars h 0 (omega arith)
@@ -60,23 +55,17 @@ module _ (len_of : ℕ → ℕ) (h : HasUnits len_of) (chars : List ℕ) where
   goes classes at next to whole begins ends order inside is =
       let b = begins_at at begins (omega arith) in
       let there : next ≡ place len_of chars (b.index + 1) = is b.index b.within b.there in
-      let more = place-more len_of chars b.index 0 b.within in
-      let some = h (get_or chars b.index 0) in
-      let last = place-char_index len_of h chars to ends in
-      let below : b.index < char_index len_of chars to = grind (arith, place-mono) in
-      let up = place-mono len_of chars (b.index + 1) (char_index len_of chars to) (omega arith) in
-      let unit : (j : ℕ) → j < len_of (get_or chars b.index 0) → class_at classes (place len_of chars b.index + j) ≡ get_or whole.0 b.index L =
-      λ j inside. grind (arith, get_or-per_unit) in
-      let at_is : at ≡ place len_of chars b.index + 0 = omega (arith, b.there) in
       record {
-        some = omega (arith, b.there);
-        within = omega (arith, there, last);
-        begins = ap (is_boundary len_of chars) there ∙ is_boundary-place len_of chars (b.index + 1);
-        index =
-            ap (char_index len_of chars) there
-            ∙ char_index-place len_of chars h (b.index + 1) (omega (arith, b.within))
-            ∙ ap (λ k. k + 1) (sym (ap (char_index len_of chars) b.there ∙ char_index-place len_of chars h b.index (omega (arith, b.within))));
-        same = λ u above upto.
-            let u_is : u ≡ place len_of chars b.index + (u - at) = omega (arith, b.there) in
-            ap (class_at classes) u_is ∙ unit (u - at) (omega (arith, b.there, there)) ∙ sym (ap (class_at classes) at_is ∙ unit 0 (omega arith));
+        some = omega (arith, b.there, there, place-more len_of chars b.index 0 b.within, h (get_or chars b.index 0));
+        within = grind (
+          arith,
+          b.there,
+          there,
+          place-char_index len_of h chars to ends,
+          place-mono len_of chars (b.index + 1) (char_index len_of chars to),
+          place-mono len_of chars (char_index len_of chars to) b.index,
+        );
+        begins = cc (there, is_boundary-place len_of chars (b.index + 1));
+        index = cc (there, b.there, char_index-place len_of chars h (b.index + 1) (omega (arith, b.within)), char_index-place len_of chars h b.index (omega (arith, b.within)));
+        same = λ u above upto. cc (alike_class len_of h chars classes whole b.index u b.within (omega (arith, b.there)) (omega (arith, there)), b.there);
       }

@@ -1,11 +1,11 @@
 -- How many units of some ranges lie below a unit, and how many characters begin in them.
-use Rattle.std.proofs.Common.{◌≡◌, ℕ, zero, suc, ◌+◌, ◌-◌, ◌*◌, ◌<◌, ◌≤◌, min, List, [], ◌∷◌, length, true, false, get_or, take, drop, refl, sym, ap, ◌∙◌, arith, add-one, length-append, length-take, length-drop}
-use Rattle.std.proofs.lemmas.Grind.{common_steps}
+use Rattle.std.proofs.Common.{◌≡◌, ℕ, zero, suc, ◌+◌, ◌-◌, ◌*◌, ◌<◌, ◌≤◌, min, List, [], ◌∷◌, length, true, false, get_or, take, drop, refl, sym, arith, length-append, length-take, length-drop}
+use Rattle.std.proofs.lemmas.Grind.{common_steps, flat_map-append}
 use Rattle.std.specs.Prelude.{All, slice_range}
 use Rattle.std.proofs.lemmas.Bool.{cond-true, cond-false}
 use Rattle.std.proofs.lemmas.List.Elements.{All-head, All-tail}
 use Rattle.std.proofs.lemmas.List.FromFn.{length-range_with_len}
-use Rattle.std.proofs.lemmas.List.Sums.{sum_by-cons, sum_by-take-drop}
+use Rattle.std.proofs.lemmas.List.Sums.{sum_by-cons, sum_by-take-drop, sum_by-append}
 use Rattle.bidi_base.specs.Places.{between}
 use Rattle.bidi_base.specs.Text.{char_index, IsLine}
 use Rattle.bidi_base.specs.Units.{are_ordered, are_ordered_from, chars_in_runs, units_in_runs, AreLines}
@@ -15,16 +15,18 @@ use Rattle.bidi_rules.specs.declared.implicit.weak.numbers.Walk.{Walk}
 use Rattle.bidi_rules.specs.WeakPass.{waits}
 use Rattle.bidi_rules.specs.WeakWalk.{count_below, settled_to, WaitsBelow}
 use Rattle.bidi_rules.proofs.WalkLemmas.{are_ordered-front, are_ordered-take}
+use Rattle.bidi_rules.proofs.InRuns.{run_some, start_after}
+use Rattle.std.proofs.lemmas.List.{take_more}
 
 length-between : (low high : ℕ) → length (between low high) ≡ high - low
 length-between low high = length-range_with_len low (high - low)
 
-step : (a b u v : ℕ) → a < b → u ≤ v → min b u - min a u ≤ min b v - min a v
-step a b u v some order = omega arith
-
 count_below-cons : (r : ℕ × ℕ) (runs : List (ℕ × ℕ)) (u : ℕ) → count_below (r ∷ runs) u ≡ (min r.1 u - min r.0 u) + count_below runs u
 unfolding count_below
 count_below-cons r runs u = sum_by-cons (λ (r : ℕ × ℕ). min r.1 u - min r.0 u) r runs
+
+units-cons : (r : ℕ × ℕ) (runs : List (ℕ × ℕ)) → length (units_in_runs (r ∷ runs)) ≡ (r.1 - r.0) + length (units_in_runs runs)
+units-cons r runs = grind (arith, length-append, length-between) steps 400000
 
 pub count_below-none : (u : ℕ) → count_below [] u ≡ 0
 unfolding count_below
@@ -33,10 +35,7 @@ count_below-none u = refl
 pub count_below-monotone : (low : ℕ) (runs : List (ℕ × ℕ)) (u v : ℕ) → are_ordered_from low runs ≡ true → u ≤ v → count_below runs u ≤ count_below runs v
 count_below-monotone low [] u v h order = omega (arith, count_below-none u, count_below-none v)
 count_below-monotone low (r ∷ runs) u v h order =
-    let f = are_ordered-front low r runs h in
-    let here = step r.0 r.1 u v f.not_empty order in
-    let later = count_below-monotone r.1 runs u v f.later order in
-    omega (arith, here, later, count_below-cons r runs u, count_below-cons r runs v)
+    grind (arith, are_ordered-front low r runs h, count_below-monotone r.1 runs u v, count_below-cons r runs u, count_below-cons r runs v)
 
 -- of the units of one range each counts
 pub count_below-within : (low index : ℕ) (runs : List (ℕ × ℕ)) (u v : ℕ) → are_ordered_from low runs ≡ true → index < length runs → (get_or runs index (0, 0)).0 ≤ u → u ≤ v → v ≤ (get_or runs index (0, 0)).1
@@ -44,25 +43,15 @@ pub count_below-within : (low index : ℕ) (runs : List (ℕ × ℕ)) (u v : ℕ
 unfolding count_below
 count_below-within low index [] u v h fits from order to = absurd (omega arith)
 count_below-within low zero (r ∷ runs) u v h fits from order to =
-    let f = are_ordered-front low r runs h in
-    let here : (min r.1 u - min r.0 u) + (v - u) ≤ min r.1 v - min r.0 v = omega arith in
-    let later = count_below-monotone r.1 runs u v f.later order in
-    omega (arith, here, later, count_below-cons r runs u, count_below-cons r runs v)
+    grind (arith, are_ordered-front low r runs h, count_below-monotone r.1 runs u v, count_below-cons r runs u, count_below-cons r runs v)
 count_below-within low (suc index) (r ∷ runs) u v h fits from order to =
-    let f = are_ordered-front low r runs h in
-    let here = step r.0 r.1 u v f.not_empty order in
-    let later = count_below-within r.1 index runs u v f.later (omega arith) from order to in
-    omega (arith, here, later, count_below-cons r runs u, count_below-cons r runs v)
+    grind (arith, are_ordered-front low r runs h, count_below-within r.1 index runs u v, count_below-cons r runs u, count_below-cons r runs v)
 
 -- all of them
 pub count_below-all : (low : ℕ) (runs : List (ℕ × ℕ)) (n : ℕ) → are_ordered_from low runs ≡ true → All (λ (r : ℕ × ℕ). r.1 ≤ n) runs → count_below runs n ≡ length (units_in_runs runs)
 count_below-all low [] n h within = count_below-none n
 count_below-all low (r ∷ runs) n h within =
-    let f = are_ordered-front low r runs h in
-    let ends = All-head (λ (r : ℕ × ℕ). r.1 ≤ n) r runs within in
-    let here : min r.1 n - min r.0 n ≡ r.1 - r.0 = omega (arith, f.not_empty, ends) in
-    let later = count_below-all r.1 runs n f.later (All-tail (λ (r : ℕ × ℕ). r.1 ≤ n) r runs within) in
-    count_below-cons r runs n ∙ omega (arith, here, later, length-append (between r.0 r.1) (units_in_runs runs), length-between r.0 r.1) ∙ sym (length-append (between r.0 r.1) (units_in_runs runs))
+    grind (arith, All-head (λ (q : ℕ × ℕ). q.1 ≤ n) r runs within, are_ordered-front low r runs h, count_below-all r.1 runs n, All-tail (λ (q : ℕ × ℕ). q.1 ≤ n) r runs within, count_below-cons r runs n, units-cons r runs)
 
 -- of ranges in two parts
 pub count_below-parts : (index : ℕ) (runs : List (ℕ × ℕ)) (u : ℕ) → count_below runs u ≡ count_below (take index runs) u + count_below (drop index runs) u
@@ -70,36 +59,17 @@ unfolding count_below
 count_below-parts index runs u = sym (sum_by-take-drop (λ (r : ℕ × ℕ). min r.1 u - min r.0 u) runs index)
 
 -- one range more
-more : (index : ℕ) (runs : List (ℕ × ℕ)) (u : ℕ) → index < length runs → count_below (take (suc index) runs) u ≡ count_below (take index runs) u + (min (get_or runs index (0, 0)).1 u - min (get_or runs index (0, 0)).0 u)
-more index [] u fits = absurd (omega arith)
-more zero (r ∷ runs) u fits = omega (arith, count_below-cons r [] u, count_below-none u)
-more (suc index) (r ∷ runs) u fits = omega (arith, more index runs u (omega arith), count_below-cons r (take (suc index) runs) u, count_below-cons r (take index runs) u)
-
 pub count_below-more : (index : ℕ) (runs : List (ℕ × ℕ)) (u : ℕ) → index < length runs → count_below (take (index + 1) runs) u ≡ count_below (take index runs) u + (min (get_or runs index (0, 0)).1 u - min (get_or runs index (0, 0)).0 u)
-count_below-more index runs u fits = rw add-one (more index runs u fits)
-
-units-cons : (r : ℕ × ℕ) (runs : List (ℕ × ℕ)) → length (units_in_runs (r ∷ runs)) ≡ (r.1 - r.0) + length (units_in_runs runs)
-units-cons r runs = grind (arith, length-append, length-between) steps 400000
-
-units-more : (index : ℕ) (runs : List (ℕ × ℕ)) → index < length runs → length (units_in_runs (take (suc index) runs)) ≡ length (units_in_runs (take index runs)) + ((get_or runs index (0, 0)).1 - (get_or runs index (0, 0)).0)
-units-more index [] fits = absurd (omega arith)
-units-more zero (r ∷ runs) fits = units-cons r [] ∙ omega arith
-units-more (suc index) (r ∷ runs) fits = units-cons r (take (suc index) runs) ∙ omega (arith, units-more index runs (omega arith)) ∙ ap (λ n. n + ((get_or runs index (0, 0)).1 - (get_or runs index (0, 0)).0)) (sym (units-cons r (take index runs)))
+unfolding count_below
+count_below-more index runs u fits =
+    grind (arith, take_more runs index (0, 0) fits, sum_by-append (λ (r : ℕ × ℕ). min r.1 u - min r.0 u), sum_by-cons (λ (r : ℕ × ℕ). min r.1 u - min r.0 u))
 
 pub length-units_in_runs-more : (index : ℕ) (runs : List (ℕ × ℕ)) → index < length runs → length (units_in_runs (take (index + 1) runs)) ≡ length (units_in_runs (take index runs)) + ((get_or runs index (0, 0)).1 - (get_or runs index (0, 0)).0)
-length-units_in_runs-more index runs fits = rw add-one (units-more index runs fits)
+length-units_in_runs-more index runs fits = grind (arith, take_more runs index (0, 0) fits, flat_map-append, length-append, length-between)
 
 -- the ranges end one behind another
-starts_past : (low index : ℕ) (runs : List (ℕ × ℕ)) → are_ordered_from low runs ≡ true → index < length runs → low < (get_or runs index (0, 0)).1
-starts_past low index [] h fits = absurd (omega arith)
-starts_past low zero (r ∷ runs) h fits = let f = are_ordered-front low r runs h in omega (arith, f.from, f.not_empty)
-starts_past low (suc index) (r ∷ runs) h fits =
-    let f = are_ordered-front low r runs h in
-    let later : r.1 < (get_or runs index (0, 0)).1 = starts_past r.1 index runs f.later (omega arith) in
-    omega (arith, f.from, f.not_empty, later)
-
 pub ends_ascend : (low index : ℕ) (runs : List (ℕ × ℕ)) → are_ordered_from low runs ≡ true → index < length runs → (get_or runs 0 (0, 0)).1 ≤ (get_or runs index (0, 0)).1
-ends_ascend low index runs h fits = grind (arith, common_steps, starts_past)
+ends_ascend low index runs h fits = grind (arith, common_steps, are_ordered-front, run_some, start_after)
 
 -- what is settled where something waits, and where nothing does
 pub settled_to-waits : (w : Walk) (u : ℕ) → waits w.before ≡ true → settled_to w u ≡ w.first
@@ -120,11 +90,8 @@ paid-by-part index runs u v a b ordered order paid =
     )
 
 -- further on
-settled_to-monotone : (w : Walk) (u v : ℕ) → u ≤ v → settled_to w u ≤ settled_to w v
-settled_to-monotone w u v order = grind arith
-
 pub count_settled-monotone : (runs : List (ℕ × ℕ)) (w : Walk) (u v : ℕ) → are_ordered runs ≡ true → u ≤ v → count_below runs (settled_to w u) ≤ count_below runs (settled_to w v)
-count_settled-monotone runs w u v ordered order = search (arith, count_below-monotone, settled_to-monotone)
+count_settled-monotone runs w u v ordered order = grind (arith, count_below-monotone 0 runs (settled_to w u) (settled_to w v))
 
 pub WaitsBelow-later : (runs : List (ℕ × ℕ)) (w : Walk) (u v : ℕ) → u ≤ v → WaitsBelow runs w u → WaitsBelow runs w v
 WaitsBelow-later runs w u v order h = grind arith steps 400000
@@ -137,19 +104,12 @@ characters_within : (len_of : ℕ → ℕ) → HasUnits len_of → (chars : List
 characters_within len_of h chars start end line =
     let i = char_index len_of chars start in
     let j = char_index len_of chars end in
-    let at = line_places len_of h chars start end line in
-    let ordered = at.ordered in
-    let within = at.within in
-    let part = slice_range chars i j in
-    let count : length part ≡ j - i = omega (arith, length-take (j - i) (drop i chars), length-drop i chars) in
-    omega (arith, at.begins, at.ends, place-sum len_of chars i j ordered (omega arith), length-le-text_len len_of h part, count)
+    grind (arith, line_places len_of h chars start end line, place-sum len_of chars i j, length-le-text_len len_of h (slice_range chars i j), length-take (j - i) (drop i chars), length-drop i chars)
 
 pub characters-at_most : (len_of : ℕ → ℕ) → HasUnits len_of → (chars : List ℕ) (runs : List (ℕ × ℕ)) → AreLines len_of chars runs → length (chars_in_runs len_of chars runs) ≤ length (units_in_runs runs)
 unfolding chars_in_runs
 characters-at_most len_of h chars [] lines = omega arith
 characters-at_most len_of h chars (r ∷ runs) lines =
-    let i = char_index len_of chars r.0 in
-    let j = char_index len_of chars r.1 in
     let here = characters_within len_of h chars r.0 r.1 (All-head (λ (r : ℕ × ℕ). IsLine len_of chars r.0 r.1) r runs lines) in
     let later = characters-at_most len_of h chars runs (All-tail (λ (r : ℕ × ℕ). IsLine len_of chars r.0 r.1) r runs lines) in
-    omega (arith, here, later, units-cons r runs, length-append (between i j) (chars_in_runs len_of chars runs), length-between i j)
+    grind (arith, here, later, units-cons r runs, length-append, length-between)

@@ -1,12 +1,12 @@
 -- The explicit pass by stretches: where no control comes the status stands still, so the characters there have one level and are under one override.
-use Rattle.std.proofs.Common.{◌≡◌, ℕ, zero, suc, ◌+◌, ◌-◌, ◌<◌, ◌≤◌, ◌^◌, Bool, true, false, not, ◌||◌, List, [], ◌∷◌, ◌++◌, length, get_or, take, Option, Some, None, unwrap_or, refl, sym, ap, subst, ◌∙◌, arith, inl, inr, length-take, eq-eqb}
+use Rattle.std.proofs.Common.{◌≡◌, ℕ, zero, suc, ◌+◌, ◌-◌, ◌<◌, ◌≤◌, ◌^◌, Bool, true, false, not, ◌||◌, List, [], ◌∷◌, ◌++◌, length, get_or, Option, Some, None, unwrap_or, refl, sym, ap, subst, ◌∙◌, arith, inl, inr, length-take, eq-eqb}
 use Rattle.std.proofs.lemmas.Grind.{common_steps}
 use Rattle.std.specs.Prelude.{if◌then◌else◌}
-use Rattle.std.proofs.lemmas.Bool.{cases_Bool, cases_lt, cases_eq, cond-false, both_ways}
+use Rattle.std.proofs.lemmas.Bool.{cases_Bool, cases_lt, cases_eq}
 use Rattle.std.proofs.lemmas.List.{ext_get_or, length-replicate, get_or-drop, get_or-append_right}
 use Rattle.bidi_base.specs.declared.char_data.BidiClass.{BidiClass}
 use Rattle.bidi_base.specs.declared.char_data.BidiClass.TheVariants.{L, BN}
-use Rattle.bidi_base.specs.Classes.{is_kept, is_kept_in_place, is_opener, is_paragraph_separator, is_pdf, is_pdi, is_removed}
+use Rattle.bidi_base.specs.Classes.{is_kept, is_kept_in_place, is_paragraph_separator, is_removed}
 use Rattle.bidi_base.specs.Places.{class_at}
 use Rattle.bidi_base.specs.Search.{IsFirst}
 use Rattle.bidi_base.specs.Sequences.{is_kept_at, level_at}
@@ -28,12 +28,9 @@ use Rattle.bidi_rules.specs.declared.explicit.stretches.OpenRun.{OpenRun}
 use Rattle.bidi_rules.proofs.ExplicitUnits.{CanRead, can_read, length-filled, processing_class-is, level_at as level_of_next, put_at, next_at, text_len-some}
 use Rattle.bidi_rules.proofs.RunCutting.{IsCutTo-start, IsCutTo-removed, IsCutTo-kept, IsCutTo-end, IsCutTo-none}
 use Rattle.bidi_rules.proofs.StackLemmas.{closed-other, opened-other}
+use Rattle.std.proofs.Math.Nat.{add-zero}
 
 -- ---- a part of a list that is written over
-
-module _ {X : Type 0} (from len : ℕ) (row units : List X) (d : X) (fits : from + len ≤ length units) (long : length row ≡ len) where
-  front_long : length (take from units) ≡ from
-  front_long = omega (arith, length-take from units)
 
 filled-inside : {X : Type 0} (from len : ℕ) (x d : X) (units : List X) → from + len ≤ length units → (k : ℕ) → from ≤ k → k < from + len → get_or (filled from len x units) k d ≡ x
 filled-inside from len x d units fits k a b = grind (arith, common_steps)
@@ -42,15 +39,12 @@ filled-below : {X : Type 0} (from len : ℕ) (x d : X) (units : List X) → from
 filled-below from len x d units fits k a = grind (arith, common_steps)
 
 filled-above : {X : Type 0} (from len : ℕ) (x d : X) (units : List X) → from + len ≤ length units → (k : ℕ) → from + len ≤ k → get_or (filled from len x units) k d ≡ get_or units k d
-filled-above from len x d units fits k a = grind (arith, length-replicate, get_or-append_right, front_long, get_or-drop) steps 400000
+filled-above from len x d units fits k a = grind (arith, length-replicate, get_or-append_right, length-take, get_or-drop) steps 400000
 
 module _ (put : BidiClass) (from at next : ℕ) (old now : List BidiClass) (h : IsOverridden (Some put) from at old now) (begun : from ≤ at) (order : at ≤ next) where
   pub IsOverridden-spared : ((u : ℕ) → at ≤ u → u < next → is_kept_in_place (class_at old u) ≡ false) → IsOverridden (Some put) from next old now
   IsOverridden-spared spared = record {
-    inside = λ u above below. elim (cases_lt u at) [
-      | inl done ↦ h.inside u above done
-      | inr new ↦ grind arith
-    ];
+    inside = λ u above below. grind (arith, cases_lt u at);
     below = h.below;
     above = λ u above. h.above u (omega arith);
     long = h.long;
@@ -60,10 +54,7 @@ module _ (put : BidiClass) (from at next : ℕ) (old now : List BidiClass) (h : 
   IsOverridden-more room kept =
       let fits : at + (next - at) ≤ length now = omega (arith, h.long) in
       record {
-        inside = λ u above below. elim (cases_lt u at) [
-          | inl done ↦ filled-below at (next - at) put L now fits u done ∙ h.inside u above done
-          | inr new ↦ grind (arith, filled-inside)
-        ];
+        inside = λ u above below. grind (arith, cases_lt u at, filled-inside, filled-below);
         below = λ u below. filled-below at (next - at) put L now fits u (omega arith) ∙ h.below u below;
         above = λ u above. filled-above at (next - at) put L now fits u (omega arith) ∙ h.above u (omega arith);
         long = length-filled at (next - at) put now fits ∙ h.long;
@@ -71,52 +62,29 @@ module _ (put : BidiClass) (from at next : ℕ) (old now : List BidiClass) (h : 
 
 -- ---- a class that is no control
 
-record IsPlain (c : BidiClass) : Type 0 where
-  separator : is_paragraph_separator c ≡ false
-  opener : is_opener c ≡ false
-  pdi : is_pdi c ≡ false
-  pdf : is_pdf c ≡ false
-
-plain_of : (c : BidiClass) → is_control c ≡ false → IsPlain c
-plain_of c e = grind arith
-
 step-plain : (c : BidiClass) (s : State) → is_control c ≡ false → step c s ≡ s
 step-plain c s e = grind (arith, closed-other, opened-other)
 
 kept-plain : (c : BidiClass) → is_control c ≡ false → is_kept c ≡ is_kept_in_place c
 kept-plain c e = grind arith
 
-class-plain : (c : BidiClass) (override : Option BidiClass) → is_control c ≡ false → (if is_removed c then BN else if is_paragraph_separator c || is_removed c then c else unwrap_or override c) ≡ overridden override c
-class-plain c override e = grind arith
-
 -- ---- level runs over several characters
 
-module _ (len_of : ℕ → ℕ) (chars : List ℕ) (classes : List BidiClass) (levels : List ℕ) where
-  cut-removed : (i n : ℕ) (runs : List (ℕ × ℕ)) (from : ℕ) (last : Option ℕ) → ((k : ℕ) → i ≤ k → k < i + n → is_kept_at classes k ≡ false) → IsCutTo len_of chars classes levels i runs from last → IsCutTo len_of chars classes levels (i + n) runs from last
-  cut-removed i zero runs from last gone h = subst (λ k. IsCutTo len_of chars classes levels k runs from last) (omega arith) h
-  cut-removed i (suc n) runs from last gone h =
-      let next : i + n + 1 ≡ i + suc n = omega arith in
-      subst (λ k. IsCutTo len_of chars classes levels k runs from last) next
-      (IsCutTo-removed len_of chars classes levels (i + n) runs from last (gone (i + n) (omega arith) (omega arith)) (cut-removed i n runs from last (λ k a b. gone k a (omega arith)) h))
+-- what each of some steps keeps
+kept_on : (P : ℕ → Type 0) (i n j : ℕ) → i + n ≡ j → ((k : ℕ) → i ≤ k → k < j → P k → P (k + 1)) → P i → P j
+kept_on P i zero j is step h = subst P (omega (arith, is)) h
+kept_on P i (suc n) j is step h = kept_on P (i + 1) n j (omega arith) (λ k a b. step k (omega arith) b) (step i (omega arith) (omega arith) h)
 
+module _ (len_of : ℕ → ℕ) (chars : List ℕ) (classes : List BidiClass) (levels : List ℕ) where
   same_level : (level : ℕ) → differs (Some level) level ≡ false
   same_level level = ap not (eq-eqb level level refl)
 
   -- those behind a kept one at the same level go with its run
-  cut-same : (i n : ℕ) (runs : List (ℕ × ℕ)) (from level : ℕ) → ((k : ℕ) → i ≤ k → k < i + n → level ≡ level_at levels k) → IsCutTo len_of chars classes levels i runs from (Some level) → IsCutTo len_of chars classes levels (i + n) runs from (Some level)
-  cut-same i zero runs from level one h = subst (λ k. IsCutTo len_of chars classes levels k runs from (Some level)) (omega arith) h
-  cut-same i (suc n) runs from level one h =
-      let next : i + n + 1 ≡ i + suc n = omega arith in
-      let before = cut-same i n runs from level (λ k a b. one k a (omega arith)) h in
-      let there = place len_of chars (i + n) in
-      subst (λ k. IsCutTo len_of chars classes levels k runs from (Some level)) next
-      (elim (cases_Bool (is_kept_at classes (i + n))) [
-        | inl kept ↦
-            subst (λ (rs : List (ℕ × ℕ)). IsCutTo len_of chars classes levels (i + n + 1) rs from (Some level)) (cond-false (differs (Some level) level) (runs ++ (from, there) ∷ []) runs (same_level level))
-            (subst (λ (n' : ℕ). IsCutTo len_of chars classes levels (i + n + 1) (runs_before (Some level) level from there runs) n' (Some level)) (cond-false (differs (Some level) level) there from (same_level level))
-            (IsCutTo-kept len_of chars classes levels (i + n) runs from (Some level) level kept (one (i + n) (omega arith) (omega arith)) before))
-        | inr gone ↦ IsCutTo-removed len_of chars classes levels (i + n) runs from (Some level) gone before
-      ])
+  cut-same : (i j : ℕ) (runs : List (ℕ × ℕ)) (from level : ℕ) → i ≤ j → ((k : ℕ) → i ≤ k → k < j → level ≡ level_at levels k) → IsCutTo len_of chars classes levels i runs from (Some level) → IsCutTo len_of chars classes levels j runs from (Some level)
+  cut-same i j runs from level order one = kept_on (λ k. IsCutTo len_of chars classes levels k runs from (Some level)) i (j - i) j (omega arith) (λ k a b h. elim (cases_Bool (is_kept_at classes k)) [
+    | inl kept ↦ simp (same_level level) at (IsCutTo-kept len_of chars classes levels k runs from (Some level) level kept (one k a b) h)
+    | inr gone ↦ IsCutTo-removed len_of chars classes levels k runs from (Some level) gone h
+  ])
 
 -- ---- the characters of a paragraph
 
@@ -143,25 +111,24 @@ module _ (p : Paragraph) (has_units : HasUnits p.len_of) (whole : IsPerChar p.le
   class-at_unit k j fits below = grind (arith, original_is, get_or-per_unit, stored_long) steps 400000
 
   class-at_place : (k : ℕ) → k < length p.chars → class_at p.original (place_of k) ≡ class_at (stored p) k
-  class-at_place k fits =
-      let here : place_of k ≡ place_of k + 0 = omega arith in
-      ap (class_at p.original) here ∙ class-at_unit k 0 fits (omega (arith, has_units (get_or p.chars k 0)))
+  class-at_place k fits = simp add-zero at (class-at_unit k 0 fits (omega (arith, has_units (get_or p.chars k 0))))
+
+  -- what stands at a unit of a character
+  of_unit : {X : Type 0} (d : X) (values : List X) (v : ℕ) (w : UnitOf p.len_of p.chars v) → length values ≡ length p.chars → get_or (per_unit p.len_of p.chars values) v d ≡ get_or values w.index d
+  of_unit d values v w long = ap (λ u. get_or (per_unit p.len_of p.chars values) u d) w.at_place ∙ get_or-per_unit p.len_of p.chars values w.index w.offset 0 d long w.within w.below
 
   -- a unit between two places is one of a character between them
   unit-from : (i v : ℕ) → place_of i ≤ v → (w : UnitOf p.len_of p.chars v) → i ≤ w.index
-  unit-from i v above w = elim (cases_lt w.index i) [
-    | inl past ↦ absurd (omega (arith, w.at_place, w.below, place-more p.len_of p.chars w.index 0 w.within, place-mono p.len_of p.chars (w.index + 1) i (omega arith)))
-    | inr order ↦ order
-  ]
+  unit-from i v above w = grind (arith, w.at_place, w.below, place-more p.len_of p.chars w.index 0 w.within, place-mono p.len_of p.chars (w.index + 1) i)
 
   unit-to : (j v : ℕ) → v < place_of j → (w : UnitOf p.len_of p.chars v) → w.index < j
   unit-to j v below w = grind (arith, place-mono)
 
-  -- a character that begins at unit u, behind others
+  -- a character that begins at unit u, behind others, or the end
   record BeginsFrom (i u : ℕ) : Type 0 where
     index : ℕ
     order : i ≤ index
-    within : index < length p.chars
+    within : index ≤ length p.chars
     there : u ≡ place_of index
 
   -- the first unit that passes a test is the first one of its character
@@ -171,67 +138,42 @@ module _ (p : Paragraph) (has_units : HasUnits p.len_of) (whole : IsPerChar p.le
       let order : i ≤ w.index = unit-from i u (omega (arith, h.begins)) w in
       let after = place-mono p.len_of p.chars i w.index order in
       elim (cases_eq w.offset 0) [
-        | inl none ↦ record { index = w.index; order = order; within = w.within; there = omega (arith, w.at_place) }
-        | inr some ↦ absurd (both_ways (test (class_at p.original (place_of w.index))) (h.before (place_of w.index) (omega arith) (omega (arith, w.at_place)))
-            (ap test (class-at_place w.index w.within ∙ sym (class-at_unit w.index w.offset w.within w.below) ∙ ap (class_at p.original) (sym w.at_place)) ∙ h.at inside))
+        | inl none ↦ record { index = w.index; order = order; within = omega (arith, w.within); there = omega (arith, w.at_place) }
+        | inr some ↦ absurd (cc (
+          h.before (place_of w.index) (omega arith) (omega (arith, w.at_place)),
+          h.at inside,
+          class-at_place w.index w.within,
+          class-at_unit w.index w.offset w.within w.below,
+          w.at_place,
+        ))
       ]
 
   -- where a stretch without controls ends
-  record EndsAt (i to : ℕ) : Type 0 where
-    index : ℕ
-    order : i ≤ index
-    within : index ≤ length p.chars
-    there : to ≡ place_of index
-
-  stretch-ends : (i from to : ℕ) → from ≡ place_of i → i ≤ length p.chars → IsFirst is_control p.original from (length p.original) to → EndsAt i to
-  stretch-ends i from to from_is short h = elim (cases_lt to (length p.original)) [
-    | inl inside ↦
-        let b = first-begins is_control i from (length p.original) to from_is (omega arith) h inside in
-        record { index = b.index; order = b.order; within = omega (arith, b.within); there = b.there }
-    | inr past ↦ record { index = length p.chars; order = short; within = omega arith; there = omega (arith, h.ends, original_long, place-end p.len_of p.chars (length p.chars) (omega arith)) }
-  ]
+  stretch-ends : (i from to : ℕ) → from ≡ place_of i → i ≤ length p.chars → IsFirst is_control p.original from (length p.original) to → BeginsFrom i to
+  stretch-ends i from to from_is short h =
+      grind (arith, cases_lt to (length p.original), first-begins is_control i from (length p.original) to, original_long, place-end p.len_of p.chars (length p.chars))
 
   -- what holds of the class of each unit holds of each character
   each-char : (test : BidiClass → Bool) (b : Bool) (i j from to : ℕ) → from ≡ place_of i → to ≡ place_of j → j ≤ length p.chars → ((u : ℕ) → from ≤ u → u < to → test (class_at p.original u) ≡ b) → (k : ℕ) → i ≤ k → k < j → test (class_at (stored p) k) ≡ b
   each-char test b i j from to from_is to_is short each k above below =
-      ap test (sym (class-at_place k (omega arith)))
-      ∙ each (place_of k) (omega (arith, place-mono p.len_of p.chars i k above)) (omega (arith, place-lt p.len_of p.chars has_units k j below (omega arith)))
+      grind (arith, class-at_place k, place-mono p.len_of p.chars i k, place-lt p.len_of p.chars has_units k j, each (place_of k))
 
   -- where characters i to j are no controls
   module _ (i j : ℕ) (order : i ≤ j) (short : j ≤ length p.chars) (plain : (k : ℕ) → i ≤ k → k < j → is_control (class_at (stored p) k) ≡ false) where
-    state-still : (n : ℕ) → i + n ≤ j → state_at p.level (stored p) (i + n) ≡ state_at p.level (stored p) i
-    state-still zero fits = ap (state_at p.level (stored p)) (let same : i + 0 ≡ i = omega arith in same)
-    state-still (suc n) fits =
-        let next : i + suc n ≡ i + n + 1 = omega arith in
-        ap (state_at p.level (stored p)) next
-        ∙ state_at-more p.level (stored p) (i + n)
-        ∙ step-plain (class_at (stored p) (i + n)) (state_at p.level (stored p) (i + n)) (plain (i + n) (omega arith) (omega arith))
-        ∙ state-still n (omega arith)
-
     state-to : (k : ℕ) → i ≤ k → k ≤ j → state_at p.level (stored p) k ≡ state_at p.level (stored p) i
     state-to k above upto =
-        let there : k ≡ i + (k - i) = omega arith in
-        ap (state_at p.level (stored p)) there ∙ state-still (k - i) (omega arith)
+        kept_on (λ m. state_at p.level (stored p) m ≡ state_at p.level (stored p) i) i (k - i) k (omega arith)
+        (λ m a b same. simp (state_at-more, step-plain, plain m a (omega arith), same)) refl
 
     closed-still : (k : ℕ) → i ≤ k → k < j → closed (class_at (stored p) k) (state_at p.level (stored p) k) ≡ state_at p.level (stored p) i
     closed-still k above below = grind (arith, closed-other, state-to)
 
     level-still : (k : ℕ) → i ≤ k → k < j → get_or (levels_of p) k 0 ≡ (state_at p.level (stored p) i).top.status.level
     level-still k above below =
-        let fits : k < length (stored p) = omega (arith, stored_long) in
-        let h = plain_of (class_at (stored p) k) (plain k above below) in
-        level_at-explicit_levels p.level (stored p) k fits
-        ∙ sym (answer_level-explicit_level p.level (stored p) k fits)
-        ∙ cond-false (is_paragraph_separator (class_at (stored p) k)) _ _ h.separator
-        ∙ ap (λ (s : State). s.top.status.level) (closed-still k above below)
+        grind (arith, level_at-explicit_levels p.level (stored p) k, answer_level-explicit_level p.level (stored p) k, closed-still k, stored_long, plain k)
 
     class-still : (k : ℕ) → i ≤ k → k < j → class_at (classes_of p) k ≡ overridden (state_at p.level (stored p) i).top.status.override (class_at (stored p) k)
-    class-still k above below =
-        let fits : k < length (stored p) = omega (arith, stored_long) in
-        class_at-processing_classes p.level (stored p) k fits
-        ∙ sym (processing_class-is p.level (stored p) k fits)
-        ∙ class-plain (class_at (stored p) k) (closed (class_at (stored p) k) (state_at p.level (stored p) k)).top.status.override (plain k above below)
-        ∙ ap (λ (s : State). overridden s.top.status.override (class_at (stored p) k)) (closed-still k above below)
+    class-still k above below = grind (arith, class_at-processing_classes p.level (stored p) k, processing_class-is p.level (stored p) k, closed-still k, stored_long, plain k)
 
 -- as many characters are read as begin below the unit
 pub read-index : (p : Paragraph) (u : ℕ) (stack : State) (levels : List ℕ) (classes : List BidiClass) (runs : List (ℕ × ℕ)) (run : OpenRun) (h : IsReadTo p u stack levels classes runs run) → char_index p.len_of p.chars u ≡ h.index
@@ -240,11 +182,52 @@ read-index p u stack levels classes runs run h = ap (char_index p.len_of p.chars
 pub read-begins : (p : Paragraph) (u : ℕ) (stack : State) (levels : List ℕ) (classes : List BidiClass) (runs : List (ℕ × ℕ)) (run : OpenRun) → IsReadTo p u stack levels classes runs run → is_boundary p.len_of p.chars u ≡ true
 read-begins p u stack levels classes runs run h = grind (arith, is_boundary-place) steps 400000
 
+-- ---- more characters are read
+
+module _ (p : Paragraph) (at : ℕ) (stack : State) (levels : List ℕ) (classes : List BidiClass) (runs : List (ℕ × ℕ)) (run : OpenRun) (h : IsReadTo p at stack levels classes runs run) (to index : ℕ)
+    (begins : to ≡ place p.len_of p.chars index) (order : h.index ≤ index) (within : index ≤ length p.chars) where
+  read-more : (next : State) (level : ℕ) (now_levels : List ℕ) (now_classes : List BidiClass) (now_runs : List (ℕ × ℕ)) (now : OpenRun) → next ≡ state_at p.level (stored p) index
+      → now_levels ≡ filled at (to - at) level levels → ((k : ℕ) → h.index ≤ k → k < index → get_or (levels_of p) k 0 ≡ level)
+      → length now_classes ≡ length classes → ((v : ℕ) → v < at → class_at now_classes v ≡ class_at classes v) → ((v : ℕ) → to ≤ v → class_at now_classes v ≡ class_at classes v)
+      → ((v : ℕ) → at ≤ v → v < to → (w : UnitOf p.len_of p.chars v) → h.index ≤ w.index → w.index < index → class_at now_classes v ≡ class_at (classes_of p) w.index)
+      → IsCutTo p.len_of p.chars (stored p) (levels_of p) index now_runs now.start now.last_level → IsReadTo p to next now_levels now_classes now_runs now
+  read-more next level now_levels now_classes now_runs now machine filled_is each long below above new cut =
+      let upto : to ≤ text_len p.len_of p.chars = omega (arith, begins, place-le p.len_of p.chars index) in
+      let from : at ≤ to = omega (arith, begins, h.begins, place-mono p.len_of p.chars h.index index order) in
+      let room : at + (to - at) ≤ length levels = omega (arith, h.levels_long) in
+      let unit = λ (v : ℕ) (inside : v < to). unit_of p.len_of p.chars v (omega arith) in
+      let first = λ (v : ℕ) (a : at ≤ v) (b : v < to). unit-from p h.has_units h.per_char h.index v (omega (arith, h.begins)) (unit v b) in
+      let last = λ (v : ℕ) (b : v < to). unit-to p h.has_units h.per_char index v (omega (arith, begins)) (unit v b) in
+      record {
+        has_units = h.has_units;
+        per_char = h.per_char;
+        index = index;
+        begins = begins;
+        within = within;
+        machine = machine;
+        levels_long = simp (filled_is, length-filled at (to - at) level levels room, h.levels_long);
+        classes_long = long ∙ h.classes_long;
+        levels_written = λ v b. simp filled_is (elim (cases_lt v at) [
+          | inl old ↦ filled-below at (to - at) level 0 levels room v old ∙ h.levels_written v old
+          | inr a ↦ cc (
+            filled-inside at (to - at) level 0 levels room v a (omega arith),
+            each (unit v b).index (first v a b) (last v b),
+            of_unit p h.has_units h.per_char 0 (levels_of p) v (unit v b) (levels_long p h.has_units h.per_char),
+          )
+        ]);
+        classes_written = λ v b. elim (cases_lt v at) [
+          | inl old ↦ below v old ∙ h.classes_written v old
+          | inr a ↦ cc (new v a b (unit v b) (first v a b) (last v b), of_unit p h.has_units h.per_char L (classes_of p) v (unit v b) (classes_long p h.has_units h.per_char))
+        ];
+        unread = λ v a. above v a ∙ h.unread v (omega arith);
+        cut = cut;
+      }
+
 -- ---- a stretch is read
 
 module _ (p : Paragraph) (from to : ℕ) (stack : State) (levels : List ℕ) (classes : List BidiClass) (runs : List (ℕ × ℕ)) (run : OpenRun) (h : IsReadTo p from stack levels classes runs run)
     (stretch : IsFirst is_control p.original from (length p.original) to) where
-  end : EndsAt p h.has_units h.per_char h.index to
+  end : BeginsFrom p h.has_units h.per_char h.index to
   end = stretch-ends p h.has_units h.per_char h.index from to h.begins h.within stretch
 
   plain : (k : ℕ) → h.index ≤ k → k < end.index → is_control (class_at (stored p) k) ≡ false
@@ -254,94 +237,54 @@ module _ (p : Paragraph) (from to : ℕ) (stack : State) (levels : List ℕ) (cl
   IsCut k rs start last = IsCutTo p.len_of p.chars (stored p) (levels_of p) k rs start last
 
   level-here : (k : ℕ) → h.index ≤ k → k < end.index → get_or (levels_of p) k 0 ≡ stack.top.status.level
-  level-here k above below = level-still p h.has_units h.per_char h.index end.index end.order end.within plain k above below ∙ ap (λ (s : State). s.top.status.level) (sym h.machine)
+  level-here k above below = simp h.machine (level-still p h.has_units h.per_char h.index end.index end.order end.within plain k above below)
 
   class-here : (k : ℕ) → h.index ≤ k → k < end.index → class_at (classes_of p) k ≡ overridden stack.top.status.override (class_at (stored p) k)
-  class-here k above below =
-      class-still p h.has_units h.per_char h.index end.index end.order end.within plain k above below ∙ ap (λ (s : State). overridden s.top.status.override (class_at (stored p) k)) (sym h.machine)
+  class-here k above below = simp h.machine (class-still p h.has_units h.per_char h.index end.index end.order end.within plain k above below)
 
   kept-as : (b : Bool) (j u : ℕ) → u ≡ place p.len_of p.chars j → j ≤ end.index → ((v : ℕ) → from ≤ v → v < u → is_kept_in_place (class_at p.original v) ≡ b) → (k : ℕ) → h.index ≤ k → k < j → is_kept_at (stored p) k ≡ b
   kept-as b j u there upto each k above below =
-      let last = end.within in
-      kept-plain (class_at (stored p) k) (plain k above (omega arith))
-      ∙ each-char p h.has_units h.per_char is_kept_in_place b h.index j from u h.begins there (omega arith) each k above below
+      grind (arith, kept-plain (class_at (stored p) k), plain k, end.within, each-char p h.has_units h.per_char is_kept_in_place b h.index j from u h.begins there)
 
   -- up to the first kept unit
   cut-before : (j u : ℕ) → u ≡ place p.len_of p.chars j → h.index ≤ j → j ≤ end.index → ((v : ℕ) → from ≤ v → v < u → is_kept_in_place (class_at p.original v) ≡ false) → IsCut j runs run.start run.last_level
   cut-before j u there order upto none =
-      let all : h.index + (j - h.index) ≡ j = omega arith in
-      subst (λ k. IsCut k runs run.start run.last_level) all
-      (cut-removed p.len_of p.chars (stored p) (levels_of p) h.index (j - h.index) runs run.start run.last_level (λ k above below. kept-as false j u there upto none k above (omega arith)) h.cut)
-
-  cut-none : (v : ℕ) → IsFirst is_kept_in_place p.original from to v → to ≤ v → IsCut end.index runs run.start run.last_level
-  cut-none v first past = cut-before end.index to end.there end.order (omega arith) (λ u above below. first.before u above (omega arith))
+      kept_on (λ k. IsCut k runs run.start run.last_level) h.index (j - h.index) j (omega arith)
+      (λ k a b. IsCutTo-removed p.len_of p.chars (stored p) (levels_of p) k runs run.start run.last_level (kept-as false j u there upto none k a b)) h.cut
 
   cut-some : (v level : ℕ) → level ≡ stack.top.status.level → IsFirst is_kept_in_place p.original from to v → v < to → IsCut end.index (runs_before run.last_level level run.start v runs) (run_start run.last_level level run.start v) (Some level)
   cut-some v level level_is first inside =
       let last = stretch.ends in
       let b = first-begins p h.has_units h.per_char is_kept_in_place h.index from to v h.begins (omega arith) first inside in
-      let below : b.index < end.index = elim (cases_lt b.index end.index) [
-        | inl less ↦ less
-        | inr past ↦ absurd (omega (arith, b.there, end.there, place-mono p.len_of p.chars end.index b.index past))
-      ] in
-      let kept : is_kept_at (stored p) b.index ≡ true =
-      kept-plain (class_at (stored p) b.index) (plain b.index b.order below) ∙ ap is_kept_in_place (sym (ap (class_at p.original) b.there ∙ class-at_place p h.has_units h.per_char b.index b.within)) ∙ first.at inside in
-      let here = IsCutTo-kept p.len_of p.chars (stored p) (levels_of p) b.index runs run.start run.last_level level kept (level_is ∙ sym (level-here b.index b.order below)) (cut-before b.index v b.there b.order (omega arith) first.before) in
-      let there : IsCut (b.index + 1) (runs_before run.last_level level run.start v runs) (run_start run.last_level level run.start v) (Some level) =
-      subst (λ u. IsCut (b.index + 1) (runs_before run.last_level level run.start u runs) (run_start run.last_level level run.start u) (Some level)) (sym b.there) here in
-      let all : b.index + 1 + (end.index - (b.index + 1)) ≡ end.index = omega arith in
-      let start_is : h.index ≤ b.index = b.order in
-      subst (λ k. IsCut k (runs_before run.last_level level run.start v runs) (run_start run.last_level level run.start v) (Some level)) all
-      (cut-same p.len_of p.chars (stored p) (levels_of p) (b.index + 1) (end.index - (b.index + 1)) (runs_before run.last_level level run.start v runs) (run_start run.last_level level run.start v) level
-      (λ k above upto. level_is ∙ sym (level-here k (omega arith) (omega arith))) there)
+      let below : b.index < end.index = grind (arith, place-mono) in
+      let kept : is_kept_at (stored p) b.index ≡ true = cc (kept-plain (class_at (stored p) b.index) (plain b.index b.order below), class-at_place p h.has_units h.per_char b.index (omega (arith, below, end.within)), b.there, first.at inside) in
+      cut-same p.len_of p.chars (stored p) (levels_of p) (b.index + 1) end.index (runs_before run.last_level level run.start v runs) (run_start run.last_level level run.start v) level (omega arith)
+      (λ k above upto. level_is ∙ sym (level-here k (omega (arith, b.order)) upto))
+      (simp (← b.there) at (IsCutTo-kept p.len_of p.chars (stored p) (levels_of p) b.index runs run.start run.last_level level kept (level_is ∙ sym (level-here b.index b.order below))
+      (cut-before b.index v b.there b.order (omega arith) first.before)))
 
   stretch-read : (level : ℕ) (override : Option BidiClass) (now_levels : List ℕ) (now_classes : List BidiClass) (now_runs : List (ℕ × ℕ)) (now : OpenRun) → level ≡ stack.top.status.level → override ≡ stack.top.status.override
       → now_levels ≡ filled from (to - from) level levels → IsOverridden override from to classes now_classes → IsCut end.index now_runs now.start now.last_level → IsReadTo p to stack now_levels now_classes now_runs now
   stretch-read level override now_levels now_classes now_runs now level_is override_is filled_is over cut =
-      let begins = stretch.begins in
-      let ends = stretch.ends in
-      let long = original_long p h.has_units h.per_char in
-      let room : from + (to - from) ≤ length levels = omega (arith, h.levels_long) in
-      let unit : (v : ℕ) → v < to → UnitOf p.len_of p.chars v = λ v below. unit_of p.len_of p.chars v (omega arith) in
-      record {
-        has_units = h.has_units;
-        per_char = h.per_char;
-        index = end.index;
-        begins = end.there;
-        within = end.within;
-        machine = h.machine ∙ sym (state-to p h.has_units h.per_char h.index end.index end.order end.within plain end.index end.order (omega arith));
-        levels_long = ap length filled_is ∙ length-filled from (to - from) level levels room ∙ h.levels_long;
-        classes_long = over.long ∙ h.classes_long;
-        levels_written = λ v below. ap (λ (ls : List ℕ). get_or ls v 0) filled_is ∙ elim (cases_lt v from) [
-          | inl old ↦ filled-below from (to - from) level 0 levels room v old ∙ h.levels_written v old
-          | inr new' ↦
-              let w = unit v below in
-              filled-inside from (to - from) level 0 levels room v new' (omega arith)
-              ∙ level_is
-              ∙ sym (level-here w.index (unit-from p h.has_units h.per_char h.index v (omega (arith, h.begins)) w) (unit-to p h.has_units h.per_char end.index v (omega (arith, end.there)) w))
-              ∙ sym (get_or-per_unit p.len_of p.chars (levels_of p) w.index w.offset 0 0 (levels_long p h.has_units h.per_char) w.within w.below)
-              ∙ ap (λ (u : ℕ). get_or (per_unit p.len_of p.chars (levels_of p)) u 0) (sym w.at_place)
-        ];
-        classes_written = λ v below. elim (cases_lt v from) [
-          | inl old ↦ over.below v old ∙ h.classes_written v old
-          | inr new' ↦
-              let w = unit v below in
-              over.inside v new' below
-              ∙ ap (λ (o : Option BidiClass). overridden o (class_at classes v)) override_is
-              ∙ ap (overridden stack.top.status.override) (h.unread v new' ∙ ap (class_at p.original) w.at_place ∙ class-at_unit p h.has_units h.per_char w.index w.offset w.within w.below)
-              ∙ sym (class-here w.index (unit-from p h.has_units h.per_char h.index v (omega (arith, h.begins)) w) (unit-to p h.has_units h.per_char end.index v (omega (arith, end.there)) w))
-              ∙ sym (get_or-per_unit p.len_of p.chars (classes_of p) w.index w.offset 0 L (classes_long p h.has_units h.per_char) w.within w.below)
-              ∙ ap (class_at (per_unit p.len_of p.chars (classes_of p))) (sym w.at_place)
-        ];
-        unread = λ v above. over.above v above ∙ h.unread v (omega arith);
-        cut = cut;
-      }
+      read-more p from stack levels classes runs run h to end.index end.there end.order end.within stack level now_levels now_classes now_runs now
+      (h.machine ∙ sym (state-to p h.has_units h.per_char h.index end.index end.order end.within plain end.index end.order (omega arith)))
+      filled_is (λ k above below. level-here k above below ∙ sym level_is) over.long over.below over.above
+      (λ v above below w first last. cc (
+        over.inside v above below,
+        override_is,
+        h.unread v above,
+        w.at_place,
+        class-at_unit p h.has_units h.per_char w.index w.offset w.within w.below,
+        class-here w.index first last,
+      ))
+      cut
 
   module _ (level : ℕ) (override : Option BidiClass) (now_levels : List ℕ) (now_classes : List BidiClass) (level_is : level ≡ stack.top.status.level) (override_is : override ≡ stack.top.status.override)
       (filled_is : now_levels ≡ filled from (to - from) level levels) (over : IsOverridden override from to classes now_classes) (v : ℕ) (first : IsFirst is_kept_in_place p.original from to v) where
     -- in which no character is kept
     pub stretch-none : to ≤ v → IsReadTo p to stack now_levels now_classes runs run
-    stretch-none past = stretch-read level override now_levels now_classes runs run level_is override_is filled_is over (cut-none v first past)
+    stretch-none past = stretch-read level override now_levels now_classes runs run level_is override_is filled_is over (cut-before end.index to end.there end.order
+        (omega arith) (λ u above below. first.before u above (omega arith)))
 
     -- in which the first kept one begins at v
     pub stretch-some : (now_runs : List (ℕ × ℕ)) (now : OpenRun) → v < to → now_runs ≡ runs_before run.last_level level run.start v runs → now ≡ record { start = run_start run.last_level level run.start v; last_level = Some level }
@@ -368,9 +311,7 @@ module _ (p : Paragraph) (at : ℕ) (stack : State) (levels : List ℕ) (classes
 
   pub control-index : (next : ℕ) → Ends next → char_index p.len_of p.chars next ≡ char_index p.len_of p.chars at + 1
   control-index next ends =
-      ap (char_index p.len_of p.chars) (ends h.index control-fits h.begins)
-      ∙ char_index-place p.len_of p.chars h.has_units (h.index + 1) (omega (arith, control-fits))
-      ∙ ap (λ k. k + 1) (sym (read-index p at stack levels classes runs run h))
+      cc (ends h.index control-fits h.begins, char_index-place p.len_of p.chars h.has_units (h.index + 1) (omega (arith, control-fits)), read-index p at stack levels classes runs run h)
 
   pub control-some : (next : ℕ) → Ends next → at < next
   control-some next ends = grind (arith, control-fits, place-lt) steps 400000
@@ -390,42 +331,17 @@ module _ (p : Paragraph) (at : ℕ) (stack : State) (levels : List ℕ) (classes
 
     control-read : (now_runs : List (ℕ × ℕ)) (now_run : OpenRun) → IsCutTo p.len_of p.chars (stored p) (levels_of p) (h.index + 1) now_runs now_run.start now_run.last_level → IsReadTo p next now now_levels now_classes now_runs now_run
     control-read now_runs now_run cut =
-        let some = control-some next ends in
         let there : next ≡ place p.len_of p.chars (h.index + 1) = ends h.index control-fits h.begins in
-        let more : place p.len_of p.chars (h.index + 1) ≡ place p.len_of p.chars h.index + p.len_of (get_or p.chars h.index 0) = place-more p.len_of p.chars h.index 0 control-fits in
-        let long = original_long p h.has_units h.per_char in
-        let room : at + (next - at) ≤ text_len p.len_of p.chars = omega (arith, place-le p.len_of p.chars (h.index + 1)) in
-        let room_levels : at + (next - at) ≤ length levels = omega (arith, h.levels_long) in
-        let room_classes : at + (next - at) ≤ length classes = omega (arith, h.classes_long) in
-        let offset : (v : ℕ) → at ≤ v → v ≡ place p.len_of p.chars h.index + (v - at) = λ v above. omega (arith, h.begins) in
-        record {
-          has_units = h.has_units;
-          per_char = h.per_char;
-          index = h.index + 1;
-          begins = there;
-          within = omega (arith, control-fits);
-          machine = next_at p.len_of p.chars p.level (stored p) h.index within (class_at p.original at) control-class stack now status level put now_is status_is level_is put_is h.machine;
-          levels_long = ap length levels_are ∙ length-filled at (next - at) level levels room_levels ∙ h.levels_long;
-          classes_long = ap length classes_are ∙ length-filled at (next - at) put classes room_classes ∙ h.classes_long;
-          levels_written = λ v below. ap (λ (ls : List ℕ). get_or ls v 0) levels_are ∙ elim (cases_lt v at) [
-            | inl old ↦ filled-below at (next - at) level 0 levels room_levels v old ∙ h.levels_written v old
-            | inr new' ↦
-                filled-inside at (next - at) level 0 levels room_levels v new' (omega arith)
-                ∙ level-at_control
-                ∙ sym (get_or-per_unit p.len_of p.chars (levels_of p) h.index (v - at) 0 0 (levels_long p h.has_units h.per_char) control-fits (omega (arith, h.begins)))
-                ∙ ap (λ (u : ℕ). get_or (per_unit p.len_of p.chars (levels_of p)) u 0) (sym (offset v new'))
-          ];
-          classes_written = λ v below. ap (λ (cs : List BidiClass). class_at cs v) classes_are ∙ elim (cases_lt v at) [
-            | inl old ↦ filled-below at (next - at) put L classes room_classes v old ∙ h.classes_written v old
-            | inr new' ↦
-                filled-inside at (next - at) put L classes room_classes v new' (omega arith)
-                ∙ put-at_control
-                ∙ sym (get_or-per_unit p.len_of p.chars (classes_of p) h.index (v - at) 0 L (classes_long p h.has_units h.per_char) control-fits (omega (arith, h.begins)))
-                ∙ ap (class_at (per_unit p.len_of p.chars (classes_of p))) (sym (offset v new'))
-          ];
-          unread = λ v above. ap (λ (cs : List BidiClass). class_at cs v) classes_are ∙ filled-above at (next - at) put L classes room_classes v (omega arith) ∙ h.unread v (omega arith);
-          cut = cut;
-        }
+        let room : at + (next - at) ≤ length classes = omega (arith, there, h.classes_long, control-some next ends, place-le p.len_of p.chars (h.index + 1)) in
+        let one = λ (k : ℕ) (above : h.index ≤ k) (below : k < h.index + 1). let same : k ≡ h.index = omega arith in same in
+        read-more p at stack levels classes runs run h next (h.index + 1) there (omega arith) (omega (arith, control-fits)) now level now_levels now_classes now_runs now_run
+        (next_at p.len_of p.chars p.level (stored p) h.index within (class_at p.original at) control-class stack now status level put now_is status_is level_is put_is h.machine)
+        levels_are (λ k above below. cc (one k above below, level-at_control))
+        (simp (classes_are, length-filled at (next - at) put classes room))
+        (λ v below. simp (classes_are, filled-below at (next - at) put L classes room v below))
+        (λ v above. simp (classes_are, filled-above at (next - at) put L classes room v (omega (arith, control-some next ends))))
+        (λ v above below w first last. cc (classes_are, filled-inside at (next - at) put L classes room v above (omega arith), put-at_control, one w.index first last))
+        cut
 
     pub control-removed : is_kept (class_at p.original at) ≡ false → IsReadTo p next now now_levels now_classes runs run
     control-removed gone = control-read runs run (IsCutTo-removed p.len_of p.chars (stored p) (levels_of p) h.index runs run.start run.last_level (ap is_kept (sym control-class) ∙ gone) h.cut)
@@ -434,10 +350,7 @@ module _ (p : Paragraph) (at : ℕ) (stack : State) (levels : List ℕ) (classes
         → now_run ≡ record { start = run_start run.last_level level run.start at; last_level = Some level } → IsReadTo p next now now_levels now_classes now_runs now_run
     control-kept now_runs now_run kept runs_are run_is =
         control-read now_runs now_run
-        (subst (λ (r : OpenRun). IsCutTo p.len_of p.chars (stored p) (levels_of p) (h.index + 1) now_runs r.start r.last_level) (sym run_is)
-        (subst (λ (rs : List (ℕ × ℕ)). IsCutTo p.len_of p.chars (stored p) (levels_of p) (h.index + 1) rs (run_start run.last_level level run.start at) (Some level)) (sym runs_are)
-        (subst (λ (u : ℕ). IsCutTo p.len_of p.chars (stored p) (levels_of p) (h.index + 1) (runs_before run.last_level level run.start u runs) (run_start run.last_level level run.start u) (Some level)) (sym h.begins)
-        (IsCutTo-kept p.len_of p.chars (stored p) (levels_of p) h.index runs run.start run.last_level level (ap is_kept (sym control-class) ∙ kept) level-at_control h.cut))))
+        (simp (run_is, runs_are, h.begins) (IsCutTo-kept p.len_of p.chars (stored p) (levels_of p) h.index runs run.start run.last_level level (ap is_kept (sym control-class) ∙ kept) level-at_control h.cut))
 
 -- ---- the start and the end of a paragraph
 
@@ -446,23 +359,7 @@ pub read-start : (p : Paragraph) → HasUnits p.len_of → is_per_char ghosts.eq
 unfolding state_at
 read-start p has_units whole stack levels classes runs run new long same none first =
     let per_char = IsPerChar-from_is_per_char ghosts.eq class_test p.len_of has_units p.chars p.original whole in
-    let units = original_long p has_units per_char in
-    record {
-      has_units = has_units;
-      per_char = per_char;
-      index = 0;
-      begins = sym (place-zero p.len_of p.chars);
-      within = omega arith;
-      machine = new;
-      levels_long = long ∙ units;
-      classes_long = ap length same ∙ units;
-      levels_written = λ v below. absurd (omega arith);
-      classes_written = λ v below. absurd (omega arith);
-      unread = λ v above. ap (λ (cs : List BidiClass). class_at cs v) same;
-      cut =
-          subst (λ (r : OpenRun). IsCutTo p.len_of p.chars (stored p) (levels_of p) 0 runs r.start r.last_level) (sym first)
-          (subst (λ (rs : List (ℕ × ℕ)). IsCutTo p.len_of p.chars (stored p) (levels_of p) 0 rs 0 None) (sym none) (IsCutTo-start p.len_of p.chars (stored p) (levels_of p)));
-    }
+    grind (arith, place-zero p.len_of p.chars, original_long p has_units per_char, IsCutTo-start p.len_of p.chars (stored p) (levels_of p))
 
 module _ (p : Paragraph) (at : ℕ) (stack : State) (levels : List ℕ) (classes : List BidiClass) (runs : List (ℕ × ℕ)) (run : OpenRun) (h : IsReadTo p at stack levels classes runs run) (past : length p.original ≤ at) where
   all_read : h.index ≡ length (stored p)
@@ -473,21 +370,19 @@ module _ (p : Paragraph) (at : ℕ) (stack : State) (levels : List ℕ) (classes
 
   pub read-levels : levels ≡ per_unit p.len_of p.chars (levels_of p)
   read-levels =
-      let whole = length-per_unit p.len_of p.chars (levels_of p) (levels_long p h.has_units h.per_char) in
-      ext_get_or 0 levels (per_unit p.len_of p.chars (levels_of p)) (h.levels_long ∙ sym whole) (λ u below. h.levels_written u (omega (arith, h.levels_long, original_long p h.has_units h.per_char)))
+      ext_get_or 0 levels _ (h.levels_long ∙ sym (length-per_unit p.len_of p.chars (levels_of p) (levels_long p h.has_units h.per_char)))
+      (λ u below. h.levels_written u (omega (arith, h.levels_long, original_long p h.has_units h.per_char)))
 
   pub read-classes : classes ≡ per_unit p.len_of p.chars (classes_of p)
   read-classes =
-      let whole = length-per_unit p.len_of p.chars (classes_of p) (classes_long p h.has_units h.per_char) in
-      ext_get_or L classes (per_unit p.len_of p.chars (classes_of p)) (h.classes_long ∙ sym whole) (λ u below. h.classes_written u (omega (arith, h.classes_long, original_long p h.has_units h.per_char)))
+      ext_get_or L classes _ (h.classes_long ∙ sym (length-per_unit p.len_of p.chars (classes_of p) (classes_long p h.has_units h.per_char)))
+      (λ u below. h.classes_written u (omega (arith, h.classes_long, original_long p h.has_units h.per_char)))
 
   -- the last run ends with the text
   pub read-runs : (units : ℕ) → units ≡ length p.original → 0 < units → runs ++ (run.start, units) ∷ [] ≡ level_run_ranges p.len_of p.chars (stored p) (levels_of p)
   read-runs units is some =
-      let long = original_long p h.has_units h.per_char in
-      let count = stored_long p h.has_units h.per_char in
-      ap (λ n. runs ++ (run.start, n) ∷ []) (is ∙ long)
-      ∙ IsCutTo-end p.len_of p.chars (stored p) (levels_of p) h.index runs run.start run.last_level all_read (omega (arith, text_len-some p.len_of p.chars (omega arith))) h.cut
+      simp (is, original_long p h.has_units h.per_char)
+      (IsCutTo-end p.len_of p.chars (stored p) (levels_of p) h.index runs run.start run.last_level all_read (grind (arith, text_len-some, original_long, stored_long)) h.cut)
 
   pub read-no_runs : length p.original ≡ 0 → runs ≡ level_run_ranges p.len_of p.chars (stored p) (levels_of p)
   read-no_runs none =

@@ -1,8 +1,8 @@
 -- The pass over units that gives explicit levels, classes and level runs: what it has written once it read some characters.
 use native.Mathlib.Numerals.{unary_clauses}
-use Rattle.std.proofs.Common.{◌≡◌, ℕ, zero, suc, ◌+◌, ◌<◌, ◌≤◌, ◌^◌, true, List, [], ◌∷◌, ◌++◌, length, get_or, set, take, drop, unwrap_or, refl, sym, ap, ◌∙◌, arith, length-append}
+use Rattle.std.proofs.Common.{◌≡◌, ℕ, zero, suc, ◌+◌, ◌<◌, ◌≤◌, ◌^◌, true, List, [], ◌∷◌, length, get_or, set, unwrap_or, refl, sym, ap, ◌∙◌, arith, length-append}
 use Rattle.std.proofs.lemmas.Grind.{common_steps}
-use Rattle.std.specs.Prelude.{◌||◌, if◌then◌else◌, replicate}
+use Rattle.std.specs.Prelude.{◌||◌, if◌then◌else◌}
 use Rattle.std.proofs.lemmas.List.{take-append-drop, length-take, length-drop, length-replicate}
 use Rattle.bidi_base.specs.declared.char_data.BidiClass.{BidiClass}
 use Rattle.bidi_base.specs.declared.char_data.BidiClass.TheVariants.{L, BN}
@@ -19,6 +19,7 @@ use Rattle.bidi_base.proofs.PerCharTests.{level_eq}
 use Rattle.bidi_base.proofs.StatusMachine.{answer_level-explicit_level, answer_class-explicit_class}
 use Rattle.bidi_base.proofs.StatusBounds.{state_at-more, state_at-IsPoppable, closed-IsWithinDepth, closed-counted}
 use Rattle.bidi_rules.specs.ExplicitPass.{filled}
+use Rattle.std.proofs.Math.Nat.{suc-add}
 
 pub processing_class-is : (paragraph : ℕ) (classes : List BidiClass) (k : ℕ) → k < length classes
     → (if is_removed (class_at classes k) then BN else if is_paragraph_separator (class_at classes k) || is_removed (class_at classes k) then class_at classes k else unwrap_or (closed (class_at classes k) (state_at paragraph classes k)).top.status.override (class_at classes k))
@@ -36,15 +37,8 @@ filled-none from x units = grind (arith, take-append-drop)
 next-filled : {X : Type 0} (from len : ℕ) (x : X) (units : List X) → from + len < length units → set (filled from len x units) (from + len) x ≡ filled from (len + 1) x units
 next-filled from len x [] fits = absurd (omega arith)
 next-filled zero zero x (y ∷ units) fits = refl
-next-filled zero (suc len) x (y ∷ units) fits =
-    let rest : set (filled zero len x units) (zero + len) x ≡ filled zero (len + 1) x units = next-filled zero len x units (omega arith) in
-    simp unary_clauses (ap (λ us. x ∷ us) (simp unary_clauses at rest))
-next-filled (suc from) len x (y ∷ units) fits =
-    let here : suc from + len ≡ suc (from + len) = omega arith in
-    let next : suc (from + (len + 1)) ≡ suc from + (len + 1) = omega arith in
-    ap (λ n. set (y ∷ (take from units ++ (replicate len x ++ drop n (y ∷ units)))) n x) here
-    ∙ ap (λ us. y ∷ us) (next-filled from len x units (omega arith))
-    ∙ ap (λ n. y ∷ (take from units ++ (replicate (len + 1) x ++ drop n (y ∷ units)))) next
+next-filled zero (suc len) x (y ∷ units) fits = simp unary_clauses (ap (λ us. x ∷ us) (simp unary_clauses at (next-filled zero len x units (omega arith))))
+next-filled (suc from) len x (y ∷ units) fits = simp (suc-add, next-filled from len x units (omega arith))
 
 -- one unit more
 pub filled-more : {X : Type 0} (from len at : ℕ) (x : X) (old units : List X) → at ≡ from + len → at < length old → units ≡ filled from len x old → set units at x ≡ filled from (len + 1) x old

@@ -1,9 +1,9 @@
 -- The first unit of some runs that is kept, and the first character.
-use Rattle.std.proofs.Common.{◌≡◌, ℕ, zero, suc, ◌+◌, ◌-◌, ◌<◌, ◌≤◌, Bool, true, false, List, [], ◌∷◌, ◌++◌, length, map, get_or, take, drop, find, Option, Some, None, slice_get, refl, sym, ap, ◌∙◌, arith, inl, inr}
+use Rattle.std.proofs.Common.{◌≡◌, ℕ, zero, suc, ◌+◌, ◌-◌, ◌<◌, ◌≤◌, Bool, true, false, List, [], ◌∷◌, ◌++◌, length, map, get_or, take, find, Some, None, slice_get, refl, sym, ap, ◌∙◌, arith, inl, inr}
 use Rattle.std.specs.List.{range_with_len}
 use Rattle.std.specs.Option.{option_or}
 use Rattle.std.specs.declared.ops.Range.{Range}
-use Rattle.std.proofs.lemmas.Bool.{cases_Bool, cond-true}
+use Rattle.std.proofs.lemmas.Bool.{cases_Bool}
 use Rattle.std.proofs.lemmas.Grind.{flat_map-append, common_steps}
 use Rattle.std.proofs.lemmas.List.{map-append, take-append-drop}
 use Rattle.std.proofs.lemmas.List.Elements.{All-head, All-tail, filter-append}
@@ -14,12 +14,12 @@ use Rattle.bidi_base.specs.Places.{between, class_at, first_or}
 use Rattle.bidi_base.specs.Text.{place, IsLine, char_index, IsPerChar}
 use Rattle.bidi_base.specs.Units.{bounds, chars_in_runs, kept_in_place, units_in_runs, AreLines}
 use Rattle.bidi_base.proofs.PlaceLemmas.{line_places, place-lt, place-mono}
-use Rattle.bidi_base.proofs.PlacesLemmas.{IsLeast, find-between-is, find-between-is_None}
+use Rattle.bidi_base.proofs.PlacesLemmas.{find-between-is, find-between-is_None}
 use Rattle.bidi_base.proofs.TextLemmas.{HasUnits}
 use Rattle.bidi_rules.specs.NeutralPass.{kept_among}
 use Rattle.bidi_rules.proofs.PassOverText.{alike_class}
 use Rattle.bidi_rules.proofs.KeptRuns.{no_range}
-use Rattle.bidi_base.proofs.ChainLemmas.{range_with_len-append}
+use Rattle.bidi_rules.proofs.Marks.{between-append}
 
 -- ---- a search through the runs one after another
 
@@ -41,19 +41,10 @@ module _ (test : ℕ → Bool) (runs : List (Range ℕ)) (i : ℕ) (fits : i < l
       → find test (units_in_runs (map bounds runs)) ≡ Some u
   find-stops u from below none here =
       let r = get_or runs i no_range in
-      let least : IsLeast test r.start r.end u = record { from = from; below = below; passes = here; first = none } in
       ap (λ (rs : List (Range ℕ)). find test (units_of rs)) (sym (take-append-drop (i + 1) runs))
-      ∙ ap (find test) (units_of-append (take (i + 1) runs) (drop (i + 1) runs))
-      ∙ find-append test (units_of (take (i + 1) runs)) (units_of (drop (i + 1) runs))
-      ∙ ap (λ (o : Option ℕ). option_or o (find test (units_of (drop (i + 1) runs)))) (find-next ∙ find-between-is test r.start r.end u least)
+      ∙ simp (units_of-append, find-append, find-next, find-between-is test r.start r.end u (record { from = from; below = below; passes = here; first = none }))
 
 -- ---- what it finds is the place of the first character that is read
-
-between-append : (low mid high : ℕ) → low ≤ mid → mid ≤ high → between low high ≡ between low mid ++ between mid high
-between-append low mid high first second =
-    let count : high - low ≡ (mid - low) + (high - mid) = omega arith in
-    let at : low + (mid - low) ≡ mid = omega arith in
-    ap (range_with_len low) count ∙ range_with_len-append low (mid - low) (high - mid) ∙ ap (λ k. between low mid ++ range_with_len k (high - mid)) at
 
 first-append : {X : Type 0} (xs ys : List X) → slice_get (xs ++ ys) 0 ≡ option_or (slice_get xs 0) (slice_get ys 0)
 first-append [] ys = refl
@@ -70,22 +61,13 @@ module _ (len_of : ℕ → ℕ) (h : HasUnits len_of) (chars : List ℕ) (units 
       let a = place len_of chars i in
       let b = place len_of chars (i + 1) in
       let next : i + 1 + n ≡ i + suc n = omega arith in
-      let end_is = ap (place len_of chars) next in
       let some = place-lt len_of chars h i (i + 1) (omega arith) (omega arith) in
       let order = place-mono len_of chars (i + 1) (i + suc n) (omega arith) in
-      let more = kept_among len_of chars units (range_with_len (i + 1) n) in
-      let rest : find reads (between b (place len_of chars (i + suc n))) ≡ slice_get (map (place len_of chars) more) 0 =
-      ap (λ u. find reads (between b u)) (sym end_is) ∙ first_in_line (i + 1) n (omega arith)
-      in
-      ap (find reads) (between-append a b (place len_of chars (i + suc n)) (omega arith) order)
-      ∙ find-append reads (between a b) (between b (place len_of chars (i + suc n)))
-      ∙ elim (cases_Bool (reads a)) [
-        | inl yes' ↦
-            let least : IsLeast reads a b a = grind arith in
-            ap (λ (o : Option ℕ). option_or o (find reads (between b (place len_of chars (i + suc n))))) (find-between-is reads a b a least)
-            ∙ ap (λ (ks : List ℕ). slice_get (map (place len_of chars) ks) 0) (sym (cond-true (reads a) (i ∷ more) more yes'))
+      let rest = simp next at (first_in_line (i + 1) n (omega arith)) in
+      simp (between-append a b (place len_of chars (i + suc n)) (omega arith) order, find-append) (elim (cases_Bool (reads a)) [
+        | inl yes' ↦ simp (find-between-is reads a b a (grind arith), yes')
         | inr no' ↦ grind (arith, find-between-is_None, alike_class)
-      ]
+      ])
 
   pub first_kept-is : (runs : List (ℕ × ℕ)) → AreLines len_of chars runs → find reads (units_in_runs runs) ≡ slice_get (map (place len_of chars) (kept_in_place len_of chars units runs)) 0
   unfolding kept_in_place chars_in_runs
@@ -93,19 +75,19 @@ module _ (len_of : ℕ → ℕ) (h : HasUnits len_of) (chars : List ℕ) (units 
   first_kept-is (r ∷ runs) lines =
       let i = char_index len_of chars r.0 in
       let j = char_index len_of chars r.1 in
-      let line = All-head (λ (q : ℕ × ℕ). IsLine len_of chars q.0 q.1) r runs lines in
-      let w = line_places len_of h chars r.0 r.1 line in
+      let w = line_places len_of h chars r.0 r.1 (All-head (λ (q : ℕ × ℕ). IsLine len_of chars q.0 q.1) r runs lines) in
       let whole : i + (j - i) ≡ j = omega (arith, w.ordered) in
-      let here = kept_among len_of chars units (between i j) in
-      let later = kept_among len_of chars units (chars_in_runs len_of chars runs) in
-      find-append reads (between r.0 r.1) (units_in_runs runs)
-      ∙ ap (λ (o : Option ℕ). option_or o (find reads (units_in_runs runs)))
-      (ap (λ u. find reads (between u r.1)) w.begins
-      ∙ ap (λ u. find reads (between (place len_of chars i) u)) (w.ends ∙ ap (place len_of chars) (sym whole))
-      ∙ first_in_line i (j - i) (omega (arith, w.within)))
-      ∙ ap (option_or (slice_get (map (place len_of chars) here) 0)) (first_kept-is runs (All-tail (λ (q : ℕ × ℕ). IsLine len_of chars q.0 q.1) r runs lines))
-      ∙ sym (first-append (map (place len_of chars) here) (map (place len_of chars) later))
-      ∙ ap (λ (us : List ℕ). slice_get us 0) (sym (map-append (place len_of chars) here later) ∙ ap (map (place len_of chars)) (sym (filter-append (λ k. reads (place len_of chars k)) (between i j) (chars_in_runs len_of chars runs))))
+      simp (
+        find-append,
+        filter-append,
+        map-append,
+        first-append,
+        first_kept-is runs (All-tail (λ (q : ℕ × ℕ). IsLine len_of chars q.0 q.1) r runs lines),
+        ← first_in_line i (j - i) (omega (arith, w.within)),
+        whole,
+        ← w.begins,
+        ← w.ends,
+      )
 
 -- what that says of the list
 pub first-Some : (us : List ℕ) (u : ℕ) → slice_get us 0 ≡ Some u → first_or 0 us ≡ u

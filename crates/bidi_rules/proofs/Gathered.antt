@@ -1,14 +1,13 @@
 -- The brackets of a sequence by the units at which they begin: as they are gathered, and that they pair as the definitions say.
-use Rattle.std.proofs.Common.{◌≡◌, ℕ, suc, ◌+◌, ◌<◌, List, [], ◌∷◌, ◌++◌, length, map, get_or, Option, refl, sym, ap, subst, ◌∙◌, arith}
+use Rattle.std.proofs.Common.{◌≡◌, ℕ, suc, ◌+◌, ◌<◌, List, [], ◌∷◌, ◌++◌, length, map, get_or, refl, sym, ap, subst, ◌∙◌, arith}
 use Rattle.std.proofs.lemmas.Grind.{flat_map-append}
 use Rattle.std.proofs.lemmas.List.{length-map}
 use Rattle.bidi_base.specs.declared.brackets.Bracket.{Bracket}
 use Rattle.bidi_base.specs.declared.char_data.BidiClass.{BidiClass}
 use Rattle.bidi_base.specs.declared.char_data.BidiClass.TheVariants.{L}
-use Rattle.bidi_base.specs.declared.data_source.BidiMatchedOpeningBracket.{BidiMatchedOpeningBracket}
-use Rattle.bidi_base.specs.Brackets.{counted_bracket, counted_brackets, AreNestedPairs}
+use Rattle.bidi_base.specs.Brackets.{counted_brackets, AreNestedPairs}
 use Rattle.bidi_base.specs.FoundBrackets.{brackets_from, found_brackets, ArePairsOf}
-use Rattle.bidi_base.specs.Places.{at_places, class_at}
+use Rattle.bidi_base.specs.Places.{at_places}
 use Rattle.bidi_base.specs.Source.{Source}
 use Rattle.bidi_base.specs.Text.{place}
 use Rattle.bidi_base.specs.Units.{bounds, kept_in_place}
@@ -20,6 +19,7 @@ use Rattle.bidi_rules.specs.NeutralPass.{pairs_in, placed_bracket, placed_bracke
 use Rattle.bidi_rules.specs.PairWalk.{at_spots, spot}
 use Rattle.bidi_rules.proofs.Spots.{length-values_of, spot-in, spot-rises}
 use Rattle.std.specs.declared.ops.Range.{Range}
+use Rattle.std.proofs.Math.Nat.{add-zero}
 
 module _ (len_of : ℕ → ℕ) (chars : List ℕ) (source : Source) (units : List BidiClass) where
   abbrev placed : List ℕ → List Bracket
@@ -30,18 +30,13 @@ module _ (len_of : ℕ → ℕ) (chars : List ℕ) (source : Source) (units : Li
 
   -- ---- all of them
 
-  step : (f : ℕ → ℕ) (rises : (i j : ℕ) → i < j → f i < f j) (o : Option BidiMatchedOpeningBracket) (u j : ℕ) (rest : List (Option BidiMatchedOpeningBracket)) (tail : List Bracket) → f j ≡ u → tail ≡ map (moved f rises) (brackets_from (j + 1) rest)
-      → brackets_from u (o ∷ []) ++ tail ≡ map (moved f rises) (brackets_from j (o ∷ rest))
-  step f rises o u j rest tail at is = grind arith
-
   placed-moved : (f : ℕ → ℕ) (rises : (i j : ℕ) → i < j → f i < f j) (j : ℕ) (ks : List ℕ) → ((i : ℕ) → i < length ks → f (j + i) ≡ place len_of chars (get_or ks i 0))
       → placed ks ≡ map (moved f rises) (brackets_from j (counted_brackets (values_of L len_of chars units ks) (map source.bracket_of (at_places 0 chars ks))))
   placed-moved f rises j [] at = refl
   placed-moved f rises j (k ∷ ks) at =
-      let same : j + 0 ≡ j = omega arith in
-      step f rises (counted_bracket (class_at units (place len_of chars k)) (source.bracket_of (get_or chars k 0))) (place len_of chars k) j
-      (counted_brackets (values_of L len_of chars units ks) (map source.bracket_of (at_places 0 chars ks))) (placed ks) (ap f (sym same) ∙ at 0 (omega arith))
-      (placed-moved f rises (j + 1) ks (λ i below. let next : j + 1 + i ≡ j + suc i = omega arith in ap f next ∙ at (suc i) (omega arith)))
+      let here : f j ≡ place len_of chars k = simp add-zero at (at 0 (omega arith)) in
+      let rest = placed-moved f rises (j + 1) ks (λ i below. let next : j + 1 + i ≡ j + suc i = omega arith in ap f next ∙ at (suc i) (omega arith)) in
+      grind arith
 
 -- the pairs found are those of the definitions, by their places
 pub pairs-placed : (len_of : ℕ → ℕ) (h : HasUnits len_of) (chars : List ℕ) (source : Source) (runs : List (Range ℕ)) (sos : BidiClass) (old : List BidiClass) → IsReady len_of chars runs sos old
@@ -58,7 +53,6 @@ pairs-placed len_of h chars source runs sos old ready brackets pairs is search =
 pub pairs-nested : (len_of : ℕ → ℕ) (chars : List ℕ) (source : Source) (runs : List (Range ℕ)) (old : List BidiClass) → AreNestedPairs (length (kept_in_place len_of chars old (map bounds runs))) (pairs_in len_of chars source old runs)
 pairs-nested len_of chars source runs old =
     let ks = kept_in_place len_of chars old (map bounds runs) in
-    let sources = map source.bracket_of (at_places 0 chars ks) in
     let long = length-values_of len_of chars L old ks in
     subst (λ n. AreNestedPairs n (pairs_in len_of chars source old runs)) long
-    (bracket_pairs-nested (values_of L len_of chars old ks) sources (length-map (at_places 0 chars ks) source.bracket_of ∙ length-at_places 0 chars ks ∙ sym long))
+    (bracket_pairs-nested (values_of L len_of chars old ks) _ (length-map (at_places 0 chars ks) source.bracket_of ∙ length-at_places 0 chars ks ∙ sym long))

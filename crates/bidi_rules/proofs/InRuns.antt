@@ -1,7 +1,7 @@
 -- The units in some ranges that are in order.
-use Rattle.std.proofs.Common.{◌≡◌, ℕ, zero, suc, ◌+◌, ◌<◌, ◌≤◌, Bool, true, false, ◌&&◌, ◌||◌, leb, ltb, List, [], ◌∷◌, length, get_or, take, drop, refl, sym, ap, ◌∙◌, arith}
+use Rattle.std.proofs.Common.{◌≡◌, ℕ, zero, suc, ◌+◌, ◌<◌, ◌≤◌, Bool, true, false, ◌&&◌, ◌||◌, leb, ltb, List, [], ◌∷◌, length, get_or, take, drop, refl, arith}
 use Rattle.std.specs.Prelude.{All}
-use Rattle.std.proofs.lemmas.Bool.{and_from, and_left, and_right, or_from, lt-ltb, le-ltb, le-leb, lt-leb}
+use Rattle.std.proofs.lemmas.Bool.{and_from, and_left, and_right, lt-ltb, le-ltb, le-leb, lt-leb}
 use Rattle.std.proofs.lemmas.List.Folds.{list_any_more, list_any_at}
 use Rattle.bidi_base.specs.Units.{are_ordered_from, in_runs}
 use Rattle.bidi_rules.proofs.WalkLemmas.{are_ordered-front}
@@ -25,34 +25,26 @@ in_run-true r k h = grind arith steps 400000
 -- some ranges
 pub in_runs-below : (low : ℕ) (runs : List (ℕ × ℕ)) (k : ℕ) → are_ordered_from low runs ≡ true → k < low → in_runs runs k ≡ false
 in_runs-below low [] k h below = refl
-in_runs-below low (r ∷ runs) k h below =
-    let f = are_ordered-front low r runs h in
-    or_from (in_run r k) (in_runs runs k) (in_run-below r k (omega (arith, f.from))) (in_runs-below r.1 runs k f.later (omega (arith, f.from, f.not_empty)))
+in_runs-below low (r ∷ runs) k h below = grind (arith, are_ordered-front low r runs h, in_run-below r k, in_runs-below r.1 runs k)
+
+-- the ranges in order begin one behind another
+pub start_after : (end index : ℕ) (runs : List (ℕ × ℕ)) → are_ordered_from end runs ≡ true → index < length runs → end ≤ (get_or runs index (0, 0)).0
+start_after end index [] h fits = absurd (omega arith)
+start_after end zero (r ∷ runs) h fits = (are_ordered-front end r runs h).from
+start_after end (suc index) (r ∷ runs) h fits = grind (arith, are_ordered-front end r runs h, start_after r.1 index runs)
 
 -- from a unit on that the ranges before `index` do not reach
 pub in_runs-drop : (low index : ℕ) (runs : List (ℕ × ℕ)) (k : ℕ) → are_ordered_from low runs ≡ true → index < length runs → (get_or runs index (0, 0)).0 ≤ k → in_runs (drop index runs) k ≡ in_runs runs k
 in_runs-drop low zero runs k h fits from = refl
 in_runs-drop low (suc index) [] k h fits from = refl
 in_runs-drop low (suc index) (r ∷ runs) k h fits from =
-    let f = are_ordered-front low r runs h in
-    let past : r.1 ≤ k = past_front r.1 index runs k f.later (omega arith) from in
-    in_runs-drop r.1 index runs k f.later (omega arith) from ∙ sym (ap (λ b. b || in_runs runs k) (in_run-above r k past))
-  where
-    past_front : (end index : ℕ) (runs : List (ℕ × ℕ)) (k : ℕ) → are_ordered_from end runs ≡ true → index < length runs → (get_or runs index (0, 0)).0 ≤ k → end ≤ k
-    past_front end index [] k h fits from = absurd (omega arith)
-    past_front end zero (r ∷ runs) k h fits from = let f = are_ordered-front end r runs h in omega (arith, f.from)
-    past_front end (suc index) (r ∷ runs) k h fits from =
-        let f = are_ordered-front end r runs h in
-        let past : r.1 ≤ k = past_front r.1 index runs k f.later (omega arith) from in
-        omega (arith, f.from, f.not_empty)
+    grind (arith, are_ordered-front low r runs h, start_after r.1 index runs, in_run-above r k, in_runs-drop r.1 index runs k)
 
 -- up to a unit at which the range at `index` has not begun
 pub in_runs-take : (low index : ℕ) (runs : List (ℕ × ℕ)) (k : ℕ) → are_ordered_from low runs ≡ true → index < length runs → k < (get_or runs index (0, 0)).0 → in_runs (take index runs) k ≡ in_runs runs k
 in_runs-take low index [] k h fits before = absurd (omega arith)
 in_runs-take low zero (r ∷ runs) k h fits before = grind (arith, in_runs-below)
-in_runs-take low (suc index) (r ∷ runs) k h fits before =
-    let f = are_ordered-front low r runs h in
-    ap (λ b. in_run r k || b) (in_runs-take r.1 index runs k f.later (omega arith) before)
+in_runs-take low (suc index) (r ∷ runs) k h fits before = grind (arith, are_ordered-front low r runs h, in_runs-take r.1 index runs k)
 
 pub in_runs-more : (index : ℕ) (runs : List (ℕ × ℕ)) (k : ℕ) → index < length runs → in_runs (take (index + 1) runs) k ≡ (in_runs (take index runs) k || in_run (get_or runs index (0, 0)) k)
 in_runs-more index runs k fits = list_any_more (λ (r : ℕ × ℕ). in_run r k) runs index (0, 0) fits
@@ -89,22 +81,9 @@ gap_before low (r ∷ runs) k n h before = grind (arith, in_runs-below)
 
 pub gap_after : (low index : ℕ) (runs : List (ℕ × ℕ)) (k n : ℕ) → are_ordered_from low runs ≡ true → index < length runs → (get_or runs index (0, 0)).1 ≤ k → k < start_or runs (suc index) n → in_runs runs k ≡ false
 gap_after low index [] k n h fits past before = absurd (omega arith)
-gap_after low zero (r ∷ runs) k n h fits past before =
-    let f = are_ordered-front low r runs h in
-    or_from (in_run r k) (in_runs runs k) (in_run-above r k past) (gap_before r.1 runs k n f.later before)
+gap_after low zero (r ∷ runs) k n h fits past before = grind (arith, are_ordered-front low r runs h, in_run-above r k, gap_before r.1 runs k n)
 gap_after low (suc index) (r ∷ runs) k n h fits past before =
-    let f = are_ordered-front low r runs h in
-    let later : r.1 ≤ (get_or runs index (0, 0)).0 = start_after r.1 index runs f.later (omega arith) in
-    let some = run_some r.1 index runs f.later (omega arith) in
-    or_from (in_run r k) (in_runs runs k) (in_run-above r k (omega arith)) (gap_after r.1 index runs k n f.later (omega arith) past before)
-  where
-    start_after : (end index : ℕ) (runs : List (ℕ × ℕ)) → are_ordered_from end runs ≡ true → index < length runs → end ≤ (get_or runs index (0, 0)).0
-    start_after end index [] h fits = absurd (omega arith)
-    start_after end zero (r ∷ runs) h fits = (are_ordered-front end r runs h).from
-    start_after end (suc index) (r ∷ runs) h fits =
-        let f = are_ordered-front end r runs h in
-        let past : r.1 ≤ (get_or runs index (0, 0)).0 = start_after r.1 index runs f.later (omega arith) in
-        omega (arith, f.from, f.not_empty)
+    grind (arith, are_ordered-front low r runs h, start_after r.1 index runs, run_some r.1 index runs, in_run-above r k, gap_after r.1 index runs k n)
 
 -- a range ends where the next one starts, or before
 pub next_start : (low index : ℕ) (runs : List (ℕ × ℕ)) (n : ℕ) → are_ordered_from low runs ≡ true → index < length runs → (get_or runs index (0, 0)).1 ≤ n → (get_or runs index (0, 0)).1 ≤ start_or runs (suc index) n

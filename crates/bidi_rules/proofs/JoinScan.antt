@@ -1,8 +1,8 @@
 -- N1 for the direction against the embedding one, in one walk: neutrals wait from a class of that direction to the next class with one.
-use Rattle.std.proofs.Common.{◌≡◌, ℕ, zero, suc, ◌+◌, ◌-◌, ◌<◌, ◌≤◌, Bool, true, false, not, ◌&&◌, List, [], ◌∷◌, ◌++◌, length, map, replicate, Some, refl, sym, ap, ◌∙◌, arith, append_assoc, append-nil, inl, inr, ◌⊎◌}
+use Rattle.std.proofs.Common.{◌≡◌, ℕ, zero, suc, ◌+◌, ◌-◌, ◌<◌, ◌≤◌, Bool, true, false, not, ◌&&◌, List, [], ◌∷◌, ◌++◌, length, map, replicate, Some, refl, ap, ◌∙◌, arith, append_assoc, append-nil, ◌⊎◌}
 use Rattle.std.specs.Prelude.{filter}
 use Rattle.std.specs.List.{list_all, range_with_len}
-use Rattle.std.proofs.lemmas.Bool.{cases_Bool, cases_lt, and_parts, and_from, cond-true}
+use Rattle.std.proofs.lemmas.Bool.{cases_Bool, cases_lt}
 use Rattle.std.proofs.lemmas.List.{map-append}
 use Rattle.bidi_base.specs.declared.char_data.BidiClass.{BidiClass}
 use Rattle.bidi_base.specs.declared.char_data.BidiClass.TheVariants.{L}
@@ -12,7 +12,7 @@ use Rattle.bidi_base.specs.Places.{at_places, class_at}
 use Rattle.bidi_base.specs.Units.{in_runs}
 use Rattle.bidi_base.proofs.NeutralBlocks.{common}
 use Rattle.bidi_base.proofs.NeutralStretches.{n1_n2-neutrals, n1_n2-directed, n1_n2-last}
-use Rattle.bidi_base.proofs.StoredLemmas.{at_places-append}
+use Rattle.bidi_base.proofs.StoredLemmas.{at_places-append, length-at_places}
 use Rattle.bidi_rules.specs.JoinPass.{side_before, Unjoined, IsJoined}
 use Rattle.bidi_rules.specs.PairWalk.{opposite_of}
 use Rattle.bidi_rules.specs.WeakWalk.{is_seen, IsWrittenOver}
@@ -21,17 +21,11 @@ use Rattle.bidi_rules.proofs.Marks.{marked, marked-parts, at_marked-same, at_mar
 -- ---- classes
 
 -- what does not stand for the opposite direction stands for the embedding one, or is a neutral
-quiet : (e c : BidiClass) → is_l_or_r e ≡ true → is_weak_resolved c ≡ true → stands_for (opposite_of e) c ≡ false → (as_direction c ≡ Some e) ⊎ (is_neutral c ≡ true)
-quiet e c s h n = grind arith
+quiet : (e c : BidiClass) → is_l_or_r e ≡ true → (is_weak_resolved c && not (stands_for (opposite_of e) c)) ≡ true → (as_direction c ≡ Some e) ⊎ (is_neutral c ≡ true)
+quiet e c s h = grind arith
 
 pub opposite-directed : (e c : BidiClass) → stands_for (opposite_of e) c ≡ true → as_direction c ≡ Some (opposite_of e)
 opposite-directed e c n = grind arith
-
-settled-neutral : (e c : BidiClass) → is_neutral c ≡ true → n2_rule e c ≡ e
-settled-neutral e c h = cond-true (is_neutral c) e c h
-
-settled-directed : (e c d : BidiClass) → as_direction c ≡ Some d → n2_rule e c ≡ c
-settled-directed e c d h = grind arith
 
 pub settled-opposite : (e : BidiClass) → n2_rule e (opposite_of e) ≡ opposite_of e
 settled-opposite e = grind arith
@@ -56,32 +50,16 @@ module _ (e eos : BidiClass) (side : is_l_or_r e ≡ true) where
 
   map-settled : (cs : List BidiClass) → list_all is_neutral cs ≡ true → map (n2_rule e) cs ≡ replicate (length cs) e
   map-settled [] h = refl
-  map-settled (c ∷ cs) h =
-      let parts = and_parts (is_neutral c) (list_all is_neutral cs) h in
-      ap (λ (x : BidiClass). x ∷ map (n2_rule e) cs) (settled-neutral e c parts.0) ∙ ap (λ (xs : List BidiClass). e ∷ xs) (map-settled cs parts.1)
+  map-settled (c ∷ cs) h = grind (arith, map-settled cs)
 
   map-opposite : (n : ℕ) → map (n2_rule e) (replicate n o) ≡ replicate n o
   map-opposite zero = refl
-  map-opposite (suc n) = ap (λ (x : BidiClass). x ∷ map (n2_rule e) (replicate n o)) (settled-opposite e) ∙ ap (λ (xs : List BidiClass). o ∷ xs) (map-opposite n)
-
-  twice : (b : Bool) → not b ≡ true → b ≡ false
-  twice b h = grind arith
+  map-opposite (suc n) = simp (settled-opposite e, map-opposite n)
 
   -- behind the embedding direction, up to the next class for the opposite one
   quiet-rest : (cs rest : List BidiClass) → list_all is_quiet cs ≡ true → n1_n2 e e eos (cs ++ rest) ≡ map (n2_rule e) cs ++ n1_n2 e e eos rest
   quiet-rest [] rest h = refl
-  quiet-rest (c ∷ cs) rest h =
-      let parts = and_parts (is_quiet c) (list_all is_quiet cs) h in
-      let own = and_parts (is_weak_resolved c) (not (stands_for o c)) parts.0 in
-      let more = quiet-rest cs rest parts.1 in
-      let tail = n1_n2 e e eos (cs ++ rest) in
-      elim (quiet e c side own.0 (twice (stands_for o c) own.1)) [
-        | inl directed ↦ grind (arith, n1_n2-directed)
-        | inr neutral ↦
-            n1_n2-neutrals e e eos (c ∷ []) (cs ++ rest) (and_from (is_neutral c) true neutral refl)
-            ∙ ap (λ (x : BidiClass). x ∷ tail) (same_e (nearest_direction eos (cs ++ rest)) ∙ sym (settled-neutral e c neutral))
-            ∙ ap (λ (xs : List BidiClass). n2_rule e c ∷ xs) more
-      ]
+  quiet-rest (c ∷ cs) rest h = grind (arith, quiet e c side, quiet-rest cs rest, n1_n2-directed e e e eos c (cs ++ rest), n1_n2-neutrals e e eos (c ∷ []) (cs ++ rest), same_e)
 
   near : (d c : BidiClass) (rest : List BidiClass) → as_direction c ≡ Some d → nearest_direction eos (c ∷ rest) ≡ d
   near d c rest is = grind arith steps 400000
@@ -89,11 +67,7 @@ module _ (e eos : BidiClass) (side : is_l_or_r e ≡ true) where
   -- neutrals that waited, before the embedding direction
   turned : (cs rest : List BidiClass) (c : BidiClass) → list_all is_neutral cs ≡ true → as_direction c ≡ Some e → n1_n2 e o eos (cs ++ c ∷ rest) ≡ map (n2_rule e) cs ++ n1_n2 e e eos (c ∷ rest)
   turned cs rest c h is =
-      n1_n2-neutrals e o eos cs (c ∷ rest) h
-      ∙ ap (λ (x : BidiClass). replicate (length cs) (common e o x) ++ n1_n2 e o eos (c ∷ rest)) (near e c rest is)
-      ∙ ap (λ (x : BidiClass). replicate (length cs) x ++ n1_n2 e o eos (c ∷ rest)) common_apart
-      ∙ ap (λ (xs : List BidiClass). xs ++ n1_n2 e o eos (c ∷ rest)) (sym (map-settled cs h))
-      ∙ ap (λ (xs : List BidiClass). map (n2_rule e) cs ++ xs) (n1_n2-directed e o e eos c rest is ∙ sym (n1_n2-directed e e e eos c rest is))
+      simp (n1_n2-neutrals e o eos cs (c ∷ rest) h, near e c rest is, common_apart, map-settled cs h, n1_n2-directed e o e eos c rest is, n1_n2-directed e e e eos c rest is)
 
   -- neutrals between two of the opposite direction
   between_two : (cs rest : List BidiClass) (c : BidiClass) → list_all is_neutral cs ≡ true → as_direction c ≡ Some o → n1_n2 e o eos (cs ++ c ∷ rest) ≡ replicate (length cs) o ++ n1_n2 e o eos (c ∷ rest)
@@ -102,50 +76,22 @@ module _ (e eos : BidiClass) (side : is_l_or_r e ≡ true) where
   -- a stretch of the opposite direction, whatever stands before it
   stretch : (left : BidiClass) (c : BidiClass) (cs rest : List BidiClass) → list_all (stands_for o) (c ∷ cs) ≡ true → n1_n2 e left eos (c ∷ cs ++ rest) ≡ map (n2_rule e) (c ∷ cs) ++ n1_n2 e o eos rest
   stretch left c [] rest h = grind (arith, n1_n2-directed)
-  stretch left c (d ∷ cs) rest h =
-      let parts = and_parts (stands_for o c) (list_all (stands_for o) (d ∷ cs)) h in
-      let is = opposite-directed e c parts.0 in
-      n1_n2-directed e left o eos c (d ∷ cs ++ rest) is
-      ∙ ap (λ (x : BidiClass). x ∷ n1_n2 e o eos (d ∷ cs ++ rest)) (sym (settled-directed e c o is))
-      ∙ ap (λ (xs : List BidiClass). n2_rule e c ∷ xs) (stretch o d cs rest parts.1)
-
-  -- what waits at the end
-  last-waiting : (cs : List BidiClass) → list_all is_neutral cs ≡ true → n1_n2 e o eos cs ≡ replicate (length cs) (common e o eos)
-  last-waiting cs h = n1_n2-last e o eos cs h
+  stretch left c (d ∷ cs) rest h = grind (arith, opposite-directed e c, n1_n2-directed e left o eos c (d ∷ cs ++ rest), stretch o d cs rest)
 
 -- ---- the same at units
 
 module _ (mark : ℕ → Bool) (p : BidiClass → Bool) (old : List BidiClass) where
   each : (low n : ℕ) → ((k : ℕ) → low ≤ k → k < low + n → mark k ≡ true → p (class_at old k) ≡ true) → list_all p (at_places L old (filter mark (range_with_len low n))) ≡ true
   each low zero h = refl
-  each low (suc n) h =
-      let more = filter mark (range_with_len (low + 1) n) in
-      let rest : list_all p (at_places L old more) ≡ true = each (low + 1) n (λ k from below is. h k (omega arith) (omega arith) is) in
-      elim (cases_Bool (mark low)) [
-        | inl yes' ↦ grind arith
-        | inr no' ↦ grind arith
-      ]
+  each low (suc n) h = grind (arith, cases_Bool (mark low), h low, each (low + 1) n (λ k from below is. h k (omega arith) (omega arith) is))
 
   pub at_marked-each : (low high : ℕ) → ((k : ℕ) → low ≤ k → k < high → mark k ≡ true → p (class_at old k) ≡ true) → list_all p (at_places L old (marked mark low high)) ≡ true
   at_marked-each low high h = each low (high - low) (λ k from below is. h k from (omega arith) is)
 
-length-at : (xs : List BidiClass) (us : List ℕ) → length (at_places L xs us) ≡ length us
-length-at xs [] = refl
-length-at xs (u ∷ us) = ap suc (length-at xs us)
-
 -- a unit keeps its class, or has one that was written over some units
 pub own-after : (mark : ℕ → Bool) (d : BidiClass) (from to : ℕ) (old now new : List BidiClass) → IsWrittenOver mark d from to now new → ((k : ℕ) → (class_at now k ≡ class_at old k) ⊎ (class_at now k ≡ d))
     → (k : ℕ) → (class_at new k ≡ class_at old k) ⊎ (class_at new k ≡ d)
-own-after mark d from to old now new w own k = elim (cases_Bool (mark k)) [
-  | inr plain ↦ stays (w.failing k plain)
-  | inl seen ↦ elim (cases_lt k from) [
-    | inl low ↦ stays (w.below k low)
-    | inr high ↦ elim (cases_lt k to) [ inl within ↦ inr (w.inside k high within seen) | inr past ↦ stays (w.above k past) ]
-  ]
-]
-  where
-    stays : class_at new k ≡ class_at now k → (class_at new k ≡ class_at old k) ⊎ (class_at new k ≡ d)
-    stays e = elim (own k) [ inl same ↦ inl (e ∙ same) | inr is ↦ inr (e ∙ is) ]
+own-after mark d from to old now new w own k = grind (arith, own k, cases_Bool (mark k), cases_lt k from, cases_lt k to)
 
 -- ---- the steps of the walk
 
@@ -185,11 +131,7 @@ module _ (s : Unjoined) where
       → rest_of waits done ≡ map (n2_rule e) (at_old done to) ++ rest_of after to → IsJoined s now after to to
   read now waits after done at to a b j step = record {
     written =
-        ap (λ (xs : List BidiClass). xs ++ rest_of after to) (done-more now done to a)
-        ∙ append_assoc (done_with now done) (map (n2_rule e) (at_places L now (marked mark done to))) (rest_of after to)
-        ∙ ap (λ (xs : List BidiClass). done_with now done ++ (map (n2_rule e) xs ++ rest_of after to)) (at_marked-same mark now s.old done to (λ k from below is. j.unwritten k from))
-        ∙ ap (λ (xs : List BidiClass). done_with now done ++ xs) (sym step)
-        ∙ j.written;
+        simp (done-more now done to a, append_assoc, at_marked-same mark now s.old done to (λ k from below is. j.unwritten k from), ← step, j.written);
     waiting = λ k from below seen. absurd (omega arith);
     unwritten = λ k from. j.unwritten k (omega arith);
     unseen = j.unseen;
@@ -205,20 +147,14 @@ module _ (s : Unjoined) where
   waited : (now : List BidiClass) (waits : Bool) (done at : ℕ) → IsJoined s now waits done at → list_all is_neutral (at_old done at) ≡ true
   waited now waits done at j = at_marked-each mark is_neutral s.old done at j.waiting
 
-  not_for : (c : BidiClass) → is_neutral c ≡ true → stands_for against c ≡ false
-  not_for c h = grind arith
-
   -- behind the embedding direction: units that don't stand for the opposite one
   pub IsJoined-quiet : (now : List BidiClass) (done at to : ℕ) → at ≤ to → to ≤ size → ((k : ℕ) → at ≤ k → k < to → stands_for against (class_at s.old k) ≡ false) → IsJoined s now false done at → IsJoined s now false to to
   IsJoined-quiet now done at to upto fits none j =
-      let order = j.order in
-      read now false false done at to (omega arith) fits j
-      (ap (n1_n2 e e s.eos) (split s.old done to size (omega arith) fits)
+      read now false false done at to (omega (arith, j.order)) fits j
+      (ap (n1_n2 e e s.eos) (split s.old done to size (omega (arith, j.order)) fits)
       ∙ quiet-rest e s.eos s.side (at_old done to) (at_old to size)
       (at_marked-each mark (λ c. is_weak_resolved c && not (stands_for against c)) s.old done to
-      (λ k from below is.
-      and_from (is_weak_resolved (class_at s.old k)) (not (stands_for against (class_at s.old k))) (s.resolved k is)
-      (ap not (elim (cases_lt k at) [ inl earlier ↦ not_for (class_at s.old k) (j.waiting k from earlier is) | inr later ↦ none k later below ])))))
+      (λ k from below is. grind (arith, s.resolved k is, cases_lt k at, j.waiting k from, none k))))
 
   -- the class at hand, and those behind it
   first_at : (at : ℕ) → at < size → mark at ≡ true → at_old at size ≡ class_at s.old at ∷ at_old (at + 1) size
@@ -230,34 +166,30 @@ module _ (s : Unjoined) where
   -- the embedding direction comes
   pub IsJoined-turned : (now : List BidiClass) (done at : ℕ) → at < size → in_runs s.runs at ≡ true → as_direction (class_at s.old at) ≡ Some e → IsJoined s now true done at → IsJoined s now false at at
   IsJoined-turned now done at fits inside is j =
-      let first = first_at at fits (seen-directed at e inside is) in
       read now true false done at at j.order (omega arith) j
-      (ap (n1_n2 e against s.eos) (split s.old done at size j.order (omega arith) ∙ ap (λ (xs : List BidiClass). at_old done at ++ xs) first)
-      ∙ turned e s.eos s.side (at_old done at) (at_old (at + 1) size) (class_at s.old at) (waited now true done at j) is
-      ∙ ap (λ (xs : List BidiClass). map (n2_rule e) (at_old done at) ++ n1_n2 e e s.eos xs) (sym first))
+      (simp (
+        split s.old done at size j.order (omega arith),
+        first_at at fits (seen-directed at e inside is),
+        turned e s.eos s.side (at_old done at) (at_old (at + 1) size) (class_at s.old at) (waited now true done at j) is,
+      ))
+
+  -- what is written to units
+  row-written : (now new : List BidiClass) (from to : ℕ) → IsWrittenOver mark against from to now new
+      → (done_with new from ≡ done_with now from) × (map (n2_rule e) (at_places L new (marked mark from to)) ≡ replicate (length (at_old from to)) against)
+  row-written now new from to w = (
+    simp (at_marked-same mark new now 0 from (λ k a below seen. w.below k below)),
+    simp (at_marked-all mark new against from to (λ k a b seen. w.inside k a b seen), length-at_places, map-opposite e s.eos s.side),
+  )
 
   -- the opposite direction comes, and is written to what waits
   pub IsJoined-settled : (now new : List BidiClass) (done at : ℕ) → at < size → in_runs s.runs at ≡ true → as_direction (class_at s.old at) ≡ Some against → IsWrittenOver mark against done at now new → IsJoined s now true done at
       → IsJoined s new true at at
   IsJoined-settled now new done at fits inside is w j =
       let first = first_at at fits (seen-directed at against inside is) in
-      let cs = at_old done at in
-      let row = replicate (length cs) against in
-      let tail = rest_of true at in
-      let there : at_places L new (marked mark done at) ≡ row = grind (arith, at_marked-all, length-at) in
+      let between = between_two e s.eos s.side (at_old done at) (at_old (at + 1) size) (class_at s.old at) (waited now true done at j) is in
+      let row = row-written now new done at w in
       record {
-        written =
-            ap (λ (xs : List BidiClass). xs ++ tail) (done-more new done at j.order)
-            ∙ append_assoc (done_with new done) (map (n2_rule e) (at_places L new (marked mark done at))) tail
-            ∙ ap (λ (xs : List BidiClass). map (n2_rule e) xs ++ (map (n2_rule e) (at_places L new (marked mark done at)) ++ tail)) (at_marked-same mark new now 0 done (λ k from below seen. w.below k below))
-            ∙ ap (λ (xs : List BidiClass). done_with now done ++ (map (n2_rule e) xs ++ tail)) there
-            ∙ ap (λ (xs : List BidiClass). done_with now done ++ (xs ++ tail)) (map-opposite e s.eos s.side (length cs))
-            ∙ ap (λ (xs : List BidiClass). done_with now done ++ xs)
-            (ap (λ (xs : List BidiClass). row ++ n1_n2 e against s.eos xs) first
-            ∙ sym (between_two e s.eos s.side cs (at_old (at + 1) size) (class_at s.old at) (waited now true done at j) is)
-            ∙ ap (λ (xs : List BidiClass). n1_n2 e against s.eos (cs ++ xs)) (sym first)
-            ∙ ap (n1_n2 e against s.eos) (sym (split s.old done at size j.order (omega arith))))
-            ∙ j.written;
+        written = simp (done-more new done at j.order, append_assoc, row.0, row.1, ← j.written, split s.old done at size j.order (omega arith), first, between);
         waiting = λ k from below seen. absurd (omega arith);
         unwritten = λ k from. w.above k from ∙ j.unwritten k (let order = j.order in omega arith);
         unseen = λ k plain. w.failing k plain ∙ j.unseen k plain;
@@ -270,14 +202,14 @@ module _ (s : Unjoined) where
   pub IsJoined-stretch : (now : List BidiClass) (waits : Bool) (at to : ℕ) → at < to → to ≤ size → in_runs s.runs at ≡ true → ((k : ℕ) → at ≤ k → k < to → stands_for against (class_at s.old k) ≡ true)
       → IsJoined s now waits at at → IsJoined s now true to to
   IsJoined-stretch now waits at to some fits inside all j =
-      let is = opposite-directed e (class_at s.old at) (all at (omega arith) some) in
-      let seen = seen-directed at against inside is in
-      let parts : at_old at to ≡ class_at s.old at ∷ at_old (at + 1) to = grind arith in
+      let parts : at_old at to ≡ class_at s.old at ∷ at_old (at + 1) to = grind (arith, seen-directed at against inside, opposite-directed e (class_at s.old at), all at) in
       read now waits true at at to (omega arith) fits j
-      (ap (n1_n2 e (side_before s waits) s.eos) (split s.old at to size (omega arith) fits ∙ ap (λ (xs : List BidiClass). xs ++ at_old to size) parts)
-      ∙ stretch e s.eos s.side (side_before s waits) (class_at s.old at) (at_old (at + 1) to) (at_old to size)
-      (ap (list_all (stands_for against)) (sym parts) ∙ at_marked-each mark (stands_for against) s.old at to (λ k from below is'. all k from below))
-      ∙ ap (λ (xs : List BidiClass). map (n2_rule e) xs ++ rest_of true to) (sym parts))
+      (simp (
+        split s.old at to size (omega arith) fits,
+        parts,
+        stretch e s.eos s.side (side_before s waits) (class_at s.old at) (at_old (at + 1) to) (at_old to size)
+            (simp parts at (at_marked-each mark (stands_for against) s.old at to (λ k from below is'. all k from below))),
+      ))
 
   -- ---- the end
 
@@ -287,46 +219,19 @@ module _ (s : Unjoined) where
   -- nothing waits
   pub finished-quiet : (now : List BidiClass) (done : ℕ) → IsJoined s now false done size → done_with now size ≡ goal
   finished-quiet now done j =
-      let q = IsJoined-quiet now done size size (omega arith) (omega arith) (λ k a b. absurd (omega arith)) j in
-      sym (append-nil (done_with now size)) ∙ ap (λ (xs : List BidiClass). done_with now size ++ n1_n2 e e s.eos xs) (sym none-left) ∙ q.written
+      simp (none-left, append-nil) at (IsJoined-quiet now done size size (omega arith) (omega arith) (λ k a b. absurd (omega arith)) j).written
 
   -- the embedding direction stands behind what waits
   pub finished-embedding : (now : List BidiClass) (done : ℕ) → s.eos ≡ e → IsJoined s now true done size → done_with now size ≡ goal
   finished-embedding now done is j =
       let cs = at_old done size in
-      done-more now done size j.order
-      ∙ ap (λ (xs : List BidiClass). done_with now done ++ map (n2_rule e) xs) (at_marked-same mark now s.old done size (λ k from below seen. j.unwritten k from))
-      ∙ ap (λ (xs : List BidiClass). done_with now done ++ xs)
-      (map-settled e s.eos s.side cs (waited now true done size j)
-      ∙ sym (last-waiting e s.eos s.side cs (waited now true done size j) ∙ ap (λ (x : BidiClass). replicate (length cs) (common e against x)) is ∙ ap (replicate (length cs)) (common_apart e s.eos s.side)))
-      ∙ j.written
+      let wait = waited now true done size j in
+      let step : rest_of true done ≡ map (n2_rule e) cs = n1_n2-last e against s.eos cs wait ∙ simp (is, common_apart e s.eos s.side, map-settled e s.eos s.side cs wait) in
+      simp (done-more now done size j.order, at_marked-same mark now s.old done size (λ k from below seen. j.unwritten k from), ← step, j.written)
 
   -- the opposite one does, and is written to it
   pub finished-opposite : (now new : List BidiClass) (done : ℕ) → s.eos ≡ against → IsWrittenOver mark against done size now new → IsJoined s now true done size → done_with new size ≡ goal
   finished-opposite now new done is w j =
       let cs = at_old done size in
-      let row = replicate (length cs) against in
-      done-more new done size j.order
-      ∙ ap (λ (xs : List BidiClass). map (n2_rule e) xs ++ map (n2_rule e) (at_places L new (marked mark done size))) (at_marked-same mark new now 0 done (λ k from below seen. w.below k below))
-      ∙ ap (λ (xs : List BidiClass). done_with now done ++ map (n2_rule e) xs)
-      (at_marked-all mark new against done size (λ k from below seen. w.inside k from below seen) ∙ ap (λ n. replicate n against) (sym (length-at s.old (marked mark done size))))
-      ∙ ap (λ (xs : List BidiClass). done_with now done ++ xs)
-      (map-opposite e s.eos s.side (length cs)
-      ∙ sym (last-waiting e s.eos s.side cs (waited now true done size j) ∙ ap (λ (x : BidiClass). replicate (length cs) (common e against x)) is ∙ ap (replicate (length cs)) (common_opposite e s.eos s.side)))
-      ∙ j.written
-
--- classes that are changed one by one
-at_changed : (mark : ℕ → Bool) (f : BidiClass → BidiClass) (xs ys : List BidiClass) (low n : ℕ) → ((k : ℕ) → low ≤ k → k < low + n → mark k ≡ true → class_at xs k ≡ f (class_at ys k))
-    → at_places L xs (filter mark (range_with_len low n)) ≡ map f (at_places L ys (filter mark (range_with_len low n)))
-at_changed mark f xs ys low zero h = refl
-at_changed mark f xs ys low (suc n) h =
-    let more = filter mark (range_with_len (low + 1) n) in
-    let rest = at_changed mark f xs ys (low + 1) n (λ k a b is. h k (omega arith) (omega arith) is) in
-    elim (cases_Bool (mark low)) [
-      | inl yes' ↦ grind arith
-      | inr no' ↦ grind arith
-    ]
-
-pub at_marked-changed : (mark : ℕ → Bool) (f : BidiClass → BidiClass) (xs ys : List BidiClass) (low high : ℕ) → ((k : ℕ) → low ≤ k → k < high → mark k ≡ true → class_at xs k ≡ f (class_at ys k))
-    → at_places L xs (marked mark low high) ≡ map f (at_places L ys (marked mark low high))
-at_marked-changed mark f xs ys low high h = grind (arith, at_changed) steps 400000
+      let step : rest_of true done ≡ replicate (length cs) against = n1_n2-last e against s.eos cs (waited now true done size j) ∙ simp (is, common_opposite e s.eos s.side) in
+      simp (done-more new done size j.order, (row-written now new done size w).0, (row-written now new done size w).1, ← step, j.written)

@@ -1,9 +1,9 @@
 -- The walk for N1 over the runs of a sequence.
-use Rattle.std.proofs.Common.{◌≡◌, ℕ, suc, ◌+◌, ◌<◌, ◌≤◌, Bool, true, false, ◌&&◌, List, length, map, get_or, drop, Some, sym, ap, subst, ◌∙◌, arith, add-one, inl, inr, ◌⊎◌}
-use Rattle.std.proofs.lemmas.Bool.{cases_Bool, both_ways, and_parts}
+use Rattle.std.proofs.Common.{◌≡◌, ℕ, ◌+◌, ◌<◌, ◌≤◌, Bool, true, false, List, length, map, get_or, drop, Some, sym, ap, ◌∙◌, arith, add-one, inl, inr, ◌⊎◌}
+use Rattle.std.proofs.lemmas.Bool.{cases_Bool}
 use Rattle.bidi_base.specs.declared.char_data.BidiClass.{BidiClass}
 use Rattle.bidi_base.specs.declared.char_data.BidiClass.TheVariants.{L}
-use Rattle.bidi_base.specs.Classes.{as_direction, has_direction, is_kept_in_place, is_l_or_r, stands_for}
+use Rattle.bidi_base.specs.Classes.{as_direction, has_direction, is_l_or_r, stands_for}
 use Rattle.bidi_base.specs.Neutral.{n1_n2, n2_rule}
 use Rattle.bidi_base.specs.Places.{at_places, class_at}
 use Rattle.bidi_base.specs.Units.{in_runs}
@@ -23,29 +23,26 @@ module _ (s : Unjoined) (now : List BidiClass) (w : Join) where
   abbrev against : BidiClass
   against = opposite_of s.e
 
+  -- what is written to what waits
+  over-old : (at : ℕ) (new : List BidiClass) (u : IsUnderWay s now w at) → w.waits ≡ true → IsWrittenOver (is_seen (drop w.first_run s.runs) now) against w.first at now new → IsWrittenOver (is_seen s.runs s.old) against u.done at now new
+  over-old at new u waiting over =
+      let n = u.named waiting in
+      IsWrittenOver-same_test (is_seen (drop w.first_run s.runs) now) (is_seen s.runs s.old) against u.done at now new (λ k a b. cc (n.reached k a, u.joined.unwritten k a)) (simp n.first at over)
+
   module _ (at end : ℕ) (inside : (k : ℕ) → at ≤ k → k < end → in_runs s.runs k ≡ true) (fits : end ≤ length s.old) (u : IsUnderWay s now w at) where
     -- more neutrals wait
     IsUnderWay-more : (next : ℕ) → at ≤ next → next ≤ end → ((k : ℕ) → at ≤ k → k < next → has_direction (class_at now k) ≡ false) → IsUnderWay s now w next
     IsUnderWay-more next from upto none = grind arith
-
-    pub IsAtOpposite-none : (next : ℕ) → at ≤ next → next ≡ end → ((k : ℕ) → at ≤ k → k < next → has_direction (class_at now k) ≡ false) → IsAtOpposite s now w end end
-    IsAtOpposite-none next from is none = grind arith
 
     -- it comes, and is written to what waits
     pub IsAtOpposite-settled : (new : List BidiClass) (next : ℕ) → at ≤ next → next < end → ((k : ℕ) → at ≤ k → k < next → has_direction (class_at now k) ≡ false) → stands_for against (class_at now next) ≡ true → w.waits ≡ true
         → IsWrittenOver (is_seen (drop w.first_run s.runs) now) against w.first next now new → IsAtOpposite s new w next end
     IsAtOpposite-settled new next from below none is waiting over =
         let more = IsUnderWay-more next from (omega arith) none in
-        let n = more.named waiting in
-        let j : IsJoined s now true more.done next = subst (λ (b : Bool). IsJoined s now b more.done next) waiting more.joined in
-        let unwritten = j.unwritten next j.order in
-        let written : IsWrittenOver (is_seen s.runs s.old) against more.done next now new =
-        IsWrittenOver-same_test (is_seen (drop w.first_run s.runs) now) (is_seen s.runs s.old) against more.done next now new
-        (λ k a b. ap (λ t. t && is_kept_in_place (class_at now k)) (n.reached k a) ∙ ap (λ c. in_runs s.runs k && is_kept_in_place c) (j.unwritten k a))
-        (subst (λ (i : ℕ). IsWrittenOver (is_seen (drop w.first_run s.runs) now) against i next now new) n.first over) in
-        let settled' = IsJoined-settled s now new more.done next (omega arith) (inside next from below) (opposite-directed s.e (class_at s.old next) (ap (stands_for against) (sym unwritten) ∙ is)) written j in
+        let j : IsJoined s now true more.done next = simp waiting at more.joined in
+        let directed = simp (j.unwritten next j.order) at (opposite-directed s.e (class_at now next) is) in
         record {
-          there = λ some. (subst (λ (b : Bool). IsJoined s new b next next) (sym waiting) settled', ap (stands_for against) (over.above next (omega arith)) ∙ is);
+          there = λ some. (simp waiting (IsJoined-settled s now new more.done next (omega arith) (inside next from below) directed (over-old next new more waiting over) j), simp (over.above next (omega arith), is));
           ended = λ past. absurd (omega arith);
         }
 
@@ -54,17 +51,15 @@ module _ (s : Unjoined) (now : List BidiClass) (w : Join) where
         → IsJoined s now false next next
     IsUnderWay-turned next from below none is other waiting =
         let more = IsUnderWay-more next from (omega arith) none in
-        let j : IsJoined s now true more.done next = subst (λ (b : Bool). IsJoined s now b more.done next) waiting more.joined in
-        let unwritten = j.unwritten next j.order in
-        IsJoined-turned s now more.done next (omega arith) (inside next from below)
-        (other-embedding s.e (class_at s.old next) s.side (ap has_direction (sym unwritten) ∙ is) (ap (stands_for against) (sym unwritten) ∙ other)) j
+        let j : IsJoined s now true more.done next = simp waiting at more.joined in
+        IsJoined-turned s now more.done next (omega arith) (inside next from below) (simp (j.unwritten next j.order) at (other-embedding s.e (class_at now next) s.side is other)) j
 
 -- nothing waits
 pub IsAtOpposite-quiet : (s : Unjoined) (now : List BidiClass) (w : Join) (done from next end : ℕ) → IsJoined s now false done from → w.waits ≡ false → from ≤ next → next ≤ end → end ≤ length s.old
     → ((k : ℕ) → from ≤ k → k < next → stands_for (opposite_of s.e) (class_at now k) ≡ false) → (next < end → stands_for (opposite_of s.e) (class_at now next) ≡ true) → IsAtOpposite s now w next end
 IsAtOpposite-quiet s now w done from next end j idle low high fits none is =
     let q = IsJoined-quiet s now done from next low (omega arith) (λ k a b. ap (stands_for (opposite_of s.e)) (sym (j.unwritten k (let order = j.order in omega arith))) ∙ none k a b) j in
-    let at : IsJoined s now w.waits next next = subst (λ (b : Bool). IsJoined s now b next next) (sym idle) q in
+    let at : IsJoined s now w.waits next next = simp idle q in
     record {
       there = λ some. (at, is some);
       ended = λ past. grind arith;
@@ -75,7 +70,7 @@ pub IsUnderWay-stretch : (s : Unjoined) (now : List BidiClass) (w : Join) (waits
     → next ≤ length s.old → at < next → ((k : ℕ) → at ≤ k → k < next → stands_for (opposite_of s.e) (class_at now k) ≡ true) → IsJoined s now waits at at → IsUnderWay s now w next
 IsUnderWay-stretch s now w waits run at next waiting first_is run_is fits from upto within some all j = record {
   done = next;
-  joined = subst (λ (b : Bool). IsJoined s now b next next) (sym waiting)
+  joined = simp waiting
       (IsJoined-stretch s now waits at next some within (in_runs-at run s.runs at fits from (omega arith)) (λ k a b. ap (stands_for (opposite_of s.e)) (sym (j.unwritten k a)) ∙ all k a b) j);
   named = λ _. grind (arith, in_runs-drop);
 }
@@ -89,15 +84,7 @@ module _ (s : Unjoined) where
   -- behind a run
   pub IsUnderWay-gap : (now : List BidiClass) (w : Join) (run : ℕ) → run < length s.runs → (get_or s.runs run (0, 0)).1 ≤ size → IsUnderWay s now w (get_or s.runs run (0, 0)).1 → IsUnderWay s now w (start_or s.runs (run + 1) size)
   IsUnderWay-gap now w run here within u =
-      let end = (get_or s.runs run (0, 0)).1 in
-      let next : start_or s.runs (run + 1) size ≡ start_or s.runs (suc run) size = ap (λ k. start_or s.runs k size) (add-one run) in
-      record {
-        done = u.done;
-        joined = IsJoined-more s now w.waits u.done end (start_or s.runs (run + 1) size) (omega (arith, next, next_start 0 run s.runs size s.ordered here within))
-            (λ k from below seen. absurd (both_ways (in_runs s.runs k) (gap_after 0 run s.runs k size s.ordered here from (omega (arith, next))) (and_parts (in_runs s.runs k) (is_kept_in_place (class_at s.old k)) seen).0))
-            u.joined;
-        named = u.named;
-      }
+      grind (arith, add-one run, IsJoined-more, next_start 0 run s.runs size s.ordered here within, λ (k : ℕ). gap_after 0 run s.runs k size s.ordered here)
 
   -- before the first one
   pub IsUnderWay-start : (w : Join) → side_before s w.waits ≡ s.sos → w.first ≡ 0 → w.first_run ≡ 0 → IsUnderWay s s.old w (start_or s.runs 0 size)
@@ -111,9 +98,6 @@ module _ (s : Unjoined) where
     pub unseen : (k : ℕ) → is_seen s.runs s.old k ≡ false → class_at new k ≡ class_at s.old k
     pub own : (k : ℕ) → (class_at new k ≡ class_at s.old k) ⊎ (class_at new k ≡ opposite_of s.e)
 
-  is-opposite : (e c : BidiClass) → is_l_or_r c ≡ true → stands_for (opposite_of e) c ≡ true → c ≡ opposite_of e
-  is-opposite e c b h = grind arith
-
   pub IsFinished-embedding : (now : List BidiClass) (w : Join) → is_l_or_r s.eos ≡ true → stands_for (opposite_of s.e) s.eos ≡ false → IsUnderWay s now w size → IsFinished now
   IsFinished-embedding now w side other u = grind (arith, finished-embedding, finished-quiet)
 
@@ -121,16 +105,14 @@ module _ (s : Unjoined) where
       → (w.waits ≡ true → IsWrittenOver (is_seen (drop w.first_run s.runs) now) (opposite_of s.e) w.first size now new) → (w.waits ≡ false → new ≡ now) → IsUnderWay s now w size → IsFinished new
   IsFinished-opposite now new w side is held idle u = elim (cases_Bool w.waits) [
     | inl yes' ↦
-        let n = u.named yes' in
-        let j : IsJoined s now true u.done size = subst (λ (b : Bool). IsJoined s now b u.done size) yes' u.joined in
-        let over : IsWrittenOver (is_seen s.runs s.old) (opposite_of s.e) u.done size now new =
-        IsWrittenOver-same_test (is_seen (drop w.first_run s.runs) now) (is_seen s.runs s.old) (opposite_of s.e) u.done size now new
-        (λ k a b. ap (λ t. t && is_kept_in_place (class_at now k)) (n.reached k a) ∙ ap (λ c. in_runs s.runs k && is_kept_in_place c) (j.unwritten k a))
-        (subst (λ (i : ℕ). IsWrittenOver (is_seen (drop w.first_run s.runs) now) (opposite_of s.e) i size now new) n.first (held yes')) in
-        record {
-          answers = finished-opposite s now new u.done (is-opposite s.e s.eos side is) over j;
-          unseen = λ k plain. over.failing k plain ∙ j.unseen k plain;
-          own = own-after (is_seen s.runs s.old) (opposite_of s.e) u.done size s.old now new over j.own;
-        }
+        let j : IsJoined s now true u.done size = simp yes' at u.joined in
+        let over = over-old s now w size new u yes' (held yes') in
+        grind (
+          arith,
+          finished-opposite s now new u.done (grind arith) over j,
+          j.unseen,
+          over.failing,
+          own-after (is_seen s.runs s.old) (opposite_of s.e) u.done size s.old now new over j.own,
+        )
     | inr no' ↦ grind (arith, finished-quiet)
   ]

@@ -2,7 +2,7 @@
 use Rattle.std.proofs.Common.{◌≡◌, ℕ, zero, suc, ◌+◌, ◌-◌, ◌<◌, ◌≤◌, true, false, List, [], ◌∷◌, ◌++◌, length, map, get_or, refl, sym, ap, ◌∙◌, arith, ◌⊎◌, inl, inr, length-append, rules}
 use Rattle.std.specs.Prelude.{filter}
 use Rattle.std.specs.List.{range_with_len}
-use Rattle.std.proofs.lemmas.Bool.{cases_Bool, cond-true, cond-false}
+use Rattle.std.proofs.lemmas.Bool.{cases_Bool}
 use Rattle.std.proofs.lemmas.List.{map-append, get_or-map, length-map}
 use Rattle.std.proofs.lemmas.List.Elements.{filter-append}
 use Rattle.std.proofs.lemmas.Grind.{flat_map-append}
@@ -39,16 +39,9 @@ module _ (classes : List BidiClass) (levels : List ℕ) where
       → AreLevelRuns a (filter (begins_run classes levels) (range_with_len low m))
   cut low zero a before all starts none = grind arith
   cut low (suc m) a before all starts none = elim (cases_Bool (begins_run classes levels low)) [
-    | inl here ↦
-        rw (cond-true (begins_run classes levels low) (low ∷ filter (begins_run classes levels) (range_with_len (low + 1) m)) (filter (begins_run classes levels) (range_with_len (low + 1) m)) here)
-        (record { not_empty = before; within = omega arith; starts = starts; inside = none; stops = inr here }, cut (low + 1) m low (omega arith) (omega arith) (inr here) (λ k from below. absurd (omega arith)))
-    | inr other ↦
-        rw (cond-false (begins_run classes levels low) (low ∷ filter (begins_run classes levels) (range_with_len (low + 1) m)) (filter (begins_run classes levels) (range_with_len (low + 1) m)) other)
-        (cut (low + 1) m a (omega arith) (omega arith) starts (extended other none))
+    | inl here ↦ simp here (record { not_empty = before; within = omega arith; starts = starts; inside = none; stops = inr here }, cut (low + 1) m low (omega arith) (omega arith) (inr here) (λ k from below. absurd (omega arith)))
+    | inr other ↦ simp other (cut (low + 1) m a (omega arith) (omega arith) starts (λ k from below. grind arith))
   ]
-    where
-      extended : begins_run classes levels low ≡ false → ((k : ℕ) → a < k → k < low → begins_run classes levels k ≡ false) → (k : ℕ) → a < k → k < low + 1 → begins_run classes levels k ≡ false
-      extended other none' k from below = grind arith
 
   begins_run-zero : begins_run classes levels 0 ≡ false
   unfolding begins_run
@@ -69,8 +62,7 @@ pub IsLevelRun-at : (classes : List BidiClass) (levels : List ℕ) (k : ℕ) →
     → IsLevelRun classes levels (get_or (run_starts classes levels ++ length classes ∷ []) k 0) (get_or (run_starts classes levels ++ length classes ∷ []) (suc k) 0)
 unfolding run_starts
 IsLevelRun-at [] levels k within = absurd (omega arith)
-IsLevelRun-at (c ∷ classes) levels k within =
-    level_run_at (c ∷ classes) levels 0 (filter (begins_run (c ∷ classes) levels) (indexes (c ∷ classes))) k (AreLevelRuns-begins (c ∷ classes) levels (omega arith)) within
+IsLevelRun-at (c ∷ classes) levels k within = level_run_at (c ∷ classes) levels 0 _ k (AreLevelRuns-begins (c ∷ classes) levels (omega arith)) within
 
 -- the kept characters of one range of units
 pub kept_in_run : (len_of : ℕ → ℕ) → HasUnits len_of → (chars : List ℕ) (classes : List BidiClass) (a b : ℕ) → a ≤ length chars → b ≤ length chars
@@ -92,14 +84,14 @@ level_run_ranges-at len_of chars classes levels k d long within =
     let starts : List ℕ = run_starts classes levels in
     let n : ℕ = length classes in
     let last : text_len len_of chars ≡ place len_of chars n = sym (place-end len_of chars n (omega arith)) in
-    let whole : map (place len_of chars) starts ++ text_len len_of chars ∷ [] ≡ map (place len_of chars) (starts ++ n ∷ []) =
-    grind (arith, map-append) in
-    let fits : k < length starts = within in
     let both : length (starts ++ n ∷ []) ≡ length starts + 1 = length-append starts (n ∷ []) in
-    ranges_between-at (map (place len_of chars) starts) (text_len len_of chars) k d (omega (arith, length-map starts (place len_of chars)))
-    ∙ ap (λ (xs : List ℕ). (get_or xs k 0, get_or xs (suc k) 0)) whole
-    ∙ ap (λ (x : ℕ). (x, get_or (map (place len_of chars) (starts ++ n ∷ [])) (suc k) 0)) (get_or-map (place len_of chars) (starts ++ n ∷ []) k 0 0 (omega arith))
-    ∙ ap (λ (x : ℕ). (place len_of chars (get_or (starts ++ n ∷ []) k 0), x)) (get_or-map (place len_of chars) (starts ++ n ∷ []) (suc k) 0 0 (omega arith))
+    ranges_between-at (map (place len_of chars) starts) (text_len len_of chars) k d (omega (arith, within, length-map starts (place len_of chars)))
+    ∙ simp (
+      last,
+      ← map-append (place len_of chars) starts (n ∷ []),
+      get_or-map (place len_of chars) (starts ++ n ∷ []) k 0 0 (omega (arith, within)),
+      get_or-map (place len_of chars) (starts ++ n ∷ []) (suc k) 0 0 (omega (arith, within)),
+    )
 
 pub length-level_run_ranges : (len_of : ℕ → ℕ) (chars : List ℕ) (classes : List BidiClass) (levels : List ℕ) → length (level_run_ranges len_of chars classes levels) ≡ length (run_starts classes levels)
 unfolding level_run_ranges

@@ -13,7 +13,6 @@ pub mod KeptRuns
 pub mod LevelRunLemmas
 pub mod Marks
 pub mod NearestLemmas
-pub mod NeutralScan
 pub mod NeutralSteps
 pub mod NeutralUnits
 pub mod OneDirection

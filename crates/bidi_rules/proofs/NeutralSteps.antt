@@ -1,11 +1,11 @@
 -- The steps of N0 and N1 over a sequence, one after the other.
-use Rattle.std.proofs.Common.{◌≡◌, ℕ, zero, suc, ◌+◌, ◌<◌, ◌≤◌, Bool, true, false, ◌&&◌, ltb, if◌then◌else◌, List, [], ◌∷◌, length, get_or, map, find, slice_get, Option, Some, None, refl, sym, ap, subst, ◌∙◌, arith, inl, inr, ◌⊎◌, rules}
+use Rattle.std.proofs.Common.{◌≡◌, ℕ, ◌+◌, ◌<◌, ◌≤◌, Bool, true, false, ◌&&◌, if◌then◌else◌, List, [], ◌∷◌, length, map, find, slice_get, Option, Some, None, refl, sym, ap, ◌∙◌, arith, ◌⊎◌, rules}
 use Rattle.std.specs.Prelude.{All}
 use Rattle.std.specs.List.{list_all}
 use Rattle.std.specs.declared.ops.Range.{Range}
-use Rattle.std.proofs.lemmas.Bool.{cases_Bool, cases_lt, cond-true, cond-false, and_parts, and_left, and_right}
-use Rattle.std.proofs.lemmas.List.{nil_from_length, length-map, get_or-map, get_or_past}
-use Rattle.std.proofs.lemmas.List.FromFn.{length-range_with_len, get_or-range_with_len}
+use Rattle.std.proofs.lemmas.Bool.{cases_Bool, cases_lt, and_parts, and_left, and_right}
+use Rattle.std.proofs.lemmas.List.{nil_from_length, length-map, get_or_past}
+use Rattle.std.proofs.lemmas.List.FromFn.{length-range_with_len, get_or-map-range_with_len}
 use Rattle.bidi_base.specs.declared.char_data.BidiClass.{BidiClass}
 use Rattle.bidi_base.specs.declared.char_data.BidiClass.TheVariants.{L, BN}
 use Rattle.bidi_base.specs.declared.data_source.BidiMatchedOpeningBracket.{BidiMatchedOpeningBracket}
@@ -17,7 +17,7 @@ use Rattle.bidi_base.specs.Places.{at_places, class_at, first_or, indexes}
 use Rattle.bidi_base.specs.Sequences.{level_at}
 use Rattle.bidi_base.specs.Source.{Source}
 use Rattle.bidi_base.specs.Text.{place, text_len, is_per_char, per_unit, IsPerChar}
-use Rattle.bidi_base.specs.Units.{bounds, are_ordered, in_runs, kept_in_place, units_in_runs, AreLines}
+use Rattle.bidi_base.specs.Units.{bounds, in_runs, kept_in_place, units_in_runs, AreLines}
 use Rattle.bidi_base.proofs.NeutralLemmas.{n0-resolved}
 use Rattle.bidi_base.proofs.PermutationLemmas.{Ascends}
 use Rattle.bidi_base.proofs.PerCharTests.{class_eq, class_test}
@@ -35,28 +35,24 @@ use Rattle.bidi_rules.specs.RunSequence.{lent_runs, lent_sos, lent_eos}
 use Rattle.bidi_rules.specs.WeakWalk.{is_seen}
 use Rattle.bidi_rules.proofs.FirstKept.{first_kept-is, first-Some, first-None}
 use Rattle.bidi_rules.proofs.SeenUnits.{kept_in_place-alike, ruled-places, ruled-IsPerChar, seen-every}
-use Rattle.bidi_rules.proofs.JoinScan.{at_marked-changed}
+use Rattle.bidi_rules.proofs.Marks.{at_marked-changed}
 use Rattle.bidi_rules.proofs.PassOverText.{IsPerChar-alike, alike_class, in_runs-alike}
 use Rattle.bidi_rules.proofs.Spots.{Ascends-within}
 use Rattle.bidi_rules.proofs.KeptRuns.{kept_in_place-Ascends}
 use Rattle.bidi_rules.proofs.WalkLemmas.{is_run_sequence-ordered}
+use Rattle.std.proofs.Math.ListN.{get_or-map as get_or-mapped}
 
 pub IsReady-sequence : (len_of : ℕ → ℕ) → HasUnits len_of → (chars : List ℕ) (sequence : LentSequence) (runs : List (Range ℕ)) (sos : BidiClass) (old : List BidiClass) → runs ≡ lent_runs sequence → sos ≡ lent_sos sequence
     → is_per_char class_eq len_of chars old ≡ true → AreLines len_of chars (map bounds (lent_runs sequence))
     → list_all is_weak_resolved (values_of L len_of chars old (kept_in_place len_of chars old (map bounds (lent_runs sequence)))) ≡ true → IsReady len_of chars runs sos old
 IsReady-sequence len_of h chars sequence runs sos old runs_is sos_is per lines resolved =
-    let all = map bounds sequence.runs.now in
-    let sides = is_l_or_r sequence.sos && is_l_or_r sequence.eos in
-    let others = and_parts (ltb 0 (length all)) (are_ordered all && sides) sequence.well_formed in
-    let last = and_parts (are_ordered all) sides others.1 in
-    subst (λ (rs : List (Range ℕ)). IsReady len_of chars rs sos old) (sym runs_is)
-    (subst (λ (s : BidiClass). IsReady len_of chars (lent_runs sequence) s old) (sym sos_is) (record {
-      ordered = is_run_sequence-ordered all sequence.sos sequence.eos sequence.well_formed;
+    simp (runs_is, sos_is) (record {
+      ordered = is_run_sequence-ordered (map bounds sequence.runs.now) sequence.sos sequence.eos sequence.well_formed;
       lines = lines;
       per_char = IsPerChar-from_is_per_char class_eq class_test len_of h chars old per;
-      side = (and_parts (is_l_or_r sequence.sos) (is_l_or_r sequence.eos) last.1).0;
+      side = grind (arith, and_parts);
       resolved = resolved;
-    }))
+    })
 
 pub eos-side : (sequence : LentSequence) (eos : BidiClass) → eos ≡ lent_eos sequence → is_l_or_r eos ≡ true
 eos-side sequence eos is = grind (arith, and_parts)
@@ -81,17 +77,12 @@ module _ (len_of : ℕ → ℕ) (h : HasUnits len_of) (chars : List ℕ) (runs :
     where
       by_list : (ks : List ℕ) → Ascends 0 ks (length chars) → slice_get (map (place len_of chars) ks) 0 ≡ Some first → first < length old
       by_list [] rises e = absurd (cc e)
-      by_list (k ∷ ks) rises e =
-          let at : place len_of chars k ≡ first = cc e in
-          let fits : k < length chars = omega (arith, Ascends-within (k + 1) (length chars) ks rises.1) in
-          omega (arith, at, place-lt len_of chars h k (length chars) fits fits, place-end len_of chars (length chars) (omega arith), long)
+      by_list (k ∷ ks) rises e = grind (arith, Ascends-within (k + 1) (length chars) ks rises.1, place-lt len_of chars h k (length chars), place-end len_of chars (length chars), long)
 
   pub none-read : None ≡ find (λ u. is_kept_in_place (class_at old u)) (units_in_runs (map bounds runs)) → read ≡ []
-  none-read found = no_places read (first-None (map (place len_of chars) read) (sym (first_kept-is len_of h chars old ready.per_char (map bounds runs) ready.lines) ∙ sym found))
-    where
-      no_places : (ks : List ℕ) → map (place len_of chars) ks ≡ [] → ks ≡ []
-      no_places [] e = refl
-      no_places (k ∷ ks) e = absurd (cc e)
+  none-read found =
+      let none = first-None (map (place len_of chars) read) (sym (first_kept-is len_of h chars old ready.per_char (map bounds runs) ready.lines) ∙ sym found) in
+      nil_from_length read (cc (none, length-map read (place len_of chars)))
 
 -- classes that are changed one by one, at some places
 abbrev at_marks : (ℕ → Bool) → (BidiClass → BidiClass) → List BidiClass → List BidiClass
@@ -101,26 +92,12 @@ length-at_marks : (mark : ℕ → Bool) (f : BidiClass → BidiClass) (cs : List
 length-at_marks mark f cs = grind (arith, length-map, length-range_with_len) steps 400000
 
 at_marks-at : (mark : ℕ → Bool) (f : BidiClass → BidiClass) → f L ≡ L → (cs : List BidiClass) (k : ℕ) → class_at (at_marks mark f cs) k ≡ (if mark k then f (class_at cs k) else class_at cs k)
-at_marks-at mark f stays cs k = elim (cases_lt k (length cs)) [
-  | inl inside ↦
-      let there : k < length (indexes cs) = omega (arith, inside, length-range_with_len 0 (length cs)) in
-      let here : get_or (indexes cs) k 0 ≡ k = grind (arith, get_or-range_with_len) in
-      get_or-map (λ k. if mark k then f (class_at cs k) else class_at cs k) (indexes cs) k 0 L there ∙ ap (λ j. if mark j then f (class_at cs j) else class_at cs j) here
-  | inr past ↦ grind (arith, get_or_past, length-at_marks)
-]
-  where
-    either : (b : Bool) → (if b then f L else L) ≡ L
-    either true = stays
-    either false = refl
+at_marks-at mark f stays cs k =
+    grind (arith, cases_lt k (length cs), get_or-map-range_with_len (λ j. if mark j then f (class_at cs j) else class_at cs j) 0 (length cs) k k L, get_or_past, length-at_marks)
 
 at_places-changed : (f : BidiClass → BidiClass) → f L ≡ L → (cs : List BidiClass) (ps : List ℕ) → at_places L (map f cs) ps ≡ map f (at_places L cs ps)
 at_places-changed f stays cs [] = refl
-at_places-changed f stays cs (p ∷ ps) = ap (λ (c : BidiClass). c ∷ at_places L (map f cs) ps) (at cs p) ∙ ap (λ (xs : List BidiClass). f (class_at cs p) ∷ xs) (at_places-changed f stays cs ps)
-  where
-    at : (xs : List BidiClass) (k : ℕ) → class_at (map f xs) k ≡ f (class_at xs k)
-    at [] k = sym stays
-    at (x ∷ xs) zero = refl
-    at (x ∷ xs) (suc k) = at xs k
+at_places-changed f stays cs (p ∷ ps) = simp (at_places-changed f stays cs ps, simp stays at (get_or-mapped f cs p L))
 
 -- two classes that were alike, and have become that direction or stay, are alike if N2 makes them so
 same_from : (e c d x y : BidiClass) → is_l_or_r e ≡ true → c ≡ d → (x ≡ c) ⊎ (x ≡ opposite_of e) → (y ≡ d) ⊎ (y ≡ opposite_of e) → n2_rule e x ≡ n2_rule e y → x ≡ y
@@ -172,11 +149,7 @@ module _ (len_of : ℕ → ℕ) (h : HasUnits len_of) (chars : List ℕ) (source
   -- what is read then has a direction or is a neutral still
   pub mid-resolved : is_l_or_r e ≡ true → (u : ℕ) → is_seen rs mid u ≡ true → is_weak_resolved (class_at mid u) ≡ true
   mid-resolved side u seen =
-      let read = kept_in_place len_of chars old rs in
-      let sources = values_of L len_of chars original read in
-      let classes = values_of L len_of chars old read in
-      let all : list_all is_weak_resolved (values_of L len_of chars mid read) ≡ true = grind (arith, n0-resolved) in
-      seen-every len_of h chars mid p.per_char rs ready.lines ready.ordered mid-within is_weak_resolved (ap (λ (ks : List ℕ). list_all is_weak_resolved (values_of L len_of chars mid ks)) same_read ∙ all) u seen
+      seen-every len_of h chars mid p.per_char rs ready.lines ready.ordered mid-within is_weak_resolved (simp same_read (grind (arith, n0-resolved))) u seen
 
   module _ (side : is_l_or_r e ≡ true) (eos : BidiClass) (new : List BidiClass) (long : length new ≡ length mid)
       (joined : map (n2_rule e) (at_places L new (seen_units rs mid)) ≡ n1_n2 e sos eos (at_places L mid (seen_units rs mid)))
@@ -186,10 +159,10 @@ module _ (len_of : ℕ → ℕ) (h : HasUnits len_of) (chars : List ℕ) (source
     settled = at_marks (is_seen rs mid) (n2_rule e) new
 
     directed : at_places L settled (seen_units rs mid) ≡ n1_n2 e sos eos (at_places L mid (seen_units rs mid))
-    directed = at_marked-changed (is_seen rs mid) (n2_rule e) settled new 0 (length mid) (λ u from below seen. at_marks-at (is_seen rs mid) (n2_rule e) refl new u ∙ cond-true (is_seen rs mid u) (n2_rule e (class_at new u)) (class_at new u) seen) ∙ joined
+    directed = at_marked-changed (is_seen rs mid) (n2_rule e) settled new 0 (length mid) (λ u from below seen. simp (at_marks-at (is_seen rs mid) (n2_rule e) refl new u, seen)) ∙ joined
 
     settled-others : (u : ℕ) → is_seen rs mid u ≡ false → class_at settled u ≡ class_at mid u
-    settled-others u plain = at_marks-at (is_seen rs mid) (n2_rule e) refl new u ∙ cond-false (is_seen rs mid u) (n2_rule e (class_at new u)) (class_at new u) plain ∙ others u plain
+    settled-others u plain = simp (at_marks-at (is_seen rs mid) (n2_rule e) refl new u, plain, others u plain)
 
     rule_keeps : (cs : List BidiClass) → length (n1_n2 e sos eos cs) ≡ length cs
     rule_keeps cs = length-in_context (n1_rule e sos eos) [] cs
@@ -208,37 +181,24 @@ module _ (len_of : ℕ → ℕ) (h : HasUnits len_of) (chars : List ℕ) (source
     even k fits u from below =
         let first = place len_of chars k in
         let same : class_at mid u ≡ class_at mid first = alike_class len_of h chars mid p.per_char k u fits from below in
-        let alike : is_seen rs mid u ≡ is_seen rs mid first =
-        ap (λ b. b && is_kept_in_place (class_at mid u)) (in_runs-alike len_of h chars rs ready.lines k u from below) ∙ ap (λ c. in_runs rs first && is_kept_in_place c) same in
-        elim (cases_Bool (is_seen rs mid first)) [
-          | inl here ↦
-              let answer = λ (v : ℕ) (seen : is_seen rs mid v ≡ true). at_marks-at (is_seen rs mid) (n2_rule e) refl new v ∙ cond-true (is_seen rs mid v) (n2_rule e (class_at new v)) (class_at new v) seen in
-              same_from e (class_at mid u) (class_at mid first) (class_at new u) (class_at new first) side same (own u) (own first)
-              (sym (answer u (alike ∙ here)) ∙ alike_class len_of h chars settled settled-IsPerChar k u fits from below ∙ answer first here)
-          | inr gone ↦ others u (alike ∙ gone) ∙ same ∙ sym (others first gone)
-        ]
+        let alike : is_seen rs mid u ≡ is_seen rs mid first = simp (in_runs-alike len_of h chars rs ready.lines k u from below, same) in
+        let answer = at_marks-at (is_seen rs mid) (n2_rule e) refl new in
+        let settled_same = alike_class len_of h chars settled settled-IsPerChar k u fits from below in
+        let either = same_from e (class_at mid u) (class_at mid first) (class_at new u) (class_at new first) side same (own u) (own first) in
+        grind (arith, cases_Bool (is_seen rs mid first), answer u, answer first, settled_same, either, others u, others first)
 
     -- N1 over the units then
     pub IsUpToN1-paired : (levels : List ℕ) (first : ℕ) → Some first ≡ find (λ u. is_kept_in_place (class_at old u)) (units_in_runs rs) → e ≡ direction_of (level_at levels first) → IsUpToN1 len_of chars source levels original old new runs sos eos
     IsUpToN1-paired levels first found is =
         let read = kept_in_place len_of chars old rs in
         let places = map (place len_of chars) read in
-        let sources = values_of L len_of chars original read in
-        let brackets = map source.bracket_of (at_places 0 chars read) in
-        let classes = values_of L len_of chars old read in
         let everywhere = map (n2_rule e) new in
         let ruled : at_places L everywhere places ≡ n1_n2 e sos eos (at_places L mid places) =
-        subst (λ (ks : List ℕ). at_places L everywhere (map (place len_of chars) ks) ≡ n1_n2 e sos eos (at_places L mid (map (place len_of chars) ks))) same_read
+        simp same_read at
         (ruled-places len_of h chars mid p.per_char rs ready.lines ready.ordered mid-within (n1_n2 e sos eos) rule_keeps rule_commutes everywhere
         (at_places-changed (n2_rule e) refl new (seen_units rs mid) ∙ joined)) in
-        let level_is : direction_of (level_at levels (first_or 0 places)) ≡ e = ap (λ (u : ℕ). direction_of (level_at levels u)) (first-is len_of h chars runs sos old ready first found) ∙ sym is in
         record {
-          kept = ap (λ (d : BidiClass). map (n2_rule d) (at_places L new places)) level_is
-              ∙ sym (at_places-changed (n2_rule e) refl new places)
-              ∙ ruled
-              ∙ ap (n1_n2 e sos eos) p.paired
-              ∙ neutral_classes-is e sos eos (level_at levels first) sources classes brackets is
-              ∙ ap (λ u. neutral_classes (level_at levels u) sos eos sources brackets classes) (sym (first-is len_of h chars runs sos old ready first found));
+          kept = simp (first-is len_of h chars runs sos old ready first found, ← is, ← at_places-changed (n2_rule e) refl new places, ruled, p.paired, neutral_classes-is e sos eos (level_at levels first));
           removed = λ u gone. unseen u (and_right (in_runs rs u) (is_kept_in_place (class_at old u)) (ap is_kept_in_place gone)) ∙ gone;
           outside = λ u out. unseen u (and_left (in_runs rs u) (is_kept_in_place (class_at old u)) out);
           per_char = is_per_char-from_IsPerChar class_eq class_test len_of chars new
@@ -249,13 +209,7 @@ module _ (len_of : ℕ → ℕ) (h : HasUnits len_of) (chars : List ℕ) (source
 pub IsUpToN1-none : (len_of : ℕ → ℕ) (h : HasUnits len_of) (chars : List ℕ) (source : Source) (levels : List ℕ) (original old : List BidiClass) (runs : List (Range ℕ)) (sos eos : BidiClass) → IsReady len_of chars runs sos old
     → None ≡ find (λ u. is_kept_in_place (class_at old u)) (units_in_runs (map bounds runs)) → IsUpToN1 len_of chars source levels original old old runs sos eos
 IsUpToN1-none len_of h chars source levels original old runs sos eos ready found =
-    let none = none-read len_of h chars runs sos old ready found in
-    record {
-      kept = grind (arith, neutral_classes-none);
-      removed = λ u is. is;
-      outside = λ u out. refl;
-      per_char = is_per_char-from_IsPerChar class_eq class_test len_of chars old ready.per_char;
-    }
+    grind (arith, neutral_classes-none, none-read len_of h chars runs sos old ready found, is_per_char-from_IsPerChar class_eq class_test len_of chars old ready.per_char)
 
 -- at the sequence itself
 pub IsUpToN1-sequence : (len_of : ℕ → ℕ) (chars : List ℕ) (source : Source) (levels : List ℕ) (original old new : List BidiClass) (sequence : LentSequence) (runs : List (Range ℕ)) (sos eos : BidiClass) → runs ≡ lent_runs sequence

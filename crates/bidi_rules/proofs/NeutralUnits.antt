@@ -1,9 +1,9 @@
 -- The characters of some runs stand in the runs.
-use Rattle.std.proofs.Common.{◌≡◌, ℕ, zero, suc, ◌+◌, ◌-◌, ◌<◌, ◌≤◌, Bool, true, List, [], ◌∷◌, sym, subst, arith, inl, inr}
+use Rattle.std.proofs.Common.{◌≡◌, ℕ, zero, suc, ◌+◌, ◌-◌, ◌<◌, ◌≤◌, Bool, true, List, [], ◌∷◌, arith}
 use Rattle.std.specs.Prelude.{filter, All}
 use Rattle.std.specs.List.{range_with_len}
-use Rattle.std.proofs.lemmas.Bool.{cases_Bool, cond-true, cond-false, or_left, or_right}
-use Rattle.std.proofs.lemmas.List.Elements.{All-append, All-cons, All-nil, All-head, All-tail, All-weaker}
+use Rattle.std.proofs.lemmas.Bool.{or_right}
+use Rattle.std.proofs.lemmas.List.Elements.{All-append, All-cons, All-nil, All-head, All-tail, All-weaker, filter_passes}
 use Rattle.bidi_base.specs.Places.{between}
 use Rattle.bidi_base.specs.Text.{place, char_index, IsLine}
 use Rattle.bidi_base.specs.Units.{chars_in_runs, in_runs, AreLines}
@@ -12,13 +12,7 @@ use Rattle.bidi_base.proofs.TextLemmas.{HasUnits}
 use Rattle.bidi_rules.proofs.InRuns.{in_run, in_run-inside}
 
 pub all_pass : (test : ℕ → Bool) (ks : List ℕ) → All (λ k. test k ≡ true) (filter test ks)
-all_pass test [] = All-nil (λ k. test k ≡ true)
-all_pass test (k ∷ ks) = elim (cases_Bool (test k)) [
-  | inl yes' ↦
-      subst (λ (xs : List ℕ). All (λ j. test j ≡ true) xs) (sym (cond-true (test k) (k ∷ filter test ks) (filter test ks) yes'))
-      (All-cons (λ j. test j ≡ true) k (filter test ks) yes' (all_pass test ks))
-  | inr no' ↦ subst (λ (xs : List ℕ). All (λ j. test j ≡ true) xs) (sym (cond-false (test k) (k ∷ filter test ks) (filter test ks) no')) (all_pass test ks)
-]
+all_pass = filter_passes
 
 all_between : (test : ℕ → Bool) (low n : ℕ) → ((k : ℕ) → low ≤ k → k < low + n → test k ≡ true) → All (λ k. test k ≡ true) (range_with_len low n)
 all_between test low zero each = All-nil (λ k. test k ≡ true)
@@ -34,15 +28,9 @@ module _ (len_of : ℕ → ℕ) (h : HasUnits len_of) (chars : List ℕ) where
       let i = char_index len_of chars r.0 in
       let j = char_index len_of chars r.1 in
       let w = line_places len_of h chars r.0 r.1 (All-head (λ (q : ℕ × ℕ). IsLine len_of chars q.0 q.1) r runs lines) in
-      let order = w.ordered in
-      let begins = w.begins in
-      let ends = w.ends in
-      let inside = w.within in
       All-append (λ k. in_runs (r ∷ runs) (place len_of chars k) ≡ true) (between i j) (chars_in_runs len_of chars runs)
-      (all_between (λ k. in_runs (r ∷ runs) (place len_of chars k)) i (j - i) (λ k from below.
-      let first = place-mono len_of chars i k from in
-      let last = place-lt len_of chars h k j (omega arith) (omega arith) in
-      or_left (in_run r (place len_of chars k)) (in_runs runs (place len_of chars k)) (in_run-inside r (place len_of chars k) (omega arith) (omega arith))))
+      (all_between (λ k. in_runs (r ∷ runs) (place len_of chars k)) i (j - i)
+      (λ k from below. grind (arith, w, in_run-inside r (place len_of chars k), place-mono len_of chars i k from, place-lt len_of chars h k j)))
       (All-weaker (λ k. in_runs runs (place len_of chars k) ≡ true) (λ k. in_runs (r ∷ runs) (place len_of chars k) ≡ true)
       (λ k is. or_right (in_run r (place len_of chars k)) (in_runs runs (place len_of chars k)) is) (chars_in_runs len_of chars runs)
       (places_in_runs runs (All-tail (λ (q : ℕ × ℕ). IsLine len_of chars q.0 q.1) r runs lines)))

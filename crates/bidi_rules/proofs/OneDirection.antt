@@ -1,9 +1,9 @@
 -- A sequence in which each class is a neutral or one direction, which stands at its ends too: N2 alone is left.
-use Rattle.std.proofs.Common.{◌≡◌, ℕ, Bool, true, false, List, [], ◌∷◌, length, map, find, Option, Some, refl, sym, ap, subst, ◌∙◌, inl, inr, arith}
+use Rattle.std.proofs.Common.{◌≡◌, ℕ, Bool, true, false, List, [], ◌∷◌, length, map, find, Option, Some, refl, sym, ap, ◌∙◌, arith}
 use Rattle.std.specs.Prelude.{filter, All}
 use Rattle.std.specs.List.{list_all}
 use Rattle.std.specs.declared.ops.Range.{Range}
-use Rattle.std.proofs.lemmas.Bool.{cases_Bool, and_parts, and_from, cond-true}
+use Rattle.std.proofs.lemmas.Bool.{cases_Bool}
 use Rattle.std.proofs.lemmas.List.{length-map}
 use Rattle.std.proofs.lemmas.List.Elements.{All-head, All-tail, All-nil, All-cons, All-map}
 use Rattle.bidi_base.specs.declared.char_data.BidiClass.{BidiClass}
@@ -34,10 +34,8 @@ module _ (e : BidiClass) (side : is_l_or_r e ≡ true) where
     all_go : (ps : List ℕ) → list_all is_weak_resolved (at_places L units ps) ≡ true → All (λ u. turns_from e (class_at units u) ≡ false) ps → list_all (goes_with e) (at_places L units ps) ≡ true
     all_go [] h a = refl
     all_go (p ∷ ps) h a =
-        let parts = and_parts (is_weak_resolved (class_at units p)) (list_all is_weak_resolved (at_places L units ps)) h in
-        and_from (goes_with e (class_at units p)) (list_all (goes_with e) (at_places L units ps))
-        (goes_with-from e (class_at units p) side parts.0 (All-head (λ u. turns_from e (class_at units u) ≡ false) p ps a))
-        (all_go ps parts.1 (All-tail (λ u. turns_from e (class_at units u) ≡ false) p ps a))
+        let stays = λ (u : ℕ). turns_from e (class_at units u) ≡ false in
+        grind (arith, goes_with-from e (class_at units p) side, all_go ps, All-head stays p ps a, All-tail stays p ps a)
 
   -- N2 gives the direction to all
   taken : (e c : BidiClass) → goes_with e c ≡ true → n2_rule e c ≡ e
@@ -45,21 +43,13 @@ module _ (e : BidiClass) (side : is_l_or_r e ≡ true) where
 
   all_same : (cs : List BidiClass) → list_all (goes_with e) cs ≡ true → list_all (same_class e) (map (n2_rule e) cs) ≡ true
   all_same [] h = refl
-  all_same (c ∷ cs) h =
-      let parts = and_parts (goes_with e c) (list_all (goes_with e) cs) h in
-      and_from (same_class e (n2_rule e c)) (list_all (same_class e) (map (n2_rule e) cs)) (ap (same_class e) (taken e c parts.0) ∙ itself e side) (all_same cs parts.1)
+  all_same (c ∷ cs) h = grind (arith, taken e c, itself e side, all_same cs)
 
 -- what holds of each character that is read
 read_each : (test within : ℕ → Bool) (P : ℕ → Type 0) → ((k : ℕ) → within k ≡ true → test k ≡ true → P k) → (ks : List ℕ) → All (λ k. within k ≡ true) ks → All P (filter test ks)
 read_each test within P holds [] a = All-nil P
 read_each test within P holds (k ∷ ks) a =
-    let rest = read_each test within P holds ks (All-tail (λ j. within j ≡ true) k ks a) in
-    elim (cases_Bool (test k)) [
-      | inl yes' ↦
-          subst (λ (xs : List ℕ). All P xs) (sym (cond-true (test k) (k ∷ filter test ks) (filter test ks) yes'))
-          (All-cons P k (filter test ks) (holds k (All-head (λ j. within j ≡ true) k ks a) yes') rest)
-      | inr no' ↦ grind arith
-    ]
+    grind (arith, cases_Bool (test k), All-cons P k (filter test ks), holds k, All-head (λ j. within j ≡ true) k ks a, read_each test within P holds ks (All-tail (λ j. within j ≡ true) k ks a))
 
 module _ (len_of : ℕ → ℕ) (h : HasUnits len_of) (chars : List ℕ) (runs : List (Range ℕ)) (sos : BidiClass) (old : List BidiClass) (ready : IsReady len_of chars runs sos old) where
   abbrev rs : List (ℕ × ℕ)

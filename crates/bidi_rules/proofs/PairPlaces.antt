@@ -1,8 +1,9 @@
 -- N0 over the units of a sequence, pair by pair: what a search over units says of the characters between two brackets and before them, and what is written.
-use Rattle.std.proofs.Common.{◌≡◌, ℕ, zero, suc, ◌+◌, ◌-◌, ◌<◌, ◌≤◌, true, false, ltb, List, length, map, get_or, take, drop, reverse, slice_range, Option, Some, None, refl, sym, ap, ◌∙◌, arith, inl, inr, unwrap_or, lt-ltb, le-ltb, length-take, length-drop, get_or-take, get_or-drop}
+use Rattle.std.proofs.Common.{◌≡◌, ℕ, zero, suc, ◌+◌, ◌-◌, ◌<◌, ◌≤◌, true, false, ltb, List, length, map, get_or, take, drop, reverse, slice_range, Some, None, refl, sym, ap, ◌∙◌, arith, inl, inr, lt-ltb, le-ltb, length-take, length-drop, get_or-take, get_or-drop}
+use Rattle.std.proofs.Math.Numerals.{add-one}
 use Rattle.std.specs.List.{list_any}
 use Rattle.std.specs.declared.ops.Range.{Range}
-use Rattle.std.proofs.lemmas.Bool.{cases_lt, both_ways}
+use Rattle.std.proofs.lemmas.Bool.{cases_lt}
 use Rattle.std.proofs.lemmas.List.Elements.{All-from_get_or}
 use Rattle.std.proofs.lemmas.List.Folds.{list_any_at, list_any_none}
 use Rattle.bidi_base.specs.declared.char_data.BidiClass.{BidiClass}
@@ -19,7 +20,7 @@ use Rattle.bidi_base.proofs.TextLemmas.{HasUnits}
 use Rattle.bidi_rules.specs.NeutralPass.{values_of, IsReady}
 use Rattle.bidi_rules.specs.PairWalk.{spot, IsFirstFor, IsNearestBefore}
 use Rattle.bidi_rules.proofs.Spots.{length-values_of}
-use Rattle.bidi_rules.proofs.Spots.{behind, Owner, owner, spot-behind, behind-spot, spot-rises, spot-seen, class-at}
+use Rattle.bidi_rules.proofs.Spots.{behind, Owner, owner, spot-behind, behind-spot, spot-rises, spot-lower, spot-seen, class-at}
 
 -- a class that stands for a direction is kept
 stands-kept : (d c : BidiClass) → stands_for d c ≡ true → is_kept_in_place c ≡ true
@@ -32,27 +33,16 @@ directed-kept c d e = grind arith
 nearest-none : (sos : BidiClass) (cs : List BidiClass) (i : ℕ) → i ≤ length cs → ((k : ℕ) → k < i → as_direction (class_at cs k) ≡ None) → nearest_direction sos (reverse (take i cs)) ≡ sos
 nearest-none sos cs zero fits none = refl
 nearest-none sos cs (suc i) fits none =
-    let same : suc i ≡ i + 1 = omega arith in
-    ap (λ n. nearest_direction sos (reverse (take n cs))) same
-    ∙ ap (nearest_direction sos) (reverse-take_more cs i L (omega arith))
-    ∙ nearest_direction-more sos (class_at cs i) (reverse (take i cs))
-    ∙ ap (λ (o : Option BidiClass). unwrap_or o (nearest_direction sos (reverse (take i cs)))) (none i (omega arith))
-    ∙ nearest-none sos cs i (omega arith) (λ k below. none k (omega arith))
+    simp (← add-one i, reverse-take_more cs i L (omega arith), none i (omega arith)) (nearest-none sos cs i (omega arith) (λ k below. none k (omega arith)))
 
 nearest-at : (sos d : BidiClass) (cs : List BidiClass) (i x : ℕ) → i ≤ length cs → x < i → as_direction (class_at cs x) ≡ Some d → ((k : ℕ) → x < k → k < i → as_direction (class_at cs k) ≡ None)
     → nearest_direction sos (reverse (take i cs)) ≡ d
 nearest-at sos d cs zero x fits before is none = absurd (omega arith)
 nearest-at sos d cs (suc i) x fits before is none =
-    let same : suc i ≡ i + 1 = omega arith in
-    ap (λ n. nearest_direction sos (reverse (take n cs))) same
-    ∙ ap (nearest_direction sos) (reverse-take_more cs i L (omega arith))
-    ∙ nearest_direction-more sos (class_at cs i) (reverse (take i cs))
-    ∙ elim (cases_lt x i) [
-      | inl earlier ↦
-          ap (λ (o : Option BidiClass). unwrap_or o (nearest_direction sos (reverse (take i cs)))) (none i earlier (omega arith))
-          ∙ nearest-at sos d cs i x (omega arith) earlier is (λ k a b. none k a (omega arith))
+    simp (← add-one i, reverse-take_more cs i L (omega arith), nearest_direction-more) (elim (cases_lt x i) [
+      | inl earlier ↦ simp (none i earlier (omega arith)) (nearest-at sos d cs i x (omega arith) earlier is (λ k a b. none k a (omega arith)))
       | inr here ↦ grind arith
-    ]
+    ])
 
 -- the pair at an index
 abbrev pub pair_at : List (ℕ × ℕ) → ℕ → ℕ × ℕ
@@ -110,21 +100,9 @@ module _ (len_of : ℕ → ℕ) (h : HasUnits len_of) (chars : List ℕ) (runs :
   first-spot d i to r fits f less =
       let found = f.at less in
       let w = own r found.1 (stands-kept d (class_at now r) found.2) in
-      let from = w.from in
-      let below = w.below in
       let x = w.number in
-      let behind_i : i < x = elim (cases_lt i x) [
-        | inl later ↦ later
-        | inr upto ↦ elim (cases_lt x i) [
-          | inl earlier ↦ absurd (omega (arith, found.0, order x i earlier fits, starts i fits))
-          | inr same' ↦ let same : x ≡ i = omega arith in absurd (omega (arith, found.0, ap ends same))
-        ]
-      ] in
-      let here : r ≡ at x = elim (cases_lt (at x) r) [
-        | inl before ↦
-            absurd (both_ways (stands_for d (class_at now (at x))) (f.before (at x) (order i x behind_i w.fits) before (inside x w.fits)) (ap (stands_for d) (sym w.same) ∙ found.2))
-        | inr upto ↦ omega arith
-      ] in
+      let behind_i : i < x = grind (arith, found.0, w.from, w.below, order x i, starts i fits) in
+      let here : r ≡ at x = grind (arith, w.same, w.from, found.2, f.before (at x) (order i x behind_i w.fits), inside x w.fits) in
       (x, w.fits, behind_i, here)
 
   -- so whether it lies before a closing says whether the direction stands between
@@ -154,9 +132,7 @@ module _ (len_of : ℕ → ℕ) (h : HasUnits len_of) (chars : List ℕ) (runs :
       (λ x after before lower. ap (stands_for d) (class-is x (omega arith)) ∙ f.before (at x) (order i x after (omega arith)) lower (inside x (omega arith)))
       (λ found.
       let w = first-spot d i (at j) r (omega arith) f found in
-      let here = w.3 in
-      let below : w.0 < j = grind (arith, rising) in
-      (w.0, w.2, below, ap (stands_for d) (class-is w.0 w.1 ∙ ap (class_at now) (sym here)) ∙ (f.at found).2))
+      (w.0, w.2, spot-lower len_of h chars old rs ready.lines ready.ordered w.0 j (omega (arith, w.3)), ap (stands_for d) (class-is w.0 w.1 ∙ ap (class_at now) (sym w.3)) ∙ (f.at found).2))
 
   -- ---- what a search backwards finds
   pub context-is : (i : ℕ) (d : BidiClass) → i < length ks → IsNearestBefore sos rs now (at i) d → d ≡ nearest_direction sos (reverse (take i cs))
@@ -164,13 +140,8 @@ module _ (len_of : ℕ → ℕ) (h : HasUnits len_of) (chars : List ℕ) (runs :
       let u = found.0 in
       let w = own u found.2 (directed-kept (class_at now u) d found.3) in
       let x = w.number in
-      let from = w.from in
-      let below = w.below in
-      let early : x < i = elim (cases_lt x i) [
-        | inl yes' ↦ yes'
-        | inr no' ↦ elim (cases_lt i x) [ inl more ↦ absurd (omega (arith, rising i x more, found.1)) | inr same' ↦ let same : x ≡ i = omega arith in absurd (omega (arith, ap at same, found.1)) ]
-      ] in
+      let early : x < i = spot-lower len_of h chars old rs ready.lines ready.ordered x i (omega (arith, found.1, w.from)) in
       sym (nearest-at sos d cs i x (omega (arith, count)) early (ap as_direction (class-is x w.fits ∙ sym w.same) ∙ found.3)
-      (λ k after before. ap as_direction (class-is k (omega arith)) ∙ found.4 (at k) (omega (arith, order x k after (omega arith))) (rising k i before) (inside k (omega arith))))
+      (λ k after before. ap as_direction (class-is k (omega arith)) ∙ found.4 (at k) (omega (arith, order x k after (omega arith), w.below)) (rising k i before) (inside k (omega arith))))
   context-is i d fits (inr none) =
       none.0 ∙ sym (nearest-none sos cs i (omega (arith, count)) (λ k before. ap as_direction (class-is k (omega arith)) ∙ none.1 (at k) (omega arith) (rising k i before) (inside k (omega arith))))

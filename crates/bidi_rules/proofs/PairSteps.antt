@@ -1,12 +1,12 @@
 -- N0 over units, one pair after another: what is known ahead, and what a bracket and the marks behind it take.
-use Rattle.std.proofs.Common.{◌≡◌, ℕ, suc, ◌+◌, ◌<◌, ◌≤◌, Bool, ◌⊎◌, true, false, ◌&&◌, ◌||◌, cond, eqb, ltb, List, [], ◌∷◌, length, map, get_or, take, reverse, slice_range, Option, Some, None, refl, sym, ap, subst, ◌∙◌, arith, inl, inr, eq-eqb, ne_eqb, length-take, get_or-take, get_or-drop}
+use Rattle.std.proofs.Common.{◌≡◌, ℕ, suc, ◌+◌, ◌<◌, ◌≤◌, Bool, true, false, ◌&&◌, ◌||◌, cond, eqb, ltb, List, [], ◌∷◌, length, map, get_or, take, reverse, slice_range, Option, Some, None, refl, sym, ap, ◌∙◌, arith, inl, inr, eq-eqb, ne_eqb, length-take, get_or-take, get_or-drop}
 use Rattle.std.specs.List.{list_all, list_any}
 use Rattle.std.specs.declared.ops.Range.{Range}
-use Rattle.std.proofs.lemmas.Bool.{cases_Bool, cases_lt, and_parts, and_from, or_parts}
+use Rattle.std.proofs.lemmas.Bool.{cases_Bool, cases_lt, and_parts, and_from}
 use Rattle.std.proofs.lemmas.List.{get_or-map, length-map}
 use Rattle.std.proofs.lemmas.List.FromFn.{fill_by_all}
 use Rattle.bidi_base.specs.declared.char_data.BidiClass.{BidiClass}
-use Rattle.bidi_base.specs.declared.char_data.BidiClass.TheVariants.{L, R, EN, AN}
+use Rattle.bidi_base.specs.declared.char_data.BidiClass.TheVariants.{L}
 use Rattle.bidi_base.specs.Brackets.{AreNestedPairs}
 use Rattle.bidi_base.specs.Classes.{has_direction, is_kept_in_place, is_l_or_r, is_nsm, stands_for}
 use Rattle.bidi_base.specs.Neutral.{is_mark_after, n0_pair, nearest_direction, pair_direction}
@@ -26,7 +26,8 @@ use Rattle.bidi_rules.specs.WeakWalk.{is_seen, IsWrittenOver}
 use Rattle.bidi_rules.proofs.Spots.{length-values_of}
 use Rattle.bidi_rules.proofs.PairPlaces.{pair_at, opens_upto, first-spot, between, looked-between, context-is}
 use Rattle.bidi_rules.proofs.PassOverText.{IsPerChar-alike, alike_class, in_runs-alike}
-use Rattle.bidi_rules.proofs.Spots.{behind, index-within, owner, spot-in, spot-behind, behind-spot, spot-rises, spot-seen, class-at}
+use Rattle.bidi_rules.proofs.WrittenOver.{by_range}
+use Rattle.bidi_rules.proofs.Spots.{behind, index-within, owner, spot-in, spot-behind, behind-spot, spot-rises, spot-upto, spot-lower, spot-seen, class-at}
 
 every : (p : BidiClass → Bool) (xs : List BidiClass) → ((i : ℕ) → i < length xs → p (get_or xs i L) ≡ true) → list_all p xs ≡ true
 every p [] h = refl
@@ -71,10 +72,10 @@ module _ (len_of : ℕ → ℕ) (h : HasUnits len_of) (chars : List ℕ) (origin
   starts = spot-behind len_of h chars old rs ready.lines ready.ordered
 
   lower : (x y : ℕ) → at x < at y → x < y
-  lower x y less = elim (cases_lt x y) [
-    | inl yes' ↦ yes'
-    | inr no' ↦ elim (cases_lt y x) [ inl more ↦ absurd (omega (arith, rising y x more)) | inr same' ↦ let same : x ≡ y = omega arith in absurd (omega (arith, ap at same)) ]
-  ]
+  lower = spot-lower len_of h chars old rs ready.lines ready.ordered
+
+  upto : (i j : ℕ) → i ≤ j → at i ≤ at j
+  upto = spot-upto len_of h chars old rs ready.lines ready.ordered
 
   seen-spot : (k : ℕ) → k < length ks → is_seen rs old (at k) ≡ true
   seen-spot = spot-seen len_of h chars old rs ready.lines ready.ordered
@@ -121,17 +122,12 @@ module _ (len_of : ℕ → ℕ) (h : HasUnits len_of) (chars : List ℕ) (origin
           record {
             ahead = λ m from inside_m none x after before upto.
                 let within = nested.0 m (0, 0) inside_m in
-                let opens = opens_upto (length ks) pairs k m nested from inside_m in
                 let here : x < length ks = omega (arith, within.1) in
-                let from_x = order (pair_at pairs k).0 x (omega arith) here in
-                ap (stands_for d) (class-is x here)
-                ∙ elim (cases_lt (at x) next) [
-                  | inl less ↦ f.before (at x) from_x less (inside x here) ∙ sym (ne_eqb (at x) next (λ e. omega arith))
-                  | inr more ↦
-                      let same : at x ≡ next = omega arith in
-                      let below : next < to = omega (arith, same, starts x here, place-le len_of chars (get_or ks x 0 + 1), size) in
-                      ap (λ u. stands_for d (class_at now u)) same ∙ (f.at below).2 ∙ sym (eq-eqb (at x) next same)
-                ];
+                let from_x = order (pair_at pairs k).0 x (omega (arith, opens_upto (length ks) pairs k m nested from inside_m)) here in
+                simp (class-is x here) (elim (cases_lt (at x) next) [
+                  | inl less ↦ simp (f.before (at x) from_x less (inside x here), ne_eqb (at x) next (λ e. omega arith))
+                  | inr more ↦ grind (arith, f.at, starts x here, place-le len_of chars (get_or ks x 0 + 1), size)
+                ]);
             there = λ some less.
                 let w = first-spot len_of h chars runs sos old ready now per kept d (pair_at pairs k).0 to next (omega (arith, first.0, first.1)) f (omega (arith, size)) in
                 (w.0, w.1, w.3);
@@ -149,10 +145,9 @@ module _ (len_of : ℕ → ℕ) (h : HasUnits len_of) (chars : List ℕ) (origin
           (λ less.
           let below : next < text_len len_of chars = omega (arith, starts j within.1, place-le len_of chars (get_or ks j 0 + 1)) in
           let w = f.there (omega arith) below in
-          let is = w.2 in
-          let after : i < w.0 = lower i w.0 (omega arith) in
-          let before : w.0 < j = lower w.0 j (omega arith) in
-          (w.0, after, before, f.ahead k (omega arith) fits none w.0 after before (omega arith) ∙ eq-eqb (at w.0) next (sym is)))
+          let after : i < w.0 = lower i w.0 (omega (arith, w.2)) in
+          let before : w.0 < j = lower w.0 j (omega (arith, w.2)) in
+          (w.0, after, before, f.ahead k (omega arith) fits none w.0 after before (omega (arith, w.2)) ∙ eq-eqb (at w.0) next (sym w.2)))
 
   -- ---- what a bracket and the marks behind it take
 
@@ -171,8 +166,8 @@ module _ (len_of : ℕ → ℕ) (h : HasUnits len_of) (chars : List ℕ) (origin
     place-is = spot-in len_of h chars old rs ready.lines ready.ordered
 
     inside-now : (y : ℕ) → y < length ks → b ≤ y → at y < end → class_at new (at y) ≡ d
-    inside-now y here upto less =
-        w.inside (at y) (elim (cases_lt b y) [ inl more ↦ omega (arith, rising b y more) | inr past ↦ let same : b ≡ y = omega arith in omega (arith, ap at same) ]) less (same-seen (at y) ∙ seen-spot y here)
+    inside-now y here order' less =
+        w.inside (at y) (omega (arith, upto b y order')) less (same-seen (at y) ∙ seen-spot y here)
 
     -- the character at which the marks end
     stop : end < length now → (x : ℕ) × (x < length ks) × (b < x) × (end ≡ at x) × (is_nsm (class_at sources x) ≡ false)
@@ -180,20 +175,9 @@ module _ (len_of : ℕ → ℕ) (h : HasUnits len_of) (chars : List ℕ) (origin
         let s = e.stops less in
         let o = owner len_of h chars old rs ready.lines ready.ordered now ready.per_char per end (sym (same-seen end) ∙ s.3) in
         let x = o.number in
-        let is_x = place-is x o.fits in
-        let from_x = o.from in
-        let below_x = o.below in
-        let c = get_or ks x 0 in
-        let end_is = s.1 in
-        let here : end ≡ at x = elim (cases_lt c s.0) [
-          | inl more ↦ absurd (omega (arith, place-mono len_of chars (c + 1) s.0 (omega arith)))
-          | inr upto ↦ omega (arith, place-mono len_of chars s.0 c upto)
-        ] in
+        let here : end ≡ at x = grind (arith, s.1, o.from, o.below, place-is x o.fits, place-mono) in
         let after : b < x = lower b x (omega (arith, starts b fits, s.2)) in
         (x, o.fits, after, here, ap is_nsm (there-is original x o.fits ∙ ap (class_at original) (sym here)) ∙ s.4)
-
-    behind-b : ends b ≤ end ⊎ (end ≡ length now)
-    behind-b = elim (cases_lt end (length now)) [ inl less ↦ inl (e.stops less).2 | inr past ↦ let top = e.within in inr (omega arith) ]
 
     begins : at b < end
     begins = grind (arith, starts, place-le, total)
@@ -204,48 +188,29 @@ module _ (len_of : ℕ → ℕ) (h : HasUnits len_of) (chars : List ℕ) (origin
         (λ y below. by_place y (omega (arith, count now)))
       where
         by_place : (y : ℕ) → y < length ks → class_at (values_of L len_of chars new ks) y ≡ cond (eqb y b || is_mark_after sources b y) d (class_at (classes now) y)
-        by_place y here = there-is new y here
-            ∙ elim (cases_lt y b) [
-              | inl before ↦
-                  w.below (at y) (omega (arith, from_is, rising y b before)) ∙ sym (there-is now y here)
-                  ∙ sym (rw (ne_eqb y b (λ same. omega arith), is_mark_after-before sources b y (omega arith)) refl)
-              | inr upto ↦ elim (cases_lt b y) [
-                | inr same' ↦
-                    let same : y ≡ b = omega arith in inside-now y here upto (omega (arith, begins, ap at same)) ∙ sym (rw (eq-eqb y b same) refl)
-                | inl after ↦ elim (cases_lt (at y) end) [
-                  | inl mark ↦
-                      let marks : is_mark_after sources b y ≡ true = marks-all sources b y after (omega (arith, count original))
-                      (λ z more less.
-                      let z_fits : z < length ks = omega arith in
-                      let z_upto : at z ≤ at y = elim (cases_lt z y) [ inl under ↦ omega (arith, rising z y under) | inr past ↦ let same : z ≡ y = omega arith in omega (arith, ap at same) ] in
-                      ap is_nsm (there-is original z z_fits ∙ ap (class_at original) (place-is z z_fits))
-                      ∙ e.marks (get_or ks z 0) (omega (arith, order b z more z_fits, place-is z z_fits)) (omega (arith, place-is z z_fits)) (ap (is_seen rs now) (sym (place-is z z_fits)) ∙ same-seen (at z) ∙ seen-spot z z_fits)) in
-                      inside-now y here upto mark ∙ sym (rw (ne_eqb y b (λ same. omega arith), marks) refl)
-                  | inr past ↦
-                      let less : end < length now = omega (arith, total, starts y here, place-le len_of chars (get_or ks y 0 + 1)) in
-                      let s = stop less in
-                      let end_is = s.3 in
-                      let upto_y : s.0 ≤ y = elim (cases_lt y s.0) [ inl under ↦ absurd (omega (arith, rising y s.0 under)) | inr more ↦ more ] in
-                      let none : is_mark_after sources b y ≡ false = is_mark_after-stopped sources b s.0 y s.2 upto_y (omega (arith, count original, s.1)) s.4 in
-                      w.above (at y) past ∙ sym (there-is now y here) ∙ sym (rw (ne_eqb y b (λ same. omega arith), none) refl)
-                ]
-              ]
+        by_place y here = simp (there-is new y here, there-is now y here) (elim (cases_lt y b) [
+          | inl before ↦ simp (w.below (at y) (omega (arith, from_is, rising y b before)), ne_eqb y b (λ same. omega arith), is_mark_after-before sources b y (omega arith))
+          | inr from_b ↦ elim (cases_lt b y) [
+            | inr same' ↦ let same : y ≡ b = omega arith in simp (inside-now y here from_b (omega (arith, begins, ap at same)), eq-eqb y b same)
+            | inl after ↦ elim (cases_lt (at y) end) [
+              | inl mark ↦
+                  let marks : is_mark_after sources b y ≡ true = marks-all sources b y after (omega (arith, count original))
+                  (λ z more less. grind (arith, there-is original z, place-is z, e.marks (get_or ks z 0), order b z more, upto z y less, same-seen (at z), seen-spot z)) in
+                  simp (inside-now y here from_b mark, ne_eqb y b (λ same. omega arith), marks)
+              | inr past ↦
+                  let less : end < length now = omega (arith, total, starts y here, place-le len_of chars (get_or ks y 0 + 1)) in
+                  let s = stop less in
+                  let upto_y : s.0 ≤ y = grind (arith, rising y s.0, s.3) in
+                  simp (w.above (at y) past, ne_eqb y b (λ same. omega arith), is_mark_after-stopped sources b s.0 y s.2 upto_y (omega (arith, count original, s.1)) s.4)
             ]
+          ]
+        ])
 
     pub bracket-others : (u : ℕ) → is_seen rs old u ≡ false → class_at new u ≡ class_at now u
     bracket-others u plain = w.failing u (same-seen u ∙ plain)
 
     pub bracket-kept : (u : ℕ) → is_kept_in_place (class_at new u) ≡ is_kept_in_place (class_at old u)
-    bracket-kept u = elim (cases_lt u from) [
-      | inl before ↦ ap is_kept_in_place (w.below u before) ∙ kept u
-      | inr after ↦ elim (cases_lt u end) [
-        | inr past ↦ ap is_kept_in_place (w.above u past) ∙ kept u
-        | inl within ↦ elim (cases_Bool (is_seen rs now u)) [
-          | inr plain ↦ ap is_kept_in_place (w.failing u plain) ∙ kept u
-          | inl seen ↦ ap is_kept_in_place (w.inside u after within seen) ∙ side-kept d side ∙ sym (sym (kept u) ∙ (and_parts (in_runs rs u) (is_kept_in_place (class_at now u)) seen).1)
-        ]
-      ]
-    ]
+    bracket-kept u = by_range u from end (λ before. simp (w.below u before, kept u)) (λ after within. grind (arith, w.inside u after within, w.failing u, kept u, side-kept d side)) (λ past. simp (w.above u past, kept u))
 
     -- where a place is that of a character, or the end, all units of another lie on one side of it
     pub bracket-IsPerChar : IsPerChar len_of chars new
@@ -253,32 +218,17 @@ module _ (len_of : ℕ → ℕ) (h : HasUnits len_of) (chars : List ℕ) (origin
         let first = place len_of chars c in
         let same_now = alike_class len_of h chars now per c u within after below in
         let same_runs = in_runs-alike len_of h chars rs ready.lines c u after below in
-        let alike : is_seen rs now u ≡ is_seen rs now first = ap (λ t. t && is_kept_in_place (class_at now u)) same_runs ∙ ap (λ x. in_runs rs first && is_kept_in_place x) same_now in
+        let alike : is_seen rs now u ≡ is_seen rs now first = simp (same_runs, same_now) in
         let stays : class_at new u ≡ class_at now u → class_at new first ≡ class_at now first → class_at new u ≡ class_at new first = λ x y. x ∙ same_now ∙ sym y in
         elim (cases_lt first from) [
           | inl before ↦
-              let whole : place len_of chars (c + 1) ≤ from = elim (cases_lt c (get_or ks b 0)) [
-                | inl less ↦ omega (arith, from_is, place-is b fits, place-mono len_of chars (c + 1) (get_or ks b 0) (omega arith))
-                | inr more ↦ absurd (omega (arith, from_is, place-is b fits, place-mono len_of chars (get_or ks b 0) c more))
-              ] in
+              let whole : place len_of chars (c + 1) ≤ from = grind (arith, place-is b fits, place-mono) in
               stays (w.below u (omega arith)) (w.below first before)
           | inr from_first ↦ elim (cases_lt first end) [
             | inr past ↦ stays (w.above u (omega arith)) (w.above first past)
             | inl under ↦
-                let whole : place len_of chars (c + 1) ≤ end = elim (cases_lt end (length now)) [
-                  | inr top ↦ omega (arith, total, place-le len_of chars (c + 1))
-                  | inl less ↦
-                      let s = e.stops less in
-                      let end_is = s.1 in
-                      elim (cases_lt c s.0) [
-                        | inl small ↦ omega (arith, place-mono len_of chars (c + 1) s.0 (omega arith))
-                        | inr large ↦ absurd (omega (arith, place-mono len_of chars s.0 c large))
-                      ]
-                ] in
-                elim (cases_Bool (is_seen rs now first)) [
-                  | inl seen ↦ w.inside u (omega arith) (omega arith) (alike ∙ seen) ∙ sym (w.inside first from_first under seen)
-                  | inr plain ↦ stays (w.failing u (alike ∙ plain)) (w.failing first plain)
-                ]
+                let whole : place len_of chars (c + 1) ≤ end = grind (arith, total, place-le len_of chars (c + 1), e.stops, place-mono) in
+                grind (arith, alike, w.inside u, w.inside first, w.failing u, w.failing first, same_now)
           ]
         ])
 
@@ -287,22 +237,7 @@ module _ (len_of : ℕ → ℕ) (h : HasUnits len_of) (chars : List ℕ) (origin
 -- a direction other than e is the opposite one
 others-any : (e : BidiClass) (cs : List BidiClass) → is_l_or_r e ≡ true → list_any (stands_for e) cs ≡ false → list_any has_direction cs ≡ list_any (stands_for (opposite_of e)) cs
 others-any e [] side none = refl
-others-any e (c ∷ cs) side none =
-    let parts = or_parts (stands_for e c) (list_any (stands_for e) cs) none in
-    ap (λ b. b || list_any has_direction cs) (one e c side parts.0) ∙ ap (λ b. stands_for (opposite_of e) c || b) (others-any e cs side parts.1)
-  where
-    one : (e c : BidiClass) → is_l_or_r e ≡ true → stands_for e c ≡ false → has_direction c ≡ stands_for (opposite_of e) c
-    one L L side none = absurd (cc none)
-    one L R side none = refl
-    one L EN side none = refl
-    one L AN side none = refl
-    one L _ side none = refl
-    one R L side none = refl
-    one R R side none = absurd (cc none)
-    one R EN side none = absurd (cc none)
-    one R AN side none = absurd (cc none)
-    one R _ side none = refl
-    one _ c side none = absurd (cc side)
+others-any e (c ∷ cs) side none = grind (arith, others-any e cs)
 
 module _ (len_of : ℕ → ℕ) (h : HasUnits len_of) (chars : List ℕ) (original : List BidiClass) (runs : List (Range ℕ)) (sos : BidiClass) (old : List BidiClass) (ready : IsReady len_of chars runs sos old)
     (e : BidiClass) (side : is_l_or_r e ≡ true) (long : length original ≡ length old) (pairs : List (ℕ × ℕ)) (nested : AreNestedPairs (length (kept_in_place len_of chars old (map bounds runs))) pairs) where
@@ -327,13 +262,7 @@ module _ (len_of : ℕ → ℕ) (h : HasUnits len_of) (chars : List ℕ) (origin
     pub opposite : Foresees len_of h chars original runs sos old ready pairs nested (opposite_of e) (cs_of now) k walk.opposite.unit
 
   pub IsWalkedTo-start : (walk : PairWalk) → walk ≡ record { embedding = record { direction = e; unit = 0 }; opposite = record { direction = opposite_of e; unit = 0 } } → IsWalkedTo old 0 walk
-  IsWalkedTo-start walk is = rw is (record {
-    done = grind (arith, n0-none);
-    embedding_is = refl;
-    opposite_is = refl;
-    embedding = Foresees-start len_of h chars original runs sos old ready pairs nested e (cs_of old);
-    opposite = Foresees-start len_of h chars original runs sos old ready pairs nested (opposite_of e) (cs_of old);
-  })
+  IsWalkedTo-start walk is = grind (arith, n0-none, Foresees-start len_of h chars original runs sos old ready pairs nested)
 
   -- where the brackets of a pair stand
   pub record Stands (p : ℕ × ℕ) (k : ℕ) : Type 0 where
@@ -364,20 +293,7 @@ module _ (len_of : ℕ → ℕ) (h : HasUnits len_of) (chars : List ℕ) (origin
       let last : (get_or ps k (0, 0)).1 ≡ spots j = ap (λ (p : ℕ × ℕ). p.1) here in
       let first_place = first ∙ spot-in len_of h chars old (map bounds runs) ready.lines ready.ordered i i_fits in
       let last_place = last ∙ spot-in len_of h chars old (map bounds runs) ready.lines ready.ordered j w.1 in
-      record {
-        first = first;
-        last = last;
-        first_begins = grind (arith, is_boundary-place);
-        last_begins = ap (is_boundary len_of chars) last_place ∙ is_boundary-place len_of chars (get_or ks j 0);
-        first_inside = omega (arith, first, spot-behind len_of h chars old (map bounds runs) ready.lines ready.ordered i i_fits, place-le len_of chars (get_or ks i 0 + 1));
-        last_inside = omega (arith, last, spot-behind len_of h chars old (map bounds runs) ready.lines ready.ordered j w.1, place-le len_of chars (get_or ks j 0 + 1));
-        first_place = first_place;
-        last_place = last_place;
-        first_within = index-within len_of h chars old (map bounds runs) ready.lines ready.ordered i i_fits;
-        last_within = index-within len_of h chars old (map bounds runs) ready.lines ready.ordered j w.1;
-        class_is = grind (arith, class-at);
-        fits = fits;
-      }
+      grind (arith, first_place, last_place, is_boundary-place, spot-behind len_of h chars old (map bounds runs) ready.lines ready.ordered, place-le len_of chars, index-within len_of h chars old (map bounds runs) ready.lines ready.ordered, class-at)
 
   module _ (now : List BidiClass) (k : ℕ) (fits : k < length pairs) (walk new_walk : PairWalk) (w : IsWalkedTo now k walk) where
     abbrev i : ℕ
@@ -406,27 +322,21 @@ module _ (len_of : ℕ → ℕ) (h : HasUnits len_of) (chars : List ℕ) (origin
       | inl yes' ↦
           let l = a.looked yes' in (
             l.1.2 ∙ looked-between len_of h chars runs sos old ready now w.done.per_char w.done.kept d i j l.1.0 within.0 within.1 l.1.1,
-            subst (Foresees len_of h chars original runs sos old ready pairs nested d (cs_of now) k) (sym l.0) f,
+            simp l.0 f,
           )
       | inr no' ↦
           let next_is : Foresees len_of h chars original runs sos old ready pairs nested d (cs_of now) k next × (spots i < next) = elim (cases_lt (spots i) known) [
-            | inl known' ↦ let same = a.kept no' known' in (subst (Foresees len_of h chars original runs sos old ready pairs nested d (cs_of now) k) (sym same) f, omega (arith, same))
+            | inl known' ↦ let same = a.kept no' known' in (simp same f, omega (arith, same))
             | inr past ↦
                 let s = a.sought no' past in (
                   Foresees-asked len_of h chars original runs sos old ready pairs nested d now w.done.per_char w.done.kept k (length now) next fits refl s,
-                  beyond s,
+                  grind (arith, s.at, spot-behind len_of h chars old (map bounds runs) ready.lines ready.ordered i, within, opens, now-size),
                 )
           ] in (
             a.ahead no' ∙ Foresees-between len_of h chars original runs sos old ready pairs nested d now w.done.per_char w.done.kept k next fits next_is.0 (sym mark_is ∙ no') next_is.1,
             next_is.0,
           )
     ]
-      where
-        beyond : IsFirstFor d (map bounds runs) now inside_of (length now) next → spots i < next
-        beyond s = elim (cases_lt next (length now)) [
-          | inl less ↦ omega (arith, (s.at less).0, spot-behind len_of h chars old (map bounds runs) ready.lines ready.ordered i (let x = within in omega (arith, x.0, x.1)))
-          | inr past ↦ omega (arith, opens, now-size)
-        ]
 
     -- what the pair takes, and what is known then
     pub record IsAnswered (taken : Option BidiClass) : Type 0 where
@@ -437,56 +347,29 @@ module _ (len_of : ℕ → ℕ) (h : HasUnits len_of) (chars : List ℕ) (origin
     pub IsAnswered-taken : (marked : Bool) (taken : Option BidiClass) → marked ≡ is_nsm (class_at from_sources i) → IsTaken sos (map bounds runs) now marked (spots i) inside_of (spots j) walk new_walk taken → IsAnswered taken
     IsAnswered-taken marked taken mark_is t =
         let part = slice_range (cs_of now) (i + 1) j in
-        let first = answered e marked walk.embedding.unit new_walk.embedding.unit t.embedding mark_is w.embedding
-        (subst (λ (d : BidiClass). IsAsked d (map bounds runs) now marked (spots i) inside_of (spots j) walk.embedding.unit new_walk.embedding.unit t.embedding) w.embedding_is t.asked) in
+        let first = answered e marked walk.embedding.unit new_walk.embedding.unit t.embedding mark_is w.embedding (simp w.embedding_is at t.asked) in
         let context = nearest_direction sos (reverse (take i (cs_of now))) in
         let tests : (b : Bool) → b ≡ list_any has_direction part → pair_direction e sos (cs_of now) (pair_at pairs k) ≡ cond t.embedding (Some e) (cond b (Some context) None) =
         λ b is. pair_direction-tests e sos (cs_of now) (pair_at pairs k) t.embedding b first.0 is in
         elim (cases_Bool t.embedding) [
-          | inl yes' ↦
-              record {
-                direction = t.is ∙ ap (λ b. cond b (Some walk.embedding.direction) (cond t.opposite (Some t.context) None)) yes' ∙ ap (λ (d : BidiClass). let o : Option BidiClass = Some d in o) w.embedding_is
-                    ∙ sym (tests (list_any has_direction part) refl ∙ ap (λ b. cond b (Some e) (cond (list_any has_direction part) (Some context) None)) yes');
-                embedding = first.1;
-                opposite = subst (Foresees len_of h chars original runs sos old ready pairs nested (opposite_of e) (cs_of now) k) (sym (t.idle yes')) w.opposite;
-              }
+          | inl yes' ↦ grind (arith, t.is, tests (list_any has_direction part) refl, w.embedding_is, first.1, t.idle yes', w.opposite)
           | inr no' ↦
-              let second = answered (opposite_of e) marked walk.opposite.unit new_walk.opposite.unit t.opposite mark_is w.opposite
-              (subst (λ (d : BidiClass). IsAsked d (map bounds runs) now marked (spots i) inside_of (spots j) walk.opposite.unit new_walk.opposite.unit t.opposite) w.opposite_is (t.asked_opposite no')) in
+              let second = answered (opposite_of e) marked walk.opposite.unit new_walk.opposite.unit t.opposite mark_is w.opposite (simp w.opposite_is at (t.asked_opposite no')) in
               let some : t.opposite ≡ list_any has_direction part = second.0 ∙ sym (others-any e part side (sym first.0 ∙ no')) in
               record {
-                direction = t.is ∙ ap (λ b. cond b (Some walk.embedding.direction) (cond t.opposite (Some t.context) None)) no' ∙ by_opposite marked taken t no' t.opposite refl
-                    ∙ sym (tests t.opposite some ∙ ap (λ b. cond b (Some e) (cond t.opposite (Some context) None)) no');
+                direction = simp (t.is, tests t.opposite some, no') (grind (arith, context-is len_of h chars runs sos old ready now w.done.per_char w.done.kept i t.context (let x = within in omega (arith, x.0, x.1)), t.nearest no'));
                 embedding = first.1;
                 opposite = second.1;
               }
         ]
-      where
-        by_opposite : (marked : Bool) (taken : Option BidiClass) (t : IsTaken sos (map bounds runs) now marked (spots i) inside_of (spots j) walk new_walk taken) → t.embedding ≡ false → (b : Bool) → t.opposite ≡ b
-            → cond t.opposite (Some t.context) None ≡ cond t.opposite (Some (nearest_direction sos (reverse (take i (cs_of now))))) None
-        by_opposite marked taken t no' true is =
-            ap (λ (d : BidiClass). cond t.opposite (Some d) None)
-            (context-is len_of h chars runs sos old ready now w.done.per_char w.done.kept i t.context (let x = within in omega (arith, x.0, x.1)) (t.nearest no' is))
-        by_opposite marked taken t no' false is =
-            ap (λ b. cond b (Some t.context) None) is ∙ sym (ap (λ b. cond b (Some (nearest_direction sos (reverse (take i (cs_of now))))) None) is)
 
     -- nothing is written
     pub IsWalkedTo-none : (taken : Option BidiClass) → IsAnswered taken → taken ≡ None → new_walk.embedding.direction ≡ e → new_walk.opposite.direction ≡ opposite_of e → IsWalkedTo now (k + 1) new_walk
     IsWalkedTo-none taken a none e_is o_is =
         let stays = n0_pair-None e sos from_sources (cs_of now) (pair_at pairs k) (sym a.direction ∙ none) in
-        let p = w.done in
-        record {
-          done = record {
-            paired = sym stays ∙ ap (λ (cs : List BidiClass). n0_pair e sos from_sources cs (pair_at pairs k)) p.paired ∙ sym (n0-more e sos from_sources (cs_of old) pairs k (0, 0) fits);
-            kept = p.kept;
-            others = p.others;
-            per_char = p.per_char;
-          };
-          embedding_is = e_is;
-          opposite_is = o_is;
-          embedding = Foresees-same len_of h chars original runs sos old ready pairs nested e (cs_of now) (cs_of now) k new_walk.embedding.unit refl a.embedding;
-          opposite = Foresees-same len_of h chars original runs sos old ready pairs nested (opposite_of e) (cs_of now) (cs_of now) k new_walk.opposite.unit refl a.opposite;
-        }
+        let embedding = Foresees-same len_of h chars original runs sos old ready pairs nested e (cs_of now) (cs_of now) k new_walk.embedding.unit refl a.embedding in
+        let opposite = Foresees-same len_of h chars original runs sos old ready pairs nested (opposite_of e) (cs_of now) (cs_of now) k new_walk.opposite.unit refl a.opposite in
+        grind (arith, stays, w.done, n0-more e sos from_sources (cs_of old) pairs k (0, 0) fits, embedding, opposite)
 
     -- both brackets are written
     pub IsWalkedTo-set : (taken : Option BidiClass) (d : BidiClass) (mid new : List BidiClass) → IsAnswered taken → taken ≡ Some d → new_walk.embedding.direction ≡ e → new_walk.opposite.direction ≡ opposite_of e
@@ -508,17 +391,9 @@ module _ (len_of : ℕ → ℕ) (h : HasUnits len_of) (chars : List ℕ) (origin
         let both : cs_of new ≡ n0_pair e sos from_sources (cs_of now) (pair_at pairs k) =
         new_classes ∙ ap (λ (cs : List BidiClass). with_bracket from_sources j cs d) mid_classes ∙ sym (n0_pair-Some e sos from_sources (cs_of now) (pair_at pairs k) d takes) in
         let count = length-values_of len_of chars L now (kept_in_place len_of chars old (map bounds runs)) in
-        record {
-          done = record {
-            paired = both ∙ ap (λ (cs : List BidiClass). n0_pair e sos from_sources cs (pair_at pairs k)) p.paired ∙ sym (n0-more e sos from_sources (cs_of old) pairs k (0, 0) fits);
-            kept = bracket-kept len_of h chars original runs sos old ready mid new mid_per mid_kept d d_side j within.1 (spots j) last.0 refl long_mid last.1.0 last.1.1;
-            others = λ u plain. bracket-others len_of h chars original runs sos old ready mid new mid_per mid_kept d d_side j within.1 (spots j) last.0 refl long_mid last.1.0 last.1.1 u plain ∙ mid_others u plain ∙ p.others u plain;
-            per_char = bracket-IsPerChar len_of h chars original runs sos old ready mid new mid_per mid_kept d d_side j within.1 (spots j) last.0 refl long_mid last.1.0 last.1.1;
-          };
-          embedding_is = e_is;
-          opposite_is = o_is;
-          embedding = subst (λ (cs : List BidiClass). Foresees len_of h chars original runs sos old ready pairs nested e cs (k + 1) new_walk.embedding.unit) (sym both)
-              (Foresees-pair len_of h chars original runs sos old ready pairs nested e e (cs_of now) k new_walk.embedding.unit count fits a.embedding);
-          opposite = subst (λ (cs : List BidiClass). Foresees len_of h chars original runs sos old ready pairs nested (opposite_of e) cs (k + 1) new_walk.opposite.unit) (sym both)
-              (Foresees-pair len_of h chars original runs sos old ready pairs nested (opposite_of e) e (cs_of now) k new_walk.opposite.unit count fits a.opposite);
-        }
+        let kept = bracket-kept len_of h chars original runs sos old ready mid new mid_per mid_kept d d_side j within.1 (spots j) last.0 refl long_mid last.1.0 last.1.1 in
+        let others = bracket-others len_of h chars original runs sos old ready mid new mid_per mid_kept d d_side j within.1 (spots j) last.0 refl long_mid last.1.0 last.1.1 in
+        let per = bracket-IsPerChar len_of h chars original runs sos old ready mid new mid_per mid_kept d d_side j within.1 (spots j) last.0 refl long_mid last.1.0 last.1.1 in
+        let embedding = Foresees-pair len_of h chars original runs sos old ready pairs nested e e (cs_of now) k new_walk.embedding.unit count fits a.embedding in
+        let opposite = Foresees-pair len_of h chars original runs sos old ready pairs nested (opposite_of e) e (cs_of now) k new_walk.opposite.unit count fits a.opposite in
+        grind (arith, both, p, kept, others, mid_others, per, n0-more e sos from_sources (cs_of old) pairs k (0, 0) fits, embedding, opposite)

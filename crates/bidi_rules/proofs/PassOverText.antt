@@ -1,12 +1,13 @@
 -- The units of the characters of a text: lines take all of one or none, and what is equal within each.
-use Rattle.std.proofs.Common.{◌≡◌, ℕ, ◌+◌, ◌-◌, ◌<◌, ◌≤◌, ◌||◌, true, false, List, [], ◌∷◌, length, get_or, refl, sym, ap, ◌∙◌, arith, inl, inr}
-use Rattle.std.proofs.lemmas.Bool.{cases_lt, both_ways, or_cases}
+use Rattle.std.proofs.Common.{◌≡◌, ℕ, zero, suc, ◌+◌, ◌-◌, ◌<◌, ◌≤◌, ◌||◌, true, false, List, [], ◌∷◌, length, get_or, take, None, refl, sym, ap, ◌∙◌, arith, inl, inr}
+use Rattle.std.proofs.lemmas.Bool.{cases_lt, both_ways, or_cases, le-ltb, ne_eqb}
+use Rattle.std.proofs.lemmas.List.Sums.{sum_by-cons}
 use Rattle.std.proofs.lemmas.List.{ext_get_or}
 use Rattle.std.proofs.lemmas.List.Elements.{All-head, All-tail}
 use Rattle.bidi_base.specs.declared.char_data.BidiClass.{BidiClass}
 use Rattle.bidi_base.specs.declared.char_data.BidiClass.TheVariants.{L}
 use Rattle.bidi_base.specs.Places.{class_at}
-use Rattle.bidi_base.specs.Text.{text_len, place, IsLine, char_index, per_unit, per_char, IsPerChar}
+use Rattle.bidi_base.specs.Text.{text_len, place, char_at, IsLine, char_index, per_unit, per_char, IsPerChar}
 use Rattle.bidi_base.specs.Units.{in_runs, AreLines}
 use Rattle.bidi_base.proofs.TextLemmas.{HasUnits, is_boundary-le}
 use Rattle.bidi_base.proofs.PlaceLemmas.{place-more, place-mono, line_places, unit_of}
@@ -28,10 +29,18 @@ IsPerChar-alike len_of chars new long even =
           let short = w.below in
           let place_is = w.at_place in
           even w.index w.within u (omega arith) (omega arith)
-          ∙ sym (get_or-per_char L len_of chars new w.index L w.within)
-          ∙ sym (get_or-per_unit len_of chars values w.index w.offset 0 L many w.within short)
-          ∙ sym (ap (class_at (per_unit len_of chars values)) w.at_place)),
+          ∙ simp (w.at_place, get_or-per_unit len_of chars values w.index w.offset 0 L many w.within short, get_or-per_char L len_of chars new w.index L w.within)),
     )
+
+-- no character begins within another one
+pub char_at-inside : (len_of : ℕ → ℕ) → HasUnits len_of → (chars : List ℕ) (k j : ℕ) → k < length chars → 0 < j → j < len_of (get_or chars k 0) → char_at len_of chars (place len_of chars k + j) ≡ None
+char_at-inside len_of h [] k j fits some below = absurd (omega arith)
+char_at-inside len_of h (c ∷ chars) zero j fits some below = grind arith
+char_at-inside len_of h (c ∷ chars) (suc k) j fits some below =
+    let more : place len_of (c ∷ chars) (suc k) ≡ len_of c + place len_of chars k = sum_by-cons len_of c (take k chars) in
+    let units = h c in
+    let left : place len_of (c ∷ chars) (suc k) + j - len_of c ≡ place len_of chars k + j = omega arith in
+    rw (ne_eqb (place len_of (c ∷ chars) (suc k) + j) 0 (λ e. omega arith), le-ltb (place len_of (c ∷ chars) (suc k) + j) (len_of c) (omega arith), left) (char_at-inside len_of h chars k j (omega arith) some below)
 
 module _ (len_of : ℕ → ℕ) (h : HasUnits len_of) (chars : List ℕ) where
   -- ---- the units of a character

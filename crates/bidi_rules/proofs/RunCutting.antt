@@ -1,12 +1,13 @@
 -- Level runs as a pass over the characters cuts them: what has ended, and where the run that is open began.
-use Rattle.std.proofs.Common.{◌≡◌, ℕ, suc, ◌+◌, ◌-◌, ◌<◌, true, false, cond, List, [], ◌∷◌, ◌++◌, length, map, reverse, Option, Some, None, refl, sym, ap, ◌∙◌, arith, append-nil}
+use Rattle.std.proofs.Common.{◌≡◌, ℕ, suc, ◌+◌, ◌-◌, ◌<◌, true, false, cond, List, [], ◌∷◌, ◌++◌, length, Option, Some, None, refl, ◌∙◌, arith, append-nil}
+use Rattle.std.proofs.Math.Numerals.{add-one}
 use Rattle.std.proofs.lemmas.Grind.{common_steps}
-use Rattle.std.specs.Prelude.{filter, find, option_map}
+use Rattle.std.specs.Prelude.{filter, option_map}
 use Rattle.std.specs.List.{range_with_len}
 use Rattle.std.proofs.lemmas.List.{reverse-append, map-append}
 use Rattle.std.proofs.lemmas.List.Elements.{filter-append}
 use Rattle.bidi_base.specs.declared.char_data.BidiClass.{BidiClass}
-use Rattle.bidi_base.specs.Places.{indexes, find_last}
+use Rattle.bidi_base.specs.Places.{indexes}
 use Rattle.bidi_base.specs.Sequences.{is_kept_at, kept_before, level_at, begins_run, run_starts}
 use Rattle.bidi_base.specs.Text.{place, text_len}
 use Rattle.bidi_base.specs.Units.{ranges_between, level_run_ranges}
@@ -16,7 +17,7 @@ use Rattle.bidi_rules.specs.ExplicitPass.{IsCutTo, differs, runs_before, run_sta
 -- one more cut
 pub ranges_between-push : (x : ℕ) (xs : List ℕ) (y end : ℕ) → ranges_between (x ∷ xs ++ y ∷ []) end ≡ ranges_between (x ∷ xs) y ++ (y, end) ∷ []
 ranges_between-push x [] y end = refl
-ranges_between-push x (z ∷ xs) y end = ap (λ (rs : List (ℕ × ℕ)). (x, z) ∷ rs) (ranges_between-push z xs y end)
+ranges_between-push x (z ∷ xs) y end = simp (ranges_between-push z xs y end)
 
 -- the kept character before the next place
 kept_before-more : (classes : List BidiClass) (k : ℕ) → kept_before classes (k + 1) ≡ cond (is_kept_at classes k) (Some k) (kept_before classes k)
@@ -24,10 +25,7 @@ unfolding kept_before
 kept_before-more classes k =
     let more : k + 1 - 0 ≡ suc (k - 0) = omega arith in
     let last : 0 + (k - 0) ≡ k = omega arith in
-    ap (λ n. find_last (is_kept_at classes) (range_with_len 0 n)) more
-    ∙ ap (find_last (is_kept_at classes)) (range_with_len-more 0 (k - 0))
-    ∙ ap (find (is_kept_at classes)) (reverse-append (range_with_len 0 (k - 0)) ((0 + (k - 0)) ∷ []))
-    ∙ ap (λ n. find (is_kept_at classes) (n ∷ reverse (range_with_len 0 (k - 0)))) last
+    simp (more, range_with_len-more 0 (k - 0), reverse-append, last)
 
 pub run_starts-some : (classes : List BidiClass) (levels : List ℕ) → 0 < length classes → run_starts classes levels ≡ 0 ∷ filter (begins_run classes levels) (indexes classes)
 unfolding run_starts
@@ -56,12 +54,9 @@ module _ (len_of : ℕ → ℕ) (chars : List ℕ) (stored : List BidiClass) (le
 
   starts_more : (k : ℕ) → starts_below (k + 1) ≡ starts_below k ++ cond (begins_run stored levels k) (k ∷ []) []
   starts_more k =
-      let more : k + 1 ≡ suc k = omega arith in
       let last : 0 + k ≡ k = omega arith in
-      ap starts_below more
-      ∙ ap (filter (begins_run stored levels)) (range_with_len-more 0 k)
-      ∙ filter-append (begins_run stored levels) (range_with_len 0 k) ((0 + k) ∷ [])
-      ∙ ap (λ n. starts_below k ++ cond (begins_run stored levels n) (n ∷ []) []) last
+      let more : range_with_len 0 (k + 1) ≡ range_with_len 0 k ++ k ∷ [] = simp add-one (simp last at (range_with_len-more 0 k)) in
+      simp (more, filter-append)
 
   starts_same : (k : ℕ) → begins_run stored levels k ≡ false → starts_below (k + 1) ≡ starts_below k
   starts_same k none = grind (arith, starts_more, append-nil) steps 400000
@@ -88,5 +83,4 @@ module _ (len_of : ℕ → ℕ) (chars : List ℕ) (stored : List BidiClass) (le
   unfolding level_run_ranges
   IsCutTo-none k runs from last all none h =
       let zero_is : k ≡ 0 = all ∙ none in
-      none_of runs (from, 0) (place len_of chars 0, 0) (h.cut 0 ∙ ap (λ n. ranges_between (map (place len_of chars) (0 ∷ starts_below n)) 0) zero_is)
-      ∙ ap (λ xs. ranges_between (map (place len_of chars) xs) (text_len len_of chars)) (sym (run_starts-none stored levels none))
+      simp (none_of runs (from, 0) (place len_of chars 0, 0) (h.cut 0 ∙ simp zero_is), run_starts-none stored levels none)

@@ -1,15 +1,14 @@
 -- The pass over level runs as ranges of units: what has been joined so far, and the sequences at the end.
-use Rattle.std.proofs.Common.{◌≡◌, ℕ, zero, suc, ◌+◌, ◌-◌, ◌<◌, ◌≤◌, Bool, true, false, cond, eqb, max, List, [], ◌∷◌, ◌++◌, length, map, get_or, set, take, append_assoc, Option, Some, None, refl, sym, ap, subst, ◌∙◌, arith, inl, inr, lt-ltb}
-use Rattle.std.specs.Prelude.{filter, flat_map, IfSome, All, nat_lt, IsPermutation}
+use Rattle.std.proofs.Common.{◌≡◌, ℕ, zero, suc, ◌+◌, ◌-◌, ◌<◌, ◌≤◌, false, cond, eqb, max, List, [], ◌∷◌, ◌++◌, length, map, get_or, set, append_assoc, Option, Some, None, refl, sym, ap, subst, ◌∙◌, arith, lt-ltb}
+use Rattle.std.specs.Prelude.{filter, flat_map, IfSome, All, IsPermutation}
 use Rattle.std.specs.List.{range_with_len, fold}
-use Rattle.std.proofs.lemmas.Bool.{cond-true, cond-false}
 use Rattle.std.proofs.lemmas.List.{length-map, map-append, map-set, get_or-map}
 use Rattle.std.proofs.lemmas.List.Elements.{All-push, All-set, All-get_or, All-weaker, All-nil, All-cons}
 use Rattle.std.proofs.lemmas.List.Folds.{flat_map-map}
 use Rattle.std.proofs.lemmas.List.Sorted.{IsPermutation-trans, IsPermutation-append_left, IsPermutation-append_right, IsPermutation-append_comm}
 use Rattle.std.proofs.lemmas.Grind.{flat_map-append}
 use Rattle.bidi_base.specs.declared.char_data.BidiClass.{BidiClass}
-use Rattle.bidi_base.specs.Classes.{is_initiator, is_pdi}
+use Rattle.bidi_base.specs.Classes.{is_initiator}
 use Rattle.bidi_base.specs.Levels.{direction_of}
 use Rattle.bidi_base.specs.Places.{class_at, last_or, first_or, between}
 use Rattle.bidi_base.specs.Isolates.{is_initiator_at}
@@ -28,19 +27,16 @@ use Rattle.bidi_rules.proofs.RunCutting.{run_starts-some}
 use Rattle.bidi_rules.proofs.LevelRunLemmas.{kept_in_run, kept_in_runs-push}
 use Rattle.bidi_rules.proofs.RunUnits.{NoneKept, IsLast}
 use Rattle.bidi_base.proofs.OpenPass.{IsAt, IsAt-end}
-use Rattle.bidi_rules.proofs.RunPass.{with_places, index_in, HasCome, HasCome-run}
+use Rattle.bidi_rules.proofs.RunPass.{with_places, HasCome, HasCome-run}
 use Rattle.bidi_rules.proofs.RunJoining.{IsFirst, first_at, kept_before-first, rest_of, front_is, last_is, one_level, kept_before-next_run, level_beyond, end_is, came, begins_kept, begins_after}
 
 -- the runs of all that was joined, where one of them is longer
 longer : {X : Type 0} (out : List (List X)) (s : ℕ) (xs : List X) → s < length out → IsPermutation (flat_map (λ ys. ys) out ++ xs) (flat_map (λ ys. ys) (set out s (get_or out s [] ++ xs)))
 longer [] s xs within = absurd (omega arith)
 longer {X} (ys ∷ out) zero xs within =
-    subst (λ (zs : List X). IsPermutation zs ((ys ++ xs) ++ flat_map (λ zs. zs) out)) (sym (append_assoc ys (flat_map (λ zs. zs) out) xs))
-    (subst (λ (zs : List X). IsPermutation (ys ++ (flat_map (λ zs. zs) out ++ xs)) zs) (sym (append_assoc ys xs (flat_map (λ zs. zs) out)))
-    (IsPermutation-append_right ys (flat_map (λ zs. zs) out ++ xs) (xs ++ flat_map (λ zs. zs) out) (IsPermutation-append_comm (flat_map (λ zs. zs) out) xs)))
+    simp append_assoc (IsPermutation-append_right ys (flat_map (λ zs. zs) out ++ xs) (xs ++ flat_map (λ zs. zs) out) (IsPermutation-append_comm (flat_map (λ zs. zs) out) xs))
 longer {X} (ys ∷ out) (suc s) xs within =
-    subst (λ (zs : List X). IsPermutation zs (ys ++ flat_map (λ zs. zs) (set out s (get_or out s [] ++ xs)))) (sym (append_assoc ys (flat_map (λ zs. zs) out) xs))
-    (IsPermutation-append_right ys (flat_map (λ zs. zs) out ++ xs) (flat_map (λ zs. zs) (set out s (get_or out s [] ++ xs))) (longer out s xs (omega arith)))
+    simp append_assoc (IsPermutation-append_right ys (flat_map (λ zs. zs) out ++ xs) (flat_map (λ zs. zs) (set out s (get_or out s [] ++ xs))) (longer out s xs (omega arith)))
 
 -- a run of units lies in the text and ends at a unit or before it
 pub record IsBefore (len_of : ℕ → ℕ) (chars : List ℕ) (end : ℕ) (r : ℕ × ℕ) : Type 0 where
@@ -81,23 +77,12 @@ module _ (len_of : ℕ → ℕ) (h : HasUnits len_of) (chars : List ℕ) (classe
 
   module _ (a b l : ℕ) (r : ℕ × ℕ) (runs : List (ℕ × ℕ)) (out : List JoinedRuns) (waits : List (Option ℕ)) (before : ℕ) (g : Option ℕ) (joined : IsJoined len_of chars classes levels paragraph a runs out waits before) (range : IsLevelRun classes levels a b)
       (start_is : r.0 ≡ place len_of chars a) (end_is_place : r.1 ≡ place len_of chars b) (last : IsLast classes a b l) (f : ℕ) (first : IsFirst classes a b f) (g_is : g ≡ waiting_for (class_at classes a) waits) where
-    short : b ≤ length chars
-    short = omega (arith, range.within)
-
     run_is : r ≡ (place len_of chars a, place len_of chars b)
     run_is = λ i. (start_is i, end_is_place i)
 
-    none_waits : (c : BidiClass) → waiting_for c [] ≡ None
-    none_waits c = grind arith
-
     -- the sequence that waits for the first kept character
     waits_for : g ≡ waiting_for (class_at classes f) waits
-    waits_for = elim (first_at classes levels paragraph a b f range first) [
-      | inl same ↦ g_is ∙ ap (λ m. waiting_for (class_at classes m) waits) (sym same)
-      | inr zero_is ↦
-          let empty = (joined.fresh zero_is).1 in
-          g_is ∙ ap (waiting_for (class_at classes a)) empty ∙ none_waits (class_at classes a) ∙ sym (none_waits (class_at classes f)) ∙ ap (waiting_for (class_at classes f)) (sym empty)
-    ]
+    waits_for = grind (arith, first_at classes levels paragraph a b f range first, joined.fresh)
 
     abbrev xs : List ℕ
     xs = f ∷ rest_of classes levels paragraph f b
@@ -113,144 +98,76 @@ module _ (len_of : ℕ → ℕ) (h : HasUnits len_of) (chars : List ℕ) (classe
     g-fits = grind (arith, length-map, has_come)
 
     run_places : kept_in_runs len_of chars classes (r ∷ []) ≡ xs
-    run_places = ap (λ q. kept_in_runs len_of chars classes (q ∷ [])) run_is ∙ kept_in_run len_of h chars classes a b (omega (arith, range.not_empty)) short ∙ kept_is
+    run_places = ap (λ q. kept_in_runs len_of chars classes (q ∷ [])) run_is ∙ kept_in_run len_of h chars classes a b (omega (arith, range.not_empty)) (omega (arith, range.within)) ∙ kept_is
 
     places_with : (sos eos : BidiClass) (o : Option ℕ) → IfSome o (λ s. s < length out) → map places_of (with_run o r sos eos out) ≡ with_places o xs (map places_of out)
-    places_with sos eos None fits =
-        map-append places_of out (record { runs = r ∷ []; sos = sos; eos = eos } ∷ [])
-        ∙ ap (λ (ys : List ℕ). map places_of out ++ ys ∷ []) run_places
-    places_with sos eos (Some s) fits =
-        map-set places_of out s (record (get_or out s no_runs) { runs = (get_or out s no_runs).runs ++ r ∷ []; eos = eos })
-        ∙ ap (set (map places_of out) s)
-        (kept_in_runs-push len_of chars classes (get_or out s no_runs).runs r
-        ∙ ap (λ (ys : List ℕ). kept_in_runs len_of chars classes (get_or out s no_runs).runs ++ ys) run_places
-        ∙ ap (λ (ys : List ℕ). ys ++ xs) (sym (get_or-map places_of out s no_runs [] fits)))
-
-    index_is : (o : Option ℕ) → index_of o out ≡ index_in o (map places_of out)
-    index_is None = sym (length-map out places_of)
-    index_is (Some s) = refl
+    places_with sos eos None fits = simp (map-append places_of out, run_places)
+    places_with sos eos (Some s) fits = simp (map-set places_of out s, kept_in_runs-push len_of chars classes, run_places, get_or-map places_of out s no_runs [] fits)
 
     module _ (level after : ℕ) (sos eos : BidiClass) (level_is : level ≡ level_at levels l) (after_is : after ≡ level_beyond classes levels paragraph l b) (sos_is : sos ≡ direction_of (max level before)) (eos_is : eos ≡ direction_of (max level after)) where
       sos_start : sos ≡ start_class paragraph classes levels f
       unfolding start_class
-      sos_start =
-          sos_is
-          ∙ ap (λ n. direction_of (max n before)) (level_is ∙ sym (one_level classes levels paragraph a b f l range first last))
-          ∙ ap (λ n. direction_of (max (level_at levels f) n)) (joined.level_before ∙ ap (level_or paragraph levels) (sym (kept_before-first classes levels paragraph a b f range first)))
+      sos_start = simp (sos_is, level_is, one_level classes levels paragraph a b f l range first last, joined.level_before, kept_before-first classes levels paragraph a b f range first)
 
       eos_end : eos ≡ end_class paragraph classes levels l
-      eos_end =
-          eos_is
-          ∙ ap (λ n. direction_of (max n after)) level_is
-          ∙ ap (λ n. direction_of (max (level_at levels l) n)) after_is
-          ∙ sym (end_is classes levels paragraph a b l range last)
+      eos_end = simp (eos_is, level_is, after_is, end_is classes levels paragraph a b l range last)
 
       last_of_xs : last_or f (rest_of classes levels paragraph f b) ≡ l
       last_of_xs = last_is classes levels paragraph a b f l range first last
 
       ends_with : (o : Option ℕ) → IfSome o (λ s. s < length out) → map (characters_of len_of chars classes) (with_run o r sos eos out) ≡ map (ended) (map places_of (with_run o r sos eos out))
-      ends_with None fits =
-          map-append (characters_of len_of chars classes) out (one ∷ [])
-          ∙ ap (λ (ys : List RunSequence). ys ++ characters_of len_of chars classes one ∷ []) joined.ends
-          ∙ ap (λ (y : RunSequence). map (ended) (map places_of out) ++ y ∷ []) one_is
-          ∙ sym
-          (ap (map (ended)) (map-append places_of out (one ∷ []))
-          ∙ map-append (ended) (map places_of out) (kept_in_runs len_of chars classes (r ∷ []) ∷ []))
+      ends_with None fits = simp (map-append, joined.ends, run_places, sos_start, eos_end, last_of_xs)
+      ends_with (Some s) fits = simp (map-set, joined.ends, new_is)
         where
-          one : JoinedRuns
-          one = record { runs = r ∷ []; sos = sos; eos = eos }
-
-          at_start : sos ≡ start_class paragraph classes levels (first_or 0 (kept_in_runs len_of chars classes (r ∷ [])))
-          at_start = sos_start ∙ ap (λ (ys : List ℕ). start_class paragraph classes levels (first_or 0 ys)) (sym run_places)
-
-          at_end : eos ≡ end_class paragraph classes levels (last_or 0 (kept_in_runs len_of chars classes (r ∷ [])))
-          at_end = eos_end ∙ ap (end_class paragraph classes levels) (sym last_of_xs) ∙ ap (λ (ys : List ℕ). end_class paragraph classes levels (last_or 0 ys)) (sym run_places)
-
-          one_is : characters_of len_of chars classes one ≡ ended (kept_in_runs len_of chars classes (r ∷ []))
-          one_is = λ i. record { places = kept_in_runs len_of chars classes (r ∷ []); sos = at_start i; eos = at_end i }
-      ends_with (Some s) fits =
-          map-set (characters_of len_of chars classes) out s new
-          ∙ ap (λ (ys : List RunSequence). set ys s (characters_of len_of chars classes new)) joined.ends
-          ∙ ap (set (map (ended) (map places_of out)) s) new_is
-          ∙ sym
-          (ap (map (ended)) (map-set places_of out s new)
-          ∙ map-set (ended) (map places_of out) s (kept_in_runs len_of chars classes new.runs))
-        where
-          old : JoinedRuns
-          old = get_or out s no_runs
-
           new : JoinedRuns
           new = record (get_or out s no_runs) { runs = (get_or out s no_runs).runs ++ r ∷ []; eos = eos }
 
           whole : kept_in_runs len_of chars classes new.runs ≡ kept_in_runs len_of chars classes (get_or out s no_runs).runs ++ xs
-          whole = kept_in_runs-push len_of chars classes (get_or out s no_runs).runs r ∙ ap (λ (ys : List ℕ). kept_in_runs len_of chars classes (get_or out s no_runs).runs ++ ys) run_places
+          whole = simp (kept_in_runs-push len_of chars classes, run_places)
 
           there : get_or (map places_of out) s [] ≡ kept_in_runs len_of chars classes (get_or out s no_runs).runs
           there = get_or-map places_of out s no_runs [] fits
 
           some : 0 < length (kept_in_runs len_of chars classes (get_or out s no_runs).runs)
-          some =
-              subst (λ (ys : List ℕ). 0 < length ys) there
-              (not_empty_at classes levels (map places_of out) s joined.state.pass.begun (omega (arith, fits, length-map out places_of)))
+          some = simp (← there) (not_empty_at classes levels (map places_of out) s joined.state.pass.begun (omega (arith, fits, length-map out places_of)))
 
           old_is : characters_of len_of chars classes (get_or out s no_runs) ≡ ended (kept_in_runs len_of chars classes (get_or out s no_runs).runs)
           old_is =
-              sym (get_or-map (characters_of len_of chars classes) out s no_runs (characters_of len_of chars classes no_runs) fits)
-              ∙ ap (λ (ys : List RunSequence). get_or ys s (characters_of len_of chars classes no_runs)) joined.ends
-              ∙ get_or-map (ended) (map places_of out) s [] (characters_of len_of chars classes no_runs) (omega (arith, fits, length-map out places_of))
-              ∙ ap (ended) there
+              simp joined.ends at (sym (get_or-map (characters_of len_of chars classes) out s no_runs (characters_of len_of chars classes no_runs) fits))
+              ∙ simp there at (get_or-map (ended) (map places_of out) s [] (characters_of len_of chars classes no_runs) (omega (arith, fits, length-map out places_of)))
 
           at_start : (get_or out s no_runs).sos ≡ start_class paragraph classes levels (first_or 0 (kept_in_runs len_of chars classes new.runs))
-          at_start =
-              ap (λ (q : RunSequence). q.sos) old_is
-              ∙ ap (start_class paragraph classes levels) (sym (first_or-append 0 (kept_in_runs len_of chars classes (get_or out s no_runs).runs) xs some))
-              ∙ ap (λ (ys : List ℕ). start_class paragraph classes levels (first_or 0 ys)) (sym whole)
+          at_start = simp (whole, first_or-append 0 (kept_in_runs len_of chars classes (get_or out s no_runs).runs) xs some) (ap (λ (q : RunSequence). q.sos) old_is)
 
           at_end : eos ≡ end_class paragraph classes levels (last_or 0 (kept_in_runs len_of chars classes new.runs))
-          at_end =
-              eos_end
-              ∙ ap (end_class paragraph classes levels) (sym (last_or-append 0 f (kept_in_runs len_of chars classes (get_or out s no_runs).runs) (rest_of classes levels paragraph f b) ∙ last_of_xs))
-              ∙ ap (λ (ys : List ℕ). end_class paragraph classes levels (last_or 0 ys)) (sym whole)
+          at_end = simp (eos_end, whole, last_or-append, last_of_xs)
 
           new_is : characters_of len_of chars classes new ≡ ended (kept_in_runs len_of chars classes new.runs)
           new_is = λ i. record { places = kept_in_runs len_of chars classes new.runs; sos = at_start i; eos = at_end i }
 
+      here : IsBefore len_of chars (place len_of chars b) r
+      here = simp run_is (record { line = IsLine-places len_of chars a b (omega (arith, range.not_empty)); to = omega arith })
+
+      further : (q : ℕ × ℕ) → IsBefore len_of chars (place len_of chars a) q → IsBefore len_of chars (place len_of chars b) q
+      further q w = let up = place-mono len_of chars a b (omega (arith, range.not_empty)) in record { line = w.line; to = omega (arith, w.to) }
+
+      later : All (λ (j : JoinedRuns). All (IsBefore len_of chars (place len_of chars b)) j.runs) out
+      later = All-weaker (λ (j : JoinedRuns). All (IsBefore len_of chars (place len_of chars a)) j.runs) (λ (j : JoinedRuns). All (IsBefore len_of chars (place len_of chars b)) j.runs) (λ j w. All-weaker (IsBefore len_of chars (place len_of chars a)) (IsBefore len_of chars (place len_of chars b)) further j.runs w) out joined.lines
+
       lines_with : (o : Option ℕ) → IfSome o (λ s. s < length out) → All (λ (j : JoinedRuns). All (IsBefore len_of chars (place len_of chars b)) j.runs) (with_run o r sos eos out)
       lines_with None fits = All-push (λ (j : JoinedRuns). All (IsBefore len_of chars (place len_of chars b)) j.runs) out (record { runs = r ∷ []; sos = sos; eos = eos }) later (All-cons (IsBefore len_of chars (place len_of chars b)) r [] here (All-nil (IsBefore len_of chars (place len_of chars b))))
-        where
-          here : IsBefore len_of chars (place len_of chars b) r
-          here = subst (IsBefore len_of chars (place len_of chars b)) (sym run_is) (record { line = IsLine-places len_of chars a b (omega (arith, range.not_empty)); to = omega arith })
-
-          further : (q : ℕ × ℕ) → IsBefore len_of chars (place len_of chars a) q → IsBefore len_of chars (place len_of chars b) q
-          further q w = let up = place-mono len_of chars a b (omega (arith, range.not_empty)) in record { line = w.line; to = omega (arith, w.to) }
-
-          later : All (λ (j : JoinedRuns). All (IsBefore len_of chars (place len_of chars b)) j.runs) out
-          later = All-weaker (λ (j : JoinedRuns). All (IsBefore len_of chars (place len_of chars a)) j.runs) (λ (j : JoinedRuns). All (IsBefore len_of chars (place len_of chars b)) j.runs) (λ j w. All-weaker (IsBefore len_of chars (place len_of chars a)) (IsBefore len_of chars (place len_of chars b)) further j.runs w) out joined.lines
       lines_with (Some s) fits =
           All-set (λ (j : JoinedRuns). All (IsBefore len_of chars (place len_of chars b)) j.runs) out s (record (get_or out s no_runs) { runs = (get_or out s no_runs).runs ++ r ∷ []; eos = eos })
           (All-push (IsBefore len_of chars (place len_of chars b)) (get_or out s no_runs).runs r (All-get_or (λ (j : JoinedRuns). All (IsBefore len_of chars (place len_of chars b)) j.runs) out s no_runs fits later) here) later
-        where
-          here : IsBefore len_of chars (place len_of chars b) r
-          here = subst (IsBefore len_of chars (place len_of chars b)) (sym run_is) (record { line = IsLine-places len_of chars a b (omega (arith, range.not_empty)); to = omega arith })
-
-          further : (q : ℕ × ℕ) → IsBefore len_of chars (place len_of chars a) q → IsBefore len_of chars (place len_of chars b) q
-          further q w = let up = place-mono len_of chars a b (omega (arith, range.not_empty)) in record { line = w.line; to = omega (arith, w.to) }
-
-          later : All (λ (j : JoinedRuns). All (IsBefore len_of chars (place len_of chars b)) j.runs) out
-          later = All-weaker (λ (j : JoinedRuns). All (IsBefore len_of chars (place len_of chars a)) j.runs) (λ (j : JoinedRuns). All (IsBefore len_of chars (place len_of chars b)) j.runs) (λ j w. All-weaker (IsBefore len_of chars (place len_of chars a)) (IsBefore len_of chars (place len_of chars b)) further j.runs w) out joined.lines
 
       shares_with : (o : Option ℕ) → IfSome o (λ s. s < length out) → IsPermutation (runs ++ r ∷ []) (flat_map (λ (j : JoinedRuns). j.runs) (with_run o r sos eos out))
       shares_with None fits =
-          subst (λ (rs : List (ℕ × ℕ)). IsPermutation (runs ++ r ∷ []) rs) (sym (flat_map-append (λ (j : JoinedRuns). j.runs) out (record { runs = r ∷ []; sos = sos; eos = eos } ∷ [])))
-          (IsPermutation-append_left (r ∷ []) runs (flat_map (λ (j : JoinedRuns). j.runs) out) joined.shares)
+          simp (flat_map-append (λ (j : JoinedRuns). j.runs) out) (IsPermutation-append_left (r ∷ []) runs (flat_map (λ (j : JoinedRuns). j.runs) out) joined.shares)
       shares_with (Some s) fits =
           let rest : List (List (ℕ × ℕ)) = map (λ (j : JoinedRuns). j.runs) out in
-          let old : get_or rest s [] ≡ (get_or out s no_runs).runs = get_or-map (λ (j : JoinedRuns). j.runs) out s no_runs [] fits in
-          let whole : flat_map (λ ys. ys) (set rest s (get_or rest s [] ++ r ∷ [])) ≡ flat_map (λ (j : JoinedRuns). j.runs) (with_run (Some s) r sos eos out) =
-          ap (λ (ys : List (ℕ × ℕ)). flat_map (λ zs. zs) (set rest s (ys ++ r ∷ []))) old
-          ∙ ap (flat_map (λ zs. zs)) (sym (map-set (λ (j : JoinedRuns). j.runs) out s (record (get_or out s no_runs) { runs = (get_or out s no_runs).runs ++ r ∷ []; eos = eos })))
-          ∙ flat_map-map (λ ys. ys) (λ (j : JoinedRuns). j.runs) (with_run (Some s) r sos eos out) in
-          subst (λ (rs : List (ℕ × ℕ)). IsPermutation (runs ++ r ∷ []) rs) whole
+          let whole : flat_map (λ (j : JoinedRuns). j.runs) (with_run (Some s) r sos eos out) ≡ flat_map (λ ys. ys) (set rest s (get_or rest s [] ++ r ∷ [])) =
+          sym (flat_map-map (λ ys. ys) (λ (j : JoinedRuns). j.runs) (with_run (Some s) r sos eos out)) ∙ simp (map-set, get_or-map (λ (j : JoinedRuns). j.runs) out s no_runs [] fits) in
+          simp whole
           (IsPermutation-trans (runs ++ r ∷ []) (flat_map (λ ys. ys) rest ++ r ∷ []) (flat_map (λ ys. ys) (set rest s (get_or rest s [] ++ r ∷ [])))
           (IsPermutation-append_left (r ∷ []) runs (flat_map (λ ys. ys) rest) (subst (λ (rs : List (ℕ × ℕ)). IsPermutation runs rs) (sym (flat_map-map (λ ys. ys) (λ (j : JoinedRuns). j.runs) out)) joined.shares))
           (longer rest s (r ∷ []) (omega (arith, fits, length-map out (λ (j : JoinedRuns). j.runs)))))
@@ -258,38 +175,29 @@ module _ (len_of : ℕ → ℕ) (h : HasUnits len_of) (chars : List ℕ) (classe
       -- the run has come, and its characters were read
       pub IsJoined-more : (more : List JoinedRuns) (s : ℕ) (now : List (Option ℕ)) → more ≡ with_run g r sos eos out → s ≡ index_of g out → now ≡ read_range classes (l + 1) s a b waits → IsJoined len_of chars classes levels paragraph b (runs ++ r ∷ []) more now level
       IsJoined-more more s now grown at read =
-          subst (λ (js : List JoinedRuns). IsJoined len_of chars classes levels paragraph b (runs ++ r ∷ []) js now level) (sym grown) (record {
+          simp grown (record {
             state = state;
             ends = ends_with g g-fits;
-            level_before = level_is ∙ sym (ap (level_or paragraph levels) (kept_before-next_run classes levels paragraph a b l last));
+            level_before = simp (level_is, kept_before-next_run classes levels paragraph a b l last);
             lines = lines_with g g-fits;
             shares = shares_with g g-fits;
             fresh = λ e. absurd (omega (arith, range.not_empty));
           })
         where
-          here : s ≡ index_in (waiting_for (class_at classes f) waits) (map places_of out)
-          here = at ∙ index_is g ∙ ap (λ (o : Option ℕ). index_in o (map places_of out)) waits_for
-
           state : IsAt classes levels b b (map places_of (with_run g r sos eos out)) now
           state =
-              subst (λ (ps : List (List ℕ)). IsAt classes levels b b ps now) (sym (places_with sos eos g g-fits))
-              (subst (λ (o : Option ℕ). IsAt classes levels b b (with_places o xs (map places_of out)) now) (sym waits_for)
-              (came classes levels paragraph a b f l s (map places_of out) waits now range first last has_come here read))
+              rw (places_with sos eos g g-fits, waits_for) (came classes levels paragraph a b f l s (map places_of out) waits now range first last has_come (simp (at, ← waits_for) (grind (arith, length-map out places_of))) read)
 
   -- once all runs came, these are the sequences
   pub IsJoined-sequences : (a : ℕ) (runs : List (ℕ × ℕ)) (out : List JoinedRuns) (waits : List (Option ℕ)) (before : ℕ) → a ≡ length classes → IsJoined len_of chars classes levels paragraph a runs out waits before → filter has_places (map (characters_of len_of chars classes) out) ≡ sequences paragraph classes levels
   IsJoined-sequences a runs out waits before all w =
-      ap (filter has_places) w.ends
-      ∙ all_kept (map places_of out) w.state.pass.begun
-      ∙ IsAt-end classes levels paragraph a (map places_of out) waits (subst (λ (n : ℕ). IsAt classes levels n a (map places_of out) waits) all w.state)
+      simp (w.ends, all_kept (map places_of out) w.state.pass.begun)
+      (IsAt-end classes levels paragraph a (map places_of out) waits (subst (λ (n : ℕ). IsAt classes levels n a (map places_of out) waits) all w.state))
     where
       all_kept : (ps : List (List ℕ)) → AllBegun classes levels ps → filter has_places (map (ended) ps) ≡ map (ended) ps
       all_kept [] begun = refl
       all_kept ([] ∷ ps) begun = absurd begun.0
-      all_kept ((p ∷ qs) ∷ ps) begun =
-          let rest : List RunSequence = filter has_places (map (ended) ps) in
-          cond-true (nat_lt 0 (length (p ∷ qs))) (ended (p ∷ qs) ∷ rest) rest (lt-ltb 0 (length (p ∷ qs)) (omega arith))
-          ∙ ap {B = List RunSequence} (λ ys. ended (p ∷ qs) ∷ ys) (all_kept ps begun.1)
+      all_kept ((p ∷ qs) ∷ ps) begun = simp (lt-ltb 0 (length (p ∷ qs)) (omega arith), all_kept ps begun.1)
 
 -- a run in which no character is kept is a whole paragraph of removed characters
 pub record IsAllRemoved (classes : List BidiClass) (a b : ℕ) : Type 0 where
@@ -315,12 +223,8 @@ pub read_range-quiet : (classes : List BidiClass) (last s a b : ℕ) → ((m : �
 read_range-quiet classes last s a b none = quiet (between a b)
   where
     one : (c : BidiClass) (w : Option ℕ) → is_initiator c ≡ false → read_class c w [] ≡ []
-    one c w other = cond-false (is_initiator c) ([] ++ w ∷ []) (cond (is_pdi c) (take (length {A = Option ℕ} [] - 1) []) []) other ∙ by_pdi (is_pdi c)
-      where
-        by_pdi : (t : Bool) → cond {A = List (Option ℕ)} t (take (length {A = Option ℕ} [] - 1) []) [] ≡ []
-        by_pdi true = refl
-        by_pdi false = refl
+    one c w other = grind arith
 
     quiet : (ms : List ℕ) → fold (λ ws m. read_class (class_at classes m) (cond (eqb (m + 1) last) (Some s) None) ws) [] ms ≡ []
     quiet [] = refl
-    quiet (m ∷ ms) = ap (λ ws. fold (λ vs k. read_class (class_at classes k) (cond (eqb (k + 1) last) (Some s) None) vs) ws ms) (one (class_at classes m) (cond (eqb (m + 1) last) (Some s) None) (none m)) ∙ quiet ms
+    quiet (m ∷ ms) = simp (one (class_at classes m) (cond (eqb (m + 1) last) (Some s) None) (none m)) (quiet ms)

@@ -1,8 +1,8 @@
 -- One level run after another comes to its sequence: what the pass over units keeps, and what it has at the end.
-use Rattle.std.proofs.Common.{◌≡◌, ℕ, zero, suc, ◌+◌, ◌-◌, ◌<◌, ◌≤◌, Bool, true, cond, eqb, max, List, [], ◌∷◌, length, get_or, Option, Some, None, refl, sym, ap, subst, ◌∙◌, arith, ◌⊎◌, inl, inr, eq-eqb, ne_eqb}
+use Rattle.std.proofs.Common.{◌≡◌, ℕ, zero, suc, ◌+◌, ◌-◌, ◌<◌, ◌≤◌, true, cond, eqb, max, List, [], ◌∷◌, length, Option, Some, None, refl, sym, ap, subst, ◌∙◌, arith, ◌⊎◌, inl, inr, eq-eqb, ne_eqb}
 use Rattle.std.specs.Prelude.{filter, find, if◌then◌else◌, is_some}
 use Rattle.std.specs.List.{range_with_len, fold}
-use Rattle.std.proofs.lemmas.Bool.{cases_eq, both_ways, cond-false, and_parts}
+use Rattle.std.proofs.lemmas.Bool.{cases_eq, both_ways, and_parts}
 use Rattle.bidi_base.specs.declared.char_data.BidiClass.{BidiClass}
 use Rattle.bidi_base.specs.Classes.{is_initiator}
 use Rattle.bidi_base.specs.Levels.{direction_of}
@@ -11,7 +11,6 @@ use Rattle.bidi_base.specs.Isolates.{is_initiator_at}
 use Rattle.bidi_base.specs.Sequences.{is_kept_at, next_kept, kept_before, level_at, level_or, end_class, begins_run}
 use Rattle.bidi_base.specs.SequencePass.{read_class, waiting_for}
 use Rattle.bidi_base.proofs.PlacesLemmas.{find-between, find-between-None}
-use Rattle.bidi_base.proofs.ReadStack.{Member}
 use Rattle.bidi_base.proofs.SuccessorLemmas.{is_kept-initiator, next_kept-is, next_kept-is_None, kept_before-is, kept_before-is_None}
 use Rattle.bidi_base.proofs.RunsLemmas.{IsRun, IsLevelRun, IsRun-IsLevelRun, AllOfLevel, AllOfLevel-run}
 use Rattle.bidi_base.proofs.WaitingLemmas.{IsWaiting}
@@ -50,10 +49,7 @@ module _ (classes : List BidiClass) (levels : List ℕ) (paragraph : ℕ) where
   first_at a b f range first = grind (arith, begins_kept)
 
   pub kept_before-first : (a b f : ℕ) → IsLevelRun classes levels a b → IsFirst classes a b f → kept_before classes f ≡ kept_before classes a
-  kept_before-first a b f range first = elim (first_at a b f range first) [
-    | inl same ↦ ap (kept_before classes) same
-    | inr zero_is ↦ grind (arith, kept_before-is_None)
-  ]
+  kept_before-first a b f range first = grind (arith, first_at a b f range first, kept_before-is_None)
 
   -- all characters of a run have one level
   last_level : (level p : ℕ) (ps : List ℕ) → AllOfLevel classes levels level (p ∷ ps) → level_at levels (last_or p ps) ≡ level
@@ -96,8 +92,7 @@ module _ (classes : List BidiClass) (levels : List ℕ) (paragraph : ℕ) where
         | inr more ↦ elim range.stops [
           | inl all ↦ absurd (more all)
           | inr begins ↦
-              ap (level_or paragraph levels) (next_kept-is classes l b (record { from = omega (arith, last.below); below = omega (arith, range.within, more); passes = begins_kept b begins; first = λ m low high. last.none m low high }))
-              ∙ sym (cond-false (eqb b (length classes)) paragraph (level_at levels b) (ne_eqb b (length classes) more))
+              simp (next_kept-is classes l b (record { from = omega (arith, last.below); below = omega (arith, range.within, more); passes = begins_kept b begins; first = last.none }), ne_eqb b (length classes) more)
         ]
       ]
 
@@ -106,9 +101,8 @@ module _ (classes : List BidiClass) (levels : List ℕ) (paragraph : ℕ) where
       → IsAt classes levels b (m + n) out (fold (λ ws k. read_class (class_at classes k) (w k) ws) waits (range_with_len m n))
   read_all b zero m w out waits h wait = subst (λ (x : ℕ). IsAt classes levels b x out waits) (omega arith) h
   read_all b (suc n) m w out waits h wait =
-      let next : IsAt classes levels b (m + 1) out (read_class (class_at classes m) (w m) waits) = IsAt-read classes levels b m out waits (w m) h (λ opens. wait m (omega arith) (omega arith) opens) in
-      subst (λ (x : ℕ). IsAt classes levels b x out (fold (λ ws k. read_class (class_at classes k) (w k) ws) waits (range_with_len m (suc n)))) (omega arith)
-      (read_all b n (m + 1) w out (read_class (class_at classes m) (w m) waits) next (λ k from below. wait k (omega arith) (omega arith)))
+      let top : m + suc n ≡ m + 1 + n = omega arith in
+      simp top (read_all b n (m + 1) w out _ (IsAt-read classes levels b m out waits (w m) h (wait m (omega arith) (omega arith))) (λ k from below. wait k (omega arith) (omega arith)))
 
   -- a run came, and its characters were read
   pub came : (a b f l s : ℕ) (out : List (List ℕ)) (waits now : List (Option ℕ)) → IsLevelRun classes levels a b → IsFirst classes a b f → IsLast classes a b l → HasCome classes levels a b f (rest_of f b) out waits (waiting_for (class_at classes f) waits)
@@ -132,8 +126,7 @@ module _ (classes : List BidiClass) (levels : List ℕ) (paragraph : ℕ) where
 
       waits_by : (k : ℕ) → a ≤ k → k < a + (b - a) → is_initiator_at classes k ≡ true → IsWaiting classes levels more k (cond (eqb (k + 1) (l + 1)) (Some s) None)
       waits_by k from below opens =
-          subst (λ (x : Bool). IsWaiting classes levels more k (cond x (Some s) None)) (sym (same_last k))
-          (IsWaiting-in_run classes levels a b f k s (rest_of f b) more range (front_is a b f range first) within (λ x member. subst (λ (y : ℕ). Member x (get_or more y [])) (sym at) (c.holds x member)) from (omega (arith, range.not_empty)) (is_kept-initiator (class_at classes k) opens))
+          simp (same_last k) (IsWaiting-in_run classes levels a b f k s (rest_of f b) more range (front_is a b f range first) within (λ x member. rw at (c.holds x member)) from (omega (arith, range.not_empty)) (is_kept-initiator (class_at classes k) opens))
 
       all : IsAt classes levels b (a + (b - a)) more (read_range classes (l + 1) s a b waits)
       all = read_all b (b - a) a (λ m. cond (eqb (m + 1) (l + 1)) (Some s) None) more waits c.state waits_by

@@ -1,10 +1,10 @@
 -- The loop over the level runs of a text: the run that comes, what has been joined before it, and what then.
-use Rattle.std.proofs.Common.{◌≡◌, ℕ, ◌+◌, ◌-◌, ◌<◌, ◌≤◌, Bool, true, false, cond, eqb, max, List, [], ◌∷◌, ◌++◌, length, map, get_or, take, Option, Some, None, unwrap_or, refl, sym, ap, subst, ◌∙◌, arith, inl, inr, eq-eqb, ne_eqb, length-append, rules}
+use Rattle.std.proofs.Common.{◌≡◌, ℕ, ◌+◌, ◌-◌, ◌<◌, ◌≤◌, Bool, true, false, cond, eqb, max, List, [], ◌∷◌, ◌++◌, length, map, get_or, take, Option, unwrap_or, sym, ap, subst, ◌∙◌, arith, length-append, rules}
 use Rattle.std.proofs.lemmas.Grind.{common_steps}
 use Rattle.std.specs.Prelude.{filter, flat_map, IfSome, All, IsPermutation}
 use Rattle.std.specs.List.{list_any}
 use Rattle.std.specs.declared.ops.Range.{Range}
-use Rattle.std.proofs.lemmas.Bool.{cases_Bool, cases_eq, cases_lt, both_ways, cond-true, cond-false}
+use Rattle.std.proofs.lemmas.Bool.{both_ways}
 use Rattle.std.proofs.lemmas.List.{length-map, map-append, get_or-map, get_or_default, get_or_past, nil_from_length, take_more}
 use Rattle.std.proofs.lemmas.List.Elements.{All-weaker, All-nil, All-cons}
 use Rattle.std.proofs.lemmas.List.Folds.{flat_map-map, list_any_at}
@@ -17,8 +17,8 @@ use Rattle.bidi_base.specs.Levels.{direction_of}
 use Rattle.bidi_base.specs.Places.{class_at}
 use Rattle.bidi_base.specs.Isolates.{is_initiator_at}
 use Rattle.bidi_base.specs.Sequences.{is_kept_at, level_at, has_places, sequences, run_starts}
-use Rattle.bidi_base.specs.SequencePass.{waiting_for, index_of}
-use Rattle.bidi_base.specs.Text.{place, text_len, per_unit, per_char, is_per_char, is_boundary, char_index, IsLine}
+use Rattle.bidi_base.specs.SequencePass.{waiting_for}
+use Rattle.bidi_base.specs.Text.{place, text_len, per_unit, per_char, is_per_char, is_boundary, IsLine}
 use Rattle.bidi_base.specs.Units.{bounds, kept_in_runs, level_run_ranges, AreLines}
 use Rattle.bidi_base.proofs.TextLemmas.{HasUnits}
 use Rattle.bidi_base.proofs.PlaceLemmas.{place-lt, place-end, char_index-place, is_boundary-place, IsLine-places}
@@ -100,20 +100,9 @@ module _ (len_of : ℕ → ℕ) (h : HasUnits len_of) (chars : List ℕ) (units 
   next_run n run within is =
       let here : get_or (map bounds runs) n (0, 0) ≡ bounds run = get_or-map bounds runs n run (0, 0) within ∙ ap bounds (sym is) in
       let at : IsRunAt len_of h chars classes levels long n (cut len_of chars units unit_levels n) (cut len_of chars units unit_levels (n + 1)) (bounds run) =
-      subst (IsRunAt len_of h chars classes levels long n (cut len_of chars units unit_levels n) (cut len_of chars units unit_levels (n + 1))) here (run_at len_of h chars classes levels long (map bounds runs) n given.runs_are (omega (arith, length-map runs bounds))) in
+      simp here at (run_at len_of h chars classes levels long (map bounds runs) n given.runs_are (omega (arith, length-map runs bounds))) in
       let unit = unit_run len_of h chars classes levels long n (cut len_of chars units unit_levels n) (cut len_of chars units unit_levels (n + 1)) (bounds run) at in
-      record {
-        at = at;
-        some = unit.not_empty;
-        inside = omega (arith, unit.within, units_long);
-        inside_levels = omega (arith, unit.within, levels_long);
-        line = line_of at;
-      }
-    where
-      line_of : IsRunAt len_of h chars (per_char L len_of chars units) (per_char 0 len_of chars unit_levels) long n (cut len_of chars units unit_levels n) (cut len_of chars units unit_levels (n + 1)) (bounds run) → IsLine len_of chars run.start run.end
-      line_of at =
-          subst (λ (u : ℕ). IsLine len_of chars u run.end) (sym at.start)
-          (subst (λ (u : ℕ). IsLine len_of chars (place len_of chars (cut len_of chars units unit_levels n)) u) (sym at.end) (IsLine-places len_of chars (cut len_of chars units unit_levels n) (cut len_of chars units unit_levels (n + 1)) (omega (arith, at.range.not_empty))))
+      grind (arith, at, unit, units_long, levels_long, IsLine-places len_of chars (cut len_of chars units unit_levels n) (cut len_of chars units unit_levels (n + 1)))
 
   -- the run at k comes after those before it
   pub record Comes (k : ℕ) (run : Range ℕ) : Type 0 where
@@ -145,9 +134,7 @@ module _ (len_of : ℕ → ℕ) (h : HasUnits len_of) (chars : List ℕ) (units 
   module _ (paragraph : ℕ) where
     pub AreJoinedSoFar-start : (reads : Bool) (out : List IsolatingRunSequence) (waits : List (Option ℕ)) → out ≡ [] → waits ≡ [] → AreJoinedSoFar len_of chars units unit_levels paragraph reads [] out waits paragraph
     AreJoinedSoFar-start reads out waits empty none = record {
-      so_far = subst (λ (n : ℕ). IsJoined len_of chars classes levels paragraph n [] (map joined out) waits paragraph) (sym (cuts-first classes levels))
-          (subst (λ (js : List JoinedRuns). IsJoined len_of chars classes levels paragraph 0 [] js waits paragraph) (sym (ap (map joined) empty))
-          (subst (λ (ws : List (Option ℕ)). IsJoined len_of chars classes levels paragraph 0 [] [] ws paragraph) (sym none) (IsJoined-start len_of h chars classes levels paragraph long)));
+      so_far = simp (cuts-first classes levels, empty, none) (IsJoined-start len_of h chars classes levels paragraph long);
       quiet = λ _. none;
     }
 
@@ -173,35 +160,20 @@ module _ (len_of : ℕ → ℕ) (h : HasUnits len_of) (chars : List ℕ) (units 
       first = first_of (per_char L len_of chars units) (cut len_of chars units unit_levels (length came)) (cut len_of chars units unit_levels (length came + 1)) last.index last.unit.is_last
 
       g_at : g ≡ waiting_for (class_at (per_char L len_of chars units) (cut len_of chars units unit_levels (length came))) waits
-      g_at =
-          g_is
-          ∙ ap (λ (u : ℕ). waiting_for (class_at units u) waits) next.at.start
-          ∙ ap (λ (c : BidiClass). waiting_for c waits) (class_of_unit len_of h chars classes levels long units unit_levels same units_are levels_are (cut len_of chars units unit_levels (length came)) (omega (arith, next.at.range.not_empty, next.at.range.within, long)))
+      g_at = simp (g_is, next.at.start, class_of_unit len_of h chars classes levels long units unit_levels same units_are levels_are a (omega (arith, next.at.range.not_empty, next.at.range.within, long)))
 
       -- the sequence that waits is there
       pub waiting_fits : IfSome g (λ s. s < length out)
       waiting_fits =
-          subst (λ (n : ℕ). IfSome g (λ s. s < n)) (length-map out joined)
+          simp (← length-map out joined)
           (g-fits len_of h chars classes levels paragraph long (cut len_of chars units unit_levels (length came)) (cut len_of chars units unit_levels (length came + 1)) last.index (bounds run) (map bounds came) (map joined out) waits before g state.so_far next.at.range next.at.start next.at.end last.unit.is_last first.0 first.1 g_at)
 
       module _ (level after : ℕ) (sos eos : BidiClass) (level_is : level ≡ get_or unit_levels (kept_end - 1) level) (after_is : after ≡ level_after_run paragraph (class_at units (kept_end - 1)) unit_levels run.end) (sos_is : sos ≡ direction_of (max level before))
           (eos_is : eos ≡ direction_of (max level after)) (more : List IsolatingRunSequence) (grown : map joined more ≡ with_run g (bounds run) sos eos (map joined out)) where
         -- past the run stands the next one, or nothing
         past_end : cond (eqb run.end (length unit_levels)) paragraph (level_at unit_levels run.end) ≡ cond (eqb (cut len_of chars units unit_levels (length came + 1)) (length (per_char L len_of chars units))) paragraph (level_at (per_char 0 len_of chars unit_levels) (cut len_of chars units unit_levels (length came + 1)))
-        past_end = elim (cases_eq (cut len_of chars units unit_levels (length came + 1)) (length (per_char L len_of chars units))) [
-          | inl all ↦
-              let ends : run.end ≡ length unit_levels = omega (arith, next.at.end, ap (place len_of chars) all, place-end len_of chars (length (per_char L len_of chars units)) (omega (arith, long)), levels_long) in
-              cond-true (eqb run.end (length unit_levels)) paragraph (level_at unit_levels run.end) (eq-eqb run.end (length unit_levels) ends)
-              ∙ sym (cond-true (eqb b (length (per_char L len_of chars units))) paragraph (level_at levels b) (eq-eqb b (length (per_char L len_of chars units)) all))
-          | inr other ↦
-              let short : b < length chars = omega (arith, next.at.range.within, long, other) in
-              let under : place len_of chars b < place len_of chars (length chars) = place-lt len_of chars h b (length chars) short short in
-              let stops : ¬ (run.end ≡ length unit_levels) = λ f. absurd (omega (arith, f, next.at.end, under, place-end len_of chars (length chars) (omega arith), levels_long)) in
-              cond-false (eqb run.end (length unit_levels)) paragraph (level_at unit_levels run.end) (ne_eqb run.end (length unit_levels) stops)
-              ∙ ap (level_at unit_levels) next.at.end
-              ∙ level_of_unit len_of h chars classes levels long units unit_levels same units_are levels_are b short
-              ∙ sym (cond-false (eqb b (length (per_char L len_of chars units))) paragraph (level_at levels b) (ne_eqb b (length (per_char L len_of chars units)) other))
-        ]
+        past_end =
+            grind (arith, next.at.end, next.at.range.within, long, levels_long, place-end len_of chars (length chars), place-lt len_of chars h b (length chars), level_of_unit len_of h chars classes levels long units unit_levels same units_are levels_are b)
 
         after_at : after ≡ level_beyond (per_char L len_of chars units) (per_char 0 len_of chars unit_levels) paragraph last.index (cut len_of chars units unit_levels (length came + 1))
         after_at = grind (arith, last, past_end)
@@ -211,60 +183,37 @@ module _ (len_of : ℕ → ℕ) (h : HasUnits len_of) (chars : List ℕ) (units 
 
         joined_with : (now : List (Option ℕ)) → now ≡ read_range (per_char L len_of chars units) (last.index + 1) (unwrap_or g (length out)) (cut len_of chars units unit_levels (length came)) (cut len_of chars units unit_levels (length came + 1)) waits → (reads ≡ false → now ≡ []) → AreJoinedSoFar len_of chars units unit_levels paragraph reads (came ++ run ∷ []) more now level
         joined_with now read quiet =
-            let count : length (came ++ run ∷ []) ≡ length came + 1 = length-append came (run ∷ []) in
-            let all : map bounds (came ++ run ∷ []) ≡ map bounds came ++ bounds run ∷ [] = map-append bounds came (run ∷ []) in
             record {
-              so_far = subst (λ (n : ℕ). IsJoined len_of chars classes levels paragraph (cut len_of chars units unit_levels n) (map bounds (came ++ run ∷ [])) (map joined more) now level) (sym count)
-                  (subst (λ (rs : List (ℕ × ℕ)). IsJoined len_of chars classes levels paragraph (cut len_of chars units unit_levels (length came + 1)) rs (map joined more) now level) (sym all)
-                  (IsJoined-more len_of h chars classes levels paragraph long (cut len_of chars units unit_levels (length came)) (cut len_of chars units unit_levels (length came + 1)) last.index (bounds run) (map bounds came) (map joined out) waits before g state.so_far next.at.range next.at.start next.at.end last.unit.is_last first.0 first.1 g_at
-                  level after sos eos level_at_last after_at sos_is eos_is (map joined more) (unwrap_or g (length out)) now grown (index_is g) read));
+              so_far = simp (length-append came (run ∷ []), map-append bounds came (run ∷ []))
+                  (IsJoined-more len_of h chars classes levels paragraph long a b last.index (bounds run) (map bounds came) (map joined out) waits before g state.so_far next.at.range next.at.start next.at.end last.unit.is_last first.0 first.1 g_at
+                  level after sos eos level_at_last after_at sos_is eos_is (map joined more) (unwrap_or g (length out)) now grown (grind (arith, length-map out joined)) read);
               quiet = quiet;
             }
-          where
-            index_is : (o : Option ℕ) → unwrap_or o (length out) ≡ index_of o (map joined out)
-            index_is None = sym (length-map out joined)
-            index_is (Some s) = refl
 
         -- its characters were read
         pub AreJoinedSoFar-read : (now : List (Option ℕ)) → reads ≡ true → now ≡ read_units len_of chars units kept_end (unwrap_or g (length out)) run.start run.end waits → AreJoinedSoFar len_of chars units unit_levels paragraph reads (came ++ run ∷ []) more now level
         AreJoinedSoFar-read now on read =
-            joined_with now
-            (read
-            ∙ ap (λ (n : ℕ). read_range classes n (unwrap_or g (length out)) (char_index len_of chars run.start) (char_index len_of chars run.end) waits) (ap (char_index len_of chars) last.unit.at_end ∙ char_index-place len_of chars h (last.index + 1) last.within)
-            ∙ ap (λ (n : ℕ). read_range classes (last.index + 1) (unwrap_or g (length out)) n (char_index len_of chars run.end) waits)
-            (ap (char_index len_of chars) next.at.start ∙ char_index-place len_of chars h (cut len_of chars units unit_levels (length came)) (omega (arith, next.at.range.not_empty, next.at.range.within, long)))
-            ∙ ap (λ (n : ℕ). read_range classes (last.index + 1) (unwrap_or g (length out)) (cut len_of chars units unit_levels (length came)) n waits) (ap (char_index len_of chars) next.at.end ∙ char_index-place len_of chars h (cut len_of chars units unit_levels (length came + 1)) (omega (arith, next.at.range.within, long))))
-            (λ off. absurd (both_ways reads off on))
+            let last_at = char_index-place len_of chars h (last.index + 1) last.within in
+            let a_at = char_index-place len_of chars h a (omega (arith, next.at.range.not_empty, next.at.range.within, long)) in
+            let b_at = char_index-place len_of chars h b (omega (arith, next.at.range.within, long)) in
+            joined_with now (simp (read, last.unit.at_end, next.at.start, next.at.end, last_at, a_at, b_at)) (λ off. absurd (both_ways reads off on))
 
         -- none of its characters opens an isolate
         pub AreJoinedSoFar-unread : reads ≡ false → (list_any is_initiator units ≡ true → reads ≡ true) → AreJoinedSoFar len_of chars units unit_levels paragraph reads (came ++ run ∷ []) more waits level
         AreJoinedSoFar-unread off any =
-            joined_with waits
-            (state.quiet off
-            ∙ sym (read_range-quiet classes (last.index + 1) (unwrap_or g (length out)) (cut len_of chars units unit_levels (length came)) (cut len_of chars units unit_levels (length came + 1)) none)
-            ∙ ap (read_range classes (last.index + 1) (unwrap_or g (length out)) (cut len_of chars units unit_levels (length came)) (cut len_of chars units unit_levels (length came + 1))) (sym (state.quiet off)))
-            (λ _. state.quiet off)
+            joined_with waits (simp (state.quiet off, read_range-quiet classes (last.index + 1) (unwrap_or g (length out)) a b none)) (λ _. state.quiet off)
           where
             none : (m : ℕ) → is_initiator_at (per_char L len_of chars units) m ≡ false
-            none m = elim (cases_Bool (is_initiator_at (per_char L len_of chars units) m)) [
-              | inr other ↦ other
-              | inl opens ↦ elim (cases_lt m (length chars)) [
-                | inl low ↦
-                    let here = class_of_unit len_of h chars classes levels long units unit_levels same units_are levels_are m low in
-                    let inside : place len_of chars m < length units = omega (arith, units_long, place-lt len_of chars h m (length chars) low low, place-end len_of chars (length chars) (omega arith)) in
-                    absurd (both_ways reads off (any (list_any_at is_initiator units (place len_of chars m) L inside (ap is_initiator here ∙ opens))))
-                | inr high ↦ absurd (both_ways (is_initiator_at classes m) (ap is_initiator (get_or_past classes m L (omega (arith, long)))) opens)
-              ]
-            ]
+            none m =
+                grind (arith, any, units_long, long, class_of_unit len_of h chars classes levels long units unit_levels same units_are levels_are m, place-lt len_of chars h m (length chars), place-end len_of chars (length chars), list_any_at is_initiator units (place len_of chars m) L, get_or_past classes m L)
 
     pub AreJoined-end : (reads : Bool) (came : List (Range ℕ)) (out : List IsolatingRunSequence) (waits : List (Option ℕ)) (before : ℕ) → came ≡ runs → AreJoinedSoFar len_of chars units unit_levels paragraph reads came out waits before → AreJoined len_of chars units unit_levels paragraph runs out
     AreJoined-end reads came out waits before all state =
         let at_end : cut len_of chars units unit_levels (length came) ≡ length classes = cuts-last len_of h chars classes levels long (map bounds runs) (length came) given.runs_are (ap length all ∙ sym (length-map runs bounds)) in
-        let partition : IsPermutation (map bounds came) (flat_map run_bounds out) = subst (λ (rs : List (ℕ × ℕ)). IsPermutation (map bounds came) rs) (flat_map-map (λ (j : JoinedRuns). j.runs) joined out) state.so_far.shares in
         record {
           in_order = ap (filter has_places) (sym (map-map (characters_of len_of chars classes) joined out))
               ∙ IsJoined-sequences len_of h chars classes levels paragraph long (cut len_of chars units unit_levels (length came)) (map bounds came) (map joined out) waits before at_end state.so_far;
-          shares = subst (λ (rs : List (Range ℕ)). IsPermutation (map bounds rs) (flat_map run_bounds out)) all partition;
+          shares = simp (← all, ← flat_map-map (λ (j : JoinedRuns). j.runs) joined out) state.so_far.shares;
           lines = λ k d within.
               All-weaker (IsBefore len_of chars (place len_of chars (cut len_of chars units unit_levels (length came)))) (λ (r : ℕ × ℕ). IsLine len_of chars r.0 r.1) (λ r w. w.line) (run_bounds (get_or out k d))
               (subst (λ (j : JoinedRuns). All (IsBefore len_of chars (place len_of chars (cut len_of chars units unit_levels (length came)))) j.runs) (get_or-map joined out k d (joined d) within) (state.so_far.lines k (joined d) (omega (arith, within, length-map out joined))));
@@ -275,14 +224,11 @@ module _ (len_of : ℕ → ℕ) (h : HasUnits len_of) (chars : List ℕ) (units 
         → AreJoinedSoFar len_of chars units unit_levels paragraph reads came out waits before → IsNext (length came) run → length came < length runs → run ≡ get_or runs (length came) run → IsKeptEnd units run.start run.end kept_end → kept_end ≡ run.start
         → joined s ≡ record { runs = bounds run ∷ []; sos = sos; eos = eos } → new ≡ out ++ s ∷ [] → AreJoined len_of chars units unit_levels paragraph runs new
     AreJoined-removed reads came run out waits before kept_end s sos eos new state next within is e none one grown = record {
-      in_order = ap (sequences_in len_of chars classes) alone
-          ∙ ap (λ (j : JoinedRuns). filter has_places (characters_of len_of chars classes j ∷ [])) one
-          ∙ ap (λ (ps : List ℕ). filter has_places (record { places = ps; sos = sos; eos = eos } ∷ [])) no_places
-          ∙ sym (sequences-none paragraph classes levels gone.none);
-      shares = subst (λ (rs : List (ℕ × ℕ)). IsPermutation (map bounds runs) rs) (sym all) (IsPermutation-refl (map bounds runs));
-      lines = subst (λ (xs : List IsolatingRunSequence). All (λ q. AreLines len_of chars (run_bounds q)) xs) (sym alone)
+      in_order = simp (alone, sequences-none paragraph classes levels gone.none) (ap (λ (j : JoinedRuns). filter has_places (characters_of len_of chars classes j ∷ [])) one ∙ simp no_places);
+      shares = simp (alone, own, one_run) (IsPermutation-refl (bounds run ∷ []));
+      lines = simp alone
           (All-cons (λ (q : IsolatingRunSequence). AreLines len_of chars (run_bounds q)) s []
-          (subst (AreLines len_of chars) (sym own) (All-cons (λ (r : ℕ × ℕ). IsLine len_of chars r.0 r.1) (bounds run) [] next.line (All-nil (λ (r : ℕ × ℕ). IsLine len_of chars r.0 r.1))))
+          (simp own (All-cons (λ (r : ℕ × ℕ). IsLine len_of chars r.0 r.1) (bounds run) [] next.line (All-nil (λ (r : ℕ × ℕ). IsLine len_of chars r.0 r.1))))
           (All-nil (λ (q : IsolatingRunSequence). AreLines len_of chars (run_bounds q))));
     }
       where
@@ -295,26 +241,19 @@ module _ (len_of : ℕ → ℕ) (h : HasUnits len_of) (chars : List ℕ) (units 
         gone : IsAllRemoved (per_char L len_of chars units) (cut len_of chars units unit_levels (length came)) (cut len_of chars units unit_levels (length came + 1))
         gone = all_removed classes levels paragraph (cut len_of chars units unit_levels (length came)) (cut len_of chars units unit_levels (length came + 1)) next.at.range none_here
 
-        empty : out ≡ []
-        empty = nil_from_length out (sym (length-map out joined) ∙ ap length (state.so_far.fresh gone.front).0)
-
         alone : new ≡ s ∷ []
-        alone = grown ∙ ap (λ (xs : List IsolatingRunSequence). xs ++ s ∷ []) empty
+        alone = simp (grown, nil_from_length out (sym (length-map out joined) ∙ ap length (state.so_far.fresh gone.front).0))
 
         own : run_bounds s ≡ bounds run ∷ []
         own = ap (λ (j : JoinedRuns). j.runs) one
 
         no_places : kept_in_runs len_of chars (per_char L len_of chars units) (bounds run ∷ []) ≡ []
         no_places =
-            ap (λ (r : ℕ × ℕ). kept_in_runs len_of chars (per_char L len_of chars units) (r ∷ [])) (λ i. (next.at.start i, next.at.end i))
-            ∙ kept_in_run len_of h chars classes (cut len_of chars units unit_levels (length came)) (cut len_of chars units unit_levels (length came + 1)) (omega (arith, next.at.range.not_empty, fits)) fits
-            ∙ filter_range-none (is_kept_at (per_char L len_of chars units)) (cut len_of chars units unit_levels (length came)) (cut len_of chars units unit_levels (length came + 1) - cut len_of chars units unit_levels (length came)) (λ m low high. none_here m low (omega (arith, next.at.range.not_empty)))
-
-        one_start : length (run_starts (per_char L len_of chars units) (per_char 0 len_of chars unit_levels)) ≡ 1
-        one_start = ap length (run_starts-removed classes levels (omega (arith, next.at.range.not_empty, next.at.range.within)) gone.none)
+            let a = cut len_of chars units unit_levels (length came) in
+            let b = cut len_of chars units unit_levels (length came + 1) in
+            simp (next.at.start, next.at.end, kept_in_run len_of h chars classes a b (omega (arith, next.at.range.not_empty, fits)) fits, filter_range-none (is_kept_at classes) a (b - a) (λ m low high. none_here m low (omega (arith, next.at.range.not_empty))))
 
         one_run : runs ≡ run ∷ []
-        one_run = one_of runs (length came) run (sym (length-map runs bounds) ∙ ap length given.runs_are ∙ length-level_run_ranges len_of chars classes levels ∙ one_start) within is
-
-        all : flat_map run_bounds new ≡ map bounds runs
-        all = ap (flat_map run_bounds) alone ∙ ap (λ (rs : List (ℕ × ℕ)). rs ++ []) own ∙ ap (map bounds) (sym one_run)
+        one_run =
+            let one = run_starts-removed classes levels (omega (arith, next.at.range.not_empty, next.at.range.within)) gone.none in
+            one_of runs (length came) run (sym (length-map runs bounds) ∙ ap length given.runs_are ∙ length-level_run_ranges len_of chars classes levels ∙ ap length one) within is

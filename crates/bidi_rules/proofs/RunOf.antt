@@ -1,16 +1,19 @@
 -- The run of a unit, and what is found in the runs from it on, or up to it.
-use Rattle.std.proofs.Common.{◌≡◌, ℕ, zero, suc, ◌+◌, ◌<◌, ◌≤◌, ◌&&◌, ◌||◌, true, List, [], ◌∷◌, length, get_or, take, drop, refl, sym, ap, ◌∙◌, arith}
-use Rattle.std.proofs.lemmas.List.{take_all}
+use Rattle.std.proofs.Common.{◌≡◌, ℕ, zero, suc, ◌+◌, ◌<◌, ◌≤◌, ◌&&◌, ◌||◌, true, false, List, [], ◌∷◌, length, map, get_or, take, drop, refl, sym, ap, ◌∙◌, arith, inl, inr}
+use Rattle.std.proofs.lemmas.List.{take_all, get_or-map, length-map}
 use Rattle.bidi_base.specs.declared.char_data.BidiClass.{BidiClass}
 use Rattle.bidi_base.specs.Classes.{is_kept_in_place}
 use Rattle.bidi_base.specs.Places.{class_at}
 use Rattle.bidi_base.specs.Text.{place}
 use Rattle.std.specs.Prelude.{All}
 use Rattle.std.proofs.lemmas.List.Elements.{All-take}
-use Rattle.bidi_base.specs.Units.{are_ordered, are_ordered_from, in_runs}
+use Rattle.bidi_base.specs.Units.{are_ordered, are_ordered_from, bounds, in_runs}
+use Rattle.std.specs.declared.ops.Range.{Range}
+use Rattle.bidi_rules.proofs.KeptRuns.{no_range}
 use Rattle.bidi_rules.specs.PairWalk.{IsMarksEnd}
 use Rattle.bidi_rules.specs.WeakWalk.{is_seen, IsWrittenOver}
-use Rattle.bidi_rules.proofs.InRuns.{in_run-above, in_runs-take, next_start, start_or-at}
+use Rattle.std.proofs.lemmas.Bool.{cases_Bool, or_parts}
+use Rattle.bidi_rules.proofs.InRuns.{in_run, in_run-true, in_runs-more, in_run-above, in_runs-take, next_start, start_or-at}
 use Rattle.bidi_rules.proofs.WalkLemmas.{are_ordered-front}
 use Rattle.bidi_rules.proofs.WrittenOver.{IsWrittenOver-same_test}
 
@@ -35,6 +38,30 @@ in_runs-later (suc index) (r ∷ runs) k h = in_runs-later index runs k (λ i be
 -- up to the run that ends behind a unit
 pub in_runs-upto : (index : ℕ) (runs : List (ℕ × ℕ)) (k : ℕ) → are_ordered runs ≡ true → index ≤ length runs → (index < length runs → k < (get_or runs index (0, 0)).1) → in_runs (take (index + 1) runs) k ≡ in_runs runs k
 in_runs-upto index runs k ordered fits ends = grind (arith, start_or-at, in_runs-take, next_start, take_all)
+
+-- a run ends within all units
+pub run_end : (n : ℕ) (runs : List (Range ℕ)) (i : ℕ) → All (λ (r : ℕ × ℕ). r.1 ≤ n) (map bounds runs) → i < length runs → (get_or runs i no_range).end ≤ n
+run_end n runs i within fits = omega (arith, ap (λ (r : ℕ × ℕ). r.1) (get_or-map bounds runs i no_range (0, 0) fits), within i (0, 0) (omega (arith, fits, length-map runs bounds)))
+
+-- a change that may be made twice, once one run more came
+pub changed-more : (f : BidiClass → BidiClass) → ((c : BidiClass) → f (f c) ≡ f c) → (runs : List (ℕ × ℕ)) (i : ℕ) (old now new : List BidiClass) → i < length runs
+    → ((u : ℕ) → in_runs (take i runs) u ≡ true → class_at now u ≡ f (class_at old u)) → ((u : ℕ) → in_runs (take i runs) u ≡ false → class_at now u ≡ class_at old u)
+    → ((u : ℕ) → (get_or runs i (0, 0)).0 ≤ u → u < (get_or runs i (0, 0)).1 → class_at new u ≡ f (class_at now u)) → ((u : ℕ) → in_run (get_or runs i (0, 0)) u ≡ false → class_at new u ≡ class_at now u)
+    → ((u : ℕ) → in_runs (take (i + 1) runs) u ≡ true → class_at new u ≡ f (class_at old u)) × ((u : ℕ) → in_runs (take (i + 1) runs) u ≡ false → class_at new u ≡ class_at old u)
+changed-more f twice runs i old now new fits changed same inside outside = (
+  λ u came. elim (cases_Bool (in_run (get_or runs i (0, 0)) u)) [
+    | inl here ↦
+        let w = in_run-true (get_or runs i (0, 0)) u here in
+        inside u w.0 w.1 ∙ elim (cases_Bool (in_runs (take i runs) u)) [
+          | inl before ↦ simp (changed u before, twice)
+          | inr fresh ↦ simp (same u fresh)
+        ]
+    | inr out ↦ outside u out ∙ changed u (grind (arith, in_runs-more i runs u fits))
+  ],
+  λ u none.
+      let parts = or_parts (in_runs (take i runs) u) (in_run (get_or runs i (0, 0)) u) (sym (in_runs-more i runs u fits) ∙ none) in
+      outside u parts.1 ∙ same u parts.0,
+)
 
 pub IsSet-later : (len_of : ℕ → ℕ) (chars : List ℕ) (later runs : List (ℕ × ℕ)) (original : List BidiClass) (d : BidiClass) (bracket inside end : ℕ) (old new : List BidiClass) → ((k : ℕ) → bracket ≤ k → in_runs later k ≡ in_runs runs k) → bracket ≤ inside
     → IsMarksEnd len_of chars later original old inside end → IsWrittenOver (is_seen later old) d bracket end old new → IsMarksEnd len_of chars runs original old inside end × IsWrittenOver (is_seen runs old) d bracket end old new

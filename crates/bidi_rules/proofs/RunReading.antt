@@ -1,7 +1,7 @@
 -- The characters of a run that open or close an isolate, read one by one.
 use Rattle.std.proofs.Common.{◌≡◌, ℕ, zero, suc, ◌+◌, ◌-◌, ◌<◌, ◌≤◌, true, false, cond, eqb, List, length, get_or, Option, Some, None, sym, ap, subst, ◌∙◌, arith, ne_eqb, inl, inr}
 use Rattle.std.specs.Bool.{then_some}
-use Rattle.std.proofs.lemmas.Bool.{cases_eq, cases_lt, both_ways}
+use Rattle.std.proofs.lemmas.Bool.{cases_eq, cases_lt}
 use Rattle.std.proofs.lemmas.List.Sums.{fold_push}
 use Rattle.bidi_base.specs.declared.char_data.BidiClass.{BidiClass}
 use Rattle.bidi_base.specs.declared.char_data.BidiClass.TheVariants.{L}
@@ -73,23 +73,16 @@ module _ (len_of : ℕ → ℕ) (h : HasUnits len_of) (chars : List ℕ) (units 
       let upto : place len_of chars (m + 1) ≤ end = omega (arith, w.ends, place-mono len_of chars (m + 1) final (omega arith)) in
       elim (cases_lt next (place len_of chars (m + 1))) [
         | inl here ↦
-            let control : is_isolate_control (class_at units next) ≡ true = f.at (omega arith) in
-            let same = alike_class len_of h chars units per m next fits f.begins here in
-            elim (cases_lt (place len_of chars m) next) [
-              | inl behind ↦ absurd (both_ways (is_isolate_control (class_at units (place len_of chars m))) (f.before (place len_of chars m) (omega arith) behind) (ap is_isolate_control (sym same) ∙ control))
-              | inr not_behind ↦ grind arith
-            ]
+            grind (arith, f.at, alike_class len_of h chars units per m next fits f.begins here, f.before (place len_of chars m))
         | inr later ↦
-            let plain : is_isolate_control (class_at stored m) ≡ false = ap is_isolate_control (sym (stored_class m fits)) ∙ f.before (place len_of chars m) (omega arith) (omega arith) in
             jump k (m + 1) next old waits (omega arith) (omega arith)
-            (is ∙ sym (read_range-more stored (char_index len_of chars last) s first m old low ∙ read_class-plain (class_at stored m) (cond (eqb (m + 1) (char_index len_of chars last)) (Some s) None) (read_to m old) plain))
+            (grind (arith, stored_class m fits, f.before (place len_of chars m), read_range-more stored (char_index len_of chars last) s first m old low, read_class-plain (class_at stored m)))
             (record { begins = later; ends = f.ends; before = λ u a b. f.before u (omega arith) b; at = f.at })
       ]
 
   pub IsReadTo-jump : (at next : ℕ) (old waits : List (Option ℕ)) → ReadTo old waits at → IsFirst is_isolate_control units at end next → ReadTo old waits next
   IsReadTo-jump at next old waits r f =
-      let high = r.high in
-      jump (final - r.index) r.index next old waits (omega arith) r.low r.is (subst (λ (u : ℕ). IsFirst is_isolate_control units u end next) r.there f)
+      jump (final - r.index) r.index next old waits (omega (arith, r.high)) r.low r.is (subst (λ (u : ℕ). IsFirst is_isolate_control units u end next) r.there f)
 
   -- what the code asks of the character at hand
   pub record IsAsked (at : ℕ) : Type 0 where
@@ -113,8 +106,7 @@ module _ (len_of : ℕ → ℕ) (h : HasUnits len_of) (chars : List ℕ) (units 
       elim (cases_eq (m + 1) e) [
         | inl same ↦ grind (arith, place-char_index)
         | inr other ↦
-            ap (λ b. cond b (Some s) None)
-            (ne_eqb behind last (λ f. other (sym (char_index-place len_of chars h (m + 1) (omega arith)) ∙ ap (char_index len_of chars) (sym after ∙ f))) ∙ sym (ne_eqb (m + 1) e other))
+            simp (ne_eqb behind last (λ f. other (sym (char_index-place len_of chars h (m + 1) (omega arith)) ∙ ap (char_index len_of chars) (sym after ∙ f))), ne_eqb (m + 1) e other)
       ] in
       record {
         index = m + 1;
@@ -126,11 +118,7 @@ module _ (len_of : ℕ → ℕ) (h : HasUnits len_of) (chars : List ℕ) (units 
 
   pub IsReadTo-past : (old waits : List (Option ℕ)) (at behind : ℕ) → at < end → ((k : ℕ) → k < length chars → at ≡ place len_of chars k → behind ≡ place len_of chars (k + 1)) → ReadTo old waits at → at < behind
   IsReadTo-past old waits at behind below ends r =
-      let w = line_places len_of h chars start end line in
-      let m = r.index in
-      let more : m < final = grind arith in
-      let fits : m < length chars = omega (arith, w.within) in
-      omega (arith, ends m fits r.there, r.there, place-more len_of chars m 0 fits, h (get_or chars m 0))
+      grind (arith, line_places, ends r.index, place-more len_of chars r.index 0, h (get_or chars r.index 0))
 
   pub IsReadTo-within : (old waits : List (Option ℕ)) (at : ℕ) → ReadTo old waits at → at ≤ end
   IsReadTo-within old waits at r = grind (arith, line_places, place-mono) steps 400000
@@ -138,7 +126,5 @@ module _ (len_of : ℕ → ℕ) (h : HasUnits len_of) (chars : List ℕ) (units 
   -- all characters of the run
   pub IsReadTo-end : (old waits : List (Option ℕ)) → ReadTo old waits end → waits ≡ read_units len_of chars units last s start end old
   IsReadTo-end old waits r =
-      let w = line_places len_of h chars start end line in
-      let same : r.index ≡ final =
-      sym (char_index-place len_of chars h r.index (let high = r.high in omega (arith, w.within))) ∙ ap (char_index len_of chars) (sym r.there) in
+      let same : r.index ≡ final = grind (arith, line_places, char_index-place len_of chars h r.index) in
       r.is ∙ ap (λ m. read_to m old) same

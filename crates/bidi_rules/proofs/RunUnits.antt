@@ -1,5 +1,6 @@
 -- A level run as a range of units: which characters stand in it, and what its last kept unit says.
-use Rattle.std.proofs.Common.{◌≡◌, ℕ, suc, ◌+◌, ◌-◌, ◌<◌, ◌≤◌, true, false, List, [], ◌∷◌, ◌++◌, length, get_or, refl, sym, ap, subst, ◌∙◌, arith, inl, inr}
+use Rattle.std.proofs.Common.{◌≡◌, ℕ, ◌+◌, ◌-◌, ◌<◌, ◌≤◌, true, false, List, [], ◌∷◌, ◌++◌, length, get_or, refl, sym, ap, ◌∙◌, arith, inl, inr}
+use Rattle.std.proofs.Math.Numerals.{add-one}
 use Rattle.std.proofs.lemmas.Bool.{cases_lt, both_ways}
 use Rattle.std.proofs.lemmas.List.{get_or_push}
 use Rattle.bidi_base.specs.declared.char_data.BidiClass.{BidiClass}
@@ -43,15 +44,14 @@ module _ (len_of : ℕ → ℕ) (h : HasUnits len_of) (chars : List ℕ) (classe
   pub run_at : (runs : List (ℕ × ℕ)) (k : ℕ) → runs ≡ level_run_ranges len_of chars classes levels → k < length runs → IsRunAt k (get_or (cuts classes levels) k 0) (get_or (cuts classes levels) (k + 1) 0) (get_or runs k (0, 0))
   run_at runs k e within =
       let fits : k < length (run_starts classes levels) = omega (arith, ap length e, length-level_run_ranges len_of chars classes levels) in
-      let more : suc k ≡ k + 1 = omega arith in
-      let here : get_or runs k (0, 0) ≡ (place len_of chars (get_or (cuts classes levels) k 0), place len_of chars (get_or (cuts classes levels) (suc k) 0)) =
-      ap (λ (rs : List (ℕ × ℕ)). get_or rs k (0, 0)) e ∙ level_run_ranges-at len_of chars classes levels k (0, 0) long fits in
+      let here : get_or runs k (0, 0) ≡ (place len_of chars (get_or (cuts classes levels) k 0), place len_of chars (get_or (cuts classes levels) (k + 1) 0)) =
+      simp (e, add-one) (level_run_ranges-at len_of chars classes levels k (0, 0) long fits) in
       record {
-        range = subst (λ n. IsLevelRun classes levels (get_or (cuts classes levels) k 0) (get_or (cuts classes levels) n 0)) more (IsLevelRun-at classes levels k fits);
+        range = simp add-one (IsLevelRun-at classes levels k fits);
         first = refl;
         next = refl;
         start = ap (λ (r : ℕ × ℕ). r.0) here;
-        end = grind arith;
+        end = ap (λ (r : ℕ × ℕ). r.1) here;
       }
 
   -- the last run ends with the text
@@ -82,9 +82,7 @@ module _ (len_of : ℕ → ℕ) (h : HasUnits len_of) (chars : List ℕ) (classe
 
     pub none_kept : (a b start end last : ℕ) → start ≡ place len_of chars a → end ≡ place len_of chars b → b ≤ length chars → IsKeptEnd units start end last → last ≡ start → NoneKept classes a b
     none_kept a b start end last first next fits e none m from below =
-        let low = place-mono len_of chars a m from in
-        let high = place-lt len_of chars h m b below (omega arith) in
-        ap is_kept (sym (class_of_unit m (omega arith))) ∙ e.gone (place len_of chars m) (omega arith) (omega arith)
+        ap is_kept (sym (class_of_unit m (omega arith))) ∙ e.gone (place len_of chars m) (omega (arith, place-mono len_of chars a m from)) (omega (arith, place-lt len_of chars h m b below (omega arith)))
 
     pub last_unit : (a b start end last : ℕ) → start ≡ place len_of chars a → end ≡ place len_of chars b → b ≤ length chars → IsKeptEnd units start end last → ¬ (last ≡ start) → (l : ℕ) × IsLastUnit a b last l
     last_unit a b start end last first next fits e some = by_unit (unit_of len_of chars (last - 1) (omega (arith, e.from, e.to, place-le len_of chars b, next, before)))
@@ -95,9 +93,6 @@ module _ (len_of : ℕ → ℕ) (h : HasUnits len_of) (chars : List ℕ) (classe
         by_unit : UnitOf len_of chars (last - 1) → (l : ℕ) × IsLastUnit a b last l
         by_unit w = (w.index, record { is_last = record { from = from; below = below; kept = kept; none = none }; at_end = at_end; class = class; level = level })
           where
-            l : ℕ
-            l = w.index
-
             after : place len_of chars (w.index + 1) ≡ place len_of chars w.index + len_of (get_or chars w.index 0)
             after = place-more len_of chars w.index 0 w.within
 
@@ -105,28 +100,16 @@ module _ (len_of : ℕ → ℕ) (h : HasUnits len_of) (chars : List ℕ) (classe
             unit_is = omega (arith, w.at_place, before)
 
             from : a ≤ w.index
-            from = elim (cases_lt w.index a) [
-              | inl low ↦ let past = place-mono len_of chars (w.index + 1) a (omega arith) in absurd (omega (arith, w.below, after, unit_is, first, before))
-              | inr high ↦ high
-            ]
+            from = grind (arith, w.below, after, unit_is, before, place-mono)
 
             below : w.index < b
-            below = elim (cases_lt w.index b) [
-              | inl low ↦ low
-              | inr high ↦ let past = place-mono len_of chars b w.index high in absurd (omega (arith, unit_is, next, e.to))
-            ]
+            below = grind (arith, unit_is, e.to, place-mono)
 
             class : get_or units (last - 1) L ≡ class_at classes w.index
-            class =
-                ap (λ us. get_or us (last - 1) L) units_is
-                ∙ ap (λ u. get_or (per_unit len_of chars classes) u L) w.at_place
-                ∙ get_or-per_unit len_of chars classes w.index w.offset 0 L long w.within w.below
+            class = simp (units_is, w.at_place, get_or-per_unit len_of chars classes w.index w.offset 0 L long w.within w.below)
 
             level : get_or unit_levels (last - 1) 0 ≡ level_at levels w.index
-            level =
-                ap (λ us. get_or us (last - 1) 0) levels_is
-                ∙ ap (λ u. get_or (per_unit len_of chars levels) u 0) w.at_place
-                ∙ get_or-per_unit len_of chars levels w.index w.offset 0 0 same w.within w.below
+            level = simp (levels_is, w.at_place, get_or-per_unit len_of chars levels w.index w.offset 0 0 same w.within w.below)
 
             kept : is_kept_at classes w.index ≡ true
             kept = ap is_kept (sym class) ∙ e.kept before
@@ -135,16 +118,13 @@ module _ (len_of : ℕ → ℕ) (h : HasUnits len_of) (chars : List ℕ) (classe
             at_end : last ≡ place len_of chars (w.index + 1)
             at_end = elim (cases_lt (w.offset + 1) (len_of (get_or chars w.index 0))) [
               | inl inside ↦
-                  let past = place-mono len_of chars (w.index + 1) b (omega (arith, below)) in
                   let there : last ≡ place len_of chars w.index + (w.offset + 1) = omega (arith, unit_is) in
-                  let same_class : get_or units last L ≡ class_at classes w.index =
-                  ap (λ us. get_or us last L) units_is ∙ ap (λ u. get_or (per_unit len_of chars classes) u L) there ∙ get_or-per_unit len_of chars classes w.index (w.offset + 1) 0 L long w.within inside in
-                  absurd (both_ways (is_kept_at classes w.index) (ap is_kept (sym same_class) ∙ e.gone last (omega arith) (omega (arith, after, next))) kept)
+                  let same_class : get_or units last L ≡ class_at classes w.index = simp (units_is, there, get_or-per_unit len_of chars classes w.index (w.offset + 1) 0 L long w.within inside) in
+                  absurd (both_ways (is_kept_at classes w.index) (ap is_kept (sym same_class) ∙ e.gone last (omega arith) (omega (arith, after, next, place-mono len_of chars (w.index + 1) b (omega (arith, below))))) kept)
               | inr out ↦ omega (arith, unit_is, after, w.below)
             ]
 
             none : NoneKept classes (w.index + 1) b
             none m low high =
-                let past = place-mono len_of chars (w.index + 1) m low in
-                let under = place-lt len_of chars h m b high (omega arith) in
-                ap is_kept (sym (class_of_unit m (omega arith))) ∙ e.gone (place len_of chars m) (omega (arith, at_end)) (omega (arith, next))
+                ap is_kept (sym (class_of_unit m (omega arith)))
+                ∙ e.gone (place len_of chars m) (omega (arith, at_end, place-mono len_of chars (w.index + 1) m low)) (omega (arith, next, place-lt len_of chars h m b high (omega arith)))

@@ -1,8 +1,8 @@
 -- The units of a sequence that are not BN: those that a pass over units reads, and the characters that they belong to.
-use Rattle.std.proofs.Common.{◌≡◌, ◌≢◌, ℕ, zero, suc, ◌+◌, ◌<◌, ◌≤◌, Bool, true, false, ◌&&◌, ◌||◌, List, [], ◌∷◌, ◌++◌, length, map, replicate, refl, sym, ap, subst, ◌∙◌, arith, inl, inr}
+use Rattle.std.proofs.Common.{◌≡◌, ◌≢◌, ℕ, zero, suc, ◌+◌, ◌<◌, ◌≤◌, Bool, true, false, List, [], ◌∷◌, ◌++◌, length, map, replicate, refl, sym, ap, ◌∙◌, arith, inl, inr}
 use Rattle.std.specs.Prelude.{filter, All}
 use Rattle.std.specs.List.{list_all, range_with_len}
-use Rattle.std.proofs.lemmas.Bool.{cases_Bool, cases_lt, and_parts, and_from, and_left}
+use Rattle.std.proofs.lemmas.Bool.{cases_Bool, and_parts, and_from, and_left}
 use Rattle.std.proofs.lemmas.List.{length-map}
 use Rattle.std.proofs.lemmas.List.Elements.{All-head, All-tail, filter-append}
 use Rattle.std.proofs.lemmas.List.Folds.{list_all-append}
@@ -27,15 +27,7 @@ use Rattle.bidi_rules.proofs.WalkLemmas.{are_ordered-front, are_ordered-lower}
 -- two tests that agree in a range keep the same units
 same_counted : (t u : ℕ → Bool) (low n : ℕ) → ((k : ℕ) → low ≤ k → k < low + n → t k ≡ u k) → filter t (range_with_len low n) ≡ filter u (range_with_len low n)
 same_counted t u low zero h = refl
-same_counted t u low (suc n) h =
-    let ts = filter t (range_with_len (low + 1) n) in
-    let us = filter u (range_with_len (low + 1) n) in
-    let rest : ts ≡ us = same_counted t u (low + 1) n (λ k from below. h k (omega arith) (omega arith)) in
-    let here = h low (omega arith) (omega arith) in
-    elim (cases_Bool (t low)) [
-      | inl yes' ↦ grind arith
-      | inr no' ↦ grind arith
-    ]
+same_counted t u low (suc n) h = grind (arith, h low, same_counted t u (low + 1) n)
 
 marked-alike : (t u : ℕ → Bool) (low high : ℕ) → ((k : ℕ) → low ≤ k → k < high → t k ≡ u k) → marked t low high ≡ marked u low high
 marked-alike t u low high h = grind (arith, same_counted)
@@ -57,19 +49,10 @@ module _ (units : List BidiClass) where
       let end : r.1 ≤ length units = All-head (λ (q : ℕ × ℕ). q.1 ≤ length units) r runs within in
       let all = is_seen (r ∷ runs) units in
       let rest : marked all r.1 (length units) ≡ filter kept_at (units_in_runs runs) =
-      marked-alike all (is_seen runs units) r.1 (length units) (λ k a b. ap (λ t. (t || in_runs runs k) && kept_at k) (in_run-above r k a))
-      ∙ seen-from r.1 runs end f.later (All-tail (λ (q : ℕ × ℕ). q.1 ≤ length units) r runs within) in
+      marked-alike all (is_seen runs units) r.1 (length units) (λ k a b. simp (in_run-above r k a)) ∙ seen-from r.1 runs end f.later (All-tail (λ (q : ℕ × ℕ). q.1 ≤ length units) r runs within) in
       let inside : marked all r.0 r.1 ≡ filter kept_at (between r.0 r.1) = grind (arith, marked-alike) in
-      let before : marked all low r.0 ≡ [] = marked-empty all low r.0 (λ k a b. and_left (in_runs (r ∷ runs) k) (kept_at k) (gap_before 0 (r ∷ runs) k (length units) (lowered low (r ∷ runs) ordered) b)) in
-      marked-parts all low r.0 (length units) from (omega arith)
-      ∙ ap (λ (us : List ℕ). us ++ marked all r.0 (length units)) before
-      ∙ marked-parts all r.0 r.1 (length units) (omega arith) end
-      ∙ ap (λ (us : List ℕ). us ++ marked all r.1 (length units)) inside
-      ∙ ap (λ (us : List ℕ). filter kept_at (between r.0 r.1) ++ us) rest
-      ∙ sym (filter-append kept_at (between r.0 r.1) (units_in_runs runs))
-    where
-      lowered : (low : ℕ) (runs : List (ℕ × ℕ)) → are_ordered_from low runs ≡ true → are_ordered_from 0 runs ≡ true
-      lowered low runs h = are_ordered-lower 0 low runs (omega arith) h
+      let before : marked all low r.0 ≡ [] = marked-empty all low r.0 (λ k a b. and_left (in_runs (r ∷ runs) k) (kept_at k) (gap_before 0 (r ∷ runs) k (length units) (are_ordered-lower 0 low (r ∷ runs) (omega arith) ordered) b)) in
+      simp (marked-parts all low r.0 (length units) from (omega arith), before, marked-parts all r.0 r.1 (length units) (omega arith) end, inside, rest, filter-append)
 
   pub seen_units-is : (runs : List (ℕ × ℕ)) → are_ordered runs ≡ true → All (λ r. r.1 ≤ length units) runs → seen_units runs units ≡ filter kept_at (units_in_runs runs)
   seen_units-is runs ordered within = seen-from 0 runs (omega arith) ordered within
@@ -80,16 +63,14 @@ module _ (units : List BidiClass) where
   seen_at runs u fits here =
       let mark = is_seen runs units in
       let one = marked-one mark u (u + 1) (omega arith) here (λ k a b. absurd (omega arith)) in
-      marked-parts mark 0 u (length units) (omega arith) (omega arith)
-      ∙ ap (λ (us : List ℕ). marked mark 0 u ++ us) (marked-parts mark u (u + 1) (length units) (omega arith) (omega arith) ∙ ap (λ (us : List ℕ). us ++ marked mark (u + 1) (length units)) one)
+      simp (marked-parts mark 0 u (length units) (omega arith) (omega arith), marked-parts mark u (u + 1) (length units) (omega arith) (omega arith), one)
 
   -- a unit that differs from all of them is none of them
   not_seen : (runs : List (ℕ × ℕ)) (u : ℕ) → u < length units → All (λ q. q ≢ u) (seen_units runs units) → is_seen runs units u ≡ false
   not_seen runs u fits differ = elim (cases_Bool (is_seen runs units u)) [
     | inl yes' ↦
-        let below = marked (is_seen runs units) 0 u in
         let above = marked (is_seen runs units) (u + 1) (length units) in
-        let here = all_behind (λ q. q ≢ u) below (u ∷ above) (subst (All (λ q. q ≢ u)) (seen_at runs u fits yes') differ) in
+        let here = all_behind (λ q. q ≢ u) (marked (is_seen runs units) 0 u) (u ∷ above) (simp (seen_at runs u fits yes') at differ) in
         absurd (All-head (λ q. q ≢ u) u above here refl)
     | inr no' ↦ no'
   ]
@@ -106,22 +87,11 @@ module _ (len_of : ℕ → ℕ) (h : HasUnits len_of) (chars : List ℕ) (old : 
     (is : at_places L new (filter (λ u. is_kept_in_place (class_at old u)) (units_in_runs runs)) ≡ per_unit len_of (at_places 0 chars (kept_in_place len_of chars old runs)) answers) where
   pub answered-IsPerChar : length new ≡ length old → ((u : ℕ) → is_seen runs old u ≡ false → class_at new u ≡ class_at old u) → IsPerChar len_of chars new
   answered-IsPerChar long others =
-      subst
-      (λ (us : List BidiClass). length answers ≡ length (kept_in_place len_of chars us runs) → at_places L new (filter (λ u. is_kept_in_place (class_at us u)) (units_in_runs runs)) ≡ per_unit len_of (at_places 0 chars (kept_in_place len_of chars us runs)) answers
-      → ((u : ℕ) → All (λ q. q ≢ u) (filter (λ u. is_kept_in_place (class_at us u)) (units_in_runs runs)) → class_at new u ≡ class_at us u) → IsPerChar len_of chars new)
-      (sym per.2)
-      (λ many is others. read_units-per_char len_of h chars per.0 per.1 runs lines new answers many (long ∙ length-from_IsPerChar len_of chars old per) is others)
-      many is (λ u differ. others u (stays u differ))
+      read_units-per_char len_of h chars per.0 per.1 runs lines new answers (simp per.2 at many) (long ∙ length-from_IsPerChar len_of chars old per) (simp per.2 at is)
+      (rw per.2 at (λ (u : ℕ) (differ : All (λ q. q ≢ u) (filter (λ u. is_kept_in_place (class_at old u)) (units_in_runs runs))). others u (stays u differ)))
     where
       stays : (u : ℕ) → All (λ q. q ≢ u) (filter (λ u. is_kept_in_place (class_at old u)) (units_in_runs runs)) → is_seen runs old u ≡ false
-      stays u differ = elim (cases_lt u (length old)) [
-        | inl inside ↦ grind (arith, not_seen, seen_units-is)
-        | inr past ↦ elim (cases_Bool (is_seen runs old u)) [
-          | inl yes' ↦
-              absurd (omega (arith, past, length-from_IsPerChar len_of chars old per, in_runs-within len_of h chars runs lines u (and_parts (in_runs runs u) (is_kept_in_place (class_at old u)) yes').0))
-          | inr no' ↦ no'
-        ]
-      ]
+      stays u differ = grind (arith, not_seen, seen_units-is, length-from_IsPerChar len_of chars old per, in_runs-within len_of h chars runs lines u)
 
 -- a rule that commutes with repetition was applied to the units that are seen, and nothing else was written
 module _ (len_of : ℕ → ℕ) (h : HasUnits len_of) (chars : List ℕ) (old : List BidiClass) (per : IsPerChar len_of chars old) (runs : List (ℕ × ℕ)) (lines : AreLines len_of chars runs) (ordered : are_ordered runs ≡ true)
@@ -135,21 +105,17 @@ module _ (len_of : ℕ → ℕ) (h : HasUnits len_of) (chars : List ℕ) (old : 
   over_units = grind (arith, seen_units-is)
 
   pub ruled-places : (let places = map (place len_of chars) (kept_in_place len_of chars old runs) in at_places L new places ≡ rule (at_places L old places))
-  ruled-places =
-      subst (λ (us : List BidiClass). let places = map (place len_of chars) (kept_in_place len_of chars us runs) in at_places L new places ≡ rule (at_places L us places)) (sym per.2)
-      (read_units-rule len_of h chars per.0 per.1 runs lines rule keeps commutes new over_units)
+  ruled-places = simp per.2 (read_units-rule len_of h chars per.0 per.1 runs lines rule keeps commutes new over_units)
 
   pub ruled-IsPerChar : length new ≡ length old → ((u : ℕ) → is_seen runs old u ≡ false → class_at new u ≡ class_at old u) → IsPerChar len_of chars new
   ruled-IsPerChar long others =
       let ds = λ (us : List BidiClass). at_places 0 chars (kept_in_place len_of chars us runs) in
       let cs = λ (us : List BidiClass). at_places L us (map (place len_of chars) (kept_in_place len_of chars us runs)) in
       let many : length (cs old) ≡ length (kept_in_place len_of chars old runs) = grind (arith, length-at_places, length-map) in
-      let at_old : at_places L old (seen_of old) ≡ per_unit len_of (ds old) (cs old) =
-      subst (λ (us : List BidiClass). at_places L us (seen_of us) ≡ per_unit len_of (ds us) (cs us)) (sym per.2) (read_units-old len_of h chars per.0 per.1 runs lines) in
+      let at_old : at_places L old (seen_of old) ≡ per_unit len_of (ds old) (cs old) = simp per.2 (read_units-old len_of h chars per.0 per.1 runs lines) in
       let seen = seen_units-is old runs ordered within in
       answered-IsPerChar len_of h chars old per runs lines ordered within new (rule (cs old)) (keeps (cs old) ∙ many)
-      (ap (at_places L new) (sym seen) ∙ is ∙ ap (λ (us : List ℕ). rule (at_places L old us)) seen ∙ ap rule at_old
-      ∙ commutes (ds old) (cs old) (HaveUnits-every len_of h (ds old)) (many ∙ sym (length-at_places 0 chars (kept_in_place len_of chars old runs))))
+      (simp seen at is ∙ ap rule at_old ∙ commutes (ds old) (cs old) (HaveUnits-every len_of h (ds old)) (many ∙ sym (length-at_places 0 chars (kept_in_place len_of chars old runs))))
       long others
 
 -- a test that holds of the classes of the characters holds of those of their units
@@ -161,9 +127,7 @@ all_units : (test : BidiClass → Bool) (len_of : ℕ → ℕ) (chars : List ℕ
 all_units test len_of [] cs h = refl
 all_units test len_of (d ∷ ds) [] h = refl
 all_units test len_of (d ∷ ds) (c ∷ cs) h =
-    let parts = and_parts (test c) (list_all test cs) h in
-    list_all-append test (replicate (len_of d) c) (per_unit len_of ds cs)
-    ∙ and_from (list_all test (replicate (len_of d) c)) (list_all test (per_unit len_of ds cs)) (all_replicate test (len_of d) c parts.0) (all_units test len_of ds cs parts.1)
+    grind (arith, list_all-append test (replicate (len_of d) c), all_replicate test (len_of d) c, all_units test len_of ds cs)
 
 pub seen-every : (len_of : ℕ → ℕ) (h : HasUnits len_of) (chars : List ℕ) (units : List BidiClass) → IsPerChar len_of chars units → (runs : List (ℕ × ℕ)) → AreLines len_of chars runs → are_ordered runs ≡ true
     → All (λ r. r.1 ≤ length units) runs → (test : BidiClass → Bool) → list_all test (at_places L units (map (place len_of chars) (kept_in_place len_of chars units runs))) ≡ true
@@ -171,13 +135,7 @@ pub seen-every : (len_of : ℕ → ℕ) (h : HasUnits len_of) (chars : List ℕ)
 seen-every len_of h chars units per runs lines ordered within test all u seen =
     let fits : u < length units =
     omega (arith, length-from_IsPerChar len_of chars units per, in_runs-within len_of h chars runs lines u (and_parts (in_runs runs u) (is_kept_in_place (class_at units u)) seen).0) in
+    let us = per_unit len_of chars per.0 in
     let each : list_all test (at_places L units (filter (λ u. is_kept_in_place (class_at units u)) (units_in_runs runs))) ≡ true =
-    subst (λ (us : List BidiClass). list_all test (at_places L us (map (place len_of chars) (kept_in_place len_of chars us runs))) ≡ true → list_all test (at_places L us (filter (λ u. is_kept_in_place (class_at us u)) (units_in_runs runs))) ≡ true) (sym per.2)
-    (λ all. let us = per_unit len_of chars per.0 in
-    ap (list_all test) (read_units-old len_of h chars per.0 per.1 runs lines) ∙ all_units test len_of (at_places 0 chars (kept_in_place len_of chars us runs)) (at_places L us (map (place len_of chars) (kept_in_place len_of chars us runs))) all) all in
-    let below = marked (is_seen runs units) 0 u in
-    let above = marked (is_seen runs units) (u + 1) (length units) in
-    let parts : list_all test (at_places L units below ++ class_at units u ∷ at_places L units above) ≡ true =
-    ap (list_all test) (sym (at_places-append L units below (u ∷ above)) ∙ ap (at_places L units) (sym (seen_at units runs u fits seen) ∙ seen_units-is units runs ordered within)) ∙ each in
-    let last = and_parts (list_all test (at_places L units below)) (list_all test (class_at units u ∷ at_places L units above)) (sym (list_all-append test (at_places L units below) (class_at units u ∷ at_places L units above)) ∙ parts) in
-    (and_parts (test (class_at units u)) (list_all test (at_places L units above)) last.1).0
+    simp (per.2, read_units-old len_of h chars per.0 per.1 runs lines) (all_units test len_of (at_places 0 chars (kept_in_place len_of chars us runs)) (at_places L us (map (place len_of chars) (kept_in_place len_of chars us runs))) (simp per.2 at all)) in
+    grind (arith, seen_at units runs u, seen_units-is units runs ordered within, at_places-append, list_all-append)

@@ -35,8 +35,8 @@ pub record IsResolved (len_of : ℕ → ℕ) (chars : List ℕ) (source : Source
 at_each : (f : BidiClass → BidiClass) (now new : List BidiClass) (ps : List ℕ) → All (λ u. class_at new u ≡ f (class_at now u)) ps → at_places L new ps ≡ map f (at_places L now ps)
 at_each f now new [] a = refl
 at_each f now new (p ∷ ps) a =
-    ap (λ (c : BidiClass). c ∷ at_places L new ps) (All-head (λ u. class_at new u ≡ f (class_at now u)) p ps a)
-    ∙ ap (λ (cs : List BidiClass). f (class_at now p) ∷ cs) (at_each f now new ps (All-tail (λ u. class_at new u ≡ f (class_at now u)) p ps a))
+    let P : ℕ → Type 0 = λ u. class_at new u ≡ f (class_at now u) in
+    simp (All-head P p ps a, at_each f now new ps (All-tail P p ps a))
 
 -- without a character that is read nothing is to be done
 pub kept-none : (len_of : ℕ → ℕ) (h : HasUnits len_of) (chars : List ℕ) (source : Source) (levels : List ℕ) (original old : List BidiClass) (runs : List (Range ℕ)) (sos eos : BidiClass) → IsReady len_of chars runs sos old
@@ -61,9 +61,7 @@ module _ (len_of : ℕ → ℕ) (h : HasUnits len_of) (chars : List ℕ) (runs :
   pub IsResolved-settled : (e : BidiClass) → e ≡ direction_of (level_at levels (first_or 0 places)) → length new ≡ length now → ((u : ℕ) → in_runs rs u ≡ true → class_at new u ≡ n2_rule e (class_at now u))
       → ((u : ℕ) → in_runs rs u ≡ false → class_at new u ≡ class_at now u) → IsResolved len_of chars source levels original old new runs sos eos
   IsResolved-settled e is long changed same = record {
-    kept = at_each (n2_rule e) now new places (at_read len_of h chars runs sos old ready (λ u. class_at new u ≡ n2_rule e (class_at now u)) (λ u inside reads. changed u inside))
-        ∙ ap (λ (d : BidiClass). map (n2_rule d) (at_places L now places)) is
-        ∙ up.kept;
+    kept = simp is at (at_each (n2_rule e) now new places (at_read len_of h chars runs sos old ready (λ u. class_at new u ≡ n2_rule e (class_at now u)) (λ u inside reads. changed u inside))) ∙ up.kept;
     removed = λ u gone. stays u (up.removed u gone);
     outside = λ u out. same u out ∙ up.outside u out;
     per_char = is_per_char-from_IsPerChar class_eq class_test len_of chars new (IsPerChar-alike len_of chars new (long ∙ length-from_IsPerChar len_of chars now per) even);

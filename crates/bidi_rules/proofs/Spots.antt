@@ -1,8 +1,8 @@
 -- The characters of a sequence that are kept, by their numbers, and the units at which they begin.
-use Rattle.std.proofs.Common.{◌≡◌, ℕ, zero, suc, ◌+◌, ◌-◌, ◌<◌, ◌≤◌, true, Bool, List, [], ◌∷◌, ◌++◌, length, map, get_or, refl, sym, ap, subst, ◌∙◌, arith, inl, inr}
+use Rattle.std.proofs.Common.{◌≡◌, ℕ, zero, suc, ◌+◌, ◌-◌, ◌<◌, ◌≤◌, true, Bool, List, [], ◌∷◌, ◌++◌, length, map, get_or, refl, sym, ap, ◌∙◌, arith, inl, inr}
 use Rattle.std.specs.Prelude.{filter}
 use Rattle.std.specs.List.{range_with_len}
-use Rattle.std.proofs.lemmas.Bool.{cases_Bool, cases_lt, and_parts, and_from, cond-true, or_cases}
+use Rattle.std.proofs.lemmas.Bool.{cases_Bool, cases_lt, and_parts, or_cases}
 use Rattle.std.proofs.lemmas.List.{length-map}
 use Rattle.std.proofs.lemmas.List.Elements.{All-head, All-tail, All-filter}
 use Rattle.bidi_base.specs.declared.char_data.BidiClass.{BidiClass}
@@ -60,7 +60,7 @@ has-filter test c passes (x ∷ xs) zero fits is = grind arith
 has-filter test c passes (x ∷ xs) (suc k) fits is =
     let rest = has-filter test c passes xs k (omega arith) is in
     elim (cases_Bool (test x)) [
-      | inl yes' ↦ subst (λ (ys : List ℕ). Has ys c) (sym (cond-true (test x) (x ∷ filter test xs) (filter test xs) yes')) (has-later x c (filter test xs) rest)
+      | inl yes' ↦ simp yes' (has-later x c (filter test xs) rest)
       | inr no' ↦ grind arith
     ]
 
@@ -71,9 +71,8 @@ ascends-at low high (k ∷ ks) (suc i) h fits = let rest = ascends-at (k + 1) hi
 
 ascends-lt : (low high : ℕ) (ks : List ℕ) (i j : ℕ) → Ascends low ks high → i < j → j < length ks → get_or ks i 0 < get_or ks j 0
 ascends-lt low high [] i j h order fits = absurd (omega arith)
-ascends-lt low high (k ∷ ks) zero zero h order fits = absurd (omega arith)
+ascends-lt low high (k ∷ ks) i zero h order fits = absurd (omega arith)
 ascends-lt low high (k ∷ ks) zero (suc j) h order fits = let later = ascends-at (k + 1) high ks j h.1 (omega arith) in omega (arith, later.0)
-ascends-lt low high (k ∷ ks) (suc i) zero h order fits = absurd (omega arith)
 ascends-lt low high (k ∷ ks) (suc i) (suc j) h order fits = ascends-lt (k + 1) high ks i j h.1 (omega arith) (omega arith)
 
 module _ (len_of : ℕ → ℕ) (h : HasUnits len_of) (chars : List ℕ) (old : List BidiClass) (runs : List (ℕ × ℕ)) (lines : AreLines len_of chars runs) (ordered : are_ordered runs ≡ true) where
@@ -105,6 +104,12 @@ module _ (len_of : ℕ → ℕ) (h : HasUnits len_of) (chars : List ℕ) (old : 
   pub spot-rises : (i j : ℕ) → i < j → at i < at j
   spot-rises i j order = grind (arith, spot-behind, behind-spot, place-le)
 
+  pub spot-upto : (i j : ℕ) → i ≤ j → at i ≤ at j
+  spot-upto i j order = grind (arith, spot-rises i j)
+
+  pub spot-lower : (i j : ℕ) → at i < at j → i < j
+  spot-lower i j less = grind (arith, spot-upto j i)
+
   -- the class of the k-th
   pub class-at : (units : List BidiClass) (k : ℕ) → k < length ks → class_at (values_of L len_of chars units ks) k ≡ class_at units (at k)
   class-at units k fits = by_list ks k fits ∙ ap (class_at units) (sym (spot-in k fits))
@@ -119,8 +124,7 @@ module _ (len_of : ℕ → ℕ) (h : HasUnits len_of) (chars : List ℕ) (old : 
   spot-seen k fits =
       let test : ℕ → Bool = λ c. is_kept_in_place (class_at old (place len_of chars c)) in
       let inside = All-filter test (λ c. in_runs runs (place len_of chars c) ≡ true) (chars_in_runs len_of chars runs) (places_in_runs len_of h chars runs lines) k 0 fits in
-      let kept = all_pass test (chars_in_runs len_of chars runs) k 0 fits in
-      ap (is_seen runs old) (spot-in k fits) ∙ and_from (in_runs runs (place len_of chars (get_or ks k 0))) (test (get_or ks k 0)) inside kept
+      simp (spot-in k fits, inside, all_pass test (chars_in_runs len_of chars runs) k 0 fits)
 
   -- ---- the character of a unit
 
@@ -135,9 +139,7 @@ module _ (len_of : ℕ → ℕ) (h : HasUnits len_of) (chars : List ℕ) (old : 
       elim (or_cases (in_run r (place len_of chars c)) (in_runs rs (place len_of chars c)) inside) [
         | inl here ↦
             let ends = in_run-true r (place len_of chars c) here in
-            let from : i ≤ c = grind (arith, place-le-back) in
-            let upto : c < j = grind (arith, place-mono) in
-            let there = has-range c i (j - i) from (omega arith) in
+            let there = has-range c i (j - i) (grind (arith, place-le-back)) (grind (arith, place-mono)) in
             has-left c (between i j) (chars_in_runs len_of chars rs) there.0 there.1 there.2
         | inr later ↦ has-right c (between i j) (chars_in_runs len_of chars rs) (has-runs c within rs (All-tail (λ (q : ℕ × ℕ). IsLine len_of chars q.0 q.1) r rs lines') later)
       ]

@@ -1,14 +1,13 @@
 -- What the operations of the machine do to a stack of entries.
-use Rattle.std.proofs.Common.{◌≡◌, ℕ, suc, ◌+◌, ◌-◌, ◌<◌, ◌≤◌, Bool, true, false, cond, List, [], ◌∷◌, ◌++◌, length, map, reverse, sym, ap, subst, ◌∙◌, arith, leb-true, Option}
+use Rattle.std.proofs.Common.{◌≡◌, ℕ, ◌+◌, ◌-◌, ◌<◌, ◌≤◌, true, false, cond, List, [], ◌∷◌, ◌++◌, length, map, reverse, ◌∙◌, arith, Option}
 use Rattle.std.proofs.lemmas.Grind.{common_steps}
 use Rattle.std.specs.Option.{option_to_list}
 use Rattle.std.specs.Prelude.{IsSome}
-use Rattle.std.proofs.lemmas.Bool.{cond-true, cond-false, and_parts}
+use Rattle.std.proofs.lemmas.Bool.{cond-true, cond-false}
 use Rattle.std.proofs.lemmas.List.{reverse-append, length-reverse, length-map}
 use Rattle.bidi_base.specs.declared.char_data.BidiClass.{BidiClass}
 use Rattle.bidi_base.specs.Classes.{is_initiator, is_opener, is_pdi, is_pdf}
 use Rattle.bidi_base.specs.StatusMachine.{Entry, State, entry_of, taken, refused, entered, fits_in, with_stack, drop_isolate, close_isolate, close_embedding, closed, opened, IsPoppable, IsWithinDepth}
-use Rattle.bidi_base.specs.Explicit.{asked_level}
 use Rattle.bidi_base.proofs.StatusBounds.{IsTaken-room}
 use Rattle.bidi_rules.specs.declared.explicit.status.StatusEntry.{StatusEntry}
 use Rattle.bidi_rules.specs.Status.{entry_count, seen, state_by}
@@ -64,10 +63,7 @@ entered_on c xs x i e v w some fits same more = grind (arith, common_steps)
 pub entered_pushed : (c : BidiClass) (s : State) (items new : List StatusEntry) (x : StatusEntry) (i e v w : ℕ) → state_by (reverse items) i e v ≡ s → 0 < length items → new ≡ items ++ x ∷ [] → fits_in c s ≡ true → seen x ≡ entry_of c s → w ≡ v + cond (is_initiator c) 1 0
     → state_by (reverse new) i e w ≡ entered c s
 entered_pushed c s items new x i e v w is some pushed fits same more =
-    let back : reverse new ≡ x ∷ reverse items = ap reverse pushed ∙ reverse-append items (x ∷ []) in
-    ap (λ (xs : List StatusEntry). state_by xs i e w) back
-    ∙ entered_on c (reverse items) x i e v w (omega (arith, length-reverse items)) (subst (λ (t : State). fits_in c t ≡ true) (sym is) fits) (subst (λ (t : State). seen x ≡ entry_of c t) (sym is) same) more
-    ∙ ap (entered c) is
+    simp (pushed, reverse-append, ← is) (entered_on c (reverse items) x i e v w (omega (arith, length-reverse items)) (simp is fits) (simp is same) more)
 
 entered_refused : (c : BidiClass) (s : State) → fits_in c s ≡ false → entered c s ≡ refused c s
 unfolding entered
@@ -83,18 +79,12 @@ pub entered_inside : (c : BidiClass) (s : State) (xs : List StatusEntry) (i e v 
 entered_inside c s xs i e v is fails other some = grind (arith, entered_refused)
 
 -- how many entries there are
-entry_count-cond : (b : Bool) (s t : State) (n : ℕ) → entry_count s ≤ n → entry_count t ≤ n → entry_count (cond b s t) ≤ n
-entry_count-cond b s t n h k = grind arith
-
 entry_count-with_stack : (s : State) (es : List Entry) (n : ℕ) → entry_count s ≤ n → length es ≤ n → entry_count (with_stack s es) ≤ n
 entry_count-with_stack s es n h k = grind arith
 
-length-either : (b : Bool) (xs ys : List Entry) (n : ℕ) → length xs ≤ n → length ys ≤ n → length (cond b xs ys) ≤ n
-length-either b xs ys n h k = grind arith
-
 length-drop_isolate : (es : List Entry) → length (drop_isolate es) ≤ length es
 length-drop_isolate [] = omega arith
-length-drop_isolate (e ∷ es) = length-either e.is_isolate es (drop_isolate es) (suc (length es)) (omega arith) (omega (arith, length-drop_isolate es))
+length-drop_isolate (e ∷ es) = grind (arith, length-drop_isolate es)
 
 pub entry_count-close_isolate : (s : State) → entry_count (close_isolate s) ≤ entry_count s
 unfolding close_isolate
@@ -137,7 +127,4 @@ opened-other c s e = cond-false (is_opener c) _ _ e
 -- it finds room
 pub fits_in-room : (paragraph : ℕ) (c : BidiClass) (s : State) (items : List StatusEntry) (i e v : ℕ) → state_by (reverse items) i e v ≡ s → 0 < length items → IsWithinDepth paragraph s → fits_in c s ≡ true → length items < 126
 fits_in-room paragraph c s items i e v is some depth fits =
-    let low : asked_level c s.top.status.level ≤ 125 = leb-true _ _ (and_parts _ _ (and_parts _ _ fits).0).0 in
-    let room : length (s.top ∷ s.below) < 126 = IsTaken-room paragraph c s depth low in
-    let long : length (s.top ∷ s.below) ≡ length items = grind (arith, state_by-length, length-reverse) in
-    omega arith
+    grind (arith, state_by-length, length-reverse, IsTaken-room paragraph c s depth)

@@ -1,8 +1,8 @@
 -- Ranges in order, and the walks over the units of some of them.
-use Rattle.std.proofs.Common.{◌≡◌, ℕ, zero, suc, ◌+◌, ◌-◌, ◌<◌, ◌≤◌, true, ◌&&◌, leb, ltb, List, [], ◌∷◌, ◌++◌, length, map, get_or, take, drop, reverse, Some, append-nil, refl, sym, ap, ◌∙◌, arith, length-append, lt-ltb}
+use Rattle.std.proofs.Common.{◌≡◌, ℕ, zero, suc, ◌+◌, ◌-◌, ◌<◌, ◌≤◌, true, List, [], ◌∷◌, ◌++◌, length, map, get_or, take, drop, reverse, Some, append-nil, refl, sym, ap, ◌∙◌, arith, length-append, lt-ltb}
 use Rattle.std.proofs.lemmas.List.Elements.{All-head, All-tail}
 use Rattle.std.specs.Prelude.{IsTrue, All}
-use Rattle.std.proofs.lemmas.Bool.{and_parts, and_from, le-leb}
+use Rattle.std.proofs.lemmas.Bool.{le-leb}
 use Rattle.std.proofs.lemmas.List.{map-append, reverse-append, get_or-map}
 use Rattle.std.proofs.lemmas.Slice.{between_to_end}
 use Rattle.std.proofs.lemmas.Grind.{flat_map-append}
@@ -31,9 +31,8 @@ pub are_ordered-take : (low k : ℕ) (runs : List (ℕ × ℕ)) → are_ordered_
 are_ordered-take low zero runs h = refl
 are_ordered-take low (suc k) [] h = refl
 are_ordered-take low (suc k) (r ∷ runs) h =
-    let parts = and_parts (leb low r.0) (ltb r.0 r.1 && are_ordered_from r.1 runs) h in
-    let others = and_parts (ltb r.0 r.1) (are_ordered_from r.1 runs) parts.1 in
-    and_from _ _ parts.0 (and_from _ _ others.0 (are_ordered-take r.1 k runs others.1))
+    let f = are_ordered-front low r runs h in
+    simp (le-leb low r.0 f.from, lt-ltb r.0 r.1 f.not_empty, are_ordered-take r.1 k runs f.later)
 
 pub are_ordered-drop : (low k : ℕ) (runs : List (ℕ × ℕ)) → are_ordered_from low runs ≡ true → are_ordered_from low (drop k runs) ≡ true
 are_ordered-drop low zero runs h = h
@@ -46,10 +45,9 @@ are_ordered-drop low (suc k) (r ∷ runs) h =
 pub are_ordered-last : (low : ℕ) (runs : List (ℕ × ℕ)) (r : ℕ × ℕ) → are_ordered_from low (runs ++ r ∷ []) ≡ true → (are_ordered_from low runs ≡ true) × (r.0 < r.1)
 are_ordered-last low [] r h = (refl, (are_ordered-front low r [] h).not_empty)
 are_ordered-last low (q ∷ runs) r h =
-    let parts = and_parts (leb low q.0) (ltb q.0 q.1 && are_ordered_from q.1 (runs ++ r ∷ [])) h in
-    let others = and_parts (ltb q.0 q.1) (are_ordered_from q.1 (runs ++ r ∷ [])) parts.1 in
-    let rest = are_ordered-last q.1 runs r others.1 in
-    (and_from _ _ parts.0 (and_from _ _ others.0 rest.0), rest.1)
+    let f = are_ordered-front low q (runs ++ r ∷ []) h in
+    let rest = are_ordered-last q.1 runs r f.later in
+    (simp (le-leb low q.0 f.from, lt-ltb q.0 q.1 f.not_empty, rest.0), rest.1)
 
 -- the first number of a range, and the last
 pub between-first : (low high : ℕ) → low < high → between low high ≡ low ∷ between (low + 1) high
@@ -117,13 +115,11 @@ is_run_sequence-ordered runs sos eos h = grind arith steps 400000
 
 -- one more range after all others
 pub are_ordered-push : (low : ℕ) (runs : List (ℕ × ℕ)) (r : ℕ × ℕ) → low ≤ r.0 → r.0 < r.1 → All (λ (q : ℕ × ℕ). q.1 ≤ r.0) runs → are_ordered_from low runs ≡ true → are_ordered_from low (runs ++ r ∷ []) ≡ true
-are_ordered-push low [] r from some all h = and_from _ _ (le-leb low r.0 from) (and_from _ _ (lt-ltb r.0 r.1 some) refl)
+are_ordered-push low [] r from some all h = simp (le-leb low r.0 from, lt-ltb r.0 r.1 some)
 are_ordered-push low (q ∷ runs) r from some all h =
-    let parts = and_parts (leb low q.0) (ltb q.0 q.1 && are_ordered_from q.1 runs) h in
-    let others = and_parts (ltb q.0 q.1) (are_ordered_from q.1 runs) parts.1 in
-    and_from _ _ parts.0
-    (and_from _ _ others.0
-    (are_ordered-push q.1 runs r (All-head (λ (x : ℕ × ℕ). x.1 ≤ r.0) q runs all) some (All-tail (λ (x : ℕ × ℕ). x.1 ≤ r.0) q runs all) others.1))
+    let f = are_ordered-front low q runs h in
+    let P = λ (x : ℕ × ℕ). x.1 ≤ r.0 in
+    simp (le-leb low q.0 f.from, lt-ltb q.0 q.1 f.not_empty, are_ordered-push q.1 runs r (All-head P q runs all) some (All-tail P q runs all) f.later)
 
 pub is_run_sequence-push : (runs : List (ℕ × ℕ)) (r : ℕ × ℕ) (sos eos after : BidiClass) → r.0 < r.1 → All (λ (q : ℕ × ℕ). q.1 ≤ r.0) runs → IsTrue (is_l_or_r after) → IsTrue (is_run_sequence runs sos eos) → IsTrue (is_run_sequence (runs ++ r ∷ []) sos after)
 is_run_sequence-push runs r sos eos after some all side h = grind (arith, length-append, are_ordered-push)

@@ -1,13 +1,12 @@
 -- The pass from the front gives W1 to W7.
-use Rattle.std.proofs.Common.{◌≡◌, ℕ, zero, suc, Bool, true, false, not, ◌||◌, if◌then◌else◌, List, [], ◌∷◌, ◌++◌, replicate, refl, sym, ap, ◌∙◌, append-nil, arith, rules}
+use Rattle.std.proofs.Common.{◌≡◌, ℕ, zero, suc, Bool, true, false, not, if◌then◌else◌, List, [], ◌∷◌, ◌++◌, replicate, refl, ◌∙◌, append-nil, arith, rules}
 use Rattle.bidi_base.specs.declared.char_data.BidiClass.{BidiClass}
-use Rattle.bidi_base.specs.declared.char_data.BidiClass.TheVariants.{L, R, EN, ES, ET, AN, CS, ON}
+use Rattle.bidi_base.specs.declared.char_data.BidiClass.TheVariants.{EN, ES, ET, AN, CS, ON}
 use Rattle.bidi_rules.specs.declared.implicit.weak.steps.Before.{Before}
 use Rattle.bidi_rules.specs.declared.implicit.weak.steps.Before.TheVariants.{Other, European, EuropeanTerminators, Arabic, Terminators, EuropeanSeparator, ArabicSeparator}
 use Rattle.bidi_base.specs.Classes.{is_strong, is_nsm, is_et, is_en, is_l, is_l_or_r}
 use Rattle.bidi_base.specs.Places.{nearest, nearest_is, in_context}
 use Rattle.bidi_base.specs.Weak.{carried, w1_rule, w2_rule, w3_rule, w4_rule, w5_rule, w6_rule, w7_rule, w1, w3, w6, weak_classes}
-use Rattle.bidi_rules.proofs.Marks.{cons_both}
 use Rattle.bidi_base.proofs.PlacesLemmas.{nearest-more}
 use Rattle.bidi_rules.specs.WeakPass.{marked, after_w1, strengthened, strong_up_to, after_w3, waits, is_beside_european, w7_by, after_w7}
 
@@ -20,7 +19,7 @@ marked-next m sos x before h = grind arith
 pub after_w1-is : (sos m : BidiClass) (before xs : List BidiClass) → m ≡ carried (nearest (λ c. not (is_nsm c)) before sos) → in_context (w1_rule sos) before xs ≡ after_w1 m xs
 after_w1-is sos m before [] h = refl
 after_w1-is sos m before (x ∷ xs) h =
-    cons_both _ _ _ _ (marked-is m sos x before xs h) (after_w1-is sos (carried (marked m x)) (x ∷ before) xs (marked-next m sos x before h))
+    grind (arith, marked-is m sos x before xs, marked-next m sos x before, after_w1-is sos (carried (marked m x)) (x ∷ before) xs)
 
 strengthened-is : (strong sos y : BidiClass) (before after : List BidiClass) → strong ≡ nearest is_strong before sos → w3_rule (w2_rule sos before y after) ≡ strengthened strong y
 strengthened-is strong sos y before after h = grind arith
@@ -28,8 +27,7 @@ strengthened-is strong sos y before after h = grind arith
 after_w3-is : (sos strong : BidiClass) (before ys : List BidiClass) → strong ≡ nearest is_strong before sos → w3 (in_context (w2_rule sos) before ys) ≡ after_w3 strong ys
 after_w3-is sos strong before [] h = refl
 after_w3-is sos strong before (y ∷ ys) h =
-    cons_both _ _ _ _ (strengthened-is strong sos y before ys h)
-    (after_w3-is sos (strong_up_to strong y) (y ∷ before) ys (ap (λ (c : BidiClass). if is_strong y then y else c) h ∙ sym (nearest-more is_strong y before sos)))
+    grind (arith, strengthened-is strong sos y before ys, nearest-more, after_w3-is sos (strong_up_to strong y) (y ∷ before) ys)
 
 -- W4 to W7
 abbrev after_all : BidiClass → List BidiClass → List BidiClass → List BidiClass → List BidiClass → List BidiClass
@@ -48,9 +46,6 @@ number_of _ = ON
 
 abbrev is_european : List BidiClass → Bool
 is_european = nearest_is (λ c. not (is_et c)) is_en
-
-w4-plain : (before : List BidiClass) (c : BidiClass) (after : List BidiClass) → (c ≡ ES → ⊥) → (c ≡ CS → ⊥) → w4_rule before c after ≡ c
-w4-plain before c after a b = grind arith
 
 -- one character, where its class by W4, W5 and W6 is known
 one : (sos : BidiClass) (after_l : Bool) (b4 b5 b7 : List BidiClass) (z c4 c5 c6 : BidiClass) (zs : List BidiClass)
@@ -100,14 +95,11 @@ terminators-behind : (sos : BidiClass) (after_l : Bool) (rest : List BidiClass) 
     → (n : ℕ) (b4 b5 b7 : List BidiClass) → is_european b5 ≡ false → after_l ≡ is_l (nearest is_l_or_r b7 sos)
     → IsBehind sos after_l (replicate (suc n) (w7_by after_l (w6_rule (if d then EN else ET)))) (after_all sos b4 b5 b7 (ET ∷ (replicate n ET ++ rest))) rest
 terminators-behind sos after_l rest d h zero b4 b5 b7 none left =
-    let e5 : w5_rule b5 ET (in_context w4_rule (ET ∷ b4) rest) ≡ (if d then EN else ET) =
-    ap (λ b. if b || is_european (in_context w4_rule (ET ∷ b4) rest) then EN else ET) none ∙ ap (λ b. if b then EN else ET) (h b4)
-    in
     record {
       c4 = ET ∷ b4;
       c5 = ET ∷ b5;
       c7 = w6_rule (if d then EN else ET) ∷ b7;
-      is = one sos after_l b4 b5 b7 ET ET (if d then EN else ET) (w6_rule (if d then EN else ET)) rest (w4-plain b4 ET rest (λ e. cc e) (λ e. cc e)) e5 refl left;
+      is = one sos after_l b4 b5 b7 ET ET (if d then EN else ET) (w6_rule (if d then EN else ET)) rest (grind arith) (simp (none, h b4)) refl left;
       number = refl;
       beside = none;
       left = left-terminator sos after_l b7 d left;
@@ -115,10 +107,6 @@ terminators-behind sos after_l rest d h zero b4 b5 b7 none left =
 terminators-behind sos after_l rest d h (suc n) b4 b5 b7 none left =
     let more = ET ∷ (replicate n ET ++ rest) in
     let c6 = w6_rule (if d then EN else ET) in
-    let e5 : w5_rule b5 ET (in_context w4_rule (ET ∷ b4) more) ≡ (if d then EN else ET) =
-    ap (λ b. if b || is_european (in_context w4_rule (ET ∷ b4) more) then EN else ET) none
-    ∙ ap (λ b. if b then EN else ET) (is_european-terminators rest d h (suc n) b4)
-    in
     let r : IsBehind sos after_l (replicate (suc n) (w7_by after_l c6)) (after_all sos (ET ∷ b4) (ET ∷ b5) (c6 ∷ b7) more) rest =
     terminators-behind sos after_l rest d h n (ET ∷ b4) (ET ∷ b5) (c6 ∷ b7) none (left-terminator sos after_l b7 d left)
     in
@@ -126,16 +114,15 @@ terminators-behind sos after_l rest d h (suc n) b4 b5 b7 none left =
       c4 = r.c4;
       c5 = r.c5;
       c7 = r.c7;
-      is = one sos after_l b4 b5 b7 ET ET (if d then EN else ET) c6 more (w4-plain b4 ET more (λ e. cc e) (λ e. cc e)) e5 refl left
-          ∙ ap (λ (cs : List BidiClass). w7_by after_l c6 ∷ cs) r.is;
+      is = simp (one sos after_l b4 b5 b7 ET ET (if d then EN else ET) c6 more (grind arith) (simp (none, is_european-terminators rest d h (suc n) b4)) refl left, r.is);
       number = r.number;
       beside = r.beside;
       left = r.left;
     }
 
-replicate-onto : (n : ℕ) (zs : List BidiClass) → replicate n ET ++ (ET ∷ zs) ≡ ET ∷ (replicate n ET ++ zs)
-replicate-onto zero zs = refl
-replicate-onto (suc n) zs = ap (λ (cs : List BidiClass). ET ∷ cs) (replicate-onto n zs)
+pub replicate-onto : (c : BidiClass) (n : ℕ) (zs : List BidiClass) → replicate n c ++ (c ∷ zs) ≡ c ∷ (replicate n c ++ zs)
+replicate-onto c zero zs = refl
+replicate-onto c (suc n) zs = simp (replicate-onto c n zs)
 
 module _ (sos : BidiClass) (zs : List BidiClass) (next : IsRight sos zs) where
   -- a terminator behind a European number
@@ -143,31 +130,13 @@ module _ (sos : BidiClass) (zs : List BidiClass) (next : IsRight sos zs) where
       → after_all sos b4 b5 b7 (ET ∷ zs) ≡ w7_by after_l EN ∷ after_w7 after_l EuropeanTerminators 0 zs
   past_terminator b4 b5 b7 after_l european left = grind arith
 
-  separator : (b4 b5 b7 : List BidiClass) (after_l : Bool) (before : Before) → waits before ≡ false → IsPassed sos b4 b5 b7 after_l before
-      → after_all sos b4 b5 b7 (ES ∷ zs) ≡ after_w7 after_l before 0 (ES ∷ zs)
-  separator b4 b5 b7 after_l before free h = grind arith
-
-  common_separator : (b4 b5 b7 : List BidiClass) (after_l : Bool) (before : Before) → waits before ≡ false → IsPassed sos b4 b5 b7 after_l before
-      → after_all sos b4 b5 b7 (CS ∷ zs) ≡ after_w7 after_l before 0 (CS ∷ zs)
-  common_separator b4 b5 b7 after_l before free h = grind arith
-
   terminator : (b4 b5 b7 : List BidiClass) (after_l : Bool) (before : Before) → waits before ≡ false → IsPassed sos b4 b5 b7 after_l before
       → after_all sos b4 b5 b7 (ET ∷ zs) ≡ after_w7 after_l before 0 (ET ∷ zs)
-  terminator b4 b5 b7 after_l Other free h = next.terminators 0 b4 b5 b7 after_l h.beside h.left
-  terminator b4 b5 b7 after_l Arabic free h = next.terminators 0 b4 b5 b7 after_l h.beside h.left
-  terminator b4 b5 b7 after_l European free h = past_terminator b4 b5 b7 after_l h.beside h.left
-  terminator b4 b5 b7 after_l EuropeanTerminators free h = past_terminator b4 b5 b7 after_l h.beside h.left
-  terminator b4 b5 b7 after_l _ free h = absurd (cc free)
+  terminator b4 b5 b7 after_l before free h = grind (arith, past_terminator, next.terminators 0)
 
   ready-more : (z : BidiClass) (before : Before) (b4 b5 b7 : List BidiClass) (after_l : Bool) → waits before ≡ false → IsPassed sos b4 b5 b7 after_l before
       → after_all sos b4 b5 b7 (z ∷ zs) ≡ after_w7 after_l before 0 (z ∷ zs)
-  ready-more EN before b4 b5 b7 after_l free h = grind arith
-  ready-more AN before b4 b5 b7 after_l free h = grind arith
   ready-more ET before b4 b5 b7 after_l free h = terminator b4 b5 b7 after_l before free h
-  ready-more ES before b4 b5 b7 after_l free h = separator b4 b5 b7 after_l before free h
-  ready-more CS before b4 b5 b7 after_l free h = common_separator b4 b5 b7 after_l before free h
-  ready-more L before b4 b5 b7 after_l free h = grind arith
-  ready-more R before b4 b5 b7 after_l free h = grind arith
   ready-more z before b4 b5 b7 after_l free h = grind arith
 
   -- behind what waited, where it is not joined
@@ -179,49 +148,33 @@ module _ (sos : BidiClass) (zs : List BidiClass) (next : IsRight sos zs) where
       → after_all sos b4 b5 b7 (ET ∷ (replicate n ET ++ (z ∷ zs))) ≡ after_w7 after_l Terminators (suc n) (z ∷ zs)
   terminators-other z other n b4 b5 b7 after_l none left =
       let cells = replicate (suc n) (w7_by after_l (w6_rule (if is_en z then EN else ET))) in
-      let r : IsBehind sos after_l cells (after_all sos b4 b5 b7 (ET ∷ (replicate n ET ++ (z ∷ zs)))) (z ∷ zs) = grind (arith, terminators-behind)
-      in
-      r.is
-      ∙ ap (λ (cs : List BidiClass). cells ++ cs) (ready-more z Other r.c4 r.c5 r.c7 after_l refl (record { number = r.number; beside = r.beside; left = r.left }))
-      ∙ settled-terminators n after_l z other
+      let r : IsBehind sos after_l cells (after_all sos b4 b5 b7 (ET ∷ (replicate n ET ++ (z ∷ zs)))) (z ∷ zs) = grind (arith, terminators-behind) in
+      simp (r.is, ready-more z Other r.c4 r.c5 r.c7 after_l refl (record { number = r.number; beside = r.beside; left = r.left })) (settled-terminators n after_l z other)
 
   terminators-more : (z : BidiClass) (n : ℕ) (b4 b5 b7 : List BidiClass) (after_l : Bool) → is_european b5 ≡ false → after_l ≡ is_l (nearest is_l_or_r b7 sos)
       → after_all sos b4 b5 b7 (ET ∷ (replicate n ET ++ (z ∷ zs))) ≡ after_w7 after_l Terminators (suc n) (z ∷ zs)
-  terminators-more ET n b4 b5 b7 after_l none left =
-      ap (λ (cs : List BidiClass). after_all sos b4 b5 b7 (ET ∷ cs)) (replicate-onto n zs) ∙ next.terminators (suc n) b4 b5 b7 after_l none left
+  terminators-more ET n b4 b5 b7 after_l none left = simp (replicate-onto ET n zs) (next.terminators (suc n) b4 b5 b7 after_l none left)
   terminators-more z n b4 b5 b7 after_l none left = terminators-other z refl n b4 b5 b7 after_l none left
 
   plus-more : (z : BidiClass) (b4 b5 b7 : List BidiClass) (after_l : Bool) → after_l ≡ is_l (nearest is_l_or_r b7 sos)
       → after_all sos (EN ∷ b4) b5 b7 (ES ∷ (z ∷ zs)) ≡ after_w7 after_l EuropeanSeparator 1 (z ∷ zs)
-  plus-more EN b4 b5 b7 after_l left = grind arith
   plus-more z b4 b5 b7 after_l left =
-      one sos after_l (EN ∷ b4) b5 b7 ES ES ES ON (z ∷ zs) refl refl refl left
-      ∙ ap (λ (cs : List BidiClass). ON ∷ cs)
-      (ready-more z Other (ES ∷ (EN ∷ b4)) (ES ∷ b5) (ON ∷ b7) after_l refl (record { number = refl; beside = refl; left = left }))
+      grind (arith, ready-more z Other (ES ∷ (EN ∷ b4)) (ES ∷ b5) (ON ∷ b7) after_l refl (record { number = refl; beside = refl; left = left }))
 
   comma-more : (z : BidiClass) (b4 b5 b7 : List BidiClass) (after_l : Bool) → after_l ≡ is_l (nearest is_l_or_r b7 sos)
       → after_all sos (EN ∷ b4) b5 b7 (CS ∷ (z ∷ zs)) ≡ after_w7 after_l EuropeanSeparator 1 (z ∷ zs)
-  comma-more EN b4 b5 b7 after_l left = grind arith
   comma-more z b4 b5 b7 after_l left =
-      one sos after_l (EN ∷ b4) b5 b7 CS CS CS ON (z ∷ zs) refl refl refl left
-      ∙ ap (λ (cs : List BidiClass). ON ∷ cs)
-      (ready-more z Other (CS ∷ (EN ∷ b4)) (CS ∷ b5) (ON ∷ b7) after_l refl (record { number = refl; beside = refl; left = left }))
+      grind (arith, ready-more z Other (CS ∷ (EN ∷ b4)) (CS ∷ b5) (ON ∷ b7) after_l refl (record { number = refl; beside = refl; left = left }))
 
   arabic-more : (z : BidiClass) (b4 b5 b7 : List BidiClass) (after_l : Bool) → after_l ≡ is_l (nearest is_l_or_r b7 sos)
       → after_all sos (AN ∷ b4) b5 b7 (CS ∷ (z ∷ zs)) ≡ after_w7 after_l ArabicSeparator 1 (z ∷ zs)
-  arabic-more AN b4 b5 b7 after_l left = grind arith
   arabic-more z b4 b5 b7 after_l left =
-      one sos after_l (AN ∷ b4) b5 b7 CS CS CS ON (z ∷ zs) refl refl refl left
-      ∙ ap (λ (cs : List BidiClass). ON ∷ cs)
-      (ready-more z Other (CS ∷ (AN ∷ b4)) (CS ∷ b5) (ON ∷ b7) after_l refl (record { number = refl; beside = refl; left = left }))
+      grind (arith, ready-more z Other (CS ∷ (AN ∷ b4)) (CS ∷ b5) (ON ∷ b7) after_l refl (record { number = refl; beside = refl; left = left }))
 
 terminators-end : (sos : BidiClass) (n : ℕ) (b4 b5 b7 : List BidiClass) (after_l : Bool) → is_european b5 ≡ false → after_l ≡ is_l (nearest is_l_or_r b7 sos)
     → after_all sos b4 b5 b7 (ET ∷ (replicate n ET ++ [])) ≡ after_w7 after_l Terminators (suc n) []
 terminators-end sos n b4 b5 b7 after_l none left =
-    let r : IsBehind sos after_l (replicate (suc n) ON) (after_all sos b4 b5 b7 (ET ∷ (replicate n ET ++ []))) [] =
-    terminators-behind sos after_l [] false (λ b. refl) n b4 b5 b7 none left
-    in
-    r.is ∙ append-nil (replicate (suc n) ON)
+    (terminators-behind sos after_l [] false (λ b. refl) n b4 b5 b7 none left).is ∙ append-nil (replicate (suc n) ON)
 
 is_right : (sos : BidiClass) (zs : List BidiClass) → IsRight sos zs
 is_right sos [] = search (rules, terminators-end)
@@ -239,5 +192,4 @@ is_right sos (z ∷ zs) =
 pub weak_classes-pass : (sos : BidiClass) (xs : List BidiClass) → weak_classes sos xs ≡ after_w7 (is_l sos) Other 0 (after_w3 sos (w1 sos xs))
 unfolding weak_classes
 weak_classes-pass sos xs =
-    (is_right sos (w3 (in_context (w2_rule sos) [] (w1 sos xs)))).ready Other [] [] [] (is_l sos) refl (record { number = refl; beside = refl; left = refl })
-    ∙ ap (after_w7 (is_l sos) Other 0) (after_w3-is sos sos [] (w1 sos xs) refl)
+    simp (← after_w3-is sos sos [] (w1 sos xs) refl) ((is_right sos (w3 (in_context (w2_rule sos) [] (w1 sos xs)))).ready Other [] [] [] (is_l sos) refl (record { number = refl; beside = refl; left = refl }))

@@ -1,16 +1,15 @@
 -- The weak passes over the units of a text: what stands at the characters once all are done.
-use Rattle.std.proofs.Common.{◌≡◌, ℕ, zero, suc, ◌+◌, ◌-◌, ◌<◌, ◌≤◌, Bool, true, false, List, [], ◌∷◌, length, map, get_or, take, None, refl, sym, ap, subst, ◌∙◌, arith, inl, inr}
+use Rattle.std.proofs.Common.{◌≡◌, ℕ, zero, suc, ◌+◌, ◌-◌, ◌<◌, ◌≤◌, Bool, true, false, List, [], length, map, get_or, refl, sym, ap, ◌∙◌, arith, inl, inr}
 use Rattle.std.specs.Prelude.{All, filter}
 use Rattle.std.specs.List.{range_with_len}
-use Rattle.std.proofs.lemmas.Bool.{cases_Bool, cases_eq, and_parts, and_left, and_right, le-ltb, ne_eqb}
+use Rattle.std.proofs.lemmas.Bool.{cases_Bool, cases_eq, and_parts, and_left, and_right}
 use Rattle.std.proofs.lemmas.List.{length-map}
-use Rattle.std.proofs.lemmas.List.Sums.{sum_by-cons}
 use Rattle.bidi_base.specs.declared.char_data.BidiClass.{BidiClass}
 use Rattle.bidi_base.specs.declared.char_data.BidiClass.TheVariants.{L, BN}
-use Rattle.bidi_base.specs.Classes.{is_kept_in_place, is_l}
+use Rattle.bidi_base.specs.Classes.{is_kept_in_place}
 use Rattle.bidi_base.specs.Places.{at_places, class_at}
 use Rattle.bidi_base.specs.Weak.{carried, w1_rule, w1, weak_classes}
-use Rattle.bidi_base.specs.Text.{is_per_char, char_at, place, per_unit, IsLine, IsPerChar}
+use Rattle.bidi_base.specs.Text.{is_per_char, place, per_unit, IsLine, IsPerChar}
 use Rattle.bidi_base.specs.Units.{are_ordered, in_runs, kept_in_place, units_in_runs, AreLines}
 use Rattle.bidi_base.proofs.PlaceLemmas.{char_at-place, line_places, place-more, place-mono, unit_of}
 use Rattle.bidi_base.proofs.TextLemmas.{HasUnits, is_boundary-le}
@@ -22,23 +21,14 @@ use Rattle.bidi_base.proofs.RepeatedRules.{w1-per_unit}
 use Rattle.bidi_base.proofs.ResolvedLemmas.{length-weak_classes}
 use Rattle.bidi_base.proofs.StoredLemmas.{length-at_places}
 use Rattle.bidi_rules.specs.declared.implicit.weak.steps.Before.TheVariants.{Other}
-use Rattle.bidi_rules.specs.WeakPass.{after_w3, after_w7, left_over, walked}
+use Rattle.bidi_rules.specs.WeakPass.{left_over}
 use Rattle.bidi_rules.specs.WeakWalk.{is_seen, seen_units, len_at, IsWhole, IsMarked, IsWalked}
-use Rattle.bidi_rules.proofs.PassOverText.{alike_class}
+use Rattle.bidi_rules.proofs.PassOverText.{alike_class, char_at-inside}
 use Rattle.bidi_rules.proofs.SeenUnits.{seen_units-is, ruled-places, ruled-IsPerChar, answered-IsPerChar}
 use Rattle.bidi_rules.proofs.WeakPassLemmas.{after_w1-is, weak_classes-pass}
 use Rattle.bidi_rules.proofs.WeakUnits.{walked-chars}
 
 -- ---- the character that begins at a unit
-
-char_at-inside : (len_of : ℕ → ℕ) → HasUnits len_of → (chars : List ℕ) (k j : ℕ) → k < length chars → 0 < j → j < len_of (get_or chars k 0) → char_at len_of chars (place len_of chars k + j) ≡ None
-char_at-inside len_of h [] k j fits some below = absurd (omega arith)
-char_at-inside len_of h (c ∷ chars) zero j fits some below = grind arith
-char_at-inside len_of h (c ∷ chars) (suc k) j fits some below =
-    let more : place len_of (c ∷ chars) (suc k) ≡ len_of c + place len_of chars k = sum_by-cons len_of c (take k chars) in
-    let units = h c in
-    let left : place len_of (c ∷ chars) (suc k) + j - len_of c ≡ place len_of chars k + j = omega arith in
-    rw (ne_eqb (place len_of (c ∷ chars) (suc k) + j) 0 (λ e. omega arith), le-ltb (place len_of (c ∷ chars) (suc k) + j) (len_of c) (omega arith), left) (char_at-inside len_of h chars k j (omega arith) some below)
 
 module _ (len_of : ℕ → ℕ) (h : HasUnits len_of) (chars : List ℕ) where
   pub len_at-place : (k : ℕ) → k < length chars → len_at len_of chars (place len_of chars k) ≡ len_of (get_or chars k 0)
@@ -78,8 +68,8 @@ pub record IsResolved (len_of : ℕ → ℕ) (chars : List ℕ) (runs : List (�
 at_marked-map : (f : BidiClass → BidiClass) (mark : ℕ → Bool) (xs ys : List BidiClass) (low n : ℕ) → ((k : ℕ) → mark k ≡ true → class_at xs k ≡ f (class_at ys k)) → at_places L xs (filter mark (range_with_len low n)) ≡ map f (at_places L ys (filter mark (range_with_len low n)))
 at_marked-map f mark xs ys low zero h = refl
 at_marked-map f mark xs ys low (suc n) h = elim (cases_Bool (mark low)) [
-  | inl yes' ↦ rw (yes', h low yes') (ap (λ (cs : List BidiClass). f (class_at ys low) ∷ cs) (at_marked-map f mark xs ys (low + 1) n h))
-  | inr no' ↦ rw no' (at_marked-map f mark xs ys (low + 1) n h)
+  | inl yes' ↦ simp (yes', h low yes', at_marked-map f mark xs ys (low + 1) n h)
+  | inr no' ↦ simp (no', at_marked-map f mark xs ys (low + 1) n h)
 ]
 
 module _ (len_of : ℕ → ℕ) (h : HasUnits len_of) (chars : List ℕ) (runs : List (ℕ × ℕ)) (lines : AreLines len_of chars runs) (ordered : are_ordered runs ≡ true) (sos : BidiClass) where
@@ -119,22 +109,15 @@ module _ (len_of : ℕ → ℕ) (h : HasUnits len_of) (chars : List ℕ) (runs :
           let us = filter (λ u. is_kept_in_place (class_at old u)) (units_in_runs runs) in
           let is : seen_units runs old ≡ us = seen_units-is old runs ordered (lines-within old per) in
           let cs = at_places L old (map (place len_of chars) ks) in
-          ap (at_places L c3) (sym is)
-          ∙ at_marked-map left_over (is_seen runs old) c3 c2 0 (length old - 0) (λ u seen. changed u (and_parts (in_runs runs u) (is_kept_in_place (class_at old u)) seen).0)
-          ∙ ap (λ (ps : List ℕ). map left_over (at_places L c2 ps)) (sym seen-same)
-          ∙ numbers.answers
-          ∙ ap (walked (class_at c1) (len_at len_of chars) sos Other 0 0) (seen-same ∙ is ∙ units_are)
-          ∙ walked-chars len_of h chars c1 (len_at len_of chars) alike (len_at-place len_of h chars) ks indexes [] sos Other
-          ∙ ap (λ (xs : List BidiClass). per_unit len_of (at_places 0 chars ks) (after_w7 (is_l sos) Other 0 (after_w3 sos xs))) marked-places
-          ∙ ap (per_unit len_of (at_places 0 chars ks)) (sym (weak_classes-pass sos cs))
+          simp (← is) (at_marked-map left_over (is_seen runs old) c3 c2 0 (length old - 0) (λ u seen. changed u (and_parts (in_runs runs u) (is_kept_in_place (class_at old u)) seen).0))
+          ∙ simp seen-same at numbers.answers
+          ∙ simp (is, units_are, weak_classes-pass sos cs) (simp marked-places at (walked-chars len_of h chars c1 (len_at len_of chars) alike (len_at-place len_of h chars) ks indexes [] sos Other))
         where
           units_are : filter (λ u. is_kept_in_place (class_at old u)) (units_in_runs runs) ≡ units_of_chars len_of chars ks
-          units_are =
-              subst (λ (us : List BidiClass). filter (λ u. is_kept_in_place (class_at us u)) (units_in_runs runs) ≡ units_of_chars len_of chars (kept_in_place len_of chars us runs)) (sym per.2)
-              (read_units-is len_of h chars per.0 per.1 runs lines)
+          units_are = simp per.2 (read_units-is len_of h chars per.0 per.1 runs lines)
 
           indexes : AreIndexes chars ks
-          indexes = subst (λ (us : List BidiClass). AreIndexes chars (kept_in_place len_of chars us runs)) (sym per.2) (kept_in_place-AreIndexes len_of h chars per.0 per.1 runs lines)
+          indexes = simp per.2 (kept_in_place-AreIndexes len_of h chars per.0 per.1 runs lines)
 
           alike : (k j : ℕ) → k < length chars → j < len_of (get_or chars k 0) → class_at c1 (place len_of chars k + j) ≡ class_at c1 (place len_of chars k)
           alike k j fits below = let more = place-more len_of chars k 0 fits in alike_class len_of h chars c1 marked-IsPerChar k (place len_of chars k + j) fits (omega arith) (omega arith)
@@ -144,9 +127,7 @@ module _ (len_of : ℕ → ℕ) (h : HasUnits len_of) (chars : List ℕ) (runs :
 
       pub IsResolved-passes : IsResolved len_of chars runs sos old c3
       IsResolved-passes = record {
-        kept = subst (λ (us : List BidiClass). at_places L c3 (filter (λ u. is_kept_in_place (class_at us u)) (units_in_runs runs)) ≡ per_unit len_of (at_places 0 chars (kept_in_place len_of chars us runs)) answers
-            → length answers ≡ length (kept_in_place len_of chars us runs) → at_places L c3 (map (place len_of chars) (kept_in_place len_of chars us runs)) ≡ answers) (sym per.2)
-            (λ e count. read_units-new len_of h chars per.0 per.1 runs lines c3 answers count e) at_units many;
+        kept = rw per.2 (let us = per_unit len_of chars per.0 in read_units-new len_of h chars per.0 per.1 runs lines c3 (weak_classes sos (at_places L us (map (place len_of chars) (kept_in_place len_of chars us runs)))) (rw per.2 at many) (rw per.2 at at_units));
         removed = λ u is. unseen u (and_right (in_runs runs u) (is_kept_in_place (class_at old u)) (ap is_kept_in_place is)) ∙ is;
         outside = λ u out. unseen u (and_left (in_runs runs u) (is_kept_in_place (class_at old u)) out);
         per_char = is_per_char-from_IsPerChar class_eq class_test len_of chars c3

@@ -16,6 +16,7 @@ use Rattle.bidi_base.proofs.TextLemmas.{HasUnits}
 use Rattle.bidi_rules.specs.declared.implicit.weak.steps.Before.{Before}
 use Rattle.bidi_rules.specs.declared.implicit.weak.steps.Before.TheVariants.{Other, Terminators}
 use Rattle.bidi_rules.specs.WeakPass.{strengthened, strong_up_to, after_w3, waits, joins, next_before, settled, resolved, w7_by, is_after_l, after_w7, left_over, is_number, still_to_come, walked}
+use Rattle.bidi_rules.proofs.WeakPassLemmas.{replicate-onto}
 
 -- reading a second unit of a class that need not wait changes nothing
 record IsSteady (c strong : BidiClass) (before : Before) : Type 0 where
@@ -28,17 +29,14 @@ module _ (class : ℕ → BidiClass) (len : ℕ → ℕ) where
   -- the rest of a separator
   skipped : (strong : BidiClass) (before : Before) (m n a : ℕ) (us : List ℕ) → walked class len strong before m n (range_with_len a m ++ us) ≡ walked class len strong before 0 (n + m) us
   skipped strong before zero n a us = grind arith
-  skipped strong before (suc m) n a us =
-      skipped strong before m (suc n) (a + 1) us ∙ (let more : suc n + m ≡ n + suc m = omega arith in ap (λ k. walked class len strong before 0 k us) more)
+  skipped strong before (suc m) n a us = let more : n + suc m ≡ suc n + m = omega arith in simp more (skipped strong before m (suc n) (a + 1) us)
 
   -- terminators that join those that wait
   joined : (strong : BidiClass) (m n a : ℕ) (us : List ℕ) → ((k : ℕ) → a ≤ k → k < a + m → class k ≡ ET) → walked class len strong Terminators 0 n (range_with_len a m ++ us) ≡ walked class len strong Terminators 0 (n + m) us
   joined strong zero n a us each = grind arith
   joined strong (suc m) n a us each =
-      let here : class a ≡ ET = each a (omega arith) (omega arith) in
-      (rw here refl)
-      ∙ joined strong m (suc n) (a + 1) us (λ k from below. each k (omega arith) (omega arith))
-      ∙ (let more : suc n + m ≡ n + suc m = omega arith in ap (λ k. walked class len strong Terminators 0 k us) more)
+      let more : n + suc m ≡ suc n + m = omega arith in
+      simp (each a (omega arith) (omega arith), more) (joined strong m (suc n) (a + 1) us (λ k from below. each k (omega arith) (omega arith)))
 
   held_rest : (strong : BidiClass) (next : Before) (m a : ℕ) (us : List ℕ) → waits next ≡ true → (next ≡ Terminators → (k : ℕ) → a ≤ k → k < a + m → class k ≡ ET)
       → walked class len strong next (still_to_come next (suc m)) 1 (range_with_len a m ++ us) ≡ walked class len strong next 0 (suc m) us
@@ -75,9 +73,7 @@ module _ (class : ℕ → BidiClass) (len : ℕ → ℕ) where
     decided : IsSteady c strong before → waits next ≡ false → (m a : ℕ) (us : List ℕ) → ((k : ℕ) → a ≤ k → k < a + m → class k ≡ c) → walked class len now next 0 0 (range_with_len a m ++ us) ≡ replicate m own ++ walked class len now next 0 0 us
     decided s free zero a us each = refl
     decided s free (suc m) a us each =
-        let rest = range_with_len (a + 1) m ++ us in
-        first now c next 0 a rest (each a (omega arith) (omega arith))
-        ∙ rw (s.apart, s.next, free, s.now, s.own) (ap (λ (cs : List BidiClass). own ∷ cs) (decided s free m (a + 1) us (λ k from below. each k (omega arith) (omega arith))))
+        simp (first now c next 0 a (range_with_len (a + 1) m ++ us) (each a (omega arith) (omega arith)), s.apart, s.next, free, s.now, s.own, decided s free m (a + 1) us (λ k from below. each k (omega arith) (omega arith)))
 
     pub row-waits : (m n a : ℕ) (us : List ℕ) → ((k : ℕ) → a ≤ k → k < a + suc m → class k ≡ c) → joins z before ≡ false → waits next ≡ true → still_to_come next (len a) ≡ still_to_come next (suc m)
         → walked class len strong before 0 n (range_with_len a (suc m) ++ us) ≡ replicate n (w7_by (is_l strong) (settled z before)) ++ walked class len now next 0 (suc m) us
@@ -105,10 +101,6 @@ record IsPlain (c strong : BidiClass) (before : Before) : Type 0 where
 is_plain : (c strong : BidiClass) (before : Before) → is_number c ≡ false → is_idle before ≡ true → IsPlain c strong before
 is_plain c strong before h idle = grind arith
 
-held_front : (n : ℕ) (xs : List BidiClass) → ON ∷ (replicate n ON ++ xs) ≡ replicate n ON ++ ON ∷ xs
-held_front zero xs = refl
-held_front (suc n) xs = ap (λ (cs : List BidiClass). ON ∷ cs) (held_front n xs)
-
 pub walked-plain : (classes : List BidiClass) (len : ℕ → ℕ) (us : List ℕ) → All (λ u. is_number (class_at classes u) ≡ false) us → (strong : BidiClass) (before : Before) (n : ℕ) → is_idle before ≡ true
     → walked (class_at classes) len strong before 0 n us ≡ replicate n ON ++ map left_over (at_places L classes us)
 walked-plain classes len [] none strong before n idle = sym (append-nil (replicate n ON))
@@ -120,7 +112,7 @@ walked-plain classes len (u ∷ us) none strong before n idle =
     let p = is_plain c strong before (All-head (λ u. is_number (class_at classes u) ≡ false) u us none) idle in
     let later = walked-plain classes len us (All-tail (λ u. is_number (class_at classes u) ≡ false) u us none) (strong_up_to strong c) next in
     elim (cases_Bool (joins z before)) [
-      | inl joins' ↦ rw (joins', p.joined joins') (later (suc n) p.next ∙ held_front n rest)
+      | inl joins' ↦ rw (joins', p.joined joins') (later (suc n) p.next ∙ sym (replicate-onto ON n rest))
       | inr apart ↦ grind arith
     ]
 
@@ -133,10 +125,7 @@ left-next strong c = grind arith
 per_unit-held : (len_of : ℕ → ℕ) (held cs : List ℕ) (v : BidiClass) (xs : List BidiClass) → per_unit len_of (held ++ cs) (replicate (length held) v ++ xs) ≡ replicate (text_len len_of held) v ++ per_unit len_of cs xs
 per_unit-held len_of [] cs v xs = refl
 per_unit-held len_of (c ∷ held) cs v xs =
-    ap (λ (ys : List BidiClass). replicate (len_of c) v ++ ys) (per_unit-held len_of held cs v xs)
-    ∙ sym (append_assoc (replicate (len_of c) v) (replicate (text_len len_of held) v) (per_unit len_of cs xs))
-    ∙ ap (λ (ys : List BidiClass). ys ++ per_unit len_of cs xs) (replicate-append-replicate (len_of c) (text_len len_of held) v)
-    ∙ ap (λ (n : ℕ). replicate n v ++ per_unit len_of cs xs) (sym (sum_by-cons len_of c held))
+    simp (per_unit-held len_of held cs v xs, sum_by-cons len_of c held, ← replicate-append-replicate (len_of c) (text_len len_of held) v, append_assoc)
 
 module _ (len_of : ℕ → ℕ) (h : HasUnits len_of) (chars : List ℕ) (classes : List BidiClass) (len : ℕ → ℕ)
     (alike : (k j : ℕ) → k < length chars → j < len_of (get_or chars k 0) → class_at classes (place len_of chars k + j) ≡ class_at classes (place len_of chars k))
@@ -146,16 +135,14 @@ module _ (len_of : ℕ → ℕ) (h : HasUnits len_of) (chars : List ℕ) (classe
       → walked (class_at classes) len strong before 0 (text_len len_of held) (units_of_chars len_of chars ks)
       ≡ per_unit len_of (held ++ at_places 0 chars ks) (after_w7 (is_l strong) before (length held) (after_w3 strong (at_places L classes (map (place len_of chars) ks))))
   walked-chars [] are held strong before =
-      let all = per_unit-held len_of held [] ON [] in
-      sym (append-nil (replicate (text_len len_of held) ON)) ∙ sym all ∙ ap (per_unit len_of (held ++ [])) (append-nil (replicate (length held) ON))
+      simp append-nil (simp append-nil at (sym (per_unit-held len_of held [] ON [])))
   walked-chars (k ∷ ks) are held strong before =
       let fits = All-head (λ (i : ℕ). i < length chars) k ks are in
       let rest = All-tail (λ (i : ℕ). i < length chars) k ks are in
       let a = place len_of chars k in
       let char = get_or chars k 0 in
       let m = len_of char - 1 in
-      let some = h char in
-      let size : len_of char ≡ suc m = omega arith in
+      let size : len_of char ≡ suc m = omega (arith, h char) in
       let us = units_of_chars len_of chars ks in
       let cs = at_places 0 chars ks in
       let n = text_len len_of held in
@@ -168,28 +155,22 @@ module _ (len_of : ℕ → ℕ) (h : HasUnits len_of) (chars : List ℕ) (classe
       let zs = after_w3 now (at_places L classes (map (place len_of chars) ks)) in
       let left = left-next strong c in
       let each : (u : ℕ) → a ≤ u → u < a + suc m → class_at classes u ≡ c =
-      λ u from below. (let at : u ≡ a + (u - a) = omega arith in ap (class_at classes) at) ∙ alike k (u - a) fits (omega arith) in
+      λ u from below. let at : u ≡ a + (u - a) = omega arith in ap (class_at classes) at ∙ alike k (u - a) fits (omega arith) in
       let start : walked (class_at classes) len strong before 0 n (range_with_len a (len_of char) ++ us) ≡ walked (class_at classes) len strong before 0 n (range_with_len a (suc m) ++ us) =
       grind arith in
-      let one : text_len len_of (char ∷ []) ≡ suc m = sum_by-cons len_of char [] ∙ (let none : len_of char + 0 ≡ suc m = omega arith in none) in
+      let one : text_len len_of (char ∷ []) ≡ suc m = omega (arith, sum_by-cons len_of char []) in
       start ∙ elim (cases_Bool (joins z before)) [
         | inl joins' ↦
-            let more : text_len len_of (held ++ char ∷ []) ≡ n + suc m = sum_by-append len_of held (char ∷ []) ∙ ap (λ (l : ℕ). n + l) one in
+            let more : text_len len_of (held ++ char ∷ []) ≡ n + suc m = simp (sum_by-append len_of held (char ∷ []), one) in
             let many : length (held ++ char ∷ []) ≡ suc (length held) = omega (arith, length-append held (char ∷ [])) in
-            row-joins (class_at classes) len strong c before (suc m) n a us each joins'
-            ∙ ap (λ (l : ℕ). walked (class_at classes) len now next 0 l us) (sym more)
-            ∙ walked-chars ks rest (held ++ char ∷ []) now next
-            ∙ rw (joins', left, many) (ap (λ (ds : List ℕ). per_unit len_of ds (after_w7 (is_l now) next (suc (length held)) zs)) (append_assoc held (char ∷ []) cs))
+            row-joins (class_at classes) len strong c before (suc m) n a us each joins' ∙ simp (← more, walked-chars ks rest (held ++ char ∷ []) now next, joins', left, many, append_assoc)
         | inr apart ↦ elim (cases_Bool (waits next)) [
           | inl wait ↦
               row-waits (class_at classes) len strong c before m n a us each apart wait (ap (still_to_come next) (long k fits ∙ size))
-              ∙ ap (λ (l : ℕ). replicate n v ++ walked (class_at classes) len now next 0 l us) (sym one)
-              ∙ ap (λ (xs : List BidiClass). replicate n v ++ xs) (walked-chars ks rest (char ∷ []) now next)
-              ∙ rw (apart, wait, left) (sym (per_unit-held len_of held (char ∷ cs) v (after_w7 (is_l now) next 1 zs)))
+              ∙ simp (← one, walked-chars ks rest (char ∷ []) now next, apart, wait, left) (sym (per_unit-held len_of held (char ∷ cs) v (after_w7 (is_l now) next 1 zs)))
           | inr free ↦
               row-decides (class_at classes) len strong c before m n a us each apart free
               ∙ ap (λ (l : ℕ). replicate n v ++ (replicate l own ++ walked (class_at classes) len now next 0 0 us)) (sym size)
-              ∙ ap (λ (xs : List BidiClass). replicate n v ++ (replicate (len_of char) own ++ xs)) (walked-chars ks rest [] now next)
-              ∙ rw (apart, free, left) (sym (per_unit-held len_of held (char ∷ cs) v (own ∷ after_w7 (is_l now) next 0 zs)))
+              ∙ simp (walked-chars ks rest [] now next, apart, free, left) (sym (per_unit-held len_of held (char ∷ cs) v (own ∷ after_w7 (is_l now) next 0 zs)))
         ]
       ]

@@ -1,9 +1,10 @@
 -- The steps of the walk over numbers, by stretches of units.
-use Rattle.std.proofs.Common.{◌≡◌, ℕ, zero, suc, ◌+◌, ◌-◌, ◌<◌, ◌≤◌, Bool, true, false, List, [], ◌∷◌, ◌++◌, length, get_or, map, take, drop, reverse, replicate, refl, sym, ap, subst, ◌∙◌, arith, inl, inr, append-nil, append_assoc, length-append, get_or-drop}
+use Rattle.std.proofs.Common.{◌≡◌, ℕ, zero, suc, ◌+◌, ◌-◌, ◌<◌, ◌≤◌, Bool, true, false, List, [], ◌∷◌, ◌++◌, length, get_or, map, take, drop, reverse, replicate, refl, sym, ap, ◌∙◌, arith, inl, inr, append-nil, append_assoc, length-append, get_or-drop}
+use Rattle.std.proofs.Math.Numerals.{add-one}
 use Rattle.std.proofs.lemmas.Grind.{common_steps}
 use Rattle.std.specs.Prelude.{All}
 use Rattle.std.specs.List.{range_with_len}
-use Rattle.std.proofs.lemmas.Bool.{cases_Bool, cases_lt, both_ways, and_left, and_right}
+use Rattle.std.proofs.lemmas.Bool.{cases_Bool, both_ways, and_left, and_right}
 use Rattle.std.proofs.lemmas.List.{map-append}
 use Rattle.std.proofs.lemmas.List.FromFn.{length-range_with_len}
 use Rattle.std.specs.declared.ops.Range.{Range}
@@ -22,6 +23,7 @@ use Rattle.bidi_rules.specs.WeakWalk.{is_seen, seen_units, IsWrittenOver, Pass, 
 use Rattle.bidi_rules.proofs.InRuns.{in_runs-at, in_runs-drop, start_or, start_within, gap_before, gap_after, next_start}
 use Rattle.bidi_rules.proofs.Marks.{marked-none, marked-parts, marked-empty, marked-full, at_marked-same, at_marked-all}
 use Rattle.bidi_rules.proofs.WeakMarks.{All-seen}
+use Rattle.bidi_rules.proofs.WrittenOver.{by_range}
 use Rattle.bidi_rules.proofs.WeakUnits.{walked-plain, row-joins, row-waits, row-decides}
 
 -- ---- what is written is not changed by W3 and W6
@@ -34,7 +36,7 @@ resolved-stays c strong b before = grind arith
 
 stays-row : (n : ℕ) (v : BidiClass) → left_over v ≡ v → map left_over (replicate n v) ≡ replicate n v
 stays-row zero v h = refl
-stays-row (suc n) v h = rw h (ap (λ (cs : List BidiClass). v ∷ cs) (stays-row n v h))
+stays-row (suc n) v h = simp (h, stays-row n v h)
 
 pub joins-waits : (z : BidiClass) (before : Before) → joins z before ≡ true → (waits before ≡ true) × (waits (next_before z before) ≡ true)
 joins-waits z before h = grind arith
@@ -64,14 +66,12 @@ module _ (p : Pass) (now : List BidiClass) (w : Walk) (i : ℕ) (h : IsUnderWay 
       let from = h.from in
       let start : from ≤ i = h.order in
       let nothing : units p i j ≡ [] = marked-empty (seen p) i j none in
-      let later : units p i (length p.old) ≡ units p j (length p.old) = marked-parts (seen p) i j (length p.old) order fits ∙ ap (λ (ps : List ℕ). ps ++ units p j (length p.old)) nothing in
-      let reads : map left_over (at_places L now (units p 0 from)) ++ rest w.strong w.before (length (units p from i)) j ≡ target = grind arith in
+      let reads : map left_over (at_places L now (units p 0 from)) ++ rest w.strong w.before (length (units p from i)) j ≡ target = grind (arith, marked-parts (seen p) i j (length p.old)) in
       elim (cases_Bool (waits w.before)) [
         | inl wait ↦
-            let held' : units p from j ≡ units p from i = marked-parts (seen p) from i j start order ∙ ap (λ (ps : List ℕ). units p from i ++ ps) nothing ∙ append-nil (units p from i) in
             record {
               from = from;
-              answers = grind arith;
+              answers = grind (arith, marked-parts (seen p) from i j, append-nil);
               unwritten = h.unwritten;
               unseen = h.unseen;
               waiting = h.waiting;
@@ -82,11 +82,9 @@ module _ (p : Pass) (now : List BidiClass) (w : Walk) (i : ℕ) (h : IsUnderWay 
             }
         | inr free ↦
             let at : from ≡ i = h.idle free in
-            let front : units p 0 j ≡ units p 0 from = marked-parts (seen p) 0 i j (omega arith) order ∙ ap (λ (ps : List ℕ). units p 0 i ++ ps) nothing ∙ append-nil (units p 0 i) ∙ ap (units p 0) (sym at) in
-            let none_held : units p j j ≡ units p from i = marked-none (seen p) j j (omega arith) ∙ sym (marked-none (seen p) from i (omega arith)) in
             record {
               from = j;
-              answers = grind arith;
+              answers = grind (arith, marked-parts (seen p) 0 i j, marked-none (seen p) j j, marked-none (seen p) from i, append-nil);
               unwritten = λ k a. h.unwritten k (omega arith);
               unseen = h.unseen;
               waiting = λ wait. absurd (both_ways (waits w.before) free wait);
@@ -107,25 +105,14 @@ module _ (p : Pass) (now : List BidiClass) (w : Walk) (i : ℕ) (h : IsUnderWay 
   front-written : (v : BidiClass) (now1 : List BidiClass) → IsWrittenOver (seen p) v h.from i now now1 → left_over v ≡ v
       → map left_over (at_places L now1 (units p 0 i)) ≡ map left_over (at_places L now (units p 0 h.from)) ++ replicate (length (units p h.from i)) v
   front-written v now1 s stays =
-      let front = at_places L now (units p 0 h.from) in
-      ap (λ (ps : List ℕ). map left_over (at_places L now1 ps)) (marked-parts (seen p) 0 h.from i (omega arith) h.order)
-      ∙ ap (map left_over) (at_places-append L now1 (units p 0 h.from) (units p h.from i))
-      ∙ ap (λ (cs : List BidiClass). map left_over (cs ++ at_places L now1 (units p h.from i))) (at_marked-same (seen p) now1 now 0 h.from (λ k a b t. s.below k b))
-      ∙ ap (λ (cs : List BidiClass). map left_over (front ++ cs)) (at_marked-all (seen p) now1 v h.from i (λ k a b t. s.inside k a b t))
-      ∙ map-append left_over front (replicate (length (units p h.from i)) v)
-      ∙ ap (λ (cs : List BidiClass). map left_over front ++ cs) (stays-row (length (units p h.from i)) v stays)
+      simp (marked-parts (seen p) 0 h.from i (omega arith) h.order, at_places-append, at_marked-same (seen p) now1 now 0 h.from (λ k a b t. s.below k b), at_marked-all (seen p) now1 v h.from i s.inside, map-append, stays-row (length (units p h.from i)) v stays)
 
   -- the end, once what waits is neutral
   pub IsWalked-settled : (now1 : List BidiClass) → length p.old ≤ i → IsWrittenOver (seen p) ON h.from i now now1 → IsWalked p.len p.runs p.sos p.old now1
   IsWalked-settled now1 past s =
       let within : i ≤ length p.old = h.inside in
       let top : length p.old ≡ i = omega arith in
-      let n = length (units p h.from i) in
-      record {
-        answers = grind (arith, front-written);
-        unseen = λ k t. s.failing k t ∙ h.unseen k t;
-        long = s.long ∙ h.long;
-      }
+      grind (arith, front-written)
 
   module _ (runs : List (ℕ × ℕ)) (run j : ℕ) (s : IsStretch p w runs run i j) where
     abbrev c : BidiClass
@@ -160,10 +147,7 @@ module _ (p : Pass) (now : List BidiClass) (w : Walk) (i : ℕ) (h : IsUnderWay 
     seen-stretch k a b = grind (arith, in_runs-at)
 
     stretch : units p i j ≡ range_with_len i (suc m)
-    stretch =
-        let some = s.some in
-        let count : j - i ≡ suc m = omega arith in
-        marked-full (seen p) i j seen-stretch ∙ ap (range_with_len i) count
+    stretch = marked-full (seen p) i j seen-stretch ∙ ap (range_with_len i) {y = suc m} (omega (arith, s.some))
 
     each : (k : ℕ) → i ≤ k → k < i + suc m → class_at p.old k ≡ c
     each k a b = let some = s.some in s.alike k a (omega arith)
@@ -171,10 +155,7 @@ module _ (p : Pass) (now : List BidiClass) (w : Walk) (i : ℕ) (h : IsUnderWay 
     -- all that is left to read, with the stretch in front
     reads : (xs : List BidiClass) → walked (class_at p.old) p.len w.strong w.before 0 n (range_with_len i (suc m) ++ units p j (length p.old)) ≡ xs → front ++ xs ≡ target
     reads xs e =
-        let some = s.some in
-        let parts : units p i (length p.old) ≡ range_with_len i (suc m) ++ units p j (length p.old) =
-        marked-parts (seen p) i j (length p.old) (omega arith) s.inside ∙ ap (λ (ps : List ℕ). ps ++ units p j (length p.old)) stretch in
-        ap (λ (cs : List BidiClass). front ++ cs) (sym e) ∙ ap (λ (ps : List ℕ). front ++ walked (class_at p.old) p.len w.strong w.before 0 n ps) (sym parts) ∙ h.answers
+        simp (← e) (simp (marked-parts (seen p) i j (length p.old) (omega (arith, s.some)) s.inside, stretch) at h.answers)
 
     count-stretch : length (units p i j) ≡ suc m
     count-stretch = ap length stretch ∙ length-range_with_len i (suc m)
@@ -182,19 +163,15 @@ module _ (p : Pass) (now : List BidiClass) (w : Walk) (i : ℕ) (h : IsUnderWay 
     pub IsUnderWay-joins : joins z w.before ≡ true → IsUnderWay p now (next_walk w c w.first w.first_run) j
     IsUnderWay-joins joined =
         let both = joins-waits z w.before joined in
-        let some = s.some in
-        let order = h.order in
-        let more : length (units p h.from j) ≡ n + suc m =
-        ap length (marked-parts (seen p) h.from i j order (omega arith)) ∙ length-append (units p h.from i) (units p i j) ∙ ap (λ (k : ℕ). n + k) count-stretch in
         record {
           from = h.from;
-          answers = ap (λ (k : ℕ). front ++ rest strong next k j) more
-              ∙ reads (rest strong next (n + suc m) j) (row-joins (class_at p.old) p.len w.strong c w.before (suc m) n i (units p j (length p.old)) each joined);
+          answers = simp (marked-parts (seen p) h.from i j h.order (omega (arith, s.some)), length-append, count-stretch)
+              (reads (rest strong next (n + suc m) j) (row-joins (class_at p.old) p.len w.strong c w.before (suc m) n i (units p j (length p.old)) each joined));
           unwritten = h.unwritten;
           unseen = h.unseen;
           waiting = λ t. let r = h.waiting both.0 in record { first = r.first; run_fits = r.run_fits; run = r.run };
           idle = λ free. absurd (both_ways (waits next) free both.1);
-          order = omega arith;
+          order = omega (arith, h.order, s.some);
           inside = s.inside;
           long = h.long;
         }
@@ -202,24 +179,19 @@ module _ (p : Pass) (now : List BidiClass) (w : Walk) (i : ℕ) (h : IsUnderWay 
     module _ (now1 : List BidiClass) (t : IsWrittenOver (seen p) v h.from i now now1) (apart : joins z w.before ≡ false) where
       pub IsUnderWay-waits : waits next ≡ true → IsUnderWay p now1 (next_walk w c i run) j
       IsUnderWay-waits wait =
-          let some = s.some in
-          let count : j - i ≡ suc m = omega arith in
           record {
             from = i;
-            answers = ap (λ (cs : List BidiClass). cs ++ rest strong next (length (units p i j)) j) (front-written v now1 t (settled-stays c w.strong (is_l w.strong) w.before))
-                ∙ ap (λ (k : ℕ). (front ++ replicate n v) ++ rest strong next k j) count-stretch
-                ∙ append_assoc front (replicate n v) (rest strong next (suc m) j)
-                ∙ reads (replicate n v ++ rest strong next (suc m) j)
-                (row-waits (class_at p.old) p.len w.strong c w.before m n i (units p j (length p.old)) each apart wait (s.single ∙ ap (still_to_come next) count));
+            answers = simp (front-written v now1 t (settled-stays c w.strong (is_l w.strong) w.before), count-stretch, append_assoc)
+                (reads (replicate n v ++ rest strong next (suc m) j) (row-waits (class_at p.old) p.len w.strong c w.before m n i (units p j (length p.old)) each apart wait (s.single ∙ ap (still_to_come next) {y = suc m} (omega (arith, s.some)))));
             unwritten = λ k a. t.above k a ∙ h.unwritten k (omega (arith, h.order));
             unseen = λ k u. t.failing k u ∙ h.unseen k u;
             waiting = λ u. record {
               first = refl;
-              run_fits = subst (λ (rs : List (ℕ × ℕ)). run < length rs) (sym s.runs_are) s.run_fits;
-              run = subst (λ (rs : List (ℕ × ℕ)). (get_or rs run (0, 0)).0 ≤ i) (sym s.runs_are) s.run_starts;
+              run_fits = simp s.runs_are s.run_fits;
+              run = simp s.runs_are s.run_starts;
             };
             idle = λ free. absurd (both_ways (waits next) free wait);
-            order = omega arith;
+            order = omega (arith, s.some);
             inside = s.inside;
             long = t.long ∙ h.long;
           }
@@ -230,31 +202,16 @@ module _ (p : Pass) (now : List BidiClass) (w : Walk) (i : ℕ) (h : IsUnderWay 
       IsUnderWay-decides free now2 written below above long first first_run =
           let some = s.some in
           let order = h.order in
+          let stays = at_marked-same (seen p) now2 now1 0 i (λ k a b u. below k b) in
+          let settled_is = front-written v now1 t (settled-stays c w.strong (is_l w.strong) w.before) in
           let up_to : map left_over (at_places L now2 (units p 0 j)) ≡ (front ++ replicate n v) ++ replicate (suc m) own =
-          ap (λ (ps : List ℕ). map left_over (at_places L now2 ps)) (marked-parts (seen p) 0 i j (omega arith) (omega arith))
-          ∙ ap (map left_over) (at_places-append L now2 (units p 0 i) (units p i j))
-          ∙ map-append left_over (at_places L now2 (units p 0 i)) (at_places L now2 (units p i j))
-          ∙ ap (λ (cs : List BidiClass). map left_over cs ++ map left_over (at_places L now2 (units p i j))) (at_marked-same (seen p) now2 now1 0 i (λ k a b u. below k b))
-          ∙ ap (λ (cs : List BidiClass). cs ++ map left_over (at_places L now2 (units p i j))) (front-written v now1 t (settled-stays c w.strong (is_l w.strong) w.before))
-          ∙ ap (λ (ps : List ℕ). (front ++ replicate n v) ++ map left_over (at_places L now2 ps)) stretch
-          ∙ ap (λ (cs : List BidiClass). (front ++ replicate n v) ++ cs) (row_left (suc m) i (λ k a b. written k a (omega arith)))
-          in
+          simp (marked-parts (seen p) 0 i j (omega arith) (omega arith), at_places-append, map-append, stays, settled_is, stretch, row_left (suc m) i (λ k a b. written k a (omega arith))) in
           record {
             from = j;
-            answers = ap (λ (cs : List BidiClass). cs ++ rest strong next (length (units p j j)) j) up_to
-                ∙ ap (λ (ps : List ℕ). ((front ++ replicate n v) ++ replicate (suc m) own) ++ rest strong next (length ps) j) (marked-none (seen p) j j (omega arith))
-                ∙ append_assoc (front ++ replicate n v) (replicate (suc m) own) (rest strong next 0 j)
-                ∙ append_assoc front (replicate n v) (replicate (suc m) own ++ rest strong next 0 j)
-                ∙ reads (replicate n v ++ (replicate (suc m) own ++ rest strong next 0 j))
-                (row-decides (class_at p.old) p.len w.strong c w.before m n i (units p j (length p.old)) each apart free);
+            answers = simp (up_to, marked-none (seen p) j j (omega arith), append_assoc)
+                (reads (replicate n v ++ (replicate (suc m) own ++ rest strong next 0 j)) (row-decides (class_at p.old) p.len w.strong c w.before m n i (units p j (length p.old)) each apart free));
             unwritten = λ k a. above k a ∙ t.above k (omega arith) ∙ h.unwritten k (omega arith);
-            unseen = λ k u. elim (cases_lt k i) [
-              | inl low ↦ below k low ∙ t.failing k u ∙ h.unseen k u
-              | inr high ↦ elim (cases_lt k j) [
-                | inl within ↦ absurd (both_ways (seen p k) u (seen-stretch k high within))
-                | inr past ↦ above k past ∙ t.failing k u ∙ h.unseen k u
-              ]
-            ];
+            unseen = λ k u. by_range k i j (below k) (λ high within. absurd (both_ways (seen p k) u (seen-stretch k high within))) (above k) ∙ t.failing k u ∙ h.unseen k u;
             waiting = λ u. absurd (both_ways (waits next) free u);
             idle = λ u. refl;
             order = omega arith;
@@ -264,7 +221,7 @@ module _ (p : Pass) (now : List BidiClass) (w : Walk) (i : ℕ) (h : IsUnderWay 
         where
           row_left : (l a : ℕ) → ((k : ℕ) → a ≤ k → k < a + l → left_over (class_at now2 k) ≡ own) → map left_over (at_places L now2 (range_with_len a l)) ≡ replicate l own
           row_left zero a each = refl
-          row_left (suc l) a each = rw (each a (omega arith) (omega arith)) (ap (λ (cs : List BidiClass). own ∷ cs) (row_left l (a + 1) (λ k from below. each k (omega arith) (omega arith))))
+          row_left (suc l) a each = simp (each a (omega arith) (omega arith), row_left l (a + 1) (λ k from below. each k (omega arith) (omega arith)))
 
 -- ---- a unit that is passed over
 
@@ -293,38 +250,22 @@ IsUnderWay-passes p now w i run h fits starts ends inside other asked =
     let at : h.from ≡ i = h.idle (other-free w.before other) in
     elim (cases_Bool (is_kept_in_place c)) [
       | inl kept ↦
-          let s : IsStretch p w p.runs run i (i + 1) = record {
-            runs_are = refl;
-            some = omega arith;
-            inside = omega arith;
-            kept = kept;
-            alike = λ k from below. let same : k ≡ i = omega arith in ap (class_at p.old) same;
-            single = q.none (p.len i) ∙ sym (q.none (i + 1 - i));
-            run_fits = fits;
-            run_starts = starts;
-            run_ends = omega arith;
-          } in
-          let v = w7_by (is_l w.strong) (settled (strengthened w.strong c) w.before) in
-          let none : IsWrittenOver (seen p) v h.from i now now = grind arith in
-          IsUnderWay-same p now now _ _ (i + 1) refl (ap (strong_up_to w.strong) read) (sym q.next) refl refl
-          (IsUnderWay-decides p now w i h p.runs run (i + 1) s now none q.apart q.free now
-          (λ k from below. let same : k ≡ i = omega arith in ap left_over (ap (class_at now) same ∙ read) ∙ q.own)
-          (λ k below. refl) (λ k above. refl) refl w.first w.first_run)
+          let s : IsStretch p w p.runs run i (i + 1) = grind (arith, kept, q.none) in
+          let none : IsWrittenOver (seen p) (w7_by (is_l w.strong) (settled (strengthened w.strong c) w.before)) h.from i now now = grind arith in
+          simp read (simp q.next at (IsUnderWay-decides p now w i h p.runs run (i + 1) s now none q.apart q.free now
+          (λ k from below. let same : k ≡ i = omega arith in simp (same, read) q.own)
+          (λ k below. refl) (λ k above. refl) refl w.first w.first_run))
       | inr gone ↦
-          IsUnderWay-same p now now w _ (i + 1) refl (ap (strong_up_to w.strong) read ∙ removed-weak w.strong c gone) refl refl refl
-          (IsUnderWay-unseen p now w i h (i + 1) (omega arith) (omega arith)
-          (λ k from below. let same : k ≡ i = omega arith in and_right (in_runs p.runs k) (is_kept_in_place (class_at p.old k)) (ap (λ (u : ℕ). is_kept_in_place (class_at p.old u)) same ∙ gone)))
+          simp (read, removed-weak w.strong c gone) (IsUnderWay-unseen p now w i h (i + 1) (omega arith) (omega arith)
+          (λ k from below. let same : k ≡ i = omega arith in and_right (in_runs p.runs k) (is_kept_in_place (class_at p.old k)) (simp same gone)))
     ]
 
 -- the nearest strong class, where one more unit is passed
 nearest-unit : (now : List BidiClass) (i m : ℕ) (strong : BidiClass) → i + m < length now
     → nearest is_strong (reverse (take (suc m) (drop i now))) strong ≡ strong_up_to (nearest is_strong (reverse (take m (drop i now))) strong) (class_at now (i + m))
 nearest-unit now i m strong fits =
-    let passed = take m (drop i now) in
-    let c = get_or (drop i now) m L in
-    let next : suc m ≡ m + 1 = omega arith in
-    let more : reverse (take (suc m) (drop i now)) ≡ c ∷ reverse passed = grind (arith, common_steps) in
-    ap (λ (cs : List BidiClass). nearest is_strong cs strong) more ∙ nearest-more is_strong c (reverse passed) strong ∙ ap (strong_up_to (nearest is_strong (reverse passed) strong)) (get_or-drop i now m L)
+    let more : reverse (take (suc m) (drop i now)) ≡ get_or (drop i now) m L ∷ reverse (take m (drop i now)) = grind (arith, common_steps) in
+    simp (more, get_or-drop) (nearest-more is_strong (class_at now (i + m)) (reverse (take m (drop i now))) strong)
 
 -- units that are passed over, one behind another
 pub IsUnderWay-passes_all : (p : Pass) (now : List BidiClass) (w : Walk) (i run n : ℕ) → IsUnderWay p now w i → run < length p.runs → (get_or p.runs run (0, 0)).0 ≤ i → i + n ≤ (get_or p.runs run (0, 0)).1 → i + n ≤ length now
@@ -333,11 +274,8 @@ pub IsUnderWay-passes_all : (p : Pass) (now : List BidiClass) (w : Walk) (i run 
 IsUnderWay-passes_all p now w i run zero h fits starts ends inside other none = grind arith
 IsUnderWay-passes_all p now w i run (suc m) h fits starts ends inside other none =
     let so_far = IsUnderWay-passes_all p now w i run m h fits starts (omega arith) (omega arith) other (λ k from below. none k from (omega arith)) in
-    let long = so_far.long in
-    let next : i + m + 1 ≡ i + suc m = omega arith in
-    IsUnderWay-same p now now _ _ (i + suc m) refl (nearest-unit now i m w.strong (omega arith)) refl refl refl
-    (subst (IsUnderWay p now _) next
-    (IsUnderWay-passes p now _ (i + m) run so_far fits (omega arith) (omega arith) (omega arith) other (none (i + m) (omega arith) (omega arith))))
+    let next : i + suc m ≡ i + m + 1 = omega arith in
+    simp (nearest-unit now i m w.strong (omega arith), next) (IsUnderWay-passes p now _ (i + m) run so_far fits (omega arith) (omega arith) (omega (arith, so_far.long)) other (none (i + m) (omega arith) (omega arith)))
 
 -- ---- over the runs, one behind another
 
@@ -349,15 +287,10 @@ module _ (p : Pass) (ordered : are_ordered p.runs ≡ true) (within : All (λ (r
 
   pub IsUnderWay-next_run : (now : List BidiClass) (w : Walk) (index : ℕ) → index < length p.runs → IsUnderWay p now w (get_or p.runs index (0, 0)).1 → IsUnderWay p now w (start_or p.runs (index + 1) (length p.old))
   IsUnderWay-next_run now w index fits h =
-      let next : suc index ≡ index + 1 = omega arith in
-      subst (λ (n : ℕ). IsUnderWay p now w (start_or p.runs n (length p.old))) next
-      (IsUnderWay-unseen p now w (get_or p.runs index (0, 0)).1 h (start_or p.runs (suc index) (length p.old)) (next_start 0 index p.runs (length p.old) ordered fits (within index (0, 0) fits)) (start_within p.runs (suc index) (length p.old) ordered within)
+      simp add-one (IsUnderWay-unseen p now w (get_or p.runs index (0, 0)).1 h (start_or p.runs (suc index) (length p.old)) (next_start 0 index p.runs (length p.old) ordered fits (within index (0, 0) fits)) (start_within p.runs (suc index) (length p.old) ordered within)
       (λ k from below. and_left (in_runs p.runs k) (is_kept_in_place (class_at p.old k)) (gap_after 0 index p.runs k (length p.old) ordered fits from below)))
 
 -- where no number stands nothing is written
 pub IsWalked-none : (len : ℕ → ℕ) (runs : List (Range ℕ)) (sos : BidiClass) (old : List BidiClass) → ((u : ℕ) → in_runs (map bounds runs) u ≡ true → is_number (class_at old u) ≡ false) → IsWalked len (map bounds runs) sos old old
-IsWalked-none len runs sos old none = record {
-  answers = sym (walked-plain old len (seen_units (map bounds runs) old) (All-seen (λ u. is_number (class_at old u) ≡ false) (map bounds runs) old none) sos Other 0 refl);
-  unseen = λ k h. refl;
-  long = refl;
-}
+IsWalked-none len runs sos old none =
+    grind (arith, walked-plain old len (seen_units (map bounds runs) old) (All-seen (λ u. is_number (class_at old u) ≡ false) (map bounds runs) old none) sos Other 0)

@@ -1,7 +1,7 @@
 -- A class written over some units of a slice.
-use Rattle.std.proofs.Common.{◌≡◌, ℕ, ◌+◌, ◌-◌, ◌<◌, ◌≤◌, Bool, true, false, ◌&&◌, min, max, List, length, get_or, set, take, sym, ap, subst, ◌∙◌, arith, inl, inr, length-set, length-take, length-drop, length-append, get_or-set_other, get_or-set_same}
+use Rattle.std.proofs.Common.{◌≡◌, ℕ, ◌+◌, ◌-◌, ◌<◌, ◌≤◌, Bool, true, false, min, max, List, length, get_or, set, take, sym, ap, subst, ◌∙◌, arith, inl, inr, length-set, length-take, length-drop, length-append, get_or-set_other, get_or-set_same}
 use Rattle.std.proofs.lemmas.Grind.{common_steps}
-use Rattle.std.proofs.lemmas.Bool.{cases_lt, cases_eq, cases_Bool, and_parts, and_from, and_left, and_cases, or_cases, or_parts, both_ways}
+use Rattle.std.proofs.lemmas.Bool.{cases_lt, cases_eq, cases_Bool, and_parts, and_from, and_left, and_right, and_cases, or_parts, both_ways}
 use Rattle.std.proofs.lemmas.List.{length-replicate, get_or-take, get_or-drop, get_or_append_left, get_or-append_right, get_or-replicate}
 use Rattle.bidi_base.specs.declared.char_data.BidiClass.{BidiClass}
 use Rattle.bidi_base.specs.declared.char_data.BidiClass.TheVariants.{L}
@@ -11,6 +11,13 @@ use Rattle.bidi_base.specs.Units.{are_ordered, in_runs}
 use Rattle.bidi_rules.specs.ExplicitPass.{filled}
 use Rattle.bidi_rules.specs.WeakWalk.{is_seen, IsWrittenOver}
 use Rattle.bidi_rules.proofs.InRuns.{in_run, in_run-true, in_run-inside, in_runs-more, in_runs-take}
+
+-- below a range, in it, or past it
+pub by_range : {A : Type 0} (k from to : ℕ) → (k < from → A) → (from ≤ k → k < to → A) → (to ≤ k → A) → A
+by_range k from to below within past = elim (cases_lt k from) [
+  | inl low ↦ below low
+  | inr high ↦ elim (cases_lt k to) [ inl less ↦ within high less | inr more ↦ past more ]
+]
 
 module _ (test : ℕ → Bool) (class : BidiClass) (from : ℕ) (old : List BidiClass) where
   -- one unit more
@@ -54,13 +61,7 @@ IsWrittenOver-filled class from to old order fits =
 pub IsWrittenOver-same_test : (test other : ℕ → Bool) (class : BidiClass) (from to : ℕ) (old now : List BidiClass) → ((k : ℕ) → from ≤ k → k < to → test k ≡ other k) → IsWrittenOver test class from to old now → IsWrittenOver other class from to old now
 IsWrittenOver-same_test test other class from to old now same h = record {
   inside = λ k a b t. h.inside k a b (same k a b ∙ t);
-  failing = λ k t. elim (cases_lt k from) [
-    | inl low ↦ h.below k low
-    | inr high ↦ elim (cases_lt k to) [
-      | inl within ↦ h.failing k (same k high within ∙ t)
-      | inr past ↦ h.above k past
-    ]
-  ];
+  failing = λ k t. by_range k from to (h.below k) (λ high within. h.failing k (same k high within ∙ t)) (h.above k);
   below = h.below;
   above = h.above;
   long = h.long;
@@ -79,13 +80,7 @@ module _ (runs : List (ℕ × ℕ)) (class : BidiClass) (from to : ℕ) (old : L
     stays : (k : ℕ) → class_at now k ≡ class → class_at new k ≡ class
     stays k written = elim (cases_Bool (is_kept_in_place (class_at now k))) [
       | inr removed ↦ w.failing k removed ∙ written
-      | inl read ↦ elim (cases_lt k start) [
-        | inl low ↦ w.below k low ∙ written
-        | inr high ↦ elim (cases_lt k end) [
-          | inl within ↦ w.inside k high within read
-          | inr past ↦ w.above k past ∙ written
-        ]
-      ]
+      | inl read ↦ by_range k start end (λ low. w.below k low ∙ written) (λ high within. w.inside k high within read) (λ past. w.above k past ∙ written)
     ]
 
     pub runs-more : IsWrittenOver (is_seen (take (index + 1) runs) old) class from to old new
@@ -95,10 +90,7 @@ module _ (runs : List (ℕ × ℕ)) (class : BidiClass) (from to : ℕ) (old : L
           elim (cases_Bool (in_runs (take index runs) k)) [
             | inl earlier ↦ stays k (h.inside k a b (and_from _ _ earlier parts.1))
             | inr new' ↦
-                let here = elim (or_cases (in_runs (take index runs) k) (in_run run k) (sym (in_runs-more index runs k fits) ∙ parts.0)) as (λ _. in_run run k ≡ true) [
-                  | inl old' ↦ absurd (both_ways (in_runs (take index runs) k) new' old')
-                  | inr is ↦ is
-                ] in
+                let here : in_run run k ≡ true = simp new' at (sym (in_runs-more index runs k fits) ∙ parts.0) in
                 let ends = in_run-true run k here in
                 let before : class_at now k ≡ class_at old k = h.failing k (and_left (in_runs (take index runs) k) (is_kept_in_place (class_at old k)) new') in
                 w.inside k (omega arith) (omega arith) (ap is_kept_in_place before ∙ parts.1)
@@ -107,25 +99,15 @@ module _ (runs : List (ℕ × ℕ)) (class : BidiClass) (from to : ℕ) (old : L
         | inl outside ↦
             let parts = or_parts (in_runs (take index runs) k) (in_run run k) (sym (in_runs-more index runs k fits) ∙ outside) in
             let before : class_at now k ≡ class_at old k = h.failing k (and_left (in_runs (take index runs) k) (is_kept_in_place (class_at old k)) parts.0) in
-            let unchanged : class_at new k ≡ class_at now k = elim (cases_lt k start) [
-              | inl low ↦ w.below k low
-              | inr high ↦ elim (cases_lt k end) [
-                | inl within ↦ absurd (both_ways (in_run run k) parts.1 (in_run-inside run k (omega arith) (omega arith)))
-                | inr past ↦ w.above k past
-              ]
-            ] in
-            unchanged ∙ before
+            by_range k start end (w.below k) (λ high within. absurd (both_ways (in_run run k) parts.1 (in_run-inside run k (omega arith) (omega arith)))) (w.above k) ∙ before
         | inr removed ↦
-            let before : class_at now k ≡ class_at old k = h.failing k (and_right' (in_runs (take index runs) k) (is_kept_in_place (class_at old k)) removed) in
+            let before : class_at now k ≡ class_at old k = h.failing k (and_right (in_runs (take index runs) k) (is_kept_in_place (class_at old k)) removed) in
             w.failing k (ap is_kept_in_place before ∙ removed) ∙ before
       ];
       below = λ k a. w.below k (omega arith) ∙ h.below k a;
       above = λ k a. w.above k (omega arith) ∙ h.above k a;
       long = w.long ∙ h.long;
     }
-      where
-        and_right' : (x y : Bool) → y ≡ false → (x && y) ≡ false
-        and_right' x y e = grind arith
 
   -- the ranges from the one at `index` on begin at `to` or later
   pub runs-stop : (index : ℕ) (now : List BidiClass) → are_ordered runs ≡ true → index < length runs → to ≤ (get_or runs index (0, 0)).0 → IsWrittenOver (is_seen (take index runs) old) class from to old now → IsWrittenOver (is_seen runs old) class from to old now

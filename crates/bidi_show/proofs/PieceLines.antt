@@ -1,5 +1,6 @@
 -- What `show` and `lines` print of the paragraphs of a text, read in the text, is what they print of each by itself.
-use Rattle.std.proofs.Common.{◌≡◌, ℕ, ◌+◌, ◌-◌, ◌≤◌, List, [], ◌∷◌, ◌++◌, Option, length, map, flat_map, take, drop, encode_utf8, refl, sym, ap, ap₂, subst, ◌∙◌, append_assoc, length-append, arith}
+use Rattle.std.proofs.Common.{◌≡◌, ℕ, ◌+◌, ◌-◌, ◌≤◌, List, [], ◌∷◌, ◌++◌, Option, length, map, flat_map, drop, encode_utf8, refl, sym, ap, ◌∙◌, append_assoc, length-append, arith}
+use Rattle.std.proofs.Math.Nat.{add-zero, zero-add}
 use Rattle.std.proofs.Math.Seq.{take-append-add, take-append_seam, drop-append_seam, drop-append-add}
 use Rattle.std.specs.Prelude.{slice_range, encode_utf8_all}
 use Rattle.std.specs.Char.{len_utf8}
@@ -9,10 +10,9 @@ use Rattle.std.proofs.lemmas.List.Sums.{sum_by-append}
 use Rattle.std.proofs.lemmas.Str.{encodes-chars, encodes-append, IsUtf8-between}
 use Rattle.bidi_base.specs.declared.char_data.BidiClass.{BidiClass}
 use Rattle.bidi_base.specs.declared.char_data.BidiClass.TheVariants.{L}
-use Rattle.bidi_base.specs.Display.{line_text, reordered_text}
+use Rattle.bidi_base.specs.Display.{line_text}
 use Rattle.bidi_base.specs.Isolates.{paragraph_level, stored_classes}
 use Rattle.bidi_base.specs.Layout.{lines_of}
-use Rattle.bidi_base.specs.Line.{line_levels}
 use Rattle.bidi_base.specs.Paragraphs.{paragraphs_of, each_separator, ranges_from}
 use Rattle.bidi_base.specs.Source.{Source}
 use Rattle.bidi_base.specs.Stored.{stored_levels, text_classes, text_levels, paragraph_levels}
@@ -27,7 +27,7 @@ use Rattle.bidi_base.proofs.StoredSteps.{length-stored_classes}
 use Rattle.bidi_base.proofs.StrLemmas.{has_units, text_len-encodes, subrange-from_str, IsCharBoundary-from_is_boundary}
 use Rattle.bidi_base.proofs.TextLemmas.{subrange-middle}
 use Rattle.bidi_show.specs.Shown.{levels_in, own_end, line_in, text_in, layout_in, layout_text, printed_at, printed_in}
-use Rattle.bidi_show.specs.Texts.{heading, levels_line, text_line, without_separator, shown_line, one_column, one_at_least, layout_lines, paragraph_text, lines_from, shown_text}
+use Rattle.bidi_show.specs.Texts.{without_separator, shown_line, one_column, one_at_least, layout_lines, paragraph_text, lines_from, shown_text}
 use Rattle.bidi_show.specs.declared.command.View.{View}
 use Rattle.bidi_show.specs.declared.command.View.TheVariants.{Whole, Lines}
 use Rattle.bidi_show.proofs.ShownLemmas.{without_separator-IsFront}
@@ -37,12 +37,7 @@ use Rattle.unicode_bidi.specs.declared.paragraph_info.ParagraphInfo.{ParagraphIn
 -- ---- a part of a list
 
 part-between : {X : Type 0} (xs ys zs : List X) (start i j : ℕ) → length xs ≡ start → i ≤ j → j ≤ length ys → slice_range (xs ++ (ys ++ zs)) (start + i) (start + j) ≡ slice_range ys i j
-part-between {X} xs ys zs start i j long order short =
-    let many : (length xs + j) - (length xs + i) ≡ j - i = omega arith in
-    subst (λ k. slice_range (xs ++ (ys ++ zs)) (k + i) (k + j) ≡ slice_range ys i j) long
-    (ap (take ((length xs + j) - (length xs + i))) (drop-append-add xs (ys ++ zs) i ∙ drop-append-le i ys zs (omega arith))
-    ∙ ap (λ k. take k (drop i ys ++ zs)) many
-    ∙ take-append-le (j - i) (drop i ys) zs (omega (arith, length-drop i ys)))
+part-between xs ys zs start i j long order short = grind (arith, drop-append-add xs (ys ++ zs) i, drop-append-le i ys zs, take-append-le (j - i) (drop i ys) zs, length-drop i ys)
 
 -- ---- a line of a piece in the middle of a text
 
@@ -51,41 +46,26 @@ module _ (front piece back : List ℕ) (n : ℕ) (short : n ≤ length piece) wh
   place-middle = grind (arith, take-append-add, take-append-le, sum_by-append)
 
   char_index-middle : char_index len_utf8 (front ++ (piece ++ back)) (text_len len_utf8 front + place len_utf8 piece n) ≡ length front + n
-  char_index-middle =
-      ap (char_index len_utf8 (front ++ (piece ++ back))) (sym place-middle)
-      ∙ char_index-place len_utf8 (front ++ (piece ++ back)) has_units (length front + n) (omega (arith, length-append front (piece ++ back), length-append piece back))
+  char_index-middle = grind (arith, place-middle, char_index-place len_utf8 (front ++ (piece ++ back)) has_units (length front + n), length-append)
 
 module _ (front piece back : List ℕ) (i j : ℕ) (order : i ≤ j) (short : j ≤ length piece) (level : ℕ) (cf cp cb : List BidiClass) (lf lp lb : List ℕ) (uf up ub : List ℕ)
     (cf_long : length cf ≡ length front) (cp_long : length cp ≡ length piece) (lf_long : length lf ≡ length front) (lp_long : length lp ≡ length piece)
     (uf_long : length uf ≡ text_len len_utf8 front) (up_long : length up ≡ text_len len_utf8 piece) where
-  -- the text of a line from the unit a up to b, whose characters are those from m up to n
-  abbrev line_at : List ℕ → List ℕ → List BidiClass → List ℕ → ℕ → ℕ → ℕ → ℕ → List ℕ
-  line_at cs units classes levels a b m n =
-      reordered_text len_utf8 encode_utf8 (slice_range cs m n) (slice_range units a b) (line_levels level (slice_range classes m n) (slice_range levels m n))
-
-  -- that of some characters
-  abbrev line_of : List ℕ → List ℕ → List BidiClass → List ℕ → List ℕ
-  line_of cs units classes levels = reordered_text len_utf8 encode_utf8 cs units (line_levels level classes levels)
-
-  line_of_parts : (cs cs' us us' : List ℕ) (ks ks' : List BidiClass) (ls ls' : List ℕ) → cs ≡ cs' → us ≡ us' → ks ≡ ks' → ls ≡ ls' → line_of cs us ks ls ≡ line_of cs' us' ks' ls'
-  line_of_parts cs cs' us us' ks ks' ls ls' c u k l = grind arith
-
   -- a line of the piece is the same in the text as in the piece alone
   line_text-middle : line_text len_utf8 encode_utf8 (front ++ (piece ++ back)) (uf ++ (up ++ ub)) level (cf ++ (cp ++ cb)) (lf ++ (lp ++ lb)) (text_len len_utf8 front + place len_utf8 piece i) (text_len len_utf8 front + place len_utf8 piece j)
       ≡ line_text len_utf8 encode_utf8 piece up level cp lp (place len_utf8 piece i) (place len_utf8 piece j)
   unfolding line_text
   line_text-middle =
-      ap₂ (line_at (front ++ (piece ++ back)) (uf ++ (up ++ ub)) (cf ++ (cp ++ cb)) (lf ++ (lp ++ lb)) (text_len len_utf8 front + place len_utf8 piece i) (text_len len_utf8 front + place len_utf8 piece j))
-      (char_index-middle front piece back i (omega arith)) (char_index-middle front piece back j short)
-      ∙ line_of_parts (slice_range (front ++ (piece ++ back)) (length front + i) (length front + j)) (slice_range piece i j)
-      (slice_range (uf ++ (up ++ ub)) (text_len len_utf8 front + place len_utf8 piece i) (text_len len_utf8 front + place len_utf8 piece j)) (slice_range up (place len_utf8 piece i) (place len_utf8 piece j))
-      (slice_range (cf ++ (cp ++ cb)) (length front + i) (length front + j)) (slice_range cp i j)
-      (slice_range (lf ++ (lp ++ lb)) (length front + i) (length front + j)) (slice_range lp i j)
-      (part-between front piece back (length front) i j refl order short)
-      (part-between uf up ub (text_len len_utf8 front) (place len_utf8 piece i) (place len_utf8 piece j) uf_long (place-mono len_utf8 piece i j order) (omega (arith, place-le len_utf8 piece j)))
-      (part-between cf cp cb (length front) i j cf_long order (omega arith))
-      (part-between lf lp lb (length front) i j lf_long order (omega arith))
-      ∙ sym (ap₂ (line_at piece up cp lp (place len_utf8 piece i) (place len_utf8 piece j)) (char_index-place len_utf8 piece has_units i (omega arith)) (char_index-place len_utf8 piece has_units j short))
+      simp (
+        char_index-middle front piece back i (omega arith),
+        char_index-middle front piece back j short,
+        char_index-place len_utf8 piece has_units i (omega arith),
+        char_index-place len_utf8 piece has_units j short,
+        part-between front piece back (length front) i j refl order short,
+        part-between cf cp cb (length front) i j cf_long order (omega arith),
+        part-between lf lp lb (length front) i j lf_long order (omega arith),
+        part-between uf up ub (text_len len_utf8 front) (place len_utf8 piece i) (place len_utf8 piece j) uf_long (place-mono len_utf8 piece i j order) (omega (arith, place-le len_utf8 piece j)),
+      )
 
 -- ---- values of a piece in the middle of a text
 
@@ -113,14 +93,7 @@ module _ (source : Source) (base : Option ℕ) (text : List ℕ) (utf8 : IsUtf8 
   levels = lf ++ (stored_levels source base piece ++ lb)
 
   line : IsLine len_utf8 (chars text) start (start + text_len len_utf8 piece)
-  line =
-      let first : place len_utf8 (front ++ (piece ++ back)) (length front) ≡ start = ap (text_len len_utf8) (take-append_seam front (piece ++ back)) in
-      let last : place len_utf8 (front ++ (piece ++ back)) (length front + length piece) ≡ start + text_len len_utf8 piece =
-      place-middle front piece back (length piece) (omega arith) ∙ ap (λ n. start + n) (place-end len_utf8 piece (length piece) (omega arith)) in
-      subst (λ cs. IsLine len_utf8 cs start (start + text_len len_utf8 piece)) (sym whole)
-      (subst (λ n. IsLine len_utf8 (front ++ (piece ++ back)) n (start + text_len len_utf8 piece)) first
-      (subst (IsLine len_utf8 (front ++ (piece ++ back)) (place len_utf8 (front ++ (piece ++ back)) (length front))) last
-      (IsLine-places len_utf8 (front ++ (piece ++ back)) (length front) (length front + length piece) (omega arith))))
+  line = grind (arith, IsLine-places len_utf8 (chars text) (length front) (length front + length piece), place-middle front piece back (length piece), place-end len_utf8 piece (length piece), take-append_seam front (piece ++ back))
 
   is_piece : subrange len_utf8 (chars text) start (start + text_len len_utf8 piece) ≡ piece
   is_piece = grind (arith, subrange-middle)
@@ -133,15 +106,10 @@ module _ (source : Source) (base : Option ℕ) (text : List ℕ) (utf8 : IsUtf8 
 
   -- the levels of its characters
   levels_in-piece : levels_in text (per_unit len_utf8 (chars text) levels) start (start + text_len len_utf8 piece) ≡ stored_levels source base piece
-  levels_in-piece =
-      ap₂ (per_char 0 len_utf8) part_chars
-      (ap (λ cs. slice_range (per_unit len_utf8 cs levels) start (start + text_len len_utf8 piece)) whole ∙ units-middle front piece back lf (stored_levels source base piece) lb lf_long (length-stored_levels source base piece))
-      ∙ per_char-per_unit len_utf8 has_units 0 piece (stored_levels source base piece) (length-stored_levels source base piece)
+  levels_in-piece = grind (arith, part_chars, units-middle front piece back lf (stored_levels source base piece) lb, per_char-per_unit len_utf8 has_units 0 piece (stored_levels source base piece), length-stored_levels)
 
   bytes : text ≡ encode_utf8_all front ++ (encode_utf8_all piece ++ encode_utf8_all back)
-  bytes =
-      sym (encodes-chars text utf8) ∙ ap encode_utf8_all whole ∙ encodes-append front (piece ++ back)
-      ∙ ap (λ l. encode_utf8_all front ++ l) (encodes-append piece back)
+  bytes = sym (encodes-chars text utf8) ∙ simp (whole, encodes-append)
 
   classes_back : per_char L len_utf8 (chars text) (per_unit len_utf8 (chars text) classes) ≡ classes
   classes_back =
@@ -155,7 +123,7 @@ module _ (source : Source) (base : Option ℕ) (text : List ℕ) (utf8 : IsUtf8 
 
   -- where it ends without its separator
   own_end-piece : own_end source (chars text) start (start + text_len len_utf8 piece) ≡ start + text_len len_utf8 (without_separator source piece)
-  own_end-piece = ap (λ l. start + text_len len_utf8 (without_separator source l)) is_piece
+  own_end-piece = simp is_piece
 
   module _ (level : ℕ) where
     -- a line of it, read in the text, and read in the piece
@@ -173,29 +141,18 @@ module _ (source : Source) (base : Option ℕ) (text : List ℕ) (utf8 : IsUtf8 
     line_in-piece : (before some after : List ℕ) → piece ≡ before ++ (some ++ after)
         → in_text (start + text_len len_utf8 before) (start + (text_len len_utf8 before + text_len len_utf8 some)) ≡ in_piece (text_len len_utf8 before) (text_len len_utf8 before + text_len len_utf8 some)
     line_in-piece before some after e =
-        let i : ℕ = length before in
-        let j : ℕ = length before + length some in
-        let first : place len_utf8 piece i ≡ text_len len_utf8 before = ap (λ cs. place len_utf8 cs i) e ∙ ap (text_len len_utf8) (take-append_seam before (some ++ after)) in
-        let last : place len_utf8 piece j ≡ text_len len_utf8 before + text_len len_utf8 some =
-        ap (λ cs. place len_utf8 cs j) e ∙ place-middle before some after (length some) (omega arith) ∙ ap (λ n. text_len len_utf8 before + n) (place-end len_utf8 some (length some) (omega arith)) in
-        let short : j ≤ length piece = omega (arith, ap length e, length-append before (some ++ after), length-append some after) in
-        ap₂ (λ a b. in_text (start + a) (start + b)) (sym first) (sym last) ∙ line_in-places i j (omega arith) short ∙ ap₂ in_piece first last
+        grind (arith, line_in-places (length before) (length before + length some), take-append_seam before (some ++ after), place-middle before some after (length some), place-end len_utf8 some (length some), length-append)
 
     -- the characters without the separator, and those that follow
     own_front : (rest : List ℕ) × (piece ≡ without_separator source piece ++ rest)
     own_front =
         let f = without_separator-IsFront source piece in
-        (drop f.many piece, sym (ap (λ l. l ++ drop f.many piece) f.front ∙ take-append-drop f.many piece))
-
-    at_start : start ≡ start + text_len len_utf8 []
-    at_start = omega arith
+        (drop f.many piece, simp (f.front, take-append-drop f.many piece))
 
     -- its text from left to right
     text_in-piece : text_in source text level (per_unit len_utf8 (chars text) classes) (per_unit len_utf8 (chars text) levels) start (start + text_len len_utf8 piece) ≡ in_piece 0 (text_len len_utf8 (without_separator source piece))
     text_in-piece =
-        let own : List ℕ = without_separator source piece in
-        let zero_plus : (text_len len_utf8 [] + text_len len_utf8 own) ≡ text_len len_utf8 own = omega arith in
-        ap₂ in_text at_start (own_end-piece ∙ ap (λ n. start + n) (sym zero_plus)) ∙ line_in-piece [] own own_front.0 own_front.1 ∙ ap (in_piece 0) zero_plus
+        simp own_end-piece (rw (add-zero, zero-add) at (line_in-piece [] (without_separator source piece) own_front.0 own_front.1))
 
     -- its lines from left to right
     layout_from : (before : List ℕ) (lines : List (List ℕ)) (after : List ℕ) → piece ≡ before ++ (joined lines ++ after)
@@ -204,18 +161,14 @@ module _ (source : Source) (base : Option ℕ) (text : List ℕ) (utf8 : IsUtf8 
     layout_from before (l ∷ lines) after e =
         let stop : start + text_len len_utf8 before + text_len len_utf8 l ≡ start + (text_len len_utf8 before + text_len len_utf8 l) = omega arith in
         let further : text_len len_utf8 (before ++ l) ≡ text_len len_utf8 before + text_len len_utf8 l = sum_by-append len_utf8 before l in
-        let parts : piece ≡ before ++ (l ++ (joined lines ++ after)) = e ∙ ap (λ cs. before ++ cs) (append_assoc l (joined lines) after) in
+        let parts : piece ≡ before ++ (l ++ (joined lines ++ after)) = e ∙ simp append_assoc in
         let rest = layout_from (before ++ l) lines after (parts ∙ sym (append_assoc before l (joined lines ++ after))) in
-        ap₂ (λ xs ys. xs ++ ys)
-        (ap (λ n. shown_line (in_text (start + text_len len_utf8 before) n)) stop ∙ ap shown_line (line_in-piece before l (joined lines ++ after) parts))
-        (ap (λ n. flat_map (λ r. shown_line (in_text r.0 r.1)) (ranges_from len_utf8 n lines)) (stop ∙ ap (λ n. start + n) (sym further)) ∙ rest ∙ ap (λ n. flat_map (λ r. shown_line (in_piece r.0 r.1)) (ranges_from len_utf8 n lines)) further)
+        simp (stop, line_in-piece before l (joined lines ++ after) parts, rw further at rest)
 
     layout_lines-from : (lines : List (List ℕ)) (after : List ℕ) → piece ≡ joined lines ++ after
         → flat_map (λ r. shown_line (in_text r.0 r.1)) (one_at_least start (ranges_from len_utf8 start lines)) ≡ flat_map (λ r. shown_line (in_piece r.0 r.1)) (one_at_least 0 (ranges_from len_utf8 0 lines))
-    layout_lines-from [] after e =
-        ap₂ (λ a b. shown_line (in_text a b) ++ []) at_start (omega arith) ∙ ap (λ l. shown_line l ++ []) (line_in-piece [] [] after e)
-    layout_lines-from (l ∷ lines) after e =
-        ap (λ n. flat_map (λ r. shown_line (in_text r.0 r.1)) (ranges_from len_utf8 n (l ∷ lines))) at_start ∙ layout_from [] (l ∷ lines) after e
+    layout_lines-from [] after e = ap (λ l. shown_line l ++ []) (rw add-zero at (line_in-piece [] [] after e))
+    layout_lines-from (l ∷ lines) after e = rw add-zero at (layout_from [] (l ∷ lines) after e)
 
     layout-piece : (limit : ℕ) → layout_text text level (per_unit len_utf8 (chars text) classes) (per_unit len_utf8 (chars text) levels) (layout_in source limit (chars text) start (start + text_len len_utf8 piece))
         ≡ layout_lines source limit piece level (own_classes source piece) (stored_levels source base piece)
@@ -226,27 +179,15 @@ module _ (source : Source) (base : Option ℕ) (text : List ℕ) (utf8 : IsUtf8 
         ap (λ cs. subrange len_utf8 cs start (start + text_len len_utf8 own)) (whole ∙ ap (λ cs. front ++ cs) (ap (λ cs. cs ++ back) own_front.1 ∙ append_assoc own own_front.0 back)) ∙ subrange-middle len_utf8 has_units front own (own_front.0 ++ back) in
         let alone : subrange len_utf8 piece 0 (text_len len_utf8 own) ≡ own =
         ap (λ cs. subrange len_utf8 piece 0 (text_len len_utf8 cs)) f.front ∙ subrange-front len_utf8 piece has_units f.many f.short ∙ sym f.front in
-        ap (λ n. flat_map (λ r. shown_line (in_text r.0 r.1)) (one_at_least start (ranges_from len_utf8 start (lines_of one_column limit (subrange len_utf8 (chars text) start n))))) own_end-piece
-        ∙ ap (λ cs. flat_map (λ r. shown_line (in_text r.0 r.1)) (one_at_least start (ranges_from len_utf8 start (lines_of one_column limit cs)))) in_whole
-        ∙ layout_lines-from (lines_of one_column limit own) own_front.0 (own_front.1 ∙ ap (λ cs. cs ++ own_front.0) (sym (lines_of-joined one_column limit own)))
-        ∙ ap (λ cs. flat_map (λ r. shown_line (in_piece r.0 r.1)) (one_at_least 0 (ranges_from len_utf8 0 (lines_of one_column limit cs)))) (sym alone)
+        simp (own_end-piece, in_whole, alone) (layout_lines-from (lines_of one_column limit own) own_front.0 (own_front.1 ∙ ap (λ cs. cs ++ own_front.0) (sym (lines_of-joined one_column limit own))))
 
     -- what is printed of it
     printed-piece : (view : View) → printed_at view source text start (start + text_len len_utf8 piece) level (per_unit len_utf8 (chars text) classes) (per_unit len_utf8 (chars text) levels)
         ≡ paragraph_text view source start piece level (own_classes source piece) (stored_levels source base piece)
-    printed-piece Whole = ap₂ (λ l s. heading start (start + text_len len_utf8 piece) level ++ (levels_line l ++ text_line s)) levels_in-piece text_in-piece
+    printed-piece Whole = simp (levels_in-piece, text_in-piece)
     printed-piece (Lines limit) = layout-piece limit
 
 -- ---- all paragraphs
-
-cons_head : {X : Type 0} (x y : X) (xs ys : List X) → x ∷ xs ≡ y ∷ ys → x ≡ y
-cons_head x y xs ys e = cc
-
-cons_tail : {X : Type 0} (x y : X) (xs ys : List X) → x ∷ xs ≡ y ∷ ys → xs ≡ ys
-cons_tail x y xs ys e = cc
-
-nil_cons : {X : Type 0} (x : X) (xs : List X) → [] ≡ x ∷ xs → ⊥
-nil_cons x xs e = cc
 
 module _ (view : View) (source : Source) (base : Option ℕ) (text : List ℕ) (utf8 : IsUtf8 text) (classes : List BidiClass) (levels : List ℕ) where
   -- what is printed of the paragraphs from a character on, where some characters stand before
@@ -256,23 +197,21 @@ module _ (view : View) (source : Source) (base : Option ℕ) (text : List ℕ) (
       → ranges_of ps ≡ ranges_from len_utf8 (text_len len_utf8 front) pieces → levels_of ps ≡ map (λ piece. paragraph_level base (map source.class_of piece)) pieces
       → flat_map (printed_in view source text classes levels) ps ≡ lines_from view source base (text_len len_utf8 front) pieces
   printed_in-from front cf lf [] [] whole cf_long lf_long ks ls ranges own = refl
-  printed_in-from front cf lf [] (p ∷ ps) whole cf_long lf_long ks ls ranges own = absurd (nil_cons _ _ (sym ranges))
-  printed_in-from front cf lf (piece ∷ pieces) [] whole cf_long lf_long ks ls ranges own = absurd (nil_cons _ _ ranges)
+  printed_in-from front cf lf [] (p ∷ ps) whole cf_long lf_long ks ls ranges own = absurd (cc ranges)
+  printed_in-from front cf lf (piece ∷ pieces) [] whole cf_long lf_long ks ls ranges own = absurd (cc ranges)
   printed_in-from front cf lf (piece ∷ pieces) (p ∷ ps) whole cf_long lf_long ks ls ranges own =
       let start : ℕ = text_len len_utf8 front in
       let end : ℕ = start + text_len len_utf8 piece in
-      let level : ℕ = paragraph_level base (map source.class_of piece) in
       let cb : List BidiClass = flat_map (own_classes source) pieces in
       let lb : List ℕ = flat_map (stored_levels source base) pieces in
-      let range : ◌≡◌ {A = ℕ × ℕ} (p.range.start, p.range.end) (start, end) = cons_head _ _ _ _ ranges in
-      let is_level : p.level ≡ level = cons_head _ _ _ _ own in
-      let cb_long : length cb ≡ length (joined pieces) = length-values (own_classes source) (length-own_classes source) pieces in
-      let lb_long : length lb ≡ length (joined pieces) = length-values (stored_levels source base) (length-stored_levels source base) pieces in
+      let range : ◌≡◌ {A = ℕ × ℕ} (p.range.start, p.range.end) (start, end) = cc ranges in
+      let level : ℕ = paragraph_level base (map source.class_of piece) in
+      let is_level : p.level ≡ level = cc own in
       let sum : text_len len_utf8 (front ++ piece) ≡ end = sum_by-append len_utf8 front piece in
       let one : printed_in view source text classes levels p ≡ paragraph_text view source start piece level (own_classes source piece) (stored_levels source base piece) =
-      ap₂ (λ (r : ℕ × ℕ) (l : ℕ). printed_at view source text r.0 r.1 l classes levels) range is_level
-      ∙ ap₂ (printed_at view source text start end level) ks ls
-      ∙ printed-piece source base text utf8 front piece (joined pieces) whole cf cb lf lb cf_long lf_long cb_long lb_long level view in
+      simp (ap (λ (r : ℕ × ℕ). r.0) range, ap (λ (r : ℕ × ℕ). r.1) range, is_level, ks, ls)
+      (printed-piece source base text utf8 front piece (joined pieces) whole cf cb lf lb cf_long lf_long (length-values (own_classes source) (length-own_classes source) pieces)
+      (length-values (stored_levels source base) (length-stored_levels source base) pieces) level view) in
       let rest : flat_map (printed_in view source text classes levels) ps ≡ lines_from view source base (text_len len_utf8 (front ++ piece)) pieces =
       printed_in-from (front ++ piece) (cf ++ own_classes source piece) (lf ++ stored_levels source base piece) pieces ps
       (whole ∙ sym (append_assoc front piece (joined pieces)))
@@ -280,9 +219,9 @@ module _ (view : View) (source : Source) (base : Option ℕ) (text : List ℕ) (
       (omega (arith, length-append lf (stored_levels source base piece), length-append front piece, length-stored_levels source base piece))
       (ks ∙ ap (per_unit len_utf8 (chars text)) (sym (append_assoc cf (own_classes source piece) cb)))
       (ls ∙ ap (per_unit len_utf8 (chars text)) (sym (append_assoc lf (stored_levels source base piece) lb)))
-      (cons_tail _ _ _ _ ranges ∙ ap (λ (n : ℕ). ranges_from len_utf8 n pieces) (sym sum))
-      (cons_tail _ _ _ _ own) in
-      ap₂ (λ (xs ys : List ℕ). xs ++ ys) one (rest ∙ ap (λ (n : ℕ). lines_from view source base n pieces) sum)
+      (cc (ranges, sum))
+      (cc own) in
+      simp (one, rest, sum)
 
   -- and the whole text
   pub printed_in-shown : (ps : List ParagraphInfo) → classes ≡ per_unit len_utf8 (chars text) (text_classes source (paragraphs_of (each_separator source) (chars text)))

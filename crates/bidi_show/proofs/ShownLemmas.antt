@@ -1,5 +1,6 @@
 -- The lines that `show` prints, piece by piece.
-use Rattle.std.proofs.Common.{◌≡◌, ℕ, ◌+◌, ◌-◌, ◌<◌, ◌≤◌, List, [], ◌∷◌, ◌++◌, Result, OnOk, is_ok, Bool, true, false, length, get_or, take, flat_map, decimal, refl, sym, ap, subst, ◌∙◌, append_assoc, arith}
+use Rattle.std.proofs.Common.{◌≡◌, ℕ, ◌+◌, ◌-◌, ◌<◌, ◌≤◌, List, [], ◌∷◌, ◌++◌, Result, OnOk, is_ok, true, false, length, get_or, take, flat_map, decimal, refl, sym, ap, subst, ◌∙◌, append_assoc, arith, inl, inr}
+use Rattle.std.proofs.lemmas.Bool.{cases_Bool}
 use Rattle.std.proofs.lemmas.Grind.{common_steps}
 use Rattle.std.specs.Prelude.{codes, if◌then◌else◌, slice_range}
 use Rattle.std.specs.Char.{len_utf8}
@@ -33,7 +34,7 @@ module _ (start cs levels : List ℕ) where
       let next : get_or values n 0 ≡ level = get_or-per_char 0 len_utf8 cs levels n 0 within ∙ ap (λ p. get_or levels p 0) (sym here) ∙ sym is in
       append_assoc (levels_so_far n) (codes " ") (decimal level)
       ∙ flat_map_more spaced (start ++ codes "levels") (take n values) level
-      ∙ ap (λ l. (start ++ codes "levels") ++ flat_map spaced l) (sym (take_more values n 0 (omega (arith, length-per_char 0 len_utf8 cs levels)) ∙ ap (λ l. take n values ++ l ∷ []) next))
+      ∙ simp (take_more values n 0 (omega (arith, length-per_char 0 len_utf8 cs levels)), next)
 
   -- all of them
   pub levels_so_far-end : (n : ℕ) → n ≡ length cs → levels_so_far n ++ codes "\n" ≡ start ++ levels_line (per_char 0 len_utf8 cs levels)
@@ -60,11 +61,10 @@ pub record IsFront (source : Source) (piece : List ℕ) : Type 0 where
   pub front : without_separator source piece ≡ take many piece
 
 pub without_separator-IsFront : (source : Source) (piece : List ℕ) → IsFront source piece
-without_separator-IsFront source piece = by_test (ends_with_separator source piece) refl
-  where
-    by_test : (b : Bool) → ends_with_separator source piece ≡ b → IsFront source piece
-    by_test true e = record { many = length piece - 1; short = omega arith; front = rw e }
-    by_test false e = record { many = length piece; short = omega arith; front = rw e (sym (take_all (length piece) piece (omega arith))) }
+without_separator-IsFront source piece = elim (cases_Bool (ends_with_separator source piece)) [
+  | inl closed ↦ record { many = length piece - 1; short = omega arith; front = simp closed }
+  | inr kept ↦ record { many = length piece; short = omega arith; front = simp (kept, take_all (length piece) piece (omega arith)) }
+]
 
 -- it cuts no character
 pub without_separator-IsLine : (source : Source) (cs : List ℕ) (start end : ℕ) → IsLine len_utf8 cs start end
@@ -77,8 +77,7 @@ without_separator-IsLine source cs start end line =
     let fits : i + f.many ≤ j = omega (arith, w.ordered, f.short, length-slice_range cs i j w.within) in
     let stop : start + text_len len_utf8 (without_separator source (slice_range cs i j)) ≡ place len_utf8 cs (i + f.many) =
     ap (λ l. start + text_len len_utf8 l) f.front ∙ ap (λ u. u + place len_utf8 (slice_range cs i j) f.many) w.begins ∙ sym (place-slice_range len_utf8 cs i j f.many fits w.within) in
-    subst (λ u. IsLine len_utf8 cs u (start + text_len len_utf8 (without_separator source (slice_range cs i j)))) (sym w.begins)
-    (subst (λ u. IsLine len_utf8 cs (place len_utf8 cs i) u) (sym stop) (IsLine-places len_utf8 cs i (i + f.many) (omega arith)))
+    rw stop (rw (← w.begins) at (IsLine-places len_utf8 cs i (i + f.many) (omega arith)))
 
 -- the part of a text that is a paragraph without its separator
 pub record IsOwnPart (source : Source) (bs own : List ℕ) (start end : ℕ) : Type 0 where
@@ -90,6 +89,6 @@ pub own_part : (source : Source) (bs part own : List ℕ) (start end : ℕ) → 
     → part ≡ slice_range bs start end → chars own ≡ without_separator source (chars part) → IsOwnPart source bs own start end
 own_part source bs part own start end u v w line is e =
     let n : length own ≡ text_len len_utf8 (without_separator source (subrange len_utf8 (chars bs) start end)) =
-    sym (text_len-chars own w) ∙ ap (text_len len_utf8) (e ∙ ap (λ l. without_separator source (chars l)) is ∙ ap (without_separator source) (sym (subrange-from_str bs start end u line (subst IsUtf8 is v)))) in
+    sym (text_len-chars own w) ∙ simp (e, is, subrange-from_str bs start end u line (rw is at v)) in
     let short : IsLine len_utf8 (chars bs) start (start + length own) = subst (λ m. IsLine len_utf8 (chars bs) start (start + m)) (sym n) (without_separator-IsLine source (chars bs) start end line) in
     record { ends = ap (λ m. start + m) n; line = short; within = omega (arith, is_boundary-le len_utf8 (chars bs) (start + length own) short.ends, text_len-chars bs u) }

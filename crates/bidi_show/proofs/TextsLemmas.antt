@@ -1,13 +1,12 @@
 -- A line of numbers, a number longer.
-use Rattle.std.proofs.Common.{◌≡◌, ℕ, ◌+◌, ◌<◌, List, [], ◌∷◌, ◌++◌, length, take, get_or, map, decimal, refl, sym, ◌∙◌, ap, append_assoc, arith}
+use Rattle.std.proofs.Common.{◌≡◌, ℕ, ◌+◌, ◌<◌, List, [], ◌∷◌, ◌++◌, length, take, get_or, map, decimal, refl, append_assoc, arith}
 use Rattle.std.proofs.lemmas.Grind.{common_steps}
 use Rattle.std.specs.List.{join_with_byte}
 
 join_with_byte-push : (c : ℕ) (pieces : List (List ℕ)) (piece : List ℕ) → 0 < length pieces → join_with_byte c (pieces ++ piece ∷ []) ≡ join_with_byte c pieces ++ (c ∷ piece)
 join_with_byte-push c [] piece some = absurd (omega arith)
 join_with_byte-push c (first ∷ []) piece some = refl
-join_with_byte-push c (first ∷ second ∷ pieces) piece some =
-    ap (λ rest. first ++ (c ∷ rest)) (join_with_byte-push c (second ∷ pieces) piece (omega arith)) ∙ sym (append_assoc first (c ∷ join_with_byte c (second ∷ pieces)) (c ∷ piece))
+join_with_byte-push c (first ∷ second ∷ pieces) piece some = simp (join_with_byte-push c (second ∷ pieces) piece (omega arith), append_assoc)
 
 -- the decimals of one number more
 decimals_more : (numbers : List ℕ) (place : ℕ) → place < length numbers → map decimal (take (place + 1) numbers) ≡ map decimal (take place numbers) ++ decimal (get_or numbers place 0) ∷ []

@@ -1,8 +1,8 @@
 -- The level runs of a line's units are those of its characters, where each unit has its character's level.
-use Rattle.std.proofs.Common.{◌≡◌, ◌≢◌, ℕ, zero, suc, ◌+◌, ◌<◌, ◌≤◌, eqb, List, [], ◌∷◌, ◌++◌, map, replicate, length, get_or, take, All, refl, sym, ap, ◌∙◌, arith, inl, inr, eqb-true, eq-eqb}
-use Rattle.std.proofs.lemmas.Bool.{cases_Bool, cond-true, cond-false, eqb-false}
+use Rattle.std.proofs.Common.{◌≡◌, ◌≢◌, ℕ, zero, suc, ◌+◌, ◌<◌, ◌≤◌, List, [], ◌∷◌, ◌++◌, map, replicate, length, get_or, All, refl, arith, eqb-true, eq-eqb, add-zero}
+use Rattle.std.proofs.lemmas.Bool.{eqb-false}
 use Rattle.std.proofs.lemmas.Simd.{map-map}
-use Rattle.std.proofs.lemmas.List.{get_or-map, length-map}
+use Rattle.std.proofs.lemmas.List.{get_or-map, length-map, nil_from_length}
 use Rattle.std.proofs.lemmas.List.Sums.{sum_by-cons}
 use Rattle.std.proofs.lemmas.List.Elements.{All-tail}
 use Rattle.bidi_base.specs.Places.{at_places}
@@ -18,11 +18,8 @@ use Rattle.bidi_lines.proofs.RunsLemmas.{level_runs-each}
 
 -- units of the same level go on with the run
 more_units : (start from level n : ℕ) (rest : List ℕ) → level_runs_from start from level (replicate n level ++ rest) ≡ level_runs_from start (from + n) level rest
-more_units start from level zero rest = ap (λ x. level_runs_from start x level rest) (let e : from ≡ from + 0 = omega arith in e)
-more_units start from level (suc n) rest =
-    cond-true (eqb level level) _ _ (eq-eqb level level refl)
-    ∙ more_units start (from + 1) level n rest
-    ∙ ap (λ x. level_runs_from start x level rest) (let e : from + 1 + n ≡ from + suc n = omega arith in e)
+more_units start from level zero rest = simp add-zero
+more_units start from level (suc n) rest = grind (arith, eq-eqb, more_units start (from + 1) level n rest)
 
 -- and units of another level begin one
 other_units : (start from level next n : ℕ) (rest : List ℕ) → next ≢ level → 0 < n
@@ -43,34 +40,17 @@ next_place P len_of f c chars h = grind arith
 
 later_places : (P len_of : ℕ → ℕ) (f c : ℕ) (chars : List ℕ) → Places P len_of f (c ∷ chars) → Places P len_of (f + 1) chars
 unfolding Places
-later_places P len_of f c chars h j fits =
-    let e : P (f + suc j) ≡ P f + place len_of (c ∷ chars) (suc j) = h (suc j) (omega arith) in
-    let more : place len_of (c ∷ chars) (suc j) ≡ len_of c + place len_of chars j = sum_by-cons len_of c (take j chars) in
-    let next = next_place P len_of f c chars h in
-    let same : P (f + 1 + j) ≡ P (f + suc j) = ap P (let e : f + 1 + j ≡ f + suc j = omega arith in e) in
-    omega arith
+later_places P len_of f c chars h j fits = grind (arith, h (suc j), sum_by-cons, next_place)
 
 runs_of_units : (P len_of : ℕ → ℕ) → HasUnits len_of → (chars levels : List ℕ) → length levels ≡ length chars
     → (s f level : ℕ) → Places P len_of f chars
     → level_runs_from (P s) (P f) level (per_unit len_of chars levels) ≡ map (units_of P) (level_runs_from s f level levels)
-runs_of_units P len_of some [] [] e s f level h = refl
-runs_of_units P len_of some [] (k ∷ levels) e s f level h = absurd (omega arith)
+runs_of_units P len_of some [] levels e s f level h = simp (nil_from_length levels (omega arith))
 runs_of_units P len_of some (c ∷ chars) [] e s f level h = absurd (omega arith)
-runs_of_units P len_of some (c ∷ chars) (k ∷ levels) e s f level h = elim (cases_Bool (eqb k level)) [
-  | inl is ↦
-      let same : k ≡ level = eqb-true _ _ is in
-      ap (λ x. level_runs_from (P s) (P f) level (replicate (len_of c) x ++ per_unit len_of chars levels)) same
-      ∙ more_units (P s) (P f) level (len_of c) (per_unit len_of chars levels)
-      ∙ ap (λ x. level_runs_from (P s) x level (per_unit len_of chars levels)) (sym (next_place P len_of f c chars h))
-      ∙ runs_of_units P len_of some chars levels (omega arith) s (f + 1) level (later_places P len_of f c chars h)
-      ∙ sym (ap (map (units_of P)) (cond-true (eqb k level) (level_runs_from s (f + 1) level levels) ((s, f) ∷ level_runs_from f (f + 1) k levels) is))
-  | inr other ↦
-      other_units (P s) (P f) level k (len_of c) (per_unit len_of chars levels) (eqb-false _ _ other) (omega (arith, some c))
-      ∙ ap (λ (l : List Run). (P s, P f) ∷ l) (
-      ap (λ x. level_runs_from (P f) x k (per_unit len_of chars levels)) (sym (next_place P len_of f c chars h))
-      ∙ runs_of_units P len_of some chars levels (omega arith) f (f + 1) k (later_places P len_of f c chars h))
-      ∙ sym (ap (map (units_of P)) (cond-false (eqb k level) (level_runs_from s (f + 1) level levels) ((s, f) ∷ level_runs_from f (f + 1) k levels) other))
-]
+runs_of_units P len_of some (c ∷ chars) (k ∷ levels) e s f level h =
+    let same = runs_of_units P len_of some chars levels (omega arith) s (f + 1) level in
+    let other = runs_of_units P len_of some chars levels (omega arith) f (f + 1) k in
+    grind (arith, eqb-true, eqb-false, eq-eqb, more_units, other_units (P s) (P f) level k (len_of c), next_place P len_of f c chars h, later_places P len_of f c chars h, same, other)
 
 -- the place of a character in a line that starts at the unit `from`
 abbrev pub place_from : ℕ → (ℕ → ℕ) → List ℕ → ℕ → ℕ
@@ -86,25 +66,15 @@ first_run from level n rest some = grind (arith, more_units)
 -- the level runs of the units
 pub level_runs-units : (from : ℕ) (len_of : ℕ → ℕ) → HasUnits len_of → (chars levels : List ℕ) → length levels ≡ length chars
     → level_runs from (per_unit len_of chars levels) ≡ map (units_of (place_from from len_of chars)) (level_runs 0 levels)
-level_runs-units from len_of some [] [] e = refl
-level_runs-units from len_of some [] (k ∷ levels) e = absurd (omega arith)
+level_runs-units from len_of some [] levels e = simp (nil_from_length levels (omega arith))
 level_runs-units from len_of some (c ∷ chars) [] e = absurd (omega arith)
 level_runs-units from len_of some (c ∷ chars) (k ∷ levels) e =
     let h = places from len_of (c ∷ chars) in
-    let start : place_from from len_of (c ∷ chars) 0 ≡ from = omega arith in
-    let next : place_from from len_of (c ∷ chars) (0 + 1) ≡ place_from from len_of (c ∷ chars) 0 + len_of c = next_place (place_from from len_of (c ∷ chars)) len_of 0 c chars h in
-    let next' : from + len_of c ≡ place_from from len_of (c ∷ chars) (0 + 1) = omega arith in
-    first_run from k (len_of c) (per_unit len_of chars levels) (omega (arith, some c))
-    ∙ ap (λ x. level_runs_from from x k (per_unit len_of chars levels)) next'
-    ∙ ap (λ x. level_runs_from x (place_from from len_of (c ∷ chars) (0 + 1)) k (per_unit len_of chars levels)) (sym start)
-    ∙ runs_of_units (place_from from len_of (c ∷ chars)) len_of some chars levels (omega arith) 0 (0 + 1) k (later_places (place_from from len_of (c ∷ chars)) len_of 0 c chars h)
+    grind (arith, next_place (place_from from len_of (c ∷ chars)) len_of 0 c chars h, first_run, runs_of_units (place_from from len_of (c ∷ chars)) len_of some chars levels, later_places (place_from from len_of (c ∷ chars)) len_of 0 c chars h)
 
 pub map-same_on : {A B : Type 0} (f g : A → B) (xs : List A) → All (λ x. f x ≡ g x) xs → map f xs ≡ map g xs
 map-same_on f g [] h = refl
-map-same_on f g (x ∷ xs) h =
-    let first : f x ≡ g x = h zero x (omega arith) in
-    let rest = map-same_on f g xs (All-tail (λ x. f x ≡ g x) x xs h) in
-    λ i. first i ∷ rest i
+map-same_on f g (x ∷ xs) h = cc (h zero x (omega arith), map-same_on f g xs (All-tail (λ x. f x ≡ g x) x xs h))
 
 -- the level of a run of units is that of the run of characters
 pub run_level-units : (from : ℕ) (len_of : ℕ → ℕ) → HasUnits len_of → (chars levels : List ℕ) → length levels ≡ length chars
@@ -119,13 +89,8 @@ pub visual_runs-units : (from : ℕ) (len_of : ℕ → ℕ) → HasUnits len_of 
     → visual_runs from (per_unit len_of chars levels) ≡ map (units_of (place_from from len_of chars)) (visual_runs 0 levels)
 unfolding visual_runs
 visual_runs-units from len_of some chars levels e =
-    ap (λ rs. at_places (0, 0) rs (visual_order (map (run_level from (per_unit len_of chars levels)) rs))) (level_runs-units from len_of some chars levels e)
-    ∙ ap (λ ks. at_places (0, 0) (map (units_of (place_from from len_of chars)) (level_runs 0 levels)) (visual_order ks)) same_levels
-    ∙ at_places-moved (units_of (place_from from len_of chars)) (level_runs 0 levels) (visual_order (map (run_level 0 levels) (level_runs 0 levels)))
-    (order_below (map (run_level 0 levels) (level_runs 0 levels)) (visual_order (map (run_level 0 levels) (level_runs 0 levels))) (length (level_runs 0 levels)) (length-map (level_runs 0 levels) (run_level 0 levels)) (visual_order-is (map (run_level 0 levels) (level_runs 0 levels))))
-  where
-    same_levels : map (run_level from (per_unit len_of chars levels)) (map (units_of (place_from from len_of chars)) (level_runs 0 levels)) ≡ map (run_level 0 levels) (level_runs 0 levels)
-    same_levels =
-        map-map (run_level from (per_unit len_of chars levels)) (units_of (place_from from len_of chars)) (level_runs 0 levels)
-        ∙ map-same_on (λ r. run_level from (per_unit len_of chars levels) (units_of (place_from from len_of chars) r)) (run_level 0 levels) (level_runs 0 levels)
-        (λ k d fits. run_level-units from len_of some chars levels e (get_or (level_runs 0 levels) k d) (level_runs-each 0 levels k d fits))
+    let own : List ℕ = map (run_level 0 levels) (level_runs 0 levels) in
+    let below = order_below own (visual_order own) (length (level_runs 0 levels)) (length-map (level_runs 0 levels) (run_level 0 levels)) (visual_order-is own) in
+    let same_levels = map-same_on (λ r. run_level from (per_unit len_of chars levels) (units_of (place_from from len_of chars) r)) (run_level 0 levels) (level_runs 0 levels)
+    (λ k d fits. run_level-units from len_of some chars levels e (get_or (level_runs 0 levels) k d) (level_runs-each 0 levels k d fits)) in
+    simp (level_runs-units from len_of some chars levels e, map-map, same_levels, at_places-moved (units_of (place_from from len_of chars)) (level_runs 0 levels) (visual_order own) below)

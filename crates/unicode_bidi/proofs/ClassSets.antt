@@ -1,10 +1,10 @@
 -- Sets of classes: what is in them, and which tests of what is in them agree.
-use Rattle.std.proofs.Common.{◌≡◌, ℕ, ◌^◌, ◌<◌, ◌≢◌, min, max, bit_and, bit_or, bit_xor, Bool, true, false, not, ◌==◌, ◌&&◌, ◌||◌, List, [], ◌∷◌, get_or, refl, sym, ap, ◌∙◌, arith, inl, inr, eqb-true}
+use Rattle.std.proofs.Common.{◌≡◌, ℕ, ◌^◌, ◌<◌, ◌≢◌, bit_and, bit_or, bit_xor, Bool, true, false, not, ◌==◌, ◌&&◌, ◌||◌, List, [], ◌∷◌, get_or, refl, arith, inl, inr}
 use Rattle.std.proofs.lemmas.Grind.{common_steps}
 use Rattle.std.specs.Int.{bit_at}
 use Rattle.std.specs.List.{list_any}
-use Rattle.std.proofs.Math.Bool.{or-true}
-use Rattle.std.proofs.lemmas.Bool.{cases_Bool, cases_eq, cases_lt, both_ways, eq-eqb}
+use Rattle.std.proofs.Math.Nat.{min-zero}
+use Rattle.std.proofs.lemmas.Bool.{cases_Bool, cases_lt, both_ways, false_from_ne_true}
 use Rattle.std.proofs.lemmas.List.Folds.{list_any_none, list_any_at}
 use Rattle.std.proofs.lemmas.Nat.Bits.{bit_at_or, bit_at_and, bit_at_xor, bit_at-zero, bit_at-pow_other, bit_at_above, bit_at-lt, same_from_bits}
 use Rattle.bidi_base.specs.declared.char_data.BidiClass.{BidiClass}
@@ -28,23 +28,11 @@ any_same test c = grind arith
 any_either : (p q test : BidiClass → Bool) (classes : List BidiClass)
     → list_any (λ d. (p d || q d) && test d) classes ≡ (list_any (λ d. p d && test d) classes || list_any (λ d. q d && test d) classes)
 any_either p q test [] = refl
-any_either p q test (d ∷ classes) = ap (λ b. ((p d || q d) && test d) || b) (any_either p q test classes) ∙ parts (p d) (q d) (test d) (list_any (λ d. p d && test d) classes) (list_any (λ d. q d && test d) classes)
-  where
-    parts : (a b t x y : Bool) → (((a || b) && t) || (x || y)) ≡ (((a && t) || x) || ((b && t) || y))
-    parts true true true x y = refl
-    parts true false true x y = refl
-    parts false true true x y = sym (or-true x)
-    parts false false true x y = refl
-    parts true true false x y = refl
-    parts true false false x y = refl
-    parts false true false x y = refl
-    parts false false false x y = refl
+any_either p q test (d ∷ classes) = simp (any_either p q test classes) (grind arith)
 
 pub any_of-with : (set : ClassSet) (c : BidiClass) (test : BidiClass → Bool) → any_of (with set c) test ≡ (any_of set test || test c)
 unfolding any_of
-any_of-with set c test =
-    ap (λ (p : BidiClass → Bool). list_any (λ d. p d && test d) every_class) (λ i d. has-with set c d i)
-    ∙ any_either (has set) (same_class c) test every_class ∙ ap (λ b. list_any (λ d. has set d && test d) every_class || b) (any_same test c)
+any_of-with set c test = simp (has-with, any_either (has set) (same_class c) test every_class, any_same test c)
 
 -- ---- tests
 
@@ -58,17 +46,11 @@ class_of_number : (k : ℕ) → k < 23 → class_number (get_or every_class k L)
 class_of_number k below = grind arith
 
 module _ (a b : ClassSet) (small : b.bits < 2 ^ 23) where
-  both_bits : (x y : ℕ) → x < 2 → y < 2 → (min x y == 1) ≡ ((x == 1) && (y == 1))
-  both_bits x y h k = grind arith
-
   bit_of_both : (c : BidiClass) → (bit_at (bit_and a.bits b.bits) (class_number c) == 1) ≡ (has a c && has b c)
   bit_of_both c = grind (arith, bit_at_and)
 
   none_of : bit_and a.bits b.bits ≡ 0 → (c : BidiClass) → (has a c && has b c) ≡ false
-  none_of none c = sym (bit_of_both c) ∙ ap (λ n. bit_at n (class_number c) == 1) none ∙ ap (λ n. n == 1) (bit_at-zero (class_number c))
-
-  not_one : (x : ℕ) → x < 2 → (x == 1) ≡ false → x ≡ 0
-  not_one x h e = grind arith
+  none_of none c = simp (← bit_of_both c, none, bit_at-zero)
 
   -- a bit of both is that of a class
   no_bit : list_any (λ c. has a c && has b c) every_class ≡ false → (k : ℕ) → bit_at (bit_and a.bits b.bits) k ≡ bit_at 0 k
@@ -76,27 +58,20 @@ module _ (a b : ClassSet) (small : b.bits < 2 ^ 23) where
     | inl below ↦
         let c = get_or every_class k L in
         let at : class_number c ≡ k = class_of_number k below in
-        let here : (has a c && has b c) ≡ false = elim (cases_Bool (has a c && has b c)) [
-          | inl some ↦ absurd (both_ways (list_any (λ d. has a d && has b d) every_class) none (list_any_at (λ d. has a d && has b d) every_class k L below some))
-          | inr other ↦ other
-        ] in
-        ap (bit_at (bit_and a.bits b.bits)) (sym at) ∙ not_one (bit_at (bit_and a.bits b.bits) (class_number c)) (bit_at-lt _ _) (bit_of_both c ∙ here) ∙ sym (bit_at-zero k)
-    | inr past ↦
-        bit_at_and a.bits b.bits k ∙ ap (min (bit_at a.bits k)) (bit_at_above b.bits 23 k small past) ∙ none_more (bit_at a.bits k) ∙ sym (bit_at-zero k)
+        let none_here = false_from_ne_true (has a c && has b c) (λ some. both_ways _ none (list_any_at (λ d. has a d && has b d) every_class k L below some)) in
+        let off : (bit_at (bit_and a.bits b.bits) k == 1) ≡ false = cc (bit_of_both c) in
+        grind (arith, bit_at-lt, bit_at-zero)
+    | inr past ↦ simp (bit_at_and, bit_at_above b.bits 23 k small past, bit_at-zero, min-zero)
   ]
-    where
-      none_more : (x : ℕ) → min x 0 ≡ 0
-      none_more x = omega arith
 
   -- the bits of both are none exactly if no class is in both
   pub meets_any : not (bit_and a.bits b.bits == 0) ≡ any_of a (has b)
   unfolding any_of
   meets_any = elim (cases_Bool (list_any (λ c. has a c && has b c) every_class)) [
     | inl some ↦
-        let other : (bit_and a.bits b.bits == 0) ≡ false =
-        apart_eqb (bit_and a.bits b.bits) 0 (λ none. both_ways (list_any (λ c. has a c && has b c) every_class) (list_any_none (λ c. has a c && has b c) every_class (λ k d within. none_of none (get_or every_class k d))) some) in
-        ap not other ∙ sym some
-    | inr none ↦ ap not (eq-eqb (bit_and a.bits b.bits) 0 (same_from_bits (bit_and a.bits b.bits) 0 (no_bit none))) ∙ sym none
+        let apart = λ (none : bit_and a.bits b.bits ≡ 0). both_ways _ (list_any_none (λ c. has a c && has b c) every_class (λ k d within. none_of none (get_or every_class k d))) some in
+        simp (some, apart_eqb (bit_and a.bits b.bits) 0 apart)
+    | inr none ↦ simp (none, same_from_bits (bit_and a.bits b.bits) 0 (no_bit none))
   ]
 
 -- ---- two sets
@@ -109,12 +84,4 @@ without_has a b c = grind (arith, bit_at_xor, bit_at_and)
 
 -- a class that is there already
 pub with-same : (set : ClassSet) (c : BidiClass) → has set c ≡ true → with set c ≡ set
-with-same set c there = λ i. record { bits = same_from_bits (bit_or set.bits (2 ^ class_number c)) set.bits (λ k. bit_at_or set.bits (2 ^ class_number c) k ∙ each k) i }
-  where
-    each : (k : ℕ) → max (bit_at set.bits k) (bit_at (2 ^ class_number c) k) ≡ bit_at set.bits k
-    each k = elim (cases_eq k (class_number c)) [
-      | inl here ↦
-          let one : bit_at set.bits k ≡ 1 = ap (bit_at set.bits) here ∙ eqb-true (bit_at set.bits (class_number c)) 1 there in
-          omega (arith, bit_at-lt (2 ^ class_number c) k)
-      | inr other ↦ let none : bit_at (2 ^ class_number c) k ≡ 0 = bit_at-pow_other (class_number c) k other in omega arith
-    ]
+with-same set c there = λ i. record { bits = same_from_bits (bit_or set.bits (2 ^ class_number c)) set.bits (λ k. grind (arith, bit_at_or, bit_at-lt, bit_at-pow_other)) i }

@@ -1,5 +1,5 @@
 -- The direction of a list of levels by two tests: is some level odd, is some even.
-use Rattle.std.proofs.Common.{◌≡◌, ◌%◌, ℕ, ◌≤◌, if◌then◌else◌, ◌||◌, ◌&&◌, not, Bool, true, false, List, [], ◌∷◌, length, take, refl, arith, inl, inr, eq-eqb, ne_eqb}
+use Rattle.std.proofs.Common.{◌≡◌, ◌%◌, ℕ, ◌≤◌, if◌then◌else◌, not, true, false, List, [], ◌∷◌, length, take, refl, arith, inl, inr, eq-eqb, ne_eqb}
 use Rattle.std.specs.List.{list_all, list_any}
 use Rattle.std.proofs.lemmas.List.{take_all}
 use Rattle.bidi_base.specs.declared.char_data.Direction.TheVariants.{Ltr, Rtl, Mixed}
@@ -7,19 +7,13 @@ use Rattle.bidi_base.specs.Direction.{direction_of_levels}
 use Rattle.bidi_base.specs.Levels.{is_even, is_odd}
 use Rattle.bidi_base.proofs.LevelsLemmas.{odd_or_even, is_odd-not_even}
 
-step : (a b p q : Bool) → b ≡ not a → q ≡ not p → (b && q) ≡ not (a || p)
-step a b p q e f = grind arith
-
-twice : (a b : Bool) → a ≡ not b → b ≡ not a
-twice a b e = grind arith
-
 all_even : (levels : List ℕ) → list_all is_even levels ≡ not (list_any is_odd levels)
 all_even [] = refl
-all_even (level ∷ levels) = step (is_odd level) (is_even level) (list_any is_odd levels) (list_all is_even levels) (twice (is_odd level) (is_even level) (is_odd-not_even level)) (all_even levels)
+all_even (level ∷ levels) = grind (arith, is_odd-not_even, all_even levels)
 
 all_odd : (levels : List ℕ) → list_all is_odd levels ≡ not (list_any is_even levels)
 all_odd [] = refl
-all_odd (level ∷ levels) = step (is_even level) (is_odd level) (list_any is_even levels) (list_all is_odd levels) (is_odd-not_even level) (all_odd levels)
+all_odd (level ∷ levels) = grind (arith, is_odd-not_even, all_odd levels)
 
 pub direction_of_levels-tests : (levels : List ℕ) → direction_of_levels levels ≡ (if not (list_any is_even levels) then Rtl else if not (list_any is_odd levels) then Ltr else Mixed)
 unfolding direction_of_levels

@@ -1,19 +1,19 @@
 -- The levels of a paragraph's units: of what X9 removed, and of a paragraph that keeps to its level throughout.
-use Rattle.std.proofs.Common.{◌≡◌, ℕ, zero, suc, ◌+◌, ◌-◌, ◌<◌, ◌≤◌, ◌≢◌, Bool, true, false, not, List, [], ◌∷◌, ◌++◌, length, get_or, set, Option, Some, refl, sym, map, ap, ◌∙◌, arith, inl, inr, get_or-set_same, get_or-set_other}
+use Rattle.std.proofs.Common.{◌≡◌, ℕ, zero, suc, ◌+◌, ◌-◌, ◌<◌, ◌≤◌, Bool, true, false, List, [], ◌∷◌, length, get_or, set, Option, refl, map, ap, ◌∙◌, arith, inl, inr, get_or-set_same, get_or-set_other, add-zero}
 use Rattle.std.specs.Prelude.{replicate}
 use Rattle.std.specs.List.{list_any}
-use Rattle.std.proofs.lemmas.Bool.{cases_Bool, both_ways, or_cases, or_left, or_right, cond-false, not-true}
+use Rattle.std.proofs.lemmas.Bool.{cases_Bool, both_ways, not-true}
 use Rattle.std.proofs.lemmas.List.{ext_get_or, replicate-append-replicate, get_or_default, get_or-map, length-map}
 use Rattle.std.proofs.lemmas.List.Folds.{Any-from_list_any, list_any_at, list_any-append}
 use Rattle.std.proofs.lemmas.List.Sums.{sum_by-cons}
 use Rattle.std.proofs.lemmas.List.Sorted.{IsPermutation-refl}
 use Rattle.bidi_base.specs.declared.char_data.BidiClass.{BidiClass}
-use Rattle.bidi_base.specs.declared.char_data.BidiClass.TheVariants.{L, R, AL, BN, FSI}
+use Rattle.bidi_base.specs.declared.char_data.BidiClass.TheVariants.{L, FSI}
 use Rattle.bidi_base.specs.declared.data_source.BidiMatchedOpeningBracket.{BidiMatchedOpeningBracket}
 use Rattle.bidi_base.specs.Classes.{is_initiator, is_removed}
 use Rattle.bidi_base.specs.Flat.{hidden, keeps_to}
 use Rattle.bidi_base.specs.Places.{class_at}
-use Rattle.bidi_base.specs.Isolates.{resolved_fsi, stored_class, stored_classes}
+use Rattle.bidi_base.specs.Isolates.{resolved_fsi, stored_classes}
 use Rattle.bidi_base.specs.Explicit.{explicit_levels, explicit_classes}
 use Rattle.bidi_base.specs.Sequences.{is_kept_at, level_at, sequences}
 use Rattle.bidi_base.specs.Stored.{AreResolved, levels_in}
@@ -21,7 +21,7 @@ use Rattle.bidi_base.specs.Text.{text_len, place, is_per_char, per_unit, per_cha
 use Rattle.bidi_base.proofs.LevelsInLemmas.{levels_in-written}
 use Rattle.bidi_base.proofs.PerCharTests.{level_eq, level_test}
 use Rattle.bidi_base.proofs.PerUnit.{length-per_char, length-per_unit, get_or-per_char, get_or-per_unit}
-use Rattle.bidi_base.proofs.PlaceLemmas.{place-zero, place-more, place-more-le, UnitOf, unit_of}
+use Rattle.bidi_base.proofs.PlaceLemmas.{place-zero, place-more, place-more-le, unit_of}
 use Rattle.bidi_base.proofs.KeepsToLemmas.{levels_in-keeps_to}
 use Rattle.bidi_base.proofs.StoredLemmas.{class_at-stored_classes}
 use Rattle.bidi_base.proofs.StoredSteps.{length-stored_classes}
@@ -39,14 +39,8 @@ pub record AreFilled (paragraph : ℕ) (classes : List BidiClass) (old : List �
 
 module _ (paragraph : ℕ) (classes : List BidiClass) (old : List ℕ) (i : ℕ) (new : List ℕ) (h : AreFilled paragraph classes old i new) where
   module _ (before : ℕ) (within : i < length new) (at_front : i ≡ 0 → before ≡ paragraph) (inside : (p : ℕ) → p + 1 ≡ i → before ≡ get_or new p 0) where
-    other : (p : ℕ) → p ≢ i → get_or (set new i before) p 0 ≡ get_or new p 0
-    other p apart = get_or-set_other new i p before 0 apart
-
-    here : (p : ℕ) → p ≡ i → get_or (set new i before) p 0 ≡ before
-    here p same = ap (λ (n : ℕ). get_or (set new i before) n 0) same ∙ get_or-set_same new i before 0 within
-
     pub AreFilled-removed : is_kept_at classes i ≡ false → AreFilled paragraph classes old (i + 1) (set new i before)
-    AreFilled-removed gone = grind (arith, other, here)
+    AreFilled-removed gone = grind (arith, get_or-set_same, get_or-set_other)
 
 module _ (len_of : ℕ → ℕ) (h : HasUnits len_of) (chars : List ℕ) (stored : List BidiClass) (paragraph : ℕ) (classes : List BidiClass) (old new : List ℕ)
     (stored_long : length stored ≡ length chars) (is : classes ≡ per_unit len_of chars stored) (old_even : is_per_char level_eq len_of chars old ≡ true) (long : length new ≡ length classes)
@@ -60,9 +54,6 @@ module _ (len_of : ℕ → ℕ) (h : HasUnits len_of) (chars : List ℕ) (stored
   abbrev pub filled : List ℕ
   filled = per_char 0 len_of chars new
 
-  old_is : old ≡ per_unit len_of chars values
-  old_is = per_unit-from_is_per_char level_eq level_test 0 len_of h chars old old_even
-
   classes_long : length classes ≡ text_len len_of chars
   classes_long = ap length is ∙ length-per_unit len_of chars stored stored_long
 
@@ -74,71 +65,47 @@ module _ (len_of : ℕ → ℕ) (h : HasUnits len_of) (chars : List ℕ) (stored
 
   kept_unit : (k j : ℕ) → k < length chars → j < len_of (get_or chars k 0) → is_kept_at stored k ≡ true → get_or new (place len_of chars k + j) 0 ≡ get_or values k 0
   kept_unit k j fits below stays =
-      kept (place len_of chars k + j) (unit_within k j fits below) (unit_class k j fits below ∙ stays)
-      ∙ ap (λ (us : List ℕ). get_or us (place len_of chars k + j) 0) old_is
-      ∙ get_or-per_unit len_of chars values k j 0 0 (length-per_char 0 len_of chars old) fits below
+      let own = kept (place len_of chars k + j) (unit_within k j fits below) (unit_class k j fits below ∙ stays) in
+      grind (arith, per_unit-from_is_per_char level_eq level_test 0 len_of h chars old old_even, get_or-per_unit len_of chars values k j 0 0, length-per_char 0 len_of chars old, own)
 
-  first_unit : (k : ℕ) → get_or new (place len_of chars k + 0) 0 ≡ get_or new (place len_of chars k) 0
-  first_unit k = grind arith
+  first_unit : (k : ℕ) → k < length chars → get_or new (place len_of chars k + 0) 0 ≡ level_at filled k
+  first_unit k fits = simp (add-zero, get_or-per_char 0 len_of chars new k 0 fits)
 
-  removed_unit : (k j : ℕ) → k < length chars → j < len_of (get_or chars k 0) → is_kept_at stored k ≡ false → get_or new (place len_of chars k + j) 0 ≡ get_or new (place len_of chars k) 0
-  removed_unit k zero fits below gone = first_unit k
+  removed_unit : (k j : ℕ) → k < length chars → j < len_of (get_or chars k 0) → is_kept_at stored k ≡ false → get_or new (place len_of chars k + j) 0 ≡ level_at filled k
+  removed_unit k zero fits below gone = first_unit k fits
   removed_unit k (suc j) fits below gone =
       let next : place len_of chars k + suc j ≡ place len_of chars k + j + 1 = omega arith in
-      let within = unit_within k (suc j) fits below in
-      ap (λ u. get_or new u 0) next
-      ∙ removed (place len_of chars k + j) (omega arith) (ap (is_kept_at classes) (sym next) ∙ unit_class k (suc j) fits below ∙ gone)
-      ∙ removed_unit k j fits (omega arith) gone
+      simp (next, removed (place len_of chars k + j) (omega (arith, unit_within k (suc j) fits below)) (simp next at (unit_class k (suc j) fits below ∙ gone)), removed_unit k j fits (omega arith) gone)
 
-  -- the units of a character have one level
-  one_level : (k j : ℕ) → k < length chars → j < len_of (get_or chars k 0) → get_or new (place len_of chars k + j) 0 ≡ get_or new (place len_of chars k) 0
-  one_level k j fits below = elim (cases_Bool (is_kept_at stored k)) [
-    | inl stays ↦ kept_unit k j fits below stays ∙ sym (kept_unit k 0 fits (h (get_or chars k 0)) stays) ∙ first_unit k
+  -- the units of a character have its level
+  own_level : (k j : ℕ) → k < length chars → j < len_of (get_or chars k 0) → get_or new (place len_of chars k + j) 0 ≡ level_at filled k
+  own_level k j fits below = elim (cases_Bool (is_kept_at stored k)) [
+    | inl stays ↦ cc (kept_unit k j fits below stays, kept_unit k 0 fits (h (get_or chars k 0)) stays, first_unit k fits)
     | inr gone ↦ removed_unit k j fits below gone
   ]
-
-  level_of_char : (k : ℕ) → k < length chars → level_at filled k ≡ get_or new (place len_of chars k) 0
-  level_of_char k fits = get_or-per_char 0 len_of chars new k 0 fits
 
   pub filled-units : new ≡ per_unit len_of chars filled
   filled-units =
       ext_get_or 0 new (per_unit len_of chars filled) (omega (arith, long, classes_long, length-per_unit len_of chars filled (length-per_char 0 len_of chars new)))
-      (λ u within. by_unit u (unit_of len_of chars u (omega (arith, within, long, classes_long))))
-    where
-      by_unit : (u : ℕ) → UnitOf len_of chars u → get_or new u 0 ≡ get_or (per_unit len_of chars filled) u 0
-      by_unit u w =
-          ap (λ n. get_or new n 0) w.at_place
-          ∙ one_level w.index w.offset w.within w.below
-          ∙ sym (level_of_char w.index w.within)
-          ∙ sym (get_or-per_unit len_of chars filled w.index w.offset 0 0 (length-per_char 0 len_of chars new) w.within w.below)
-          ∙ ap (λ n. get_or (per_unit len_of chars filled) n 0) (sym w.at_place)
+      (λ u within.
+      let w = unit_of len_of chars u (omega (arith, within, long, classes_long)) in
+      grind (arith, own_level w.index w.offset, get_or-per_unit len_of chars filled w.index w.offset 0 0, length-per_char))
 
   filled-kept : (p : ℕ) → p < length stored → is_kept_at stored p ≡ true → level_at filled p ≡ level_at values p
-  filled-kept p within stays =
-      let fits : p < length chars = omega (arith, within, stored_long) in
-      level_of_char p fits ∙ sym (first_unit p) ∙ kept_unit p 0 fits (h (get_or chars p 0)) stays
+  filled-kept p within stays = cc (first_unit p (omega (arith, within, stored_long)), kept_unit p 0 (omega (arith, within, stored_long)) (h (get_or chars p 0)) stays)
 
   filled-front : 0 < length stored → is_kept_at stored 0 ≡ false → level_at filled 0 ≡ paragraph
   filled-front some gone =
-      let fits : 0 < length chars = omega (arith, some, stored_long) in
-      let at : place len_of chars 0 + 0 ≡ 0 = omega (arith, place-zero len_of chars) in
-      level_of_char 0 fits ∙ ap (λ u. get_or new u 0) (place-zero len_of chars)
-      ∙ front (omega (arith, unit_within 0 0 fits (h (get_or chars 0 0)))) (ap (is_kept_at classes) (sym at) ∙ unit_class 0 0 fits (h (get_or chars 0 0)) ∙ gone)
+      grind (arith, place-zero, unit_class 0 0, h (get_or chars 0 0), first_unit 0, unit_within 0 0)
 
   filled-removed : (p : ℕ) → p + 1 < length stored → is_kept_at stored (p + 1) ≡ false → level_at filled (p + 1) ≡ level_at filled p
   filled-removed p within gone =
-      let fits : p < length chars = omega (arith, within, stored_long) in
       let next : p + 1 < length chars = omega (arith, within, stored_long) in
-      let some = h (get_or chars p 0) in
-      let j = len_of (get_or chars p 0) - 1 in
-      let below : j < len_of (get_or chars p 0) = omega arith in
-      let before : place len_of chars (p + 1) ≡ place len_of chars p + j + 1 = omega (arith, place-more len_of chars p 0 fits) in
-      let at : place len_of chars (p + 1) + 0 ≡ place len_of chars p + j + 1 = omega (arith, before) in
-      level_of_char (p + 1) next
-      ∙ ap (λ u. get_or new u 0) before
-      ∙ removed (place len_of chars p + j) (omega (arith, unit_within (p + 1) 0 next (h (get_or chars (p + 1) 0)), at)) (ap (is_kept_at classes) (sym at) ∙ unit_class (p + 1) 0 next (h (get_or chars (p + 1) 0)) ∙ gone)
-      ∙ one_level p j fits below
-      ∙ sym (level_of_char p fits)
+      let j : ℕ = len_of (get_or chars p 0) - 1 in
+      let before : place len_of chars (p + 1) + 0 ≡ place len_of chars p + j + 1 = omega (arith, place-more len_of chars p 0 (omega (arith, next)), h (get_or chars p 0)) in
+      let within_all = unit_within (p + 1) 0 next (h (get_or chars (p + 1) 0)) in
+      let same = removed (place len_of chars p + j) (omega (arith, within_all, before)) (simp before at (unit_class (p + 1) 0 next (h (get_or chars (p + 1) 0)) ∙ gone)) in
+      cc (first_unit (p + 1) next, own_level p j (omega (arith, next)) (omega (arith, h (get_or chars p 0))))
 
   -- so the levels are those of the rules, if those of the kept characters are
   pub filled-levels_in : (source : List BidiClass) (brackets : List (Option BidiMatchedOpeningBracket)) → stored ≡ stored_classes source
@@ -152,8 +119,7 @@ module _ (len_of : ℕ → ℕ) (h : HasUnits len_of) (chars : List ℕ) (stored
 
 pub per_unit-replicate : {X : Type 0} (len_of : ℕ → ℕ) (chars : List ℕ) (x : X) → per_unit len_of chars (replicate (length chars) x) ≡ replicate (text_len len_of chars) x
 per_unit-replicate len_of [] x = refl
-per_unit-replicate len_of (c ∷ chars) x =
-    ap (λ us. replicate (len_of c) x ++ us) (per_unit-replicate len_of chars x) ∙ replicate-append-replicate (len_of c) (text_len len_of chars) x ∙ ap (λ n. replicate n x) (sym (sum_by-cons len_of c chars))
+per_unit-replicate len_of (c ∷ chars) x = simp (per_unit-replicate len_of chars x, replicate-append-replicate, sum_by-cons)
 
 pub kept_to_levels : (len_of : ℕ → ℕ) (chars : List ℕ) (source : List BidiClass) (brackets : List (Option BidiMatchedOpeningBracket)) (paragraph : ℕ) (old new : List ℕ) → length source ≡ length chars → length old ≡ text_len len_of chars
     → keeps_to paragraph source ≡ true → new ≡ replicate (length old) paragraph → new ≡ per_unit len_of chars (levels_in paragraph source brackets)
@@ -163,28 +129,18 @@ kept_to_levels len_of chars source brackets paragraph old new fits long keeps is
 
 list_any-replicate : {X : Type 0} (test : X → Bool) (n : ℕ) (x : X) → list_any test (replicate n x) ≡ true → test x ≡ true
 list_any-replicate test zero x e = absurd (both_ways false refl e)
-list_any-replicate test (suc n) x e = elim (or_cases (test x) (list_any test (replicate n x)) e) [ inl here ↦ here | inr later ↦ list_any-replicate test n x later ]
+list_any-replicate test (suc n) x e = grind (arith, list_any-replicate test n x)
 
 list_any-per_unit : {X : Type 0} (test : X → Bool) (len_of : ℕ → ℕ) (chars : List ℕ) (vs : List X) → list_any test (per_unit len_of chars vs) ≡ true → list_any test vs ≡ true
 list_any-per_unit test len_of [] vs e = absurd (both_ways false refl e)
 list_any-per_unit test len_of (c ∷ chars) [] e = absurd (both_ways false refl e)
-list_any-per_unit test len_of (c ∷ chars) (v ∷ vs) e =
-    elim (or_cases (list_any test (replicate (len_of c) v)) (list_any test (per_unit len_of chars vs)) (sym (list_any-append test (replicate (len_of c) v) (per_unit len_of chars vs)) ∙ e)) [
-      | inl here ↦ or_left (test v) (list_any test vs) (list_any-replicate test (len_of c) v here)
-      | inr later ↦ or_right (test v) (list_any test vs) (list_any-per_unit test len_of chars vs later)
-    ]
+list_any-per_unit test len_of (c ∷ chars) (v ∷ vs) e = grind (arith, list_any-append, list_any-replicate, list_any-per_unit test len_of chars vs)
 
 module _ (test : BidiClass → Bool) (of_stored : (o : Option BidiClass) → test (resolved_fsi o) ≡ test FSI) where
-  stored_class-test : (classes : List BidiClass) (q : ℕ) (c : BidiClass) → test (stored_class classes q c) ≡ test c
-  stored_class-test classes q c = grind arith
-
   any-stored : (len_of : ℕ → ℕ) (chars : List ℕ) (source units : List BidiClass) → units ≡ per_unit len_of chars (stored_classes source) → list_any test units ≡ true → list_any test source ≡ true
   any-stored len_of chars source units is e =
-      let found = Any-from_list_any test (stored_classes source) (list_any-per_unit test len_of chars (stored_classes source) (ap (list_any test) (sym is) ∙ e)) in
-      let k = found.0 in
-      let within : k < length source = omega (arith, found.2, length-stored_classes source) in
-      list_any_at test source k L within
-      (sym (stored_class-test source k (class_at source k)) ∙ ap test (sym (class_at-stored_classes source k within) ∙ get_or_default (stored_classes source) k L found.1 found.2 ∙ found.3) ∙ found.4)
+      let found = Any-from_list_any test (stored_classes source) (list_any-per_unit test len_of chars (stored_classes source) (simp is at e)) in
+      grind (arith, length-stored_classes, list_any_at test source found.0 L, class_at-stored_classes source found.0, get_or_default (stored_classes source) found.0 L found.1)
 
 module _ (len_of : ℕ → ℕ) (chars : List ℕ) (source units : List BidiClass) (is : units ≡ per_unit len_of chars (stored_classes source)) where
   pub initiators-stored : list_any is_initiator units ≡ true → list_any is_initiator source ≡ true
@@ -192,21 +148,11 @@ module _ (len_of : ℕ → ℕ) (chars : List ℕ) (source units : List BidiClas
 
   -- where X9 removes nothing, each unit is kept
   pub all_kept : list_any is_removed source ≡ false → (u : ℕ) → u < length units → is_kept_at units u ≡ true
-  all_kept none u within = elim (cases_Bool (is_removed (class_at units u))) [
-    | inl gone ↦ absurd (both_ways (list_any is_removed source) none (any-stored is_removed resolved_fsi-removed len_of chars source units is (list_any_at is_removed units u L within gone)))
-    | inr stays ↦ ap not stays
-  ]
-    where
-      resolved_fsi-removed : (o : Option BidiClass) → is_removed (resolved_fsi o) ≡ false
-      resolved_fsi-removed (Some R) = refl
-      resolved_fsi-removed (Some AL) = refl
-      resolved_fsi-removed (Some L) = refl
-      resolved_fsi-removed _ = refl
+  all_kept none u within =
+      grind (arith, any-stored is_removed, list_any_at is_removed units u L)
 
   -- so the passes begin with the same classes
   pub none_hidden : list_any is_removed source ≡ false → map hidden units ≡ units
   none_hidden none =
       ext_get_or L (map hidden units) units (length-map units hidden)
-      (λ u within.
-      let inside : u < length units = omega (arith, within, length-map units hidden) in
-      get_or-map hidden units u L L inside ∙ cond-false (is_removed (class_at units u)) BN (class_at units u) (not-true (is_removed (class_at units u)) (all_kept none u inside)))
+      (λ u within. grind (arith, length-map, get_or-map hidden units u L L, not-true (is_removed (class_at units u)), all_kept none u))

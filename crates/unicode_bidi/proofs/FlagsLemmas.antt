@@ -1,9 +1,8 @@
 -- What a paragraph's flags say of its classes.
-use Rattle.std.proofs.Common.{◌≡◌, ℕ, ◌<◌, Bool, false, not, ◌||◌, List, [], ◌∷◌, ◌++◌, length, arith, refl, ap, ◌∙◌}
+use Rattle.std.proofs.Common.{◌≡◌, ℕ, ◌<◌, Bool, false, not, ◌||◌, List, [], ◌∷◌, ◌++◌, length, arith, refl}
 use Rattle.std.proofs.lemmas.Grind.{common_steps}
 use Rattle.std.specs.List.{list_any}
 use Rattle.bidi_base.specs.declared.char_data.BidiClass.{BidiClass}
-use Rattle.bidi_base.specs.declared.char_data.BidiClass.TheVariants.{ES, ET, CS, NSM, S, WS, ON}
 use Rattle.bidi_base.specs.Classes.{is_initiator, is_opener, is_removed}
 use Rattle.bidi_base.specs.Direction.{may_turn, is_pure_ltr}
 use Rattle.bidi_base.specs.Flat.{is_flat, keeps_to, may_leave}
@@ -11,7 +10,7 @@ use Rattle.unicode_bidi.specs.ClassSet.{any_of}
 use Rattle.unicode_bidi.specs.ParagraphFlags.{is_counted, with_class, with_classes, flags_of}
 use Rattle.unicode_bidi.specs.declared.paragraph_flags.ParagraphFlags.{ParagraphFlags}
 use Rattle.unicode_bidi.proofs.ClassSets.{any_of-with, any_of-empty}
-use Rattle.std.proofs.Math.Bool.{or_assoc}
+use Rattle.std.proofs.Math.Bool.{or_assoc, or-false}
 
 pub with_classes-push : (flags : ParagraphFlags) (classes : List BidiClass) (c : BidiClass) → with_classes flags (classes ++ c ∷ []) ≡ with_class (with_classes flags classes) c
 with_classes-push flags [] c = refl
@@ -21,27 +20,18 @@ with_classes-push flags (b ∷ classes) c = with_classes-push (with_class flags 
 abbrev IsOfCounted : (BidiClass → Bool) → Type 0
 IsOfCounted test = (c : BidiClass) → is_counted c ≡ false → test c ≡ false
 
-or_false : (a b : Bool) → b ≡ false → a ≡ (a || b)
-or_false a b e = grind arith
-
 module _ (test : BidiClass → Bool) (of_counted : IsOfCounted test) where
   one_more : (flags : ParagraphFlags) (c : BidiClass) → any_of (with_class flags c).met test ≡ (any_of flags.met test || test c)
   one_more flags c = grind (arith, any_of-with)
 
   all_more : (flags : ParagraphFlags) (classes : List BidiClass) → any_of (with_classes flags classes).met test ≡ (any_of flags.met test || list_any test classes)
-  all_more flags [] = or_false (any_of flags.met test) false refl
-  all_more flags (c ∷ classes) =
-      all_more (with_class flags c) classes ∙ ap (λ b. b || list_any test classes) (one_more flags c)
-      ∙ or_assoc (any_of flags.met test) (test c) (list_any test classes)
+  all_more flags [] = simp or-false
+  all_more flags (c ∷ classes) = simp (all_more (with_class flags c) classes, one_more, or_assoc)
 
   pub any_of-flags_of : (classes : List BidiClass) → any_of (flags_of classes).met test ≡ list_any test classes
   any_of-flags_of classes = grind (arith, all_more, any_of-empty)
 
 -- ---- the tests of the flags
-
--- by the classes that are not counted
-of_counted : (test : BidiClass → Bool) → (test ES ≡ false) → (test ET ≡ false) → (test CS ≡ false) → (test NSM ≡ false) → (test S ≡ false) → (test WS ≡ false) → (test ON ≡ false) → IsOfCounted test
-of_counted test es et cs nsm s ws on = grind arith
 
 module _ (flags : ParagraphFlags) (classes : List BidiClass) (is : flags ≡ flags_of classes) where
   pub has_isolates-flags : any_of flags.met is_initiator ≡ list_any is_initiator classes

@@ -1,5 +1,5 @@
 -- A paragraph in which nothing opens a level: the passes over its one run.
-use Rattle.std.proofs.Common.{◌≡◌, ℕ, true, List, [], ◌∷◌, length, map, Option, sym, ap, subst, ◌∙◌, arith, rules}
+use Rattle.std.proofs.Common.{◌≡◌, ℕ, true, List, [], ◌∷◌, length, map, Option, arith, rules}
 use Rattle.std.specs.Prelude.{replicate, filter}
 use Rattle.std.specs.declared.ops.Range.{Range}
 use Rattle.std.proofs.lemmas.List.{append-nil}
@@ -7,12 +7,12 @@ use Rattle.std.proofs.lemmas.List.Elements.{All-cons, All-nil}
 use Rattle.bidi_base.specs.declared.char_data.BidiClass.{BidiClass}
 use Rattle.bidi_base.specs.declared.char_data.BidiClass.TheVariants.{L}
 use Rattle.bidi_base.specs.declared.data_source.BidiMatchedOpeningBracket.{BidiMatchedOpeningBracket}
-use Rattle.bidi_base.specs.Explicit.{explicit_levels, explicit_classes, processing_classes}
+use Rattle.bidi_base.specs.Explicit.{explicit_levels, explicit_classes}
 use Rattle.bidi_base.specs.Flat.{is_flat, hidden}
 use Rattle.bidi_base.specs.Isolates.{stored_classes}
 use Rattle.bidi_base.specs.Levels.{direction_of}
 use Rattle.bidi_base.specs.Sequences.{has_places, kept_places, sequences}
-use Rattle.bidi_base.specs.Text.{IsLine, is_boundary, char_index, text_len, per_unit, per_char}
+use Rattle.bidi_base.specs.Text.{IsLine, char_index, text_len, per_unit}
 use Rattle.bidi_base.specs.Units.{AreLines, bounds, chars_in_runs, kept_in_runs}
 use Rattle.bidi_base.proofs.FlatLemmas.{stored_classes-flat, explicit_levels-flat, processing_classes-flat, sequences-flat}
 use Rattle.bidi_base.proofs.PerUnit.{map-per_unit, per_char-per_unit}
@@ -48,9 +48,6 @@ module _ (len_of : ℕ → ℕ) (h : HasUnits len_of) (chars : List ℕ) (source
   stored_is : stored ≡ source
   stored_is = stored_classes-flat source flat
 
-  stored_long : length stored ≡ length chars
-  stored_long = length-stored_classes source ∙ fits
-
   begins : char_index len_of chars 0 ≡ 0
   begins = search (rules, char_index-place)
 
@@ -59,7 +56,7 @@ module _ (len_of : ℕ → ℕ) (h : HasUnits len_of) (chars : List ℕ) (source
 
   places-whole : kept_in_runs len_of chars stored whole.runs ≡ kept_places stored
   unfolding kept_in_runs chars_in_runs kept_places
-  places-whole = grind (arith, append-nil, begins, ends, stored_long)
+  places-whole = grind (arith, append-nil, begins, ends, length-stored_classes)
 
   -- it is all there is
   sequences-whole : filter has_places (characters_of len_of chars stored whole ∷ []) ≡ sequences paragraph stored (explicit_levels paragraph stored)
@@ -69,23 +66,16 @@ module _ (len_of : ℕ → ℕ) (h : HasUnits len_of) (chars : List ℕ) (source
   module _ (j : JoinedRuns) (same : j ≡ whole) where
     pub joined-IsNext : IsNext source (map bracket_of chars) stored (explicit_levels paragraph stored) (explicit_classes paragraph stored) [] (characters_of len_of chars stored j)
     joined-IsNext =
-        subst (λ (r : JoinedRuns). IsNext source (map bracket_of chars) stored (explicit_levels paragraph stored) (explicit_classes paragraph stored) [] (characters_of len_of chars stored r)) (sym same)
-        (IsNext-at paragraph stored (characters_of len_of chars stored whole ∷ []) sequences-whole source (map bracket_of chars) 0 (characters_of len_of chars stored whole) (omega arith) (direction_of-l_or_r paragraph))
+        rw same (IsNext-at paragraph stored (characters_of len_of chars stored whole ∷ []) sequences-whole source (map bracket_of chars)
+        0 (characters_of len_of chars stored whole) (omega arith) (direction_of-l_or_r paragraph))
 
     pub joined-AreLines : AreLines len_of chars j.runs
     joined-AreLines =
-        subst (λ (r : JoinedRuns). AreLines len_of chars r.runs) (sym same)
-        (All-cons (λ (r : ℕ × ℕ). IsLine len_of chars r.0 r.1) (0, text_len len_of chars) [] line (All-nil (λ (r : ℕ × ℕ). IsLine len_of chars r.0 r.1)))
-      where
-        line : IsLine len_of chars 0 (text_len len_of chars)
-        line = record {
-          ordered = omega arith;
-          begins = ap (is_boundary len_of chars) (sym (place-zero len_of chars)) ∙ is_boundary-place len_of chars 0;
-          ends = ap (is_boundary len_of chars) (sym (place-end len_of chars (length chars) (omega arith))) ∙ is_boundary-place len_of chars (length chars);
-        }
+        rw same (All-cons (λ (r : ℕ × ℕ). IsLine len_of chars r.0 r.1) (0, text_len len_of chars) []
+        (grind (arith, place-zero, is_boundary-place len_of chars 0, place-end len_of chars (length chars), is_boundary-place len_of chars (length chars))) (All-nil (λ (r : ℕ × ℕ). IsLine len_of chars r.0 r.1)))
 
     pub joined-sequences : filter has_places (characters_of len_of chars stored j ∷ []) ≡ sequences paragraph stored (explicit_levels paragraph stored)
-    joined-sequences = ap (λ (r : JoinedRuns). filter has_places (characters_of len_of chars stored r ∷ [])) same ∙ sequences-whole
+    joined-sequences = rw same sequences-whole
 
   -- the levels that are filled are the explicit ones
   pub levels-whole : (old new : List ℕ) → length old ≡ text_len len_of chars → new ≡ replicate (length old) paragraph → new ≡ per_unit len_of chars (explicit_levels paragraph stored)
@@ -95,9 +85,4 @@ module _ (len_of : ℕ → ℕ) (h : HasUnits len_of) (chars : List ℕ) (source
   pub whole-AreResolvedTo : (original units : List BidiClass) → original ≡ per_unit len_of chars stored → units ≡ map hidden original → AreResolvedTo len_of h chars source bracket_of paragraph [] units
   whole-AreResolvedTo original units original_is is =
       AreResolvedTo-start len_of h chars source bracket_of paragraph original units fits original_is
-      (is ∙ ap (map hidden) original_is ∙ map-per_unit hidden len_of chars stored ∙ ap (per_unit len_of chars) (sym processed))
-    where
-      processed : processing_classes paragraph (per_char L len_of chars original) ≡ map hidden stored
-      processed =
-          ap (processing_classes paragraph) (ap (per_char L len_of chars) original_is ∙ per_char-per_unit len_of h L chars stored stored_long)
-          ∙ subst (λ (cs : List BidiClass). processing_classes paragraph cs ≡ map hidden cs) (sym stored_is) (processing_classes-flat source flat paragraph)
+      (simp (is, original_is, stored_is, map-per_unit hidden len_of chars source, per_char-per_unit len_of h L chars source fits, processing_classes-flat source flat paragraph))

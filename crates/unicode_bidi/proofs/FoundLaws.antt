@@ -1,5 +1,5 @@
 -- What follows of the analysis of a text that is cut into its paragraphs.
-use Rattle.std.proofs.Common.{◌≡◌, ◌∙◌, ◌≤◌, ℕ, Bool, List, [], ◌∷◌, length, map, ap, subst, sym, arith}
+use Rattle.std.proofs.Common.{◌≡◌, ◌∙◌, ◌≤◌, ℕ, Bool, List, [], ◌∷◌, length, map, ap, arith}
 use Rattle.std.proofs.lemmas.List.{append-nil, length-map}
 use Rattle.std.specs.Bool.{then_some}
 use Rattle.std.specs.Prelude.{All, IfSome, IsTrue, Option, Some, None, slice_range}
@@ -12,7 +12,7 @@ use Rattle.bidi_base.specs.Paragraphs.{pieces_of, ranges_from}
 use Rattle.bidi_base.specs.Source.{Source}
 use Rattle.bidi_base.specs.Stored.{text_classes, text_levels, stored_levels}
 use Rattle.bidi_base.proofs.CrLfLemmas.{together-AreCrLfParagraphRanges}
-use Rattle.bidi_base.specs.Text.{per_unit, per_char, is_per_char, IsLine}
+use Rattle.bidi_base.specs.Text.{per_unit, is_per_char, IsLine}
 use Rattle.bidi_base.proofs.LevelLaws.{length-text_levels, stored_levels-AreLevelsFrom, text_classes-one, text_levels-one, paragraph_levels-one, All-per_unit}
 use Rattle.bidi_base.proofs.ParagraphsLemmas.{joined, length-text_classes, cut_after-joined, paragraphs-AreParagraphRanges}
 use Rattle.bidi_base.proofs.PerUnit.{per_char-per_unit}
@@ -46,8 +46,8 @@ module _ (source : Source) (base : Option ℕ) (pieces : List (List ℕ)) (a : A
 
     pub analysis-HasCharValues : HasUnits a.len_of → HasCharValues a (text_classes source pieces) (text_levels source base pieces)
     analysis-HasCharValues some = record {
-      classes = ap (per_char L a.len_of a.chars) found.classes ∙ per_char-per_unit a.len_of some L a.chars (text_classes source pieces) classes_long;
-      levels = ap (per_char 0 a.len_of a.chars) found.levels ∙ per_char-per_unit a.len_of some 0 a.chars (text_levels source base pieces) levels_long;
+      classes = simp (found.classes, per_char-per_unit a.len_of some L a.chars (text_classes source pieces) classes_long);
+      levels = simp (found.levels, per_char-per_unit a.len_of some 0 a.chars (text_levels source base pieces) levels_long);
     }
 
   module _ (some : HasUnits a.len_of) (ps : List ParagraphInfo) (found : IsAnalysisOf source base pieces a (ranges_of ps) (levels_of ps)) where
@@ -71,12 +71,9 @@ module _ (source : Source) (len_of : ℕ → ℕ) (some : HasUnits len_of) (char
   pub rule-AreParagraphRanges : (rule : SplitRule) → AreParagraphRangesBy rule source len_of chars (ranges_from len_of 0 (pieces_by (Some rule) source chars))
   rule-AreParagraphRanges rule = grind (arith, paragraphs-AreParagraphRanges, together-AreCrLfParagraphRanges)
 
-  rule-lines : (rule : SplitRule) (ranges : List (ℕ × ℕ)) → AreParagraphRangesBy rule source len_of chars ranges → All (λ r. IsLine len_of chars r.0 r.1) ranges
-  rule-lines rule ranges h = grind arith
-
   pub lines-found : (rule : SplitRule) (ps : List ParagraphInfo) → ranges_of ps ≡ ranges_from len_of 0 (pieces_by (Some rule) source chars) → All (λ p. IsLine len_of chars (range_of p).start (range_of p).end) ps
   lines-found rule ps e =
-      paragraphs-are_lines len_of chars ps (rule-lines rule (ranges_of ps) (subst (AreParagraphRangesBy rule source len_of chars) (sym e) (rule-AreParagraphRanges rule)))
+      paragraphs-are_lines len_of chars ps (rw e (grind (arith, rule-AreParagraphRanges rule)))
 
 -- the same of a text that is one paragraph
 module _ (source : Source) (base : Option ℕ) (a : AnalysedText) (ranges : List (ℕ × ℕ)) (own_levels : List ℕ) (found : IsAnalysisBy source base None a ranges own_levels) where
@@ -91,5 +88,5 @@ module _ (source : Source) (base : Option ℕ) (a : AnalysedText) (ranges : List
 
   pub bounded-one : IfSome base (λ level. level ≤ 125) → AreLevelsFrom (paragraph_level base (map source.class_of a.chars)) a.levels
   bounded-one few =
-      subst (AreLevelsFrom (paragraph_level base (map source.class_of a.chars))) (sym levels-one)
-      (All-per_unit (λ l. (paragraph_level base (map source.class_of a.chars) ≤ l) × (l ≤ 126)) a.len_of a.chars (stored_levels source base a.chars) (stored_levels-AreLevelsFrom source base a.chars few))
+      rw levels-one (All-per_unit (λ l. (paragraph_level base (map source.class_of a.chars) ≤ l) × (l ≤ 126)) a.len_of a.chars (stored_levels source base a.chars)
+      (stored_levels-AreLevelsFrom source base a.chars few))

@@ -1,7 +1,7 @@
 -- What the passes over the units of a sequence say about its characters.
-use Rattle.std.proofs.Common.{◌≡◌, ℕ, ◌-◌, ◌<◌, ◌≤◌, Bool, true, false, ◌&&◌, cond, eqb, List, [], ◌∷◌, ◌++◌, length, get_or, map, refl, sym, ap, ◌∙◌, arith, inl, inr}
+use Rattle.std.proofs.Common.{◌≡◌, ℕ, ◌+◌, ◌-◌, ◌<◌, ◌≤◌, true, false, ◌&&◌, List, [], ◌∷◌, length, map, refl, sym, ◌∙◌, arith, inl, inr}
 use Rattle.std.proofs.lemmas.Grind.{common_steps}
-use Rattle.std.specs.Prelude.{filter, flat_map, nat_le, nat_lt}
+use Rattle.std.specs.Prelude.{filter, nat_le, nat_lt}
 use Rattle.std.proofs.lemmas.Bool.{cases_Bool, cases_lt, both_ways, or_cases, false_from_ne_true}
 use Rattle.std.proofs.lemmas.Bool.Decides.{nat_tests}
 use Rattle.std.proofs.lemmas.List.{get_or_past, get_or-map}
@@ -36,16 +36,14 @@ AreWithin-later chars p ps h = λ q there. h q (omega (arith, there, times_in-la
 pub at_places-map : {X : Type 0} (f : ℕ → X) (d : X) (chars ps : List ℕ) → AreWithin chars ps → map f (at_places 0 chars ps) ≡ at_places d (map f chars) ps
 at_places-map f d chars [] h = refl
 at_places-map f d chars (p ∷ ps) h =
-    ap (λ x. x ∷ map f (at_places 0 chars ps)) (sym (get_or-map f chars p 0 d (AreWithin-first chars p ps h)))
-    ∙ ap (λ xs. get_or (map f chars) p d ∷ xs) (at_places-map f d chars ps (AreWithin-later chars p ps h))
+    simp (get_or-map f chars p 0 d (AreWithin-first chars p ps h), at_places-map f d chars ps (AreWithin-later chars p ps h))
 
 module _ (len_of : ℕ → ℕ) (h : HasUnits len_of) (chars : List ℕ) where
   -- the units at the places of characters have their values
   pub at_places-place : {X : Type 0} (d : X) (values units : List X) (ps : List ℕ) → length values ≡ length chars → units ≡ per_unit len_of chars values → AreWithin chars ps → at_places d units (map (place len_of chars) ps) ≡ at_places d values ps
   at_places-place d values units [] long is within = refl
   at_places-place d values units (p ∷ ps) long is within =
-      ap (λ x. x ∷ at_places d units (map (place len_of chars) ps)) (ap (λ us. get_or us (place len_of chars p) d) is ∙ get_or-per_unit-place len_of h chars values p d long (AreWithin-first chars p ps within))
-      ∙ ap (λ xs. get_or values p d ∷ xs) (at_places-place d values units ps long is (AreWithin-later chars p ps within))
+      simp (at_places-place d values units ps long is (AreWithin-later chars p ps within), is, get_or-per_unit-place len_of h chars values p d long (AreWithin-first chars p ps within))
 
   -- and so has the first of them
   pub level_at-first : (levels units : List ℕ) (ps : List ℕ) → length levels ≡ length chars → units ≡ per_unit len_of chars levels → AreWithin chars ps → level_at units (first_or 0 (map (place len_of chars) ps)) ≡ level_at levels (first_or 0 ps)
@@ -59,35 +57,23 @@ module _ (len_of : ℕ → ℕ) (h : HasUnits len_of) (chars : List ℕ) where
   kept_in_place-kept stored values units (r ∷ runs) long is read =
       let i = char_index len_of chars r.0 in
       let j = char_index len_of chars r.1 in
-      let rest = flat_map (λ (q : ℕ × ℕ). between (char_index len_of chars q.0) (char_index len_of chars q.1)) runs in
-      let test : ℕ → Bool = λ k. is_kept_in_place (class_at units (place len_of chars k)) in
       let short = char_index-le len_of chars r.1 in
-      let here : filter test (between i j) ≡ filter (is_kept_at stored) (between i j) =
-      filter_range-agree test (is_kept_at stored) i (j - i)
-      (λ k from below.
-      let fits : k < length chars = omega arith in
-      ap is_kept_in_place (ap (λ (us : List BidiClass). class_at us (place len_of chars k)) is ∙ get_or-per_unit-place len_of h chars values k L long fits) ∙ read k fits) in
-      filter-append test (between i j) rest
-      ∙ ap (λ (ks : List ℕ). ks ++ filter test rest) here
-      ∙ ap (λ (ks : List ℕ). filter (is_kept_at stored) (between i j) ++ ks) (kept_in_place-kept stored values units runs long is read)
-      ∙ sym (filter-append (is_kept_at stored) (between i j) rest)
+      let here = filter_range-agree (λ k. is_kept_in_place (class_at units (place len_of chars k))) (is_kept_at stored) i (j - i)
+      (λ k from below. cc (is, get_or-per_unit-place len_of h chars values k L long (omega arith), read k (omega arith))) in
+      simp (filter-append, here, kept_in_place-kept stored values units runs long is read)
+
+  times_in-kept_in_runs : (stored : List BidiClass) (r : ℕ × ℕ) (runs : List (ℕ × ℕ)) (p : ℕ) → times_in (kept_in_runs len_of chars stored (r ∷ runs)) p
+      ≡ times_in (filter (is_kept_at stored) (between (char_index len_of chars r.0) (char_index len_of chars r.1))) p + times_in (kept_in_runs len_of chars stored runs) p
+  unfolding kept_in_runs chars_in_runs
+  times_in-kept_in_runs stored r runs p = simp (filter-append, sum_by-append)
 
   -- the kept characters of some runs are kept, and stand in the text
   pub kept_in_runs-within : (stored : List BidiClass) (runs : List (ℕ × ℕ)) → AreWithin chars (kept_in_runs len_of chars stored runs)
   unfolding kept_in_runs chars_in_runs
   kept_in_runs-within stored [] = λ p there. absurd (omega arith)
   kept_in_runs-within stored (r ∷ runs) = λ p there.
-      let i = char_index len_of chars r.0 in
-      let j = char_index len_of chars r.1 in
-      let rest = flat_map (λ (q : ℕ × ℕ). between (char_index len_of chars q.0) (char_index len_of chars q.1)) runs in
-      let parts = ap (λ (ps : List ℕ). times_in ps p) (filter-append (is_kept_at stored) (between i j) rest) in
-      let both = sum_by-append (λ q. cond (eqb q p) 1 0) (filter (is_kept_at stored) (between i j)) (filter (is_kept_at stored) rest) in
-      elim (cases_lt 0 (times_in (filter (is_kept_at stored) rest) p)) [
-        | inl later ↦ kept_in_runs-within stored runs p later
-        | inr none ↦
-            let found = times_in-kept (is_kept_at stored) p i (j - i) (omega (arith, there, parts, both, none)) in
-            elim (cases_lt i j) [ inl order ↦ omega (arith, found.1, char_index-le len_of chars r.1) | inr empty ↦ omega (arith, found.1, char_index-le len_of chars r.0) ]
-      ]
+      let found = times_in-kept (is_kept_at stored) p (char_index len_of chars r.0) (char_index len_of chars r.1 - char_index len_of chars r.0) in
+      grind (arith, there, times_in-kept_in_runs stored r runs p, kept_in_runs-within stored runs p, found, char_index-le len_of chars r.1, char_index-le len_of chars r.0)
 
   -- a kept character of which a unit stands in some runs is one of theirs
   pub kept_in_runs-in : (stored : List BidiClass) (runs : List (ℕ × ℕ)) (p : ℕ) → AreLines len_of chars runs → p < length chars → is_kept_at stored p ≡ true → in_runs runs (place len_of chars p) ≡ true → 0 < times_in (kept_in_runs len_of chars stored runs) p
@@ -96,27 +82,17 @@ module _ (len_of : ℕ → ℕ) (h : HasUnits len_of) (chars : List ℕ) where
   kept_in_runs-in stored (r ∷ runs) p lines fits kept inside =
       let i = char_index len_of chars r.0 in
       let j = char_index len_of chars r.1 in
-      let rest = flat_map (λ (q : ℕ × ℕ). between (char_index len_of chars q.0) (char_index len_of chars q.1)) runs in
-      let parts = ap (λ (ps : List ℕ). times_in ps p) (filter-append (is_kept_at stored) (between i j) rest) in
-      let both = sum_by-append (λ q. cond (eqb q p) 1 0) (filter (is_kept_at stored) (between i j)) (filter (is_kept_at stored) rest) in
+      let parts = times_in-kept_in_runs stored r runs p in
       let u = place len_of chars p in
       elim (or_cases (nat_le r.0 u && nat_lt u r.1) (in_runs runs u) inside) [
         | inl here ↦
             let line = All-head (λ (q : ℕ × ℕ). IsLine len_of chars q.0 q.1) r runs lines in
             let w = line_places len_of h chars r.0 r.1 line in
-            let bound = in_range r.0 u r.1 here in
-            let from : i ≤ p = elim (cases_lt p i) [ inl low ↦ absurd (omega (arith, place-lt len_of chars h p i low fits, w.begins, bound.0)) | inr high ↦ high ] in
-            let below : p < j = elim (cases_lt p j) [ inl low ↦ low | inr high ↦ absurd (omega (arith, place-mono len_of chars j p high, w.ends, bound.1)) ] in
-            omega (arith, parts, both, count_at-in (is_kept_at stored) p i (j - i) from (omega (arith, from, below)) kept)
+            let bound : (r.0 ≤ u) × (u < r.1) = grind (arith, nat_tests) in
+            grind (arith, parts, place-lt len_of chars h p i, place-mono len_of chars j p, w.begins, w.ends, bound, count_at-in (is_kept_at stored) p i (j - i))
         | inr later ↦
-            omega (arith, parts, both, kept_in_runs-in stored runs p (All-tail (λ (q : ℕ × ℕ). IsLine len_of chars q.0 q.1) r runs lines) fits kept later)
+            omega (arith, parts, kept_in_runs-in stored runs p (All-tail (λ (q : ℕ × ℕ). IsLine len_of chars q.0 q.1) r runs lines) fits kept later)
       ]
-    where
-      in_range : (low u high : ℕ) → (nat_le low u && nat_lt u high) ≡ true → (low ≤ u) × (u < high)
-      in_range low u high e = grind (arith, nat_tests)
-
-  is_bn : (c : BidiClass) → is_kept_in_place c ≡ false → c ≡ BN
-  is_bn c e = grind arith
 
   -- a pass that leaves BN and what stands outside some runs changes no other character than theirs
   pub stays_elsewhere : (stored old new units units' : List BidiClass) (runs : List (ℕ × ℕ)) → AreLines len_of chars runs → length old ≡ length chars → length new ≡ length chars → units ≡ per_unit len_of chars old → units' ≡ per_unit len_of chars new
@@ -125,15 +101,11 @@ module _ (len_of : ℕ → ℕ) (h : HasUnits len_of) (chars : List ℕ) where
       → (p : ℕ) → times_in (kept_in_runs len_of chars stored runs) p ≡ 0 → class_at new p ≡ class_at old p
   stays_elsewhere stored old new units units' runs lines long long' is is' read removed outside p none = elim (cases_lt p (length chars)) [
     | inl fits ↦
-        let first : class_at units (place len_of chars p) ≡ class_at old p = ap (λ (us : List BidiClass). class_at us (place len_of chars p)) is ∙ get_or-per_unit-place len_of h chars old p L long fits in
-        let second : class_at units' (place len_of chars p) ≡ class_at new p = ap (λ (us : List BidiClass). class_at us (place len_of chars p)) is' ∙ get_or-per_unit-place len_of h chars new p L long' fits in
+        let first : class_at units (place len_of chars p) ≡ class_at old p = simp (is, get_or-per_unit-place len_of h chars old p L long fits) in
+        let second : class_at units' (place len_of chars p) ≡ class_at new p = simp (is', get_or-per_unit-place len_of h chars new p L long' fits) in
         elim (cases_Bool (is_kept_at stored p)) [
-          | inl kept ↦
-              let out : in_runs runs (place len_of chars p) ≡ false = false_from_ne_true _ (λ inside. omega (arith, none, kept_in_runs-in stored runs p lines fits kept inside)) in
-              sym second ∙ outside (place len_of chars p) out ∙ first
-          | inr gone ↦
-              let was : class_at old p ≡ BN = is_bn (class_at old p) (read p fits ∙ gone) in
-              sym second ∙ removed (place len_of chars p) (first ∙ was) ∙ sym was
+          | inl kept ↦ sym second ∙ outside (place len_of chars p) (false_from_ne_true _ (λ inside. omega (arith, none, kept_in_runs-in stored runs p lines fits kept inside))) ∙ first
+          | inr gone ↦ let was : class_at old p ≡ BN = grind (arith, read p fits) in cc (second, removed (place len_of chars p) (first ∙ was), was)
         ]
     | inr past ↦ get_or_past new p L (omega (arith, long', past)) ∙ sym (get_or_past old p L (omega (arith, long, past)))
   ]

@@ -1,8 +1,11 @@
 -- The sequences of a paragraph, resolved in place one after another: what the classes of its characters say once some of them are.
-use Rattle.std.proofs.Common.{◌≡◌, ℕ, zero, suc, ◌+◌, ◌<◌, Bool, true, false, cond, eqb, lt-ltb, List, [], ◌∷◌, ◌++◌, length, map, get_or, take, Option, None, refl, sym, ap, subst, ◌∙◌, arith, inl, inr}
-use Rattle.std.specs.Prelude.{filter, nat_lt}
+use Rattle.std.proofs.Common.{◌≡◌, ℕ, zero, suc, ◌<◌, Bool, true, eqb, lt-ltb, List, [], ◌∷◌, ◌++◌, length, map, get_or, take, Option, None, refl, sym, ap, ◌∙◌, arith, inl, inr}
+use Rattle.std.specs.Prelude.{filter}
 use Rattle.std.specs.List.{list_all}
-use Rattle.std.proofs.lemmas.Bool.{cases_Bool, cases_eq, cond-true, cond-false, cond_both, both_ways, and_parts, and_from}
+use Rattle.std.proofs.lemmas.Bool.{cases_Bool, cases_eq}
+use Rattle.std.proofs.lemmas.Bool.Decides.{nat_tests}
+use Rattle.std.proofs.lemmas.List.{nil_from_length}
+use Rattle.std.proofs.lemmas.List.Folds.{list_all-map}
 use Rattle.std.proofs.lemmas.Grind.{flat_map-append}
 use Rattle.std.proofs.lemmas.List.Sums.{sum_by-append, count_by-le-length}
 use Rattle.bidi_base.specs.declared.char_data.BidiClass.{BidiClass}
@@ -27,12 +30,6 @@ use Rattle.bidi_base.proofs.WeakLemmas.{weak_classes-resolved}
 is_kept_in_place-kept : (c : BidiClass) → is_kept c ≡ true → is_kept_in_place c ≡ true
 is_kept_in_place-kept c h = grind arith
 
-is_kept_in_place-directed : (e c : BidiClass) → has_direction (n2_rule e c) ≡ true → is_kept_in_place c ≡ true
-is_kept_in_place-directed e c h = grind arith
-
-is_kept_in_place-resolved : (c : BidiClass) → is_weak_resolved c ≡ true → is_kept_in_place c ≡ true
-is_kept_in_place-resolved c h = grind arith
-
 module _ (source : List BidiClass) (brackets : List (Option BidiMatchedOpeningBracket)) (stored : List BidiClass) (levels : List ℕ) (classes : List BidiClass) where
   -- the classes that W1 to N2 give a sequence
   abbrev pub resolved_classes : RunSequence → List BidiClass
@@ -51,10 +48,7 @@ module _ (source : List BidiClass) (brackets : List (Option BidiMatchedOpeningBr
   AreNeutral-kept : (now other : List BidiClass) (seqs : List RunSequence) → ((p : ℕ) → 0 < times_in (places_of seqs) p → class_at other p ≡ class_at now p) → AreNeutral now seqs → AreNeutral other seqs
   AreNeutral-kept now other [] agree h = h
   AreNeutral-kept now other (s ∷ seqs) agree h =
-      let joined : (p : ℕ) → times_in (places_of (s ∷ seqs)) p ≡ times_in s.places p + times_in (places_of seqs) p = λ p. sum_by-append (λ q. cond (eqb q p) 1 0) s.places (places_of seqs) in (
-        ap (map (n2_rule (own_direction s))) (at_places-agree L other now s.places (λ p there. agree p (omega (arith, joined p)))) ∙ h.0,
-        AreNeutral-kept now other seqs (λ p there. agree p (omega (arith, joined p))) h.1,
-      )
+      grind (arith, agree, at_places-agree L other now s.places, AreNeutral-kept now other seqs, sum_by-append)
 
   AreNeutral-push : (now : List BidiClass) (seqs : List RunSequence) (s : RunSequence) → AreNeutral now seqs → map (n2_rule (own_direction s)) (at_places L now s.places) ≡ resolved_classes s → AreNeutral now (seqs ++ s ∷ [])
   AreNeutral-push now [] s h e = (e, tt)
@@ -94,33 +88,24 @@ module _ (source : List BidiClass) (brackets : List (Option BidiMatchedOpeningBr
     read_after : (old new : List BidiClass) → ((p : ℕ) → p < length stored → is_kept_in_place (class_at old p) ≡ is_kept_at stored p) → StaysElsewhere s.places old new → list_all is_kept_in_place (at_places L new s.places) ≡ true
         → (p : ℕ) → p < length stored → is_kept_in_place (class_at new p) ≡ is_kept_at stored p
     read_after old new read stays all p within = elim (cases_eq (times_in s.places p) 0) [
-      | inl none ↦ ap is_kept_in_place (stays p none) ∙ read p within
-      | inr some ↦ list_all-at_places_back is_kept_in_place L new s.places p all (omega arith) ∙ sym (next.kept p (omega arith)).0
+      | inl none ↦ cc (stays p none, read p within)
+      | inr some ↦ cc (list_all-at_places_back is_kept_in_place L new s.places p all (omega arith), (next.kept p (omega arith)).0)
     ]
 
     all_read : (test : BidiClass → Bool) → ((c : BidiClass) → test c ≡ true → is_kept_in_place c ≡ true) → (cs : List BidiClass) → list_all test cs ≡ true → list_all is_kept_in_place cs ≡ true
     all_read test reads [] h = refl
-    all_read test reads (c ∷ cs) h =
-        let parts = and_parts (test c) (list_all test cs) h in
-        and_from (is_kept_in_place c) (list_all is_kept_in_place cs) (reads c parts.0) (all_read test reads cs parts.1)
-
-    all_kept : (e : BidiClass) (cs : List BidiClass) → list_all has_direction (map (n2_rule e) cs) ≡ true → list_all is_kept_in_place cs ≡ true
-    all_kept e [] h = refl
-    all_kept e (c ∷ cs) h =
-        let parts = and_parts (has_direction (n2_rule e c)) (list_all has_direction (map (n2_rule e) cs)) h in
-        and_from (is_kept_in_place c) (list_all is_kept_in_place cs) (is_kept_in_place-directed e c parts.0) (all_kept e cs parts.1)
+    all_read test reads (c ∷ cs) h = grind (arith, reads c, all_read test reads cs)
 
     weak_resolved : list_all is_weak_resolved (weak_classes s.sos (at_places L classes s.places)) ≡ true
     weak_resolved = weak_classes-resolved s.sos (at_places L classes s.places) next.sos (list_all-at_places is_kept L classes s.places (λ p there. next.explicit p there))
 
     pub IsWeakNext-from : (old new : List BidiClass) → IsUnderWay seqs old → length new ≡ length old → StaysElsewhere s.places old new → at_places L new s.places ≡ weak_classes s.sos (at_places L old s.places) → IsWeakNext seqs s new
     IsWeakNext-from old new h long stays weak =
-        let own : at_places L old s.places ≡ at_places L classes s.places =
-        at_places-agree L old classes s.places (λ p there. h.rest p (next.kept p there).1 (next.kept p there).0 (next.apart p there)) in
-        let answer : at_places L new s.places ≡ weak_classes s.sos (at_places L classes s.places) = weak ∙ ap (weak_classes s.sos) own in
+        let answer : at_places L new s.places ≡ weak_classes s.sos (at_places L classes s.places) =
+        cc (weak, at_places-agree L old classes s.places (λ p there. h.rest p (next.kept p there).1 (next.kept p there).0 (next.apart p there))) in
         record {
           long = long ∙ h.long;
-          read = read_after old new h.read stays (all_read is_weak_resolved is_kept_in_place-resolved (at_places L new s.places) (ap (list_all is_weak_resolved) answer ∙ weak_resolved));
+          read = read_after old new h.read stays (all_read is_weak_resolved (λ c resolved. grind arith) (at_places L new s.places) (ap (list_all is_weak_resolved) answer ∙ weak_resolved));
           done = AreNeutral-kept old new seqs (λ p there. stays p (none_of p there)) h.done;
           weak = answer;
           rest = λ p within kept none apart. stays p apart ∙ h.rest p within kept none;
@@ -129,9 +114,6 @@ module _ (source : List BidiClass) (brackets : List (Option BidiMatchedOpeningBr
     -- so N0 to N2 can go on
     pub weak_next-resolved : (now : List BidiClass) → IsWeakNext seqs s now → list_all is_weak_resolved (at_places L now s.places) ≡ true
     weak_next-resolved now h = ap (list_all is_weak_resolved) h.weak ∙ weak_resolved
-
-    places_push : (p : ℕ) → times_in (places_of (seqs ++ s ∷ [])) p ≡ times_in (places_of seqs) p + times_in s.places p
-    places_push p = grind (arith, flat_map-append, sum_by-append)
 
     pub IsUnderWay-more : (old new : List BidiClass) → IsWeakNext seqs s old → length new ≡ length old → StaysElsewhere s.places old new
         → map (n2_rule (own_direction s)) (at_places L new s.places) ≡ neutral_classes (level_at levels (first_or 0 s.places)) s.sos s.eos (at_places L source s.places) (at_places None brackets s.places) (at_places L old s.places)
@@ -145,30 +127,22 @@ module _ (source : List BidiClass) (brackets : List (Option BidiMatchedOpeningBr
         ap (list_all has_direction) answer ∙ neutral_classes-directed level s.sos s.eos own_source own_brackets (weak_classes s.sos (at_places L classes s.places)) next.sos weak_resolved in
         record {
           long = long ∙ h.long;
-          read = read_after old new h.read stays (all_kept (own_direction s) (at_places L new s.places) directed);
+          read = read_after old new h.read stays (all_read (λ c. has_direction (n2_rule (own_direction s) c)) (λ c known. grind arith) (at_places L new s.places) (rw list_all-map at directed));
           done = AreNeutral-push new seqs s (AreNeutral-kept old new seqs (λ p there. stays p (none_of p there)) h.done) answer;
-          rest = λ p within kept none.
-              let both = places_push p in
-              stays p (omega arith) ∙ h.rest p within kept (omega arith) (omega arith);
+          rest = λ p within kept none. grind (arith, stays p, h.rest p within kept, flat_map-append, sum_by-append);
         }
 
   -- ---- the levels
 
   -- N2 changes no level: neither a neutral nor the direction of its level adds to it
-  implicit_level-n2 : (level : ℕ) (c : BidiClass) → implicit_level level (n2_rule (direction_of level) c) ≡ implicit_level level c
-  implicit_level-n2 level c = grind arith
 
   implicit_levels-n2 : (level : ℕ) (cs : List BidiClass) → implicit_levels level cs ≡ implicit_levels level (map (n2_rule (direction_of level)) cs)
   implicit_levels-n2 level [] = refl
-  implicit_levels-n2 level (c ∷ cs) =
-      ap {B = List ℕ} (λ n. n ∷ implicit_levels level cs) (sym (implicit_level-n2 level c))
-      ∙ ap {B = List ℕ} (λ ns. implicit_level level (n2_rule (direction_of level) c) ∷ ns) (implicit_levels-n2 level cs)
+  implicit_levels-n2 level (c ∷ cs) = grind (arith, implicit_levels-n2 level cs)
 
   implicit_levels-at : (level : ℕ) (new : List ℕ) (now : List BidiClass) (ps : List ℕ) → ((p : ℕ) → 0 < times_in ps p → level_at new p ≡ implicit_level level (class_at now p)) → at_places 0 new ps ≡ implicit_levels level (at_places L now ps)
   implicit_levels-at level new now [] each = refl
-  implicit_levels-at level new now (p ∷ ps) each =
-      ap {B = List ℕ} (λ n. n ∷ at_places 0 new ps) (each p (times_in-first p ps))
-      ∙ ap {B = List ℕ} (λ ns. implicit_level level (class_at now p) ∷ ns) (implicit_levels-at level new now ps (λ q there. each q (omega (arith, there, times_in-later p ps q))))
+  implicit_levels-at level new now (p ∷ ps) each = grind (arith, each, times_in-first p ps, implicit_levels-at level new now ps, times_in-later p ps)
 
   -- all characters of the sequence have the level of its first one
   abbrev pub HasOneLevel : RunSequence → Type 0
@@ -180,18 +154,13 @@ module _ (source : List BidiClass) (brackets : List (Option BidiMatchedOpeningBr
   unfolding resolved_levels
   AreResolved-from new now [] h one implicit = tt
   AreResolved-from new now (s ∷ seqs) h one implicit =
-      let level : ℕ = level_at levels (first_or 0 s.places) in
-      let joined : (p : ℕ) → times_in (places_of (s ∷ seqs)) p ≡ times_in s.places p + times_in (places_of seqs) p = λ p. sum_by-append (λ q. cond (eqb q p) 1 0) s.places (places_of seqs) in (
-        implicit_levels-at level new now s.places (λ p there. implicit p (omega (arith, there, joined p)) ∙ ap (λ n. implicit_level n (class_at now p)) (one 0 s (omega arith) p there))
-            ∙ implicit_levels-n2 level (at_places L now s.places)
-            ∙ ap (implicit_levels level) h.0,
-        AreResolved-from new now seqs h.1 (λ k d within. one (suc k) d (omega arith)) (λ p there. implicit p (omega (arith, there, joined p))),
-      )
+      let later : (k : ℕ) (d : RunSequence) → k < length seqs → HasOneLevel (get_or seqs k d) = λ k d within. one (suc k) d (omega arith) in
+      grind (arith, one 0 s, later, implicit, implicit_levels-at (level_at levels (first_or 0 s.places)) new now s.places, implicit_levels-n2, AreResolved-from new now seqs, sum_by-append)
 
   pub AreResolved-filter : (new : List ℕ) (test : RunSequence → Bool) (seqs : List RunSequence) → AreResolved source brackets levels classes new seqs → AreResolved source brackets levels classes new (filter test seqs)
   AreResolved-filter new test [] h = tt
   AreResolved-filter new test (s ∷ seqs) h =
-      cond_both (test s) (s ∷ filter test seqs) (filter test seqs) (AreResolved source brackets levels classes new) (λ e. (h.0, AreResolved-filter new test seqs h.1)) (λ e. AreResolved-filter new test seqs h.1)
+      grind (arith, AreResolved-filter new test seqs)
 
 -- ---- the sequences of a paragraph
 
@@ -204,26 +173,14 @@ IsUnderWay-start paragraph source brackets stored levels =
 
 filter-at : {X : Type 0} (test : X → Bool) (xs : List X) (k : ℕ) (d : X) → k < length xs → test (get_or xs k d) ≡ true → (j : ℕ) × (j < length (filter test xs)) × (get_or (filter test xs) j d ≡ get_or xs k d)
 filter-at test [] k d within passes = absurd (omega arith)
-filter-at test (x ∷ xs) zero d within passes = rw (cond-true (test x) (x ∷ filter test xs) (filter test xs) passes) (0, omega arith, refl)
+filter-at test (x ∷ xs) zero d within passes = simp passes (0, omega arith, refl)
 filter-at test (x ∷ xs) (suc k) d within passes =
     let later = filter-at test xs k d (omega arith) passes in
-    elim (cases_Bool (test x)) [
-      | inl here ↦ rw (cond-true (test x) (x ∷ filter test xs) (filter test xs) here) (suc later.0, omega (arith, later.1), later.2)
-      | inr gone ↦ rw (cond-false (test x) (x ∷ filter test xs) (filter test xs) gone) later
-    ]
+    elim (cases_Bool (test x)) [ inl here ↦ simp here (suc later.0, omega (arith, later.1), later.2) | inr gone ↦ simp gone later ]
 
 places_of-filter : (seqs : List RunSequence) → places_of (filter has_places seqs) ≡ places_of seqs
 places_of-filter [] = refl
-places_of-filter (s ∷ seqs) = elim (cases_Bool (has_places s)) [
-  | inl some ↦ ap places_of (cond-true (has_places s) (s ∷ filter has_places seqs) (filter has_places seqs) some) ∙ ap (λ (ps : List ℕ). s.places ++ ps) (places_of-filter seqs)
-  | inr none ↦
-      let empty : s.places ≡ [] = no_length s.places none in
-      ap places_of (cond-false (has_places s) (s ∷ filter has_places seqs) (filter has_places seqs) none) ∙ places_of-filter seqs ∙ sym (ap (λ (ps : List ℕ). ps ++ places_of seqs) empty)
-]
-  where
-    no_length : (ps : List ℕ) → nat_lt 0 (length ps) ≡ false → ps ≡ []
-    no_length [] e = refl
-    no_length (p ∷ ps) e = absurd (both_ways (nat_lt 0 (length (p ∷ ps))) e (lt-ltb 0 (length (p ∷ ps)) (omega arith)))
+places_of-filter (s ∷ seqs) = grind (arith, nat_tests, nil_from_length s.places, places_of-filter seqs)
 
 module _ (paragraph : ℕ) (stored : List BidiClass) (seqs : List RunSequence) (are : filter has_places seqs ≡ sequences paragraph stored (explicit_levels paragraph stored)) where
   abbrev levels : List ℕ
@@ -235,13 +192,9 @@ module _ (paragraph : ℕ) (stored : List BidiClass) (seqs : List RunSequence) (
   -- the k-th one has the level of its first character
   one_level : (k : ℕ) (d : RunSequence) → k < length seqs → HasOneLevel [] [] stored levels [] (get_or seqs k d)
   one_level k d within = λ p there.
-      let found = filter-at has_places seqs k d within (lt-ltb 0 (length (get_or seqs k d).places) (some (get_or seqs k d).places p there)) in
-      let is : get_or (sequences paragraph stored levels) found.0 d ≡ get_or seqs k d = ap (λ (ss : List RunSequence). get_or ss found.0 d) (sym are) ∙ found.2 in
-      subst (λ (s : RunSequence). 0 < times_in s.places p → level_at levels p ≡ level_at levels (first_or 0 s.places)) is
-      (sequence-one_level paragraph stored found.0 d (omega (arith, found.1, ap length are)) p) there
-    where
-      some : (ps : List ℕ) (p : ℕ) → 0 < times_in ps p → 0 < length ps
-      some ps p there = omega (arith, count_by-le-length (λ q. eqb q p) ps)
+      let found = filter-at has_places seqs k d within (lt-ltb 0 (length (get_or seqs k d).places) (omega (arith, there, count_by-le-length (λ q. eqb q p) (get_or seqs k d).places))) in
+      let is : get_or (sequences paragraph stored levels) found.0 d ≡ get_or seqs k d = rw are at found.2 in
+      (rw is at (sequence-one_level paragraph stored found.0 d (omega (arith, found.1, ap length are)) p)) there
 
   pub IsNext-at : (source : List BidiClass) (brackets : List (Option BidiMatchedOpeningBracket)) (k : ℕ) (d : RunSequence) → k < length seqs → is_l_or_r (get_or seqs k d).sos ≡ true
       → IsNext source brackets stored levels (explicit_classes paragraph stored) (take k seqs) (get_or seqs k d)
@@ -262,7 +215,6 @@ module _ (paragraph : ℕ) (stored : List BidiClass) (seqs : List RunSequence) (
       → ((p : ℕ) → p < length stored → level_at new p ≡ implicit_level (level_at levels p) (class_at now p))
       → AreResolved source brackets levels (explicit_classes paragraph stored) new (sequences paragraph stored levels)
   AreResolved-all source brackets now new h implicit =
-      subst (AreResolved source brackets levels (explicit_classes paragraph stored) new) are
-      (AreResolved-filter source brackets stored levels (explicit_classes paragraph stored) new has_places seqs
+      rw (← are) (AreResolved-filter source brackets stored levels (explicit_classes paragraph stored) new has_places seqs
       (AreResolved-from source brackets stored levels (explicit_classes paragraph stored) new now seqs h.done one_level
-      (λ p there. implicit p (sequences-kept paragraph stored levels p (subst (λ (ps : List ℕ). 0 < times_in ps p) same_places there)).1)))
+      (λ p there. implicit p (sequences-kept paragraph stored levels p (rw same_places at there)).1)))

@@ -1,9 +1,9 @@
 -- Characters on which nothing depends, read one after another.
-use Rattle.std.proofs.Common.{suc, ◌≡◌, ℕ, ◌+◌, ◌-◌, ◌<◌, ◌≤◌, true, false, List, [], ◌∷◌, ◌++◌, length, take, drop, Some, set, inl, inr, refl, sym, ap, subst, ◌∙◌, arith, add-one, append_assoc, length-take, length-drop, rules}
+use Rattle.std.proofs.Common.{◌≡◌, ℕ, ◌+◌, ◌-◌, ◌<◌, ◌≤◌, true, false, List, [], ◌∷◌, ◌++◌, length, take, drop, Some, set, refl, sym, ap, ◌∙◌, arith, add-one, append_assoc, length-take, length-drop, rules}
 use Rattle.std.specs.Prelude.{replicate}
-use Rattle.std.proofs.Math.Seq.{drop-append_seam, take-suc-set}
+use Rattle.std.proofs.Math.Nat.{add_assoc}
+use Rattle.std.proofs.Math.Seq.{drop-append_seam, take-append-add, take-suc-set}
 use Rattle.std.proofs.lemmas.List.{append-nil, map-append, length-map, take-append-le, take-append-drop}
-use Rattle.std.proofs.lemmas.Bool.{cases_lt, both_ways}
 use Rattle.std.proofs.lemmas.Bool.Decides.{nat_tests}
 use Rattle.std.proofs.lemmas.List.Elements.{All-nil, All-append, All-push}
 use Rattle.std.proofs.lemmas.List.Sums.{sum_by-append, sum_by-cons}
@@ -33,20 +33,14 @@ module _ (len_of : ℕ → ℕ) (units : HasUnits len_of) where
   pub ahead_of : (chars : List ℕ) (u : ℕ) → is_boundary len_of chars u ≡ true → AheadOf len_of chars u
   ahead_of chars u b =
       let w = cut_at len_of chars u b in
-      let back : ahead len_of chars u ≡ w.back = ap (λ cs. ahead len_of cs u) w.joined ∙ ap (ahead len_of (w.front ++ w.back)) (sym w.long) ∙ ahead-append w.front w.back in
-      record { front = w.front; joined = w.joined ∙ ap (λ cs. w.front ++ cs) (sym back); long = w.long }
+      record { front = w.front; joined = cc (w.joined, w.long, ahead-append w.front w.back); long = w.long }
 
 pub is_boundary-end : (len_of : ℕ → ℕ) (chars : List ℕ) → is_boundary len_of chars (text_len len_of chars) ≡ true
 is_boundary-end len_of chars = ap (λ cs. is_boundary len_of cs (text_len len_of chars)) (sym (append-nil chars)) ∙ is_boundary-append len_of chars []
 
 -- what is no boundary is not the end
 pub inside-lt : (len_of : ℕ → ℕ) (chars : List ℕ) (u : ℕ) → is_boundary len_of chars u ≡ false → u ≤ text_len len_of chars → u < text_len len_of chars
-inside-lt len_of chars u inside le = elim (cases_lt u (text_len len_of chars)) [
-  | inl lt ↦ lt
-  | inr ge ↦
-      let end : u ≡ text_len len_of chars = omega arith in
-      absurd (both_ways (is_boundary len_of chars u) inside (ap (is_boundary len_of chars) end ∙ is_boundary-end len_of chars))
-]
+inside-lt len_of chars u inside le = grind (arith, is_boundary-end len_of chars)
 
 -- an ASCII character, one unit long, begins what comes
 pub record AsciiNext (len_of : ℕ → ℕ) (coming : List ℕ) (c : ℕ) : Type 0 where
@@ -57,11 +51,8 @@ pub record AsciiNext (len_of : ℕ → ℕ) (coming : List ℕ) (c : ℕ) : Type
 ascii_next : (len_of : ℕ → ℕ) (coming : List ℕ) (c : ℕ) → ascii_of (char_at len_of coming 0) ≡ Some c → AsciiNext len_of coming c
 ascii_next len_of [] c e = absurd (cc e)
 ascii_next len_of (d ∷ ds) c e =
-    let w = is_that d (len_of d) c e in
-    record { tail = ds; next = ap (λ x. x ∷ ds) w.0; one = ap len_of (sym w.0) ∙ w.1 }
-  where
-    is_that : (d l c : ℕ) → ascii_of (Some (d, l)) ≡ Some c → (d ≡ c) × (l ≡ 1)
-    is_that d l c e = grind (arith, nat_tests)
+    let w : (d ≡ c) × (len_of d ≡ 1) = grind (arith, nat_tests) in
+    record { tail = ds; next = cc w.0; one = cc (w.0, w.1) }
 
 module _ (source : Source) (len_of : ℕ → ℕ) (minded : ClassSet) where
   -- ---- one character, and some characters, more
@@ -75,19 +66,8 @@ module _ (source : Source) (len_of : ℕ → ℕ) (minded : ClassSet) where
 
   -- where the units from `at` on were handed on
   AreWritten-part : (read : List ℕ) (at to : ℕ) (old part new tail : List BidiClass) → at ≤ length old → to ≤ length new → AreWritten source len_of read 0 to part new → AreWritten source len_of read at (at + to) old (take at old ++ (new ++ tail))
-  AreWritten-part read at to old part new tail inside room h = record {
-    long = omega (arith, h.long);
-    classes =
-        ap (λ n. take (n + to) (take at old ++ (new ++ tail))) (sym long) ∙ take_past (take at old) (new ++ tail) to
-        ∙ ap (λ us. take at old ++ us) (take-append-le to new tail room ∙ h.classes);
-  }
-    where
-      long : length (take at old) ≡ at
-      long = omega (arith, length-take at old)
-
-      take_past : (xs ys : List BidiClass) (n : ℕ) → take (length xs + n) (xs ++ ys) ≡ xs ++ take n ys
-      take_past [] ys n = let e : 0 + n ≡ n = omega arith in ap (λ m. take m ys) e
-      take_past (x ∷ xs) ys n = let e : length (x ∷ xs) + n ≡ suc (length xs + n) = omega arith in ap (λ m. take m (x ∷ xs ++ ys)) e ∙ ap (λ us. x ∷ us) (take_past xs ys n)
+  AreWritten-part read at to old part new tail inside room h =
+      grind (arith, length-take at old, take-append-add (take at old) (new ++ tail) to, take-append-le to new tail room)
 
   -- it begins in what came
   pub IsMet-within : (coming : List ℕ) (from : ℕ) (met : Met) (old new : List BidiClass) → IsMet source len_of minded coming from met old new → met.start ≤ from + text_len len_of coming
@@ -110,9 +90,7 @@ module _ (source : Source) (len_of : ℕ → ℕ) (minded : ClassSet) where
       rest = rest;
       joined = h.joined ∙ ap (λ cs. h.read ++ cs) next ∙ sym (append_assoc h.read (c ∷ []) rest);
       idle = All-push (λ c. has minded (source.class_of c) ≡ false) h.read c h.idle idle;
-      written =
-          subst (λ n. AreWritten source len_of (h.read ++ c ∷ []) from n old after) (sym end)
-          (AreWritten-push h.read from at c old new after h.written (subst (λ n. take n after ≡ take at new ++ replicate (len_of c) (source.class_of c)) end is));
+      written = rw end (AreWritten-push h.read from at c old new after h.written (rw end at is));
     }
 
     pub IsMet-next : (met : Met) (rest : List ℕ) (after : List BidiClass) → h.rest ≡ met.c ∷ rest → met.start ≡ at → met.class ≡ source.class_of met.c
@@ -124,10 +102,7 @@ module _ (source : Source) (len_of : ℕ → ℕ) (minded : ClassSet) where
       idle = h.idle;
       begins = start ∙ h.written.long;
       class = class;
-      written =
-          subst (λ n. AreWritten source len_of (h.read ++ met.c ∷ []) from (n + len_of met.c) old after) (sym start)
-          (AreWritten-push h.read from at met.c old new after h.written
-          (ap (λ n. take (n + len_of met.c) after) (sym start) ∙ is ∙ ap (λ n. take n new ++ replicate (len_of met.c) met.class) start ∙ ap (λ k. take at new ++ replicate (len_of met.c) k) class));
+      written = rw start (AreWritten-push h.read from at met.c old new after h.written (simp (start, class) at is));
     }
 
     pub IsSkimmed-join : (to : ℕ) (after : List BidiClass) → IsSkimmed source len_of minded h.rest at to new after → IsSkimmed source len_of minded coming from to old after
@@ -147,9 +122,7 @@ module _ (source : Source) (len_of : ℕ → ℕ) (minded : ClassSet) where
       idle = All-append (λ c. has minded (source.class_of c) ≡ false) h.read k.read h.idle k.idle;
       begins = omega (arith, k.begins, h.written.long, sum_by-append len_of h.read k.read);
       class = k.class;
-      written =
-          subst (λ cs. AreWritten source len_of cs from (met.start + len_of met.c) old after) (sym (append_assoc h.read k.read (met.c ∷ [])))
-          (AreWritten-join h.read (k.read ++ met.c ∷ []) from at (met.start + len_of met.c) old new after h.written k.written);
+      written = rw append_assoc (AreWritten-join h.read (k.read ++ met.c ∷ []) from at (met.start + len_of met.c) old new after h.written k.written);
     }
 
     -- what has not come yet is ahead
@@ -176,10 +149,10 @@ module _ (source : Source) (len_of : ℕ → ℕ) (minded : ClassSet) where
 
       -- the next of them were read too
       pub IsSkimmed-on : (to : ℕ) (after : List BidiClass) → IsSkimmed source len_of minded (ahead len_of chars at) at to new after → IsSkimmed source len_of minded coming from to old after
-      IsSkimmed-on to after k = IsSkimmed-join to after (subst (λ cs. IsSkimmed source len_of minded cs at to new after) ahead-skimmed k)
+      IsSkimmed-on to after k = IsSkimmed-join to after (rw ahead-skimmed at k)
 
       pub IsMet-on : (met : Met) (after : List BidiClass) → IsMet source len_of minded (ahead len_of chars at) at met new after → IsMet source len_of minded coming from met old after
-      IsMet-on met after k = IsMet-join met after (subst (λ cs. IsMet source len_of minded cs at met new after) ahead-skimmed k)
+      IsMet-on met after k = IsMet-join met after (rw ahead-skimmed at k)
 
       pub fits-skimmed : at + text_len len_of h.rest ≡ text_len len_of chars
       fits-skimmed = omega (arith, ap (text_len len_of) split, sum_by-append len_of passed h.rest, passed_long)
@@ -189,9 +162,7 @@ module _ (source : Source) (len_of : ℕ → ℕ) (minded : ClassSet) where
       ascii-skimmed c e = ascii_next len_of h.rest c (ap ascii_of (sym char_at-skimmed) ∙ sym e)
 
       pub ascii-fits : (c : ℕ) → Some c ≡ ascii_at len_of chars at → at + 1 ≤ text_len len_of chars
-      ascii-fits c e =
-          let w = ascii-skimmed c e in
-          omega (arith, fits-skimmed, ap (text_len len_of) w.next, sum_by-cons len_of c w.tail, w.one)
+      ascii-fits c e = grind (arith, ascii-skimmed c e, fits-skimmed, sum_by-cons)
 
       module _ (c : ℕ) (is : Some c ≡ ascii_at len_of chars at) (class : BidiClass) (is_class : class ≡ source.class_of c) (long : length new ≡ text_len len_of chars) where
         one_more : take (at + 1) (set new at class) ≡ take at new ++ class ∷ []
@@ -200,14 +171,12 @@ module _ (source : Source) (len_of : ℕ → ℕ) (minded : ClassSet) where
         pub IsSkimmed-ascii : has minded class ≡ false → IsSkimmed source len_of minded coming from (at + 1) old (set new at class)
         IsSkimmed-ascii idle =
             let w = ascii-skimmed c is in
-            IsSkimmed-more c w.tail (at + 1) (set new at class) w.next (ap (has minded) (sym is_class) ∙ idle) (ap (λ n. at + n) (sym w.one))
-            (one_more ∙ ap (λ k. take at new ++ k ∷ []) is_class ∙ ap (λ n. take at new ++ replicate n (source.class_of c)) (sym w.one))
+            IsSkimmed-more c w.tail (at + 1) (set new at class) w.next (cc (is_class, idle)) (cc w.one) (simp (w.one, ← is_class) one_more)
 
         pub IsMet-ascii : IsMet source len_of minded coming from (record { start = at; c = c; class = class }) old (set new at class)
         IsMet-ascii =
             let w = ascii-skimmed c is in
-            IsMet-next (record { start = at; c = c; class = class }) w.tail (set new at class) w.next refl is_class
-            (ap (λ n. take (at + n) (set new at class)) w.one ∙ one_more ∙ ap (λ n. take at new ++ replicate n class) (sym w.one))
+            IsMet-next (record { start = at; c = c; class = class }) w.tail (set new at class) w.next refl is_class (simp w.one one_more)
 
       pub within-skimmed : at ≤ text_len len_of chars
       within-skimmed = omega (arith, fits-skimmed)
@@ -231,17 +200,13 @@ module _ (source : Source) (len_of : ℕ → ℕ) (minded : ClassSet) where
               rest = k.rest ++ behind;
               joined = block_first ∙ ap (λ cs. cs ++ behind) k.joined ∙ append_assoc k.read k.rest behind;
               idle = k.idle;
-              written =
-                  subst (λ n. AreWritten source len_of k.read at n new (take at new ++ (written ++ tail))) block_long
-                  (AreWritten-part k.read at (text_len len_of block) new part written tail inside room k.written);
+              written = rw (← block_long) (AreWritten-part k.read at (text_len len_of block) new part written tail inside room k.written);
             })
 
         pub IsMet-block : (met : Met) → IsMet source len_of minded block 0 met part written
             → IsMet source len_of minded coming from (record { start = at + met.start; c = met.c; class = met.class }) old (take at new ++ (written ++ tail))
         IsMet-block met k =
-            let sum : at + (met.start + len_of met.c) ≡ (at + met.start) + len_of met.c = omega arith in
-            let fits : met.start + len_of met.c ≤ length written =
-            omega (arith, k.written.long, ap (text_len len_of) k.joined, sum_by-append len_of k.read (met.c ∷ k.rest), sum_by-append len_of k.read (met.c ∷ []), sum_by-cons len_of met.c k.rest, sum_by-cons len_of met.c [], room) in
+            let fits : met.start + len_of met.c ≤ length written = grind (arith, k.written.long, k.joined, sum_by-append, sum_by-cons, room) in
             IsMet-join (record { start = at + met.start; c = met.c; class = met.class }) (take at new ++ (written ++ tail)) (record {
               read = k.read;
               rest = k.rest ++ behind;
@@ -249,9 +214,7 @@ module _ (source : Source) (len_of : ℕ → ℕ) (minded : ClassSet) where
               idle = k.idle;
               begins = omega (arith, k.begins);
               class = k.class;
-              written =
-                  subst (λ n. AreWritten source len_of (k.read ++ met.c ∷ []) at n new (take at new ++ (written ++ tail))) sum
-                  (AreWritten-part (k.read ++ met.c ∷ []) at (met.start + len_of met.c) new part written tail inside fits k.written);
+              written = rw (add_assoc at met.start (len_of met.c)) (AreWritten-part (k.read ++ met.c ∷ []) at (met.start + len_of met.c) new part written tail inside fits k.written);
             })
 
 -- ---- one turn of the walk to the next character on which something depends

@@ -98,5 +98,4 @@ module _ (a : AnalysedText) (some : HasUnits a.len_of) (level : ℕ) (line : Ran
     -- read one a character
     pub per_char-shown : per_char 0 a.len_of (subrange a.len_of a.chars line.start line.end) shown ≡ line_levels_per_char a level line
     per_char-shown =
-        ap (per_char 0 a.len_of (subrange a.len_of a.chars line.start line.end)) levels.characters
-        ∙ per_char-per_unit a.len_of some 0 (subrange a.len_of a.chars line.start line.end) (line_levels_per_char a level line) length-line_levels_per_char
+        rw levels.characters (per_char-per_unit a.len_of some 0 (subrange a.len_of a.chars line.start line.end) (line_levels_per_char a level line) length-line_levels_per_char)

@@ -1,5 +1,5 @@
 -- A line of a text whose classes and levels are one a unit, equal within each character: its levels, its runs and its text are those of its characters.
-use Rattle.std.proofs.Common.{◌≡◌, ℕ, ◌+◌, ◌-◌, ◌<◌, ◌≤◌, List, [], length, get_or, map, flat_map, All, sym, ap, ap₂, subst, ◌∙◌, arith, false}
+use Rattle.std.proofs.Common.{◌≡◌, ℕ, ◌+◌, ◌-◌, ◌<◌, ◌≤◌, List, [], length, get_or, map, flat_map, All, sym, ap, ◌∙◌, arith, false}
 use Rattle.std.specs.Prelude.{slice_range}
 use Rattle.std.specs.declared.ops.Range.{Range}
 use Rattle.std.proofs.lemmas.List.{get_or-map, length-map}
@@ -33,8 +33,7 @@ line_text-empty len_of encode chars units level classes levels start end same = 
 pub runs_begin : (start : ℕ) (levels : List ℕ) (ranges : List (Range ℕ)) → AreVisualRuns start levels (map run_of ranges)
     → All (λ r. (start ≤ r.start) × (r.start < start + length levels)) ranges
 runs_begin start levels ranges h k d fits =
-    let long : length (map run_of ranges) ≡ length ranges = length-map ranges run_of in
-    let here : IsLevelRun start levels (run_of (get_or ranges k d)) = subst (IsLevelRun start levels) (get_or-map run_of ranges k d (0, 0) fits) (h.are_runs k (0, 0) (omega arith)) in
+    let here = rw (get_or-map run_of ranges k d (0, 0) fits) at (h.are_runs k (0, 0) (omega (arith, fits, length-map ranges run_of))) in
     (here.starts_within, omega (arith, here.not_empty, here.ends_within))
 
 -- the text of `len_of` and `chars`, and one class and one level a unit
@@ -66,15 +65,17 @@ module _ (len_of : ℕ → ℕ) (h : HasUnits len_of) (chars : List ℕ) (level 
   pub levels_of_line-per_unit : levels_of_line level classes levels start end
       ≡ per_unit len_of (subrange len_of chars start end) (levels_of_line level (per_char L len_of chars classes) (per_char 0 len_of chars levels) (char_index len_of chars start) (char_index len_of chars end))
   levels_of_line-per_unit =
-      ap₂ (λ ks ls. levels_of_line level ks ls start end) (per_unit-from_IsPerChar L len_of h chars classes of_classes) (per_unit-from_IsPerChar 0 len_of h chars levels of_levels)
-      ∙ ap₂ (levels_of_line level (per_unit len_of chars (per_char L len_of chars classes)) (per_unit len_of chars (per_char 0 len_of chars levels))) ends.begins ends.ends
-      ∙ ap₂ (line_levels level)
-      (slice_range-per_unit len_of chars (per_char L len_of chars classes) (char_index len_of chars start) (char_index len_of chars end) ends.ordered ends.within (length-per_char L len_of chars classes))
-      (slice_range-per_unit len_of chars (per_char 0 len_of chars levels) (char_index len_of chars start) (char_index len_of chars end) ends.ordered ends.within (length-per_char 0 len_of chars levels))
-      ∙ line_levels-per_unit len_of h level (subrange len_of chars start end)
-      (slice_range (per_char L len_of chars classes) (char_index len_of chars start) (char_index len_of chars end))
-      (slice_range (per_char 0 len_of chars levels) (char_index len_of chars start) (char_index len_of chars end))
-      (part_long (per_char L len_of chars classes) (length-per_char L len_of chars classes)) (part_long (per_char 0 len_of chars levels) (length-per_char 0 len_of chars levels))
+      let c_long = length-per_char L len_of chars classes in
+      let l_long = length-per_char 0 len_of chars levels in
+      cc (
+        per_unit-from_IsPerChar L len_of h chars classes of_classes,
+        per_unit-from_IsPerChar 0 len_of h chars levels of_levels,
+        ends.begins,
+        ends.ends,
+        slice_range-per_unit len_of chars (per_char L len_of chars classes) (char_index len_of chars start) (char_index len_of chars end) ends.ordered ends.within c_long,
+        slice_range-per_unit len_of chars (per_char 0 len_of chars levels) (char_index len_of chars start) (char_index len_of chars end) ends.ordered ends.within l_long,
+        line_levels-per_unit len_of h level (subrange len_of chars start end) _ _ (part_long (per_char L len_of chars classes) c_long) (part_long (per_char 0 len_of chars levels) l_long),
+      )
 
   of_chars_long : length of_chars ≡ length (subrange len_of chars start end)
   of_chars_long = grind (arith, length-of_chars, length-part, ends)
@@ -82,23 +83,19 @@ module _ (len_of : ℕ → ℕ) (h : HasUnits len_of) (chars : List ℕ) (level 
   -- the ends of the runs cut no character
   pub runs_at_boundaries : (ranges : List (Range ℕ)) → map run_of ranges ≡ visual_runs start (levels_of_line level classes levels start end) → All (λ r. IsLine len_of chars r.start r.end) ranges
   runs_at_boundaries ranges e k d fits =
-      let long : length (map run_of ranges) ≡ length ranges = length-map ranges run_of in
       let same : map run_of ranges ≡ map (units_of (place_from start len_of (subrange len_of chars start end))) (visual_runs 0 of_chars) =
       e ∙ ap (visual_runs start) levels_of_line-per_unit ∙ visual_runs-units start len_of h (subrange len_of chars start end) of_chars of_chars_long in
-      let runs : AreVisualRuns 0 of_chars (visual_runs 0 of_chars) = visual_runs-are 0 of_chars in
-      let inside : k < length (visual_runs 0 of_chars) = omega (arith, ap length same, length-map (visual_runs 0 of_chars) (units_of (place_from start len_of (subrange len_of chars start end)))) in
+      let inside : k < length (visual_runs 0 of_chars) = omega (arith, fits, ap length same, length-map ranges run_of, length-map (visual_runs 0 of_chars) (units_of (place_from start len_of (subrange len_of chars start end)))) in
       let r : Run = get_or (visual_runs 0 of_chars) k (0, 0) in
-      let here : IsLevelRun 0 of_chars r = runs.are_runs k (0, 0) inside in
+      let here : IsLevelRun 0 of_chars r = (visual_runs-are 0 of_chars).are_runs k (0, 0) inside in
       let ends_here : char_index len_of chars start + r.1 ≤ char_index len_of chars end = omega (arith, here.ends_within, length-of_chars, ends.ordered) in
       let there : run_of (get_or ranges k d) ≡ units_of (place_from start len_of (subrange len_of chars start end)) r =
-      sym (get_or-map run_of ranges k d (0, 0) fits) ∙ ap (λ (l : List Run). get_or l k (0, 0)) same ∙ get_or-map (units_of (place_from start len_of (subrange len_of chars start end))) (visual_runs 0 of_chars) k (0, 0) (0, 0) inside in
+      cc (get_or-map run_of ranges k d (0, 0) fits, same, get_or-map (units_of (place_from start len_of (subrange len_of chars start end))) (visual_runs 0 of_chars) k (0, 0) (0, 0) inside) in
       let at : (n : ℕ) → char_index len_of chars start + n ≤ char_index len_of chars end → place_from start len_of (subrange len_of chars start end) n ≡ place len_of chars (char_index len_of chars start + n) =
       λ n fits. omega (arith, ends.begins, place-slice_range len_of chars (char_index len_of chars start) (char_index len_of chars end) n fits ends.within) in
       let begin : (get_or ranges k d).start ≡ place len_of chars (char_index len_of chars start + r.0) = ap (λ (q : Run). q.0) there ∙ at r.0 (omega (arith, here.not_empty, ends_here)) in
       let stop : (get_or ranges k d).end ≡ place len_of chars (char_index len_of chars start + r.1) = ap (λ (q : Run). q.1) there ∙ at r.1 ends_here in
-      subst (λ (a : ℕ). IsLine len_of chars a (get_or ranges k d).end) (sym begin)
-      (subst (λ (b : ℕ). IsLine len_of chars (place len_of chars (char_index len_of chars start + r.0)) b) (sym stop)
-      (IsLine-places len_of chars (char_index len_of chars start + r.0) (char_index len_of chars start + r.1) (omega (arith, here.not_empty))))
+      rw (begin, stop) (IsLine-places len_of chars (char_index len_of chars start + r.0) (char_index len_of chars start + r.1) (omega (arith, here.not_empty)))
 
   -- the runs, written one after the other, are the text of the line
   pub flat_map-runs : (encode : ℕ → List ℕ) (units : List ℕ) (runs : List Run) → length units ≡ text_len len_of chars → runs ≡ visual_runs start (levels_of_line level classes levels start end)
@@ -123,8 +120,8 @@ module _ (len_of : ℕ → ℕ) (h : HasUnits len_of) (chars : List ℕ) (level 
   -- the levels of all units, those of the line after L1, are those of their characters
   pub levels_with_line-chars : levels_with_line level classes levels start end ≡ per_unit len_of chars (char_levels_with_line len_of chars level classes levels start end)
   levels_with_line-chars =
-      ap₂ (λ ks ls. levels_with_line level ks ls start end) (per_unit-from_IsPerChar L len_of h chars classes of_classes) (per_unit-from_IsPerChar 0 len_of h chars levels of_levels)
-      ∙ levels_with_line-per_unit len_of h level chars (per_char L len_of chars classes) (per_char 0 len_of chars levels) start end (length-per_char L len_of chars classes) (length-per_char 0 len_of chars levels) line
+      let by_chars = levels_with_line-per_unit len_of h level chars _ _ start end (length-per_char L len_of chars classes) (length-per_char 0 len_of chars levels) line in
+      cc (per_unit-from_IsPerChar L len_of h chars classes of_classes, per_unit-from_IsPerChar 0 len_of h chars levels of_levels, by_chars)
 
   pub per_char-levels_with_line : per_char 0 len_of chars (levels_with_line level classes levels start end) ≡ char_levels_with_line len_of chars level classes levels start end
   per_char-levels_with_line =

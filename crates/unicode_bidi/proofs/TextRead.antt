@@ -1,20 +1,19 @@
 -- What the walk over a text holds once n characters were read.
-use Rattle.std.proofs.Common.{◌≡◌, ℕ, ◌+◌, ◌<◌, ◌≤◌, Bool, true, false, cond, List, [], ◌∷◌, ◌++◌, length, get_or, take, drop, map, Option, Some, None, option_map, unwrap_or, refl, sym, ap, subst, ◌∙◌, arith, ◌⊎◌, inl, inr, append_assoc, length-append, length-take}
+use Rattle.std.proofs.Common.{◌≡◌, ℕ, ◌+◌, ◌<◌, ◌≤◌, true, false, List, [], ◌∷◌, ◌++◌, length, get_or, take, drop, map, Option, Some, None, option_map, unwrap_or, refl, sym, ap, ◌∙◌, arith, ◌⊎◌, inl, inr, append_assoc, length-append, length-take}
 use Rattle.std.proofs.lemmas.Grind.{common_steps}
 use Rattle.std.specs.Prelude.{All, replicate}
 use Rattle.std.specs.Option.{is_none}
 use Rattle.std.specs.declared.ops.Range.{Range}
-use Rattle.std.proofs.lemmas.List.{append-nil, map-append, length-map, take_more, take_all, drop_all, get_or-append-add, length-take-le, take-append-drop}
-use Rattle.std.proofs.lemmas.Bool.{cases_Bool, both_ways, cond-true, cond-false}
-use Rattle.std.proofs.lemmas.List.Sums.{sum_by-append, sum_by-cons}
+use Rattle.std.proofs.lemmas.List.{nil_from_length, append-nil, map-append, length-map, take_more, take_all, drop_all, get_or-append-add, length-take-le, take-append-drop}
+use Rattle.std.proofs.lemmas.List.Sums.{sum_by-append}
 use Rattle.std.proofs.lemmas.List.Concat.{flat_map-append}
 use Rattle.bidi_base.specs.declared.char_data.BidiClass.{BidiClass}
 use Rattle.bidi_base.specs.declared.char_data.BidiClass.TheVariants.{L}
-use Rattle.bidi_base.specs.Classes.{is_strong, is_paragraph_separator}
-use Rattle.bidi_base.specs.Isolates.{deciding_class, level_by, paragraph_level, resolved_fsi, stored_classes}
+use Rattle.bidi_base.specs.Classes.{is_paragraph_separator}
+use Rattle.bidi_base.specs.Isolates.{deciding_class, level_by, paragraph_level, stored_classes}
 use Rattle.bidi_base.specs.Places.{class_at}
 use Rattle.bidi_base.specs.Paragraphs.{ranges_from}
-use Rattle.bidi_base.specs.Reading.{innermost, is_fsi, met_units, filled}
+use Rattle.bidi_base.specs.Reading.{innermost, met_units}
 use Rattle.bidi_base.specs.Source.{Source}
 use Rattle.bidi_base.specs.Stored.{text_classes, paragraph_levels}
 use Rattle.bidi_base.specs.Text.{char_at, place, text_len, per_unit}
@@ -111,19 +110,12 @@ module _ (source : Source) (len_of : ℕ → ℕ) (chars : List ℕ) where
     read_to : place len_of chars n ≡ text_len len_of (joined done) + text_len len_of current
     read_to = ap (text_len len_of) (sym h.whole) ∙ sum_by-append len_of (joined done) current
 
-    pub start-le : reading.start ≤ place len_of chars n
-    start-le = omega (arith, h.start, read_to)
-
     -- it is not empty exactly if it begins before the end
     pub current-some : HasUnits len_of → reading.start < place len_of chars n → 0 < length current
     current-some units order = grind (arith, common_steps)
 
     pub current-none : HasUnits len_of → place len_of chars n ≤ reading.start → current ≡ []
-    current-none units order = none current read_to
-      where
-        none : (cs : List ℕ) → place len_of chars n ≡ text_len len_of (joined done) + text_len len_of cs → cs ≡ []
-        none [] e = refl
-        none (c ∷ cs) e = absurd (omega (arith, h.start, sum_by-cons len_of c cs, units c))
+    current-none units order = nil_from_length current (omega (arith, length-le-text_len len_of units current, h.start, read_to))
 
     pub IsTextDone-close : (closed : Seen) (end : ℕ) → end ≡ place len_of chars n → closed.units ≡ found.units
         → IsClosed base reading end found.paragraphs found.flags closed.paragraphs closed.flags → IsTextDone base n (done ++ current ∷ []) closed
@@ -149,11 +141,8 @@ module _ (source : Source) (len_of : ℕ → ℕ) (chars : List ℕ) where
 
     pub open_within : All (λ (u : Undecided). (u.units.start ≤ u.units.end) × (u.units.end ≤ length found.units)) reading.undecided.items
     open_within =
-        subst (All (λ (u : Undecided). (u.units.start ≤ u.units.end) × (u.units.end ≤ length found.units))) (sym h.undecided)
-        (All-undecided (λ (u : Undecided). (u.units.start ≤ u.units.end) × (u.units.end ≤ length found.units)) (units_after done) 0 (stored_classes (classes_of current)) (open_initiators (classes_of current))
-        (λ k d inside depth.
-        let w = units_within (get_or (open_initiators (classes_of current)) k d) (open_initiators-below (classes_of current) k d inside) in
-        (omega (arith, w.0), omega (arith, w.1, h.sized, place-le len_of chars n))))
+        rw h.undecided (All-undecided (λ u. (u.units.start ≤ u.units.end) × (u.units.end ≤ length found.units)) (units_after done) 0 (stored_classes (classes_of current)) (open_initiators (classes_of current))
+        (λ k d inside depth. grind (arith, units_within (get_or (open_initiators (classes_of current)) k d), open_initiators-below (classes_of current) k d inside, h.sized, place-le len_of chars n)))
 
     -- where none is open, none is undecided
     pub undecided-none : reading.depth ≡ 0 → reading.undecided.items ≡ []
@@ -164,12 +153,6 @@ module _ (source : Source) (len_of : ℕ → ℕ) (chars : List ℕ) where
     depth-le = grind (arith, open_initiators-few, length-map, long, length-take, length-le-text_len)
 
     module _ (c : ℕ) (is_char : get_or chars n 0 ≡ c) (class : BidiClass) (is_class : class ≡ source.class_of c) where
-      read_more : take (n + 1) chars ≡ take n chars ++ c ∷ []
-      read_more = take-turn chars n c within is_char
-
-      classes_more : classes_of (current ++ c ∷ []) ≡ classes_of current ++ class ∷ []
-      classes_more = map-append source.class_of current (c ∷ []) ∙ ap (λ (x : BidiClass). classes_of current ++ x ∷ []) (sym is_class)
-
       abbrev so_far : List BidiClass
       so_far = classes_of current
 
@@ -195,20 +178,13 @@ module _ (source : Source) (len_of : ℕ → ℕ) (chars : List ℕ) where
       -- the class at an initiator
       class-at : (q : ℕ) → q < length so_far → class_at read_units (units_after done q).start ≡ class_at (stored_classes so_far) q
       class-at q below =
-          ap (λ (us : List BidiClass). class_at us (units_after done q).start) h.classes
-          ∙ ap (λ (r : Range ℕ). class_at (per_unit len_of (take n chars) values) r.start) (sym (units_taken q below))
-          ∙ get_or-per_unit-place len_of units (take n chars) values (length (text_classes source done) + q) L (omega (arith, length-append (text_classes source done) (stored_classes so_far), whole_long)) (omega (arith, stored_below q below, whole_long))
-          ∙ get_or-append-add (text_classes source done) (stored_classes so_far) q L
+          grind (arith, h.classes, units_taken q below, length-append, whole_long, stored_below q below, get_or-per_unit-place len_of units (take n chars) values (length (text_classes source done) + q) L, get_or-append-add)
 
       -- what the innermost open isolate makes of them
       met : (o : Option ℕ) → innermost (open_initiators so_far) ≡ o
           → met_units class (option_map (units_after done) o) read_units ≡ per_unit len_of (take n chars) (text_classes source done ++ met_by class o (stored_classes so_far))
       met None e = h.classes
-      met (Some q) e =
-          let below : q < length so_far = index-below q e in
-          ap (met_units class (Some (units_after done q))) h.classes
-          ∙ ap (λ (r : Range ℕ). met_units class (Some r) (per_unit len_of (take n chars) values)) (sym (units_taken q below))
-          ∙ met_units-char len_of units (take n chars) (text_classes source done) (stored_classes so_far) class q whole_long (stored_below q below)
+      met (Some q) e = grind (arith, h.classes, index-below q e, units_taken q, stored_below q, met_units-char len_of units (take n chars) (text_classes source done) (stored_classes so_far) class q whole_long)
 
       -- its units, as they are written
       pub drawn-is : (drawn : List BidiClass) (from : ℕ) → from ≡ place len_of chars n → take (from + len_of c) drawn ≡ take from found.units ++ replicate (len_of c) class
@@ -227,41 +203,16 @@ module _ (source : Source) (len_of : ℕ → ℕ) (chars : List ℕ) where
 
         after : (o : Option ℕ) → innermost (open_initiators so_far) ≡ o
             → take (place len_of chars (n + 1)) (classes_after class (waits_of (units_after done) so_far class o) drawn) ≡ per_unit len_of (take n chars) (text_classes source done ++ met_by class o (stored_classes so_far)) ++ row
-        after None e = drawn_is ∙ ap (λ (us : List BidiClass). us ++ row) (met None e)
-        after (Some q) e =
-            let below : q < length so_far = index-below q e in
-            let w = units_within q below in
-            let u : Undecided = fsi_at (units_after done) so_far class q in
-            let fsi_is : is_fsi (class_at read_units (units_after done q).start) ≡ is_fsi (class_at (stored_classes so_far) q) = ap is_fsi (class-at q below) in
-            elim (cases_Bool (is_fsi (class_at (stored_classes so_far) q))) [
-              | inl fsi ↦
-                  ap (λ (o : Option Undecided). take (place len_of chars (n + 1)) (classes_after class o drawn)) (cond-true (is_fsi (class_at (stored_classes so_far) q)) (Some u) None fsi)
-                  ∙ take-after u w.0 w.1
-                  ∙ ap (λ (us : List BidiClass). us ++ row)
-                  (ap (λ (us : List BidiClass). cond (is_strong class) us read_units) (sym (cond-true (is_fsi (class_at read_units (units_after done q).start)) (filled (units_after done q) (resolved_fsi (Some class)) read_units) read_units (fsi_is ∙ fsi)))
-                  ∙ met (Some q) e)
-              | inr other ↦
-                  ap (λ (o : Option Undecided). take (place len_of chars (n + 1)) (classes_after class o drawn)) (cond-false (is_fsi (class_at (stored_classes so_far) q)) (Some u) None other)
-                  ∙ drawn_is
-                  ∙ ap (λ (us : List BidiClass). us ++ row)
-                  (sym (ap (λ (us : List BidiClass). cond (is_strong class) us read_units) (cond-false (is_fsi (class_at read_units (units_after done q).start)) (filled (units_after done q) (resolved_fsi (Some class)) read_units) read_units (fsi_is ∙ other))
-                  ∙ cond_same (is_strong class))
-                  ∙ met (Some q) e)
-            ]
-          where
-            cond_same : (b : Bool) → cond b read_units read_units ≡ read_units
-            cond_same true = refl
-            cond_same false = refl
+        after None e = grind (arith, drawn_is, met None e)
+        after (Some q) e = grind (arith, index-below q e, units_within q, class-at q, take-after (fsi_at (units_after done) so_far class q), drawn_is, met (Some q) e)
 
         waits : waiting reading.depth reading.undecided.items ≡ waits_of (units_after done) so_far class (innermost (open_initiators so_far))
-        waits =
-            ap (λ d. waiting d reading.undecided.items) h.depth ∙ ap (waiting (length (open_initiators so_far))) h.undecided
-            ∙ waiting-is (units_after done) so_far class (innermost (open_initiators so_far)) refl
+        waits = simp (h.depth, h.undecided) (waiting-is (units_after done) so_far class (innermost (open_initiators so_far)) refl)
 
         pub IsTextRead-more : (range : Range ℕ) (longer : Seen) (after : Reading) → range ≡ char_units len_of chars n → longer.units ≡ classes_after class (waiting reading.depth reading.undecided.items) drawn
             → length longer.units ≡ length found.units → longer.paragraphs ≡ found.paragraphs → longer.flags ≡ found.flags → IsReadBy class range reading after → IsTextRead base (n + 1) done (current ++ c ∷ []) longer after
         IsTextRead-more range longer new is_range is_longer same_length same_paragraphs same_flags read =
-            grind (arith, append_assoc, read_more, waits, after, per_unit-push, stored_classes-push, classes_more, length-opened_by, open_initiators-push, undecided-more, deciding-more, deciding_class-push, with_classes-push, length-append, length-met_by, whole_long, long, length-map)
+            grind (arith, append_assoc, take-turn chars n c within is_char, waits, after, per_unit-push, stored_classes-push, map-append, length-opened_by, open_initiators-push, undecided-more, deciding-more, deciding_class-push, with_classes-push, length-append, length-met_by, whole_long, long, length-map)
 
   -- ---- the whole walk
 
@@ -287,7 +238,7 @@ module _ (source : Source) (len_of : ℕ → ℕ) (chars : List ℕ) where
   IsRead-on split base n c found reading longer after h next read on = record {
     done = h.done;
     current = h.current ++ c ∷ [];
-    cut = IsCut-more (ends_after split source) chars h.done h.current c (drop (n + 1) chars) on (subst (IsCut (ends_after split source) chars h.done h.current) next h.cut);
+    cut = IsCut-more (ends_after split source) chars h.done h.current c (drop (n + 1) chars) on (rw next at h.cut);
     one = h.one;
     read = read;
   }
@@ -298,26 +249,19 @@ module _ (source : Source) (len_of : ℕ → ℕ) (chars : List ℕ) where
   IsRead-stop split base n c found reading closed after h next ended fresh stop = record {
     done = h.done ++ (h.current ++ c ∷ []) ∷ [];
     current = [];
-    cut = IsCut-stop (ends_after split source) chars h.done h.current c (drop (n + 1) chars) stop (subst (IsCut (ends_after split source) chars h.done h.current) next h.cut);
-    one = λ e. absurd (both_ways (ends_after split source c (drop (n + 1) chars)) (ap (λ (s : Option SplitRule). ends_after s source c (drop (n + 1) chars)) e) stop);
+    cut = IsCut-stop (ends_after split source) chars h.done h.current c (drop (n + 1) chars) stop (rw next at h.cut);
+    one = λ e. absurd (cc (e, stop));
     read = IsTextRead-next base (n + 1) (h.done ++ (h.current ++ c ∷ []) ∷ []) closed after ended fresh;
   }
 
   -- at the end of the text, what is left is the last paragraph
   module _ (units : HasUnits len_of) (base : Option ℕ) (n : ℕ) (found : Seen) (reading : Reading) (all : n ≡ length chars) where
-    module _ (split : Option SplitRule) (h : IsRead split base n found reading) where
-      ended : IsCut (ends_after split source) chars h.done h.current []
-      ended = subst (IsCut (ends_after split source) chars h.done h.current) (drop_all n chars (omega arith)) h.cut
-
-      whole_text : joined h.done ++ h.current ≡ chars
-      whole_text = h.read.whole ∙ take_all n chars (omega arith)
+    ended : (split : Option SplitRule) (h : IsRead split base n found reading) → IsCut (ends_after split source) chars h.done h.current []
+    ended split h = rw (drop_all n chars (omega arith)) at h.cut
 
     -- it is not empty, or the only one
     pub IsRead-last : (split : Option SplitRule) (h : IsRead split base n found reading) → (is_none split ≡ true) ⊎ (reading.start < place len_of chars n) → h.done ++ h.current ∷ [] ≡ pieces_by split source chars
-    IsRead-last None h last =
-        let none : h.done ≡ [] = h.one refl in
-        let single : h.current ≡ chars = ap (λ (ps : List (List ℕ)). joined ps ++ h.current) (sym none) ∙ whole_text None h in
-        ap (λ (ps : List (List ℕ)). ps ++ h.current ∷ []) none ∙ ap (λ (cs : List ℕ). cs ∷ []) single
+    IsRead-last None h last = grind (arith, h.one refl, h.read.whole, take_all)
     IsRead-last (Some rule) h (inl e) = absurd (cc e)
     IsRead-last (Some rule) h (inr order) =
         sym (IsCut-last (ends_by rule source) chars h.done h.current (current-some base n h.done h.current found reading h.read units order) (ended (Some rule) h))
@@ -326,7 +270,7 @@ module _ (source : Source) (len_of : ℕ → ℕ) (chars : List ℕ) where
     IsRead-none None h some order = absurd (cc some)
     IsRead-none (Some rule) h some order =
         let none : h.current ≡ [] = current-none base n h.done h.current found reading h.read units order in
-        (none, sym (IsCut-none (ends_by rule source) chars h.done (subst (λ (cs : List ℕ). IsCut (ends_by rule source) chars h.done cs []) none (ended (Some rule) h))))
+        (none, sym (IsCut-none (ends_by rule source) chars h.done (rw none at (ended (Some rule) h))))
 
   -- ---- what the walk answers
 
@@ -346,7 +290,7 @@ ends_after-other split source c after other = grind arith
 -- the character that begins at a place is the first of those that follow
 pub next-at : (len_of : ℕ → ℕ) → HasUnits len_of → (chars : List ℕ) (n : ℕ) → char_at len_of chars (place len_of chars n) ≡ char_at len_of (drop n chars) 0
 next-at len_of units chars n =
-    subst (λ (cs : List ℕ). char_at len_of cs (place len_of chars n) ≡ char_at len_of (drop n chars) 0) (take-append-drop n chars) (char_at-append len_of units (take n chars) (drop n chars))
+    rw take-append-drop at (char_at-append len_of units (take n chars) (drop n chars))
 
 pub same_range : (a b c d : ℕ) → a ≡ b → c ≡ d → ◌≡◌ {A = Range ℕ} (record { start = a; end = c }) (record { start = b; end = d })
 same_range a b c d e f = λ i. record { start = e i; end = f i }

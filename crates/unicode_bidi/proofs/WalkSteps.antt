@@ -1,7 +1,8 @@
 -- The walk over a text from one character to the next on which something depends.
-use Rattle.std.proofs.Common.{◌≡◌, ℕ, ◌+◌, ◌≤◌, false, List, [], ◌∷◌, ◌++◌, length, take, drop, map, refl, sym, ap, subst, ◌∙◌, arith, append_assoc, length-append, length-drop, length-take, Option}
+use Rattle.std.proofs.Common.{◌≡◌, ℕ, ◌+◌, ◌≤◌, false, List, [], ◌∷◌, ◌++◌, length, take, drop, map, refl, sym, ap, ◌∙◌, arith, append_assoc, length-append, length-drop, length-take, Option}
 use Rattle.std.specs.Prelude.{All, replicate}
 use Rattle.std.specs.declared.ops.Range.{Range}
+use Rattle.std.proofs.Math.Nat.{add-zero}
 use Rattle.std.proofs.Math.Seq.{take-append_seam, drop-append_seam}
 use Rattle.std.proofs.lemmas.List.{append-nil, map-append, length-map, take-take, drop-drop}
 use Rattle.std.proofs.lemmas.List.Elements.{All-head, All-tail, All-weaker}
@@ -44,8 +45,7 @@ module _ (source : Source) (len_of : ℕ → ℕ) where
 
     front_is : take (from + text_len len_of xs) new ≡ front
     front_is =
-        sym (take-take (from + text_len len_of xs) to new (omega (arith, h.long, sum_by-append len_of xs ys)))
-        ∙ ap (take (from + text_len len_of xs)) both ∙ ap (λ n. take n (front ++ back)) (sym front_long) ∙ take-append_seam front back
+        cc (take-take (from + text_len len_of xs) to new (omega (arith, h.long, sum_by-append len_of xs ys)), both, front_long, take-append_seam front back)
 
     pub AreWritten-front : AreWritten source len_of xs from (from + text_len len_of xs) old new
     AreWritten-front = record { long = refl; classes = front_is }
@@ -79,8 +79,7 @@ module _ (source : Source) (len_of : ℕ → ℕ) where
 
     pub turn_at : (n c : ℕ) (rest : List ℕ) → drop n chars ≡ c ∷ rest → CharTurn len_of chars n (place len_of chars n) c
     turn_at n c rest next =
-        let tail : rest ≡ drop (n + 1) chars = ap (drop 1) (sym next) ∙ drop-drop 1 n chars in
-        char_turn_of len_of chars n (place len_of chars n) c refl (next ∙ ap (λ cs. c ∷ cs) tail)
+        char_turn_of len_of chars n (place len_of chars n) c refl (cc (next, drop-drop 1 n chars))
 
     IsRead-idle : (n c : ℕ) (rest : List ℕ) (found : Seen) (reading : Reading) (drawn : List BidiClass) → IsRead source len_of chars split base n found reading → drop n chars ≡ c ∷ rest → minds reading (source.class_of c) ≡ false
         → length drawn ≡ length found.units → take (place len_of chars n + len_of c) drawn ≡ take (place len_of chars n) found.units ++ replicate (len_of c) (source.class_of c)
@@ -100,40 +99,28 @@ module _ (source : Source) (len_of : ℕ → ℕ) where
 
     -- ---- characters on which nothing depends
 
-    -- what was written behind the characters that were read does not count
-    IsRead-drawn : (n : ℕ) (found : Seen) (reading : Reading) (drawn : List BidiClass) → IsRead source len_of chars split base n found reading → length drawn ≡ length found.units
-        → take (place len_of chars n) drawn ≡ take (place len_of chars n) found.units → IsRead source len_of chars split base n (with_units drawn found) reading
-    IsRead-drawn n found reading drawn h long same = grind arith
-
     IsRead-idles : (read rest : List ℕ) (n to : ℕ) (found : Seen) (reading : Reading) (drawn : List BidiClass) → IsRead source len_of chars split base n found reading → drop n chars ≡ read ++ rest
         → All (λ c. minds reading (source.class_of c) ≡ false) read → length drawn ≡ length found.units → AreWritten source len_of read (place len_of chars n) to found.units drawn
         → IsRead source len_of chars split base (n + length read) (with_units drawn found) reading × (place len_of chars (n + length read) ≡ to)
-    IsRead-idles [] rest n to found reading drawn h next idle long written =
-        let here : place len_of chars n ≡ to = omega (arith, written.long) in
-        let none : n ≡ n + 0 = omega arith in
-        subst (λ m. IsRead source len_of chars split base m (with_units drawn found) reading × (place len_of chars m ≡ to)) none
-        (IsRead-drawn n found reading drawn h long (ap (λ m. take m drawn) here ∙ written.classes ∙ append-nil (take (place len_of chars n) found.units)), here)
+    -- (what was written behind the characters that were read does not count)
+    IsRead-idles [] rest n to found reading drawn h next idle long written = grind (arith, add-zero, append-nil)
     IsRead-idles (c ∷ read) rest n to found reading drawn h next idle long written =
         let inside : place len_of chars n ≤ length found.units = omega (arith, h.read.sized, place-le len_of chars n) in
         let w = turn_at n c (read ++ rest) next in
         let first = AreWritten-front (c ∷ []) read (place len_of chars n) to found.units drawn inside written in
         let others = AreWritten-back (c ∷ []) read (place len_of chars n) to found.units drawn inside written in
-        let after : place len_of chars n + text_len len_of (c ∷ []) ≡ place len_of chars (n + 1) = omega (arith, sum_by-cons len_of c [], w.after) in
         let one =
         IsRead-idle n c (read ++ rest) found reading drawn h next (All-head (λ c. minds reading (source.class_of c) ≡ false) c read idle) long
         (AreWritten-one c (place len_of chars n) (place len_of chars n + text_len len_of (c ∷ [])) found.units drawn first) in
-        let tail : drop (n + 1) chars ≡ read ++ rest = sym (ap (drop 1) (sym next) ∙ drop-drop 1 n chars) in
-        let more : n + 1 + length read ≡ n + length (c ∷ read) = omega arith in
-        subst (λ m. IsRead source len_of chars split base m (with_units drawn found) reading × (place len_of chars m ≡ to)) more
-        (IsRead-idles read rest (n + 1) to (with_units drawn found) reading drawn one tail (All-tail (λ c. minds reading (source.class_of c) ≡ false) c read idle) refl
-        (subst (λ m. AreWritten source len_of read m to drawn drawn) after others))
+        let later = IsRead-idles read rest (n + 1) to (with_units drawn found) reading drawn one (cc next) (All-tail (λ c. minds reading (source.class_of c) ≡ false) c read idle) refl in
+        grind (arith, later, others, w.after, sum_by-cons len_of c [])
 
     -- ---- up to the next character on which something may depend, or up to the end
 
     module _ (at : ℕ) (found : Seen) (reading : Reading) (minded : ClassSet) (drawn : List BidiClass) (h : IsWalked chars split base at found reading) (minds_is : (c : BidiClass) → has minded c ≡ minds reading c)
         (long : length drawn ≡ length found.units) where
       ahead_is : ahead len_of chars at ≡ drop h.index chars
-      ahead_is = ap (ahead len_of chars) h.here ∙ ap (λ n. drop n chars) (char_index-place len_of chars units h.index h.within)
+      ahead_is = simp (h.here, char_index-place len_of chars units h.index h.within)
 
       are_idle : (read : List ℕ) → AreIdle source minded read → All (λ c. minds reading (source.class_of c) ≡ false) read
       are_idle read idle = All-weaker (λ c. has minded (source.class_of c) ≡ false) (λ c. minds reading (source.class_of c) ≡ false) (λ c none. sym (minds_is (source.class_of c)) ∙ none) read idle
@@ -144,31 +131,23 @@ module _ (source : Source) (len_of : ℕ → ℕ) where
       on : (read rest : List ℕ) (to : ℕ) → ahead len_of chars at ≡ read ++ rest → AreIdle source minded read → AreWritten source len_of read at to found.units drawn
           → IsRead source len_of chars split base (h.index + length read) (with_units drawn found) reading × (place len_of chars (h.index + length read) ≡ to)
       on read rest to joined idle written =
-          IsRead-idles read rest h.index to found reading drawn h.read (sym ahead_is ∙ joined) (are_idle read idle) long (subst (λ n. AreWritten source len_of read n to found.units drawn) h.here written)
+          IsRead-idles read rest h.index to found reading drawn h.read (sym ahead_is ∙ joined) (are_idle read idle) long (rw h.here at written)
 
       pub IsAt-met : (met : Met) → IsMet source len_of minded (ahead len_of chars at) at met found.units drawn → IsAt chars split base met (with_units drawn found) reading
       IsAt-met met k =
-          let row : List BidiClass = replicate (len_of met.c) (source.class_of met.c) in
           let to : ℕ = at + text_len len_of k.read in
           let w = on k.read (met.c ∷ k.rest) to k.joined k.idle (AreWritten-front k.read (met.c ∷ []) at (met.start + len_of met.c) found.units drawn inside k.written) in
-          let next : drop (h.index + length k.read) chars ≡ met.c ∷ k.rest =
-          sym (drop-drop (length k.read) h.index chars) ∙ ap (drop (length k.read)) (sym ahead_is ∙ k.joined) ∙ drop-append_seam k.read (met.c ∷ k.rest) in
-          let last = AreWritten-one met.c to (met.start + len_of met.c) drawn drawn (AreWritten-back k.read (met.c ∷ []) at (met.start + len_of met.c) found.units drawn inside k.written) in
           record {
             index = h.index + length k.read;
             read = w.0;
-            turn = subst (λ n. CharTurn len_of chars (h.index + length k.read) n met.c) (w.1 ∙ sym k.begins) (turn_at (h.index + length k.read) met.c k.rest next);
+            turn = rw (w.1 ∙ sym k.begins) at (turn_at (h.index + length k.read) met.c k.rest (cc (drop-drop (length k.read) h.index chars, ahead_is, k.joined, drop-append_seam k.read (met.c ∷ k.rest))));
             class = k.class;
-            written =
-                ap (λ n. take (n + len_of met.c) drawn) k.begins ∙ last ∙ ap (λ n. take n drawn ++ row) (sym k.begins)
-                ∙ ap (λ class. take met.start drawn ++ replicate (len_of met.c) class) (sym k.class);
+            written = simp (k.begins, k.class) (AreWritten-one met.c to (met.start + len_of met.c) drawn drawn (AreWritten-back k.read (met.c ∷ []) at _ found.units drawn inside k.written));
           }
 
       pub IsRead-end : IsSkimmed source len_of minded (ahead len_of chars at) at (text_len len_of chars) found.units drawn → IsRead source len_of chars split base (length chars) (with_units drawn found) reading
       IsRead-end k =
           let w = on k.read k.rest (text_len len_of chars) k.joined k.idle k.written in
-          let long : length chars ≡ h.index + length k.read + length k.rest = omega (arith, h.within, length-drop h.index chars, ap length (sym ahead_is ∙ k.joined), length-append k.read k.rest) in
-          let all : length chars ≤ h.index + length k.read =
-          place-le-back len_of chars units (length chars) (h.index + length k.read) (omega arith) (omega (arith, w.1, place-end len_of chars (length chars) (omega arith))) in
-          let whole : h.index + length k.read ≡ length chars = omega (arith, long, all) in
-          subst (λ n. IsRead source len_of chars split base n (with_units drawn found) reading) whole w.0
+          let all = place-le-back len_of chars units (length chars) (h.index + length k.read) (omega arith) (omega (arith, w.1, place-end len_of chars (length chars) (omega arith))) in
+          let whole : h.index + length k.read ≡ length chars = omega (arith, all, h.within, length-drop h.index chars, ap length (sym ahead_is ∙ k.joined), length-append k.read k.rest) in
+          rw whole at w.0

@@ -1,5 +1,5 @@
 -- A whole text as a line.
-use Rattle.std.proofs.Common.{◌≡◌, ℕ, arith, List, [], ◌∷◌, refl, ap, sym, ◌∙◌, append-nil, IsTrue}
+use Rattle.std.proofs.Common.{◌≡◌, ℕ, arith, List, [], ◌∷◌, refl, append-nil, IsTrue}
 use Rattle.bidi_base.specs.Text.{text_len, is_boundary, IsLine}
 use Rattle.bidi_base.proofs.TextLemmas.{is_boundary-append}
 
@@ -11,5 +11,5 @@ pub whole-IsLine : (len_of : ℕ → ℕ) (chars : List ℕ) (n : ℕ) → n ≡
 whole-IsLine len_of chars n e = record {
   ordered = omega arith;
   begins = begins len_of chars;
-  ends = ap (is_boundary len_of chars) e ∙ ap (λ cs. is_boundary len_of cs (text_len len_of chars)) (sym (append-nil chars)) ∙ is_boundary-append len_of chars [];
+  ends = cc (e, append-nil chars, is_boundary-append len_of chars []);
 }

@@ -1,5 +1,5 @@
 -- A pass that writes the runs of a line, one after the other.
-use Rattle.std.proofs.Common.{◌≡◌, ℕ, ◌+◌, ◌-◌, ◌<◌, Bool, true, false, List, [], ◌∷◌, ◌++◌, flat_map, reverse, slice_range, length, get_or, take, map, sym, ap, ◌∙◌, arith, append_assoc}
+use Rattle.std.proofs.Common.{◌≡◌, ℕ, ◌+◌, ◌-◌, ◌<◌, Bool, true, false, List, ◌++◌, flat_map, reverse, slice_range, length, get_or, take, map, sym, ap, ◌∙◌, arith, append_assoc}
 use Rattle.std.specs.declared.ops.Range.{Range}
 use Rattle.std.proofs.lemmas.List.{get_or-map, get_or_default, length-map, take_more, append-nil}
 use Rattle.std.proofs.lemmas.Grind.{flat_map-append}
@@ -12,12 +12,7 @@ pub flat_map-more : (f : Run → List ℕ) (ranges : List (Range ℕ)) (k : ℕ)
     → old ≡ begun ++ flat_map f (take k (map run_of ranges)) → new ≡ old ++ f (run_of (get_or ranges k d)) → new ≡ begun ++ flat_map f (take (k + 1) (map run_of ranges))
 flat_map-more f ranges k d begun old new fits h e =
     let long : length (map run_of ranges) ≡ length ranges = length-map ranges run_of in
-    e ∙ ap (λ l. l ++ f (run_of (get_or ranges k d))) h
-    ∙ append_assoc begun (flat_map f (take k (map run_of ranges))) (f (run_of (get_or ranges k d)))
-    ∙ ap (λ l. begun ++ l) (sym (
-    ap (flat_map f) (take_more (map run_of ranges) k (0, 0) (omega arith))
-    ∙ flat_map-append f (take k (map run_of ranges)) (get_or (map run_of ranges) k (0, 0) ∷ [])
-    ∙ ap (λ l. flat_map f (take k (map run_of ranges)) ++ l) (append-nil (f (get_or (map run_of ranges) k (0, 0))) ∙ ap f (get_or-map run_of ranges k d (0, 0) fits))))
+    simp (e, h, append_assoc, take_more (map run_of ranges) k (0, 0) (omega arith), flat_map-append, append-nil, get_or-map run_of ranges k d (0, 0) fits)
 
 module _ (len_of : ℕ → ℕ) (encode : ℕ → List ℕ) (chars units : List ℕ) (start : ℕ) (levels : List ℕ) (run : Range ℕ) (level : ℕ) (odd : Bool) where
   level_odd : run.start - start < length levels → level ≡ get_or levels (run.start - start) level → odd ≡ is_odd level → is_odd (run_level start levels (run_of run)) ≡ odd

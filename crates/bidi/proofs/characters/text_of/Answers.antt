@@ -1,4 +1,4 @@
-use Rattle.std.proofs.Common.{◌∙◌, ◌++◌, ◌∷◌, [], List, ℕ, ap, sym, take}
+use Rattle.std.proofs.Common.{◌∙◌, ap}
 use Rattle.std.proofs.lemmas.List.{take_more, take_all}
 use Rattle.std.proofs.lemmas.Str.{chars-nil, IsUtf8-string_bytes}
 use Rattle.std.specs.Str.{chars}
@@ -10,10 +10,8 @@ loop-c-init c = ap chars c.new-text.ensures.bytes ∙ chars-nil
 
 pub loop-c-preserved : goal.loop-c-preserved
 loop-c-preserved c =
-    chars-push _ _ c.c-item.result (IsUtf8-string_bytes c.push.new.self) (IsUtf8-string_bytes c.loop-c.text) c.in_ok-push.ensures.bytes
-    ∙ ap (λ (l : List ℕ). l ++ c.c-item.result ∷ []) c.loop-c.invariant
-    ∙ ap (λ (x : ℕ). take c.loop-c.c-index c.args.characters.now ++ x ∷ []) c.c-item.is
-    ∙ sym (take_more c.args.characters.now c.loop-c.c-index c.c-item.result c.loop-c-test.true)
+    simp (take_more c.args.characters.now c.loop-c.c-index c.c-item.result c.loop-c-test.true, ← c.c-item.is, ← c.loop-c.invariant)
+    (chars-push _ _ c.c-item.result (IsUtf8-string_bytes c.push.new.self) (IsUtf8-string_bytes c.loop-c.text) c.in_ok-push.ensures.bytes)
 
 pub returns : goal.returns
 returns c = c.loop-c.invariant ∙ take_all c.loop-c.c-index c.args.characters.now c.loop-c-test.false

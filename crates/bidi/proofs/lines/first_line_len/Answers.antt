@@ -1,4 +1,4 @@
-use Rattle.std.proofs.Common.{◌≡◌, ℕ, ◌+◌, ◌-◌, List, length, take, drop, sym, ap, ◌∙◌, arith, length-drop}
+use Rattle.std.proofs.Common.{◌≡◌, ℕ, ◌+◌, ◌-◌, List, length, take, drop, sym, ◌∙◌, arith, length-drop}
 use Rattle.std.proofs.lemmas.List.{take_all}
 use Rattle.bidi_base.specs.Paragraphs.{cr_lf_together}
 use Rattle.bidi.proofs.LinesLemmas.{IsUnbroken-more, IsUnbroken-ended, IsUnbroken-whole}
@@ -10,13 +10,11 @@ behind n chars = sym (take_all (length chars - n) (drop n chars) (omega (arith, 
 
 pub returns-then-ends_line-clause-first : goal.returns-then-ends_line-clause-first
 returns-then-ends_line-clause-first g c =
-    IsUnbroken-ended (cr_lf_together (g.D.BidiDataSource.source c.args.data_source.now)) c.args.chars.now c.loop-at.at c.index-chars-at.result c.loop-at-test.true c.index-chars-at.is
-    (ap (cr_lf_together (g.D.BidiDataSource.source c.args.data_source.now) c.index-chars-at.result) (behind (c.loop-at.at + 1) c.args.chars.now) ∙ sym c.ends_line.ensures ∙ c.if-ends_line.true) c.loop-at.invariant
+    IsUnbroken-ended _ c.args.chars.now _ _ c.loop-at-test.true c.index-chars-at.is (rw (behind (c.loop-at.at + 1) c.args.chars.now) (sym c.ends_line.ensures ∙ c.if-ends_line.true)) c.loop-at.invariant
 
 pub loop-at-preserved : goal.loop-at-preserved
 loop-at-preserved g c =
-    IsUnbroken-more (cr_lf_together (g.D.BidiDataSource.source c.args.data_source.now)) c.args.chars.now c.loop-at.at c.index-chars-at.result c.loop-at-test.true c.index-chars-at.is
-    (ap (cr_lf_together (g.D.BidiDataSource.source c.args.data_source.now) c.index-chars-at.result) (behind (c.loop-at.at + 1) c.args.chars.now) ∙ sym c.ends_line.ensures ∙ c.if-ends_line.false) c.loop-at.invariant
+    IsUnbroken-more _ c.args.chars.now _ _ c.loop-at-test.true c.index-chars-at.is (rw (behind (c.loop-at.at + 1) c.args.chars.now) (sym c.ends_line.ensures ∙ c.if-ends_line.false)) c.loop-at.invariant
 
 pub returns-clause-first : goal.returns-clause-first
 returns-clause-first g c =

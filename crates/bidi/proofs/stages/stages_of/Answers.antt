@@ -1,18 +1,13 @@
-use Rattle.std.proofs.Common.{◌≡◌, ◌∙◌, ℕ, List, Option, length, map, refl, ap, ap₂, subst, sym, arith, rules}
+use Rattle.std.proofs.Common.{◌≡◌, ◌∙◌, List, length, map, refl, ap, sym, arith, rules}
 use Rattle.std.proofs.lemmas.List.{length-map}
 use Rattle.bidi_base.specs.declared.char_data.BidiClass.{BidiClass}
-use Rattle.bidi_base.specs.declared.data_source.BidiMatchedOpeningBracket.{BidiMatchedOpeningBracket}
 use Rattle.bidi_base.specs.Explicit.{explicit_levels, explicit_classes}
 use Rattle.bidi_base.specs.Isolates.{stored_classes}
-use Rattle.bidi_base.specs.Layout.{visual_places, AreInverse}
 use Rattle.bidi_base.specs.Line.{levels_of_line}
-use Rattle.bidi_base.specs.Order.{visual_order}
-use Rattle.bidi_base.specs.Sequences.{RunSequence, sequences}
-use Rattle.bidi_base.specs.Source.{Source}
+use Rattle.bidi_base.specs.Sequences.{sequences}
 use Rattle.bidi_base.proofs.ExplicitLemmas.{length-explicit_classes}
 use Rattle.bidi_base.proofs.LayoutLemmas.{own_indexes, visual_places-inverse}
 use Rattle.bidi_base.proofs.StoredSteps.{length-stored_classes}
-use Rattle.bidi.specs.Stages.{row_of, weak_in, neutral_in}
 use Rattle.bidi.proofs.SequencesLemmas.{can_resolve}
 use Rattle.bidi.proofs.stages.stages_of.Given.{Over}
 use Rattle.bidi.proofs.stages.stages_of.Goals as goal
@@ -47,29 +42,20 @@ inverse-requires g c = grind (arith, own_indexes)
 pub returns : goal.returns
 returns g c =
     let at : After-as_slice-3 g = (goal.at.returns g c).After-as_slice-3 in
-    let source : Source = g.D.BidiDataSource.source c.args.data_source.now in
-    let own : List BidiClass = map source.class_of c.args.chars.now in
-    let many : length c.classes.result.now ≡ length c.args.chars.now =
-    ap length (explicit_classes_are g at) ∙ length-explicit_classes c.args.level (stored_classes own) ∙ length-stored_classes own ∙ length-map c.args.chars.now source.class_of in
-    let lines : c.in_ok-line_levels.line_levels.items ≡ levels_of_line c.args.level (stored_classes own) c.args.levels.now 0 (length c.args.chars.now) =
-    c.in_ok-line_levels.ensures ∙ ap (λ (ks : List BidiClass). levels_of_line c.args.level ks c.args.levels.now 0 (length c.args.chars.now)) c.requires.stored in
+    let own : List BidiClass = map (g.D.BidiDataSource.source c.args.data_source.now).class_of c.args.chars.now in
+    let many : length c.classes.result.now ≡ length c.args.chars.now = simp (explicit_classes_are g at, length-explicit_classes, length-stored_classes, length-map) in
+    let lines : c.in_ok-line_levels.line_levels.items ≡ levels_of_line c.args.level (stored_classes own) c.args.levels.now 0 (length c.args.chars.now) = simp (c.in_ok-line_levels.ensures, c.requires.stored) in
     record {
       level = refl;
       classes = c.in_ok-classes.ensures;
       explicit_levels = ap (λ e. e.levels) c.explicit.view_is ∙ c.in_ok-explicit.ensures.levels ∙ ap (explicit_levels c.args.level) c.requires.stored;
       explicit_classes = ap (λ e. e.classes) c.explicit.view_is ∙ c.in_ok-explicit.ensures.classes ∙ ap (explicit_classes c.args.level) c.requires.stored;
       sequences = sym c.as_slice-3.ensures.value ∙ sequences_are g at;
-      weak = c.in_ok-resolved.ensures.weak
-          ∙ ap₂ (λ (n : ℕ) (ss : List RunSequence). row_of (weak_in c.classes.result.now) n ss) many (sequences_are g at)
-          ∙ ap (λ (ks : List BidiClass). row_of (weak_in ks) (length c.args.chars.now) (sequences c.args.level (stored_classes own) (explicit_levels c.args.level (stored_classes own)))) (explicit_classes_are g at);
-      neutral = c.in_ok-resolved.ensures.neutral
-          ∙ ap₂ (λ (n : ℕ) (ss : List RunSequence). row_of (neutral_in c.as_slice.result.now c.as_slice-2.result.now c.levels-2.result.now c.classes.result.now) n ss) many (sequences_are g at)
-          ∙ ap₂ (λ (ls : List ℕ) (ks : List BidiClass). row_of (neutral_in c.as_slice.result.now c.as_slice-2.result.now ls ks) (length c.args.chars.now) (sequences c.args.level (stored_classes own) (explicit_levels c.args.level (stored_classes own)))) (explicit_levels_are g at) (explicit_classes_are g at)
-          ∙ ap₂ (λ (ks : List BidiClass) (bs : List (Option BidiMatchedOpeningBracket)). row_of (neutral_in ks bs (explicit_levels c.args.level (stored_classes own)) (explicit_classes c.args.level (stored_classes own))) (length c.args.chars.now) (sequences c.args.level (stored_classes own) (explicit_levels c.args.level (stored_classes own)))) (classes_are g at) (brackets_are g at);
+      weak = rw (many, sequences_are g at, explicit_classes_are g at) at c.in_ok-resolved.ensures.weak;
+      neutral = rw (many, sequences_are g at, explicit_levels_are g at, explicit_classes_are g at, classes_are g at, brackets_are g at) at c.in_ok-resolved.ensures.neutral;
       levels = c.in_ok-from_slice.ensures.items;
       line_levels = lines;
-      order = c.in_ok-order.ensures.order ∙ ap visual_order (c.as_slice-4.ensures.value ∙ lines);
-      places = visual_places-inverse c.as_slice-4.result.now c.in_ok-order.order.items c.in_ok-order.ensures.visual c.in_ok-places.places.items
-          (subst (λ (order : List ℕ). AreInverse order c.in_ok-places.places.items) c.as_slice-5.ensures.value c.in_ok-places.ensures)
-          ∙ ap visual_places (c.as_slice-4.ensures.value ∙ lines);
+      order = rw (c.as_slice-4.ensures.value, lines) at c.in_ok-order.ensures.order;
+      places = visual_places-inverse c.as_slice-4.result.now c.in_ok-order.order.items c.in_ok-order.ensures.visual c.in_ok-places.places.items (simp (← c.as_slice-5.ensures.value) c.in_ok-places.ensures)
+          ∙ simp (c.as_slice-4.ensures.value, lines);
     }

@@ -12,10 +12,7 @@ use Rattle.bidi_base.proofs.brackets.search.Goals as goal
 use Rattle.bidi_base.proofs.brackets.search.Goals.{else-loop-bracket-test, then-loop-bracket-test+in_ok-goes_on+then-not-goes_on}
 
 pub loop-bracket-init : goal.loop-bracket-init
-loop-bracket-init c = record {
-  within = rw c.new-waiting.ensures (All-nil _);
-  found = λ counted is. IsAt-start counted c.args.pairs.now.items c.new-waiting.result.items c.args.brackets.now c.requires c.new-waiting.ensures is;
-}
+loop-bracket-init c = grind (arith, All-nil, IsAt-start)
 
 -- where the loop reads
 here : (brackets : List Bracket) (i : ℕ) (slots : List (ℕ × ℕ)) (waiting : List Waiting) (counted : List (Option BidiMatchedOpeningBracket)) → i < length brackets → IsAt counted slots waiting (drop i brackets)

@@ -1,6 +1,5 @@
-use Rattle.std.proofs.Common.{◌≡◌, ◌<◌, ◌-◌, ◌+◌, drop, length, sym, subst, ap, ◌∙◌, arith, ℕ}
+use Rattle.std.proofs.Common.{◌≡◌, ◌<◌, ◌-◌, ◌+◌, length, sym, subst, ◌∙◌, arith, ℕ}
 use Rattle.std.proofs.lemmas.List.{get_or_default}
-use Rattle.bidi_base.specs.Line.{is_reset}
 use Rattle.bidi_lines.proofs.LineLevels.{IsQuietFrom, IsQuietFrom-start, IsQuietFrom-more, read-at, has_rtl-shown, has_rtl-even, has_rtl-end}
 use Rattle.bidi_lines.proofs.line_levels.line_has_rtl.Goals as goal
 
@@ -18,7 +17,7 @@ returns-then-shows_rtl c =
     let at : ℕ = c.loop-at.at - 1 in
     let fits : at < length c.args.classes.now = omega (arith, c.loop-at.invariant.within) in
     let w = read-at c.args.level c.args.classes.now c.args.levels.now at c.loop-at.reset _ _ c.index-levels-at.result fits
-    (c.loop-at.invariant.reset_next ∙ ap (λ n. is_reset (drop n c.args.classes.now)) (sym (back c.loop-at.at c.loop-at-test.true)))
+    (simp (back c.loop-at.at c.loop-at-test.true) c.loop-at.invariant.reset_next)
     c.is_reset-reset.ensures (c.index-levels-at.is ∙ get_or_default c.args.levels.now at c.index-levels-at.result 0 (omega arith)) c.shows_rtl.ensures in
     sym (has_rtl-shown c.args.level c.args.classes.now c.args.levels.now c.requires at fits (sym w.1 ∙ c.if-shows_rtl.true))
 
@@ -28,7 +27,7 @@ loop-at-preserved c =
     let fits : at < length c.args.classes.now = omega (arith, c.loop-at.invariant.within) in
     let same = sym (back c.loop-at.at c.loop-at-test.true) in
     let w = read-at c.args.level c.args.classes.now c.args.levels.now at c.loop-at.reset _ _ c.index-levels-at.result fits
-    (c.loop-at.invariant.reset_next ∙ ap (λ n. is_reset (drop n c.args.classes.now)) same)
+    (simp (← same) c.loop-at.invariant.reset_next)
     c.is_reset-reset.ensures (c.index-levels-at.is ∙ get_or_default c.args.levels.now at c.index-levels-at.result 0 (omega arith)) c.shows_rtl.ensures in
     IsQuietFrom-more c.args.level c.args.classes.now c.args.levels.now at c.loop-at.reset c.is_reset-reset.result fits w.0 (sym w.1 ∙ c.if-shows_rtl.false)
     (subst (λ (n : ℕ). IsQuietFrom c.args.level c.args.classes.now c.args.levels.now c.loop-at.reset n) same c.loop-at.invariant)

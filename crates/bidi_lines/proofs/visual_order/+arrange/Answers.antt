@@ -1,4 +1,4 @@
-use Rattle.std.proofs.Common.{◌≡◌, ℕ, List, le_refl, ◌<◌, ◌≤◌, slice_index, arith, ◌∙◌, sym}
+use Rattle.std.proofs.Common.{ℕ, List, le_refl, ◌<◌, ◌≤◌, slice_index, arith, ◌∙◌, sym}
 use Rattle.std.proofs.lemmas.Bool.{leb-true}
 use Rattle.bidi_lines.specs.Arranged.{AtLeast}
 use Rattle.bidi_lines.proofs.Stretches.{IsArrangedTo-run, IsArrangedTo-stretch, IsNextPart-level, IsNextPart-nested, IsNextPart-turned}
@@ -7,8 +7,7 @@ use Rattle.bidi_lines.proofs.visual_order.+arrange.Goals.{then-next-levels, else
 
 pub loop-at-preserved-then-level-base : goal.loop-at-preserved-then-level-base
 loop-at-preserved-then-level-base t c =
-    let e : slice_index c.args.levels.now c.loop-at.at ≡ c.args.base = omega arith in
-    IsArrangedTo-run _ _ _ _ _ c.loop-at.at _ (omega arith) c.run_end-next.ensures.ends (λ p a b. c.run_end-next.ensures.same p a b ∙ e) c.requires.untouched c.loop-at.invariant
+    IsArrangedTo-run _ _ _ _ _ c.loop-at.at _ (omega arith) c.run_end-next.ensures.ends (λ p a b. omega (arith, c.run_end-next.ensures.same p a b)) c.requires.untouched c.loop-at.invariant
 
 pub loop-at-preserved-then-level-base-eq1 : goal.loop-at-preserved-then-level-base-eq1
 loop-at-preserved-then-level-base-eq1 t c =

@@ -1,5 +1,4 @@
 use Rattle.std.proofs.Common.{◌≡◌, ℕ, ◌≢◌, eqb, not, true, false, Bool, arith, w8}
-use Rattle.std.proofs.lemmas.Bool.{eq-eqb}
 use Rattle.std.proofs.lemmas.Simd.{bitmask_splat}
 use Rattle.bidi_lines.proofs.Lanes.{counted_lanes, lanes_long}
 use Rattle.bidi_lines.proofs.visual_order.first_other.Goals as goal
@@ -11,7 +10,7 @@ same_level : (x level : ℕ) → other level x ≡ false → x ≡ level
 same_level x level h = grind arith
 
 other_level : (x level : ℕ) → other level x ≡ true → x ≢ level
-other_level x level h e = let k : eqb x level ≡ true = eq-eqb x level e in cc
+other_level x level h e = grind arith
 
 pub returns : goal.returns
 returns c =

@@ -1,4 +1,4 @@
-use Rattle.std.proofs.Common.{◌≢◌, ◌<◌, ℕ, length, get_or, arith, below_more, get_or-set_other, get_or-set_same}
+use Rattle.std.proofs.Common.{◌<◌, ℕ, length, get_or, arith, below_more, get_or-set_other, get_or-set_same}
 use Rattle.std.proofs.lemmas.List.{length-set}
 use Rattle.std.proofs.lemmas.List.Sorted.{All-permutation}
 use Rattle.bidi_base.specs.Places.{indexes}
@@ -9,20 +9,15 @@ use Rattle.bidi_lines.proofs.visual_order.inverse.Goals as goal
 
 pub index_mut-requires : goal.index_mut-requires
 index_mut-requires c =
-    let below = All-permutation (λ (i : ℕ). i < length c.args.order.now) (indexes c.args.order.now) c.args.order.now c.requires (all_below c.args.order.now) c.loop-place.place 0 c.loop-place-test.true in
-    let long = c.loop-place.invariant.0 in
-    omega arith
+    omega (arith, c.loop-place.invariant.0, All-permutation (λ (i : ℕ). i < length c.args.order.now) (indexes c.args.order.now) c.args.order.now c.requires (all_below c.args.order.now) c.loop-place.place 0 c.loop-place-test.true)
 
 pub loop-place-preserved : goal.loop-place-preserved
 loop-place-preserved c =
     let below = All-permutation (λ (i : ℕ). i < length c.args.order.now) (indexes c.args.order.now) c.args.order.now c.requires (all_below c.args.order.now) c.loop-place.place 0 c.loop-place-test.true in
-    let long = c.loop-place.invariant.0 in
-    let inside : get_or c.args.order.now c.loop-place.place 0 < length c.loop-place.places.items = omega arith in (
-      omega (arith, length-set c.loop-place.places.items (get_or c.args.order.now c.loop-place.place 0) c.loop-place.place),
+    let inside : get_or c.args.order.now c.loop-place.place 0 < length c.loop-place.places.items = omega (arith, below, c.loop-place.invariant.0) in (
+      omega (arith, length-set c.loop-place.places.items (get_or c.args.order.now c.loop-place.place 0) c.loop-place.place, c.loop-place.invariant.0),
       below_more _ _
-          (λ k earlier.
-          let other : get_or c.args.order.now k 0 ≢ get_or c.args.order.now c.loop-place.place 0 = distinct (length c.args.order.now) c.args.order.now c.requires k c.loop-place.place 0 earlier c.loop-place-test.true in
-          rw get_or-set_other (c.loop-place.invariant.1 k earlier))
+          (λ k earlier. simp (get_or-set_other, distinct (length c.args.order.now) c.args.order.now c.requires k c.loop-place.place 0 earlier c.loop-place-test.true) (c.loop-place.invariant.1 k earlier))
           (rw get_or-set_same),
     )
 

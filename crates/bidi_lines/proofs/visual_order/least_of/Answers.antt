@@ -7,12 +7,9 @@ loop-i-preserved c =
     let i : ℕ = c.loop-i.i in
     record {
       least = λ p h. elim (cases_lt p i) [
-        | inl k ↦ let r = c.loop-i.invariant.least p k in omega arith
+        | inl k ↦ omega (arith, c.loop-i.invariant.least p k)
         | inr k ↦ let e : p ≡ i = omega arith in rw e (omega arith)
       ];
-      above = λ base h.
-          let r = c.loop-i.invariant.above base (λ p k. h p (omega arith)) in
-          let s = h i (omega arith) in
-          omega arith;
+      above = λ base h. omega (arith, c.loop-i.invariant.above base (λ p k. h p (omega arith)), h i (omega arith));
       in_range = omega (arith, c.loop-i.invariant.in_range);
     }

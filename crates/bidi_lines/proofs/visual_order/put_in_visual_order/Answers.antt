@@ -1,5 +1,4 @@
-use Rattle.std.proofs.Common.{◌≡◌, length, arith, ◌∙◌, ap, sym, subst, inl, inr}
-use Rattle.std.proofs.lemmas.Bool.{cases_lt}
+use Rattle.std.proofs.Common.{◌≡◌, length, arith, ◌∙◌, ap, sym, subst}
 use Rattle.std.proofs.lemmas.List.FromFn.{length-range_with_len, get_or-range_with_len}
 use Rattle.bidi_base.specs.Order.{IsVisualOrder}
 use Rattle.bidi_lines.proofs.Ordered.{visual-from_arranged, visual_law, visual-still, none_odd}
@@ -13,10 +12,7 @@ arrange-requires-clause-untouched c p a b = grind (arith, get_or-range_with_len)
 
 pub returns-then-has_rtl-clause-visual : goal.returns-then-has_rtl-clause-visual
 returns-then-has_rtl-clause-visual c =
-    let all : c.arrange.result ≡ length c.args.levels.now = elim (cases_lt c.arrange.result (length c.args.levels.now)) [
-      | inl k ↦ absurd (omega (arith, c.arrange.ensures.stops k))
-      | inr k ↦ omega arith
-    ] in
+    let all : c.arrange.result ≡ length c.args.levels.now = grind (arith, c.arrange.ensures.stops) in
     visual-from_arranged _ _ (rw c.requires at c.arrange.ensures.permutation) (rw all at c.arrange.ensures.arranged)
 
 pub returns-else-has_rtl-clause-visual : goal.returns-else-has_rtl-clause-visual

@@ -1,4 +1,4 @@
-use Rattle.std.proofs.Common.{◌≡◌, ◌∙◌, ◌++◌, ◌<◌, ◌∷◌, [], List, ℕ, length, map, sym, ap, ap₂, arith, eqb-true}
+use Rattle.std.proofs.Common.{◌≡◌, ◌∙◌, ◌++◌, ◌<◌, ◌∷◌, [], List, ℕ, length, map, sym, ap, arith, eqb-true}
 use Rattle.std.proofs.lemmas.Grind.{common_steps}
 use Rattle.std.proofs.lemmas.Bool.{eqb-false}
 use Rattle.std.specs.Char.{len_utf8}
@@ -37,5 +37,4 @@ returns-clause-lines g c =
           let some = eqb-false _ _ (sym c.is_empty.ensures ∙ w.if-is_empty.false) in
           rw w.lines-is (some_found start c.in_ok-lines.lines.items _ (omega (arith, some, c.in_ok-lines.lines.ok.0)) found)
     ] in
-    shown
-    ∙ ap₂ (λ (a b : ℕ). one_at_least a (line_ranges len_utf8 cs one_column c.args.limit a b)) (ap (λ (r : Range ℕ). r.start) c.range-start.ensures) c.own_end-end.ensures.end
+    shown ∙ simp (c.range-start.ensures, c.own_end-end.ensures.end)

@@ -1,11 +1,11 @@
-use Rattle.std.proofs.Common.{◌≡◌, ◌∙◌, ◌++◌, ◌<◌, List, ℕ, length, get_or, decimal, string_bytes, ap, sym, arith}
+use Rattle.std.proofs.Common.{◌≡◌, ◌∙◌, ◌++◌, ◌<◌, List, ℕ, length, get_or, decimal, string_bytes, ap, arith}
 use Rattle.std.specs.Prelude.{codes}
 use Rattle.std.specs.Char.{len_utf8}
 use Rattle.std.specs.Str.{chars}
 use Rattle.std.proofs.lemmas.List.{get_or_default, length_push}
 use Rattle.bidi_base.proofs.PlaceLemmas.{index_turn, index_end}
 use Rattle.bidi_base.proofs.StrLemmas.{has_units, text_len-chars}
-use Rattle.bidi_show.proofs.ShownLemmas.{if_pushed, levels_so_far, levels_so_far-more, levels_so_far-end}
+use Rattle.bidi_show.proofs.ShownLemmas.{if_pushed, levels_so_far-more, levels_so_far-end}
 use Rattle.bidi_show.proofs.shown.push_levels.Goals as goal
 
 pub bounds-levels-at : goal.bounds-levels-at
@@ -24,7 +24,7 @@ loop-at-preserved c =
     c.in_ok-push_number.ensures
     ∙ ap (λ (l : List ℕ). l ++ decimal c.from.result) (c.in_ok-push_str-2.ensures.bytes ∙ ap (λ (l : List ℕ). l ++ codes " ") c.loop-at.invariant)
     ∙ levels_so_far-more (string_bytes c.args.out.now) (chars c.args.text.now) c.args.levels.now (length c.loop-at.yielded) c.in-Some.at c.from.result w.within w.at_place level
-    ∙ ap (levels_so_far (string_bytes c.args.out.now) (chars c.args.text.now) c.args.levels.now) (sym (length_push c.loop-at.yielded (c.in-Some.at, c.in-Some.field-0-1)))
+    ∙ simp (length_push)
 
 pub returns : goal.returns
 returns c =

@@ -1,50 +1,49 @@
-use Rattle.std.proofs.Common.{◌≡◌, ◌∙◌, ◌+◌, ◌≤◌, ◌∷◌, ◌++◌, [], ◌⊎◌, inl, inr, ℕ, List, false, length, drop, map, sym, ap, subst, arith}
+use Rattle.std.proofs.Common.{◌≡◌, ◌∙◌, ◌+◌, ◌≤◌, ◌∷◌, ◌++◌, [], ◌⊎◌, inl, inr, ℕ, List, false, length, map, sym, ap, arith, rules}
 use Rattle.std.proofs.lemmas.List.{length_push, drop_all}
 use Rattle.bidi_base.specs.Classes.{is_strong}
+use Rattle.bidi_base.specs.Text.{place}
 use Rattle.bidi_base.proofs.DirectionWalk.{direction_from, direction_from-is, direction-decided, direction-ended, direction-next, direction-on, depth-le}
-use Rattle.bidi_base.proofs.PlaceLemmas.{char_turn, char_end}
+use Rattle.bidi_base.proofs.PlaceLemmas.{CharTurn, char_turn, char_end}
 use Rattle.bidi_base.proofs.TextLemmas.{length-le-text_len}
+use Rattle.unicode_bidi.proofs.base_direction.find_direction.Given.{Over}
 use Rattle.unicode_bidi.proofs.base_direction.find_direction.Goals as goal
-use Rattle.unicode_bidi.proofs.base_direction.find_direction.Goals.{else-depth-eq0-via-then-depth-eq0+else-is_strong, else-depth-eq0-via-else-depth-eq0}
+use Rattle.unicode_bidi.proofs.base_direction.find_direction.Goals.{In-Some, else-depth-eq0-via-then-depth-eq0+else-is_strong, else-depth-eq0-via-else-depth-eq0}
+
+-- the character that comes
+turn_of : (g : Over) (c : In-Some g)
+    → CharTurn g.T.TextSource.units (g.T.TextSource.characters c.args.text) (length c.loop-c.yielded) (place g.T.TextSource.units (g.T.TextSource.characters c.args.text) (length c.loop-c.yielded)) c.in-Some.c
+turn_of g c = search (rules, char_turn)
 
 pub returns-then-is_strong : goal.returns-then-is_strong
 returns-then-is_strong g c =
     let source = g.D.BidiDataSource.source c.args.data_source.now in
     let cs : List ℕ = g.T.TextSource.characters c.args.text in
-    let n : ℕ = length c.loop-c.yielded in
-    let w = char_turn g.T.TextSource.units cs c.chars-c-items.ensures c.into_iter-c-iterator.ensures.into_iter_gives c.loop-c.yielded _ c.loop-c.yielded_by _ _ c.in-Some.c c.in-Some.is c.next.ensures.steps in
+    let w = turn_of g (goal.at.returns-then-is_strong g c).In-Some in
     c.direction_of.ensures
-    ∙ direction-decided source.class_of cs n c.in-Some.c c.bidi_class-class.result w.next c.bidi_class-class.ensures c.loop-c.depth c.args.full c.if-depth-eq0.true (sym c.is_strong.ensures ∙ c.if-is_strong.true)
+    ∙ direction-decided source.class_of cs _ c.in-Some.c c.bidi_class-class.result w.next c.bidi_class-class.ensures c.loop-c.depth c.args.full c.if-depth-eq0.true (sym c.is_strong.ensures ∙ c.if-is_strong.true)
     ∙ sym c.loop-c.invariant.3 ∙ direction_from-is source cs c.args.full
 
 pub returns-then-not-full : goal.returns-then-not-full
 returns-then-not-full g c =
     let source = g.D.BidiDataSource.source c.args.data_source.now in
     let cs : List ℕ = g.T.TextSource.characters c.args.text in
-    let n : ℕ = length c.loop-c.yielded in
-    let w = char_turn g.T.TextSource.units cs c.chars-c-items.ensures c.into_iter-c-iterator.ensures.into_iter_gives c.loop-c.yielded _ c.loop-c.yielded_by _ _ c.in-Some.c c.in-Some.is c.next.ensures.steps in
-    direction-ended source.class_of cs n c.in-Some.c c.bidi_class-class.result w.next c.bidi_class-class.ensures c.loop-c.depth c.args.full c.if-not-full.true (sym c.is_paragraph_separator.ensures ∙ c.if-is_paragraph_separator.true)
+    let w = turn_of g (goal.at.returns-then-not-full g c).In-Some in
+    direction-ended source.class_of cs _ c.in-Some.c c.bidi_class-class.result w.next c.bidi_class-class.ensures c.loop-c.depth c.args.full c.if-not-full.true (sym c.is_paragraph_separator.ensures ∙ c.if-is_paragraph_separator.true)
     ∙ sym c.loop-c.invariant.3 ∙ direction_from-is source cs c.args.full
 
 pub loop-c-preserved-then-is_paragraph_separator : goal.loop-c-preserved-then-is_paragraph_separator
 loop-c-preserved-then-is_paragraph_separator g c =
     let source = g.D.BidiDataSource.source c.args.data_source.now in
     let cs : List ℕ = g.T.TextSource.characters c.args.text in
-    let n : ℕ = length c.loop-c.yielded in
-    let w = char_turn g.T.TextSource.units cs c.chars-c-items.ensures c.into_iter-c-iterator.ensures.into_iter_gives c.loop-c.yielded _ c.loop-c.yielded_by _ _ c.in-Some.c c.in-Some.is c.next.ensures.steps in (
-      c.in-Some.ensures.goes.keeps,
-      (c.in-Some.ensures.goes.on c.loop-c.invariant.1).1,
-      omega arith,
-      c.loop-c.invariant.3
-          ∙ direction-next source.class_of cs n c.in-Some.c c.bidi_class-class.result w.next c.bidi_class-class.ensures c.loop-c.depth c.args.full c.if-not-full.false (sym c.is_paragraph_separator.ensures ∙ c.if-is_paragraph_separator.true)
-          ∙ ap (λ m. direction_from c.args.full 0 (map source.class_of (drop m cs))) (sym (length_push c.loop-c.yielded c.in-Some.c)),
-    )
+    let w = turn_of g (goal.at.loop-c-preserved-then-is_paragraph_separator g c).In-Some in
+    let next =
+    direction-next source.class_of cs _ c.in-Some.c c.bidi_class-class.result w.next c.bidi_class-class.ensures c.loop-c.depth c.args.full c.if-not-full.false (sym c.is_paragraph_separator.ensures ∙ c.if-is_paragraph_separator.true) in
+    (c.in-Some.ensures.goes.keeps, (c.in-Some.ensures.goes.on c.loop-c.invariant.1).1, omega arith, rw (length_push c.loop-c.yielded c.in-Some.c) (c.loop-c.invariant.3 ∙ next))
 
 pub depth_after-depth-requires : goal.depth_after-depth-requires
 depth_after-depth-requires g c =
-    let cs : List ℕ = g.T.TextSource.characters c.args.text in
-    let w = char_turn g.T.TextSource.units cs c.chars-c-items.ensures c.into_iter-c-iterator.ensures.into_iter_gives c.loop-c.yielded _ c.loop-c.yielded_by _ _ c.in-Some.c c.in-Some.is c.next.ensures.steps in
-    omega (arith, w.within, c.loop-c.invariant.2, length-le-text_len g.T.TextSource.units g.met.T.TextSource.has_units cs, c.len-units.ensures)
+    let w = turn_of g (goal.at.depth_after-depth-requires g c).In-Some in
+    omega (arith, w.within, c.loop-c.invariant.2, length-le-text_len g.T.TextSource.units g.met.T.TextSource.has_units (g.T.TextSource.characters c.args.text), c.len-units.ensures)
 
 pub loop-c-preserved : goal.loop-c-preserved
 loop-c-preserved g c =
@@ -52,21 +51,17 @@ loop-c-preserved g c =
     let cs : List ℕ = g.T.TextSource.characters c.args.text in
     let n : ℕ = length c.loop-c.yielded in
     let class = c.bidi_class-class.result in
-    let w = char_turn g.T.TextSource.units cs c.chars-c-items.ensures c.into_iter-c-iterator.ensures.into_iter_gives c.loop-c.yielded _ c.loop-c.yielded_by _ _ c.in-Some.c c.in-Some.is c.next.ensures.steps in
+    let w = turn_of g (goal.at.loop-c-preserved g c).In-Some in
     let undecided : (is_strong class ≡ false) ⊎ (c.loop-c.depth ≡ 0 → ⊥) =
     elim c.else-depth-eq0.branch [
       | else-depth-eq0-via-then-depth-eq0+else-is_strong v ↦ inl (sym v.is_strong.ensures ∙ v.if-is_strong.false)
       | else-depth-eq0-via-else-depth-eq0 v ↦ inr v.if-depth-eq0.false
     ] in
-    let few : c.depth_after-depth.result ≤ n + 1 = subst (λ d. d ≤ n + 1) (sym c.depth_after-depth.ensures) (depth-le class c.loop-c.depth n c.loop-c.invariant.2) in
-    let longer : length (c.loop-c.yielded ++ c.in-Some.c ∷ []) ≡ n + 1 = length_push c.loop-c.yielded c.in-Some.c in (
-      c.in-Some.ensures.goes.keeps,
-      (c.in-Some.ensures.goes.on c.loop-c.invariant.1).1,
-      omega (arith, few, longer),
-      c.loop-c.invariant.3
-          ∙ direction-on source.class_of cs n c.in-Some.c class w.next c.bidi_class-class.ensures c.loop-c.depth c.args.full c.depth_after-depth.result c.depth_after-depth.ensures undecided (sym c.is_paragraph_separator.ensures ∙ c.if-is_paragraph_separator.false)
-          ∙ ap (λ m. direction_from c.args.full c.depth_after-depth.result (map source.class_of (drop m cs))) (sym longer),
-    )
+    let few : c.depth_after-depth.result ≤ n + 1 = omega (arith, c.depth_after-depth.ensures, depth-le class c.loop-c.depth n c.loop-c.invariant.2) in
+    let longer : length (c.loop-c.yielded ++ c.in-Some.c ∷ []) ≡ n + 1 = length_push c.loop-c.yielded c.in-Some.c in
+    let on =
+    direction-on source.class_of cs n c.in-Some.c class w.next c.bidi_class-class.ensures c.loop-c.depth c.args.full c.depth_after-depth.result c.depth_after-depth.ensures undecided (sym c.is_paragraph_separator.ensures ∙ c.if-is_paragraph_separator.false) in
+    (c.in-Some.ensures.goes.keeps, (c.in-Some.ensures.goes.on c.loop-c.invariant.1).1, omega (arith, few, longer), rw longer (c.loop-c.invariant.3 ∙ on))
 
 pub returns : goal.returns
 returns g c =

@@ -1,11 +1,7 @@
-use Rattle.std.proofs.Common.{◌∙◌, List, ℕ, sym, subst, arith}
+use Rattle.std.proofs.Common.{◌∙◌, List, ℕ, arith}
 use Rattle.std.proofs.Math.Seq.{take-append_seam}
-use Rattle.std.specs.Prelude.{All}
-use Rattle.bidi_base.specs.Text.{text_len}
 use Rattle.bidi_base.proofs.ParagraphsLemmas.{length-text_classes}
 use Rattle.bidi_base.proofs.PerUnit.{length-per_unit}
-use Rattle.unicode_bidi.specs.declared.paragraph_info.ParagraphInfo.{ParagraphInfo}
-use Rattle.unicode_bidi.specs.Engine.{CanWrite, Follow}
 use Rattle.unicode_bidi.specs.SplitRule.{pieces_by}
 use Rattle.unicode_bidi.proofs.FoundLaws.{analysis-IsPerCharText, pieces_by-joined}
 use Rattle.unicode_bidi.proofs.ParagraphUnits.{paragraphs-Follow, paragraphs-flags, paragraphs-CanWrite, paragraphs-levels}
@@ -14,10 +10,9 @@ use Rattle.unicode_bidi.proofs.engine.analyse_by.Goals as goal
 pub write_paragraphs-requires-clause-paragraphs : goal.write_paragraphs-requires-clause-paragraphs
 write_paragraphs-requires-clause-paragraphs g c =
     let source = g.D.BidiDataSource.source c.args.data_source.now in
-    let len = g.T.TextSource.units in
     let cs : List ℕ = g.T.TextSource.characters c.args.text in
-    subst (λ (ps : List ParagraphInfo). All (CanWrite source len cs c.as_slice.result.now) ps) (sym c.as_slice-2.ensures.value)
-    (paragraphs-CanWrite source c.args.base len g.met.T.TextSource.has_units cs (pieces_by c.args.split source cs) (pieces_by-joined c.args.split source cs) c.in_ok-found.found.paragraphs.items
+    rw c.as_slice-2.ensures.value
+    (paragraphs-CanWrite source c.args.base g.T.TextSource.units g.met.T.TextSource.has_units cs (pieces_by c.args.split source cs) (pieces_by-joined c.args.split source cs) c.in_ok-found.found.paragraphs.items
     c.in_ok-found.ensures.ranges c.in_ok-found.ensures.levels c.as_slice.result.now (c.as_slice.ensures.value ∙ c.in_ok-found.ensures.classes) c.requires)
 
 pub write_paragraphs-requires-clause-flags : goal.write_paragraphs-requires-clause-flags
@@ -26,10 +21,9 @@ write_paragraphs-requires-clause-flags g c = grind (arith, paragraphs-flags, pie
 pub write_paragraphs-requires-clause-follow : goal.write_paragraphs-requires-clause-follow
 write_paragraphs-requires-clause-follow g c =
     let source = g.D.BidiDataSource.source c.args.data_source.now in
-    let len = g.T.TextSource.units in
     let cs : List ℕ = g.T.TextSource.characters c.args.text in
-    subst (Follow 0 (text_len len cs)) (sym c.as_slice-2.ensures.value)
-    (paragraphs-Follow source c.args.base len g.met.T.TextSource.has_units cs (pieces_by c.args.split source cs) (pieces_by-joined c.args.split source cs) c.in_ok-found.found.paragraphs.items
+    rw c.as_slice-2.ensures.value
+    (paragraphs-Follow source c.args.base g.T.TextSource.units g.met.T.TextSource.has_units cs (pieces_by c.args.split source cs) (pieces_by-joined c.args.split source cs) c.in_ok-found.found.paragraphs.items
     c.in_ok-found.ensures.ranges c.in_ok-found.ensures.levels)
 
 pub invariant_of-classified : goal.invariant_of-classified

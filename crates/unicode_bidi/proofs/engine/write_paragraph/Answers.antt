@@ -1,10 +1,8 @@
-use Rattle.std.proofs.Common.{◌≡◌, ◌∙◌, List, ℕ, map, slice_range, ap, sym, arith}
+use Rattle.std.proofs.Common.{◌≡◌, ◌∙◌, List, ℕ, ap, arith}
 use Rattle.std.specs.declared.ops.Range.{Range}
-use Rattle.bidi_base.specs.Isolates.{stored_classes}
-use Rattle.bidi_base.specs.Text.{per_unit, subrange}
+use Rattle.bidi_base.specs.Text.{subrange}
 use Rattle.unicode_bidi.proofs.ParagraphUnits.{paragraph-IsPart, paragraph-written}
 use Rattle.unicode_bidi.specs.Engine.{chars_of}
-use Rattle.unicode_bidi.specs.ParagraphFlags.{flags_of}
 use Rattle.unicode_bidi.proofs.engine.write_paragraph.Goals as goal
 
 pub slice_bounds-own-end : goal.slice_bounds-own-end
@@ -17,14 +15,11 @@ pub invariant_of-own : goal.invariant_of-own
 invariant_of-own g c =
     let len = g.T.TextSource.units in
     let cs : List ℕ = g.T.TextSource.characters c.args.text.now.text in
-    let class_of = (g.D.BidiDataSource.source c.args.text.now.data_source.now).class_of in
     let piece : g.T.TextSource.characters c.subrange.result ≡ chars_of len cs c.args.paragraph.now = c.subrange.ensures ∙ ap (λ (r : Range ℕ). subrange len cs r.start r.end) c.range-units.ensures in
     record {
       low = rw c.level.ensures c.requires.paragraph.level;
-      own_flags = c.requires.flags ∙ ap (λ (p : List ℕ). flags_of (map class_of p)) (sym piece);
-      stored =
-          ap (λ (r : Range ℕ). slice_range c.args.text.now.original_classes.now r.start r.end) c.range-units.ensures ∙ c.requires.paragraph.classes
-          ∙ ap (λ (p : List ℕ). per_unit len p (stored_classes (map class_of p))) (sym piece);
+      own_flags = rw piece c.requires.flags;
+      stored = rw (piece, c.range-units.ensures) c.requires.paragraph.classes;
     }
 
 pub write_levels-requires : goal.write_levels-requires

@@ -6,10 +6,9 @@ use Rattle.std.proofs.lemmas.Bool.{cases_Bool}
 use Rattle.std.proofs.lemmas.List.{with_items_is}
 use Rattle.bidi_base.specs.Text.{place}
 use Rattle.bidi_base.proofs.PlaceLemmas.{is_boundary-place, place-end}
-use Rattle.unicode_bidi.specs.FirstWalk.{IsFresh, IsClosed}
+use Rattle.unicode_bidi.specs.FirstWalk.{IsClosed}
 use Rattle.unicode_bidi.specs.SplitRule.{ends_after}
 use Rattle.unicode_bidi.proofs.KnownClasses.{AreKnown-none}
-use Rattle.unicode_bidi.specs.declared.first_walk.TextReading.{TextReading}
 use Rattle.unicode_bidi.proofs.TextRead.{seen, same_range, open_within, depth-le, drawn-is, IsTextRead-more, IsTextDone-close, IsRead, IsRead-start, IsRead-on, IsRead-stop, IsRead-last, IsRead-none, IsTextDone-none, IsAnswer, IsTextDone-answer}
 use Rattle.unicode_bidi.proofs.WalkSteps.{IsAt, IsAt-met, IsRead-end}
 use Rattle.unicode_bidi.proofs.first_walk.walk.Goals as goal
@@ -40,51 +39,26 @@ met_at g c =
     c.loop-met.invariant.0 c.loop-met.invariant.1 c.next_minded.auto.classes c.in-Some.met c.in-Some.ensures.met
 
 pub overflow_add-at : goal.overflow_add-at
-overflow_add-at g c =
-    let w = (met_at g (goal.at.overflow_add-at g c).In-Some).turn in
-    omega (arith, w.fits, c.len.ensures, c.char_len.ensures)
+overflow_add-at g c = omega (arith, (met_at g (goal.at.overflow_add-at g c).In-Some).turn.fits, c.len.ensures, c.char_len.ensures)
 
 pub meet-requires-clause-within : goal.meet-requires-clause-within
 meet-requires-clause-within g c =
-    let source = g.D.BidiDataSource.source c.args.data_source.now in
-    let len = g.T.TextSource.units in
-    let units = g.met.T.TextSource.has_units in
-    let cs : List ℕ = g.T.TextSource.characters c.args.text in
-    let base = c.args.base in
-    let reading = c.loop-met.walk.reading in
-    let old = seen c.next_minded.new.classes c.loop-met.walk in
     let m = met_at g (goal.at.meet-requires-clause-within g c).In-Some in
-    let w = m.turn in
-    open_within source len cs units base m.index m.read.done m.read.current old reading w.within m.read.read
+    open_within _ _ _ g.met.T.TextSource.has_units _ _ _ _ _ _ m.turn.within m.read.read
 
 pub meet-requires-clause-few : goal.meet-requires-clause-few
 meet-requires-clause-few g c =
-    let source = g.D.BidiDataSource.source c.args.data_source.now in
-    let len = g.T.TextSource.units in
     let units = g.met.T.TextSource.has_units in
-    let cs : List ℕ = g.T.TextSource.characters c.args.text in
-    let base = c.args.base in
-    let reading = c.loop-met.walk.reading in
-    let old = seen c.next_minded.new.classes c.loop-met.walk in
     let m = met_at g (goal.at.meet-requires-clause-few g c).In-Some in
-    let w = m.turn in
-    omega (arith, depth-le source len cs units base m.index m.read.done m.read.current old reading w.within m.read.read, w.fits, c.len.ensures, w.at_place, units c.in-Some.met.c)
+    omega (arith, depth-le _ _ _ units _ _ _ _ _ _ m.turn.within m.read.read, m.turn.fits, c.len.ensures, m.turn.at_place, units c.in-Some.met.c)
 
 pub meet-requires-clause-follows : goal.meet-requires-clause-follows
 meet-requires-clause-follows g c = grind (arith, common_steps)
 
 pub loop-met-smaller : goal.loop-met-smaller
 loop-met-smaller g c =
-    let source = g.D.BidiDataSource.source c.args.data_source.now in
-    let len = g.T.TextSource.units in
-    let units = g.met.T.TextSource.has_units in
-    let cs : List ℕ = g.T.TextSource.characters c.args.text in
-    let base = c.args.base in
-    let reading = c.loop-met.walk.reading in
-    let old = seen c.next_minded.new.classes c.loop-met.walk in
-    let m = met_at g (goal.at.loop-met-smaller g c).In-Some in
-    let w = m.turn in
-    omega (arith, w.fits, units c.in-Some.met.c, c.char_len.ensures, c.in-Some.ensures.met.begins, c.loop-met.invariant.0.read.read.sized, c.loop-met.auto.classes)
+    let w = (met_at g (goal.at.loop-met-smaller g c).In-Some).turn in
+    omega (arith, w.fits, g.met.T.TextSource.has_units c.in-Some.met.c, c.char_len.ensures, c.in-Some.ensures.met.begins, c.loop-met.invariant.0.read.read.sized, c.loop-met.auto.classes)
 
 pub loop-met-preserved : goal.loop-met-preserved
 loop-met-preserved g c =
@@ -105,12 +79,11 @@ loop-met-preserved g c =
     let drawn_is = drawn-is source len cs units base n m.read.done m.read.current old reading w.within m.read.read char w.is_char class m.class c.next_minded.new.classes c.in-Some.met.start w.at_place m.written in
     let range : Range ℕ = record { start = c.in-Some.met.start; end = to } in
     let range_is = same_range c.in-Some.met.start (place len cs n) to (place len cs (n + 1)) w.at_place end in
-    let after : List ℕ = drop (n + 1) cs in
-    let ends_is : c.ends_paragraph-ends.result ≡ ends_after c.args.split source char after = c.ends_paragraph-ends.ensures (n + 1) end in
+    let ends_is : c.ends_paragraph-ends.result ≡ ends_after c.args.split source char (drop (n + 1) cs) = c.ends_paragraph-ends.ensures (n + 1) end in
     let more = IsTextRead-more source len cs units base n m.read.done m.read.current old reading w.within m.read.read char w.is_char class m.class c.next_minded.new.classes drawn_is refl range in
     let longer = seen c.meet.new.classes c.loop-met.walk in
     let new = seen c.meet.new.classes c.meet.new.self in
-    let read : IsRead source len cs c.args.split base (n + 1) new c.meet.new.self.reading = elim (cases_Bool (ends_after c.args.split source char after)) [
+    let read : IsRead source len cs c.args.split base (n + 1) new c.meet.new.self.reading = elim (cases_Bool (ends_after c.args.split source char (drop (n + 1) cs))) [
       | inl stop ↦
           let ended = c.in_ok-minded.ensures.ended (ends_is ∙ stop) in
           let r = ended.1.0 in
@@ -118,7 +91,7 @@ loop-met-preserved g c =
           IsRead-stop source len cs c.args.split base n char old reading new c.meet.new.self.reading m.read w.next
           (IsTextDone-close source len cs base (n + 1) m.read.done (m.read.current ++ char ∷ []) longer r done new to end refl
           (subst (λ (b : _). IsClosed b r to longer.paragraphs longer.flags new.paragraphs new.flags) c.loop-met.invariant.2 ended.1.2))
-          (subst (IsFresh c.meet.new.self.reading) end ended.0) stop
+          (rw end at ended.0) stop
       | inr on ↦
           let kept = c.in_ok-minded.ensures.on (ends_is ∙ on) in
           IsRead-on source len cs c.args.split base n char old reading new c.meet.new.self.reading m.read w.next
@@ -149,20 +122,16 @@ answered g c =
     let end : c.len-end.result ≡ place len cs n = c.len-end.ensures ∙ sym (place-end len cs n (omega arith)) in
     elim c.if-is_none.branch [
       | then-is_none+in_ok-close w ↦
-          let rest : (is_none split ≡ true) ⊎ (reading.start < place len cs n) =
-          elim w.then-is_none.branch [
+          let rest : (is_none split ≡ true) ⊎ (reading.start < place len cs n) = elim w.then-is_none.branch [
             | then-is_none-via-then-is_none v ↦ inl (ap not (c.is_none.ensures ∙ ap not v.if-is_none.true))
             | then-is_none-via-else-is_none+then-walk-end v ↦ inr (omega (arith, v.if-walk-end.true, end))
           ] in
           let new = seen c.next_minded.new.classes w.close.new.self in
-          subst (λ (walk : TextReading). IsAnswer source len cs split base (seen c.next_minded.new.classes walk)) (sym w.walk-is)
-          (IsTextDone-answer source len cs split base n (h.done ++ h.current ∷ []) new refl (IsRead-last source len cs units base n old reading refl split h rest)
-          (IsTextDone-close source len cs base n h.done h.current old reading h.read new c.len-end.result end refl
-          (subst (λ (b : _). IsClosed b reading c.len-end.result old.paragraphs old.flags new.paragraphs new.flags) c.loop-met.invariant.2 w.in_ok-close.ensures.closed)))
+          rw w.walk-is (IsTextDone-answer source len cs split base n (h.done ++ h.current ∷ []) new refl (IsRead-last source len cs units base n old reading refl split h rest)
+          (IsTextDone-close source len cs base n h.done h.current old reading h.read new c.len-end.result end refl (rw c.loop-met.invariant.2 at w.in_ok-close.ensures.closed)))
       | else-is_none+else-walk-end w ↦
           let none = IsRead-none source len cs units base n old reading refl split h (ap not (c.is_none.ensures ∙ ap not w.if-is_none.false)) (omega (arith, w.if-walk-end.false, end)) in
-          subst (λ (walk : TextReading). IsAnswer source len cs split base (seen c.next_minded.new.classes walk)) (sym w.walk-is)
-          (IsTextDone-answer source len cs split base n h.done old refl none.1 (IsTextDone-none source len cs base n h.done h.current old reading none.0 h.read))
+          rw w.walk-is (IsTextDone-answer source len cs split base n h.done old refl none.1 (IsTextDone-none source len cs base n h.done h.current old reading none.0 h.read))
     ]
 
 pub returns-clause-classes : goal.returns-clause-classes

@@ -1,12 +1,11 @@
-use Rattle.std.proofs.Common.{sym, ap, ◌∙◌}
+use Rattle.std.proofs.Common.{sym}
 use Rattle.std.specs.Char.{len_utf8}
 use Rattle.std.specs.Str.{chars}
-use Rattle.bidi_base.specs.declared.text.str_text.StrText.{StrText}
 use Rattle.bidi_base.proofs.StrLemmas.{text_len-chars}
 use Rattle.unicode_bidi.proofs.WholeText.{whole-IsLine}
 use Rattle.unicode_bidi.proofs.kept_line.reorder_utf8.Goals as goal
 
 pub reorder_line-requires : goal.reorder_line-requires
 reorder_line-requires c =
-    rw (← sym (ap (λ (t : StrText). t.text.now) c.new-analysed.ensures.text ∙ c.new.ensures))
+    rw (c.new-analysed.ensures.text, c.new.ensures)
     (whole-IsLine len_utf8 (chars c.args.text.now) _ (sym (text_len-chars c.args.text.now c.utf8.text)))

@@ -1,7 +1,7 @@
-use Rattle.std.proofs.Common.{◌≡◌, ◌∙◌, ℕ, List, sym, ap, arith}
+use Rattle.std.proofs.Common.{◌≡◌, ◌∙◌, sym, ap, arith}
 use Rattle.std.specs.Char.{len_utf8}
 use Rattle.std.specs.Str.{chars}
-use Rattle.bidi_base.specs.Text.{text_len, per_char, subrange}
+use Rattle.bidi_base.specs.Text.{text_len, subrange}
 use Rattle.bidi_base.proofs.StrLemmas.{has_units}
 use Rattle.unicode_bidi.specs.BidiInfo.{text, analysed}
 use Rattle.unicode_bidi.specs.ParagraphInfo.{level_of}
@@ -20,6 +20,5 @@ first_units-requires c =
 
 pub returns : goal.returns
 returns c =
-    c.first_units.ensures
-    ∙ ap (λ (cs : List ℕ). per_char 0 len_utf8 cs c.in_ok-levels.levels.items) (chars_of_line (goal.at.returns c).In_ok-levels)
-    ∙ per_char-shown (analysed c.args.info.now) has_units (level_of c.args.para.now) c.args.line c.requires c.in_ok-levels.levels.items c.in_ok-levels.ensures
+    simp (c.first_units.ensures, chars_of_line (goal.at.returns c).In_ok-levels)
+    (per_char-shown (analysed c.args.info.now) has_units (level_of c.args.para.now) c.args.line c.requires c.in_ok-levels.levels.items c.in_ok-levels.ensures)

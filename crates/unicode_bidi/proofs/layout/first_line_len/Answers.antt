@@ -1,4 +1,4 @@
-use Rattle.std.proofs.Common.{◌≡◌, ◌∙◌, ◌+◌, ◌++◌, ◌∷◌, [], ℕ, List, length, arith, rules}
+use Rattle.std.proofs.Common.{◌∙◌, length, arith, rules}
 use Rattle.std.proofs.lemmas.List.{length_push}
 use Rattle.bidi_base.proofs.LayoutLemmas.{first_line-one, first_line-stops, first_line-all, place-turn}
 use Rattle.bidi_base.proofs.PlaceLemmas.{CharTurn, index_turn, index_end}
@@ -13,34 +13,28 @@ turn_of g c = search (rules, index_turn)
 pub returns-then-width-left : goal.returns-then-width-left
 returns-then-width-left g c =
     let width_of = g.W.CharWidth.width_of c.args.widths.now in
-    let len = g.T.TextSource.units in
     let some = g.met.T.TextSource.has_units in
-    let cs : List ℕ = g.T.TextSource.characters c.args.text in
     let w = turn_of g (goal.at.returns-then-width-left g c).In-Some in
     elim c.if-at-eq0.branch [
       | then-at-eq0 v ↦
           v.result-is ∙ v.char_len.ensures
-          ∙ first_line-one width_of c.args.limit len some cs (length c.loop-at.yielded) c.in-Some.at c.in-Some.c c.loop-at.left w c.loop-at.invariant.2 (omega (arith, c.width-width.ensures, c.if-width-left.true)) v.if-at-eq0.true
+          ∙ first_line-one width_of c.args.limit _ some _ _ _ _ c.loop-at.left w c.loop-at.invariant.2 (omega (arith, c.width-width.ensures, c.if-width-left.true)) v.if-at-eq0.true
       | else-at-eq0 v ↦
           v.result-is
-          ∙ first_line-stops width_of c.args.limit len some cs (length c.loop-at.yielded) c.in-Some.at c.in-Some.c c.loop-at.left w c.loop-at.invariant.2 (omega (arith, c.width-width.ensures, c.if-width-left.true)) v.if-at-eq0.false
+          ∙ first_line-stops width_of c.args.limit _ some _ _ _ _ c.loop-at.left w c.loop-at.invariant.2 (omega (arith, c.width-width.ensures, c.if-width-left.true)) v.if-at-eq0.false
     ]
 
 pub loop-at-preserved : goal.loop-at-preserved
 loop-at-preserved g c =
-    let width_of = g.W.CharWidth.width_of c.args.widths.now in
-    let cs : List ℕ = g.T.TextSource.characters c.args.text in
-    let w = turn_of g (goal.at.loop-at-preserved g c).In-Some in
-    let next = place-turn width_of g.T.TextSource.units cs (length c.loop-at.yielded) c.in-Some.at c.in-Some.c w in
-    let longer : length (c.loop-at.yielded ++ (c.in-Some.at, c.in-Some.c) ∷ []) ≡ length c.loop-at.yielded + 1 = length_push c.loop-at.yielded (c.in-Some.at, c.in-Some.c) in (
+    let next = place-turn (g.W.CharWidth.width_of c.args.widths.now) g.T.TextSource.units (g.T.TextSource.characters c.args.text) (length c.loop-at.yielded) _ _ (turn_of g (goal.at.loop-at-preserved g c).In-Some) in (
       c.in-Some.ensures.goes.keeps,
       (c.in-Some.ensures.goes.on c.loop-at.invariant.1).1,
-      rw longer (omega (arith, next, c.loop-at.invariant.2, c.width-width.ensures, c.if-width-left.false)),
+      rw (length_push c.loop-at.yielded (c.in-Some.at, c.in-Some.c))
+          (omega (arith, next, c.loop-at.invariant.2, c.width-width.ensures, c.if-width-left.false)),
     )
 
 pub returns : goal.returns
 returns g c =
-    let cs : List ℕ = g.T.TextSource.characters c.args.text in
-    let all = index_end g.T.TextSource.units cs c.char_indices-at-items.ensures c.into_iter-at-iterator.ensures.into_iter_gives c.loop-at.yielded _ c.loop-at.yielded_by _ _ c.in-None.is c.next.ensures.steps in
+    let all = index_end g.T.TextSource.units (g.T.TextSource.characters c.args.text) c.char_indices-at-items.ensures c.into_iter-at-iterator.ensures.into_iter_gives c.loop-at.yielded _ c.loop-at.yielded_by _ _ c.in-None.is c.next.ensures.steps in
     c.len.ensures
-    ∙ first_line-all (g.W.CharWidth.width_of c.args.widths.now) c.args.limit g.T.TextSource.units g.met.T.TextSource.has_units cs (length c.loop-at.yielded) c.loop-at.left all c.loop-at.invariant.2
+    ∙ first_line-all (g.W.CharWidth.width_of c.args.widths.now) c.args.limit g.T.TextSource.units g.met.T.TextSource.has_units _ _ c.loop-at.left all c.loop-at.invariant.2

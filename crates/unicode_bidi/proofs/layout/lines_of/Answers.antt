@@ -1,8 +1,5 @@
-use Rattle.std.proofs.Common.{◌≡◌, ◌∙◌, ◌+◌, ◌++◌, ℕ, List, map, sym, ap, subst, arith}
+use Rattle.std.proofs.Common.{◌≡◌, ◌+◌, ℕ, List, arith}
 use Rattle.std.proofs.lemmas.List.{map-append, append_assoc, append-nil}
-use Rattle.bidi_base.specs.Display.{run_of}
-use Rattle.bidi_base.specs.Layout.{line_length}
-use Rattle.bidi_base.specs.Text.{place, subrange}
 use Rattle.bidi_base.proofs.LayoutLemmas.{FirstLine, first_line, line_ranges-none, line_ranges-IsPartition}
 use Rattle.unicode_bidi.proofs.layout.lines_of.Goals as goal
 use Rattle.unicode_bidi.proofs.layout.lines_of.Goals.{After-first_line_len}
@@ -14,10 +11,8 @@ line_here : (g : Over) (c : After-first_line_len g)
 line_here g c =
     let len = g.T.TextSource.units in
     let width_of = g.W.CharWidth.width_of c.args.widths.now in
-    let taken : c.first_line_len.result ≡ place len (subrange len (g.T.TextSource.characters c.args.text) c.loop-start.start c.args.range.end) (line_length width_of c.args.limit (subrange len (g.T.TextSource.characters c.args.text) c.loop-start.start c.args.range.end)) =
-    subst (λ (cs : List ℕ). c.first_line_len.result ≡ place len cs (line_length width_of c.args.limit cs)) c.subrange-rest.ensures c.first_line_len.ensures in
     first_line width_of c.args.limit len g.met.T.TextSource.has_units (g.T.TextSource.characters c.args.text) c.loop-start.start c.args.range.end (c.loop-start.start + c.first_line_len.result)
-    c.loop-start.invariant.0 c.loop-start-test.true (ap (λ (n : ℕ). c.loop-start.start + n) taken)
+    c.loop-start.invariant.0 c.loop-start-test.true (cc (c.first_line_len.ensures, c.subrange-rest.ensures))
 
 pub overflow_add-end : goal.overflow_add-end
 overflow_add-end g c = grind (arith, line_here)
@@ -33,9 +28,7 @@ returns-clause-lines g c =
     let len = g.T.TextSource.units in
     let cs : List ℕ = g.T.TextSource.characters c.args.text in
     let end : c.loop-start.start ≡ c.args.range.end = omega (arith, c.loop-start.invariant.0.ordered, c.loop-start-test.false) in
-    sym (append-nil (map run_of c.loop-start.lines.items))
-    ∙ ap (λ (rs : List (ℕ × ℕ)). map run_of c.loop-start.lines.items ++ rs) (sym (line_ranges-none (g.W.CharWidth.width_of c.args.widths.now) c.args.limit len g.met.T.TextSource.has_units cs c.loop-start.start c.args.range.end end))
-    ∙ c.loop-start.invariant.1
+    simp (line_ranges-none (g.W.CharWidth.width_of c.args.widths.now) c.args.limit len g.met.T.TextSource.has_units cs c.loop-start.start c.args.range.end end, append-nil) at c.loop-start.invariant.1
 
 pub returns-clause-parted : goal.returns-clause-parted
 returns-clause-parted g c = grind (arith, line_ranges-IsPartition, returns-clause-lines)

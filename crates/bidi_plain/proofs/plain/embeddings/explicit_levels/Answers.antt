@@ -1,7 +1,5 @@
-use Rattle.std.proofs.Common.{◌||◌, cond, unwrap_or, ap, ◌∙◌, arith, rules}
+use Rattle.std.proofs.Common.{arith, rules}
 use Rattle.bidi_base.specs.declared.char_data.BidiClass.{BidiClass}
-use Rattle.bidi_base.specs.Classes.{is_paragraph_separator, is_removed}
-use Rattle.bidi_base.specs.Explicit.{Status}
 use Rattle.bidi_base.specs.Places.{class_at}
 use Rattle.bidi_base.proofs.ExplicitLemmas.{length-explicit_levels, length-explicit_classes}
 use Rattle.bidi_plain.proofs.ExplicitPass.{IsExplicitSoFar-start, IsExplicitSoFar-more, IsExplicitSoFar-levels, IsExplicitSoFar-classes}
@@ -17,8 +15,7 @@ loop-class-preserved c =
     rw (c.in_ok-push.ensures.items, c.in_ok-push-2.ensures.items)
     (IsExplicitSoFar-more c.args.para_level c.args.classes.now c.loop-class.class-index c.loop-class.openers c.close.new.self c.open.new.self c.loop-class.levels.items c.loop-class.overridden.items c.status-status.result
     c.level_of.result c.class_of.result c.loop-class-test.true c.loop-class.invariant c.close.ensures c.in_ok-open.ensures c.status-status.ensures
-    (c.level_of.ensures ∙ ap (λ (s : Status). cond (is_paragraph_separator class) c.args.para_level s.level) c.status.view_is)
-    (c.class_of.ensures ∙ ap (λ (s : Status). cond (is_paragraph_separator class || is_removed class) class (unwrap_or s.override class)) c.status.view_is))
+    (simp (c.level_of.ensures, ← c.status.view_is)) (simp (c.class_of.ensures, ← c.status.view_is)))
 
 pub returns-clause-levels : goal.returns-clause-levels
 returns-clause-levels c =

@@ -35,14 +35,12 @@ loop-place-preserved c = elim c.if-not-is_removed.branch [
 at_end : {X : Type 0} (items : X → List ℕ) (classes : List BidiClass) (levels : List ℕ) (p : ℕ) (xs : List X) (waits : List (Option ℕ)) (last : Option (ℕ × ℕ)) → p ≡ length classes → IsStateAt classes levels p (map items xs) waits last
     → (paragraph : ℕ) → map (λ x. with_ends paragraph classes levels (items x)) xs ≡ sequences paragraph classes levels
 at_end items classes levels p xs waits last all h paragraph =
-    sym (map-map (with_ends paragraph classes levels) items xs)
-    ∙ IsStateAt-end classes levels (map items xs) waits last (subst (λ (k : ℕ). IsStateAt classes levels k (map items xs) waits last) all h) paragraph
+    sym (map-map (with_ends paragraph classes levels) items xs) ∙ IsStateAt-end classes levels (map items xs) waits last (rw all at h) paragraph
 
 each_at : {X : Type 0} (items : X → List ℕ) (classes : List BidiClass) (levels : List ℕ) (p : ℕ) (xs : List X) (waits : List (Option ℕ)) (last : Option (ℕ × ℕ)) → IsStateAt classes levels p (map items xs) waits last
     → (k : ℕ) (d : X) → k < length xs → ArePlaces (length classes) (items (get_or xs k d))
 each_at items classes levels p xs waits last h k d within =
-    subst (ArePlaces (length classes)) (get_or-map items xs k d [] within)
-    (IsStateAt-places classes levels p (map items xs) waits last h k (omega (arith, length-map xs items)))
+    rw (← get_or-map items xs k d [] within) (IsStateAt-places classes levels p (map items xs) waits last h k (omega (arith, length-map xs items)))
 
 pub returns-clause-all : goal.returns-clause-all
 returns-clause-all c = at_end (λ v. v.items) c.args.classes.now c.args.levels.now c.loop-place.place c.loop-place.sequences.items c.loop-place.waiting.items c.loop-place.last (omega arith) c.loop-place.invariant

@@ -1,4 +1,4 @@
-use Rattle.std.proofs.Common.{◌≡◌, ℕ, ◌+◌, ◌<◌, Bool, cond, List, length, get_or, set, refl, sym, ap, ◌∙◌}
+use Rattle.std.proofs.Common.{◌≡◌, ℕ, ◌+◌, ◌<◌, Bool, cond, List, length, get_or, set, refl, sym, ◌∙◌}
 use Rattle.std.proofs.lemmas.Bool.{cond-true, cond-false}
 use Rattle.bidi_base.specs.declared.char_data.BidiClass.{BidiClass}
 use Rattle.bidi_base.specs.declared.char_data.BidiClass.TheVariants.{L, EN, AN}
@@ -15,7 +15,7 @@ number : (sos : BidiClass) (old now : List BidiClass) (s : BidiClass) (i : ℕ) 
     → is_al s ≡ b → IsScanned (w2_rule sos) is_strong sos old (set now i (cond b AN EN)) s (i + 1)
 number sos old now s i b h fits is test =
     IsScanned-write (w2_rule sos) is_strong sos old now s s i EN (cond b AN EN) h fits is refl
-    (λ before after near. ap (λ t. cond t AN EN) (sym test ∙ ap is_al near))
+    (λ before after near. simp (← test, near))
 
 pub loop-class-preserved : goal.loop-class-preserved
 loop-class-preserved c =

@@ -1,7 +1,6 @@
-use Rattle.std.proofs.Common.{◌<◌, cond, length, get_or, set, sym, ap, ◌∙◌, arith}
+use Rattle.std.proofs.Common.{cond, get_or, sym, ap, ◌∙◌, arith}
 use Rattle.std.proofs.lemmas.List.{get_or_default}
 use Rattle.std.proofs.lemmas.List.Edits.{map_over_more}
-use Rattle.bidi_base.specs.declared.char_data.BidiClass.{BidiClass}
 use Rattle.bidi_base.specs.declared.char_data.BidiClass.TheVariants.{L, R}
 use Rattle.bidi_base.specs.Weak.{w3_rule}
 use Rattle.bidi_plain.proofs.WeakRules.{w3_rule-is_al, same_al}
@@ -13,10 +12,9 @@ loop-class-preserved c =
     let ys = c.loop-class.classes in
     let i = c.loop-class.class-index in
     let x = get_or ys i L in
-    let fits : i < length ys = omega arith in
-    let step = map_over_more w3_rule c.args.classes.now ys i x c.loop-class-test.true c.loop-class.invariant (get_or_default ys i L x fits) in
-    let test = sym (same_al x) ∙ sym c.eq.ensures in
+    let step = map_over_more w3_rule c.args.classes.now ys i x c.loop-class-test.true c.loop-class.invariant (get_or_default ys i L x (omega arith)) in
+    let is = w3_rule-is_al x ∙ ap (λ b. cond b R x) (sym (same_al x) ∙ sym c.eq.ensures) in
     elim c.if-eq.branch [
-      | then-eq w ↦ w.classes-is ∙ ap (λ (y : BidiClass). set ys i y) (sym (w3_rule-is_al x ∙ ap (λ b. cond b R x) (test ∙ w.if-eq.true))) ∙ step
-      | else-eq w ↦ w.classes-is ∙ ap (λ (y : BidiClass). set ys i y) (sym (w3_rule-is_al x ∙ ap (λ b. cond b R x) (test ∙ w.if-eq.false))) ∙ step
+      | then-eq w ↦ w.classes-is ∙ simp (is, w.if-eq.true) at step
+      | else-eq w ↦ w.classes-is ∙ simp (is, w.if-eq.false) at step
     ]

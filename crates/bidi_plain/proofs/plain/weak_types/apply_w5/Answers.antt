@@ -12,8 +12,7 @@ loop-start-preserved c =
     let old = c.args.classes.now in
     let n = c.terminators.result in
     let before_number = c.is_european_number-before_number.result in
-    let long : length s.classes ≡ length old = s.invariant.rewritten.long in
-    let fits : s.start ≤ length old = omega arith in
+    let fits : s.start ≤ length old = omega (arith, s.invariant.rewritten.long) in
     elim c.if-after_number.branch [
       | then-after_number w ↦
           let beside : (s.after_number || before_number) ≡ true = elim w.then-after_number.branch [
@@ -33,5 +32,4 @@ loop-start-preserved c =
 pub returns : goal.returns
 returns c =
     let s = c.loop-start in
-    let long : length s.classes ≡ length c.args.classes.now = s.invariant.rewritten.long in
-    IsRewritten-end w5_rule c.args.classes.now s.classes s.start (omega arith) s.invariant.rewritten
+    IsRewritten-end w5_rule c.args.classes.now s.classes s.start (omega (arith, s.invariant.rewritten.long)) s.invariant.rewritten

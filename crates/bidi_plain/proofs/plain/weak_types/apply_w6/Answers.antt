@@ -1,7 +1,6 @@
-use Rattle.std.proofs.Common.{◌<◌, length, get_or, set, sym, ap, ◌∙◌, arith}
+use Rattle.std.proofs.Common.{get_or, ◌∙◌, arith}
 use Rattle.std.proofs.lemmas.List.{get_or_default}
 use Rattle.std.proofs.lemmas.List.Edits.{map_over_more}
-use Rattle.bidi_base.specs.declared.char_data.BidiClass.{BidiClass}
 use Rattle.bidi_base.specs.declared.char_data.BidiClass.TheVariants.{L}
 use Rattle.bidi_base.specs.Weak.{w6_rule}
 use Rattle.bidi_plain.proofs.WeakRules.{w6_rule-one, w6_rule-other}
@@ -13,9 +12,8 @@ loop-class-preserved c =
     let ys = c.loop-class.classes in
     let i = c.loop-class.class-index in
     let x = get_or ys i L in
-    let fits : i < length ys = omega arith in
-    let step = map_over_more w6_rule c.args.classes.now ys i x c.loop-class-test.true c.loop-class.invariant (get_or_default ys i L x fits) in
+    let step = map_over_more w6_rule c.args.classes.now ys i x c.loop-class-test.true c.loop-class.invariant (get_or_default ys i L x (omega arith)) in
     elim c.match-class.branch [
-      | in-ES w ↦ w.classes-is ∙ ap (λ (y : BidiClass). set ys i y) (sym (w6_rule-one x w.in-ES.is)) ∙ step
-      | in_default w ↦ let d = w.in_default in w.classes-is ∙ ap (λ (y : BidiClass). set ys i y) (sym (w6_rule-other x d.not-ES d.not-ET d.not-CS)) ∙ step
+      | in-ES w ↦ w.classes-is ∙ rw (w6_rule-one x w.in-ES.is) at step
+      | in_default w ↦ let d = w.in_default in w.classes-is ∙ rw (w6_rule-other x d.not-ES d.not-ET d.not-CS) at step
     ]

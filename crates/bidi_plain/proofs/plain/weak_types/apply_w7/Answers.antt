@@ -1,4 +1,4 @@
-use Rattle.std.proofs.Common.{◌≡◌, ℕ, ◌+◌, ◌<◌, Bool, cond, List, length, get_or, set, refl, sym, ap, ◌∙◌}
+use Rattle.std.proofs.Common.{◌≡◌, ℕ, ◌+◌, ◌<◌, Bool, cond, List, length, get_or, set, refl, sym, ◌∙◌}
 use Rattle.std.proofs.lemmas.Bool.{cond-true, cond-false}
 use Rattle.bidi_base.specs.declared.char_data.BidiClass.{BidiClass}
 use Rattle.bidi_base.specs.declared.char_data.BidiClass.TheVariants.{L, EN}
@@ -15,7 +15,7 @@ number : (sos : BidiClass) (old now : List BidiClass) (s : BidiClass) (i : ℕ) 
     → is_l s ≡ b → IsScanned (w7_rule sos) is_l_or_r sos old (set now i (cond b L EN)) s (i + 1)
 number sos old now s i b h fits is test =
     IsScanned-write (w7_rule sos) is_l_or_r sos old now s s i EN (cond b L EN) h fits is refl
-    (λ before after near. ap (λ t. cond t L EN) (sym test ∙ ap is_l near))
+    (λ before after near. simp (← test, near))
 
 pub loop-class-preserved : goal.loop-class-preserved
 loop-class-preserved c =

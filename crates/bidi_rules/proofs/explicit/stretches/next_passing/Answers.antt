@@ -1,5 +1,5 @@
 -- The units of a character have one class, so a test of its first unit tells of all.
-use Rattle.std.proofs.Common.{arith, inl, inr}
+use Rattle.std.proofs.Common.{arith}
 use Rattle.std.proofs.lemmas.Bool.{cases_lt}
 use Rattle.bidi_rules.proofs.CharEnds.{Goes, goes}
 use Rattle.bidi_rules.proofs.explicit.stretches.next_passing.Given.{Over}
@@ -13,19 +13,14 @@ next g c =
     c.requires.classes c.loop-at.invariant.3 c.requires.ends c.loop-at-test.true (omega (arith, c.requires.within, c.requires.long)) c.step_over-at.ensures.end
 
 pub loop-at-smaller : goal.loop-at-smaller
-loop-at-smaller g c =
-    let on = next g c in
-    omega (arith, on.some, on.within)
+loop-at-smaller g c = omega (arith, next g c)
 
 pub loop-at-preserved : goal.loop-at-preserved
 loop-at-preserved g c =
     let on = next g c in (
       omega (arith, on.some),
       on.within,
-      λ k above below. elim (cases_lt k c.loop-at.at) [
-        | inl old ↦ c.loop-at.invariant.2 k above old
-        | inr new ↦ grind arith
-      ],
+      λ k above below. grind (arith, cases_lt k c.loop-at.at, c.loop-at.invariant.2 k),
       on.begins,
       omega (arith, on.index, c.step_over-at.ensures.steps),
     )

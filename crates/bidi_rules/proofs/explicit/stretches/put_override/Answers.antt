@@ -1,10 +1,8 @@
 -- One character after another: their units have one class, which is BN or takes the override.
-use Rattle.std.proofs.Common.{◌≡◌, ℕ, ◌+◌, ◌<◌, ◌≤◌, List, Some, sym, ap, subst, ◌∙◌, arith}
-use Rattle.bidi_base.specs.declared.char_data.BidiClass.{BidiClass}
+use Rattle.std.proofs.Common.{◌≡◌, ℕ, ◌+◌, ◌<◌, ◌≤◌, sym, ap, ◌∙◌, arith}
 use Rattle.bidi_base.specs.Classes.{is_kept_in_place}
 use Rattle.bidi_base.specs.Places.{class_at}
 use Rattle.bidi_base.specs.Text.{char_index}
-use Rattle.bidi_rules.specs.ExplicitStretches.{IsOverridden}
 use Rattle.bidi_rules.proofs.CharEnds.{Goes, goes}
 use Rattle.bidi_rules.proofs.ExplicitStretches.{IsOverridden-more, IsOverridden-spared}
 use Rattle.bidi_rules.proofs.explicit.stretches.put_override.Given.{Over}
@@ -21,27 +19,19 @@ was : (g : Over) (c : After-step_over-next g) (u : ℕ) → c.loop-at.at ≤ u �
 was g c u above below = c.requires.unread u (omega (arith, c.loop-at.invariant.0)) ∙ (next g c).same u above below
 
 pub write_class-requires-clause-ordered : goal.write_class-requires-clause-ordered
-write_class-requires-clause-ordered g c =
-    let on = next g (goal.at.write_class-requires-clause-ordered g c).After-step_over-next in
-    omega (arith, on.some)
+write_class-requires-clause-ordered g c = omega (arith, next g (goal.at.write_class-requires-clause-ordered g c).After-step_over-next)
 
 pub write_class-requires-clause-within : goal.write_class-requires-clause-within
-write_class-requires-clause-within g c =
-    let on = next g (goal.at.write_class-requires-clause-within g c).After-step_over-next in
-    omega (arith, on.within, c.loop-at.invariant.2.long, c.requires.classes, c.requires.within)
+write_class-requires-clause-within g c = omega (arith, next g (goal.at.write_class-requires-clause-within g c).After-step_over-next, c.loop-at.invariant.2.long, c.requires.classes, c.requires.within)
 
 pub loop-at-init : goal.loop-at-init
 loop-at-init g c = grind arith steps 400000
 
 pub loop-at-smaller-then-passes : goal.loop-at-smaller-then-passes
-loop-at-smaller-then-passes g c =
-    let on = next g (goal.at.loop-at-smaller-then-passes g c).After-step_over-next in
-    omega (arith, on.some, on.within)
+loop-at-smaller-then-passes g c = omega (arith, next g (goal.at.loop-at-smaller-then-passes g c).After-step_over-next)
 
 pub loop-at-smaller : goal.loop-at-smaller
-loop-at-smaller g c =
-    let on = next g (goal.at.loop-at-smaller g c).After-step_over-next in
-    omega (arith, on.some, on.within)
+loop-at-smaller g c = omega (arith, next g (goal.at.loop-at-smaller g c).After-step_over-next)
 
 pub loop-at-preserved-then-passes : goal.loop-at-preserved-then-passes
 loop-at-preserved-then-passes g c =
@@ -49,8 +39,7 @@ loop-at-preserved-then-passes g c =
     let on = next g a.After-step_over-next in (
       omega (arith, on.some, c.loop-at.invariant.0),
       on.within,
-      subst (λ (cs : List BidiClass). IsOverridden (Some c.args.put) c.args.from c.step_over-next.result c.args.classes.now cs) (sym c.write_class.ensures)
-          (IsOverridden-more c.args.put c.args.from c.loop-at.at c.step_over-next.result c.args.classes.now c.loop-at.classes c.loop-at.invariant.2 c.loop-at.invariant.0 (omega (arith, on.some)) (omega (arith, on.within, c.requires.within, c.requires.classes))
+      simp c.write_class.ensures (IsOverridden-more _ _ _ _ _ _ c.loop-at.invariant.2 c.loop-at.invariant.0 (omega (arith, on.some)) (omega (arith, on.within, c.requires.within, c.requires.classes))
           (λ u above below. ap is_kept_in_place (was g a.After-step_over-next u above below) ∙ sym c.passes.ensures ∙ c.if-passes.true)),
       on.begins,
       omega (arith, on.index, c.step_over-next.ensures.steps, c.loop-at.invariant.4),

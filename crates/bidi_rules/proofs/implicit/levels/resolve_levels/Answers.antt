@@ -1,4 +1,4 @@
-use Rattle.std.proofs.Common.{◌≡◌, ◌<◌, ◌≤◌, ℕ, List, map, get_or, length, sym, ap, ◌∙◌, arith, get_or-set_same, get_or-set_other}
+use Rattle.std.proofs.Common.{◌≡◌, ◌<◌, ◌≤◌, ℕ, List, map, get_or, length, arith, get_or-set_same, get_or-set_other}
 use Rattle.std.specs.List.{zip}
 use Rattle.std.proofs.lemmas.List.{ext_get_or, get_or-map, get_or_default, length-map, take_more_set}
 use Rattle.std.proofs.lemmas.List.Sums.{fold_push}
@@ -18,12 +18,7 @@ all_are : (old : List ℕ) (classes : List BidiClass) (now : List ℕ) → lengt
 all_are old classes now same long each =
     let pairs : length (zip old classes) ≡ length old = omega (arith, length-zip old classes) in
     ext_get_or 0 now (map (λ (e : ℕ × BidiClass). implicit_level e.0 e.1) (zip old classes)) (omega (arith, length-map (zip old classes) (λ (e : ℕ × BidiClass). implicit_level e.0 e.1)))
-    (λ k below.
-    let fits : k < length old = omega arith in
-    each k fits
-    ∙ sym (
-    get_or-map (λ (e : ℕ × BidiClass). implicit_level e.0 e.1) (zip old classes) k (0, L) 0 (omega arith)
-    ∙ ap (λ (e : ℕ × BidiClass). implicit_level e.0 e.1) (get_or-zip old classes k (0, L) fits (omega arith))))
+    (λ k below. simp (each k (omega arith), get_or-map (λ (e : ℕ × BidiClass). implicit_level e.0 e.1) (zip old classes) k (0, L) 0 (omega arith), get_or-zip old classes k (0, L) (omega arith) (omega arith)))
 
 pub implicit_level-level-requires : goal.implicit_level-level-requires
 implicit_level-level-requires c = grind (arith, read_is)

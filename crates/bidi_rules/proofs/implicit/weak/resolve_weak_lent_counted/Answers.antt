@@ -1,5 +1,5 @@
 -- The three steps, one behind another.
-use Rattle.std.proofs.Common.{◌≡◌, ℕ, true, false, List, length, map, sym, subst, arith}
+use Rattle.std.proofs.Common.{◌≡◌, ℕ, true, false, List, length, map, arith}
 use Rattle.std.specs.declared.ops.Range.{Range}
 use Rattle.bidi_base.specs.declared.char_data.BidiClass.{BidiClass}
 use Rattle.bidi_base.specs.Places.{class_at}
@@ -26,17 +26,14 @@ record IsReady (len_of : ℕ → ℕ) (chars : List ℕ) (read : List (Range ℕ
 ready : (len_of : ℕ → ℕ) → HasUnits len_of → (chars : List ℕ) (sequence : LentSequence) (read : List (Range ℕ)) (old : List BidiClass) → read ≡ lent_runs sequence → AreLines len_of chars (map bounds (lent_runs sequence))
     → is_per_char class_eq len_of chars old ≡ true → IsReady len_of chars read old
 ready len_of h chars sequence read old is lines per =
-    subst (λ (rs : List (Range ℕ)). IsReady len_of chars rs old) (sym is)
-    (record { ordered = grind arith; lines = lines; per = IsPerChar-from_is_per_char class_eq class_test len_of h chars old per })
+    rw is (record { ordered = grind arith; lines = lines; per = IsPerChar-from_is_per_char class_eq class_test len_of h chars old per })
 
 resolved : (len_of : ℕ → ℕ) → HasUnits len_of → (chars : List ℕ) (sequence : LentSequence) (read : List (Range ℕ)) (sos : BidiClass) → read ≡ lent_runs sequence → sos ≡ lent_sos sequence → (old c1 c2 c3 : List BidiClass) → IsReady len_of chars read old
     → IsMarked (map bounds read) (carried sos) old c1 → IsWalked (len_at len_of chars) (map bounds read) sos c1 c2
     → ((u : ℕ) → in_runs (map bounds read) u ≡ true → class_at c3 u ≡ left_over (class_at c2 u)) → ((u : ℕ) → in_runs (map bounds read) u ≡ false → class_at c3 u ≡ class_at c2 u) → length c3 ≡ length c2
     → IsResolved len_of chars (map bounds (lent_runs sequence)) (lent_sos sequence) old c3
 resolved len_of h chars sequence read sos runs_are sos_is old c1 c2 c3 w marks numbers changed same long =
-    subst (λ (rs : List (Range ℕ)). IsResolved len_of chars (map bounds rs) (lent_sos sequence) old c3) runs_are
-    (subst (λ (s : BidiClass). IsResolved len_of chars (map bounds read) s old c3) sos_is
-    (IsResolved-passes len_of h chars (map bounds read) w.lines w.ordered sos old w.per c1 marks c2 c3 numbers changed same long))
+    rw (runs_are, sos_is) at (IsResolved-passes len_of h chars (map bounds read) w.lines w.ordered sos old w.per c1 marks c2 c3 numbers changed same long)
 
 pub resolve_marks_and_numbers-requires-clause-lines : goal.resolve_marks_and_numbers-requires-clause-lines
 resolve_marks_and_numbers-requires-clause-lines g c = grind arith
@@ -69,11 +66,4 @@ returns g c =
     let done = s.ensures.walked in
     let r = resolved len_of h chars c.args.sequence read c.sos-sos.result c.runs-runs.ensures c.sos-sos.ensures old done.0 s.new.classes c.change.new.classes w done.1 done.2 e.changed e.same e.long in
     let few = characters-at_most len_of h chars (map bounds read) w.lines in
-    record {
-      kept = r.kept;
-      removed = r.removed;
-      outside = r.outside;
-      per_char = r.per_char;
-      at_least = rw (← c.runs-runs.ensures) (omega (arith, few, s.ensures.at_least, e.at_least));
-      at_most = rw (← c.runs-runs.ensures) (omega (arith, s.ensures.at_most, e.at_most));
-    }
+    grind (arith, r, few, s.ensures.at_least, s.ensures.at_most, e.at_least, e.at_most, c.runs-runs.ensures)

@@ -1,10 +1,8 @@
-use Rattle.std.proofs.Common.{◌≡◌, ◌+◌, ℕ, Bool, List, get_or, set, sym, ◌∙◌, ap, subst, inl, inr, arith}
+use Rattle.std.proofs.Common.{◌≡◌, ℕ, Bool, get_or, sym, ◌∙◌, ap, inl, inr, arith}
 use Rattle.std.proofs.lemmas.Bool.{cases_Bool}
 use Rattle.std.proofs.lemmas.List.{set-get_or}
-use Rattle.bidi_base.specs.declared.char_data.BidiClass.{BidiClass}
 use Rattle.bidi_base.specs.declared.char_data.BidiClass.TheVariants.{L}
 use Rattle.bidi_base.specs.Classes.{is_kept_in_place}
-use Rattle.bidi_rules.specs.WeakWalk.{IsWrittenOver}
 use Rattle.bidi_rules.proofs.WrittenOver.{IsWrittenOver-skip, IsWrittenOver-set, IsWrittenOver-end}
 use Rattle.bidi_rules.proofs.implicit.weak.write_over.Goals as goal
 
@@ -22,10 +20,10 @@ loop-unit-preserved g c =
       elim (cases_Bool (is_kept_in_place (get_or now i L))) [
         | inl seen ↦
             let is : c.written_over.result ≡ class = grind arith in
-            subst (λ (x : BidiClass). IsWrittenOver test class from (i + 1) old (set now i x)) (sym is) (IsWrittenOver-set test class from old i now (omega arith) (omega (arith, c.requires)) (sym answer ∙ seen) h)
+            simp is (IsWrittenOver-set test class from old i now (omega arith) (omega (arith, c.requires)) (sym answer ∙ seen) h)
         | inr gone ↦
             let is : c.written_over.result ≡ get_or now i L = grind arith in
-            subst (λ (xs : List BidiClass). IsWrittenOver test class from (i + 1) old xs) (sym (ap (set now i) is ∙ set-get_or now i L)) (IsWrittenOver-skip test class from old i now (sym answer ∙ gone) h)
+            simp (is, set-get_or) (IsWrittenOver-skip test class from old i now (sym answer ∙ gone) h)
       ],
       λ none. absurd (omega arith),
       omega arith,

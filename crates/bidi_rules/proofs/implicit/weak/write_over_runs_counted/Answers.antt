@@ -1,6 +1,6 @@
-use Rattle.std.proofs.Common.{◌≡◌, ℕ, ◌<◌, ◌≤◌, ◌&&◌, true, false, List, length, map, drop, get_or, ltb, ◌∙◌, sym, ap, inl, inr, arith, rules}
+use Rattle.std.proofs.Common.{◌≡◌, ℕ, ◌<◌, ◌&&◌, true, false, List, length, map, drop, get_or, ltb, ◌∙◌, sym, ap, inl, inr, arith, rules}
 use Rattle.std.specs.Prelude.{max, min}
-use Rattle.std.proofs.lemmas.Bool.{cases_lt, and_from, both_ways, lt-ltb}
+use Rattle.std.proofs.lemmas.Bool.{cases_lt}
 use Rattle.std.proofs.lemmas.List.{get_or-map, length-map, take_all}
 use Rattle.std.specs.declared.ops.Range.{Range}
 use Rattle.bidi_base.specs.Units.{bounds}
@@ -51,12 +51,7 @@ returns-clause-written g c =
     let written = c.loop-class.invariant.written in
     let fails : (ltb index (length runs) && ltb (get_or ranges index (0, 0)).0 c.args.to) ≡ false = sym c.begins_below.ensures ∙ c.loop-class-test.false in
     elim (cases_lt index (length runs)) [
-      | inl fits ↦
-          let past : c.args.to ≤ (get_or ranges index (0, 0)).0 = elim (cases_lt (get_or ranges index (0, 0)).0 c.args.to) [
-            | inl before ↦ absurd (both_ways _ fails (and_from _ _ (lt-ltb index (length runs) fits) (lt-ltb (get_or ranges index (0, 0)).0 c.args.to before)))
-            | inr past ↦ past
-          ] in
-          runs-stop ranges c.args.class c.args.from c.args.to c.args.classes.now index now c.requires.ordered (omega arith) past written
+      | inl fits ↦ runs-stop ranges c.args.class c.args.from c.args.to c.args.classes.now index now c.requires.ordered (omega arith) (grind (arith, fails)) written
       | inr all ↦ grind (arith, take_all)
     ]
 

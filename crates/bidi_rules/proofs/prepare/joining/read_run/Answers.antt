@@ -1,12 +1,11 @@
-use Rattle.std.proofs.Common.{◌≡◌, ◌≤◌, ℕ, List, length, true, subst, arith}
+use Rattle.std.proofs.Common.{◌≡◌, ◌≤◌, ℕ, List, length, true, arith}
 use Rattle.bidi_base.specs.contracts.char_data.BidiClassPartialEq.TheImpl.{ghosts}
 use Rattle.bidi_base.specs.Text.{is_per_char, IsLine}
 use Rattle.bidi_base.specs.declared.char_data.BidiClass.{BidiClass}
 use Rattle.bidi_base.proofs.TextLemmas.{HasUnits, is_boundary-le}
 use Rattle.bidi_base.proofs.PerCharTests.{class_test}
 use Rattle.bidi_base.proofs.UnitsLemmas.{length-from_is_per_char}
-use Rattle.bidi_rules.proofs.RunReading.{IsReadTo, IsReadTo-start, IsReadTo-jump, IsReadTo-asked, IsReadTo-more, IsReadTo-end, IsReadTo-past, IsReadTo-within}
-use Rattle.bidi_rules.proofs.prepare.joining.read_run.Given.{Over}
+use Rattle.bidi_rules.proofs.RunReading.{IsReadTo-start, IsReadTo-jump, IsReadTo-asked, IsReadTo-more, IsReadTo-end, IsReadTo-past, IsReadTo-within}
 use Rattle.bidi_rules.proofs.prepare.joining.read_run.Goals as goal
 use Rattle.bidi_rules.proofs.prepare.joining.read_run.Goals.{After-first_passing-at-in-loop-at}
 
@@ -25,21 +24,16 @@ bounds-classes-at g c = search (arith, within)
 
 pub loop-at-init : goal.loop-at-init
 loop-at-init g c =
-    let old = c.args.waiting.now.items in
-    IsReadTo-jump g.T.TextSource.units g.met.T.TextSource.has_units (g.T.TextSource.characters c.args.text) c.args.classes.now c.requires.per_char c.args.run.now.start c.args.run.now.end c.args.kept_end c.args.s c.requires.line c.requires.kept_end
-    c.args.run.now.start c.first_passing-at.result old old
-    (IsReadTo-start g.T.TextSource.units g.met.T.TextSource.has_units (g.T.TextSource.characters c.args.text) c.args.classes.now c.requires.per_char c.args.run.now.start c.args.run.now.end c.args.kept_end c.args.s c.requires.line c.requires.kept_end old)
-    c.first_passing-at.ensures
+    IsReadTo-jump _ g.met.T.TextSource.has_units _ _ c.requires.per_char _ _ _ _ c.requires.line c.requires.kept_end _ _ _ _
+    (IsReadTo-start _ g.met.T.TextSource.has_units _ _ c.requires.per_char _ _ _ _ c.requires.line c.requires.kept_end c.args.waiting.now.items) c.first_passing-at.ensures
 
 pub end_of-behind-requires-clause-begins : goal.end_of-behind-requires-clause-begins
 end_of-behind-requires-clause-begins g c =
-    (IsReadTo-asked g.T.TextSource.units g.met.T.TextSource.has_units (g.T.TextSource.characters c.args.text) c.args.classes.now c.requires.per_char c.args.run.now.start c.args.run.now.end c.args.kept_end c.args.s c.requires.line c.requires.kept_end
-    c.args.waiting.now.items c.loop-at.waiting.items c.loop-at.at c.loop-at-test.true c.loop-at.invariant).begins
+    (IsReadTo-asked _ g.met.T.TextSource.has_units _ _ c.requires.per_char _ _ _ _ c.requires.line c.requires.kept_end _ _ _ c.loop-at-test.true c.loop-at.invariant).begins
 
 pub end_of-behind-requires-clause-inside : goal.end_of-behind-requires-clause-inside
 end_of-behind-requires-clause-inside g c =
-    (IsReadTo-asked g.T.TextSource.units g.met.T.TextSource.has_units (g.T.TextSource.characters c.args.text) c.args.classes.now c.requires.per_char c.args.run.now.start c.args.run.now.end c.args.kept_end c.args.s c.requires.line c.requires.kept_end
-    c.args.waiting.now.items c.loop-at.waiting.items c.loop-at.at c.loop-at-test.true c.loop-at.invariant).inside
+    (IsReadTo-asked _ g.met.T.TextSource.has_units _ _ c.requires.per_char _ _ _ _ c.requires.line c.requires.kept_end _ _ _ c.loop-at-test.true c.loop-at.invariant).inside
 
 pub end_of-behind-requires-clause-fits : goal.end_of-behind-requires-clause-fits
 end_of-behind-requires-clause-fits g c = grind (arith, length-from_is_per_char)
@@ -47,38 +41,24 @@ end_of-behind-requires-clause-fits g c = grind (arith, length-from_is_per_char)
 pub returns : goal.returns
 returns g c =
     let end : c.loop-at.at ≡ c.args.run.now.end =
-    omega (
-      arith,
-      c.loop-at-test.false,
-      IsReadTo-within g.T.TextSource.units g.met.T.TextSource.has_units (g.T.TextSource.characters c.args.text) c.args.classes.now c.requires.per_char c.args.run.now.start c.args.run.now.end c.args.kept_end c.args.s c.requires.line c.requires.kept_end
-          c.args.waiting.now.items c.loop-at.waiting.items c.loop-at.at c.loop-at.invariant,
-    ) in
-    IsReadTo-end g.T.TextSource.units g.met.T.TextSource.has_units (g.T.TextSource.characters c.args.text) c.args.classes.now c.requires.per_char c.args.run.now.start c.args.run.now.end c.args.kept_end c.args.s c.requires.line c.requires.kept_end
-    c.args.waiting.now.items c.loop-at.waiting.items
-    (subst (λ (u : ℕ). IsReadTo g.T.TextSource.units (g.T.TextSource.characters c.args.text) c.args.classes.now c.args.run.now.start c.args.run.now.end c.args.kept_end c.args.s c.args.waiting.now.items c.loop-at.waiting.items u) end c.loop-at.invariant)
-
--- the character at hand is read
-behind_read : (g : Over) (c : After-first_passing-at-in-loop-at g)
-    → IsReadTo g.T.TextSource.units (g.T.TextSource.characters c.args.text) c.args.classes.now c.args.run.now.start c.args.run.now.end c.args.kept_end c.args.s c.args.waiting.now.items c.read_class.new.waiting.items c.end_of-behind.result
-behind_read g c =
-    IsReadTo-more g.T.TextSource.units g.met.T.TextSource.has_units (g.T.TextSource.characters c.args.text) c.args.classes.now c.requires.per_char c.args.run.now.start c.args.run.now.end c.args.kept_end c.args.s c.requires.line c.requires.kept_end
-    c.args.waiting.now.items c.loop-at.waiting.items c.read_class.new.waiting.items c.loop-at.at c.end_of-behind.result c.then_some-wait.result c.loop-at-test.true c.end_of-behind.ensures c.then_some-wait.ensures c.in_ok-read_class.ensures c.loop-at.invariant
+    omega (arith, c.loop-at-test.false, IsReadTo-within _ g.met.T.TextSource.has_units _ _ c.requires.per_char _ _ _ _ c.requires.line c.requires.kept_end _ _ _ c.loop-at.invariant) in
+    IsReadTo-end _ g.met.T.TextSource.has_units _ _ c.requires.per_char _ _ _ _ c.requires.line c.requires.kept_end _ _ (simp end at c.loop-at.invariant)
 
 pub first_passing-at-requires-in-loop-at-clause-ordered : goal.first_passing-at-requires-in-loop-at-clause-ordered
 first_passing-at-requires-in-loop-at-clause-ordered g c =
-    IsReadTo-within g.T.TextSource.units g.met.T.TextSource.has_units (g.T.TextSource.characters c.args.text) c.args.classes.now c.requires.per_char c.args.run.now.start c.args.run.now.end c.args.kept_end c.args.s c.requires.line c.requires.kept_end
-    c.args.waiting.now.items c.read_class.new.waiting.items c.end_of-behind.result
-    (IsReadTo-more g.T.TextSource.units g.met.T.TextSource.has_units (g.T.TextSource.characters c.args.text) c.args.classes.now c.requires.per_char c.args.run.now.start c.args.run.now.end c.args.kept_end c.args.s c.requires.line c.requires.kept_end
-    c.args.waiting.now.items c.loop-at.waiting.items c.read_class.new.waiting.items c.loop-at.at c.end_of-behind.result c.then_some-wait.result c.loop-at-test.true c.end_of-behind.ensures c.then_some-wait.ensures c.in_ok-read_class.ensures c.loop-at.invariant)
+    IsReadTo-within _ g.met.T.TextSource.has_units _ _ c.requires.per_char _ _ _ _ c.requires.line c.requires.kept_end _ _ _
+    (IsReadTo-more _ g.met.T.TextSource.has_units _ _ c.requires.per_char _ _ _ _ c.requires.line c.requires.kept_end _ _ _ _ _ _ c.loop-at-test.true c.end_of-behind.ensures c.then_some-wait.ensures c.in_ok-read_class.ensures c.loop-at.invariant)
 
 pub loop-at-smaller : goal.loop-at-smaller
 loop-at-smaller g c =
-    let past = IsReadTo-past g.T.TextSource.units g.met.T.TextSource.has_units (g.T.TextSource.characters c.args.text) c.args.classes.now c.requires.per_char c.args.run.now.start c.args.run.now.end c.args.kept_end c.args.s c.requires.line c.requires.kept_end
-    c.args.waiting.now.items c.loop-at.waiting.items c.loop-at.at c.end_of-behind.result c.loop-at-test.true c.end_of-behind.ensures c.loop-at.invariant in
-    omega (arith, c.first_passing-at-in-loop-at.ensures.begins, c.loop-at-test.true, past)
+    omega (
+      arith,
+      c.first_passing-at-in-loop-at.ensures.begins,
+      IsReadTo-past _ g.met.T.TextSource.has_units _ _ c.requires.per_char _ _ _ _ c.requires.line c.requires.kept_end _ _ _ _ c.loop-at-test.true c.end_of-behind.ensures c.loop-at.invariant,
+    )
 
 pub loop-at-preserved : goal.loop-at-preserved
 loop-at-preserved g c =
-    let after = (goal.at.loop-at-preserved g c).After-first_passing-at-in-loop-at in
-    IsReadTo-jump g.T.TextSource.units g.met.T.TextSource.has_units (g.T.TextSource.characters c.args.text) c.args.classes.now c.requires.per_char c.args.run.now.start c.args.run.now.end c.args.kept_end c.args.s c.requires.line c.requires.kept_end
-    c.end_of-behind.result c.first_passing-at-in-loop-at.result c.args.waiting.now.items c.read_class.new.waiting.items (behind_read g after) c.first_passing-at-in-loop-at.ensures
+    IsReadTo-jump _ g.met.T.TextSource.has_units _ _ c.requires.per_char _ _ _ _ c.requires.line c.requires.kept_end _ _ _ _
+    (IsReadTo-more _ g.met.T.TextSource.has_units _ _ c.requires.per_char _ _ _ _ c.requires.line c.requires.kept_end _ _ _ _ _ _ c.loop-at-test.true c.end_of-behind.ensures c.then_some-wait.ensures c.in_ok-read_class.ensures c.loop-at.invariant)
+    c.first_passing-at-in-loop-at.ensures

@@ -1,6 +1,5 @@
 use Rattle.std.proofs.Common.{arith}
 use Rattle.std.proofs.lemmas.Result.{IfOk-weaker}
-use Rattle.unicode_bidi.specs.Analysed.{text_of}
 use Rattle.unicode_bidi.proofs.StoredLine.{same_len, within, of_units}
 use Rattle.unicode_bidi.proofs.analysed.Analysed.reordered_levels.Goals as goal
 
@@ -14,6 +13,5 @@ pub returns : goal.returns
 returns g c =
     rw (← c.original_classes.ensures.classes, ← c.levels.ensures.levels)
     (IfOk-weaker c.levels_with_line.result _ _
-    (λ v e. of_units g.T.TextSource.units g.met.T.TextSource.has_units (g.T.TextSource.characters (text_of c.args.self.now)) c.args.level c.original_classes.result.now c.levels.result.now c.args.line
-    c.original_classes.ensures.per_char c.levels.ensures.per_char c.requires v.items e)
+    (λ v e. of_units _ g.met.T.TextSource.has_units _ c.args.level _ _ c.args.line c.original_classes.ensures.per_char c.levels.ensures.per_char c.requires v.items e)
     c.levels_with_line.ensures)

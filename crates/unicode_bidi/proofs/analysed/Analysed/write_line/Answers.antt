@@ -1,7 +1,5 @@
-use Rattle.std.proofs.Common.{ℕ, List, map, sym, ap, subst, ◌∙◌, arith, All}
-use Rattle.std.specs.declared.ops.Range.{Range}
+use Rattle.std.proofs.Common.{ℕ, List, map, ap, ◌∙◌, arith}
 use Rattle.bidi_base.specs.Display.{run_of, visual_runs}
-use Rattle.bidi_base.specs.Text.{IsLine}
 use Rattle.unicode_bidi.specs.Analysed.{text_of}
 use Rattle.unicode_bidi.proofs.StoredLine.{same_len, within, classes_IsPerChar, levels_IsPerChar}
 use Rattle.unicode_bidi.proofs.TextOfLine.{runs_begin, length-levels_of_line, runs_at_boundaries, flat_map-runs}
@@ -24,8 +22,7 @@ write_runs-requires-clause-boundaries g c =
     let len = g.T.TextSource.units in
     let some = g.met.T.TextSource.has_units in
     let cs : List ℕ = g.T.TextSource.characters (text_of c.args.self.now) in
-    subst (λ text. All (λ (r : Range ℕ). IsLine len (g.T.TextSource.characters text) r.start r.end) c.as_slice-3.result.now) (sym c.text.ensures)
-    (runs_at_boundaries len some cs c.args.level c.original_classes-classes.result.now c.levels.result.now c.args.line.start c.args.line.end
+    rw c.text.ensures (runs_at_boundaries len some cs c.args.level c.original_classes-classes.result.now c.levels.result.now c.args.line.start c.args.line.end
     (classes_IsPerChar len some cs c.original_classes-classes.result.now c.original_classes-classes.ensures.per_char) (levels_IsPerChar len some cs c.levels.result.now c.levels.ensures.per_char) c.requires.is_line
     c.as_slice-3.result.now (ap (map run_of) c.as_slice-3.ensures.value ∙ c.in_ok-runs.ensures.runs ∙ ap (visual_runs c.args.line.start) (c.as_slice.ensures.value ∙ c.in_ok-shown.ensures)))
 

@@ -31,13 +31,11 @@ returns-clause-parted g c = grind (arith, rule-AreParagraphRanges)
 pub returns-clause-bounded : goal.returns-clause-bounded
 returns-clause-bounded g c =
     let source = g.D.BidiDataSource.source c.args.data_source.now in
-    let a = analysed c.new.result in
-    bounded-found source c.args.default_para_level (pieces_by (Some c.args.rule) source a.chars) a (pieces_by-joined (Some c.args.rule) source a.chars) g.met.T.TextSource.has_units c.in_ok-found.found.paragraphs.items
-    (rw (c.new.ensures.text, c.new.ensures.classes, c.new.ensures.levels) c.in_ok-found.ensures.analysis) c.requires
+    bounded-found source c.args.default_para_level (pieces_by (Some c.args.rule) source (analysed c.new.result).chars) (analysed c.new.result) (pieces_by-joined (Some c.args.rule) source _)
+    g.met.T.TextSource.has_units c.in_ok-found.found.paragraphs.items (rw (c.new.ensures.text, c.new.ensures.classes, c.new.ensures.levels) c.in_ok-found.ensures.analysis) c.requires
 
 pub returns-clause-each_by_itself : goal.returns-clause-each_by_itself
 returns-clause-each_by_itself g c =
     let source = g.D.BidiDataSource.source c.args.data_source.now in
-    let a = analysed c.new.result in
-    own_units-found source c.args.default_para_level (pieces_by (Some c.args.rule) source a.chars) a (pieces_by-joined (Some c.args.rule) source a.chars) g.met.T.TextSource.has_units c.in_ok-found.found.paragraphs.items
-    (rw (c.new.ensures.text, c.new.ensures.classes, c.new.ensures.levels) c.in_ok-found.ensures.analysis)
+    own_units-found source c.args.default_para_level (pieces_by (Some c.args.rule) source (analysed c.new.result).chars) (analysed c.new.result) (pieces_by-joined (Some c.args.rule) source _)
+    g.met.T.TextSource.has_units c.in_ok-found.found.paragraphs.items (rw (c.new.ensures.text, c.new.ensures.classes, c.new.ensures.levels) c.in_ok-found.ensures.analysis)

@@ -1,5 +1,4 @@
-use Rattle.std.proofs.Common.{List, ℕ, subst, sym, arith}
-use Rattle.bidi_base.specs.Paragraphs.{AreParagraphRanges}
+use Rattle.std.proofs.Common.{arith}
 use Rattle.bidi_base.proofs.ParagraphsLemmas.{length-paragraph_classes, paragraphs-AreParagraphRanges}
 use Rattle.bidi_base.proofs.PerCharTests.{class_test}
 use Rattle.bidi_base.proofs.UnitsLemmas.{is_per_char-per_unit}
@@ -10,6 +9,5 @@ invariant_of-result g c = grind (arith, is_per_char-per_unit, class_test, length
 
 pub returns-clause-parted : goal.returns-clause-parted
 returns-clause-parted g c =
-    let source = g.D.BidiDataSource.source c.args.data_source.now in
-    let cs : List ℕ = g.T.TextSource.characters c.args.text in
-    subst (AreParagraphRanges source g.T.TextSource.units cs) (sym c.in_ok-found.ensures.ranges) (paragraphs-AreParagraphRanges source g.T.TextSource.units g.met.T.TextSource.has_units cs)
+    rw c.in_ok-found.ensures.ranges
+    (paragraphs-AreParagraphRanges (g.D.BidiDataSource.source c.args.data_source.now) g.T.TextSource.units g.met.T.TextSource.has_units (g.T.TextSource.characters c.args.text))

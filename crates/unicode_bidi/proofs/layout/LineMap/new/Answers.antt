@@ -1,5 +1,5 @@
-use Rattle.std.proofs.Common.{◌∙◌, ℕ, List, ap, subst, arith}
-use Rattle.bidi_base.specs.Layout.{visual_places, AreInverse}
+use Rattle.std.proofs.Common.{◌∙◌, ap, arith}
+use Rattle.bidi_base.specs.Layout.{visual_places}
 use Rattle.bidi_base.proofs.LayoutLemmas.{own_indexes, visual_places-inverse}
 use Rattle.unicode_bidi.proofs.layout.LineMap.new.Goals as goal
 
@@ -12,5 +12,5 @@ returns-clause-order c = grind arith
 pub returns-clause-places : goal.returns-clause-places
 returns-clause-places c =
     visual_places-inverse c.as_slice.result.now c.in_ok-order.order.items c.in_ok-order.ensures.visual c.in_ok-places.places.items
-    (subst (λ (order : List ℕ). AreInverse order c.in_ok-places.places.items) c.as_slice-2.ensures.value c.in_ok-places.ensures)
+    (rw c.as_slice-2.ensures.value at c.in_ok-places.ensures)
     ∙ ap visual_places (c.as_slice.ensures.value ∙ c.in_ok-levels.ensures)

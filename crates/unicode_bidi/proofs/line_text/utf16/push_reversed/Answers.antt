@@ -1,11 +1,11 @@
-use Rattle.std.proofs.Common.{◌≡◌, ℕ, List, [], ◌++◌, reverse, ap, sym, ◌∙◌, arith}
+use Rattle.std.proofs.Common.{◌≡◌, ℕ, List, [], ◌++◌, reverse, arith}
 use Rattle.std.proofs.lemmas.Grind.{common_steps}
 use Rattle.std.proofs.lemmas.List.{reverse-reverse}
 use Rattle.unicode_bidi.proofs.line_text.utf16.push_reversed.Goals as goal
 
 -- at the end all have come
 all_taken : (text rest xs : List ℕ) → rest ++ reverse xs ≡ text → rest ≡ [] → xs ≡ reverse text
-all_taken text rest xs h e = sym (reverse-reverse xs) ∙ ap reverse (ap (λ ys. ys ++ reverse xs) (sym e) ∙ h)
+all_taken text rest xs h e = grind (arith, reverse-reverse)
 
 pub loop-c-preserved : goal.loop-c-preserved
 loop-c-preserved c = grind (arith, common_steps)

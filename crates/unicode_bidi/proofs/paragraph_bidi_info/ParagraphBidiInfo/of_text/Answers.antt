@@ -1,6 +1,5 @@
-use Rattle.std.proofs.Common.{◌≡◌, ◌∙◌, ℕ, List, [], ◌∷◌, map, ap, subst, sym, arith, refl}
+use Rattle.std.proofs.Common.{◌≡◌, ◌∙◌, ℕ, List, [], ◌∷◌, map, ap, arith, refl}
 use Rattle.bidi_base.specs.Isolates.{paragraph_level}
-use Rattle.bidi_base.specs.Laws.{AreLevelsFrom}
 use Rattle.bidi_base.proofs.LevelLaws.{BoundaryNeutralsAreAlike-all, StaysLeftToRight-all}
 use Rattle.unicode_bidi.specs.Engine.{with_analysis}
 use Rattle.unicode_bidi.specs.ParagraphFlags.{flags_of}
@@ -56,5 +55,4 @@ returns-clause-bounded g c =
     let level : c.level.result ≡ paragraph_level base (map source.class_of cs) =
     c.level.ensures
     ∙ only level_of c.in_ok-found.found.paragraphs.items c.index.result.now (paragraph_level base (map source.class_of cs)) (paragraph_level-one source base found _ _ c.in_ok-found.ensures.analysis) c.index.ensures in
-    subst (λ (ls : List ℕ). AreLevelsFrom c.level.result ls) (sym c.new.ensures.levels)
-    (subst (λ (l : ℕ). AreLevelsFrom l c.in_ok-found.found.levels.items) (sym level) (bounded-one source base found _ _ c.in_ok-found.ensures.analysis c.requires))
+    rw (c.new.ensures.levels, level) (bounded-one source base found _ _ c.in_ok-found.ensures.analysis c.requires)

@@ -1,17 +1,17 @@
-use Rattle.std.proofs.Common.{◌≡◌, ◌∙◌, List, ℕ, OnOk, map, ap, sym, subst, arith}
+use Rattle.std.proofs.Common.{◌≡◌, ◌∙◌, List, ℕ, map, ap, arith}
 use Rattle.bidi_base.specs.declared.char_data.BidiClass.TheVariants.{L}
 use Rattle.bidi_base.specs.Explicit.{explicit_levels}
-use Rattle.bidi_base.specs.Sequences.{sequences}
 use Rattle.bidi_base.specs.Text.{per_char}
-use Rattle.bidi_base.specs.Units.{bounds, level_run_ranges}
+use Rattle.bidi_base.specs.Units.{bounds}
 use Rattle.bidi_base.proofs.ExplicitLemmas.{length-explicit_levels}
 use Rattle.bidi_base.proofs.PerUnit.{length-per_char, per_char-per_unit}
 use Rattle.bidi_base.proofs.UnitsLemmas.{is_per_char-per_unit}
-use Rattle.bidi_rules.specs.RunSequence.{sequences_in}
 use Rattle.unicode_bidi.proofs.FlagsLemmas.{has_isolates-flags}
 use Rattle.unicode_bidi.proofs.FilledUnits.{initiators-stored}
 use Rattle.unicode_bidi.proofs.FoundLaws.{stored-is_per_char}
+use Rattle.unicode_bidi.proofs.paragraph_levels.LevelResolver.prepare.Given.{Over}
 use Rattle.unicode_bidi.proofs.paragraph_levels.LevelResolver.prepare.Goals as goal
+use Rattle.unicode_bidi.proofs.paragraph_levels.LevelResolver.prepare.Goals.{In_ok-compute}
 
 pub compute-requires-clause-original : goal.compute-requires-clause-original
 compute-requires-clause-original g c = grind (arith, stored-is_per_char)
@@ -28,22 +28,18 @@ join_level_runs-requires-clause-isolates g c = λ some.
 pub join_level_runs-requires-clause-levels : goal.join_level_runs-requires-clause-levels
 join_level_runs-requires-clause-levels g c = grind (arith, is_per_char-per_unit, length-explicit_levels, length-per_char)
 
+-- the levels, read one a character
+read : (g : Over) (c : In_ok-compute g) → let cs = g.T.TextSource.characters c.args.paragraph.now.text in
+    per_char 0 g.T.TextSource.units cs c.compute.new.levels ≡ explicit_levels c.args.paragraph.now.level (per_char L g.T.TextSource.units cs c.args.paragraph.now.original_classes.now)
+read g c =
+    let cs : List ℕ = g.T.TextSource.characters c.args.paragraph.now.text in
+    let stored = per_char L g.T.TextSource.units cs c.args.paragraph.now.original_classes.now in
+    simp c.in_ok-compute.ensures.levels
+    (per_char-per_unit _ g.met.T.TextSource.has_units 0 cs _ (length-explicit_levels c.args.paragraph.now.level stored ∙ length-per_char L g.T.TextSource.units cs c.args.paragraph.now.original_classes.now))
+
 pub join_level_runs-requires-clause-runs : goal.join_level_runs-requires-clause-runs
 join_level_runs-requires-clause-runs g c =
-    let len = g.T.TextSource.units in
-    let cs : List ℕ = g.T.TextSource.characters c.args.paragraph.now.text in
-    let stored = per_char L len cs c.args.paragraph.now.original_classes.now in
-    let levels = explicit_levels c.args.paragraph.now.level stored in
-    let read : per_char 0 len cs c.compute.new.levels ≡ levels =
-    ap (per_char 0 len cs) c.in_ok-compute.ensures.levels ∙ per_char-per_unit len g.met.T.TextSource.has_units 0 cs levels (length-explicit_levels c.args.paragraph.now.level stored ∙ length-per_char L len cs c.args.paragraph.now.original_classes.now) in
-    ap (map bounds) c.as_slice.ensures.value ∙ c.in_ok-compute.ensures.runs ∙ ap (level_run_ranges len cs stored) (sym read)
+    rw (read g (goal.at.join_level_runs-requires-clause-runs g c).In_ok-compute) (ap (map bounds) c.as_slice.ensures.value ∙ c.in_ok-compute.ensures.runs)
 
 pub returns-clause-sequences : goal.returns-clause-sequences
-returns-clause-sequences g c =
-    let len = g.T.TextSource.units in
-    let cs : List ℕ = g.T.TextSource.characters c.args.paragraph.now.text in
-    let stored = per_char L len cs c.args.paragraph.now.original_classes.now in
-    let levels = explicit_levels c.args.paragraph.now.level stored in
-    let read : per_char 0 len cs c.compute.new.levels ≡ levels =
-    ap (per_char 0 len cs) c.in_ok-compute.ensures.levels ∙ per_char-per_unit len g.met.T.TextSource.has_units 0 cs levels (length-explicit_levels c.args.paragraph.now.level stored ∙ length-per_char L len cs c.args.paragraph.now.original_classes.now) in
-    subst (λ (ls : List ℕ). OnOk c.join_level_runs.result (sequences_in len cs stored c.join_level_runs.new.out.items ≡ sequences c.args.paragraph.now.level stored ls)) read c.join_level_runs.ensures.sequences
+returns-clause-sequences g c = rw (read g (goal.at.returns-clause-sequences g c).In_ok-compute) at c.join_level_runs.ensures.sequences

@@ -1,10 +1,9 @@
-use Rattle.std.proofs.Common.{◌∷◌, ℕ, List, [], map, take, get_or, sym, ap, subst, ◌∙◌, arith, rules}
-use Rattle.bidi_base.specs.PairSearch.{HasRead}
+use Rattle.std.proofs.Common.{ℕ, List, map, take, arith, rules}
 use Rattle.bidi_base.specs.Source.{Source}
 use Rattle.bidi_base.specs.Units.{bounds, kept_in_place}
 use Rattle.bidi_rules.specs.NeutralPass.{placed_brackets}
 use Rattle.bidi_rules.proofs.Gathered.{placed-append}
-use Rattle.bidi_rules.proofs.KeptRuns.{no_range, line_at, kept_in_place-none, kept_in_place-more}
+use Rattle.bidi_rules.proofs.KeptRuns.{line_at, kept_in_place-none, kept_in_place-more}
 use Rattle.bidi_rules.proofs.implicit.neutral.NeutralResolver.gather.Goals as goal
 
 pub loop-run-init : goal.loop-run-init
@@ -20,10 +19,8 @@ loop-run-preserved g c =
     let source : Source = g.D.BidiDataSource.source c.args.data_source.now in
     let units = c.args.classes.now in
     let i = c.loop-run.run-index in
-    let run = get_or c.args.runs.now i no_range in
     let before = kept_in_place len_of chars units (map bounds (take i c.args.runs.now)) in
-    subst (HasRead c.gather_run.new.self.search)
-    (sym (ap (placed_brackets len_of chars source units) (kept_in_place-more len_of chars units c.args.runs.now i c.loop-run-test.true) ∙ placed-append len_of chars source units before (kept_in_place len_of chars units (bounds run ∷ []))))
+    simp (kept_in_place-more len_of chars units c.args.runs.now i c.loop-run-test.true, placed-append len_of chars source units before)
     (c.in_ok-gather_run.ensures (placed_brackets len_of chars source units before) c.loop-run.invariant)
 
 pub gather_run-requires-clause-read : goal.gather_run-requires-clause-read

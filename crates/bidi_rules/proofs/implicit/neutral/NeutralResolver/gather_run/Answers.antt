@@ -1,4 +1,4 @@
-use Rattle.std.proofs.Common.{◌≡◌, ℕ, List, [], ◌∷◌, ◌++◌, Option, sym, ap, subst, ◌∙◌, arith, append-nil, append_assoc, true}
+use Rattle.std.proofs.Common.{◌≡◌, ℕ, List, [], ◌∷◌, ◌++◌, Option, sym, ap, ◌∙◌, arith, append-nil, append_assoc, true}
 use Rattle.std.specs.Option.{option_map_or}
 use Rattle.bidi_base.specs.declared.brackets.Bracket.{Bracket}
 use Rattle.bidi_base.specs.declared.char_data.BidiClass.{BidiClass}
@@ -12,7 +12,6 @@ use Rattle.bidi_base.specs.Places.{class_at}
 use Rattle.bidi_base.specs.Source.{Source}
 use Rattle.bidi_base.proofs.TextLemmas.{is_boundary-le}
 use Rattle.bidi_rules.specs.NeutralPass.{unit_bracket, unit_brackets}
-use Rattle.bidi_rules.specs.declared.implicit.neutral.NeutralResolver.{NeutralResolver}
 use Rattle.bidi_rules.proofs.UnitBrackets.{unit_brackets-none, unit_brackets-more, unit_brackets-line}
 use Rattle.bidi_rules.proofs.implicit.neutral.NeutralResolver.gather_run.Goals as goal
 use Rattle.bidi_rules.proofs.implicit.neutral.NeutralResolver.gather_run.Goals.{in-Some+in_ok-push, in_default}
@@ -49,18 +48,15 @@ loop-at-preserved g c =
     let gathered : (before : List Bracket) → HasRead c.loop-at.self.search before → HasRead c.match-char_at.self.search (before ++ own) =
     λ before h. elim c.match-char_at.branch [
       | in-Some+in_ok-push w ↦
-          subst (λ (r : NeutralResolver). HasRead r.search (before ++ own)) (sym w.self-is)
-          (subst (λ (bs : List Bracket). HasRead w.push.new.self.search (before ++ bs))
-          (counted (class_at units at) (source.bracket_of w.in-Some.c) at (i.here c.loop-at-test.true) ∙ ap from (sym w.in-Some.is ∙ c.char_at.ensures))
-          (w.in_ok-push.ensures before h))
+          let is : _ = counted (class_at units at) (source.bracket_of w.in-Some.c) at (i.here c.loop-at-test.true) ∙ ap from (sym w.in-Some.is ∙ c.char_at.ensures) in
+          rw w.self-is (rw is at (w.in_ok-push.ensures before h))
       | in_default w ↦ grind (arith, append-nil)
     ] in
     record {
       begins = omega (arith, f.begins, i.begins);
       ends = f.ends;
       here = f.at;
-      held = λ before h.
-          subst (HasRead c.match-char_at.self.search) (append_assoc before so_far own ∙ ap (λ (bs : List Bracket). before ++ bs) (sym more)) (gathered (before ++ so_far) (i.held before h));
+      held = λ before h. simp (more, ← append_assoc before so_far own) (gathered (before ++ so_far) (i.held before h));
     }
 
 pub returns : goal.returns
@@ -72,6 +68,4 @@ returns g c =
     let run = c.args.run.now in
     let i = c.loop-at.invariant in
     let end : c.loop-at.at ≡ run.end = omega (arith, i.ends, c.loop-at-test.false) in
-    λ before h.
-    subst (λ (bs : List Bracket). HasRead c.loop-at.self.search (before ++ bs))
-    (ap (unit_brackets len_of chars source c.args.classes.now run.start) end ∙ unit_brackets-line len_of chars source c.args.classes.now h-units run.start run.end c.requires.line) (i.held before h)
+    λ before h. simp (end, unit_brackets-line len_of chars source c.args.classes.now h-units run.start run.end c.requires.line) at (i.held before h)

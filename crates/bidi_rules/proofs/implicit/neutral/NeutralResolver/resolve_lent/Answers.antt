@@ -1,12 +1,9 @@
-use Rattle.std.proofs.Common.{◌≡◌, ◌<◌, ◌≤◌, ℕ, List, length, get_or, map, find, Some, refl, sym, ap, subst, ◌∙◌, arith, rules}
-use Rattle.std.specs.Prelude.{All}
-use Rattle.std.specs.declared.ops.Range.{Range}
+use Rattle.std.proofs.Common.{◌≡◌, ◌<◌, length, map, find, Some, refl, sym, ap, ◌∙◌, arith, rules}
 use Rattle.std.proofs.lemmas.List.{get_or_default}
 use Rattle.bidi_base.specs.Classes.{is_kept_in_place}
 use Rattle.bidi_base.specs.Levels.{direction_of}
 use Rattle.bidi_base.specs.Places.{class_at}
-use Rattle.bidi_base.specs.Sequences.{level_at}
-use Rattle.bidi_base.specs.Units.{bounds, in_runs, units_in_runs}
+use Rattle.bidi_base.specs.Units.{bounds, units_in_runs}
 use Rattle.bidi_rules.specs.NeutralPass.{IsReady}
 use Rattle.bidi_rules.specs.RunSequence.{lent_runs, lent_sos, lent_eos}
 use Rattle.bidi_rules.proofs.NeutralSteps.{IsReady-sequence, IsUpToN1, runs-within, first-is, first-within}
@@ -22,12 +19,7 @@ ready g c =
 
 pub first_kept-requires : goal.first_kept-requires
 first_kept-requires g c =
-    subst (λ (rs : List (Range ℕ)). All (λ r. r.1 ≤ length c.args.processing_classes.now) (map bounds rs)) (sym c.runs-runs.ensures)
-    (runs-within g.T.TextSource.units g.met.T.TextSource.has_units (g.T.TextSource.characters c.args.text) (lent_runs c.args.sequence) (lent_sos c.args.sequence) c.args.processing_classes.now (ready g (goal.at.first_kept-requires g c).After-runs-runs))
-
--- the level that is read
-level_is : (levels : List ℕ) (first level : ℕ) → first < length levels → level ≡ get_or levels first level → level ≡ level_at levels first
-level_is levels first level fits is = is ∙ get_or_default levels first level 0 fits
+    rw c.runs-runs.ensures (runs-within g.T.TextSource.units g.met.T.TextSource.has_units (g.T.TextSource.characters c.args.text) (lent_runs c.args.sequence) (lent_sos c.args.sequence) c.args.processing_classes.now (ready g (goal.at.first_kept-requires g c).After-runs-runs))
 
 -- the runs at hand are those of the sequence
 found : (g : Over) (c : In-Some g) → Some c.in-Some.first ≡ find (λ u. is_kept_in_place (class_at c.args.processing_classes.now u)) (units_in_runs (map bounds (lent_runs c.args.sequence)))
@@ -47,8 +39,7 @@ bounds-levels-first g c = within g c
 
 pub returns-in_default-clause-kept : goal.returns-in_default-clause-kept
 returns-in_default-clause-kept g c =
-    let none = sym c.in_default.is ∙ c.first_kept.ensures
-    ∙ ap (λ (rs : List (Range ℕ)). find (λ u. is_kept_in_place (class_at c.args.processing_classes.now u)) (units_in_runs (map bounds rs))) c.runs-runs.ensures in
+    let none = simp c.runs-runs.ensures at (sym c.in_default.is ∙ c.first_kept.ensures) in
     kept-none g.T.TextSource.units g.met.T.TextSource.has_units (g.T.TextSource.characters c.args.text) (g.D.BidiDataSource.source c.args.data_source.now) c.args.levels.now c.args.original_classes.now c.args.processing_classes.now
     (lent_runs c.args.sequence) (lent_sos c.args.sequence) (lent_eos c.args.sequence) (ready g (goal.at.returns-in_default-clause-kept g c).After-runs-runs) none
 
@@ -72,11 +63,10 @@ resolved g c =
     let same_runs = ap (map bounds) c.runs-runs.ensures in
     IsResolved-settled units g.met.T.TextSource.has_units chars runs sos (lent_eos c.args.sequence) (g.D.BidiDataSource.source c.args.data_source.now) c.args.levels.now c.args.original_classes.now old r now c.settle_rest.new.classes up
     c.bidi_class-embedding.result
-    (c.bidi_class-embedding.ensures ∙ ap direction_of (level_is c.args.levels.now c.in-Some.first c.index-levels-first.result (within g first) c.index-levels-first.is)
-    ∙ ap (λ (u : ℕ). direction_of (level_at c.args.levels.now u)) (sym (first-is units g.met.T.TextSource.has_units chars runs sos old r c.in-Some.first (found g first))))
+    (simp (c.bidi_class-embedding.ensures, first-is units g.met.T.TextSource.has_units chars runs sos old r c.in-Some.first (found g first)) (ap direction_of (c.index-levels-first.is ∙ get_or_default c.args.levels.now c.in-Some.first c.index-levels-first.result 0 (within g first))))
     c.settle_rest.ensures.long
-    (λ u inside. c.settle_rest.ensures.changed u (ap (λ (rs : List (ℕ × ℕ)). in_runs rs u) same_runs ∙ inside))
-    (λ u out. c.settle_rest.ensures.same u (ap (λ (rs : List (ℕ × ℕ)). in_runs rs u) same_runs ∙ out))
+    (λ u inside. c.settle_rest.ensures.changed u (simp same_runs inside))
+    (λ u out. c.settle_rest.ensures.same u (simp same_runs out))
 
 pub returns-clause-kept : goal.returns-clause-kept
 returns-clause-kept g c = (resolved g c).kept

@@ -1,4 +1,4 @@
-use Rattle.std.proofs.Common.{◌≡◌, ◌<◌, true, ℕ, List, length, get_or, refl, sym, ap, ◌∙◌, arith}
+use Rattle.std.proofs.Common.{◌≡◌, ◌<◌, true, length, refl, sym, ap, ◌∙◌, arith}
 use Rattle.std.proofs.lemmas.List.{get_or_default}
 use Rattle.bidi_base.specs.Classes.{is_l_or_r}
 use Rattle.bidi_base.specs.Levels.{direction_of}
@@ -12,26 +12,15 @@ use Rattle.bidi_rules.proofs.implicit.neutral.NeutralResolver.resolve_up_to_n1.G
 use Rattle.bidi_rules.proofs.implicit.neutral.NeutralResolver.resolve_up_to_n1.Goals as goal
 use Rattle.bidi_rules.proofs.implicit.neutral.NeutralResolver.resolve_up_to_n1.Goals.{After-sos-sos, After-eos-eos, After-resolve_opposite}
 
--- the level that is read
-level_is : (levels : List ℕ) (first level : ℕ) → first < length levels → level ≡ get_or levels first level → level ≡ level_at levels first
-level_is levels first level within is = is ∙ get_or_default levels first level 0 within
-
 ready : (g : Over) (c : After-sos-sos g) → IsReady g.T.TextSource.units (g.T.TextSource.characters c.args.text) c.runs-runs.result.now c.sos-sos.result c.args.processing_classes.now
 ready g c = IsReady-sequence g.T.TextSource.units g.met.T.TextSource.has_units (g.T.TextSource.characters c.args.text) c.args.sequence c.runs-runs.result.now c.sos-sos.result c.args.processing_classes.now c.runs-runs.ensures c.sos-sos.ensures c.requires.per_char c.requires.fits c.requires.resolved
 
 -- what stands at the first unit that is kept
-record Begins (g : Over) (c : After-eos-eos g) : Type 0 where
-  is_ready : IsReady g.T.TextSource.units (g.T.TextSource.characters c.args.text) c.runs-runs.result.now c.sos-sos.result c.args.processing_classes.now
-  embedding : c.bidi_class-embedding.result ≡ direction_of (level_at c.args.levels.now c.in-Some.first)
-
-begins : (g : Over) (c : After-eos-eos g) → IsReady g.T.TextSource.units (g.T.TextSource.characters c.args.text) c.runs-runs.result.now c.sos-sos.result c.args.processing_classes.now → Begins g c
+begins : (g : Over) (c : After-eos-eos g) → IsReady g.T.TextSource.units (g.T.TextSource.characters c.args.text) c.runs-runs.result.now c.sos-sos.result c.args.processing_classes.now → c.bidi_class-embedding.result ≡ direction_of (level_at c.args.levels.now c.in-Some.first)
 begins g c r =
     let found = sym c.in-Some.is ∙ c.first_kept.ensures in
     let within : c.in-Some.first < length c.args.levels.now = omega (arith, first-within g.T.TextSource.units g.met.T.TextSource.has_units (g.T.TextSource.characters c.args.text) c.runs-runs.result.now c.sos-sos.result c.args.processing_classes.now r c.in-Some.first found, c.requires.levels) in
-    record {
-      is_ready = r;
-      embedding = grind (arith, level_is);
-    }
+    c.bidi_class-embedding.ensures ∙ ap direction_of (c.index-levels-first.is ∙ get_or_default c.args.levels.now c.in-Some.first c.index-levels-first.result 0 within)
 
 -- the embedding direction is L or R
 side : (g : Over) (c : After-eos-eos g) → IsReady g.T.TextSource.units (g.T.TextSource.characters c.args.text) c.runs-runs.result.now c.sos-sos.result c.args.processing_classes.now → is_l_or_r c.bidi_class-embedding.result ≡ true
@@ -64,7 +53,7 @@ returns-then-stands_alone-clause-kept g c =
     let classes = c.args.processing_classes.now in
     (IsUpToN1-sequence g.T.TextSource.units (g.T.TextSource.characters c.args.text) (g.D.BidiDataSource.source c.args.data_source.now) c.args.levels.now c.args.original_classes.now classes classes c.args.sequence c.runs-runs.result.now c.sos-sos.result c.eos-eos.result c.runs-runs.ensures c.sos-sos.ensures c.eos-eos.ensures
     (IsUpToN1-one g.T.TextSource.units g.met.T.TextSource.has_units (g.T.TextSource.characters c.args.text) c.runs-runs.result.now c.sos-sos.result classes r c.bidi_class-embedding.result own (c.stands_alone.ensures.classes c.if-stands_alone.true)
-    (g.D.BidiDataSource.source c.args.data_source.now) c.args.levels.now c.args.original_classes.now c.eos-eos.result c.in-Some.first (c.stands_alone.ensures.sos c.if-stands_alone.true) (c.stands_alone.ensures.eos c.if-stands_alone.true) (sym c.in-Some.is ∙ c.first_kept.ensures) it.embedding)).kept
+    (g.D.BidiDataSource.source c.args.data_source.now) c.args.levels.now c.args.original_classes.now c.eos-eos.result c.in-Some.first (c.stands_alone.ensures.sos c.if-stands_alone.true) (c.stands_alone.ensures.eos c.if-stands_alone.true) (sym c.in-Some.is ∙ c.first_kept.ensures) it)).kept
 
 pub resolve_brackets-requires-clause-ready : goal.resolve_brackets-requires-clause-ready
 resolve_brackets-requires-clause-ready g c = grind (arith, ready) steps 400000
@@ -103,5 +92,5 @@ returns-clause-outside g c = grind arith
 
 pub returns-clause-per_char : goal.returns-clause-per_char
 returns-clause-per_char g c =
-    let it = begins g (goal.at.returns-clause-per_char g c).After-eos-eos (ready g (goal.at.returns-clause-per_char g c).After-sos-sos) in
-    (resolved g (goal.at.returns-clause-per_char g c).After-resolve_opposite it.embedding it.is_ready).per_char
+    let r = ready g (goal.at.returns-clause-per_char g c).After-sos-sos in
+    (resolved g (goal.at.returns-clause-per_char g c).After-resolve_opposite (begins g (goal.at.returns-clause-per_char g c).After-eos-eos r) r).per_char

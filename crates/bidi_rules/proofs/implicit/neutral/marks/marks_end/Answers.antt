@@ -1,4 +1,4 @@
-use Rattle.std.proofs.Common.{◌≡◌, ℕ, List, ◌+◌, ◌<◌, ◌≤◌, Bool, ◌&&◌, true, false, not, get_or, max, sym, ap, ◌∙◌, arith, inl, inr}
+use Rattle.std.proofs.Common.{◌≡◌, ℕ, List, ◌+◌, ◌<◌, ◌≤◌, true, get_or, max, sym, ap, ◌∙◌, arith, inl, inr}
 use Rattle.std.proofs.lemmas.Bool.{cases_lt, and_parts}
 use Rattle.std.proofs.lemmas.List.{length-map, take_all}
 use Rattle.bidi_base.specs.Classes.{is_kept_in_place, is_nsm}
@@ -29,12 +29,7 @@ loop-at-init g c =
     let r = get_or c.args.runs.now c.loop-run.run-index no_range in
     let here = line_at len_of chars c.args.runs.now c.loop-run.run-index c.loop-run-test.true c.requires.lines in
     let is : c.max-at.result ≡ max r.start c.args.from = c.max-at.ensures in
-    record {
-      begins = grind arith;
-      marks = λ u start below k there from. absurd (omega arith);
-      start = omega arith;
-      from = omega arith;
-    }
+    grind arith
 
 pub bounds-classes-at : goal.bounds-classes-at
 bounds-classes-at g c = omega (arith, inside g c, c.requires.long)
@@ -44,20 +39,10 @@ bounds-original_classes-at g c = grind (arith, inside) steps 400000
 
 pub returns-then-ends_marks : goal.returns-then-ends_marks
 returns-then-ends_marks g c =
-    let len_of = g.T.TextSource.units in
-    let chars : List ℕ = g.T.TextSource.characters c.args.text in
-    let a = c.args in
-    let s = c.loop-at in
-    let i = c.loop-run.run-index in
     let loop = (goal.at.returns-then-ends_marks g c).In-loop-at in
     let b = begins g loop in
-    let u = s.at in
-    let ends = and_parts (is_kept_in_place (class_at a.classes.now u)) (not (is_nsm (class_at a.original_classes.now u))) (sym c.ends_marks.ensures ∙ c.if-ends_marks.true) in
-    record {
-      marks = λ k from below seen. grind (arith, and_parts, earlier-here);
-      stops = λ more. grind (arith, in-here);
-      within = omega (arith, inside g loop, c.requires.long);
-    }
+    let ends = sym c.ends_marks.ensures ∙ c.if-ends_marks.true in
+    grind (arith, and_parts, earlier-here, in-here, inside g loop, c.requires.long)
 
 pub end_of-at-requires-clause-inside : goal.end_of-at-requires-clause-inside
 end_of-at-requires-clause-inside g c = inside g (goal.at.end_of-at-requires-clause-inside g c).In-loop-at
@@ -74,28 +59,21 @@ loop-at-preserved g c =
     let len_of = g.T.TextSource.units in
     let h = g.met.T.TextSource.has_units in
     let chars : List ℕ = g.T.TextSource.characters c.args.text in
-    let a = c.args in
     let s = c.loop-at in
     let b = begins g (goal.at.loop-at-preserved g c).In-loop-at in
     let next : c.end_of-at.result ≡ place len_of chars (b.index + 1) = c.end_of-at.ensures b.index b.within b.there in
     let more = place-lt len_of chars h b.index (b.index + 1) (omega arith) b.within in
-    let there = b.there in
     record {
       begins = ap (is_boundary len_of chars) next ∙ is_boundary-place len_of chars (b.index + 1);
       marks = λ u start below k is from kept. elim (cases_lt u s.at) [
         | inl earlier ↦ s.invariant.marks u start earlier k is from kept
         | inr later ↦
             let same : k ≡ b.index = grind (arith, place-mono) in
-            let here : u ≡ s.at = is ∙ ap (place len_of chars) same ∙ sym there in
-            at_end (is_kept_in_place (class_at a.classes.now u)) (is_nsm (class_at a.original_classes.now u))
-            (ap (λ v. is_kept_in_place (class_at a.classes.now v) && not (is_nsm (class_at a.original_classes.now v))) here ∙ sym c.ends_marks.ensures ∙ c.if-ends_marks.false) kept
+            grind (arith, is, b.there, kept, c.ends_marks.ensures, c.if-ends_marks.false)
       ];
       start = omega (arith, s.invariant.start);
       from = omega (arith, s.invariant.from);
     }
-  where
-    at_end : (x y : Bool) → (x && not y) ≡ false → x ≡ true → y ≡ true
-    at_end x y e f = grind arith
 
 pub loop-run-preserved : goal.loop-run-preserved
 loop-run-preserved g c =

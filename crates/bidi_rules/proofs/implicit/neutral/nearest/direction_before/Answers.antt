@@ -1,9 +1,8 @@
-use Rattle.std.proofs.Common.{◌≡◌, ◌+◌, ◌-◌, ◌<◌, ℕ, None, map, drop, length, sym, ap, ◌∙◌, arith}
-use Rattle.std.proofs.lemmas.List.{length-map, get_or-map}
+use Rattle.std.proofs.Common.{◌≡◌, ◌+◌, ◌-◌, ◌<◌, None, map, drop, sym, ap, ◌∙◌, arith}
 use Rattle.bidi_base.specs.Classes.{as_direction}
 use Rattle.bidi_base.specs.Places.{class_at}
 use Rattle.bidi_base.specs.Units.{bounds, in_runs}
-use Rattle.bidi_rules.proofs.KeptRuns.{no_range}
+use Rattle.bidi_rules.proofs.RunOf.{run_end}
 use Rattle.bidi_rules.proofs.NearestLemmas.{every-later, IsNearestBefore-here}
 use Rattle.bidi_rules.proofs.implicit.neutral.nearest.direction_before.Goals as goal
 
@@ -18,12 +17,7 @@ loop-run-preserved c =
 
 pub bounds-classes-unit : goal.bounds-classes-unit
 bounds-classes-unit c =
-    let runs = c.args.runs.now in
-    let i = c.loop-run.run - 1 in
-    let long = length-map runs bounds in
-    let fits : i < length runs = omega (arith, c.loop-run-test.true, c.loop-run.auto.run) in
-    let end_is = ap (λ (r : ℕ × ℕ). r.1) (get_or-map bounds runs i no_range (0, 0) fits) in
-    omega (arith, end_is, c.requires.inside i (0, 0) (omega arith), c.loop-unit-test.true, c.loop-unit.auto.unit)
+    omega (arith, run_end _ c.args.runs.now (c.loop-run.run - 1) c.requires.inside (omega (arith, c.loop-run-test.true, c.loop-run.auto.run)), c.loop-unit-test.true, c.loop-unit.auto.unit)
 
 pub returns-in-Some : goal.returns-in-Some
 returns-in-Some c =

@@ -10,11 +10,10 @@ loop-low-preserved-then-runs-middle c =
     let runs = c.args.runs.now in
     let s = c.loop-low in
     let m = s.low + (s.high - s.low) / 2 in
-    let long = length-map runs bounds in
     let inside : m < s.high = omega (arith, c.loop-low-test.true) in
     let here = ap (λ (r : ℕ × ℕ). r.1) (get_or-map bounds runs m no_range (0, 0) (omega (arith, s.invariant.within))) in
     record {
-      below = λ i less. omega (arith, ends-rise 0 (map bounds runs) i m c.requires (omega arith) (omega (arith, s.invariant.within)), here, c.if-runs-middle.true);
+      below = λ i less. omega (arith, ends-rise 0 (map bounds runs) i m c.requires (omega arith) (omega (arith, s.invariant.within, length-map runs bounds)), here, c.if-runs-middle.true);
       above = s.invariant.above;
       order = omega arith;
       within = s.invariant.within;
@@ -25,12 +24,11 @@ loop-low-preserved c =
     let runs = c.args.runs.now in
     let s = c.loop-low in
     let m = s.low + (s.high - s.low) / 2 in
-    let long = length-map runs bounds in
     let inside : m < s.high = omega (arith, c.loop-low-test.true) in
     let here = ap (λ (r : ℕ × ℕ). r.1) (get_or-map bounds runs m no_range (0, 0) (omega (arith, s.invariant.within))) in
     record {
       below = s.invariant.below;
-      above = λ i from fits. omega (arith, ends-rise 0 (map bounds runs) m i c.requires from (omega arith), here, c.if-runs-middle.false);
+      above = λ i from fits. omega (arith, ends-rise 0 (map bounds runs) m i c.requires from (omega (arith, length-map runs bounds)), here, c.if-runs-middle.false);
       order = omega arith;
       within = omega (arith, s.invariant.within);
     }

@@ -3,9 +3,7 @@ use Rattle.std.proofs.lemmas.List.{length-map, take_all}
 use Rattle.bidi_base.specs.Classes.{is_nsm}
 use Rattle.bidi_base.specs.Text.{place, text_len}
 use Rattle.bidi_base.specs.Units.{bounds, kept_in_place}
-use Rattle.std.specs.Prelude.{All}
 use Rattle.bidi_base.proofs.PlaceLemmas.{place-mono}
-use Rattle.bidi_rules.specs.NeutralPass.{IsPaired}
 use Rattle.bidi_rules.specs.PairWalk.{spot, IsSet, IsTaken}
 use Rattle.bidi_rules.proofs.NeutralSteps.{runs-within}
 use Rattle.bidi_rules.proofs.PairPlaces.{pair_at}
@@ -42,8 +40,7 @@ bounds-original_classes-opening g c =
 
 pub pair_direction-taken-requires-clause-runs : goal.pair_direction-taken-requires-clause-runs
 pair_direction-taken-requires-clause-runs g c =
-    subst (λ n. All (λ (r : ℕ × ℕ). r.1 ≤ n) (map bounds c.args.runs.now)) (sym c.loop-pair.auto.classes)
-    (runs-within g.T.TextSource.units g.met.T.TextSource.has_units (g.T.TextSource.characters c.args.text) c.args.runs.now c.args.directions.sos c.args.classes.now c.requires.ready)
+    rw c.loop-pair.auto.classes (runs-within g.T.TextSource.units g.met.T.TextSource.has_units (g.T.TextSource.characters c.args.text) c.args.runs.now c.args.directions.sos c.args.classes.now c.requires.ready)
 
 pub pair_direction-taken-requires-clause-inside : goal.pair_direction-taken-requires-clause-inside
 pair_direction-taken-requires-clause-inside g c =
@@ -122,4 +119,4 @@ returns g c = λ found nested is.
     let ks = kept_in_place len_of chars a.classes.now (map bounds a.runs.now) in
     let w = c.loop-pair.invariant.0 g.met.T.TextSource.has_units c.requires.ready c.requires.side c.requires.original found nested is in
     let all : length found ≤ c.loop-pair.pair-index = omega (arith, ap length is, length-map found (λ (p : ℕ × ℕ). let q : ℕ × ℕ = (spot len_of chars ks p.0, spot len_of chars ks p.1) in q), c.loop-pair-test.false) in
-    subst (IsPaired len_of chars a.original_classes.now a.classes.now c.loop-pair.classes a.runs.now a.directions.embedding a.directions.sos) (take_all c.loop-pair.pair-index found all) w.done
+    simp (take_all c.loop-pair.pair-index found all) at w.done

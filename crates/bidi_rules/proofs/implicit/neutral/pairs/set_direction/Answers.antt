@@ -1,10 +1,8 @@
-use Rattle.std.proofs.Common.{◌+◌, ◌-◌, ℕ, List, length, map, take, drop, refl, ap, subst, ◌∙◌, arith}
+use Rattle.std.proofs.Common.{◌+◌, ◌-◌, ℕ, List, length, map, take, drop, refl, ap, ◌∙◌, arith}
 use Rattle.std.proofs.lemmas.Grind.{common_steps}
 use Rattle.bidi_base.specs.Text.{is_boundary, place}
 use Rattle.bidi_base.specs.Units.{bounds}
 use Rattle.bidi_base.proofs.PlaceLemmas.{is_boundary-place, place-mono}
-use Rattle.bidi_rules.specs.PairWalk.{IsMarksEnd}
-use Rattle.bidi_rules.specs.WeakWalk.{is_seen, IsWrittenOver}
 use Rattle.bidi_rules.proofs.CharEnds.{begins_at}
 use Rattle.bidi_rules.proofs.RunOf.{IsSet-later}
 use Rattle.bidi_rules.proofs.WalkLemmas.{forwards-in_order, part_after}
@@ -37,10 +35,6 @@ returns g c = λ k within there.
     let same = part_after a.runs.now a.runs.now r refl in
     let inside = c.end_of-inside.ensures k within there in
     let end = c.marks_end-end.result in
-    let set =
     IsSet-later len_of chars (drop r rs) rs a.original_classes.now a.direction a.bracket (place len_of chars (k + 1)) end a.classes.now c.write_over_runs.new.classes c.run_of.ensures.later
     (omega (arith, there, place-mono len_of chars k (k + 1) (omega arith)))
-    (subst (λ u. IsMarksEnd len_of chars (drop r rs) a.original_classes.now a.classes.now u end) inside
-    (subst (λ (qs : List (ℕ × ℕ)). IsMarksEnd len_of chars qs a.original_classes.now a.classes.now c.end_of-inside.result end) same c.marks_end-end.ensures))
-    (subst (λ (qs : List (ℕ × ℕ)). IsWrittenOver (is_seen qs a.classes.now) a.direction a.bracket end a.classes.now c.write_over_runs.new.classes) same c.write_over_runs.ensures) in
-    set
+    (simp (inside, same) at c.marks_end-end.ensures) (simp same at c.write_over_runs.ensures)

@@ -1,14 +1,13 @@
-use Rattle.std.proofs.Common.{◌≡◌, ◌||◌, ◌+◌, ◌-◌, ◌<◌, ◌≤◌, ℕ, List, true, false, length, map, take, get_or, ap, ◌∙◌, inl, inr, arith}
+use Rattle.std.proofs.Common.{◌≡◌, ◌+◌, ◌-◌, ◌<◌, ◌≤◌, ℕ, List, true, length, map, take, get_or, ap, arith}
 use Rattle.std.proofs.lemmas.Grind.{common_steps}
-use Rattle.std.proofs.lemmas.Bool.{cases_Bool, or_cases, or_parts}
 use Rattle.std.proofs.lemmas.List.{get_or-map, length-map, take_all}
 use Rattle.bidi_base.specs.declared.char_data.BidiClass.{BidiClass}
-use Rattle.bidi_base.specs.Places.{class_at}
-use Rattle.bidi_base.specs.Units.{bounds, are_ordered, in_runs, units_in_runs}
+use Rattle.bidi_base.specs.Units.{bounds, are_ordered, units_in_runs}
 use Rattle.bidi_rules.specs.WeakPass.{left_over}
 use Rattle.bidi_rules.proofs.CountBelow.{length-units_in_runs-more}
-use Rattle.bidi_rules.proofs.InRuns.{run_some, in_run, in_run-true, in_runs-more}
+use Rattle.bidi_rules.proofs.InRuns.{run_some}
 use Rattle.bidi_rules.proofs.KeptRuns.{no_range}
+use Rattle.bidi_rules.proofs.RunOf.{changed-more, run_end}
 use Rattle.bidi_rules.proofs.implicit.weak.left_over.change.Goals as goal
 
 -- a class that has changed stays
@@ -21,12 +20,7 @@ units_more : (runs : List (ℕ × ℕ)) (i start end : ℕ) → are_ordered runs
 units_more runs i start end ordered fits starts ends = grind (arith, length-units_in_runs-more, run_some) steps 400000
 
 pub change_run-requires : goal.change_run-requires
-change_run-requires g c =
-    let runs = c.args.runs.now in
-    let i = c.loop-run.run-index in
-    let long = length-map runs bounds in
-    let end_is = ap (λ (r : ℕ × ℕ). r.1) (get_or-map bounds runs i no_range (0, 0) c.loop-run-test.true) in
-    omega (arith, end_is, c.requires.within i (0, 0) (omega arith), c.loop-run.auto.classes)
+change_run-requires g c = omega (arith, run_end _ c.args.runs.now c.loop-run.run-index c.requires.within c.loop-run-test.true, c.loop-run.auto.classes)
 
 -- a unit of the run that came
 pub loop-run-preserved : goal.loop-run-preserved
@@ -37,28 +31,10 @@ loop-run-preserved g c =
     let here = get_or-map bounds runs i no_range (0, 0) c.loop-run-test.true in
     let from_is = ap (λ (r : ℕ × ℕ). r.0) here in
     let to_is = ap (λ (r : ℕ × ℕ). r.1) here in
-    let r = get_or (map bounds runs) i (0, 0) in
     let turns = units_more (map bounds runs) i _ _ c.requires.ordered (omega arith) from_is to_is in
-    let old = c.args.classes.now in
-    let now = c.loop-run.classes in
-    let more : (u : ℕ) → in_runs (take (i + 1) (map bounds runs)) u ≡ (in_runs (take i (map bounds runs)) u || in_run r u) = λ u. in_runs-more i (map bounds runs) u (omega arith) in
-    let outside : (u : ℕ) → in_run r u ≡ false → class_at c.change_run.new.classes u ≡ class_at now u =
-    λ u out. grind (arith, common_steps) in
-    record {
-      changed = λ u inside. elim (cases_Bool (in_run r u)) [
-        | inl within ↦
-            let w = in_run-true r u within in
-            c.change_run.ensures.changed u (omega (arith, w.0, from_is)) (omega (arith, w.1, to_is))
-            ∙ elim (cases_Bool (in_runs (take i (map bounds runs)) u)) [
-              | inl before ↦ ap left_over (c.loop-run.invariant.changed u before) ∙ left_over-twice (class_at old u)
-              | inr fresh ↦ ap left_over (c.loop-run.invariant.same u fresh)
-            ]
-        | inr out ↦ grind (arith, or_cases)
-      ];
-      same = λ u none. grind (arith, or_parts);
-      at_least = omega (arith, c.loop-run.invariant.at_least, turns.0, c.change_run.ensures.steps);
-      at_most = omega (arith, c.loop-run.invariant.at_most, turns.0, turns.1, c.change_run.ensures.steps);
-    }
+    let done = changed-more left_over left_over-twice (map bounds runs) i c.args.classes.now c.loop-run.classes c.change_run.new.classes (omega arith) c.loop-run.invariant.changed c.loop-run.invariant.same
+    (λ u from to. c.change_run.ensures.changed u (omega (arith, from_is)) (omega (arith, to_is))) (λ u out. grind (arith, common_steps)) in
+    grind (arith, done, turns, c.change_run.ensures.steps)
 
 pub returns-clause-changed : goal.returns-clause-changed
 returns-clause-changed g c = grind (arith, length-map, take_all)

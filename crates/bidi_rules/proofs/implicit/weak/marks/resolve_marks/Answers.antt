@@ -1,14 +1,14 @@
-use Rattle.std.proofs.Common.{◌≡◌, ◌<◌, ℕ, true, length, map, sym, ap, subst, ◌∙◌, arith}
+use Rattle.std.proofs.Common.{◌≡◌, ◌<◌, ℕ, true, length, map, sym, ap, ◌∙◌, arith}
 use Rattle.std.proofs.lemmas.Grind.{common_steps}
 use Rattle.std.proofs.lemmas.List.{get_or-map, length-map, take_all}
 use Rattle.bidi_base.specs.declared.char_data.BidiClass.{BidiClass}
 use Rattle.bidi_base.specs.Classes.{is_kept_in_place, is_l_or_r, is_nsm}
 use Rattle.bidi_base.specs.Units.{bounds}
 use Rattle.bidi_base.specs.Weak.{carried}
-use Rattle.bidi_rules.specs.WeakWalk.{AreMarked}
 use Rattle.bidi_rules.proofs.CountBelow.{length-units_in_runs-more}
 use Rattle.bidi_rules.proofs.InRuns.{in_runs-at, run_some, start_or-at, start_or-past}
 use Rattle.bidi_rules.proofs.KeptRuns.{no_range}
+use Rattle.bidi_rules.proofs.RunOf.{run_end}
 use Rattle.bidi_rules.proofs.WeakMarks.{AreMarked-first_run, AreMarked-next_run, IsMarked-none, is_any-none}
 use Rattle.bidi_rules.proofs.implicit.weak.marks.resolve_marks.Goals as goal
 
@@ -30,11 +30,7 @@ resolve_marks_in-mark-requires-clause-ordered g c =
     omega (arith, run_some 0 i (map bounds runs) c.requires.ordered (omega (arith, length-map runs bounds)), ap (λ (r : ℕ × ℕ). r.0) here, ap (λ (r : ℕ × ℕ). r.1) here)
 
 pub resolve_marks_in-mark-requires-clause-within : goal.resolve_marks_in-mark-requires-clause-within
-resolve_marks_in-mark-requires-clause-within g c =
-    let runs = c.args.runs.now in
-    let i = c.loop-run.run-index in
-    let here = get_or-map bounds runs i no_range (0, 0) c.loop-run-test.true in
-    omega (arith, c.requires.within i (0, 0) (omega (arith, length-map runs bounds)), ap (λ (r : ℕ × ℕ). r.1) here, c.loop-run.auto.classes)
+resolve_marks_in-mark-requires-clause-within g c = omega (arith, run_end _ c.args.runs.now c.loop-run.run-index c.requires.within c.loop-run-test.true, c.loop-run.auto.classes)
 
 pub loop-run-preserved : goal.loop-run-preserved
 loop-run-preserved g c =
@@ -46,12 +42,11 @@ loop-run-preserved g c =
     let starts = ap (λ (r : ℕ × ℕ). r.0) here in
     let ends = ap (λ (r : ℕ × ℕ). r.1) here in
     let fits : i < length runs = omega (arith, length-map c.args.runs.now bounds) in
-    let begin = subst (λ (u : ℕ). AreMarked runs sos old c.loop-run.classes c.loop-run.mark u) (start_or-at runs i (length old) fits ∙ starts) c.loop-run.invariant.0 in
+    let begin = simp (start_or-at runs i (length old) fits ∙ starts) at c.loop-run.invariant.0 in
     let after = c.resolve_marks_in-mark.ensures.marked runs sos old (λ k from below. in_runs-at i runs k fits (omega arith) (omega arith)) begin in
     let turns = length-units_in_runs-more i runs fits in
     let some = run_some 0 i runs c.requires.ordered fits in (
-      AreMarked-next_run runs sos old c.requires.ordered c.requires.within c.resolve_marks_in-mark.new.classes c.resolve_marks_in-mark.result i fits
-          (subst (λ (u : ℕ). AreMarked runs sos old c.resolve_marks_in-mark.new.classes c.resolve_marks_in-mark.result u) (sym ends) after),
+      AreMarked-next_run runs sos old c.requires.ordered c.requires.within c.resolve_marks_in-mark.new.classes c.resolve_marks_in-mark.result i fits (simp ends after),
       omega (arith, c.resolve_marks_in-mark.ensures.steps),
       omega (arith, c.resolve_marks_in-mark.ensures.steps, turns, some, starts, ends),
     )

@@ -4,7 +4,6 @@ use Rattle.bidi_rules.proofs.implicit.weak.numbers.alike_end.Goals as goal
 
 pub loop-unit-preserved : goal.loop-unit-preserved
 loop-unit-preserved g c =
-    let classes = c.args.classes.now in
     record {
       alike = λ k from below. elim (cases_eq k c.loop-unit.unit) [
         | inl here ↦ grind arith

@@ -1,4 +1,4 @@
-use Rattle.std.proofs.Common.{◌≡◌, ℕ, ◌+◌, ◌-◌, ◌*◌, ◌/◌, ◌%◌, ◌<◌, false, List, length, get_or, take, drop, sym, ap, ◌∙◌, arith, inl, inr, length-take, length-drop, get_or-take, get_or-drop}
+use Rattle.std.proofs.Common.{◌≡◌, ℕ, ◌+◌, ◌-◌, ◌*◌, ◌/◌, ◌%◌, ◌<◌, false, List, length, get_or, take, drop, sym, arith, inl, inr, length-take, length-drop, get_or-take, get_or-drop}
 use Rattle.std.proofs.Math.Nat.{mod-lt}
 use Rattle.std.proofs.lemmas.Nat.{div-add-mod'}
 use Rattle.std.proofs.lemmas.Bool.{cases_lt}
@@ -39,17 +39,13 @@ returns-clause-count c =
     let piece = drop (j * 32) xs in
     let long = length-take 32 piece in
     let behind = length-drop (j * 32) xs in
-    let read = get_or-take 32 piece i L short ∙ get_or-drop (j * 32) xs i L ∙ ap (class_at xs) split in
-    ap is_asked (sym read) ∙ idle_at (take 32 piece) i (c.idle_pieces-idle.ensures.idle j earlier) (omega (arith, long, behind, short, earlier, whole)) in
+    simp (get_or-take 32 piece i L short, get_or-drop, split) at (idle_at (take 32 piece) i (c.idle_pieces-idle.ensures.idle j earlier) (omega (arith, long, behind, short, earlier, whole))) in
     sym (position_or_len_is is_asked xs (32 * n + more) L (omega (arith, within, size, left, whole))
     (λ k below. elim (cases_lt k (32 * n)) [
       | inl inside ↦ front k inside
       | inr behind ↦
           let j = k - 32 * n in
           let place : 32 * n + j ≡ k = omega arith in
-          let read = at j (omega (arith, below, behind, within, size, left)) ∙ ap (class_at xs) place in
-          ap is_asked (sym read) ∙ fails_before_first is_asked rest j L (omega (arith, below, count))
+          simp (at j (omega (arith, below, behind, within, size, left)), place) at (fails_before_first is_asked rest j L (omega (arith, below, count)))
     ])
-    (λ inside.
-    let read = at more (omega (arith, inside)) in
-    ap is_asked (sym read) ∙ ap (λ (k : ℕ). is_asked (class_at rest k)) count ∙ passes_at_first is_asked rest L (omega (arith, inside, count, size, left, whole))))
+    (λ inside. simp (← count, at more (omega (arith, inside))) at (passes_at_first is_asked rest L (omega (arith, inside, count, size, left, whole)))))

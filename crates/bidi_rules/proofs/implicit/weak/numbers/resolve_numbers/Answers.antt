@@ -1,26 +1,17 @@
-use Rattle.std.proofs.Common.{◌≡◌, ◌+◌, ◌*◌, ◌<◌, ◌≤◌, ℕ, suc, List, length, map, get_or, drop, refl, sym, subst, ◌∙◌, arith}
-use Rattle.std.specs.Prelude.{All}
+use Rattle.std.proofs.Common.{◌≡◌, ◌+◌, ◌*◌, ◌<◌, ◌≤◌, ℕ, suc, List, length, map, get_or, refl, sym, ◌∙◌, arith}
 use Rattle.std.proofs.lemmas.List.{length-map}
-use Rattle.bidi_base.specs.declared.char_data.BidiClass.{BidiClass}
 use Rattle.bidi_base.specs.declared.char_data.BidiClass.TheVariants.{ON}
 use Rattle.bidi_base.specs.Places.{class_at}
-use Rattle.bidi_base.specs.Text.{IsPerChar}
-use Rattle.bidi_base.specs.Units.{bounds, AreLines}
-use Rattle.bidi_base.proofs.TextLemmas.{is_boundary-le}
-use Rattle.bidi_base.proofs.UnitsLemmas.{length-from_IsPerChar}
-use Rattle.bidi_rules.specs.WeakWalk.{count_below, is_seen, len_at, settled_to, IsWrittenOver, Pass, IsUnderWay, WaitsBelow}
+use Rattle.bidi_base.specs.Units.{bounds}
+use Rattle.bidi_rules.specs.WeakWalk.{count_below, len_at, settled_to, Pass, WaitsBelow}
 use Rattle.bidi_rules.specs.declared.implicit.weak.numbers.Walk.{Walk}
 use Rattle.bidi_rules.proofs.CountBelow.{count_below-all, count_below-monotone, count_below-within, count_settled-monotone, WaitsBelow-idle}
 use Rattle.bidi_rules.proofs.InRuns.{next_start, run_some, start_or, start_or-at, start_or-past}
 use Rattle.bidi_rules.specs.WeakPass.{is_number}
 use Rattle.bidi_rules.proofs.WeakMarks.{is_any-none}
-use Rattle.bidi_rules.proofs.WeakText.{IsWhole-line}
+use Rattle.bidi_rules.proofs.WeakText.{IsWhole-line, lines-within}
 use Rattle.bidi_rules.proofs.WeakWalkLemmas.{IsUnderWay-first_run, IsUnderWay-next_run, IsWrittenOver-settled, IsWalked-settled, IsWalked-none}
 use Rattle.bidi_rules.proofs.implicit.weak.numbers.resolve_numbers.Goals as goal
-
--- the runs lie within the units
-within : (len_of : ℕ → ℕ) (chars : List ℕ) (runs : List (ℕ × ℕ)) (classes : List BidiClass) → AreLines len_of chars runs → IsPerChar len_of chars classes → All (λ r. r.1 ≤ length classes) runs
-within len_of chars runs classes lines per = grind (arith, length-from_IsPerChar, is_boundary-le)
 
 pub loop-run-init : goal.loop-run-init
 loop-run-init g c =
@@ -29,12 +20,8 @@ loop-run-init g c =
     let runs = map bounds c.args.runs.now in
     let old = c.args.classes.now in
     let p : Pass = record { runs = runs; sos = c.args.sos; old = old; len = len_at len_of chars } in
-    record {
-      waiting = WaitsBelow-idle runs _ _ (omega arith) refl;
-      under_way = IsUnderWay-first_run p c.requires.ordered (within len_of chars runs old c.requires.lines c.requires.per_char);
-      at_least = omega arith;
-      at_most = omega arith;
-    }
+    let under_way = IsUnderWay-first_run p c.requires.ordered (lines-within len_of g.met.T.TextSource.has_units chars runs c.requires.lines c.requires.ordered c.args.sos old c.requires.per_char) in
+    grind (arith, WaitsBelow-idle, under_way)
 
 pub read_run-requires-clause-inside : goal.read_run-requires-clause-inside
 read_run-requires-clause-inside g c =
@@ -42,7 +29,7 @@ read_run-requires-clause-inside g c =
     let chars : List ℕ = g.T.TextSource.characters c.args.text in
     let runs = map bounds c.args.runs.now in
     let old = c.args.classes.now in
-    omega (arith, within len_of chars runs old c.requires.lines c.requires.per_char c.loop-run.run (0, 0) (omega (arith, c.loop-run-test.true, length-map c.args.runs.now bounds)), c.loop-run.invariant.under_way.long)
+    omega (arith, lines-within len_of g.met.T.TextSource.has_units chars runs c.requires.lines c.requires.ordered c.args.sos old c.requires.per_char c.loop-run.run (0, 0) (omega (arith, c.loop-run-test.true, length-map c.args.runs.now bounds)), c.loop-run.invariant.under_way.long)
 
 pub read_run-requires-clause-whole : goal.read_run-requires-clause-whole
 read_run-requires-clause-whole g c =
@@ -55,10 +42,9 @@ read_run-requires-clause-whole g c =
     let r = get_or runs index (0, 0) in
     let fits : index < length runs = omega (arith, c.loop-run-test.true, length-map c.args.runs.now bounds) in
     let h = c.loop-run.invariant.under_way in
-    let begins : start_or runs index (length old) ≡ r.0 = start_or-at runs index (length old) fits in
     λ u from below.
     let w = IsWhole-line len_of g.met.T.TextSource.has_units chars old c.requires.per_char r.0 r.1 (c.requires.lines index (0, 0) fits) u from below in
-    let same : (k : ℕ) → u ≤ k → class_at now k ≡ class_at old k = λ k a. h.unwritten k (omega (arith, h.order)) in
+    let same : (k : ℕ) → u ≤ k → class_at now k ≡ class_at old k = λ k a. h.unwritten k (omega (arith, h.order, start_or-at runs index (length old) fits)) in
     record { some = w.some; within = w.within; alike = λ k a b. same k a ∙ w.alike k a b ∙ sym (same u (omega arith)) }
 
 pub loop-run-preserved : goal.loop-run-preserved
@@ -71,22 +57,18 @@ loop-run-preserved g c =
     let fits : index < length runs = omega (arith, c.loop-run-test.true, length-map c.args.runs.now bounds) in
     let p : Pass = record { runs = runs; sos = c.args.sos; old = old; len = len_at len_of chars } in
     let start = start_or-at runs index (length old) fits in
-    let begin = subst (λ (u : ℕ). IsUnderWay p c.loop-run.classes c.loop-run.walk u) start c.loop-run.invariant.under_way in
-    let inside = within len_of chars runs old c.requires.lines c.requires.per_char in
+    let begin = simp start at c.loop-run.invariant.under_way in
+    let inside = lines-within len_of g.met.T.TextSource.has_units chars runs c.requires.lines c.requires.ordered c.args.sos old c.requires.per_char in
     let next = next_start 0 index runs (length old) c.requires.ordered fits (inside index (0, 0) fits) in
     let end = (get_or runs index (0, 0)).1 in
     let some = run_some 0 index runs c.requires.ordered fits in
     let one : suc index ≡ index + 1 = omega arith in
-    let later : end ≤ start_or runs (index + 1) (length old) = subst (λ (n : ℕ). end ≤ start_or runs n (length old)) one next in
+    let later : end ≤ start_or runs (index + 1) (length old) = simp (← one) next in
     let settled = count_settled-monotone runs c.read_run.new.self end (start_or runs (index + 1) (length old)) c.requires.ordered later in
     let read = count_below-within 0 index runs (get_or runs index (0, 0)).0 end c.requires.ordered fits (omega arith) (omega (arith, some)) (omega arith) in
     let behind = count_below-monotone 0 runs end (start_or runs (index + 1) (length old)) c.requires.ordered later in
-    record {
-      waiting = grind arith;
-      under_way = IsUnderWay-next_run p c.requires.ordered (within len_of chars runs old c.requires.lines c.requires.per_char) c.read_run.new.classes c.read_run.new.self index fits (c.read_run.ensures.reads p refl refl begin);
-      at_least = omega (arith, c.loop-run.invariant.at_least, c.tick.ensures, c.read_run.ensures.at_least);
-      at_most = grind arith;
-    }
+    let under_way = IsUnderWay-next_run p c.requires.ordered inside c.read_run.new.classes c.read_run.new.self index fits (c.read_run.ensures.reads p refl refl begin) in
+    grind (arith, under_way)
 
 pub returns-clause-walked : goal.returns-clause-walked
 returns-clause-walked g c =
@@ -98,10 +80,9 @@ returns-clause-walked g c =
     let w = c.loop-run.walk in
     let p : Pass = record { runs = runs; sos = c.args.sos; old = old; len = len_at len_of chars } in
     let top : start_or runs c.loop-run.run (length old) ≡ length old = grind (arith, start_or-past, length-map) in
-    let h = subst (λ (u : ℕ). IsUnderWay p now w u) top c.loop-run.invariant.under_way in
+    let h = simp top at c.loop-run.invariant.under_way in
     IsWalked-settled p now w (length old) h c.settle.new.classes (omega arith)
-    (IsWrittenOver-settled p now w (length old) h ON c.settle.new.classes c.requires.ordered
-    (λ t. subst (λ (u : ℕ). IsWrittenOver (is_seen (drop w.first_run runs) now) ON w.first u now c.settle.new.classes) h.long (c.settle.ensures.held t)) c.settle.ensures.idle)
+    (IsWrittenOver-settled p now w (length old) h ON c.settle.new.classes c.requires.ordered (λ t. simp h.long at (c.settle.ensures.held t)) c.settle.ensures.idle)
 
 pub returns-then-not-has_numbers-clause-walked : goal.returns-then-not-has_numbers-clause-walked
 returns-then-not-has_numbers-clause-walked g c =
@@ -109,7 +90,7 @@ returns-then-not-has_numbers-clause-walked g c =
     let chars : List ℕ = g.T.TextSource.characters c.args.text in
     let old = c.args.classes.now in
     IsWalked-none (len_at len_of chars) c.args.runs.now c.args.sos old
-    (is_any-none is_number c.args.runs.now old (within len_of chars (map bounds c.args.runs.now) old c.requires.lines c.requires.per_char) (sym c.has_numbers.ensures ∙ c.if-not-has_numbers.true))
+    (is_any-none is_number c.args.runs.now old (lines-within len_of g.met.T.TextSource.has_units chars (map bounds c.args.runs.now) c.requires.lines c.requires.ordered c.args.sos old c.requires.per_char) (sym c.has_numbers.ensures ∙ c.if-not-has_numbers.true))
 
 -- all runs are read
 record AreRead (runs : List (ℕ × ℕ)) (w : Walk) (n steps first : ℕ) : Type 0 where
@@ -134,6 +115,5 @@ returns-clause-at_most g c =
     let len_of = g.T.TextSource.units in
     let chars : List ℕ = g.T.TextSource.characters c.args.text in
     let all = read runs w c.loop-run.run (length old) c.loop-run.steps c.args.steps.now (omega (arith, c.loop-run-test.false, length-map c.args.runs.now bounds)) c.loop-run.invariant.waiting c.loop-run.invariant.at_most in
-    let new : ℕ = c.settle.new.steps in
-    let settled = subst (λ (u : ℕ). new + 2 * count_below runs (settled_to w u) ≤ c.loop-run.steps + 2 * count_below runs u) long c.settle.ensures.at_most in
-    omega (arith, all.at_most, settled, count_below-all 0 runs (length old) c.requires.ordered (within len_of chars runs old c.requires.lines c.requires.per_char))
+    let settled = simp long at c.settle.ensures.at_most in
+    omega (arith, all.at_most, settled, count_below-all 0 runs (length old) c.requires.ordered (lines-within len_of g.met.T.TextSource.has_units chars runs c.requires.lines c.requires.ordered c.args.sos old c.requires.per_char))

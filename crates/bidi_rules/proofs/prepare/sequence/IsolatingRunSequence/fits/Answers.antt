@@ -1,5 +1,5 @@
 -- The ranges fit if each does, in the order of the list.
-use Rattle.std.proofs.Common.{◌≡◌, ℕ, ◌<◌, ◌≤◌, List, length, map, get_or, take, sym, ap, subst, ◌∙◌, arith, rules}
+use Rattle.std.proofs.Common.{◌≡◌, ℕ, ◌<◌, ◌≤◌, List, length, map, get_or, take, ◌∙◌, arith, rules}
 use Rattle.std.specs.Prelude.{All}
 use Rattle.std.specs.declared.ops.Range.{Range}
 use Rattle.std.proofs.lemmas.List.{take_all, get_or-map, length-map}
@@ -10,14 +10,12 @@ use Rattle.bidi_rules.proofs.prepare.sequence.IsolatingRunSequence.fits.Goals as
 
 one_of : (len_of : ℕ → ℕ) (chars : List ℕ) (runs read : List (Range ℕ)) (k : ℕ) (d : Range ℕ) → read ≡ runs → k < length read → AreLines len_of chars (map bounds runs) → IsLine len_of chars (get_or read k d).start (get_or read k d).end
 one_of len_of chars runs read k d e fits all =
-    let within : k < length runs = subst (λ (xs : List (Range ℕ)). k < length xs) e fits in
-    subst (λ (r : ℕ × ℕ). IsLine len_of chars r.0 r.1) (get_or-map bounds runs k d (bounds d) within ∙ ap (λ (xs : List (Range ℕ)). bounds (get_or xs k d)) (sym e))
-    (All-get_or (λ (r : ℕ × ℕ). IsLine len_of chars r.0 r.1) (map bounds runs) k (bounds d) (omega (arith, within, length-map runs bounds)) all)
+    simp (get_or-map bounds read k d (bounds d) fits) at
+    (All-get_or (λ (r : ℕ × ℕ). IsLine len_of chars r.0 r.1) (map bounds read) k (bounds d) (omega (arith, fits, length-map read bounds)) (simp (← e) at all))
 
 all_of : (len_of : ℕ → ℕ) (chars : List ℕ) (runs read : List (Range ℕ)) (k : ℕ) → read ≡ runs → length read ≤ k → All (λ (r : Range ℕ). IsLine len_of chars r.start r.end) (take k read) → AreLines len_of chars (map bounds runs)
 all_of len_of chars runs read k e past all =
-    All-map (λ (r : ℕ × ℕ). IsLine len_of chars r.0 r.1) bounds runs
-    (subst (λ (xs : List (Range ℕ)). All (λ (r : Range ℕ). IsLine len_of chars r.start r.end) xs) (take_all k read past ∙ e) all)
+    All-map (λ (r : ℕ × ℕ). IsLine len_of chars r.0 r.1) bounds runs (simp (take_all k read past ∙ e) at all)
 
 pub returns-then-not-is_line : goal.returns-then-not-is_line
 returns-then-not-is_line g c = grind (arith, one_of)

@@ -1,10 +1,8 @@
-use Rattle.std.proofs.Common.{◌≡◌, ◌≤◌, ◌<◌, ℕ, List, length, drop, true, false, Bool, sym, ap, subst, ◌∙◌, arith}
+use Rattle.std.proofs.Common.{◌≡◌, ◌≤◌, ◌<◌, ℕ, length, true, false, sym, ap, ◌∙◌, arith}
 use Rattle.bidi_base.specs.declared.char_data.BidiClass.{BidiClass}
 use Rattle.bidi_base.specs.Classes.{stands_for}
 use Rattle.bidi_base.specs.Places.{class_at}
-use Rattle.bidi_rules.specs.JoinPass.{IsJoined}
 use Rattle.bidi_rules.specs.PairWalk.{opposite_of}
-use Rattle.bidi_rules.specs.WeakWalk.{is_seen, IsWrittenOver}
 use Rattle.bidi_rules.proofs.JoinWalk.{IsAtOpposite-settled, IsAtOpposite-quiet, IsUnderWay-turned}
 use Rattle.bidi_rules.proofs.implicit.neutral.directions.Join.next_opposite.Goals as goal
 use Rattle.bidi_rules.proofs.implicit.neutral.directions.Join.next_opposite.Goals.{then-self+else-next-end+else-stands_for, else-self}
@@ -21,8 +19,7 @@ returns-then-stands_for-clause-reads c = λ s runs_are same inside u.
     let next = c.first_passing-next.result in
     IsAtOpposite-settled s now w c.args.at c.args.end inside (omega (arith, c.requires.inside, u.joined.long)) u new next f.begins (omega (arith, f.ends, c.if-next-end.false)) f.before
     (ap (λ (d : BidiClass). stands_for d (class_at now next)) same ∙ sym c.stands_for.ensures ∙ c.if-stands_for.true) c.if-self.true
-    (subst (λ (d : BidiClass). IsWrittenOver (is_seen (drop w.first_run s.runs) now) d w.first next now new) (sym same)
-    (subst (λ (rs : List (ℕ × ℕ)). IsWrittenOver (is_seen (drop w.first_run rs) now) w.opposite w.first next now new) (sym runs_are) (c.settle.ensures.held c.if-self.true)))
+    (simp (same, runs_are) (c.settle.ensures.held c.if-self.true))
 
 pub returns-clause-reads : goal.returns-clause-reads
 returns-clause-reads c = λ s runs_are same inside u.
@@ -44,10 +41,9 @@ returns-clause-reads c = λ s runs_are same inside u.
           let is = ap (λ r. r.opposite) w.self-is in
           let turned = IsUnderWay-turned s now c.args.self.now at end inside fits u mid f.begins below f.before (f.at below)
           (ap (λ (d : BidiClass). stands_for d (class_at now mid)) same ∙ sym w.stands_for.ensures ∙ w.if-stands_for.false) w.if-self.true in
-          IsAtOpposite-quiet s now c.if-self.self mid c.if-self.from next end (subst (λ (k : ℕ). IsJoined s now false mid k) (sym w.from-is) turned) (ap (λ r. r.waits) w.self-is) q.begins q.ends fits (before is) (there is)
+          IsAtOpposite-quiet s now c.if-self.self mid c.if-self.from next end (simp w.from-is turned) (ap (λ r. r.waits) w.self-is) q.begins q.ends fits (before is) (there is)
       | else-self w ↦
           let is = ap (λ r. r.opposite) w.self-is in
           let idle : c.args.self.now.waits ≡ false = w.if-self.false in
-          IsAtOpposite-quiet s now c.if-self.self u.done c.if-self.from next end
-          (subst (λ (k : ℕ). IsJoined s now false u.done k) (sym w.from-is) (subst (λ (b : Bool). IsJoined s now b u.done at) idle u.joined)) (ap (λ r. r.waits) w.self-is ∙ idle) q.begins q.ends fits (before is) (there is)
+          IsAtOpposite-quiet s now c.if-self.self u.done c.if-self.from next end (simp w.from-is (simp idle at u.joined)) (ap (λ r. r.waits) w.self-is ∙ idle) q.begins q.ends fits (before is) (there is)
     ]

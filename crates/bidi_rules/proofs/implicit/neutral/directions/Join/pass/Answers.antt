@@ -1,5 +1,4 @@
-use Rattle.std.proofs.Common.{◌≡◌, ◌<◌, true, false, not, Bool, refl, ap, ◌∙◌, arith, inl, inr, ℕ}
-use Rattle.std.proofs.lemmas.Bool.{cases_lt, both_ways}
+use Rattle.std.proofs.Common.{◌≡◌, ◌<◌, true, false, not, Bool, refl, ap, ◌∙◌, arith}
 use Rattle.bidi_base.specs.declared.char_data.BidiClass.{BidiClass}
 use Rattle.bidi_base.specs.Classes.{stands_for}
 use Rattle.bidi_base.specs.Places.{class_at}
@@ -14,13 +13,7 @@ returns-clause-reads c = λ s same fits from upto j.
     let f = c.first_passing-next.ensures in
     let now = c.args.classes.now in
     let next = c.first_passing-next.result in
-    let some : c.args.at < next = elim (cases_lt c.args.at next) [
-      | inl behind ↦ behind
-      | inr here ↦
-          let same_unit : next ≡ c.args.at = omega (arith, f.begins) in
-          let stays = ap (λ (k : ℕ). stands_for c.args.self.now.opposite (class_at now k)) same_unit ∙ c.requires.there in
-          absurd (both_ways (not (stands_for c.args.self.now.opposite (class_at now next))) (ap not stays) (f.at (let below = c.requires.some in omega arith)))
-    ] in
+    let some : c.args.at < next = grind (arith, f.begins, f.at, c.requires.there, c.requires.some) in
     IsUnderWay-stretch s now (record { opposite = c.args.self.now.opposite; waits = true; first = next; first_run = c.args.run }) c.args.self.now.waits c.args.run c.args.at next refl refl refl fits from
     (omega (arith, f.ends)) (omega (arith, f.ends, c.requires.inside, j.long)) some
     (λ k a b. ap (λ (d : BidiClass). stands_for d (class_at now k)) same ∙ twice (stands_for c.args.self.now.opposite (class_at now k)) (f.before k a b)) j

@@ -1,11 +1,10 @@
-use Rattle.std.proofs.Common.{◌≡◌, ◌+◌, ◌-◌, ◌<◌, ◌≤◌, ℕ, false, take, drop, unwrap_or, refl, sym, ap, subst, ◌∙◌, arith, inl, inr, length-take, length-drop, get_or-take, get_or-drop}
+use Rattle.std.proofs.Common.{◌≡◌, ◌+◌, ◌-◌, ◌<◌, ◌≤◌, ℕ, false, take, drop, arith, inl, inr, length-take, length-drop, get_or-take, get_or-drop}
 use Rattle.std.proofs.lemmas.Bool.{cases_lt}
 use Rattle.std.proofs.lemmas.List.Sums.{fails_before_first}
 use Rattle.bidi_base.specs.declared.char_data.BidiClass.TheVariants.{L}
 use Rattle.bidi_base.specs.Places.{class_at}
 use Rattle.bidi_rules.specs.WeakPass.{is_asked}
-use Rattle.bidi_rules.specs.WeakWalk.{IsUnderWay}
-use Rattle.bidi_rules.proofs.WeakWalkLemmas.{IsUnderWay-same, IsUnderWay-passes_all}
+use Rattle.bidi_rules.proofs.WeakWalkLemmas.{IsUnderWay-passes_all}
 use Rattle.bidi_rules.proofs.implicit.weak.numbers.Walk.pass_over.Goals as goal
 
 pub returns-clause-passes : goal.returns-clause-passes
@@ -26,9 +25,6 @@ returns-clause-passes c p run fits starts ends h =
       | inr behind ↦
           let j = k - (i + 1) in
           let place : i + 1 + j ≡ k = omega arith in
-          let read = get_or-take (end - (i + 1)) (drop (i + 1) now) j L (omega arith) ∙ get_or-drop (i + 1) now j L ∙ ap (class_at now) place in
-          ap is_asked (sym read) ∙ fails_before_first is_asked part j L (omega (arith, c.before_asked.ensures.count))
+          simp (get_or-take (end - (i + 1)) (drop (i + 1) now) j L (omega arith), get_or-drop, place) at (fails_before_first is_asked part j L (omega (arith, c.before_asked.ensures.count)))
     ] in
-    IsUnderWay-same p now now _ _ (i + 1 + more) refl (c.unwrap_or-self.ensures ∙ ap (λ o. unwrap_or o w.strong) c.last_strong.ensures) refl refl refl
-    (subst (IsUnderWay p now _) to
-    (IsUnderWay-passes_all p now w i run n h fits starts (omega arith) (omega (arith, c.requires.inside)) c.requires.other none))
+    rw (c.unwrap_or-self.ensures, c.last_strong.ensures) (simp to at (IsUnderWay-passes_all p now w i run n h fits starts (omega arith) (omega (arith, c.requires.inside)) c.requires.other none))

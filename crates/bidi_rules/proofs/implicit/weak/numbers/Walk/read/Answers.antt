@@ -27,9 +27,7 @@ filled_over to v from now1 now2 is order fits = subst (IsWrittenOver (λ k. true
 settled_by : (p : Pass) (runs : List (ℕ × ℕ)) → p.runs ≡ runs → (i : ℕ) (w : Walk) (now now1 : List BidiClass) (h : IsUnderWay p now w i) (v held : BidiClass) → held ≡ v → IsTrue (are_ordered runs)
     → (waits w.before ≡ true → IsWrittenOver (is_seen (drop w.first_run runs) now) held w.first i now now1) → (waits w.before ≡ false → now1 ≡ now) → IsWrittenOver (seen p) v h.from i now now1
 settled_by p runs same i w now now1 h v held is ordered some none =
-    subst (λ (d : BidiClass). IsWrittenOver (seen p) d h.from i now now1) is
-    (IsWrittenOver-settled p now w i h held now1 (subst (λ (rs : List (ℕ × ℕ)). are_ordered rs ≡ true) (sym same) ordered)
-    (λ t. subst (λ (rs : List (ℕ × ℕ)). IsWrittenOver (is_seen (drop w.first_run rs) now) held w.first i now now1) (sym same) (some t)) none)
+    simp (← is) (IsWrittenOver-settled p now w i h held now1 (simp same ordered) (λ t. simp same (some t)) none)
 
 -- behind what is settled
 above_settled : (w : Walk) (runs : List (ℕ × ℕ)) (held : BidiClass) (i k : ℕ) (now now1 : List BidiClass) → i ≤ k → (waits w.before ≡ true → IsWrittenOver (is_seen (drop w.first_run runs) now) held w.first i now now1) → (waits w.before ≡ false → now1 ≡ now) → class_at now1 k ≡ class_at now k
@@ -63,17 +61,16 @@ returns-clause-reads g c =
     let z_is : c.strengthened-strong.result ≡ z = c.strengthened-strong.ensures ∙ ap (strengthened w.strong) read in
     let n_is : c.after-next.result ≡ next_before z w.before = c.after-next.ensures ∙ ap (λ (d : BidiClass). next_before d w.before) z_is in
     let j_is : c.is_joined_by.result ≡ joins z w.before = c.is_joined_by.ensures ∙ ap (λ (d : BidiClass). joins d w.before) z_is in
+    let v = w7_by (is_l w.strong) (settled z w.before) in
     let strong_is : (t : Walk) → c.if-not-is_joined_by.self ≡ t → c.strong_up_to-self.result ≡ strong_up_to t.strong x =
     λ t is. grind arith in
     elim c.if-not-is_joined_by.branch [
       | then-not-is_joined_by+then-waits b ↦
-          let held : b.numbered-held.result ≡ w7_by (is_l w.strong) (settled z w.before) = grind arith in
-          let written = settled_by p runs s.runs_are i w now b.settle.new.classes h _ b.numbered-held.result held c.requires.ordered b.settle.ensures.held b.settle.ensures.idle in
+          let written = settled_by p runs s.runs_are i w now b.settle.new.classes h v b.numbered-held.result (grind arith) c.requires.ordered b.settle.ensures.held b.settle.ensures.idle in
           IsUnderWay-same p b.settle.new.classes _ _ _ j b.classes-is (strong_is _ b.self-is) n_is (ap (λ (t : Walk). t.first) b.self-is) (ap (λ (t : Walk). t.first_run) b.self-is)
           (IsUnderWay-waits p now w i h runs c.args.run j s b.settle.new.classes written (sym j_is ∙ b.if-not-is_joined_by.true) (ap waits (sym n_is) ∙ sym b.waits.ensures ∙ b.if-waits.true))
       | then-not-is_joined_by+else-waits+then-ne b ↦
-          let held : b.numbered-held.result ≡ w7_by (is_l w.strong) (settled z w.before) = grind arith in
-          let written = settled_by p runs s.runs_are i w now b.settle.new.classes h _ b.numbered-held.result held c.requires.ordered b.settle.ensures.held b.settle.ensures.idle in
+          let written = settled_by p runs s.runs_are i w now b.settle.new.classes h v b.numbered-held.result (grind arith) c.requires.ordered b.settle.ensures.held b.settle.ensures.idle in
           let own : b.numbered-own.result ≡ w7_by (is_l w.strong) (resolved z w.before) = grind arith in
           let fill = filled_over j b.numbered-own.result i b.settle.new.classes b.fill.new.classes b.fill.ensures (omega (arith, c.requires.some)) (omega (arith, c.requires.inside, b.settle.auto.classes)) in
           IsUnderWay-same p b.fill.new.classes _ _ _ j b.classes-is (strong_is _ b.self-is) n_is (ap (λ (t : Walk). t.first) b.self-is) (ap (λ (t : Walk). t.first_run) b.self-is)
@@ -81,8 +78,7 @@ returns-clause-reads g c =
           (λ k from below. ap left_over (fill.inside k from below refl ∙ own) ∙ resolved-stays x w.strong (is_l w.strong) w.before)
           fill.below fill.above fill.long w.first w.first_run)
       | then-not-is_joined_by+else-waits+else-ne b ↦
-          let held : b.numbered-held.result ≡ w7_by (is_l w.strong) (settled z w.before) = grind arith in
-          let written = settled_by p runs s.runs_are i w now b.settle.new.classes h _ b.numbered-held.result held c.requires.ordered b.settle.ensures.held b.settle.ensures.idle in
+          let written = settled_by p runs s.runs_are i w now b.settle.new.classes h v b.numbered-held.result (grind arith) c.requires.ordered b.settle.ensures.held b.settle.ensures.idle in
           let own : b.numbered-own.result ≡ w7_by (is_l w.strong) (resolved z w.before) = grind arith in
           let same : left_over (class_at now i) ≡ b.numbered-own.result = sym b.left_over.ensures ∙ class_test.same b.left_over.result b.numbered-own.result (equal _ (sym b.ne.ensures ∙ b.if-ne.false)) in
           IsUnderWay-same p b.settle.new.classes _ _ _ j b.classes-is (strong_is _ b.self-is) n_is (ap (λ (t : Walk). t.first) b.self-is) (ap (λ (t : Walk). t.first_run) b.self-is)

@@ -1,4 +1,4 @@
-use Rattle.std.proofs.Common.{◌≡◌, ℕ, ◌+◌, ◌*◌, ◌<◌, ◌≤◌, true, List, map, get_or, drop, refl, sym, ap, subst, ◌∙◌, arith}
+use Rattle.std.proofs.Common.{◌≡◌, ℕ, ◌+◌, ◌*◌, ◌<◌, ◌≤◌, true, List, map, get_or, drop, refl, sym, ap, ◌∙◌, arith}
 use Rattle.std.proofs.lemmas.List.{get_or-drop}
 use Rattle.bidi_base.specs.Units.{bounds, are_ordered}
 use Rattle.bidi_rules.specs.declared.implicit.weak.numbers.Walk.{Walk}
@@ -21,8 +21,7 @@ paid : (runs : List (ℕ × ℕ)) (w : Walk) (to old new : ℕ) → are_ordered 
 paid runs w to old new ordered waiting t turns =
     let before = waiting.first t in
     let same : w.first_run + 0 ≡ w.first_run = omega arith in
-    let front : get_or (drop w.first_run runs) 0 (0, 0) ≡ get_or runs w.first_run (0, 0) = get_or-drop w.first_run runs 0 (0, 0) ∙ ap (λ (n : ℕ). get_or runs n (0, 0)) same in
-    let within : w.first < (get_or (drop w.first_run runs) 0 (0, 0)).1 = subst (λ (r : ℕ × ℕ). w.first < r.1) (sym front) (waiting.run t) in
+    let within : w.first < (get_or (drop w.first_run runs) 0 (0, 0)).1 = simp (get_or-drop, same) (waiting.run t) in
     let all : new + 2 * count_below runs w.first ≤ old + 2 * count_below runs to = paid-by-part w.first_run runs w.first to new old ordered (omega (arith, before)) (turns before within) in
     omega (arith, all, ap (count_below runs) (settled_to-waits w to t))
 
@@ -33,8 +32,7 @@ returns-then-waits-clause-at_most g c =
     let new : ℕ = c.write_over_runs_counted.new.steps in
     let old : ℕ = c.args.steps.now in
     paid (map bounds c.args.runs.now) w to old new c.requires.ordered c.requires.waiting (sym c.waits.ensures ∙ c.if-waits.true)
-    (subst (λ (runs : List (ℕ × ℕ)). w.first < to → w.first < (get_or runs 0 (0, 0)).1 → new + 2 * count_below runs w.first ≤ old + 2 * count_below runs to)
-    (part_after c.args.runs.now c.args.runs.now w.first_run refl) c.write_over_runs_counted.ensures.at_most)
+    (rw (part_after c.args.runs.now c.args.runs.now w.first_run refl) at c.write_over_runs_counted.ensures.at_most)
 
 pub returns-else-waits-clause-at_most : goal.returns-else-waits-clause-at_most
 returns-else-waits-clause-at_most g c = grind arith
