@@ -1,5 +1,5 @@
 -- Texts to which something is appended.
-use Rattle.std.proofs.Common.{◌≡◌, ℕ, List, ◌++◌, Result, OnOk, is_ok, arith}
+use Rattle.bidi_base.proofs.Common.{◌≡◌, ℕ, List, ◌++◌, Result, OnOk, is_ok, arith}
 use Rattle.std.specs.Prelude.{if◌then◌else◌}
 
 -- what holds once a text was appended

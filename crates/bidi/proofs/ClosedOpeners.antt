@@ -1,19 +1,13 @@
 -- The opener that a character closes, by the openers that are open before it: it is the one whose match that character is (BD9, BD11).
-use Rattle.std.proofs.Common.{◌≡◌, ℕ, suc, ◌+◌, ◌-◌, ◌<◌, Bool, true, false, ◌||◌, cond, List, [], ◌∷◌, length, find, Option, Some, None, refl, sym, ap, subst, ◌∙◌, arith, inl, inr}
-use Rattle.std.specs.Prelude.{filter}
-use Rattle.std.proofs.lemmas.Bool.{cases_Bool, and_parts, and_from, false_from_ne_true}
+use Rattle.bidi_base.proofs.Common.{◌≡◌, ℕ, suc, ◌+◌, ◌-◌, ◌<◌, Bool, true, false, ◌||◌, cond, List, [], ◌∷◌, length, find, Option, Some, None, refl, sym, ap, subst, ◌∙◌, arith, inl, inr, filter, cases_Bool, and_parts, and_from, false_from_ne_true, is_embedding, is_opener, is_pdf, class_at, is_initiator_at, is_pdi_at, matching_pdi, is_inside, is_level_with, is_embedding_level_with, is_pdf_level_with, closing_pdf}
 use Rattle.bidi_base.specs.declared.char_data.BidiClass.{BidiClass}
-use Rattle.bidi_base.specs.Classes.{is_embedding, is_opener, is_pdf}
-use Rattle.bidi_base.specs.Places.{class_at}
-use Rattle.bidi_base.specs.Isolates.{is_initiator_at, is_pdi_at, matching_pdi, is_inside}
-use Rattle.bidi_base.specs.Embeddings.{is_level_with, is_embedding_level_with, is_pdf_level_with, closing_pdf}
 use Rattle.bidi_base.proofs.PlacesLemmas.{IsLeast}
 use Rattle.bidi_base.proofs.MatchingLemmas.{match_of-IsLeast, match_of-closes}
 use Rattle.bidi_base.proofs.IsolatesLemmas.{initiators_apart, matching_pdi-IsLeast}
 use Rattle.bidi_base.proofs.EmbeddingsLemmas.{is_level_with-each, is_level_with-same, is_level_with-refl}
 use Rattle.bidi_base.proofs.ReadStack.{read_closed, IsReadStack}
 use Rattle.bidi_base.proofs.OpenMatches.{IsReadStack-match, IsReadStack-matched}
-use Rattle.bidi_base.proofs.OpenersStack.{openers_read, closed_by, left_at, Leaves, leaves_at, IsPushed, openers_read-IsPushed, pdf_apart, initiators-IsReadStack, is_inside-parts, is_inside-sooner, same_inside, level-Leaves, level-IsReadStack}
+use Rattle.bidi_base.proofs.OpenersStack.{Leaves, leaves_at, IsPushed, openers_read-IsPushed, pdf_apart, initiators-IsReadStack, is_inside-parts, is_inside-sooner, same_inside, level-Leaves, level-IsReadStack, openers_read, closed_by, left_at}
 use Rattle.bidi.specs.Matches.{closer_of}
 
 -- the innermost opener, if that is an embedding or an override

@@ -1,15 +1,9 @@
 -- The findings of a line, one character more.
-use Rattle.std.proofs.Common.{◌≡◌, ℕ, ◌+◌, ◌<◌, Bool, false, List, [], ◌∷◌, ◌++◌, Option, Some, None, length, get_or, take, map, refl, arith, append_assoc}
-use Rattle.std.proofs.lemmas.Grind.{common_steps}
+use Rattle.bidi_base.proofs.Common.{◌≡◌, ℕ, ◌+◌, ◌<◌, Bool, false, List, [], ◌∷◌, ◌++◌, Option, Some, None, length, get_or, take, map, refl, arith, append_assoc, common_steps, range_with_len, option_to_list, get_or-map, get_or_default, get_or-map-range_with_len, filter_map-append, indexes}
 use Rattle.std.specs.Prelude.{filter_map}
-use Rattle.std.specs.List.{range_with_len, cons_option}
-use Rattle.std.specs.Option.{option_to_list}
-use Rattle.std.proofs.lemmas.List.{get_or-map, get_or_default}
-use Rattle.std.proofs.lemmas.List.FromFn.{get_or-map-range_with_len}
-use Rattle.std.proofs.lemmas.List.Elements.{filter_map-append}
+use Rattle.std.specs.List.{cons_option}
 use Rattle.bidi.proofs.PagesLemmas.{next_index}
 use Rattle.bidi_base.specs.declared.char_data.BidiClass.{BidiClass}
-use Rattle.bidi_base.specs.Places.{indexes}
 use Rattle.bidi.specs.Findings.{finding_of, finding_at, finding_line, report_of}
 use Rattle.bidi.specs.Matches.{is_unmatched}
 use Rattle.bidi.specs.declared.finding.Finding.{Finding}

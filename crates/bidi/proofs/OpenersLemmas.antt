@@ -1,8 +1,6 @@
 -- Isolates among the openers that are open, by their number.
-use Rattle.std.proofs.Common.{◌≡◌, ℕ, ◌+◌, ◌<◌, true, cond, List, [], ◌∷◌, None, count_by, refl, arith, zero-add, inl, inr}
+use Rattle.bidi_base.proofs.Common.{◌≡◌, ℕ, ◌+◌, ◌<◌, true, cond, List, [], ◌∷◌, None, count_by, refl, arith, zero-add, inl, inr, cases_Bool, sum_by-cons}
 use Rattle.std.specs.Prelude.{is_some}
-use Rattle.std.proofs.lemmas.Bool.{cases_Bool}
-use Rattle.std.proofs.lemmas.List.Sums.{sum_by-cons}
 use Rattle.bidi.specs.OpenOpeners.{innermost_isolate, outside_isolate}
 use Rattle.bidi.specs.declared.openers.Opener.{Opener}
 

@@ -1,8 +1,7 @@
 -- What stands for a character between tags neither begins nor ends one.
-use Rattle.std.proofs.Common.{◌≡◌, ◌∙◌, ℕ, ◌+◌, ◌≤◌, true, false, [], ◌∷◌, ◌++◌, ap, arith}
+use Rattle.bidi_base.proofs.Common.{◌≡◌, ◌∙◌, ℕ, ◌+◌, ◌≤◌, true, false, [], ◌∷◌, ◌++◌, ap, arith, list_all, range_with_len}
 use Rattle.std.specs.Prelude.{◌==◌}
 use Rattle.std.proofs.Math.Utf8.{encode}
-use Rattle.std.specs.List.{list_all, range_with_len}
 use Rattle.bidi_base.specs.declared.char_data.BidiClass.{BidiClass}
 use Rattle.bidi_base.proofs.ChainLemmas.{range_with_len-append}
 use Rattle.bidi.specs.Pages.{escaped, is_text_byte}

@@ -1,26 +1,7 @@
 -- The lines of a paragraph, read in a text of UTF-8 whose classes and levels are known, are those of its characters.
-use Rattle.std.proofs.Common.{◌≡◌, ℕ, suc, ◌+◌, ◌<◌, ◌≤◌, Bool, true, false, not, ◌&&◌, List, [], ◌∷◌, ◌++◌, Option, Some, None, length, get_or, map, flat_map, refl, sym, ap, ◌∙◌, arith, append_assoc, append-nil, length-append, zero-add, inl, inr}
-use Rattle.std.proofs.lemmas.Grind.{common_steps}
-use Rattle.std.specs.Prelude.{codes}
-use Rattle.std.specs.List.{list_all, prefix_len}
-use Rattle.std.specs.Char.{len_utf8}
-use Rattle.std.specs.declared.ops.Range.{Range}
-use Rattle.std.proofs.lemmas.Bool.{cases_Bool, and_parts}
-use Rattle.std.proofs.lemmas.List.{length-map}
-use Rattle.std.proofs.lemmas.List.Sums.{sum_by-append}
+use Rattle.bidi_base.proofs.Common.{◌≡◌, ℕ, suc, ◌+◌, ◌<◌, ◌≤◌, Bool, true, false, not, ◌&&◌, List, [], ◌∷◌, ◌++◌, Option, Some, None, length, get_or, map, flat_map, refl, sym, ap, ◌∙◌, arith, append_assoc, append-nil, length-append, zero-add, inl, inr, common_steps, codes, list_all, prefix_len, len_utf8, Range, cases_Bool, and_parts, length-map, sum_by-append, AnalysedText, IsAnalysis, is_paragraph_separator, visual_runs, run_of, paragraph_level, stored_classes, lines_of, line_levels, line_levels_after, visual_order, paragraphs_of, each_separator, ranges_from, Source, stored_levels, text_classes, text_levels, paragraph_levels, text_len, char_index, subrange, per_unit, per_char, one_unit}
 use Rattle.bidi_base.specs.declared.char_data.BidiClass.{BidiClass}
 use Rattle.bidi_base.specs.declared.char_data.BidiClass.TheVariants.{L}
-use Rattle.bidi_base.specs.Analysed.{AnalysedText, IsAnalysis}
-use Rattle.bidi_base.specs.Classes.{is_paragraph_separator}
-use Rattle.bidi_base.specs.Display.{visual_runs, run_of}
-use Rattle.bidi_base.specs.Isolates.{paragraph_level, stored_classes}
-use Rattle.bidi_base.specs.Layout.{lines_of}
-use Rattle.bidi_base.specs.Line.{line_levels, line_levels_after}
-use Rattle.bidi_base.specs.Order.{visual_order}
-use Rattle.bidi_base.specs.Paragraphs.{paragraphs_of, each_separator, ranges_from}
-use Rattle.bidi_base.specs.Source.{Source}
-use Rattle.bidi_base.specs.Stored.{stored_levels, text_classes, text_levels, paragraph_levels}
-use Rattle.bidi_base.specs.Text.{text_len, char_index, subrange, per_unit, per_char, one_unit}
 use Rattle.bidi_base.proofs.LayoutLemmas.{lines_of-joined}
 use Rattle.bidi_base.proofs.LevelLaws.{length-stored_levels}
 use Rattle.bidi_base.proofs.ParagraphsLemmas.{joined}

@@ -1,18 +1,14 @@
 -- The isolating run sequences of a paragraph can be resolved.
-use Rattle.std.proofs.Common.{◌≡◌, ℕ, ◌<◌, ◌≤◌, List, length, get_or, Option, sym, ◌∙◌, arith}
+use Rattle.bidi_base.proofs.Common.{◌≡◌, ℕ, ◌<◌, ◌≤◌, List, length, get_or, Option, sym, ◌∙◌, arith, is_kept, explicit_levels, explicit_classes, stored_classes, RunSequence, sequences, sequence_from, start_class, end_class}
 use Rattle.bidi_base.specs.declared.char_data.BidiClass.{BidiClass}
 use Rattle.bidi_base.specs.declared.char_data.BidiClass.TheVariants.{L}
 use Rattle.bidi_base.specs.declared.data_source.BidiMatchedOpeningBracket.{BidiMatchedOpeningBracket}
-use Rattle.bidi_base.specs.Classes.{is_kept}
-use Rattle.bidi_base.specs.Explicit.{explicit_levels, explicit_classes}
-use Rattle.bidi_base.specs.Isolates.{stored_classes}
-use Rattle.bidi_base.specs.Sequences.{RunSequence, sequences, sequence_from, start_class, end_class}
 use Rattle.bidi_base.proofs.ExplicitLemmas.{length-explicit_levels, length-explicit_classes}
 use Rattle.bidi_base.proofs.NeutralLemmas.{direction_of-l_or_r}
+use Rattle.bidi_base.proofs.StoredSteps.{length-stored_classes}
 use Rattle.bidi_base.proofs.ResolvedLemmas.{sequence-level}
 use Rattle.bidi_base.proofs.SequencePlaces.{sequence-kept, sequence-begun, sequence-not_empty}
-use Rattle.bidi_base.proofs.StoredLemmas.{is_kept_at-stored_classes, explicit_classes-kept, list_all-at_places, times_in-at}
-use Rattle.bidi_base.proofs.StoredSteps.{length-stored_classes}
+use Rattle.bidi_base.proofs.StoredLemmas.{is_kept_at-stored_classes, times_in-at, explicit_classes-kept, list_all-at_places}
 use Rattle.bidi.specs.Stages.{CanResolve}
 
 pub can_resolve : (paragraph : ℕ) (source : List BidiClass) (brackets : List (Option BidiMatchedOpeningBracket)) (k : ℕ) (d : RunSequence) → paragraph ≤ 125 → length brackets ≡ length source

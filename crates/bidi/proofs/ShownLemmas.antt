@@ -1,17 +1,9 @@
 -- A line that is analysed as one paragraph, as a list of characters.
-use Rattle.std.proofs.Common.{◌≡◌, ℕ, ◌++◌, false, List, [], ◌∷◌, length, map, flat_map, Option, refl, ap, subst, ◌∙◌, arith, append-nil}
-use Rattle.std.specs.Prelude.{All}
-use Rattle.std.proofs.lemmas.List.{length-map, get_or-map}
+use Rattle.bidi_base.proofs.Common.{◌≡◌, ℕ, ◌++◌, false, List, [], ◌∷◌, length, map, flat_map, Option, refl, ap, subst, ◌∙◌, arith, append-nil, All, length-map, get_or-map, IsAnalysis, paragraph_level, stored_classes, first_or, Source, stored_levels, text_classes, text_levels, paragraph_levels, one_unit}
 use Rattle.bidi_base.specs.declared.char_data.BidiClass.{BidiClass}
-use Rattle.bidi_base.specs.Analysed.{IsAnalysis}
-use Rattle.bidi_base.specs.Isolates.{paragraph_level, stored_classes}
-use Rattle.bidi_base.specs.Places.{first_or}
-use Rattle.bidi_base.specs.Source.{Source}
-use Rattle.bidi_base.specs.Stored.{stored_levels, text_classes, text_levels, paragraph_levels}
-use Rattle.bidi_base.specs.Text.{one_unit}
 use Rattle.bidi_base.proofs.LevelLaws.{length-stored_levels}
-use Rattle.bidi_base.proofs.PerUnit.{per_unit-one_unit}
 use Rattle.bidi_base.proofs.StoredSteps.{length-stored_classes}
+use Rattle.bidi_base.proofs.PerUnit.{per_unit-one_unit}
 
 -- what holds of a list under a function, and what it is made into
 pub All-from_map : {X Y : Type 0} (P : Y → Type 0) (f : X → Y) (xs : List X) → All P (map f xs) → All (λ x. P (f x)) xs

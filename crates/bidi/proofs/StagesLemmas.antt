@@ -1,21 +1,10 @@
 -- The rows that sequences write.
-use Rattle.std.proofs.Common.{◌≡◌, ℕ, ◌+◌, ◌<◌, true, List, [], ◌∷◌, ◌++◌, Option, Some, length, get_or, map, zip, take, flat_map, refl, ◌∙◌, arith}
-use Rattle.std.proofs.lemmas.Grind.{common_steps}
-use Rattle.std.specs.Prelude.{slice_set, All}
-use Rattle.std.specs.List.{list_all}
-use Rattle.std.proofs.lemmas.List.{length-set, length-map}
-use Rattle.std.proofs.lemmas.List.Sorted.{All-permutation}
+use Rattle.bidi_base.proofs.Common.{◌≡◌, ℕ, ◌+◌, ◌<◌, true, List, [], ◌∷◌, ◌++◌, Option, Some, length, get_or, map, zip, take, flat_map, refl, ◌∙◌, arith, common_steps, slice_set, All, list_all, length-set, length-map, All-permutation, is_kept, is_l_or_r, is_weak_resolved, indexes, at_places, RunSequence, stored_classes, visual_order, Source}
 use Rattle.bidi_base.specs.declared.char_data.BidiClass.{BidiClass}
 use Rattle.bidi_base.specs.declared.char_data.BidiClass.TheVariants.{L}
-use Rattle.bidi_base.specs.Classes.{is_kept, is_l_or_r, is_weak_resolved}
-use Rattle.bidi_base.specs.Places.{indexes, at_places}
-use Rattle.bidi_base.specs.Sequences.{RunSequence}
 use Rattle.bidi_base.proofs.ResolvedLemmas.{length-weak_classes}
 use Rattle.bidi_base.proofs.StoredLemmas.{length-at_places}
 use Rattle.bidi_base.proofs.WeakLemmas.{weak_classes-resolved}
-use Rattle.bidi_base.specs.Isolates.{stored_classes}
-use Rattle.bidi_base.specs.Order.{visual_order}
-use Rattle.bidi_base.specs.Source.{Source}
 use Rattle.bidi_base.proofs.StoredSteps.{length-stored_classes}
 use Rattle.bidi_base.proofs.VisualOrderLemmas.{all_below}
 use Rattle.bidi_lines.proofs.LineInText.{length-line}

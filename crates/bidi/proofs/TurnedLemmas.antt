@@ -1,7 +1,5 @@
 -- A run of an odd level, read from its last character back.
-use Rattle.std.proofs.Common.{◌≡◌, ℕ, suc, ◌-◌, ◌<◌, ◌≤◌, Bool, true, false, List, ◌∷◌, ◌++◌, length, get_or, take, reverse, arith, drop-cons}
-use Rattle.std.proofs.lemmas.Grind.{common_steps}
-use Rattle.std.specs.Prelude.{slice_range}
+use Rattle.bidi_base.proofs.Common.{◌≡◌, ℕ, suc, ◌-◌, ◌<◌, ◌≤◌, Bool, true, false, List, ◌∷◌, ◌++◌, length, get_or, take, reverse, arith, drop-cons, common_steps, slice_range}
 use Rattle.bidi.specs.Shown.{with_marks}
 
 module _ (is_mark : ℕ → Bool) (chars : List ℕ) (start end x : ℕ) (some : 0 < start) (ordered : start ≤ end) (within : end ≤ length chars) (here : x ≡ get_or chars (start - 1) x) where

@@ -1,14 +1,8 @@
 -- The walk along a line: what is open, and which of the characters read so far are controls without a match.
-use Rattle.std.proofs.Common.{◌≡◌, ℕ, zero, suc, ◌+◌, ◌<◌, ◌≤◌, Bool, true, false, ◌||◌, ◌&&◌, cond, leb, List, [], ◌∷◌, ◌++◌, length, get_or, map, find, Option, Some, None, refl, sym, ap, subst, ◌∙◌, arith, ◌-◌, inl, inr, eq-eqb, length-append, add-one}
+use Rattle.bidi_base.proofs.Common.{◌≡◌, ℕ, zero, suc, ◌+◌, ◌<◌, ◌≤◌, Bool, true, false, ◌||◌, ◌&&◌, cond, leb, List, [], ◌∷◌, ◌++◌, length, get_or, map, find, Option, Some, None, refl, sym, ap, subst, ◌∙◌, arith, ◌-◌, inl, inr, eq-eqb, length-append, add-one, list_any, range_with_len, cases_Bool, cases_eq, or_right, and_from, cases_lt, false_from_ne_true, length-set, get_or_append_left, get_or_push, fill_by_all, is_opener, class_at, between, holds_number, is_initiator_at}
 use Rattle.std.specs.Prelude.{is_some, is_none}
-use Rattle.std.specs.List.{list_any, range_with_len}
-use Rattle.std.proofs.lemmas.Bool.{cases_Bool, cases_eq, or_right, and_from, cases_lt, false_from_ne_true}
-use Rattle.std.proofs.lemmas.List.{length-set, get_or-set_same, get_or-set_other, get_or_append_left, get_or_push}
-use Rattle.std.proofs.lemmas.List.FromFn.{fill_by_all}
+use Rattle.std.proofs.lemmas.List.{get_or-set_same, get_or-set_other}
 use Rattle.bidi_base.specs.declared.char_data.BidiClass.{BidiClass}
-use Rattle.bidi_base.specs.Classes.{is_opener}
-use Rattle.bidi_base.specs.Places.{class_at, between, holds_number}
-use Rattle.bidi_base.specs.Isolates.{is_initiator_at}
 use Rattle.bidi_base.proofs.OpenersStack.{openers_read, closed_by, opened_by, left_at, below_isolate}
 use Rattle.bidi.specs.declared.openers.Opener.{Opener}
 use Rattle.bidi.specs.OpenOpeners.{innermost_isolate, outside_isolate, closed_place, left_open, then_open, with_closed}

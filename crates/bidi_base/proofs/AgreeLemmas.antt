@@ -1,13 +1,6 @@
 -- Sequences and level runs read levels at kept characters alone.
-use Rattle.std.proofs.Common.{◌≡◌, ℕ, zero, suc, ◌<◌, true, List, [], ◌∷◌, length, map, Some, refl, ap, ◌∙◌, arith, inl, inr}
-use Rattle.std.specs.Prelude.{filter}
-use Rattle.std.proofs.lemmas.List.Elements.{filter_agree}
-use Rattle.bidi_base.specs.declared.char_data.BidiClass.{BidiClass}
-use Rattle.bidi_base.specs.Places.{class_at, chain, last_or}
-use Rattle.bidi_base.specs.Isolates.{matching_pdi}
-use Rattle.bidi_base.specs.Sequences.{is_kept_at, kept_places, next_kept, kept_before, level_at, resumed_at, successor, is_first, start_class, end_class, sequence_from, sequences, HasExplicitLevels}
-use Rattle.bidi_base.specs.Explicit.{explicit_levels}
-use Rattle.std.proofs.lemmas.List.FromFn.{get_or-map-range_with_len}
+use Rattle.bidi_base.proofs.Common.{◌≡◌, ℕ, zero, suc, ◌<◌, true, List, [], ◌∷◌, length, map, Some, refl, arith, inl, inr, filter_agree, BidiClass, class_at, chain, last_or, matching_pdi, is_kept_at, kept_places, next_kept, kept_before, level_at, resumed_at, successor, is_first, start_class, end_class, sequence_from, sequences, explicit_levels, get_or-map-range_with_len}
+use Rattle.bidi_base.specs.Sequences.{HasExplicitLevels}
 use Rattle.bidi_base.proofs.ChainLemmas.{chain-None, IsMaximal-chain}
 use Rattle.bidi_base.proofs.SuccessorLemmas.{next_kept-IsLeast, kept_before-IsGreatest, successor-IsLaterKept, is_kept-pdi}
 use Rattle.bidi_base.proofs.IsolatesLemmas.{matching_pdi-IsLeast, matching_pdi-is_pdi}
@@ -62,8 +55,7 @@ module _ (classes : List BidiClass) (levels other : List ℕ) (agree : (p : ℕ)
   pub sequences-agree : (paragraph : ℕ) → sequences paragraph classes levels ≡ sequences paragraph classes other
   unfolding sequences kept_places
   sequences-agree paragraph =
-      ap (λ (ps : List ℕ). map (sequence_from paragraph classes levels) ps) (filter_agree (is_first classes levels) (is_first classes other) is_first-agree (kept_places classes))
-      ∙ all_agree (filter (is_first classes other) (kept_places classes)) (AllFirst-filter classes other 0 (length classes) (omega arith))
+      grind (arith, filter_agree, is_first-agree, AllFirst-filter, sequence_from-agree, all_agree)
     where
       all_agree : (ps : List ℕ) → AllFirst classes other ps → map (sequence_from paragraph classes levels) ps ≡ map (sequence_from paragraph classes other) ps
       all_agree [] h = refl

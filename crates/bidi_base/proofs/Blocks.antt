@@ -1,15 +1,9 @@
 -- A block of classes that pass a test: what is seen over it, and how a pass that rewrites block by block goes on.
-use Rattle.std.proofs.Common.{◌≡◌, ℕ, zero, suc, ◌+◌, ◌-◌, ◌<◌, ◌≤◌, Bool, true, false, List, [], ◌∷◌, ◌++◌, length, get_or, take, drop, replicate, reverse, sym, ap, ◌∙◌, arith, inl, inr, length-take, length-drop, length-append, drop-drop, get_or-take, get_or-drop}
-use Rattle.std.proofs.lemmas.Grind.{common_steps}
-use Rattle.std.proofs.lemmas.Bool.{cases_lt}
-use Rattle.std.proofs.lemmas.List.{length-replicate, get_or-replicate, drop_more, drop_all, take_rest, ext_get_or, length-take-le, get_or-append_right}
-use Rattle.std.proofs.lemmas.List.Sums.{prefix_len_passes, prefix_len_stops, prefix_len-le-length}
+use Rattle.bidi_base.proofs.Common.{◌≡◌, ℕ, zero, suc, ◌+◌, ◌-◌, ◌<◌, ◌≤◌, Bool, true, false, List, [], ◌∷◌, length, get_or, take, drop, replicate, reverse, sym, ap, ◌∙◌, arith, inl, inr, length-take, length-drop, length-append, get_or-take, get_or-drop, common_steps, cases_lt, length-replicate, get_or-replicate, drop_more, drop_all, take_rest, ext_get_or, length-take-le, get_or-append_right, prefix_len-le-length, prefix_len, BidiClass, L, in_context}
+use Rattle.std.proofs.Common.{drop-drop}
+use Rattle.std.proofs.lemmas.List.Sums.{prefix_len_passes, prefix_len_stops}
 use Rattle.std.proofs.lemmas.Slice.{take-put_mid, take-put_mid_below, drop-put_mid}
-use Rattle.std.specs.List.{prefix_len}
 use borrow.Rule.Slice.PartMut.{put_mid}
-use Rattle.bidi_base.specs.declared.char_data.BidiClass.{BidiClass}
-use Rattle.bidi_base.specs.declared.char_data.BidiClass.TheVariants.{L}
-use Rattle.bidi_base.specs.Places.{in_context}
 use Rattle.bidi_base.proofs.PlacesLemmas.{reverse-take_more, length-in_context, get_or-in_context}
 use Rattle.bidi_base.proofs.InPlace.{IsRewritten, IsRewritten-end}
 
@@ -58,11 +52,8 @@ module _ (rule : List BidiClass → BidiClass → List BidiClass → BidiClass) 
   -- the n classes from i on now are the rule's answers
   pub IsRewritten-block : (old now now1 : List BidiClass) (i n : ℕ) → IsRewritten rule old now i → i + n ≤ length old → take i now1 ≡ take i now → drop (i + n) now1 ≡ drop (i + n) old
       → length now1 ≡ length old → ((k : ℕ) → k < n → get_or now1 (i + k) L ≡ answer old (i + k)) → IsRewritten rule old now1 (i + n)
-  IsRewritten-block old now now1 i n h room front rest long inside = record {
-    front = ext_get_or L (take (i + n) now1) (take (i + n) (in_context rule [] old)) (omega (arith, length-take-le (i + n) now1 (omega arith), length-take-le (i + n) (in_context rule [] old) (omega (arith, length-in_context rule [] old)))) each;
-    rest = rest;
-    long = long;
-  }
+  IsRewritten-block old now now1 i n h room front rest long inside =
+      record { front = ext_get_or L _ _ (grind (arith, length-take-le, length-in_context)) each; rest = rest; long = long }
     where
       at : (k : ℕ) → k < i + n → get_or now1 k L ≡ get_or (in_context rule [] old) k L
       at k below = elim (cases_lt k i) [
@@ -79,23 +70,13 @@ module _ (rule : List BidiClass → BidiClass → List BidiClass → BidiClass) 
   pub IsRewritten-filled : (old now : List BidiClass) (i n m : ℕ) (y : BidiClass) → IsRewritten rule old now i → i + n ≤ length old → m ≡ n
       → ((k : ℕ) → k < n → answer old (i + k) ≡ y) → IsRewritten rule old (put_mid i m now (replicate n y)) (i + n)
   IsRewritten-filled old now i n m y h room same answers =
-      let ys = replicate n y in
-      let filled : length ys ≡ n = length-replicate n y in
+      let filled : length (replicate n y) ≡ n = length-replicate n y in
       let long : length now ≡ length old = h.long in
-      let now1 = put_mid i m now ys in
-      let front : take (i + n) now1 ≡ take i now ++ ys = take-put_mid i m now ys (i + n) (omega arith) (omega arith) in
-      let rest : drop (i + n) now1 ≡ drop (i + n) now = drop-put_mid i m now ys (i + n) (omega arith) (omega arith) (omega arith) in
-      let size : length (take i now) ≡ i = length-take-le i now (omega arith) in
-      let long1 : length now1 ≡ length old =
-      omega (arith, ap length front, ap length rest, length-append (take i now) ys, length-take (i + n) now1, length-drop (i + n) now1, length-drop (i + n) now)
-      in
-      IsRewritten-block old now now1 i n h room
-      (take-put_mid_below i m now ys i (omega arith) (omega arith))
-      (rest ∙ drop_later now old i n h.rest)
-      long1
-      (λ k below.
-      let place : i + k - i ≡ k = omega arith in
-      cc (get_or-take (i + n) now1 (i + k) L (omega arith), front, get_or-append_right (take i now) ys i (i + k) L size (omega arith), place, get_or-replicate n k y L below, answers k below))
+      let front = take-put_mid i m now (replicate n y) (i + n) (omega arith) (omega arith) in
+      IsRewritten-block old now (put_mid i m now (replicate n y)) i n h room (take-put_mid_below i m now (replicate n y) i (omega arith) (omega arith))
+      (drop-put_mid i m now (replicate n y) (i + n) (omega arith) (omega arith) (omega arith) ∙ drop_later now old i n h.rest)
+      (grind (arith, length-append, length-take-le, length-drop))
+      (λ k below. grind (arith, get_or-take (i + n) (put_mid i m now (replicate n y)) (i + k) L, front, get_or-append_right, length-take-le, get_or-replicate, answers k below))
 
   -- a block that stays
   pub IsRewritten-unchanged : (old now : List BidiClass) (i n : ℕ) → IsRewritten rule old now i → i + n ≤ length old → ((k : ℕ) → k < n → answer old (i + k) ≡ get_or old (i + k) L)

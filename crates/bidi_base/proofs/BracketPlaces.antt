@@ -1,19 +1,7 @@
 -- Brackets pair alike where their indexes are other numbers that rise with them, as places do.
-use Rattle.std.proofs.Common.{◌≡◌, ℕ, zero, suc, ◌+◌, ◌-◌, ◌<◌, ◌≤◌, Bool, ltb, eqb, List, [], ◌∷◌, ◌++◌, map, length, get_or, slice_get, take, set, filter, Option, Some, None, refl, sym, ap, ◌∙◌, arith, inl, inr}
+use Rattle.bidi_base.proofs.Common.{◌≡◌, ℕ, zero, suc, ◌+◌, ◌-◌, ◌<◌, ◌≤◌, Bool, ltb, eqb, List, [], ◌∷◌, ◌++◌, map, length, get_or, slice_get, take, set, Option, Some, None, refl, sym, ap, ◌∙◌, arith, inl, inr, cases_Bool, cases_lt, length-map, map-set, map_push, get_or-map, get_or_default, All-nil, slice_get-get_or, Bracket, Waiting, BidiClass, ON, BidiMatchedOpeningBracket, max_open_brackets, counted_brackets, bracket_pairs, pairs_of, brackets_from, found_brackets, ArePairsOf, find_last, AreWithin, IsAt}
+use Rattle.std.proofs.Common.{filter}
 use Rattle.std.specs.Prelude.{replicate}
-use Rattle.std.proofs.lemmas.Bool.{cases_Bool, cases_lt}
-use Rattle.std.proofs.lemmas.List.{length-map, map-set, map_push, get_or-map, get_or_default}
-use Rattle.std.proofs.lemmas.List.Elements.{All-nil}
-use Rattle.std.proofs.lemmas.Option.{slice_get-get_or}
-use Rattle.bidi_base.specs.declared.brackets.Bracket.{Bracket}
-use Rattle.bidi_base.specs.declared.brackets.Waiting.{Waiting}
-use Rattle.bidi_base.specs.declared.char_data.BidiClass.{BidiClass}
-use Rattle.bidi_base.specs.declared.char_data.BidiClass.TheVariants.{ON}
-use Rattle.bidi_base.specs.declared.data_source.BidiMatchedOpeningBracket.{BidiMatchedOpeningBracket}
-use Rattle.bidi_base.specs.Brackets.{max_open_brackets, counted_brackets, bracket_pairs, pairs_of}
-use Rattle.bidi_base.specs.FoundBrackets.{brackets_from, found_brackets, ArePairsOf}
-use Rattle.bidi_base.specs.Places.{find_last}
-use Rattle.bidi_base.specs.PairSearch.{AreWithin, IsAt}
 use Rattle.bidi_base.proofs.BracketSearch.{AreWithin-opening, AreWithin-pair, IsAt-start, IsAt-opening, IsAt-unmatched, IsAt-pair, IsAt-full, IsAt-end}
 use Rattle.bidi_base.proofs.Lists.{cases_Option}
 use Rattle.bidi_base.proofs.PlacesLemmas.{find_last-index}
@@ -34,10 +22,7 @@ past_none (suc n) low rest = let same : low + 1 + n ≡ low + suc n = omega arit
 
 spread-is : (low : ℕ) (bs : List Bracket) → AreRising low bs → brackets_from low (spread low bs) ≡ bs
 spread-is low [] h = refl
-spread-is low (b ∷ bs) h =
-    let upto = h.0 in
-    let there : low + (b.index - low) ≡ b.index = omega arith in
-    simp (past_none (b.index - low) low, there, spread-is (b.index + 1) bs h.1)
+spread-is low (b ∷ bs) h = grind (arith, spread-is (b.index + 1) bs h.1, past_none)
 
 counted_all : (xs : List (Option BidiMatchedOpeningBracket)) → counted_brackets (map (λ _. ON) xs) xs ≡ xs
 counted_all [] = refl

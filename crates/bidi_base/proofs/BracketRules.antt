@@ -1,18 +1,8 @@
 -- N0 pair by pair: what a pair takes, and which characters take it.
-use Rattle.std.proofs.Common.{◌≡◌, ℕ, zero, suc, ◌+◌, ◌-◌, ◌<◌, ◌≤◌, Bool, true, false, ◌&&◌, ◌||◌, cond, eqb, ltb, leb, List, [], ◌∷◌, map, length, get_or, take, drop, reverse, slice_range, replicate, find, filter_map, Some, None, option_map, is_some, refl, sym, ap, ◌∙◌, arith, length-take, length-drop}
-use Rattle.std.proofs.lemmas.Grind.{common_steps}
-use Rattle.std.specs.List.{list_all, list_any, prefix_len}
-use Rattle.std.specs.Option.{option_map_or}
-use Rattle.std.proofs.lemmas.Bool.{le-leb}
-use Rattle.std.proofs.lemmas.List.{take_rest}
-use Rattle.std.proofs.lemmas.List.FromFn.{fill_by_all, length-map-range_with_len, get_or-map-range_with_len}
-use Rattle.std.proofs.lemmas.List.Sums.{prefix_len-le-length, fold_more}
+use Rattle.bidi_base.proofs.Common.{◌≡◌, ℕ, zero, suc, ◌+◌, ◌-◌, ◌<◌, ◌≤◌, Bool, true, false, ◌&&◌, ◌||◌, cond, eqb, ltb, leb, List, [], ◌∷◌, map, length, get_or, take, drop, reverse, replicate, find, filter_map, Some, None, option_map, is_some, refl, sym, ap, ◌∙◌, arith, length-take, length-drop, common_steps, list_all, list_any, prefix_len, option_map_or, le-leb, take_rest, fill_by_all, length-map-range_with_len, get_or-map-range_with_len, prefix_len-le-length, BidiClass, L, as_direction, is_nsm, same_class, class_at, indexes, nearest_direction, pair_direction, is_mark_after, goes_with_pair, with_pair, n0_pair, n0}
+use Rattle.std.proofs.Common.{slice_range}
+use Rattle.std.proofs.lemmas.List.Sums.{fold_more}
 use borrow.Rule.Slice.PartMut.{put_mid}
-use Rattle.bidi_base.specs.declared.char_data.BidiClass.{BidiClass}
-use Rattle.bidi_base.specs.declared.char_data.BidiClass.TheVariants.{L}
-use Rattle.bidi_base.specs.Classes.{as_direction, is_nsm, same_class}
-use Rattle.bidi_base.specs.Places.{class_at, indexes}
-use Rattle.bidi_base.specs.Neutral.{nearest_direction, pair_direction, is_mark_after, goes_with_pair, with_pair, n0_pair, n0}
 use Rattle.bidi_base.proofs.Lists.{put_mid-after, length-put_mid}
 
 -- a test of the directions, as one of the classes
@@ -30,8 +20,7 @@ pub pair_direction-tests : (e sos : BidiClass) (classes : List BidiClass) (pair 
     → some ≡ list_any (λ c. is_some (as_direction c)) (slice_range classes (pair.0 + 1) pair.1)
     → pair_direction e sos classes pair ≡ cond same (Some e) (cond some (Some (nearest_direction sos (reverse (take pair.0 classes)))) None)
 unfolding pair_direction
-pair_direction-tests e sos classes pair same some k l =
-    simp (any_direction, some_direction, k, l)
+pair_direction-tests e sos classes pair same some k l = simp (any_direction, some_direction, k, l)
 
 -- of the first n elements all pass if at least n do from the front on
 list_all-front : (p : BidiClass → Bool) (xs : List BidiClass) (n : ℕ) → n ≤ length xs → list_all p (take n xs) ≡ leb n (prefix_len p xs)
@@ -55,13 +44,10 @@ pub with_bracket-filled : (source classes ys : List BidiClass) (b m : ℕ) (d : 
     → put_mid b (b + 1 + m - b) classes ys ≡ with_bracket source b classes d
 with_bracket-filled source classes ys b m d long inside counted filled =
     let marks : m ≡ prefix_len is_nsm (drop (b + 1) source) = counted ∙ ap (prefix_len is_nsm) (take_rest source (b + 1)) in
-    let few : m ≤ length (drop (b + 1) source) = grind (arith, prefix_len-le-length) in
-    let room : b + (1 + m) ≤ length classes = omega (arith, length-drop (b + 1) source) in
+    let room : b + (1 + m) ≤ length classes = grind (arith, prefix_len-le-length, length-drop) in
     let same : b + 1 + m - b ≡ 1 + m = omega arith in
     let part : length (take (b + 1 + m - b) (drop b classes)) ≡ 1 + m = omega (arith, length-take (b + 1 + m - b) (drop b classes), length-drop b classes) in
-    rw (filled, part, same)
-    (fill_by_all (λ k. cond (eqb k b || is_mark_after source b k) d (class_at classes k)) (put_mid b (1 + m) classes (replicate (1 + m) d)) (length classes) L
-    (length-put_mid b (1 + m) classes d room)
+    rw (filled, part, same) (fill_by_all (λ k. cond (eqb k b || is_mark_after source b k) d (class_at classes k)) _ (length classes) L (length-put_mid b (1 + m) classes d room)
     (λ k fits. simp (is_mark_after-prefix_len source b k (omega arith) (omega arith), ← marks) (grind (arith, common_steps, put_mid-after))))
 
 pub length-with_bracket : (source classes : List BidiClass) (b : ℕ) (d : BidiClass) → length (with_bracket source b classes d) ≡ length classes
@@ -71,16 +57,11 @@ length-with_bracket source classes b d = grind (arith, length-map-range_with_len
 pub with_bracket-both : (source classes : List BidiClass) (pair : ℕ × ℕ) (d : BidiClass) → with_bracket source pair.1 (with_bracket source pair.0 classes d) d ≡ with_pair source pair classes d
 unfolding with_pair goes_with_pair
 with_bracket-both source classes pair d =
-    let first = with_bracket source pair.0 classes d in
-    let long = length-with_bracket source classes pair.0 d in
-    fill_by_all (λ k. cond (goes_with_pair source pair k) d (class_at classes k)) (with_bracket source pair.1 first d) (length classes) L
-    (length-with_bracket source first pair.1 d ∙ long)
-    (λ k fits.
-    simp (
-      get_or-map-range_with_len (λ j. cond (eqb j pair.1 || is_mark_after source pair.1 j) d (class_at first j)) 0 (length first) k k L (omega arith) (omega arith),
-      get_or-map-range_with_len (λ j. cond (eqb j pair.0 || is_mark_after source pair.0 j) d (class_at classes j)) 0 (length classes) k k L fits (omega arith),
-    )
-    (grind arith))
+    fill_by_all (λ k. cond (goes_with_pair source pair k) d (class_at classes k)) _ (length classes) L (grind (
+      arith,
+      length-with_bracket,
+    ))
+    (λ k fits. grind (arith, get_or-map-range_with_len, length-with_bracket))
 
 -- N0 for one pair, by what it takes
 pub n0_pair-Some : (e sos : BidiClass) (source classes : List BidiClass) (pair : ℕ × ℕ) (d : BidiClass) → pair_direction e sos classes pair ≡ Some d

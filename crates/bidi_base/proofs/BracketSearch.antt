@@ -1,25 +1,14 @@
 -- The search for bracket pairs over the brackets of a sequence alone: a stack of openings, each with the place of its pair in the list of pairs.
-use Rattle.std.proofs.Common.{◌≡◌, ℕ, zero, suc, ◌+◌, ◌-◌, ◌<◌, ◌≤◌, Bool, true, false, not, cond, eqb, ltb, List, [], ◌∷◌, ◌++◌, map, length, get_or, take, drop, set, filter, filter_map, find, Option, Some, None, option_map, refl, sym, ap, subst, ◌∙◌, ◌⊎◌, arith, inl, inr, add-one, append-nil, append_assoc, eqb-true, lt-ltb}
-use Rattle.std.proofs.lemmas.Grind.{common_steps}
-use Rattle.std.specs.List.{range_with_len, slice_get}
-use Rattle.std.proofs.lemmas.Bool.{cases_Bool, both_ways}
-use Rattle.std.proofs.lemmas.List.{length-map, map_push, take-map, get_or-map, drop_more, drop_all}
-use Rattle.std.proofs.lemmas.List.Elements.{All-nil, filter-append, filter_map-append}
-use Rattle.std.proofs.lemmas.List.Folds.{find-append}
-use Rattle.std.proofs.lemmas.Option.{slice_get-get_or}
-use Rattle.bidi_base.specs.declared.data_source.BidiMatchedOpeningBracket.{BidiMatchedOpeningBracket}
-use Rattle.bidi_base.specs.Places.{find_last}
-use Rattle.bidi_base.specs.Brackets.{max_open_brackets, bracket_at, is_opening, is_closing, is_same_bracket, pairs_of}
+use Rattle.bidi_base.proofs.Common.{◌≡◌, ℕ, zero, suc, ◌+◌, ◌-◌, ◌<◌, ◌≤◌, Bool, true, false, not, cond, eqb, ltb, List, [], ◌∷◌, ◌++◌, map, length, get_or, take, drop, set, filter_map, find, Option, Some, None, option_map, refl, ap, ◌∙◌, ◌⊎◌, arith, inl, inr, add-one, append-nil, append_assoc, common_steps, range_with_len, cases_Bool, length-map, map_push, take-map, get_or-map, drop_more, drop_all, All-nil, filter-append, filter_map-append, find-append, slice_get-get_or, BidiMatchedOpeningBracket, find_last, max_open_brackets, bracket_at, is_opening, is_closing, is_same_bracket, pairs_of, Bracket, Waiting, brackets_from, closed_before, AreWithin, IsAt, HasRead}
+use Rattle.std.proofs.Common.{filter}
+use Rattle.std.specs.List.{slice_get}
 use Rattle.bidi_base.proofs.ChainLemmas.{range_with_len-append}
 use Rattle.bidi_base.proofs.PlacesLemmas.{find_last-index, range_with_len-more}
 use Rattle.bidi_base.proofs.NestedPairs.{closed_before-pairs}
 use Rattle.bidi_base.proofs.OpeningSearch.{find_last-entries}
-use Rattle.bidi_base.proofs.PairsLemmas.{IsUnderWay-start, IsUnderWay-other, IsUnderWay-opening, IsUnderWay-unmatched, IsUnderWay-pair, IsUnderWay-entry, HasEnded, pairs_of-found}
-use Rattle.bidi_base.specs.declared.brackets.Bracket.{Bracket}
+use Rattle.bidi_base.proofs.PairsLemmas.{IsUnderWay-start, IsUnderWay-other, IsUnderWay-opening, IsUnderWay-unmatched, IsUnderWay-pair, IsUnderWay-entry, pairs_of-found}
 use Rattle.bidi_base.specs.declared.brackets.PairSearch.{PairSearch}
-use Rattle.bidi_base.specs.declared.brackets.Waiting.{Waiting}
-use Rattle.bidi_base.specs.FoundBrackets.{brackets_from}
-use Rattle.bidi_base.specs.PairSearch.{closed_before, opens, openings, pair_at, entry_of, closed_slots, AreWithin, IsPairing, IsAt, HasRead}
+use Rattle.bidi_base.specs.PairSearch.{opens, openings, pair_at, entry_of, closed_slots, IsPairing}
 use Rattle.bidi_base.proofs.Lists.{find-passes, find-index, filter_map-same, cases_Option}
 
 -- the numbers from `low` on below i that pass a test
@@ -57,29 +46,24 @@ AreWithin-pair slots i k p waiting h = grind (arith, common_steps)
 module _ (counted : List (Option BidiMatchedOpeningBracket)) where
   openings_more : (j : ℕ) → openings counted (j + 1) ≡ openings counted j ++ cond (opens counted j) (j ∷ []) []
   openings_more j =
-      let place : 0 + j ≡ j = omega arith in
-      let more : range_with_len 0 (j + 1) ≡ range_with_len 0 j ++ (0 + j) ∷ [] = ap (range_with_len 0) (add-one j) ∙ range_with_len-more 0 j in
-      simp (more, filter-append, place)
+      let more : range_with_len 0 (j + 1) ≡ range_with_len 0 j ++ (0 + j) ∷ [] =
+      ap (range_with_len 0) (add-one j) ∙ range_with_len-more 0 j in
+      grind (arith, more, filter-append)
 
   openings_same : (j : ℕ) → opens counted j ≡ false → openings counted (j + 1) ≡ openings counted j
   openings_same j other = grind (arith, openings_more, append-nil)
-
-  openings_new : (j : ℕ) → opens counted j ≡ true → openings counted (j + 1) ≡ openings counted j ++ j ∷ []
-  openings_new j opening = simp (openings_more, opening)
 
   -- no pair that is closed before j begins at j or later
   none_from : (j i : ℕ) → j ≤ i → find (λ (p : ℕ × ℕ). eqb p.0 i) (closed_before counted j) ≡ None
   none_from j i order = elim (cases_Option (find (λ (p : ℕ × ℕ). eqb p.0 i) (closed_before counted j))) [
     | inl e ↦ e
-    | inr p ↦
-        let at = find-index (λ (q : ℕ × ℕ). eqb q.0 i) (closed_before counted j) p.0 (0, 0) p.1 in
-        let pair = closed_before-pairs counted j at.0 (0, 0) at.1 in
-        let here : p.0.0 ≡ i = eqb-true p.0.0 i (find-passes (λ (q : ℕ × ℕ). eqb q.0 i) (closed_before counted j) p.0 p.1) in
-        absurd (omega (arith, pair.order, pair.below, ap (λ (x : ℕ × ℕ). x.0) at.2))
+    | inr p ↦ grind (
+      arith,
+      find-index (λ (q : ℕ × ℕ). eqb q.0 i) (closed_before counted j) p.0 (0, 0) p.1,
+      closed_before-pairs,
+      find-passes (λ (q : ℕ × ℕ). eqb q.0 i) (closed_before counted j) p.0 p.1,
+    )
   ]
-
-  pub IsPairing-start : (slots : List (ℕ × ℕ)) (waiting : List Waiting) → slots ≡ [] → waiting ≡ [] → IsPairing counted slots waiting 0
-  IsPairing-start slots waiting empty none = record { places = []; under_way = IsUnderWay-start counted; entries = none; found = empty; inside = omega arith }
 
   -- a place that is passed over
   same_slots : (slots : List (ℕ × ℕ)) (j : ℕ) → slots ≡ map (pair_at (closed_before counted j)) (openings counted j) → opens counted j ≡ false → closed_before counted (j + 1) ≡ closed_before counted j
@@ -88,23 +72,18 @@ module _ (counted : List (Option BidiMatchedOpeningBracket)) where
 
   IsPairing-none : (slots : List (ℕ × ℕ)) (waiting : List Waiting) (j : ℕ) → IsPairing counted slots waiting j → j < length counted → bracket_at counted j ≡ None → IsPairing counted slots waiting (j + 1)
   IsPairing-none slots waiting j h fits is =
-      let next = IsUnderWay-other counted j h.places h.under_way (ap is_opening is) (ap is_closing is) in
-      record { places = h.places; under_way = next.0; entries = h.entries; found = same_slots slots j h.found (ap is_opening is) next.1; inside = omega arith }
+      grind (arith, IsUnderWay-other counted j h.places h.under_way, same_slots slots j)
 
   IsPairing-opening : (slots : List (ℕ × ℕ)) (waiting : List Waiting) (j : ℕ) (b : BidiMatchedOpeningBracket) → IsPairing counted slots waiting j → j < length counted → bracket_at counted j ≡ Some b
       → b.is_open ≡ true → length waiting < max_open_brackets → IsPairing counted (slots ++ (j, j) ∷ []) (waiting ++ record { opening = b.opening; pair = length slots } ∷ []) (j + 1)
   IsPairing-opening slots waiting j b h fits is opening few =
       let here : opens counted j ≡ true = ap is_opening is ∙ opening in
-      let long : length waiting ≡ length h.places = ap length h.entries ∙ length-map h.places (entry_of counted) in
-      let next = IsUnderWay-opening counted j h.places h.under_way here (omega arith) in
-      let count : length slots ≡ length (openings counted j) = ap length h.found ∙ length-map (openings counted j) (pair_at (closed_before counted j)) in
-      let new : entry_of counted j ≡ record { opening = b.opening; pair = length slots } = simp (is, count) in
-      let open_slot : pair_at (closed_before counted j) j ≡ (j, j) = simp (none_from j j (omega arith)) in
+      let next = IsUnderWay-opening counted j h.places h.under_way here (grind (arith, length-map)) in
       record {
         places = h.places ++ j ∷ [];
         under_way = next.0;
-        entries = simp (h.entries, ← new, map_push);
-        found = simp (next.1, openings_new j here, map_push, open_slot, h.found);
+        entries = grind (arith, map_push, length-map);
+        found = simp (next.1, openings_more, here, map_push, none_from j j (omega arith), h.found);
         inside = omega arith;
       }
 
@@ -116,36 +95,29 @@ module _ (counted : List (Option BidiMatchedOpeningBracket)) where
   IsPairing-unmatched : (slots : List (ℕ × ℕ)) (waiting : List Waiting) (j : ℕ) (b : BidiMatchedOpeningBracket) → IsPairing counted slots waiting j → j < length counted → bracket_at counted j ≡ Some b
       → b.is_open ≡ false → find_last (λ (e : Waiting). eqb e.opening b.opening) waiting ≡ None → IsPairing counted slots waiting (j + 1)
   IsPairing-unmatched slots waiting j b h fits is closes none =
-      let nothing : find_last (λ i. is_same_bracket (bracket_at counted i) (bracket_at counted j)) h.places ≡ None = grind (arith, search_is slots waiting j b h is) in
-      let next = IsUnderWay-unmatched counted j h.places h.under_way (ap is_closing is ∙ ap not closes) nothing in
+      let next = IsUnderWay-unmatched counted j h.places h.under_way (ap is_closing is ∙ ap not closes)
+      (grind (arith, search_is slots waiting j b h is)) in
       record { places = h.places; under_way = next.0; entries = h.entries; found = same_slots slots j h.found (ap is_opening is ∙ closes) next.1; inside = omega arith }
 
   -- where an opening before j stands among them
   place_of : (i j : ℕ) → opens counted i ≡ true → i < j → (length (openings counted i) < length (openings counted j)) × (get_or (openings counted j) (length (openings counted i)) 0 ≡ i)
-  place_of i j opening before =
-      let same : i - 0 ≡ i = omega arith in
-      simp same at (get_at (opens counted) i 0 j 0 opening (omega arith) (omega arith))
-
-  -- the closing that a new pair gives
-  closing_new : (pairs : List (ℕ × ℕ)) (i j : ℕ) → find (λ (p : ℕ × ℕ). eqb p.0 i) pairs ≡ None → pair_at (pairs ++ (i, j) ∷ []) i ≡ (i, j)
-  closing_new pairs i j free = grind (arith, find-append)
+  place_of i j opening before = grind (arith, (let same : i - 0 ≡ i = omega arith in same), get_at (opens counted) i 0 j 0)
 
   -- the opening that a search over the entries finds
   found_opening : (slots : List (ℕ × ℕ)) (waiting : List Waiting) (j k : ℕ) (b : BidiMatchedOpeningBracket) (h : IsPairing counted slots waiting j) → bracket_at counted j ≡ Some b → k < length h.places
       → find_last (λ (e : Waiting). eqb e.opening b.opening) waiting ≡ Some (entry_of counted (get_or h.places k 0))
       → find_last (λ i. is_same_bracket (bracket_at counted i) (bracket_at counted j)) h.places ≡ Some (get_or h.places k 0)
   found_opening slots waiting j k b h is fits hit =
-      by_result (find_last (λ i. is_same_bracket (bracket_at counted i) (bracket_at counted j)) h.places) refl (sym (search_is slots waiting j b h is) ∙ hit)
-    where
-      by_result : (o : Option ℕ) → find_last (λ i. is_same_bracket (bracket_at counted i) (bracket_at counted j)) h.places ≡ o → option_map (entry_of counted) o ≡ Some (entry_of counted (get_or h.places k 0)) → o ≡ Some (get_or h.places k 0)
-      by_result None f e = absurd (cc e)
-      by_result (Some x) f e =
-          let i = get_or h.places k 0 in
-          let at = find_last-index (λ i. is_same_bracket (bracket_at counted i) (bracket_at counted j)) h.places x 0 f in
-          let waits = IsUnderWay-entry counted j h.places k h.under_way fits in
-          let waits1 = simp at.2 at (IsUnderWay-entry counted j h.places at.0 h.under_way at.1) in
-          let same : entry_of counted x ≡ entry_of counted i = cc e in
-          ap Some (sym (place_of x j waits1.opening waits1.below).1 ∙ ap (λ (w : Waiting). get_or (openings counted j) w.pair 0) same ∙ (place_of i j waits.opening waits.below).1)
+      elim (cases_Option (find_last (λ i. is_same_bracket (bracket_at counted i) (bracket_at counted j)) h.places)) [
+        | inl f ↦ absurd (cc (search_is slots waiting j b h is, hit, f))
+        | inr (x, f) ↦
+            let at = find_last-index (λ i. is_same_bracket (bracket_at counted i) (bracket_at counted j)) h.places x 0 f in
+            let waits = IsUnderWay-entry counted j h.places k h.under_way fits in
+            let waits1 = simp at.2 at (IsUnderWay-entry counted j h.places at.0 h.under_way at.1) in
+            let same : entry_of counted x ≡ entry_of counted (get_or h.places k 0) =
+            grind (arith, search_is slots waiting j b h is) in
+            grind (arith, place_of x j waits1.opening waits1.below, place_of (get_or h.places k 0) j waits.opening waits.below)
+      ]
 
   IsPairing-pair : (slots : List (ℕ × ℕ)) (waiting : List Waiting) (j k : ℕ) (b : BidiMatchedOpeningBracket) (e : Waiting) (old : ℕ × ℕ) → IsPairing counted slots waiting j → j < length counted → bracket_at counted j ≡ Some b
       → b.is_open ≡ false → k < length waiting → find_last (λ (w : Waiting). eqb w.opening b.opening) waiting ≡ Some e → get_or waiting k e ≡ e
@@ -153,16 +125,16 @@ module _ (counted : List (Option BidiMatchedOpeningBracket)) where
   IsPairing-pair slots waiting j k b e old h fits is closes below hit at before =
       let i = get_or h.places k 0 in
       let closed = closed_before counted j in
-      let long : length waiting ≡ length h.places = ap length h.entries ∙ length-map h.places (entry_of counted) in
-      let inside : k < length h.places = omega arith in
-      let entry : e ≡ entry_of counted i = sym at ∙ simp (h.entries, get_or-map (entry_of counted) h.places k 0 e inside) in
+      let inside : k < length h.places = grind (arith, length-map) in
+      let entry : e ≡ entry_of counted i = grind (arith, get_or-map) in
       let waits = IsUnderWay-entry counted j h.places k h.under_way inside in
-      let next = IsUnderWay-pair counted j h.places k h.under_way (ap is_closing is ∙ ap not closes) inside (found_opening slots waiting j k b h is inside (hit ∙ ap Some entry)) in
+      let next = IsUnderWay-pair counted j h.places k h.under_way (ap is_closing is ∙ ap not closes) inside
+      (found_opening slots waiting j k b h is inside (hit ∙ ap Some entry)) in
       let spot = place_of i j waits.opening waits.below in
-      let first : old.0 ≡ i =
-      ap (λ (p : ℕ × ℕ). p.0) before ∙ simp (entry, h.found, get_or-map (pair_at closed) (openings counted j) (length (openings counted i)) 0 old spot.0, spot.1) in
+      let first : old.0 ≡ i = grind (arith, h.found, get_or-map) in
       let zero_less : i - 0 ≡ i = omega arith in
-      let put = simp (zero_less, closing_new closed i j waits.unpaired)
+      let new : pair_at (closed ++ (i, j) ∷ []) i ≡ (i, j) = grind (arith, find-append, waits.unpaired) in
+      let put = simp (zero_less, new)
       at (set_at (opens counted) i waits.opening (pair_at closed) (pair_at (closed ++ (i, j) ∷ [])) (λ k other. grind (arith, find-append)) 0 j (omega arith) (omega (arith, waits.below))) in
       record {
         places = take k h.places;
@@ -183,13 +155,12 @@ module _ (counted : List (Option BidiMatchedOpeningBracket)) where
   kept_is : (j i : ℕ) → kept_at (closed_before counted j) i ≡ find (λ (p : ℕ × ℕ). eqb p.0 i) (closed_before counted j)
   kept_is j i = elim (cases_Option (find (λ (p : ℕ × ℕ). eqb p.0 i) (closed_before counted j))) [
     | inl e ↦ grind arith
-    | inr p ↦
-        let at = find-index (λ (q : ℕ × ℕ). eqb q.0 i) (closed_before counted j) p.0 (0, 0) p.1 in
-        let pair = closed_before-pairs counted j at.0 (0, 0) at.1 in
-        let here : p.0.0 ≡ i = eqb-true p.0.0 i (find-passes (λ (q : ℕ × ℕ). eqb q.0 i) (closed_before counted j) p.0 p.1) in
-        let order : i < p.0.1 = simp (at.2, here) at pair.order in
-        let opening : opens counted i ≡ true = simp (at.2, here) at pair.opening in
-        rw (p.1, opening, lt-ltb i p.0.1 order) (ap (λ (n : ℕ). let q : ℕ × ℕ = (n, p.0.1) in Some q) (sym here))
+    | inr p ↦ grind (
+      arith,
+      find-index (λ (q : ℕ × ℕ). eqb q.0 i) (closed_before counted j) p.0 (0, 0) p.1,
+      closed_before-pairs,
+      find-passes (λ (q : ℕ × ℕ). eqb q.0 i) (closed_before counted j) p.0 p.1,
+    )
   ]
 
   filter_map_none : (f : ℕ → Option (ℕ × ℕ)) (low n : ℕ) → ((k : ℕ) → low ≤ k → f k ≡ None) → filter_map f (range_with_len low n) ≡ []
@@ -200,22 +171,18 @@ module _ (counted : List (Option BidiMatchedOpeningBracket)) where
   IsPairing-end : (slots : List (ℕ × ℕ)) (waiting : List Waiting) (j : ℕ) → IsPairing counted slots waiting j → (j ≡ length counted) ⊎ ((opens counted j ≡ true) × (max_open_brackets ≤ length waiting))
       → filter (λ (p : ℕ × ℕ). ltb p.0 p.1) slots ≡ pairs_of counted
   IsPairing-end slots waiting j h ended =
-      let closed = closed_before counted j in
-      let n = length counted in
-      let long : length waiting ≡ length h.places = ap length h.entries ∙ length-map h.places (entry_of counted) in
-      let has_ended : HasEnded counted j h.places = elim ended [ inl past ↦ inl past | inr full ↦ inr (full.0, omega (arith, full.1)) ] in
-      let begins : ℕ → Option (ℕ × ℕ) = λ i. find (λ (p : ℕ × ℕ). eqb p.0 i) closed in
-      let inside = h.inside in
-      let place : j + (n - j) ≡ n = omega arith in
-      let split : range_with_len 0 n ≡ range_with_len 0 j ++ range_with_len (0 + j) (n - j) = simp place at (range_with_len-append 0 j (n - j)) in
-      simp (
-        h.found,
-        kept_slots closed 0 j,
-        filter_map-same (kept_at closed) begins (range_with_len 0 j) (kept_is j),
-        pairs_of-found counted j h.places h.under_way h.inside has_ended,
+      let begins : ℕ → Option (ℕ × ℕ) = λ i. find (λ (p : ℕ × ℕ). eqb p.0 i) (closed_before counted j) in
+      let place : j + (length counted - j) ≡ length counted = omega (arith, h.inside) in
+      let split = simp place at (range_with_len-append 0 j (length counted - j)) in
+      grind (
+        arith,
+        kept_slots (closed_before counted j) 0 j,
+        filter_map-same (kept_at (closed_before counted j)) begins (range_with_len 0 j) (kept_is j),
+        pairs_of-found counted j h.places h.under_way h.inside,
+        length-map,
         split,
         filter_map-append,
-        filter_map_none begins (0 + j) (n - j) (λ k from. none_from j k (omega arith)),
+        filter_map_none begins (0 + j) (length counted - j) (λ k from. none_from j k (omega arith)),
         append-nil,
       )
 
@@ -230,32 +197,29 @@ module _ (counted : List (Option BidiMatchedOpeningBracket)) where
   here j fits o is = simp (drop_more counted j None fits, is)
 
   skip : (n j : ℕ) (slots : List (ℕ × ℕ)) (waiting : List Waiting) (bracket : Bracket) (rest : List Bracket) → j + n ≡ length counted → IsPairing counted slots waiting j → bracket ∷ rest ≡ brackets_from j (drop j counted) → IsNext slots waiting bracket rest
-  skip zero j slots waiting bracket rest size h left =
-      let none : bracket ∷ rest ≡ [] = left ∙ ap (brackets_from j) (drop_all j counted (omega arith)) in absurd (cc none)
-  skip (suc n) j slots waiting bracket rest size h left =
-      let fits : j < length counted = omega arith in
-      elim (cases_Option (bracket_at counted j)) [
-        | inl is ↦ skip n (j + 1) slots waiting bracket rest (omega arith) (IsPairing-none slots waiting j h fits is) (left ∙ here j fits None is)
-        | inr (b, is) ↦
-            let both : bracket ∷ rest ≡ record { index = j; opening = b.opening; is_open = b.is_open } ∷ brackets_from (j + 1) (drop (j + 1) counted) = left ∙ here j fits (Some b) is in
-            let first : bracket ≡ record { index = j; opening = b.opening; is_open = b.is_open } = cc both in
-            simp first (record { pairing = h; fits = fits; is = is; left = cc both })
-      ]
+  skip zero j slots waiting bracket rest size h left = grind (arith, drop_all j counted)
+  skip (suc n) j slots waiting bracket rest size h left = elim (cases_Option (bracket_at counted j)) [
+    | inl is ↦ skip n (j + 1) slots waiting bracket rest (omega arith) (IsPairing-none slots waiting j h (omega arith) is)
+        (left ∙ here j (omega arith) None is)
+    | inr (b, is) ↦
+        let both = left ∙ here j (omega arith) (Some b) is in
+        let first : bracket ≡ record { index = j; opening = b.opening; is_open = b.is_open } = cc both in
+        simp first (record { pairing = h; fits = omega arith; is = is; left = cc both })
+  ]
 
   skip_all : (n j : ℕ) (slots : List (ℕ × ℕ)) (waiting : List Waiting) → j + n ≡ length counted → IsPairing counted slots waiting j → [] ≡ brackets_from j (drop j counted) → IsPairing counted slots waiting (length counted)
   skip_all zero j slots waiting size h left = let end : j ≡ length counted = omega arith in simp (← end) h
-  skip_all (suc n) j slots waiting size h left =
-      let fits : j < length counted = omega arith in
-      elim (cases_Option (bracket_at counted j)) [
-        | inl is ↦ skip_all n (j + 1) slots waiting (omega arith) (IsPairing-none slots waiting j h fits is) (left ∙ here j fits None is)
-        | inr (b, is) ↦ absurd (cc (left, here j fits (Some b) is))
-      ]
+  skip_all (suc n) j slots waiting size h left = elim (cases_Option (bracket_at counted j)) [
+    | inl is ↦ skip_all n (j + 1) slots waiting (omega arith) (IsPairing-none slots waiting j h (omega arith) is)
+        (left ∙ here j (omega arith) None is)
+    | inr (b, is) ↦ absurd (cc (left, here j (omega arith) (Some b) is))
+  ]
 
   next : (slots : List (ℕ × ℕ)) (waiting : List Waiting) (bracket : Bracket) (rest : List Bracket) → IsAt counted slots waiting (bracket ∷ rest) → IsNext slots waiting bracket rest
   next slots waiting bracket rest h = let inside = h.pairing.inside in skip (length counted - h.place) h.place slots waiting bracket rest (omega arith) h.pairing h.left
 
   pub IsAt-start : (slots : List (ℕ × ℕ)) (waiting : List Waiting) (all : List Bracket) → slots ≡ [] → waiting ≡ [] → all ≡ brackets_from 0 counted → IsAt counted slots waiting all
-  IsAt-start slots waiting all empty none is = record { place = 0; pairing = IsPairing-start slots waiting empty none; left = is }
+  IsAt-start slots waiting all empty none is = grind (arith, IsUnderWay-start counted)
 
   pub IsAt-opening : (slots : List (ℕ × ℕ)) (waiting : List Waiting) (bracket : Bracket) (rest : List Bracket) → IsAt counted slots waiting (bracket ∷ rest) → bracket.is_open ≡ true → length waiting < max_open_brackets
       → IsAt counted (slots ++ (bracket.index, bracket.index) ∷ []) (waiting ++ record { opening = bracket.opening; pair = length slots } ∷ []) rest
@@ -283,20 +247,16 @@ module _ (counted : List (Option BidiMatchedOpeningBracket)) where
   pub IsAt-full : (slots : List (ℕ × ℕ)) (waiting : List Waiting) (bracket : Bracket) (rest : List Bracket) → IsAt counted slots waiting (bracket ∷ rest) → bracket.is_open ≡ true → max_open_brackets ≤ length waiting
       → filter (λ (p : ℕ × ℕ). ltb p.0 p.1) slots ≡ pairs_of counted
   IsAt-full slots waiting bracket rest h opening full =
-      let n = next slots waiting bracket rest h in IsPairing-end slots waiting bracket.index n.pairing (inr (ap is_opening n.is ∙ opening, full))
+      grind (arith, next slots waiting bracket rest h, IsPairing-end slots waiting bracket.index)
 
   pub IsAt-end : (slots : List (ℕ × ℕ)) (waiting : List Waiting) → IsAt counted slots waiting [] → filter (λ (p : ℕ × ℕ). ltb p.0 p.1) slots ≡ pairs_of counted
-  IsAt-end slots waiting h =
-      let inside = h.pairing.inside in
-      IsPairing-end slots waiting (length counted) (skip_all (length counted - h.place) h.place slots waiting (omega arith) h.pairing h.left) (inl refl)
+  IsAt-end slots waiting h = IsPairing-end slots waiting (length counted)
+      (skip_all (length counted - h.place) h.place slots waiting
+      (omega (arith, h.pairing.inside)) h.pairing h.left) (inl refl)
 
 -- a search that begins
 pub HasRead-start : (s : PairSearch) → s.waiting.items ≡ [] → s.pairs.items ≡ [] → s.is_over ≡ false → HasRead s []
-HasRead-start s waiting pairs over = record {
-  within = subst (AreWithin (length s.pairs.items)) (sym waiting) (All-nil (λ (e : Waiting). e.pair < length s.pairs.items));
-  goes_on = λ _ counted rest is. IsAt-start counted s.pairs.items s.waiting.items rest pairs waiting is;
-  ended = λ is. absurd (both_ways s.is_over over is);
-}
+HasRead-start s waiting pairs over = grind (arith, All-nil, IsAt-start)
 
 -- and one that ends
 pub HasRead-end : (s : PairSearch) (all : List Bracket) → HasRead s all → (counted : List (Option BidiMatchedOpeningBracket)) → all ≡ brackets_from 0 counted → filter (λ (p : ℕ × ℕ). ltb p.0 p.1) s.pairs.items ≡ pairs_of counted

@@ -1,7 +1,5 @@
 -- A list of characters as a text: each is one unit long, so a place is an index.
-use Rattle.std.proofs.Common.{◌≡◌, ℕ, ◌<◌, ◌≤◌, true, List, length, get_or, Some, None, sym, ◌∙◌, ap, arith}
-use Rattle.std.specs.Prelude.{slice_range}
-use Rattle.bidi_base.specs.Text.{char_at, subrange, one_unit, is_boundary}
+use Rattle.bidi_base.proofs.Common.{◌≡◌, ℕ, ◌<◌, ◌≤◌, true, List, length, get_or, Some, None, sym, ◌∙◌, ap, arith, slice_range, char_at, subrange, one_unit, is_boundary}
 use Rattle.bidi_base.proofs.TextLemmas.{HasUnits, char_at-end, is_boundary-le}
 use Rattle.bidi_base.proofs.PlaceLemmas.{char_at-place, place-one_unit, text_len-one_unit, subrange-places}
 

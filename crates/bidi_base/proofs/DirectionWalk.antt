@@ -1,18 +1,7 @@
 -- The base direction of a text in one walk, which counts the isolates that are open.
-use Rattle.std.proofs.Common.{◌≡◌, ◌↔◌, ℕ, ◌+◌, ◌-◌, ◌≤◌, Bool, true, false, ◌&&◌, cond, if◌then◌else◌, List, [], ◌∷◌, drop, map, find, Option, Some, None, is_some, refl, ap, ◌⊎◌, inl, inr, arith}
+use Rattle.bidi_base.proofs.Common.{◌≡◌, ◌↔◌, ℕ, ◌+◌, ◌-◌, ◌≤◌, Bool, true, false, ◌&&◌, cond, if◌then◌else◌, List, [], ◌∷◌, drop, map, find, Option, Some, None, is_some, refl, ap, ◌⊎◌, inl, inr, arith, onto_first, option_or, cases_Bool, BidiClass, Direction, Rtl, Mixed, is_strong, is_initiator, is_pdi, is_paragraph_separator, direction_by, base_direction, deciding_class, paragraph_level, paragraphs_of, each_separator, first_or, Source}
 use Rattle.std.specs.Prelude.{option_and_then}
-use Rattle.std.specs.List.{onto_first}
-use Rattle.std.specs.Option.{option_or}
-use Rattle.std.proofs.lemmas.Bool.{cases_Bool}
-use Rattle.bidi_base.specs.declared.char_data.BidiClass.{BidiClass}
-use Rattle.bidi_base.specs.declared.char_data.Direction.{Direction}
-use Rattle.bidi_base.specs.declared.char_data.Direction.TheVariants.{Rtl, Mixed}
-use Rattle.bidi_base.specs.Classes.{is_strong, is_initiator, is_pdi, is_paragraph_separator}
-use Rattle.bidi_base.specs.Direction.{direction_by, base_direction, full_base_direction}
-use Rattle.bidi_base.specs.Isolates.{deciding_class, paragraph_level}
-use Rattle.bidi_base.specs.Paragraphs.{paragraphs_of, each_separator}
-use Rattle.bidi_base.specs.Places.{first_or}
-use Rattle.bidi_base.specs.Source.{Source}
+use Rattle.bidi_base.specs.Direction.{full_base_direction}
 use Rattle.bidi_base.proofs.IsolatesLemmas.{direction_by-Rtl}
 use Rattle.bidi_base.proofs.IsolateWalk.{kind_of, depth_by, is_zero, deciding_from, deciding_class-from}
 use Rattle.bidi_base.proofs.Lists.{cases_Option}

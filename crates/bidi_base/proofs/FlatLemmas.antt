@@ -1,24 +1,7 @@
 -- A paragraph in which no embedding and no isolate begins: one level, and one sequence of all that X9 keeps.
-use Rattle.std.proofs.Common.{◌≡◌, ℕ, zero, suc, ◌+◌, ◌-◌, ◌<◌, ◌≤◌, Bool, true, false, cond, List, [], ◌∷◌, length, map, max, find, Option, Some, None, refl, sym, ap, ◌∙◌, arith, inl, inr, add-one}
-use Rattle.std.specs.Prelude.{replicate, filter}
-use Rattle.std.specs.List.{range_with_len}
-use Rattle.std.proofs.lemmas.Bool.{both_ways, or_parts}
-use Rattle.std.proofs.lemmas.List.{ext_get_or, length-map, get_or-map, get_or_past, get_or-replicate, length-replicate}
-use Rattle.std.proofs.lemmas.List.Folds.{list_any_at}
-use Rattle.std.proofs.lemmas.List.Sorted.{IsPermutation-refl}
-use Rattle.bidi_base.specs.declared.char_data.BidiClass.{BidiClass}
-use Rattle.bidi_base.specs.declared.char_data.BidiClass.TheVariants.{L, BN}
-use Rattle.bidi_base.specs.declared.data_source.BidiMatchedOpeningBracket.{BidiMatchedOpeningBracket}
-use Rattle.bidi_base.specs.Classes.{is_initiator, is_embedding, is_opener, is_removed}
-use Rattle.bidi_base.specs.Levels.{direction_of}
-use Rattle.bidi_base.specs.Places.{chain, class_at, at_places, last_or, indexes}
-use Rattle.bidi_base.specs.Isolates.{stored_class, stored_classes, is_inside}
-use Rattle.bidi_base.specs.Embeddings.{is_embedded, is_open_at, open_at}
-use Rattle.bidi_base.specs.Explicit.{status_inside, status_at, explicit_level, explicit_class, explicit_levels, explicit_classes, processing_class, processing_classes}
-use Rattle.bidi_base.specs.Sequences.{has_places, is_kept_at, is_first, kept_places, level_at, level_or, kept_before, next_kept, resumed_at, successor, start_class, end_class, sequence_from, sequences}
-use Rattle.bidi_base.specs.Neutral.{neutral_classes}
-use Rattle.bidi_base.specs.Stored.{resolved_levels, AreResolved, levels_in}
-use Rattle.bidi_base.specs.Flat.{is_flat, whole_run, run_levels, kept_of}
+use Rattle.bidi_base.proofs.Common.{◌≡◌, ℕ, zero, suc, ◌+◌, ◌-◌, ◌<◌, ◌≤◌, Bool, true, false, cond, List, [], ◌∷◌, length, map, max, find, Option, Some, None, refl, sym, ap, ◌∙◌, arith, inl, inr, add-one, filter, range_with_len, both_ways, or_parts, ext_get_or, length-map, get_or-map, get_or_past, get_or-replicate, length-replicate, list_any_at, IsPermutation-refl, BidiClass, L, BN, BidiMatchedOpeningBracket, is_initiator, is_embedding, is_opener, is_removed, direction_of, chain, class_at, at_places, last_or, indexes, stored_class, stored_classes, is_inside, is_embedded, is_open_at, open_at, status_inside, status_at, explicit_level, explicit_class, explicit_levels, explicit_classes, processing_class, processing_classes, has_places, is_kept_at, is_first, kept_places, level_at, level_or, kept_before, next_kept, resumed_at, successor, start_class, end_class, sequence_from, sequences, neutral_classes, resolved_levels, AreResolved, levels_in, is_flat, run_levels, kept_of}
+use Rattle.std.specs.Prelude.{replicate}
+use Rattle.bidi_base.specs.Flat.{whole_run}
 use Rattle.bidi_base.proofs.ChainLemmas.{chain-None, filter_range-none, filter_range-agree, filter_chain_from}
 use Rattle.bidi_base.proofs.ExplicitLemmas.{length-explicit_levels, level_at-explicit_levels, length-explicit_classes, class_at-explicit_classes, length-processing_classes, class_at-processing_classes}
 use Rattle.bidi_base.proofs.LevelsInLemmas.{levels_in-written}
@@ -49,11 +32,14 @@ unfolding kept_places
 at_places-kept d [] xs long = refl
 at_places-kept d (c ∷ classes) [] long = absurd (omega arith)
 at_places-kept {X} d (c ∷ classes) (x ∷ xs) long =
-    let rest : at_places d (x ∷ xs) (filter (is_kept_at (c ∷ classes)) (range_with_len (0 + 1) (length classes))) ≡ kept_of classes xs =
-    at_places-later d x xs (is_kept_at (c ∷ classes)) 0 (length classes)
-    ∙ ap (at_places d xs) (filter_range-agree _ (is_kept_at classes) 0 (length classes) (λ p from below. ap (is_kept_at (c ∷ classes)) (add-one p)))
-    ∙ at_places-kept d classes xs (omega arith) in
-    grind (arith, rest)
+    grind (
+      arith,
+      add-one,
+      at_places-later d x xs (is_kept_at (c ∷ classes)) 0 (length classes),
+      filter_range-agree (λ p. is_kept_at (c ∷ classes) (p + 1)) (is_kept_at classes) 0 (length classes)
+          (λ p from below. ap (is_kept_at (c ∷ classes)) (add-one p)),
+      at_places-kept d classes xs,
+    )
 
 pub kept_of-replicate : {X : Type 0} (classes : List BidiClass) (x : X) → kept_of classes (replicate (length classes) x) ≡ replicate (length (kept_of classes classes)) x
 kept_of-replicate [] x = refl
@@ -76,18 +62,19 @@ module _ (classes : List BidiClass) (flat : is_flat classes ≡ true) where
 
   -- no FSI is there to be resolved
   pub stored_classes-flat : stored_classes classes ≡ classes
-  stored_classes-flat =
-      ext_get_or L _ _ (length-stored_classes classes)
-      (λ p within. grind (arith, length-stored_classes, class_at-stored_classes, stored_class-flat, opener_at-flat))
-
-  none_open : (p q : ℕ) → is_open_at classes q p ≡ false
-  unfolding is_open_at is_inside is_embedded
-  none_open p q = grind (arith, opener_at-flat)
+  stored_classes-flat = grind (
+    arith,
+    ext_get_or L (stored_classes classes) classes,
+    length-stored_classes,
+    class_at-stored_classes,
+    stored_class-flat,
+    opener_at-flat,
+  )
 
   module _ (paragraph : ℕ) where
     status_at-flat : (p : ℕ) → status_at paragraph classes p ≡ record { level = paragraph; override = None }
-    unfolding status_at status_inside open_at
-    status_at-flat p = grind (arith, filter_range-none, none_open)
+    unfolding status_at status_inside open_at is_open_at is_inside is_embedded
+    status_at-flat p = grind (arith, filter_range-none, opener_at-flat)
 
     pub explicit_level-flat : (p : ℕ) → explicit_level paragraph classes p ≡ paragraph
     unfolding explicit_level
@@ -104,19 +91,20 @@ module _ (classes : List BidiClass) (flat : is_flat classes ≡ true) where
         (λ p within. grind (arith, length-explicit_levels, level_at-explicit_levels, explicit_level-flat, get_or-replicate))
 
     pub explicit_classes-flat : explicit_classes paragraph classes ≡ classes
-    explicit_classes-flat =
-        ext_get_or L _ _ (length-explicit_classes paragraph classes)
-        (λ p within. grind (arith, length-explicit_classes, class_at-explicit_classes, explicit_class-flat))
-
-    pub processing_class-flat : (p : ℕ) → processing_class paragraph classes p ≡ cond (is_removed (class_at classes p)) BN (class_at classes p)
-    unfolding processing_class
-    processing_class-flat p = simp explicit_class-flat
+    explicit_classes-flat = grind (
+      arith,
+      ext_get_or L (explicit_classes paragraph classes) classes,
+      length-explicit_classes,
+      class_at-explicit_classes,
+      explicit_class-flat,
+    )
 
     -- the classes with which the passes over units begin
     pub processing_classes-flat : processing_classes paragraph classes ≡ map (λ c. cond (is_removed c) BN c) classes
+    unfolding processing_class
     processing_classes-flat =
         ext_get_or L _ _ (simp (length-processing_classes, length-map))
-        (λ p within. grind (arith, length-processing_classes, class_at-processing_classes, processing_class-flat, get_or-map))
+        (λ p within. grind (arith, length-processing_classes, class_at-processing_classes, explicit_class-flat, get_or-map))
 
     -- ---- one sequence
 
@@ -131,9 +119,7 @@ module _ (classes : List BidiClass) (flat : is_flat classes ≡ true) where
     unfolding successor resumed_at
     successor-flat p within = elim (cases_Option (next_kept classes p)) [
       | inl e ↦ simp (e, (opens_nothing (class_at classes p) (opener_at-flat p)).0)
-      | inr (q, e) ↦
-          let below = (next_kept-IsLeast classes p q e).below in
-          successor-run_step classes levels p q (record { next = e; level = simp (level_at-flat q below, level_at-flat p within) }) ∙ sym e
+      | inr (q, e) ↦ grind (arith, next_kept-IsLeast classes p q e, successor-run_step classes levels p q, level_at-flat)
     ]
 
     next_kept-range : (low m : ℕ) → low + suc m ≡ length classes → next_kept classes low ≡ find (is_kept_at classes) (range_with_len (low + 1) m)
@@ -156,10 +142,6 @@ module _ (classes : List BidiClass) (flat : is_flat classes ≡ true) where
 
     kept_places-none : first_kept ≡ None → kept_places classes ≡ []
     kept_places-none e = simp (kept_places-chain, e, chain-None)
-
-    last_kept-within : (d : ℕ) → d < length classes → last_or d (kept_places classes) < length classes
-    unfolding kept_places
-    last_kept-within d within = last_within (is_kept_at classes) 0 (length classes) d (length classes) (omega arith) within
 
     level_or-flat : (o : Option ℕ) → ((q : ℕ) → o ≡ Some q → q < length classes) → level_or paragraph levels o ≡ paragraph
     level_or-flat None within = refl
@@ -196,8 +178,15 @@ module _ (classes : List BidiClass) (flat : is_flat classes ≡ true) where
           (is_first-from_none classes levels first (λ p kept within e. both_ways (is_kept_at classes p) (least.first p (omega arith) (successor-IsLaterKept classes levels p first e).later) kept)))
 
       sequence-flat : sequence_from paragraph classes levels first ≡ whole_run paragraph classes
-      unfolding sequence_from
-      sequence-flat = grind (arith, kept_places-from, start_class-flat, first_within, end_class-flat, last_kept-within)
+      unfolding sequence_from kept_places
+      sequence-flat = grind (
+        arith,
+        kept_places-from,
+        start_class-flat,
+        first_within,
+        end_class-flat,
+        last_within (is_kept_at classes) 0 (length classes),
+      )
 
       some_kept : (ps : List ℕ) × (kept_places classes ≡ first ∷ ps)
       some_kept = grind (arith, kept_places-from)
@@ -213,13 +202,11 @@ module _ (classes : List BidiClass) (flat : is_flat classes ≡ true) where
       abbrev pub kept_levels : List ℕ
       kept_levels = run_levels paragraph (at_places L classes (kept_places classes)) (at_places None brackets (kept_places classes))
 
-      pub resolved_levels-flat : 0 < length (kept_places classes) → resolved_levels classes brackets levels (explicit_classes paragraph classes) (whole_run paragraph classes) ≡ kept_levels
-      unfolding resolved_levels
-      resolved_levels-flat some = grind (arith, kept_places-none, some_kept, level_at-flat, first_within, explicit_classes-flat)
-
       -- a list that has those levels at the kept places has what the rules give each sequence
       pub AreResolved-flat : (new : List ℕ) → at_places 0 new (kept_places classes) ≡ kept_levels → AreResolved classes brackets levels (explicit_classes paragraph classes) new (sequences paragraph classes levels)
-      AreResolved-flat new is = grind (arith, sequences-flat, resolved_levels-flat)
+      unfolding resolved_levels
+      AreResolved-flat new is =
+          grind (arith, sequences-flat, kept_places-none, some_kept, level_at-flat, first_within, explicit_classes-flat)
 
       -- the levels of the paragraph, as a pass leaves them: those of what is kept, and then what X9 removed filled
       pub levels_in-flat_written : (resolved new : List ℕ) → at_places 0 resolved (kept_places classes) ≡ kept_levels → length new ≡ length classes

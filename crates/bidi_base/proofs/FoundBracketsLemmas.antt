@@ -1,11 +1,6 @@
 -- The brackets of a sequence, gathered one character after the other.
-use Rattle.std.proofs.Common.{◌≡◌, ℕ, suc, ◌+◌, ◌<◌, List, [], ◌∷◌, ◌++◌, length, get_or, take, Option, Some, None, ap, arith}
-use Rattle.std.proofs.lemmas.Grind.{common_steps}
-use Rattle.bidi_base.specs.declared.char_data.BidiClass.{BidiClass}
-use Rattle.bidi_base.specs.declared.data_source.BidiMatchedOpeningBracket.{BidiMatchedOpeningBracket}
-use Rattle.bidi_base.specs.Brackets.{counted_bracket, counted_brackets}
+use Rattle.bidi_base.proofs.Common.{◌≡◌, ℕ, ◌+◌, ◌<◌, List, [], ◌∷◌, ◌++◌, length, get_or, take, Option, Some, None, ap, arith, common_steps, BidiClass, BidiMatchedOpeningBracket, counted_bracket, counted_brackets, brackets_from, found_brackets}
 use Rattle.bidi_base.proofs.PairsLemmas.{length-counted_brackets}
-use Rattle.bidi_base.specs.FoundBrackets.{brackets_from, found_brackets}
 
 counted_brackets-push : (classes : List BidiClass) (brackets : List (Option BidiMatchedOpeningBracket)) (c : BidiClass) (b : Option BidiMatchedOpeningBracket) → length brackets ≡ length classes
     → counted_brackets (classes ++ c ∷ []) (brackets ++ b ∷ []) ≡ counted_brackets classes brackets ++ counted_bracket c b ∷ []
@@ -16,12 +11,8 @@ counted_brackets-push _ _ c b h = absurd (omega arith)
 brackets_from-push : (k : ℕ) (brackets : List (Option BidiMatchedOpeningBracket)) (b : Option BidiMatchedOpeningBracket) → brackets_from k (brackets ++ b ∷ []) ≡ brackets_from k brackets ++
     brackets_from (k + length brackets) (b ∷ [])
 brackets_from-push k [] b = ap (λ (n : ℕ). brackets_from n (b ∷ [])) (let same : k ≡ k + 0 = omega arith in same)
-brackets_from-push k (None ∷ brackets) b =
-    let place : k + 1 + length brackets ≡ k + suc (length brackets) = omega arith in
-    simp (brackets_from-push (k + 1) brackets b, place)
-brackets_from-push k (Some x ∷ brackets) b =
-    let place : k + 1 + length brackets ≡ k + suc (length brackets) = omega arith in
-    simp (brackets_from-push (k + 1) brackets b, place)
+brackets_from-push k (None ∷ brackets) b = grind (arith, brackets_from-push (k + 1) brackets b)
+brackets_from-push k (Some x ∷ brackets) b = grind (arith, brackets_from-push (k + 1) brackets b)
 
 -- one more character, with its bracket behind the others if it counts
 pub found_brackets-push : (classes : List BidiClass) (brackets : List (Option BidiMatchedOpeningBracket)) (c : BidiClass) (b : Option BidiMatchedOpeningBracket) → length brackets ≡ length classes

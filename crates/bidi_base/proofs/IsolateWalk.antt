@@ -1,15 +1,7 @@
 -- Isolates in one walk from the front, which counts those that are open: the matching PDI (BD9), the deciding character (P2), and what an FSI becomes (X5c).
-use Rattle.std.proofs.Common.{◌≡◌, ℕ, zero, suc, ◌+◌, ◌-◌, ◌<◌, ◌≤◌, Bool, true, false, not, ◌&&◌, ◌||◌, cond, List, [], ◌∷◌, ◌++◌, length, take, drop, map, find, Option, Some, None, unwrap_or, option_map, refl, ◌∙◌, arith, inl, inr, lt-ltb, le-ltb, length-drop}
-use Rattle.std.specs.List.{range_with_len, list_any}
-use Rattle.std.proofs.lemmas.List.{get_or-drop, take_more}
+use Rattle.bidi_base.proofs.Common.{◌≡◌, ℕ, zero, suc, ◌+◌, ◌-◌, ◌<◌, ◌≤◌, Bool, true, false, not, ◌&&◌, ◌||◌, cond, List, [], ◌∷◌, ◌++◌, length, take, drop, map, find, Option, Some, None, unwrap_or, option_map, refl, ◌∙◌, arith, inl, inr, lt-ltb, le-ltb, length-drop, range_with_len, list_any, take_more, cases_Bool, BidiClass, L, LRI, RLI, FSI, PDI, is_strong, class_at, count_between, is_closed_at, is_before, match_of, is_initiator_at, is_pdi_at, matching_pdi, is_inside, is_isolated, deciding_class, isolated_classes, resolved_fsi, stored_class, stored_classes}
+use Rattle.std.proofs.lemmas.List.{get_or-drop}
 use Rattle.std.proofs.Math.Seq.{take-nil}
-use Rattle.std.proofs.lemmas.Bool.{cases_Bool}
-use Rattle.bidi_base.specs.declared.char_data.BidiClass.{BidiClass}
-use Rattle.bidi_base.specs.declared.char_data.BidiClass.TheVariants.{L, LRI, RLI, FSI, PDI}
-use Rattle.bidi_base.specs.Classes.{is_strong, is_initiator}
-use Rattle.bidi_base.specs.Places.{class_at, count_between}
-use Rattle.bidi_base.specs.Matching.{is_closed_at, is_before, match_of}
-use Rattle.bidi_base.specs.Isolates.{is_initiator_at, is_pdi_at, matching_pdi, is_inside, is_isolated, deciding_class, isolated_classes, resolved_fsi, stored_class, stored_classes}
 use Rattle.bidi_base.proofs.MatchingLemmas.{count_between-more, count_between-none}
 
 -- what a character does to the number of open isolates
@@ -28,9 +20,6 @@ kind_of _ = neither
 abbrev pub opens_one : Kind → Bool
 opens_one opening = true
 opens_one _ = false
-
-pub is_initiator-kind : (c : BidiClass) → is_initiator c ≡ opens_one (kind_of c)
-is_initiator-kind c = grind arith
 
 -- the number of open isolates after a character, where d are open before it
 abbrev pub depth_by : Kind → ℕ → ℕ
@@ -89,8 +78,7 @@ record IsAt (xs : List BidiClass) (p : ℕ) (x : BidiClass) (rest : List BidiCla
   next : drop (p + 1) xs ≡ rest
 
 at_front : (xs : List BidiClass) (p : ℕ) (x : BidiClass) (rest : List BidiClass) → drop p xs ≡ x ∷ rest → IsAt xs p x rest
-at_front [] zero x rest e = absurd (cc e)
-at_front [] (suc p) x rest e = absurd (cc e)
+at_front [] p x rest e = grind (arith, length-drop {A = BidiClass} p [])
 at_front (y ∷ xs) zero x rest e = record { is = cc; next = cc }
 at_front (y ∷ xs) (suc p) x rest e = grind (arith, at_front xs p x rest e)
 
@@ -101,27 +89,16 @@ record IsUnder (classes : List BidiClass) (q p d : ℕ) : Type 0 where
   later : q < p
   counts : count_between (is_initiator_at classes) (q + 1) p ≡ count_between (is_pdi_at classes) (q + 1) p + d
 
-module _ (classes : List BidiClass) (q p d : ℕ) (x : BidiClass) (here : class_at classes p ≡ x) (h : IsUnder classes q p d) where
-  openings_more : count_between (is_initiator_at classes) (q + 1) (p + 1) ≡ count_between (is_initiator_at classes) (q + 1) p + cond (opens_one (kind_of x)) 1 0
-  openings_more = grind (arith, count_between-more)
-
-  closed_here : is_closed_at (is_initiator_at classes) (is_pdi_at classes) q p ≡ ends_by (kind_of x) d
-  closed_here = grind (arith, openings_more, count_between-more)
-
-  under_more : ends_by (kind_of x) d ≡ false → IsUnder classes q (p + 1) (depth_by (kind_of x) d)
-  under_more more = grind (arith, openings_more, count_between-more)
-
 find_end : (classes : List BidiClass) (q p d : ℕ) (rest : List BidiClass) → drop p classes ≡ rest → IsUnder classes q p d → find (is_closed_at (is_initiator_at classes) (is_pdi_at classes) q) (range_with_len p (length rest)) ≡ end_from d p rest
 find_end classes q p d [] e h = refl
 find_end classes q p d (x ∷ rest) e h =
-    grind (arith, at_front classes p x rest e, closed_here classes q p d x, under_more classes q p d x, find_end classes q (p + 1) (depth_by (kind_of x) d) rest)
+    grind (arith, at_front classes p x rest e, count_between-more, find_end classes q (p + 1) (depth_by (kind_of x) d) rest)
 
 -- the match of q is the first PDI after q that no open isolate awaits
 pub matching_pdi-end_from : (classes : List BidiClass) (q : ℕ) → matching_pdi classes q ≡ end_from 0 (q + 1) (drop (q + 1) classes)
 unfolding matching_pdi match_of
 matching_pdi-end_from classes q =
-    let under : IsUnder classes q (q + 1) 0 = record { later = omega arith; counts = omega (arith, count_between-none (is_initiator_at classes) (q + 1), count_between-none (is_pdi_at classes) (q + 1)) } in
-    cc (length-drop (q + 1) classes, find_end classes q (q + 1) 0 (drop (q + 1) classes) refl under)
+    grind (arith, count_between-none, length-drop (q + 1) classes, find_end classes q (q + 1) 0 (drop (q + 1) classes) refl)
 
 -- ---- what stands in an isolate
 
@@ -176,7 +153,16 @@ unfolding is_inside
 some_inside classes p s zero rest e place within other = none_inside classes p s (length rest) (omega arith)
 some_inside classes p s (suc k) [] e place within other = absurd (omega arith)
 some_inside classes p s (suc k) (x ∷ rest) e place within other =
-    grind (arith, at_front classes s x rest e, is_initiator-kind x, get_or-drop, matching_pdi-end_from, before_end, has_end-more, lt-ltb s p, some_inside classes p (s + 1) k rest)
+    grind (
+      arith,
+      at_front classes s x rest e,
+      get_or-drop,
+      matching_pdi-end_from,
+      before_end,
+      has_end-more,
+      lt-ltb s p,
+      some_inside classes p (s + 1) k rest,
+    )
 
 -- a character that neither opens nor closes stands in an isolate exactly if one is open there
 pub is_isolated-depth : (classes : List BidiClass) (p : ℕ) → p < length classes → kind_of (class_at classes p) ≡ neither → is_isolated classes p ≡ not (is_zero (depth_after 0 (take p classes)))
@@ -185,14 +171,18 @@ is_isolated-depth classes p within other = some_inside classes p 0 p classes ref
 
 -- ---- the deciding character (P2)
 
-depth_after-more : (classes : List BidiClass) (p : ℕ) (x : BidiClass) → p < length classes → class_at classes p ≡ x → depth_after 0 (take (p + 1) classes) ≡ depth_by (kind_of x) (depth_after 0 (take p classes))
-depth_after-more classes p x within is = grind (arith, take_more classes p L within, depth_after-append, is)
-
 find_deciding : (classes : List BidiClass) (p : ℕ) (rest : List BidiClass) → drop p classes ≡ rest
     → option_map (class_at classes) (find (λ k. is_strong (class_at classes k) && not (is_isolated classes k)) (range_with_len p (length rest))) ≡ deciding_from (depth_after 0 (take p classes)) rest
 find_deciding classes p [] e = refl
-find_deciding classes p (x ∷ rest) e =
-    grind (arith, at_front classes p x rest e, length-drop p classes, is_isolated-depth, find_deciding classes (p + 1) rest, depth_after-more classes p x)
+find_deciding classes p (x ∷ rest) e = grind (
+  arith,
+  at_front classes p x rest e,
+  length-drop p classes,
+  is_isolated-depth,
+  find_deciding classes (p + 1) rest,
+  take_more classes p L,
+  depth_after-append,
+)
 
 -- the deciding character is found in one walk
 pub deciding_class-from : (classes : List BidiClass) → deciding_class classes ≡ deciding_from 0 classes

@@ -1,20 +1,8 @@
 -- Lines of given width: how many characters fit, and the lines of a paragraph as ranges of units.
-use Rattle.std.proofs.Common.{◌≡◌, ◌≢◌, ℕ, zero, suc, ◌+◌, ◌-◌, ◌<◌, ◌≤◌, Bool, leb, List, [], ◌∷◌, length, get_or, map, take, drop, Some, All, slice_get, refl, sym, ap, ◌∙◌, arith, inl, inr, length-take-le, length-drop}
-use Rattle.std.proofs.lemmas.Grind.{common_steps}
-use Rattle.std.specs.Prelude.{slice_range}
-use Rattle.std.specs.List.{range_with_len}
-use Rattle.std.specs.List.Sorted.{IsPermutation}
-use Rattle.std.proofs.lemmas.Bool.{both_ways, le-leb, cases_lt}
-use Rattle.std.proofs.lemmas.List.{take-append-drop, drop-drop, drop-take, get_or-map, get_or_default, length-map, same_lists}
-use Rattle.std.proofs.lemmas.List.FromFn.{length-range_with_len, get_or-range_with_len}
-use Rattle.std.proofs.lemmas.List.Sorted.{All-permutation, Contains-permutation, length_permutation}
-use Rattle.std.proofs.lemmas.Option.{slice_get_within, slice_get-get_or, get_or_from_slice_get}
-use Rattle.std.proofs.lemmas.List.Elements.{All-nil, All-cons}
-use Rattle.bidi_base.specs.Layout.{fitting, line_length, lines_up_to, lines_of, line_ranges, visual_places, AreInverse}
-use Rattle.bidi_base.specs.Order.{visual_place, IsVisualOrder}
-use Rattle.bidi_base.specs.Paragraphs.{ranges_from, IsPartition}
-use Rattle.bidi_base.specs.Places.{indexes, find_last}
-use Rattle.bidi_base.specs.Text.{place, text_len, char_index, subrange, IsLine}
+use Rattle.bidi_base.proofs.Common.{◌≡◌, ◌≢◌, ℕ, zero, suc, ◌+◌, ◌-◌, ◌<◌, ◌≤◌, Bool, leb, List, [], ◌∷◌, length, get_or, map, take, drop, Some, slice_get, refl, sym, ap, ◌∙◌, arith, inl, inr, length-drop, common_steps, slice_range, range_with_len, IsPermutation, le-leb, take-append-drop, drop-drop, drop-take, get_or-map, get_or_default, length-map, same_lists, length-range_with_len, get_or-range_with_len, All-permutation, Contains-permutation, length_permutation, slice_get-get_or, All-nil, All-cons, lines_of, line_ranges, visual_places, visual_place, IsVisualOrder, ranges_from, IsPartition, indexes, find_last, place, text_len, char_index, subrange, IsLine}
+use Rattle.std.proofs.Common.{All, length-take-le}
+use Rattle.std.proofs.lemmas.Option.{slice_get_within, get_or_from_slice_get}
+use Rattle.bidi_base.specs.Layout.{fitting, line_length, lines_up_to, AreInverse}
 use Rattle.bidi_base.proofs.Lists.{cases_Option}
 use Rattle.bidi_base.proofs.ParagraphsLemmas.{joined, ranges_from-IsPartition}
 use Rattle.bidi_base.proofs.PlaceLemmas.{CharTurn, place-more, place-end, place-mono, place-lt, place-slice_range, char_index-place, IsLine-places, line_places, text_len-subrange}
@@ -36,10 +24,12 @@ module _ (width_of : ℕ → ℕ) (limit : ℕ) where
   pub fitting-is : (chars : List ℕ) (n : ℕ) → n ≤ length chars → place width_of chars n ≤ limit → (n < length chars → limit < place width_of chars (n + 1)) → fitting width_of limit chars ≡ n
   unfolding fitting fits
   fitting-is chars n short fit full = elim (cases_Option (find_last (fits chars) (range_with_len 0 (length chars + 1)))) [
-    | inl e ↦ absurd (both_ways (fits chars n) (find_last-range_with_len-None (fits chars) 0 (length chars + 1) e n (omega arith) (omega arith)) (le-leb (place width_of chars n) limit fit))
-    | inr (p, e) ↦
-        let g = find_last-range_with_len (fits chars) 0 (length chars + 1) p e in
-        let same : p ≡ n = grind (arith, place-mono) in simp (e, same)
+    | inl e ↦ grind (arith, find_last-range_with_len-None (fits chars) 0 (length chars + 1) e n, le-leb)
+    | inr (p, e) ↦ let same : p ≡ n = grind (
+      arith,
+      find_last-range_with_len (fits chars) 0 (length chars + 1) p e,
+      place-mono,
+    ) in simp (e, same)
   ]
 
   pub fitting-within : (chars : List ℕ) → fitting width_of limit chars ≤ length chars
@@ -58,9 +48,7 @@ module _ (width_of : ℕ → ℕ) (limit : ℕ) where
   lines_up_to-enough (suc n) zero [] few many = refl
   lines_up_to-enough (suc n) (suc m) [] few many = refl
   lines_up_to-enough (suc n) (suc m) (c ∷ chars) few many =
-      let here : ℕ = line_length width_of limit (c ∷ chars) in
-      let left = length-drop here (c ∷ chars) in
-      simp (lines_up_to-enough n m (drop here (c ∷ chars)) (omega arith) (omega arith))
+      grind (arith, lines_up_to-enough n m (drop (line_length width_of limit (c ∷ chars)) (c ∷ chars)), length-drop)
   lines_up_to-enough _ _ (c ∷ chars) few many = absurd (omega arith)
 
   pub lines_of-none : lines_of width_of limit [] ≡ []
@@ -78,9 +66,7 @@ module _ (width_of : ℕ → ℕ) (limit : ℕ) where
   up_to-joined zero (c ∷ chars) few = absurd (omega arith)
   up_to-joined (suc n) [] few = refl
   up_to-joined (suc n) (c ∷ chars) few =
-      let here : ℕ = line_length width_of limit (c ∷ chars) in
-      let left = length-drop here (c ∷ chars) in
-      simp (up_to-joined n (drop here (c ∷ chars)) (omega arith), take-append-drop)
+      grind (arith, up_to-joined n (drop (line_length width_of limit (c ∷ chars)) (c ∷ chars)), length-drop, take-append-drop)
 
   -- the lines are the paragraph
   pub lines_of-joined : (chars : List ℕ) → joined (lines_of width_of limit chars) ≡ chars
@@ -89,12 +75,14 @@ module _ (width_of : ℕ → ℕ) (limit : ℕ) where
 
   up_to-some : (n : ℕ) (chars : List ℕ) → All (λ (l : List ℕ). 0 < length l) (lines_up_to width_of limit n chars)
   up_to-some zero chars = All-nil (λ (l : List ℕ). 0 < length l)
-  up_to-some (suc n) [] = All-nil (λ (l : List ℕ). 0 < length l)
-  up_to-some (suc n) (c ∷ chars) =
-      let here : ℕ = line_length width_of limit (c ∷ chars) in
-      let within = line_length-within (c ∷ chars) (omega arith) in
-      All-cons (λ (l : List ℕ). 0 < length l) (take here (c ∷ chars)) (lines_up_to width_of limit n (drop here (c ∷ chars)))
-      (omega (arith, length-take-le here (c ∷ chars) within)) (up_to-some n (drop here (c ∷ chars)))
+  up_to-some (suc n) chars = grind (
+    arith,
+    up_to-some n (drop (line_length width_of limit chars) chars),
+    line_length-within,
+    All-nil,
+    All-cons,
+    length-take-le,
+  )
 
   -- no line is empty
   pub lines_of-some : (chars : List ℕ) → All (λ (l : List ℕ). 0 < length l) (lines_of width_of limit chars)
@@ -125,10 +113,14 @@ module _ (width_of : ℕ → ℕ) (limit : ℕ) where
 
     pub line_ranges-IsPartition : (start end : ℕ) → IsLine len_of chars start end → IsPartition start end (line_ranges len_of chars width_of limit start end)
     line_ranges-IsPartition start end line =
-        let cs : List ℕ = subrange len_of chars start end in
-        let all : start + text_len len_of (joined (lines_of width_of limit cs)) ≡ end =
-        omega (arith, ap (text_len len_of) (lines_of-joined cs), text_len-subrange len_of units chars start end line, line.ordered) in
-        simp all at (ranges_from-IsPartition len_of units start (lines_of width_of limit cs) (lines_of-some cs))
+        grind (
+          arith,
+          lines_of-joined,
+          text_len-subrange len_of units chars start end line,
+          line.ordered,
+          ranges_from-IsPartition len_of units start,
+          lines_of-some,
+        )
 
     -- the first line of a range ends at `next`, and the others are those of what follows
     pub record FirstLine (start end next : ℕ) : Type 0 where
@@ -145,21 +137,28 @@ module _ (width_of : ℕ → ℕ) (limit : ℕ) where
         let j : ℕ = char_index len_of chars end in
         let cs : List ℕ = slice_range chars i j in
         let n : ℕ = line_length width_of limit cs in
-        let before : i < j = elim (cases_lt i j) [ inl less ↦ less | inr more ↦ let same : i ≡ j = omega (arith, w.ordered) in absurd (omega (arith, ap (place len_of chars) same, w.begins, w.ends)) ] in
+        let before : i < j = grind (arith, w.ordered, w.begins, w.ends) in
         let long : length cs ≡ j - i = length-take-le (j - i) (drop i chars) (omega (arith, length-drop i chars, w.within)) in
-        let within = line_length-within cs (omega arith) in
-        let inside : i + n ≤ j = omega arith in
+        let inside : i + n ≤ j = omega (arith, line_length-within cs (omega arith)) in
         let stop : next ≡ place len_of chars (i + n) = omega (arith, e, w.begins, place-slice_range len_of chars i j n inside w.within) in
         let last : char_index len_of chars next ≡ i + n = ap (char_index len_of chars) stop ∙ char_index-place len_of chars units (i + n) (omega (arith, w.within)) in
-        let both : n + (j - (i + n)) ≡ j - i = omega arith in
-        let left : subrange len_of chars next end ≡ drop n cs =
-        ap (λ (a : ℕ). slice_range chars a j) last ∙ sym (simp (both, drop-drop n i chars) at (drop-take n (j - (i + n)) (drop i chars))) in
-        record {
-          line = rw (w.begins, stop) (IsLine-places len_of chars i (i + n) (omega arith));
-          rest = rw (w.ends, stop) (IsLine-places len_of chars (i + n) j inside);
-          some = omega (arith, stop, w.begins, place-lt len_of chars units i (i + n) (omega arith) (omega (arith, w.within)));
-          ranges = ap (ranges_from len_of start) (lines_of-more cs (omega arith)) ∙ simp (← e, left);
-        }
+        let left : subrange len_of chars next end ≡ drop n cs = grind (
+          arith,
+          last,
+          drop-drop n i chars,
+          drop-take n (j - (i + n)) (drop i chars),
+        ) in
+        grind (
+          arith,
+          stop,
+          w.begins,
+          w.ends,
+          left,
+          ap (ranges_from len_of start) (lines_of-more cs (omega arith)),
+          IsLine-places len_of chars i (i + n),
+          IsLine-places len_of chars (i + n) j,
+          place-lt len_of chars units i (i + n),
+        )
 
 -- ---- the maps between places in a line and on the screen
 
@@ -174,31 +173,32 @@ module _ (levels order : List ℕ) (visual : IsVisualOrder levels order) where
   -- the inverse of a visual order has the visual place of each index
   pub visual_places-inverse : (places : List ℕ) → AreInverse order places → places ≡ visual_places levels
   unfolding visual_places
-  visual_places-inverse places inverse = same_lists places (map (visual_place levels) (indexes levels)) long at_each
+  visual_places-inverse places inverse = same_lists places (map (visual_place levels) (indexes levels))
+      (grind (arith, order-long, length-map, length-range_with_len)) at_each
     where
-      long : length places ≡ length (map (visual_place levels) (indexes levels))
-      long = grind (arith, order-long, length-map, length-range_with_len)
+      at_place : (v k : ℕ) → slice_get order v ≡ Some k → v ≡ visual_place levels k
+      at_place v k e = grind (arith, visual_place-order, slice_get_within, get_or_from_slice_get)
 
       at_each : (k d : ℕ) → k < length places → get_or places k d ≡ get_or (map (visual_place levels) (indexes levels)) k d
       at_each k d within =
           let fits : k < length (indexes levels) = omega (arith, order-long, inverse.same_len, length-range_with_len 0 (length levels)) in
           let here : get_or (indexes levels) k 0 ≡ k = grind (arith, get_or-range_with_len, order-long) in
-          get_or_default places k d 0 within ∙ at_place (get_or places k 0) (inverse.forth k within) ∙ sym (simp here at (get_or-map (visual_place levels) (indexes levels) k 0 d fits))
-        where
-          at_place : (v : ℕ) → slice_get order v ≡ Some k → v ≡ visual_place levels k
-          at_place v e = grind (arith, visual_place-order, slice_get_within, get_or_from_slice_get)
+          get_or_default places k d 0 within ∙ at_place (get_or places k 0) k (inverse.forth k within)
+          ∙ sym (simp here at (get_or-map (visual_place levels) (indexes levels) k 0 d fits))
 
 -- a list that has at each number of a permutation the place where it stands there is its inverse
 pub AreInverse-from_back : (order places : List ℕ) → IsPermutation (indexes order) order → length order ≡ length places
     → ((k : ℕ) → k < length order → get_or places (get_or order k 0) 0 ≡ k) → AreInverse order places
 AreInverse-from_back order places perm same at = record {
   same_len = same;
-  back = λ k within.
-      let inside : get_or order k 0 < length order = All-permutation (λ (i : ℕ). i < length order) (indexes order) order perm (all_below order) k 0 within in
-      slice_get-get_or places (get_or order k 0) 0 (omega arith) ∙ ap Some (at k within);
+  back = λ k within. grind (
+    arith,
+    All-permutation (λ (i : ℕ). i < length order)
+        (indexes order) order perm (all_below order) k 0 within,
+    slice_get-get_or places (get_or order k 0) 0,
+    at k,
+  );
   forth = λ k within.
       let c = Contains-permutation (indexes order) order k perm (contains_index (length order) k (omega arith)) in
-      let there : get_or order c.0 0 ≡ k = get_or_default order c.0 0 k c.1 ∙ c.2 in
-      let place : get_or places k 0 ≡ c.0 = ap (λ (i : ℕ). get_or places i 0) (sym there) ∙ at c.0 c.1 in
-      ap (slice_get order) place ∙ slice_get-get_or order c.0 0 c.1 ∙ ap Some there;
+      grind (arith, get_or_default order c.0 0 k c.1, c.2, at c.0 c.1, slice_get-get_or order c.0 0 c.1);
 }

@@ -1,14 +1,8 @@
 -- The levels of a paragraph: how many they are, where they lie, and that one character of class BN is as good as another.
-use Rattle.std.proofs.Common.{◌≡◌, ℕ, ◌≤◌, List, [], ◌∷◌, length, map, Option, refl, append-nil, arith}
-use Rattle.std.specs.Prelude.{All, IfSome, replicate}
-use Rattle.std.proofs.lemmas.List.{length-map}
-use Rattle.std.proofs.lemmas.List.Elements.{All-nil, All-head, All-tail, All-append, All-replicate}
-use Rattle.bidi_base.specs.declared.char_data.BidiClass.{BidiClass}
-use Rattle.bidi_base.specs.Isolates.{paragraph_level, stored_classes}
-use Rattle.bidi_base.specs.Laws.{AreLevelsFrom, BoundaryNeutralsAreAlike, StaysLeftToRight}
-use Rattle.bidi_base.specs.Source.{Source}
-use Rattle.bidi_base.specs.Stored.{stored_levels, text_classes, text_levels, paragraph_levels}
-use Rattle.bidi_base.specs.Text.{per_unit}
+use Rattle.bidi_base.proofs.Common.{◌≡◌, ℕ, ◌≤◌, List, [], ◌∷◌, length, map, Option, refl, append-nil, arith, All, IfSome, length-map, All-nil, All-head, All-tail, All-append, BidiClass, paragraph_level, stored_classes, AreLevelsFrom, Source, stored_levels, text_classes, text_levels, paragraph_levels, per_unit}
+use Rattle.std.specs.Prelude.{replicate}
+use Rattle.std.proofs.lemmas.List.Elements.{All-replicate}
+use Rattle.bidi_base.specs.Laws.{BoundaryNeutralsAreAlike, StaysLeftToRight}
 use Rattle.bidi_base.proofs.KeepsToLemmas.{levels_in-pure_ltr}
 use Rattle.bidi_base.proofs.ParagraphsLemmas.{joined}
 use Rattle.bidi_base.proofs.PieceUnits.{length-values}

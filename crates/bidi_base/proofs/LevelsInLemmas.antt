@@ -1,19 +1,7 @@
 -- The levels of a paragraph do not depend on the order in which its sequences are resolved.
-use Rattle.std.proofs.Common.{◌≡◌, ℕ, suc, ◌+◌, ◌<◌, ◌≤◌, Bool, true, false, not, cond, eqb, List, [], ◌∷◌, map, length, count_by, Option, add-one, refl, sym, ap, ◌∙◌, arith, rules}
+use Rattle.bidi_base.proofs.Common.{◌≡◌, ℕ, suc, ◌+◌, ◌<◌, ◌≤◌, Bool, true, false, not, cond, eqb, List, [], ◌∷◌, map, length, count_by, Option, add-one, refl, sym, ap, ◌∙◌, arith, rules, map-append, sum_by, IsPermutation, sum_by-cons, sum_by-IsPermutation, BidiClass, BidiMatchedOpeningBracket, class_at, at_places, is_removed, stored_classes, explicit_levels, explicit_classes, RunSequence, level_at, is_kept_at, kept_places, sequences, sequence_levels, AreResolved, level_in, filled_levels, levels_in}
 use Rattle.std.specs.Prelude.{flat_map, zip}
-use Rattle.std.proofs.lemmas.List.{map-append}
-use Rattle.std.specs.List.{sum_by}
-use Rattle.std.specs.List.Sorted.{IsPermutation}
-use Rattle.std.proofs.lemmas.List.Sums.{sum_by-cons, sum_by-le-sum_by}
-use Rattle.std.proofs.lemmas.List.Sorted.{sum_by-IsPermutation}
-use Rattle.bidi_base.specs.declared.char_data.BidiClass.{BidiClass}
-use Rattle.bidi_base.specs.declared.data_source.BidiMatchedOpeningBracket.{BidiMatchedOpeningBracket}
-use Rattle.bidi_base.specs.Places.{class_at, at_places}
-use Rattle.bidi_base.specs.Classes.{is_removed}
-use Rattle.bidi_base.specs.Isolates.{stored_classes}
-use Rattle.bidi_base.specs.Explicit.{explicit_levels, explicit_classes}
-use Rattle.bidi_base.specs.Sequences.{RunSequence, level_at, is_kept_at, kept_places, sequences}
-use Rattle.bidi_base.specs.Stored.{sequence_levels, AreResolved, level_in, filled_levels, levels_in}
+use Rattle.std.proofs.lemmas.List.Sums.{sum_by-le-sum_by}
 use Rattle.bidi_base.proofs.SequencesLemmas.{IsPermutation-sequences}
 use Rattle.bidi_base.proofs.LevelTableLemmas.{sum_by-flat_map, level_in-sum, count_by-zip, count_at-range, count_at-in}
 
@@ -37,11 +25,14 @@ module _ (entries : RunSequence → List (ℕ × ℕ)) (few : (test : ℕ → Bo
   pub level_in-order : (classes : List BidiClass) (seqs other : List RunSequence) (p : ℕ) → IsPermutation (kept_places classes) (flat_map (λ (s : RunSequence). s.places) seqs) → IsPermutation seqs other
       → level_in (flat_map entries other) p ≡ level_in (flat_map entries seqs) p
   level_in-order classes seqs other p shared moved =
-      let counts : count_by (λ (e : ℕ × ℕ). eqb e.0 p) (flat_map entries other) ≡ count_by (λ (e : ℕ × ℕ). eqb e.0 p) (flat_map entries seqs) =
-      grind (arith, sum_by-flat_map, sum_by-IsPermutation) in
-      let once : count_by (λ (e : ℕ × ℕ). eqb e.0 p) (flat_map entries seqs) ≤ 1 = once_in_table classes seqs p shared in
-      simp (level_in-sum (flat_map entries other) p (omega arith), level_in-sum (flat_map entries seqs) p once, sum_by-flat_map)
-      (sum_by-IsPermutation (λ s. sum_by (λ (e : ℕ × ℕ). cond (eqb e.0 p) e.1 0) (entries s)) seqs other moved)
+      grind (
+        arith,
+        once_in_table classes seqs p shared,
+        level_in-sum (flat_map entries other) p,
+        level_in-sum (flat_map entries seqs) p,
+        sum_by-flat_map,
+        sum_by-IsPermutation,
+      )
 
 few_entries : (source : List BidiClass) (brackets : List (Option BidiMatchedOpeningBracket)) (levels : List ℕ) (classes : List BidiClass) (test : ℕ → Bool) (s : RunSequence)
     → count_by (λ (e : ℕ × ℕ). test e.0) (sequence_levels source brackets levels classes s) ≤ count_by test s.places

@@ -6,6 +6,7 @@ pub mod BracketSearch
 pub mod BracketsLemmas
 pub mod ChainLemmas
 pub mod CharsLemmas
+pub mod Common
 pub mod ContextLemmas
 pub mod CrLfLemmas
 pub mod DirectionWalk

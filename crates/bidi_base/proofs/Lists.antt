@@ -1,12 +1,8 @@
 -- Facts on lists and searches that several files use.
-use Rattle.std.proofs.Common.{◌≡◌, ℕ, zero, suc, ◌+◌, ◌-◌, ◌<◌, ◌≤◌, Bool, true, false, cond, ◌&&◌, List, [], ◌∷◌, ◌++◌, length, map, get_or, take, drop, reverse, filter, filter_map, find, Option, Some, None, option_map, refl, sym, ap, ◌∙◌, arith, ◌⊎◌, inl, inr, append-nil, le_refl, length-append, length-drop}
+use Rattle.bidi_base.proofs.Common.{◌≡◌, ℕ, zero, suc, ◌+◌, ◌-◌, ◌<◌, ◌≤◌, Bool, true, false, cond, ◌&&◌, List, [], ◌∷◌, ◌++◌, length, map, get_or, take, drop, reverse, filter_map, find, Option, Some, None, option_map, refl, sym, ap, ◌∙◌, arith, ◌⊎◌, inl, inr, append-nil, length-append, length-drop, list_all, option_or, cases_Bool, and_parts, reverse-append, reverse-reverse, take-append-le, take_all, length-take-le, get_or-append_right, length-replicate, filter-append, last_or}
+use Rattle.std.proofs.Common.{filter}
 use Rattle.std.specs.Prelude.{replicate}
-use Rattle.std.specs.List.{list_all}
-use Rattle.std.specs.Option.{option_or}
-use Rattle.std.proofs.lemmas.Bool.{cases_Bool, and_parts}
-use Rattle.std.proofs.lemmas.List.{reverse-append, reverse-reverse, take-append-le, take_all, length-take-le, get_or-append_right, get_or-drop, length-replicate}
-use Rattle.std.proofs.lemmas.List.Elements.{filter-append}
-use Rattle.bidi_base.specs.Places.{last_or}
+use Rattle.std.proofs.lemmas.List.{get_or-drop}
 use mathlib.Core.List.{reverse_aux}
 use borrow.Rule.Slice.PartMut.{put_mid}
 
@@ -41,9 +37,7 @@ split_last xs v vs e = sym (reverse-reverse xs) ∙ ap reverse e ∙ reverse-app
 
 pub reverse_front : {X : Type 0} (xs : List X) (v : X) (vs : List X) → reverse xs ≡ v ∷ vs → reverse (take (length xs - 1) xs) ≡ vs
 reverse_front {X} xs v vs e =
-    let whole : xs ≡ reverse vs ++ v ∷ [] = split_last xs v vs e in
-    let count : length xs - 1 ≡ length (reverse vs) = omega (arith, ap length whole, length-append (reverse vs) (v ∷ [])) in
-    rw (count, whole) (simp (take-append-le (length (reverse vs)) (reverse vs) (v ∷ []) (le_refl _), take_all (length (reverse vs)) (reverse vs) (le_refl _), reverse-reverse))
+    grind (arith, split_last xs v vs e, length-append, take-append-le, take_all, reverse-reverse)
 
 pub reverse_none : {X : Type 0} (xs : List X) → reverse xs ≡ [] → xs ≡ []
 reverse_none xs e = sym (reverse-reverse xs) ∙ ap reverse e

@@ -1,13 +1,5 @@
 -- A matching PDI stands inside the same isolates and embeddings as its initiator, and so has its explicit level.
-use Rattle.std.proofs.Common.{◌≡◌, ℕ, zero, suc, ◌<◌, true, false, cond, eqb, List, ◌∷◌, reverse, length, get_or, Option, Some, None, sym, ap, ◌∙◌, arith, eqb-true}
-use Rattle.std.proofs.lemmas.List.Sums.{sum_by-cons}
-use Rattle.bidi_base.specs.declared.char_data.BidiClass.{BidiClass}
-use Rattle.bidi_base.specs.Classes.{is_initiator, is_pdi, is_paragraph_separator}
-use Rattle.bidi_base.specs.Places.{chain, first_or}
-use Rattle.bidi_base.specs.Isolates.{is_initiator_at, is_pdi_at, matching_pdi}
-use Rattle.bidi_base.specs.Embeddings.{open_at}
-use Rattle.bidi_base.specs.Explicit.{status_at, explicit_level, explicit_levels}
-use Rattle.bidi_base.specs.Sequences.{RunSequence, level_at, successor, sequence_from, sequences}
+use Rattle.bidi_base.proofs.Common.{◌≡◌, ℕ, zero, suc, ◌<◌, true, false, cond, eqb, List, ◌∷◌, length, get_or, Option, Some, None, arith, eqb-true, sum_by-cons, BidiClass, is_pdi, is_paragraph_separator, chain, first_or, is_initiator_at, is_pdi_at, matching_pdi, open_at, status_at, explicit_level, explicit_levels, RunSequence, level_at, successor, sequence_from, sequences}
 use Rattle.bidi_base.proofs.IsolatesLemmas.{initiators_apart, matching_pdi-IsLeast, matching_pdi-is_pdi}
 use Rattle.bidi_base.proofs.ExplicitLemmas.{level_at-explicit_levels}
 use Rattle.bidi_base.proofs.OpenMatches.{IsReadStack-matched}
@@ -26,8 +18,7 @@ left_at-match classes p q opening matches = grind (arith, leaves_at classes q, m
 -- so the same openers are open at both
 open_at-match : (classes : List BidiClass) (p q : ℕ) → is_initiator_at classes p ≡ true → matching_pdi classes p ≡ Some q → open_at classes q ≡ open_at classes p
 open_at-match classes p q opening matches =
-    let least = matching_pdi-IsLeast classes p q matches in
-    open_at-closed_by classes q least.below ∙ ap reverse (left_at-match classes p q opening matches) ∙ sym (open_at-closed_by classes p (omega (arith, least.from, least.below)))
+    grind (arith, open_at-closed_by, left_at-match classes p q opening matches, matching_pdi-IsLeast classes p q matches)
 
 explicit_level-match : (paragraph : ℕ) (classes : List BidiClass) (p q : ℕ) → is_initiator_at classes p ≡ true → matching_pdi classes p ≡ Some q
     → explicit_level paragraph classes q ≡ explicit_level paragraph classes p
@@ -37,15 +28,9 @@ explicit_level-match paragraph classes p q opening matches = grind (arith, not_p
     not_pdi : (c : BidiClass) → is_pdi c ≡ true → is_paragraph_separator c ≡ false
     not_pdi c e = grind arith
 
-    not_initiator : (c : BidiClass) → is_initiator c ≡ true → is_paragraph_separator c ≡ false
-    not_initiator c e = grind arith
-
 pub explicit_levels-SameLevelAtMatch : (paragraph : ℕ) (classes : List BidiClass) → SameLevelAtMatch classes (explicit_levels paragraph classes)
 explicit_levels-SameLevelAtMatch paragraph classes p q opening matches =
-    let least = matching_pdi-IsLeast classes p q matches in
-    level_at-explicit_levels paragraph classes q least.below
-    ∙ explicit_level-match paragraph classes p q opening matches
-    ∙ sym (level_at-explicit_levels paragraph classes p (omega (arith, least.from, least.below)))
+    grind (arith, matching_pdi-IsLeast classes p q matches, level_at-explicit_levels, explicit_level-match paragraph classes p q)
 
 -- ---- the characters of a sequence have one level
 

@@ -1,14 +1,6 @@
 -- N1 and N2 block by block.
-use Rattle.std.proofs.Common.{◌≡◌, ℕ, suc, ◌+◌, ◌-◌, ◌<◌, ◌≤◌, true, cond, List, ◌∷◌, length, get_or, take, drop, replicate, reverse, unwrap_or, sym, ap, subst, ◌∙◌, arith, inl, inr}
-use Rattle.std.proofs.lemmas.Bool.{cases_lt}
-use Rattle.std.proofs.lemmas.List.{drop_more, drop_all, get_or_past, get_or_default}
-use Rattle.std.proofs.lemmas.List.Folds.{list_all_at}
-use Rattle.std.specs.List.{list_all}
+use Rattle.bidi_base.proofs.Common.{◌≡◌, ℕ, suc, ◌+◌, ◌-◌, ◌<◌, ◌≤◌, true, cond, List, ◌∷◌, length, get_or, take, drop, replicate, reverse, unwrap_or, sym, ap, subst, ◌∙◌, arith, inl, inr, cases_lt, drop_more, drop_all, get_or_past, get_or_default, list_all_at, list_all, BidiClass, L, ON, as_direction, has_direction, is_neutral, is_weak_resolved, same_class, nearest_direction, n1_rule}
 use borrow.Rule.Slice.PartMut.{put_mid}
-use Rattle.bidi_base.specs.declared.char_data.BidiClass.{BidiClass}
-use Rattle.bidi_base.specs.declared.char_data.BidiClass.TheVariants.{L, ON}
-use Rattle.bidi_base.specs.Classes.{as_direction, has_direction, is_neutral, is_weak_resolved, same_class}
-use Rattle.bidi_base.specs.Neutral.{nearest_direction, n1_rule}
 use Rattle.bidi_base.proofs.PlacesLemmas.{reverse-take_more}
 use Rattle.bidi_base.proofs.NeutralLemmas.{nearest_direction-more}
 use Rattle.bidi_base.proofs.InPlace.{IsRewritten, IsRewritten-keep}

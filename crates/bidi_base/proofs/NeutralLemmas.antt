@@ -1,14 +1,5 @@
 -- The classes that N0 to N2 leave: N0 keeps those that W7 leaves, and after N2 each has a direction.
-use Rattle.std.proofs.Common.{◌≡◌, ℕ, zero, suc, ◌+◌, ◌<◌, ◌≤◌, Bool, true, List, [], ◌∷◌, map, fold, Option, Some, unwrap_or, refl, arith, rules}
-use Rattle.std.proofs.lemmas.Grind.{common_steps}
-use Rattle.std.specs.List.{list_all, range_with_len}
-use Rattle.std.proofs.lemmas.Bool.{and_from, or_left}
-use Rattle.bidi_base.specs.declared.char_data.BidiClass.{BidiClass}
-use Rattle.bidi_base.specs.declared.char_data.BidiClass.TheVariants.{L, R}
-use Rattle.bidi_base.specs.declared.data_source.BidiMatchedOpeningBracket.{BidiMatchedOpeningBracket}
-use Rattle.bidi_base.specs.Classes.{as_direction, has_direction, is_l_or_r, is_neutral, is_weak_resolved}
-use Rattle.bidi_base.specs.Levels.{is_odd, direction_of}
-use Rattle.bidi_base.specs.Neutral.{nearest_direction, pair_direction, with_pair, n0_pair, n0, n1_rule, n1_n2, neutral_classes}
+use Rattle.bidi_base.proofs.Common.{◌≡◌, ℕ, zero, suc, ◌+◌, ◌<◌, ◌≤◌, Bool, true, List, [], ◌∷◌, map, Option, Some, unwrap_or, refl, arith, rules, common_steps, list_all, range_with_len, and_from, or_left, BidiClass, L, R, BidiMatchedOpeningBracket, as_direction, has_direction, is_l_or_r, is_neutral, is_weak_resolved, is_odd, direction_of, nearest_direction, pair_direction, with_pair, n0_pair, n0, n1_rule, n1_n2, neutral_classes}
 use Rattle.bidi_base.proofs.ContextLemmas.{list_all-in_context, list_all-get_or}
 use Rattle.bidi_base.proofs.Lists.{chosen}
 
@@ -46,13 +37,10 @@ module _ (p : BidiClass → Bool) (e sos : BidiClass) (source : List BidiClass)
   unfolding n0_pair with_pair
   n0_pair-keeps classes pair l = grind (arith, list_all-map-range, list_all-get_or)
 
-  keeps_from : (pairs : List (ℕ × ℕ)) (classes : List BidiClass) → list_all p classes ≡ true → list_all p (fold (n0_pair e sos source) classes pairs) ≡ true
-  keeps_from [] classes l = l
-  keeps_from (pair ∷ pairs) classes l = keeps_from pairs (n0_pair e sos source classes pair) (n0_pair-keeps classes pair l)
-
   pub n0-keeps : (pairs : List (ℕ × ℕ)) (classes : List BidiClass) → list_all p classes ≡ true → list_all p (n0 e sos source pairs classes) ≡ true
   unfolding n0
-  n0-keeps pairs classes l = keeps_from pairs classes l
+  n0-keeps [] classes l = l
+  n0-keeps (pair ∷ pairs) classes l = n0-keeps pairs (n0_pair e sos source classes pair) (n0_pair-keeps classes pair l)
 
 pub n0-resolved : (e sos : BidiClass) (source : List BidiClass) (pairs : List (ℕ × ℕ)) (classes : List BidiClass) → is_l_or_r e ≡ true → is_l_or_r sos ≡ true → list_all is_weak_resolved classes ≡ true
     → list_all is_weak_resolved (n0 e sos source pairs classes) ≡ true

@@ -1,16 +1,6 @@
 -- N0 reads source classes for nonspacing marks alone, so stored classes serve as well.
-use Rattle.std.proofs.Common.{◌≡◌, ℕ, List, [], ◌∷◌, map, fold, Option, refl, arith}
-use Rattle.std.specs.Prelude.{slice_range}
-use Rattle.std.specs.List.{list_all}
-use Rattle.std.proofs.lemmas.List.{get_or_past, take-map, drop-map}
-use Rattle.std.proofs.lemmas.List.Folds.{list_all-map}
-use Rattle.bidi_base.specs.declared.char_data.BidiClass.{BidiClass}
-use Rattle.bidi_base.specs.declared.char_data.BidiClass.TheVariants.{L}
-use Rattle.bidi_base.specs.declared.data_source.BidiMatchedOpeningBracket.{BidiMatchedOpeningBracket}
-use Rattle.bidi_base.specs.Classes.{is_nsm}
-use Rattle.bidi_base.specs.Places.{class_at, at_places}
-use Rattle.bidi_base.specs.Isolates.{stored_classes}
-use Rattle.bidi_base.specs.Neutral.{is_mark_after, goes_with_pair, with_pair, n0_pair, n0, neutral_classes}
+use Rattle.bidi_base.proofs.Common.{◌≡◌, ℕ, List, [], ◌∷◌, map, fold, Option, refl, arith, slice_range, list_all, get_or_past, take-map, list_all-map, BidiClass, L, BidiMatchedOpeningBracket, is_nsm, at_places, stored_classes, is_mark_after, goes_with_pair, with_pair, n0_pair, n0, neutral_classes}
+use Rattle.std.proofs.lemmas.List.{drop-map}
 use Rattle.bidi_base.proofs.StoredLemmas.{class_at-stored_classes}
 use Rattle.bidi_base.proofs.StoredSteps.{length-stored_classes}
 
@@ -18,13 +8,9 @@ module _ (source other : List BidiClass) (same : map is_nsm source ≡ map is_ns
   all_marks : (cs : List BidiClass) (i j : ℕ) → list_all is_nsm (slice_range cs i j) ≡ list_all (λ b. b) (slice_range (map is_nsm cs) i j)
   all_marks cs i j = grind (arith, list_all-map, take-map, drop-map)
 
-  is_mark_after-source : (b k : ℕ) → is_mark_after source b k ≡ is_mark_after other b k
-  unfolding is_mark_after
-  is_mark_after-source b k = grind (arith, all_marks)
-
   n0_pair-source : (e sos : BidiClass) (classes : List BidiClass) (pair : ℕ × ℕ) → n0_pair e sos source classes pair ≡ n0_pair e sos other classes pair
-  unfolding n0_pair with_pair goes_with_pair
-  n0_pair-source e sos classes pair = grind (arith, is_mark_after-source)
+  unfolding n0_pair with_pair goes_with_pair is_mark_after
+  n0_pair-source e sos classes pair = grind (arith, all_marks)
 
   n0_from : (e sos : BidiClass) (pairs : List (ℕ × ℕ)) (classes : List BidiClass) → fold (n0_pair e sos source) classes pairs ≡ fold (n0_pair e sos other) classes pairs
   n0_from e sos [] classes = refl
@@ -35,10 +21,8 @@ module _ (source other : List BidiClass) (same : map is_nsm source ≡ map is_ns
   unfolding neutral_classes n0
   neutral_classes-source level sos eos brackets classes = grind (arith, n0_from)
 
-stored_classes-mark : (classes : List BidiClass) (p : ℕ) → is_nsm (class_at (stored_classes classes) p) ≡ is_nsm (class_at classes p)
-stored_classes-mark classes p = grind (arith, class_at-stored_classes, get_or_past, length-stored_classes)
-
 -- the same characters are marks by their stored classes
 pub marks-stored_classes : (classes : List BidiClass) (ps : List ℕ) → map is_nsm (at_places L (stored_classes classes) ps) ≡ map is_nsm (at_places L classes ps)
 marks-stored_classes classes [] = refl
-marks-stored_classes classes (p ∷ ps) = simp (stored_classes-mark classes p, marks-stored_classes classes ps)
+marks-stored_classes classes (p ∷ ps) =
+    grind (arith, class_at-stored_classes classes p, get_or_past, length-stored_classes, marks-stored_classes classes ps)

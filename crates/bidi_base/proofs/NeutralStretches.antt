@@ -1,37 +1,26 @@
 -- N1 and N2 stretch by stretch: neutrals, and the class with a direction, or the end, behind them.
-use Rattle.std.proofs.Common.{◌≡◌, true, List, [], ◌∷◌, ◌++◌, length, replicate, Some, refl, append-nil, arith}
-use Rattle.std.specs.List.{list_all}
-use Rattle.std.proofs.lemmas.Bool.{and_parts}
-use Rattle.bidi_base.specs.declared.char_data.BidiClass.{BidiClass}
-use Rattle.bidi_base.specs.Classes.{as_direction, is_neutral}
-use Rattle.bidi_base.specs.Neutral.{nearest_direction, n1_rule, n1_n2}
-use Rattle.bidi_base.specs.Places.{in_context}
+use Rattle.bidi_base.proofs.Common.{◌≡◌, true, List, [], ◌∷◌, ◌++◌, length, replicate, Some, refl, append-nil, arith, list_all, and_parts, BidiClass, as_direction, is_neutral, nearest_direction, n1_rule, n1_n2, in_context}
 use Rattle.bidi_base.proofs.NeutralBlocks.{common, past_neutral}
 use Rattle.bidi_base.proofs.NeutralLemmas.{nearest_direction-more}
 
 -- neutrals are looked past
 past_neutrals : (d : BidiClass) (cs after : List BidiClass) → list_all is_neutral cs ≡ true → nearest_direction d (cs ++ after) ≡ nearest_direction d after
 past_neutrals d [] after h = refl
-past_neutrals d (c ∷ cs) after h =
-    grind (arith, past_neutral d c (cs ++ after), past_neutrals d cs after)
+past_neutrals d (c ∷ cs) after h = grind (arith, past_neutral d c (cs ++ after), past_neutrals d cs after)
 
 -- what stands before counts by its nearest direction alone
 behind_alike : (e sos left eos : BidiClass) (before near classes : List BidiClass) → nearest_direction sos before ≡ nearest_direction left near
     → in_context (n1_rule e sos eos) before classes ≡ in_context (n1_rule e left eos) near classes
 behind_alike e sos left eos before near [] h = refl
 behind_alike e sos left eos before near (c ∷ cs) h =
-    let right = nearest_direction eos cs in
-    let here : n1_rule e sos eos before c cs ≡ n1_rule e left eos near c cs = grind arith in
-    simp (here, behind_alike e sos left eos (c ∷ before) (c ∷ near) cs (simp (nearest_direction-more, h)))
+    grind (arith, behind_alike e sos left eos (c ∷ before) (c ∷ near) cs, nearest_direction-more)
 
 -- neutrals take what their two sides give, and what is behind them sees what they saw
 pub n1_n2-neutrals : (e left eos : BidiClass) (classes after : List BidiClass) → list_all is_neutral classes ≡ true
     → n1_n2 e left eos (classes ++ after) ≡ replicate (length classes) (common e left (nearest_direction eos after)) ++ n1_n2 e left eos after
 n1_n2-neutrals e left eos [] after h = refl
 n1_n2-neutrals e left eos (c ∷ cs) after h =
-    let parts = and_parts (is_neutral c) (list_all is_neutral cs) h in
-    let rest = behind_alike e left left eos (c ∷ []) [] (cs ++ after) (past_neutral left c [] parts.0) in
-    simp (parts.0, past_neutrals eos cs after parts.1, rest, n1_n2-neutrals e left eos cs after parts.1)
+    grind (arith, n1_n2-neutrals e left eos cs after, and_parts, behind_alike, past_neutral, past_neutrals)
 
 -- a class with a direction stays, and what is behind it sees that direction
 pub n1_n2-directed : (e left right eos c : BidiClass) (after : List BidiClass) → as_direction c ≡ Some right → n1_n2 e left eos (c ∷ after) ≡ c ∷ n1_n2 e right eos after

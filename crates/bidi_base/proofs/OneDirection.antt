@@ -1,13 +1,5 @@
 -- A list in which each class is a neutral or one direction, which stands at its ends too: N0 to N2 give that direction to all.
-use Rattle.std.proofs.Common.{◌≡◌, ℕ, Bool, true, cond, List, [], ◌∷◌, length, take, reverse, filter_map, find, Option, Some, option_map, refl, ap, ◌∙◌, arith}
-use Rattle.std.specs.List.{list_all, list_any}
-use Rattle.bidi_base.specs.declared.char_data.BidiClass.{BidiClass}
-use Rattle.bidi_base.specs.declared.char_data.BidiClass.TheVariants.{L, R}
-use Rattle.bidi_base.specs.declared.data_source.BidiMatchedOpeningBracket.{BidiMatchedOpeningBracket}
-use Rattle.bidi_base.specs.Brackets.{bracket_pairs}
-use Rattle.bidi_base.specs.Classes.{as_direction, is_l_or_r, is_neutral, same_class}
-use Rattle.bidi_base.specs.Levels.{direction_of}
-use Rattle.bidi_base.specs.Neutral.{nearest_direction, pair_direction, n0, n1_rule, neutral_classes}
+use Rattle.bidi_base.proofs.Common.{◌≡◌, ℕ, Bool, true, cond, List, [], ◌∷◌, length, take, reverse, filter_map, find, Option, Some, option_map, refl, ap, ◌∙◌, arith, list_all, list_any, BidiClass, L, R, BidiMatchedOpeningBracket, bracket_pairs, as_direction, is_l_or_r, is_neutral, same_class, direction_of, nearest_direction, pair_direction, n0, n1_rule, neutral_classes}
 use Rattle.bidi_base.proofs.ContextLemmas.{list_all-in_context}
 use Rattle.bidi_base.proofs.Lists.{list_all-take, list_all-drop}
 use Rattle.bidi_base.proofs.NeutralLemmas.{n0-keeps}

@@ -1,8 +1,6 @@
 -- Openings and their matches: a closing matches the innermost opening that is open before it, so no two openings have one match.
-use Rattle.std.proofs.Common.{◌≡◌, ℕ, zero, suc, ◌+◌, ◌<◌, Bool, true, false, List, [], ◌∷◌, Some, refl, sym, ap, arith, inl, inr, eqb-true}
-use Rattle.std.proofs.lemmas.Bool.{both_ways, false_from_ne_true}
-use Rattle.bidi_base.specs.Matching.{is_closed_at, match_of}
-use Rattle.bidi_base.proofs.PlacesLemmas.{IsLeast, find-between-is}
+use Rattle.bidi_base.proofs.Common.{◌≡◌, ℕ, zero, suc, ◌+◌, ◌<◌, Bool, true, false, List, [], ◌∷◌, Some, refl, sym, ap, arith, inl, inr, eqb-true, is_closed_at, match_of}
+use Rattle.bidi_base.proofs.PlacesLemmas.{find-between-is}
 use Rattle.bidi_base.proofs.MatchingLemmas.{at_most_one, match_of-IsLeast}
 use Rattle.bidi_base.proofs.ReadStack.{Member, read_closed, read_opened, IsOpenUnder-count, IsOpenUnder-closed, AreOpen, IsReadStack, IsReadStack-start, IsReadStack-more}
 
@@ -10,12 +8,13 @@ module _ (opens closes : ℕ → Bool) (apart : (k : ℕ) → opens k ≡ true �
   -- a closing matches the innermost opening that is open before it
   pub IsReadStack-match : (n m q : ℕ) (stack : List ℕ) → IsReadStack opens closes m (q ∷ stack) → closes m ≡ true → m < n → match_of opens closes n q ≡ Some m
   unfolding match_of
-  IsReadStack-match n m q stack h here within = find-between-is (is_closed_at opens closes q) (q + 1) n m (record {
-    from = omega (arith, h.are_open.1.read);
-    below = within;
-    passes = IsOpenUnder-closed opens closes m q h.are_open.1 (false_from_ne_true (opens m) (λ opening. both_ways (closes m) (apart m opening) here)) here;
-    first = λ k from below. h.are_open.1.still k (omega arith) below;
-  })
+  IsReadStack-match n m q stack h here within =
+      find-between-is (is_closed_at opens closes q) (q + 1) n m (grind (
+        arith,
+        IsOpenUnder-closed opens closes m q,
+        apart m,
+        h.are_open.1,
+      ))
 
   -- what is closed at m has none above it
   none_above : (m depth q : ℕ) (stack : List ℕ) → AreOpen opens closes m depth stack → Member q stack → is_closed_at opens closes q m ≡ true → depth ≡ 0
@@ -24,15 +23,12 @@ module _ (opens closes : ℕ → Bool) (apart : (k : ℕ) → opens k ≡ true �
 
   -- and no other opening matches it
   pub IsReadStack-matched : (n m q : ℕ) (stack : List ℕ) → IsReadStack opens closes m stack → opens q ≡ true → match_of opens closes n q ≡ Some m → (rest : List ℕ) × (stack ≡ q ∷ rest)
-  IsReadStack-matched n m q stack h opening e = grind (arith, least, on_top)
+  IsReadStack-matched n m q stack h opening e = grind (arith, match_of-IsLeast opens closes n q m e, on_top)
     where
-      least : IsLeast (is_closed_at opens closes q) (q + 1) n m
-      least = match_of-IsLeast opens closes n q m e
-
       on_top : (stack : List ℕ) → AreOpen opens closes m 0 stack → Member q stack → (rest : List ℕ) × (stack ≡ q ∷ rest)
       on_top [] are member = absurd member
       on_top (x ∷ stack) are (inl same) = (stack, ap {B = List ℕ} (λ y. y ∷ stack) (sym same))
-      on_top (x ∷ stack) are (inr below) = absurd (omega (arith, none_above m 1 q stack are.2 below least.passes))
+      on_top (x ∷ stack) are (inr below) = absurd (omega (arith, none_above m 1 q stack are.2 below (match_of-IsLeast opens closes n q m e).passes))
 
   -- where none is open before it, it matches none
   pub IsReadStack-no_match : (n m q : ℕ) → IsReadStack opens closes m [] → opens q ≡ true → match_of opens closes n q ≡ Some m → ⊥
@@ -47,5 +43,4 @@ module _ (opens closes : ℕ → Bool) (apart : (k : ℕ) → opens k ≡ true �
   -- two openings have no match in common
   pub match_of-injective : (n p r q : ℕ) → opens p ≡ true → opens r ≡ true → match_of opens closes n p ≡ Some q → match_of opens closes n r ≡ Some q → p ≡ r
   match_of-injective n p r q opens_p opens_r e f =
-      let h = some_stack q in
-      cc ((IsReadStack-matched n q p h.0 h.1 opens_p e).1, (IsReadStack-matched n q r h.0 h.1 opens_r f).1)
+      grind (arith, some_stack q, IsReadStack-matched n q p, IsReadStack-matched n q r)

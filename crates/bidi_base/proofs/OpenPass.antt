@@ -1,12 +1,5 @@
 -- The pass from the front, with what is open as the code keeps it: the innermost last.
-use Rattle.std.proofs.Common.{◌≡◌, ℕ, ◌+◌, ◌-◌, ◌<◌, ◌≤◌, true, false, List, [], ◌∷◌, ◌++◌, length, map, get_or, take, reverse, Option, Some, None, refl, sym, ap, subst, ◌⊎◌, inl, inr}
-use Rattle.std.proofs.lemmas.Bool.{cases_Bool}
-use Rattle.std.proofs.lemmas.List.{reverse-append}
-use Rattle.bidi_base.specs.declared.char_data.BidiClass.{BidiClass}
-use Rattle.bidi_base.specs.Places.{class_at, last_or}
-use Rattle.bidi_base.specs.Isolates.{is_initiator_at, is_pdi_at}
-use Rattle.bidi_base.specs.Sequences.{successor, is_first, sequences}
-use Rattle.bidi_base.specs.SequencePass.{read_class, waiting_for}
+use Rattle.bidi_base.proofs.Common.{◌≡◌, ℕ, ◌+◌, ◌-◌, ◌<◌, ◌≤◌, true, false, List, [], ◌∷◌, ◌++◌, length, map, get_or, take, reverse, Option, Some, None, refl, sym, ap, subst, ◌⊎◌, inl, inr, cases_Bool, reverse-append, BidiClass, class_at, last_or, is_initiator_at, is_pdi_at, successor, is_first, sequences, read_class, waiting_for}
 use Rattle.bidi_base.proofs.Lists.{reverse_front, last_or-reverse, reverse_none}
 use Rattle.bidi_base.proofs.PassLemmas.{sequence_of}
 use Rattle.bidi_base.proofs.RunsLemmas.{BeginsRun}

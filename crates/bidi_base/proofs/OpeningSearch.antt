@@ -1,10 +1,6 @@
 -- The search for the opening of a closing, over entries that a stack keeps of the openings that wait.
-use Rattle.std.proofs.Common.{◌≡◌, ℕ, ◌-◌, ◌<◌, Bool, eqb, List, map, length, get_or, reverse, Option, Some, option_map, sym, ap, ◌∙◌, arith}
-use Rattle.std.proofs.lemmas.List.{length-reverse, get_or-reverse}
-use Rattle.bidi_base.specs.declared.data_source.BidiMatchedOpeningBracket.{BidiMatchedOpeningBracket}
-use Rattle.bidi_base.specs.Places.{find_last}
-use Rattle.bidi_base.specs.Brackets.{bracket_at, is_same_bracket}
-use Rattle.bidi_base.specs.PairSearch.{opening_of, IsUnderWay}
+use Rattle.bidi_base.proofs.Common.{◌≡◌, ℕ, ◌-◌, ◌<◌, Bool, eqb, List, map, length, get_or, reverse, Option, Some, option_map, sym, ap, ◌∙◌, arith, length-reverse, get_or-reverse, BidiMatchedOpeningBracket, find_last, bracket_at, is_same_bracket, IsUnderWay}
+use Rattle.bidi_base.specs.PairSearch.{opening_of}
 use Rattle.bidi_base.proofs.PairsLemmas.{IsUnderWay-entry}
 use Rattle.bidi_base.proofs.Lists.{find-map, find-same, map-reverse}
 

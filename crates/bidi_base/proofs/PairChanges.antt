@@ -1,15 +1,6 @@
 -- What N0 for one pair leaves: all before its opening, and all within a later pair whose opening is no mark.
-use Rattle.std.proofs.Common.{◌≡◌, ℕ, ◌+◌, ◌-◌, ◌<◌, ◌≤◌, false, ltb, List, length, get_or, drop, slice_range, ap, ◌∙◌, arith, length-take, length-drop, get_or-take, get_or-drop}
-use Rattle.std.specs.List.{list_all}
-use Rattle.std.proofs.lemmas.Bool.{and_right}
-use Rattle.std.proofs.lemmas.List.Folds.{list_all_at}
-use Rattle.std.proofs.lemmas.List.FromFn.{length-map-range_with_len, get_or-map-range_with_len}
-use Rattle.bidi_base.specs.declared.char_data.BidiClass.{BidiClass}
-use Rattle.bidi_base.specs.declared.char_data.BidiClass.TheVariants.{L}
-use Rattle.bidi_base.specs.Classes.{is_nsm}
-use Rattle.bidi_base.specs.Places.{class_at}
-use Rattle.bidi_base.specs.Brackets.{IsBehindOrWithin}
-use Rattle.bidi_base.specs.Neutral.{is_mark_after, goes_with_pair, with_pair, n0_pair}
+use Rattle.bidi_base.proofs.Common.{◌≡◌, ℕ, ◌+◌, ◌-◌, ◌<◌, ◌≤◌, false, List, length, arith, length-take, length-drop, get_or-take, get_or-drop, list_all_at, length-map-range_with_len, get_or-map-range_with_len, BidiClass, L, is_nsm, class_at, IsBehindOrWithin, is_mark_after, goes_with_pair, with_pair, n0_pair}
+use Rattle.std.proofs.Common.{slice_range}
 
 pub is_mark_after-before : (source : List BidiClass) (b k : ℕ) → k ≤ b → is_mark_after source b k ≡ false
 unfolding is_mark_after
@@ -19,12 +10,14 @@ is_mark_after-before source b k before = grind arith
 pub is_mark_after-stopped : (source : List BidiClass) (b m k : ℕ) → b < m → m ≤ k → m < length source → is_nsm (class_at source m) ≡ false → is_mark_after source b k ≡ false
 unfolding is_mark_after
 is_mark_after-stopped source b m k after to fits none =
-    let marks = slice_range source (b + 1) (k + 1) in
-    let there : b + 1 + (m - (b + 1)) ≡ m = omega arith in
-    let same : get_or marks (m - (b + 1)) L ≡ class_at source m = grind (arith, get_or-take, get_or-drop)
-    in
-    let inside : m - (b + 1) < length marks = omega (arith, length-take (k + 1 - (b + 1)) (drop (b + 1) source), length-drop (b + 1) source) in
-    and_right (ltb b k) (list_all is_nsm marks) (list_all_at is_nsm marks (m - (b + 1)) L inside (ap is_nsm same ∙ none))
+    grind (
+      arith,
+      list_all_at is_nsm (slice_range source (b + 1) (k + 1)) (m - (b + 1)) L,
+      get_or-take,
+      get_or-drop,
+      length-take,
+      length-drop,
+    )
 
 goes_with_none : (source : List BidiClass) (pair : ℕ × ℕ) (k : ℕ) → (k ≡ pair.0 → ⊥) → (k ≡ pair.1 → ⊥) → is_mark_after source pair.0 k ≡ false → is_mark_after source pair.1 k ≡ false → goes_with_pair source pair k ≡ false
 unfolding goes_with_pair

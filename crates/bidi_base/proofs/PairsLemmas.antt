@@ -1,20 +1,11 @@
 -- Bracket pairs in one pass from the front: what is closed and what waits at each place, and what the pass has found at its end.
-use Rattle.std.proofs.Common.{◌≡◌, ℕ, zero, suc, ◌+◌, ◌-◌, ◌<◌, ◌≤◌, Bool, true, false, ◌&&◌, eqb, ltb, leb, List, [], ◌∷◌, ◌++◌, length, get_or, take, filter, filter_map, find, Option, Some, None, refl, sym, ap, subst, ◌∙◌, ◌⊎◌, arith, inl, inr, append-nil, append_assoc, add-one, lt-ltb, le-ltb}
-use Rattle.std.proofs.lemmas.Grind.{common_steps}
-use Rattle.std.specs.Prelude.{⊤}
-use Rattle.std.specs.List.{range_with_len, AllByRecursion}
-use Rattle.std.proofs.lemmas.List.Elements.{All-from_recursion}
-use Rattle.std.proofs.lemmas.List.Folds.{find-append, list_any-append}
-use Rattle.std.proofs.lemmas.List.Sums.{fold_push}
-use Rattle.bidi_base.specs.declared.char_data.BidiClass.{BidiClass}
-use Rattle.bidi_base.specs.declared.data_source.BidiMatchedOpeningBracket.{BidiMatchedOpeningBracket}
-use Rattle.bidi_base.specs.Places.{between, indexes, find_last}
-use Rattle.bidi_base.specs.Brackets.{max_open_brackets, counted_brackets, bracket_at, is_opening, is_closing, is_same_bracket, is_taken, is_available, available, partner, with_closing, closed_pairs, bracket_limit, pairs_of, bracket_pairs, ArePairsWithin}
-use Rattle.bidi_base.specs.PairSearch.{closed_before, IsUnderWay}
-use Rattle.bidi_base.proofs.PlacesLemmas.{IsLeast, range_with_len-more, find-between-is, find-between-is_None, find_last-range_with_len}
+use Rattle.bidi_base.proofs.Common.{◌≡◌, ℕ, zero, suc, ◌+◌, ◌-◌, ◌<◌, ◌≤◌, Bool, true, false, ◌&&◌, eqb, ltb, leb, List, [], ◌∷◌, ◌++◌, length, get_or, take, filter_map, find, Option, Some, None, refl, ap, subst, ◌∙◌, ◌⊎◌, arith, inl, inr, append-nil, append_assoc, add-one, lt-ltb, le-ltb, rules, common_steps, ⊤, range_with_len, AllByRecursion, All-from_recursion, find-append, list_any-append, fold_push, BidiClass, BidiMatchedOpeningBracket, between, indexes, find_last, max_open_brackets, counted_brackets, bracket_at, is_opening, is_closing, is_same_bracket, is_taken, is_available, available, partner, with_closing, closed_pairs, bracket_limit, pairs_of, bracket_pairs, closed_before, IsUnderWay, and-true}
+use Rattle.std.proofs.Common.{filter}
+use Rattle.bidi_base.specs.Brackets.{ArePairsWithin}
+use Rattle.bidi_base.proofs.PlacesLemmas.{range_with_len-more, find-between-is, find-between-is_None, find_last-range_with_len}
 use Rattle.bidi_base.proofs.BracketsLemmas.{AllClosedBefore, available-opening, available-pair, available-other}
 use Rattle.bidi_base.proofs.Lists.{find-filter, filter-reverse, option_or-None, cases_Option}
-use Rattle.std.proofs.Math.Bool.{and-true, or-false, and-false}
+use Rattle.std.proofs.Math.Bool.{and-false}
 
 -- each pair begins before it ends, and ends before j
 abbrev pub AreInOrder : ℕ → List (ℕ × ℕ) → Type 0
@@ -27,7 +18,7 @@ AreInOrder-closed j (p ∷ pairs) h = (h.0.1, AreInOrder-closed j pairs h.1)
 
 AreInOrder-later : (j : ℕ) (pairs : List (ℕ × ℕ)) → AreInOrder j pairs → AreInOrder (j + 1) pairs
 AreInOrder-later j [] h = h
-AreInOrder-later j (p ∷ pairs) h = ((h.0.0, omega (arith, h.0.1)), AreInOrder-later j pairs h.1)
+AreInOrder-later j (p ∷ pairs) h = grind (arith, AreInOrder-later j pairs)
 
 AreInOrder-push : (j i k : ℕ) (pairs : List (ℕ × ℕ)) → AreInOrder j pairs → i < k → k < j → AreInOrder j (pairs ++ (i, k) ∷ [])
 AreInOrder-push j i k [] h l m = ((l, m), h)
@@ -79,12 +70,8 @@ module _ (brackets : List (Option BidiMatchedOpeningBracket)) where
 
   pub closed_before-in_order : (j : ℕ) → AreInOrder j (closed_before brackets j)
   closed_before-in_order zero = tt
-  closed_before-in_order (suc j) =
-      let h : AreInOrder (j + 1) (closed_before brackets j) = AreInOrder-later j (closed_before brackets j) (closed_before-in_order j) in
-      subst (λ (n : ℕ). AreInOrder n (closed_before brackets n)) (add-one j) (elim (closed_before-next j) [
-        | inl same ↦ simp same h
-        | inr pair ↦ simp pair.2 (AreInOrder-push (j + 1) pair.0 j (closed_before brackets j) h pair.1 (omega arith))
-      ])
+  closed_before-in_order (suc j) = subst (λ (n : ℕ). AreInOrder n (closed_before brackets n)) (add-one j)
+      (grind (arith, closed_before-in_order j, closed_before-next j, AreInOrder-later, AreInOrder-push))
 
   pub closed_before-closed : (j : ℕ) → AllClosedBefore j (closed_before brackets j)
   closed_before-closed j = AreInOrder-closed j (closed_before brackets j) (closed_before-in_order j)
@@ -94,23 +81,28 @@ module _ (brackets : List (Option BidiMatchedOpeningBracket)) where
   closed_before-split k zero = let same : k + 0 ≡ k = omega arith in ([], simp (same, append-nil), tt)
   closed_before-split k (suc n) =
       let h = closed_before-split k n in
-      let place : k + suc n ≡ k + n + 1 = omega arith in
       elim (closed_before-next (k + n)) [
-        | inl same ↦ (h.0, simp (place, same, h.1), h.2)
-        | inr pair ↦ (h.0 ++ (pair.0, k + n) ∷ [], simp (place, pair.2, h.1, append_assoc), AreClosedFrom-push k pair.0 (k + n) h.0 h.2 (omega arith))
+        | inl same ↦ (
+          h.0,
+          grind (
+            arith,
+            h.1,
+            ap (closed_before brackets)
+                (let place : k + suc n ≡ k + n + 1 = omega arith in place),
+          ),
+          h.2,
+        )
+        | inr pair ↦ (
+          h.0 ++ (pair.0, k + n) ∷ [],
+          grind (arith, pair.2, h.1, append_assoc),
+          AreClosedFrom-push k pair.0 (k + n) h.0 h.2 (omega arith),
+        )
       ]
 
   -- at k it does not matter what is closed from there on
   is_taken-later : (pairs later : List (ℕ × ℕ)) (k i : ℕ) → AreClosedFrom k later → is_taken (pairs ++ later) k i ≡ is_taken pairs k i
-  is_taken-later pairs later k i h = simp (list_any-append, none later h, or-false)
-    where
-      none : (ps : List (ℕ × ℕ)) → AreClosedFrom k ps → is_taken ps k i ≡ false
-      none [] g = refl
-      none (p ∷ ps) g = simp (le-ltb p.1 k g.0, none ps g.1)
-
-  available-later : (pairs later : List (ℕ × ℕ)) (k : ℕ) → AreClosedFrom k later → available brackets (pairs ++ later) k ≡ available brackets pairs k
-  unfolding available
-  available-later pairs later k h = grind (arith, is_taken-later)
+  is_taken-later pairs [] k i h = grind (arith, append-nil)
+  is_taken-later pairs (p ∷ later) k i h = grind (arith, list_any-append, is_taken-later pairs later k i)
 
   closed_before-upto : (k n : ℕ) → k ≤ n → (later : List (ℕ × ℕ)) × (closed_before brackets n ≡ closed_before brackets k ++ later) × AreClosedFrom k later
   closed_before-upto k n order = let place : k + (n - k) ≡ n = omega arith in simp place at (closed_before-split k (n - k))
@@ -137,7 +129,7 @@ module _ (brackets : List (Option BidiMatchedOpeningBracket)) where
   waiting_in : (j low n : ℕ) → low + n ≤ j → AreWaiting j low (filter (is_available brackets (closed_before brackets j) j) (range_with_len low n))
   waiting_in j low zero order = tt
   waiting_in j low (suc n) order =
-      grind (arith, waiting_in j (low + 1) n, not_taken-find j low (closed_before brackets j) (closed_before-in_order j), AreWaiting-from)
+      grind (arith, waiting_in j (low + 1) n, not_taken-find, closed_before-in_order, AreWaiting-from)
 
   pub available-waiting : (j : ℕ) → AreWaiting j 0 (available brackets (closed_before brackets j) j)
   unfolding available
@@ -146,9 +138,7 @@ module _ (brackets : List (Option BidiMatchedOpeningBracket)) where
   -- the entry at k, and those below it
   pub AreWaiting-get : (j low : ℕ) (is : List ℕ) (k : ℕ) → AreWaiting j low is → k < length is → IsWaiting j (get_or is k 0) × (low ≤ get_or is k 0)
   AreWaiting-get j low [] k h fits = absurd (omega arith)
-  AreWaiting-get j low (i ∷ is) zero h fits = (h.1, h.0)
-  AreWaiting-get j low (i ∷ is) (suc k) h fits =
-      let g = AreWaiting-get j (i + 1) is k h.2 (omega arith) in (g.0, omega (arith, g.1, h.0))
+  AreWaiting-get j low (i ∷ is) k h fits = grind (arith, AreWaiting-get j (i + 1) is)
 
   none_below : (j low i : ℕ) (is : List ℕ) → AreWaiting j low is → i ≤ low → filter (λ x. ltb x i) is ≡ []
   none_below j low i [] h order = refl
@@ -191,20 +181,12 @@ module _ (brackets : List (Option BidiMatchedOpeningBracket)) where
       → find_last (λ i. is_same_bracket (bracket_at brackets i) (bracket_at brackets j)) waiting ≡ Some (get_or waiting k 0)
       → IsUnderWay brackets (j + 1) (take k waiting) × (closed_before brackets (j + 1) ≡ closed_before brackets j ++ (get_or waiting k 0, j) ∷ [])
   IsUnderWay-pair j waiting k h closing fits found =
-      let i = get_or waiting k 0 in
-      let other : is_opening (bracket_at brackets j) ≡ false = grind arith in
-      let same = closed_before-more j ∙ with_closing-pair (closed_before brackets j) j i closing (partner-waiting j waiting h ∙ found) in
-      let waiting_all : AreWaiting j 0 waiting = rw h.waits (available-waiting j) in (
-        record {
-          waits = simp (same, available-pair brackets _ j (closed_before-closed j) i other, ← h.waits, AreWaiting-below j 0 waiting k waiting_all fits);
-          room = λ l below opening. grind arith;
-        },
-        same,
-      )
+      let same = closed_before-more j ∙ with_closing-pair (closed_before brackets j) j (get_or waiting k 0) closing
+      (partner-waiting j waiting h ∙ found) in
+      (grind (arith, same, available-pair, closed_before-closed j, AreWaiting-below j 0 waiting k, available-waiting j), same)
 
   pub IsUnderWay-entry : (j : ℕ) (waiting : List ℕ) (k : ℕ) → IsUnderWay brackets j waiting → k < length waiting → IsWaiting j (get_or waiting k 0)
-  IsUnderWay-entry j waiting k h fits =
-      let waiting_all : AreWaiting j 0 waiting = rw h.waits (available-waiting j) in (AreWaiting-get j 0 waiting k waiting_all fits).0
+  IsUnderWay-entry j waiting k h fits = grind (arith, AreWaiting-get j 0 waiting k, available-waiting j, h.waits)
 
   -- an opening at k finds no room
   abbrev overflows : List (ℕ × ℕ) → ℕ → Bool
@@ -215,7 +197,8 @@ module _ (brackets : List (Option BidiMatchedOpeningBracket)) where
   HasEnded j waiting = (j ≡ length brackets) ⊎ ((is_opening (bracket_at brackets j) ≡ true) × (max_open_brackets ≤ length waiting))
 
   stack_at : (k n : ℕ) → k ≤ n → available brackets (closed_before brackets n) k ≡ available brackets (closed_before brackets k) k
-  stack_at k n order = let h = closed_before-upto k n order in simp (h.1, available-later (closed_before brackets k) h.0 k h.2)
+  unfolding available
+  stack_at k n order = grind (arith, closed_before-upto k n, is_taken-later)
 
   has_room : (j n k : ℕ) (waiting : List ℕ) → IsUnderWay brackets j waiting → j ≤ n → k < j → overflows (closed_before brackets n) k ≡ false
   has_room j n k waiting h inside below = grind (arith, stack_at)
@@ -225,13 +208,12 @@ module _ (brackets : List (Option BidiMatchedOpeningBracket)) where
   unfolding bracket_limit closed_pairs
   limit_is j waiting h inside ended =
       let n = length brackets in
-      let test : ℕ → Bool = overflows (closed_before brackets n) in
       let whole : n - 0 ≡ n = omega arith in
+      let room = λ (k : ℕ) (below : k < j). has_room j n k waiting h inside below in
       elim ended [
-        | inl end ↦ simp (simp whole at (find-between-is_None test 0 n (λ k from below. has_room j n k waiting h inside (omega arith)))) (sym end)
+        | inl end ↦ grind (arith, whole, find-between-is_None (overflows (closed_before brackets n)) 0 n, room)
         | inr full ↦
-            let limit : IsLeast test 0 n j = record { from = omega arith; below = grind (arith, common_steps, full.0); passes = grind (arith, stack_at j n, full.0, full.1); first = λ k from below. has_room j n k waiting h inside below } in
-            simp (simp whole at (find-between-is test 0 n j limit))
+            grind (arith, whole, find-between-is (overflows (closed_before brackets n)) 0 n j, room, stack_at j n, common_steps)
       ]
 
   -- which pair an opening at i has
@@ -244,9 +226,15 @@ module _ (brackets : List (Option BidiMatchedOpeningBracket)) where
   find_later j i (p ∷ pairs) h = rw (le-ltb p.1 j h.0, and-false (eqb p.0 i)) (find_later j i pairs h.1)
 
   find_limited : (j i : ℕ) → j ≤ length brackets → find (λ p. eqb p.0 i && ltb p.1 j) (closed_before brackets (length brackets)) ≡ find (λ p. eqb p.0 i) (closed_before brackets j)
-  find_limited j i inside =
-      let split = closed_before-upto j (length brackets) inside in
-      simp (split.1, find-append, find_later j i split.0 split.2, option_or-None) (find_below j i (closed_before brackets j) (closed_before-closed j))
+  find_limited j i inside = grind (
+    arith,
+    closed_before-upto j (length brackets),
+    find-append,
+    find_later,
+    option_or-None,
+    find_below,
+    closed_before-closed,
+  )
 
   -- what the pass has found are the pairs
   pub pairs_of-found : (j : ℕ) (waiting : List ℕ) → IsUnderWay brackets j waiting → j ≤ length brackets → HasEnded j waiting
@@ -261,16 +249,12 @@ module _ (brackets : List (Option BidiMatchedOpeningBracket)) where
   -- each pair begins before it ends, within the list
   pub pairs_of-in_order : ArePairsWithin (length brackets) (pairs_of brackets)
   unfolding pairs_of closed_pairs
-  pairs_of-in_order =
-      let n = length brackets in
-      All-from_recursion (λ (p : ℕ × ℕ). (p.0 < p.1) × (p.1 < n)) (pairs_of brackets)
-      (filter_map-All _ _ (λ i p e. find_in_order n _ (closed_before brackets n) p (closed_before-in_order n) e) (indexes brackets))
+  pairs_of-in_order = search (rules, All-from_recursion, filter_map-All, find_in_order, closed_before-in_order)
 
 -- the counted brackets, one a class
 pub length-counted_brackets : (classes : List BidiClass) (brackets : List (Option BidiMatchedOpeningBracket)) → length brackets ≡ length classes → length (counted_brackets classes brackets) ≡ length classes
 length-counted_brackets [] brackets h = refl
-length-counted_brackets (c ∷ classes) [] h = absurd (omega arith)
-length-counted_brackets (c ∷ classes) (b ∷ brackets) h = ap suc (length-counted_brackets classes brackets (omega arith))
+length-counted_brackets (c ∷ classes) brackets h = grind (arith, length-counted_brackets classes)
 
 -- the pairs of a sequence lie in it
 pub bracket_pairs-in_order : (classes : List BidiClass) (brackets : List (Option BidiMatchedOpeningBracket)) → length brackets ≡ length classes

@@ -1,15 +1,7 @@
 -- Paragraphs (P1): a text that is cut while it is read, and what the pieces and their ranges are.
-use Rattle.std.proofs.Common.{◌≡◌, ℕ, ◌+◌, ◌<◌, Bool, true, false, List, [], ◌∷◌, ◌++◌, length, flat_map, refl, sym, ap, subst, ◌∙◌, append_assoc, arith, length-append}
-use Rattle.std.specs.Prelude.{All, IsTrue, ⊤}
-use Rattle.std.specs.List.{onto_first}
-use Rattle.std.proofs.lemmas.List.{append-nil, length-map}
-use Rattle.std.proofs.lemmas.List.Elements.{All-nil, All-cons, All-head, All-tail}
-use Rattle.std.proofs.lemmas.List.Sums.{sum_by-append}
-use Rattle.bidi_base.specs.Classes.{is_paragraph_separator}
-use Rattle.bidi_base.specs.Source.{Source}
-use Rattle.bidi_base.specs.Stored.{text_classes}
-use Rattle.bidi_base.specs.Text.{text_len, subrange, IsLine}
-use Rattle.bidi_base.specs.Paragraphs.{SplitTest, cut_after, each_separator, paragraphs_of, pieces_of, ranges_from, IsPartition, AllButLast, ends_with_separator, has_inner_separator, AreParagraphRanges}
+use Rattle.bidi_base.proofs.Common.{◌≡◌, ℕ, ◌+◌, ◌<◌, Bool, true, false, List, [], ◌∷◌, ◌++◌, length, flat_map, refl, sym, ap, subst, ◌∙◌, append_assoc, arith, length-append, All, IsTrue, ⊤, onto_first, length-map, All-nil, All-cons, All-head, All-tail, sum_by-append, is_paragraph_separator, Source, text_classes, text_len, subrange, IsLine, SplitTest, cut_after, each_separator, paragraphs_of, pieces_of, ranges_from, IsPartition, ends_with_separator}
+use Rattle.std.proofs.lemmas.List.{append-nil}
+use Rattle.bidi_base.specs.Paragraphs.{AllButLast, has_inner_separator, AreParagraphRanges}
 use Rattle.bidi_base.proofs.TextLemmas.{HasUnits, subrange-middle, is_boundary-append, length-le-text_len}
 use Rattle.bidi_base.proofs.StoredSteps.{length-stored_classes}
 
@@ -136,18 +128,21 @@ module _ (len_of : ℕ → ℕ) where
       ranges-AllButLast front (p ∷ []) h = tt
       ranges-AllButLast front (p ∷ q ∷ ps) h = (
         first_range front p (joined (q ∷ ps)) h.0,
-        shifted front p (q ∷ ps) (λ (cs : List ℕ) (rs : List (ℕ × ℕ)). AllButLast (λ (r : ℕ × ℕ). P (subrange len_of cs r.0 r.1)) rs) (ranges-AllButLast (front ++ p) (q ∷ ps) h.1),
+        shifted front p (q ∷ ps) (λ (cs : List ℕ) (rs : List (ℕ × ℕ)). AllButLast (λ (r : ℕ × ℕ). P (subrange len_of cs r.0 r.1)) rs)
+            (ranges-AllButLast (front ++ p) (q ∷ ps) h.1),
       )
 
     pub ranges-lines : (front : List ℕ) (ps : List (List ℕ)) → All (λ (r : ℕ × ℕ). IsLine len_of (front ++ joined ps) r.0 r.1) (ranges_from len_of (text_len len_of front) ps)
     ranges-lines front [] = All-nil (λ (r : ℕ × ℕ). IsLine len_of (front ++ []) r.0 r.1)
     ranges-lines front (p ∷ ps) =
         All-cons (λ (r : ℕ × ℕ). IsLine len_of (front ++ (p ++ joined ps)) r.0 r.1) _ _
-        (record {
-          ordered = omega arith;
-          begins = is_boundary-append len_of front (p ++ joined ps);
-          ends = grind (arith, is_boundary-append len_of (front ++ p) (joined ps), append_assoc, sum_by-append);
-        })
+        (grind (
+          arith,
+          is_boundary-append len_of front (p ++ joined ps),
+          is_boundary-append len_of (front ++ p) (joined ps),
+          append_assoc,
+          sum_by-append,
+        ))
         (shifted front p ps (λ (cs : List ℕ) (rs : List (ℕ × ℕ)). All (λ (r : ℕ × ℕ). IsLine len_of cs r.0 r.1) rs) (ranges-lines (front ++ p) ps))
 
 -- the ranges of the pieces of a text
@@ -169,14 +164,13 @@ module _ (ends : SplitTest) (len_of : ℕ → ℕ) (units : HasUnits len_of) (ch
 
 -- the ranges of the paragraphs of a text
 pub paragraphs-AreParagraphRanges : (source : Source) (len_of : ℕ → ℕ) → HasUnits len_of → (chars : List ℕ) → AreParagraphRanges source len_of chars (ranges_from len_of 0 (paragraphs_of (each_separator source) chars))
-paragraphs-AreParagraphRanges source len_of units chars =
-    let ends : SplitTest = each_separator source in
-    record {
-      partition = cut_after-partition ends len_of units chars;
-      lines = cut_after-lines ends len_of units chars;
-      ended = cut_after-AllButLast ends len_of units chars (Ends source) (cut_after-ended source ends (λ c after stop. stop) chars);
-      undivided = cut_after-All ends len_of units chars (Holds source) (paragraphs-undivided source chars);
-    }
+paragraphs-AreParagraphRanges source len_of units chars = record {
+  partition = cut_after-partition (each_separator source) len_of units chars;
+  lines = cut_after-lines (each_separator source) len_of units chars;
+  ended = cut_after-AllButLast (each_separator source) len_of units chars (Ends source)
+      (cut_after-ended source (each_separator source) (λ c after stop. stop) chars);
+  undivided = cut_after-All (each_separator source) len_of units chars (Holds source) (paragraphs-undivided source chars);
+}
 
 pub paragraphs-joined : (source : Source) (chars : List ℕ) → joined (paragraphs_of (each_separator source) chars) ≡ chars
 paragraphs-joined source chars = cut_after-joined (each_separator source) chars

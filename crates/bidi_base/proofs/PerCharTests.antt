@@ -1,8 +1,7 @@
 -- The test `is_per_char` at classes and at levels, whose `==` tells each two apart.
-use Rattle.std.proofs.Common.{ℕ, Bool, arith}
+use Rattle.bidi_base.proofs.Common.{ℕ, Bool, arith, BidiClass}
 use Rattle.bidi_base.specs.contracts.char_data.BidiClassPartialEq.TheImpl.{ghosts}
 use Rattle.bidi_base.specs.contracts.level.LevelPartialEq.TheImpl.{ghosts as level_ghosts}
-use Rattle.bidi_base.specs.declared.char_data.BidiClass.{BidiClass}
 use Rattle.bidi_base.proofs.UnitsLemmas.{IsSameTest}
 
 -- `==` of classes

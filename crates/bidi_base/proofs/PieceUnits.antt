@@ -1,12 +1,6 @@
 -- One value a unit of a text that is cut into pieces: the range of each piece has the piece's own values.
-use Rattle.std.proofs.Common.{◌≡◌, ℕ, ◌+◌, List, [], ◌∷◌, ◌++◌, length, refl, append_assoc, arith, length-append}
-use Rattle.std.proofs.lemmas.Grind.{common_steps}
-use Rattle.std.specs.Prelude.{All, flat_map}
-use Rattle.std.proofs.lemmas.List.Elements.{All-nil, All-cons}
-use Rattle.std.proofs.lemmas.List.Sums.{sum_by-append}
-use Rattle.bidi_base.specs.Laws.{HasOwnUnits}
-use Rattle.bidi_base.specs.Paragraphs.{ranges_from}
-use Rattle.bidi_base.specs.Text.{text_len, per_unit}
+use Rattle.bidi_base.proofs.Common.{◌≡◌, ℕ, ◌+◌, List, [], ◌∷◌, ◌++◌, length, refl, append_assoc, arith, length-append, common_steps, All, All-nil, All-cons, sum_by-append, HasOwnUnits, ranges_from, text_len, per_unit}
+use Rattle.std.specs.Prelude.{flat_map}
 use Rattle.bidi_base.proofs.ParagraphsLemmas.{joined}
 use Rattle.bidi_base.proofs.PerUnit.{length-per_unit, per_unit-append}
 use Rattle.bidi_base.proofs.TextLemmas.{HasUnits, subrange-middle}

@@ -1,13 +1,8 @@
 -- Places by index: the place of the k-th character, ranges between two places, and turns of loops over a text.
-use Rattle.std.proofs.Common.{zero, suc, drop-cons, ◌≡◌, ℕ, ◌+◌, ◌-◌, ◌<◌, ◌≤◌, true, List, [], ◌∷◌, ◌++◌, length, take, drop, get_or, Option, Some, None, inl, inr, refl, sym, ◌∙◌, ap, arith, length-take, length-drop, length-append}
-use Rattle.std.proofs.lemmas.Grind.{common_steps}
-use Rattle.std.proofs.lemmas.Bool.{cases_lt}
-use Rattle.std.specs.Prelude.{slice_range}
-use Rattle.std.specs.Iterator.{Count, Yields}
-use Rattle.std.proofs.Math.Seq.{take-append-add, take-append_seam}
-use Rattle.std.proofs.lemmas.List.{take-append-drop, drop-drop, take_all, take-take, get_or-drop}
-use Rattle.std.proofs.lemmas.List.Sums.{sum_by-append, sum_by-cons, sum_by_more, sum_by_more_le, sum_by-take-le, count_by-le-length}
-use Rattle.bidi_base.specs.Text.{text_len, place, char_indices_from, char_indices, indices_lengths_from, indices_lengths, char_at, is_boundary, IsLine, char_index, subrange, one_unit, Gives}
+use Rattle.bidi_base.proofs.Common.{zero, suc, drop-cons, ◌≡◌, ℕ, ◌+◌, ◌-◌, ◌<◌, ◌≤◌, true, List, [], ◌∷◌, length, take, drop, get_or, Option, Some, None, inl, inr, refl, sym, ◌∙◌, ap, arith, length-take, length-drop, length-append, common_steps, cases_lt, slice_range, Count, Yields, take-append-add, take-append_seam, take-append-drop, drop-drop, take_all, take-take, sum_by-append, sum_by-cons, count_by-le-length, text_len, place, char_indices_from, char_indices, indices_lengths_from, char_at, is_boundary, IsLine, char_index, subrange, one_unit, Gives}
+use Rattle.std.proofs.lemmas.List.{get_or-drop}
+use Rattle.std.proofs.lemmas.List.Sums.{sum_by_more, sum_by_more_le, sum_by-take-le}
+use Rattle.bidi_base.specs.Text.{indices_lengths}
 use Rattle.bidi_base.proofs.TextLemmas.{HasUnits, char_at-append, is_boundary-append, char_index-append, cut_at}
 use Rattle.bidi_base.proofs.GivesLemmas.{turn_drop, end}
 
@@ -29,12 +24,10 @@ module _ (len_of : ℕ → ℕ) (chars : List ℕ) where
   pub place-end : (k : ℕ) → length chars ≤ k → place len_of chars k ≡ text_len len_of chars
   place-end k past = ap (text_len len_of) (take_all k chars past)
 
-  take_both : (i j : ℕ) → i ≤ j → i ≤ length chars → take j chars ≡ take i chars ++ slice_range chars i j
-  take_both i j le short = grind (arith, take-append-add (take i chars) (drop i chars) (j - i), take-append-drop, length-take)
-
   -- the units between two places
   pub place-sum : (i j : ℕ) → i ≤ j → i ≤ length chars → place len_of chars j ≡ place len_of chars i + text_len len_of (slice_range chars i j)
-  place-sum i j le short = ap (text_len len_of) (take_both i j le short) ∙ sum_by-append len_of (take i chars) (slice_range chars i j)
+  place-sum i j le short =
+      grind (arith, take-append-add (take i chars) (drop i chars) (j - i), take-append-drop, length-take, sum_by-append)
 
   pub place-mono : (i j : ℕ) → i ≤ j → place len_of chars i ≤ place len_of chars j
   place-mono i j le = grind (arith, place-sum i j le, place-end i, place-end j)
@@ -90,10 +83,15 @@ module _ (len_of : ℕ → ℕ) (h : HasUnits len_of) (chars : List ℕ) where
       grind (arith, w.joined, w.long, take-append_seam w.front w.back, length-append w.front w.back, char_index-place len_of chars h (length w.front))
 
   pub line_places : (start end : ℕ) → IsLine len_of chars start end → IsLineAt len_of chars start end (char_index len_of chars start) (char_index len_of chars end)
-  line_places start end line =
-      let first = place-char_index start line.begins in
-      let last = place-char_index end line.ends in
-      record { begins = sym first; ends = sym last; ordered = grind (arith, common_steps, place-le-back, line.ordered); within = char_index-le len_of chars end }
+  line_places start end line = grind (
+    arith,
+    common_steps,
+    place-char_index start line.begins,
+    place-char_index end line.ends,
+    place-le-back,
+    line.ordered,
+    char_index-le len_of chars end,
+  )
 
   -- a line is as long as its range
   pub text_len-subrange : (start end : ℕ) → IsLine len_of chars start end → text_len len_of (subrange len_of chars start end) ≡ end - start
@@ -164,8 +162,14 @@ pub index_turn : {S : Type 0} {can : S → Type 0} {steps : S → Option (ℕ ×
     → (xs : List (ℕ × ℕ)) (t : S) → Yields steps b xs t → (r : Option (ℕ × ℕ)) (u : S) (at c : ℕ) → r ≡ Some (at, c) → steps t r u → CharTurn len_of chars (length xs) at c
 index_turn len_of chars g e xs t y r u at c is st =
     let d = turn_drop g e xs t y r u (at, c) is st in
-    let w = first_index len_of (0 + place len_of chars (length xs)) (drop (length xs) chars) at c _ (sym (drop-char_indices_from len_of 0 chars (length xs)) ∙ d) in
-    char_turn_of len_of chars (length xs) at c (omega (arith, w.0)) (w.1 ∙ ap (λ z. c ∷ z) (drop-drop 1 (length xs) chars))
+    grind (
+      arith,
+      d,
+      first_index len_of (0 + place len_of chars (length xs)) (drop (length xs) chars) at c,
+      drop-char_indices_from len_of 0 chars (length xs),
+      char_turn_of len_of chars (length xs) at c,
+      drop-drop 1 (length xs) chars,
+    )
 
 -- `for (at, l) in text.indices_lengths()`: l is the length of the n-th character
 pub record LengthTurn (len_of : ℕ → ℕ) (chars : List ℕ) (n at l : ℕ) : Type 0 where
@@ -179,15 +183,26 @@ pub length_turn : {S : Type 0} {can : S → Type 0} {steps : S → Option (ℕ �
 length_turn len_of chars g e xs t y r u at l is st =
     let d = turn_drop g e xs t y r u (at, l) is st in
     let w = first_length len_of (0 + place len_of chars (length xs)) (drop (length xs) chars) at l _ (sym (drop-indices_lengths_from len_of 0 chars (length xs)) ∙ d) in
-    let turn : CharTurn len_of chars (length xs) at (get_or chars (length xs) 0) = grind (arith, common_steps) in
-    grind (arith, turn.after, turn.fits, w.2, get_or-drop (length xs) chars 0 0)
+    grind (
+      arith,
+      common_steps,
+      w.0,
+      w.1,
+      w.2,
+      char_turn_of len_of chars (length xs) at (get_or chars (length xs) 0),
+      get_or-drop (length xs) chars 0 0,
+    )
 
 -- `for c in text.chars()`
 pub char_turn : {S : Type 0} {can : S → Type 0} {steps : S → Option ℕ → S → Type 0} {left : S → Count} {s b : S} (len_of : ℕ → ℕ) (chars : List ℕ) → Gives can steps left s chars → b ≡ s
     → (xs : List ℕ) (t : S) → Yields steps b xs t → (r : Option ℕ) (u : S) (c : ℕ) → r ≡ Some c → steps t r u → CharTurn len_of chars (length xs) (place len_of chars (length xs)) c
 char_turn len_of chars g e xs t y r u c is st =
-    let d = turn_drop g e xs t y r u c is st in
-    char_turn_of len_of chars (length xs) (place len_of chars (length xs)) c refl (d ∙ ap (λ n. c ∷ drop n chars) (length-append xs (c ∷ [])))
+    let d = turn_drop g e xs t y r u c is st in grind (
+      arith,
+      d,
+      length-append xs (c ∷ []),
+      char_turn_of len_of chars (length xs) (place len_of chars (length xs)) c,
+    )
 
 -- at the end of each of these loops every character has come
 pub index_end : {S : Type 0} {can : S → Type 0} {steps : S → Option (ℕ × ℕ) → S → Type 0} {left : S → Count} {s b : S} (len_of : ℕ → ℕ) (chars : List ℕ) → Gives can steps left s (char_indices len_of chars) → b ≡ s

@@ -1,15 +1,7 @@
 -- The steps of the pass that reads a paragraph, as its calls leave them.
-use Rattle.std.proofs.Common.{◌≡◌, ℕ, suc, ◌+◌, ◌-◌, ◌<◌, Bool, ◌&&◌, cond, List, [], ◌∷◌, ◌++◌, length, get_or, set, take, drop, Some, refl, sym, ap, subst, ◌∙◌, arith, length-take, length-append}
-use Rattle.std.specs.Prelude.{All, slice_get}
-use Rattle.std.specs.declared.ops.Range.{Range}
-use Rattle.std.proofs.lemmas.List.{take-append-drop, take-take, drop_more, set_split, get_or-append-add, set-append_right}
-use Rattle.std.proofs.lemmas.List.Elements.{All-head, All-tail}
-use Rattle.bidi_base.specs.declared.char_data.BidiClass.{BidiClass}
-use Rattle.bidi_base.specs.Classes.{is_strong}
-use Rattle.bidi_base.specs.Text.{place, per_unit}
-use Rattle.bidi_base.specs.Places.{class_at}
-use Rattle.bidi_base.specs.Isolates.{resolved_fsi}
-use Rattle.bidi_base.specs.Reading.{innermost, outer, is_fsi, filled, met_units}
+use Rattle.bidi_base.proofs.Common.{◌≡◌, ℕ, suc, ◌+◌, ◌-◌, ◌<◌, Bool, ◌&&◌, cond, List, [], ◌∷◌, ◌++◌, length, get_or, set, take, drop, Some, refl, sym, ap, subst, ◌∙◌, arith, length-take, length-append, All, Range, take-append-drop, take-take, drop_more, get_or-append-add, All-head, All-tail, BidiClass, is_strong, place, per_unit, class_at, resolved_fsi, innermost, outer, is_fsi, filled, met_units}
+use Rattle.std.specs.Prelude.{slice_get}
+use Rattle.std.proofs.lemmas.List.{set_split, set-append_right}
 use Rattle.bidi_base.proofs.PlaceLemmas.{place-more}
 use Rattle.bidi_base.proofs.PerUnit.{per_unit-append, take-per_unit, drop-per_unit, get_or-per_unit-place}
 use Rattle.bidi_base.proofs.TextLemmas.{HasUnits}

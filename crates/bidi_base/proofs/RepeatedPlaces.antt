@@ -1,17 +1,7 @@
 -- The units of some characters: what stands at them is what stands at the characters, repeated; and the units that a pass reads are those of the characters that it reads.
-use Rattle.std.proofs.Common.{◌≡◌, ◌≢◌, ◌⊎◌, ℕ, zero, suc, ◌+◌, ◌-◌, ◌<◌, ◌≤◌, Bool, true, List, [], ◌∷◌, ◌++◌, length, map, get_or, replicate, refl, sym, ap, ◌∙◌, arith, inl, inr}
-use Rattle.std.specs.Prelude.{filter, flat_map}
-use Rattle.std.specs.List.{All, range_with_len}
-use Rattle.std.proofs.lemmas.Bool.{cases_Bool, cases_eq}
-use Rattle.std.proofs.lemmas.Grind.{flat_map-append}
-use Rattle.std.proofs.lemmas.List.Elements.{All-nil, All-cons, All-head, All-tail, All-append, All-filter, filter-append}
-use Rattle.std.proofs.lemmas.List.{length-map, ext_get_or}
-use Rattle.bidi_base.specs.declared.char_data.BidiClass.{BidiClass}
-use Rattle.bidi_base.specs.declared.char_data.BidiClass.TheVariants.{L}
-use Rattle.bidi_base.specs.Classes.{is_kept_in_place}
-use Rattle.bidi_base.specs.Places.{between, class_at, at_places}
-use Rattle.bidi_base.specs.Text.{text_len, place, per_unit, per_char, IsPerChar, IsLine, char_index}
-use Rattle.bidi_base.specs.Units.{chars_in_runs, kept_in_place, units_in_runs, AreLines}
+use Rattle.bidi_base.proofs.Common.{◌≡◌, ◌≢◌, ◌⊎◌, ℕ, zero, suc, ◌+◌, ◌-◌, ◌<◌, ◌≤◌, Bool, true, List, [], ◌∷◌, ◌++◌, length, map, get_or, replicate, refl, sym, ap, ◌∙◌, arith, inl, inr, filter, range_with_len, cases_eq, flat_map-append, All-nil, All-cons, All-head, All-tail, All-append, All-filter, filter-append, length-map, ext_get_or, BidiClass, L, is_kept_in_place, between, class_at, at_places, text_len, place, per_unit, per_char, IsPerChar, IsLine, char_index, chars_in_runs, kept_in_place, units_in_runs, AreLines}
+use Rattle.std.specs.Prelude.{flat_map}
+use Rattle.std.specs.List.{All}
 use Rattle.bidi_base.proofs.ChainLemmas.{range_with_len-append, filter_range-none}
 use Rattle.bidi_base.proofs.PlaceLemmas.{line_places, place-mono, place-more, unit_of}
 use Rattle.bidi_base.proofs.PerUnit.{length-per_unit, length-per_char, get_or-per_char, get_or-per_unit, get_or-per_unit-place}
@@ -34,18 +24,17 @@ AreIndexes chars ks = All (λ k. k < length chars) ks
 
 row_of : {X : Type 0} (d v : X) (units : List X) (u n : ℕ) → ((p : ℕ) → u ≤ p → p < u + n → get_or units p d ≡ v) → at_places d units (range_with_len u n) ≡ replicate n v
 row_of d v units u zero each = refl
-row_of d v units u (suc n) each =
-    simp (each u (omega arith) (omega arith), row_of d v units (u + 1) n (λ p from below. each p (omega arith) (omega arith)))
+row_of d v units u (suc n) each = grind (arith, row_of d v units (u + 1) n)
 
 pub at_places-units : {X : Type 0} (d : X) (len_of : ℕ → ℕ) (chars : List ℕ) (values : List X) → length values ≡ length chars → (ks : List ℕ) → AreIndexes chars ks
     → at_places d (per_unit len_of chars values) (units_of_chars len_of chars ks) ≡ per_unit len_of (at_places 0 chars ks) (at_places d values ks)
 at_places-units d len_of chars values long [] are = refl
 at_places-units {X} d len_of chars values long (k ∷ ks) are =
-    let units = per_unit len_of chars values in
-    let start = place len_of chars k in
-    let row = row_of d (get_or values k d) units start (len_of (get_or chars k 0)) (λ p from below.
-    let at : start + (p - start) ≡ p = omega arith in
-    simp at at (get_or-per_unit len_of chars values k (p - start) 0 d long (All-head (λ (i : ℕ). i < length chars) k ks are) (omega arith))) in
+    let row = row_of d (get_or values k d) (per_unit len_of chars values) (place len_of chars k)
+    (len_of (get_or chars k 0)) (λ p from below.
+    let at : place len_of chars k + (p - place len_of chars k) ≡ p = omega arith in
+    simp at at (get_or-per_unit len_of chars values k (p - place len_of chars k) 0 d long
+    (All-head (λ (i : ℕ). i < length chars) k ks are) (omega arith))) in
     simp (at_places-append, row, at_places-units d len_of chars values long ks (All-tail (λ (i : ℕ). i < length chars) k ks are))
 
 -- ---- and back: what a pass over units left there it left at the characters
@@ -60,13 +49,14 @@ row_first d w units xs ys u n some e = grind arith
 pub at_places-from_units : {X : Type 0} (d : X) (len_of : ℕ → ℕ) → HasUnits len_of → (chars : List ℕ) (units : List X) (ks : List ℕ) (values : List X) → length values ≡ length ks
     → at_places d units (units_of_chars len_of chars ks) ≡ per_unit len_of (at_places 0 chars ks) values → at_places d units (map (place len_of chars) ks) ≡ values
 at_places-from_units d len_of h chars units [] [] long e = refl
-at_places-from_units {X} d len_of h chars units (k ∷ ks) (v ∷ values) long e =
-    let u = place len_of chars k in
-    let n = len_of (get_or chars k 0) in
-    let xs = at_places d units (units_of_chars len_of chars ks) in
-    let ys = per_unit len_of (at_places 0 chars ks) values in
-    let parts : at_places d units (range_with_len u n) ++ xs ≡ replicate n v ++ ys = grind (arith, at_places-append) in
-    simp (row_first d v units xs ys u n (h (get_or chars k 0)) parts, at_places-from_units d len_of h chars units ks values (omega arith) (row_rest d v units xs ys u n parts))
+at_places-from_units {X} d len_of h chars units (k ∷ ks) (v ∷ values) long e = grind (
+  arith,
+  at_places-append,
+  row_first,
+  row_rest,
+  h (get_or chars k 0),
+  at_places-from_units d len_of h chars units ks values,
+)
 at_places-from_units d len_of h chars units _ _ long e = absurd (omega arith)
 
 row_each : {X : Type 0} (d w : X) (units xs ys : List X) (u n j : ℕ) → j < n → at_places d units (range_with_len u n) ++ xs ≡ replicate n w ++ ys → get_or units (u + j) d ≡ w
@@ -79,8 +69,7 @@ pub get_or-from_units : {X : Type 0} (d : X) (len_of : ℕ → ℕ) (chars : Lis
     → (i j : ℕ) → i < length ks → j < len_of (get_or chars (get_or ks i 0) 0) → get_or units (place len_of chars (get_or ks i 0) + j) d ≡ get_or values i d
 get_or-from_units {X} d len_of chars units (k ∷ ks) (v ∷ values) long e zero j fits below = grind (arith, row_each, at_places-append)
 get_or-from_units {X} d len_of chars units (k ∷ ks) (v ∷ values) long e (suc i) j fits below =
-    get_or-from_units d len_of chars units ks values (omega arith)
-    (row_rest d v units _ _ (place len_of chars k) (len_of (get_or chars k 0)) (simp at_places-append at e)) i j (omega arith) below
+    grind (arith, get_or-from_units d len_of chars units ks values, row_rest, at_places-append)
 get_or-from_units d len_of chars units _ _ long e i j fits below = absurd (omega arith)
 
 -- ---- where nothing else is written, the units of each character stay alike
@@ -106,11 +95,13 @@ units_without len_of chars k j fits below [] are none = All-nil (λ (q : ℕ). q
 units_without len_of chars k j fits below (q ∷ ks) are none =
     let within = All-head (λ (i : ℕ). i < length chars) q ks are in
     let other = All-head (λ (i : ℕ). i ≢ k) q ks none in
-    let own : place len_of chars (k + 1) ≡ place len_of chars k + len_of (get_or chars k 0) = place-more len_of chars k 0 fits in
-    let theirs : place len_of chars (q + 1) ≡ place len_of chars q + len_of (get_or chars q 0) = place-more len_of chars q 0 within in
-    let out : (place len_of chars k + j < place len_of chars q) ⊎ (place len_of chars q + len_of (get_or chars q 0) ≤ place len_of chars k + j) =
-    grind (arith, place-mono) in
-    All-append (λ (p : ℕ). p ≢ place len_of chars k + j) (units_of_char len_of chars q) (units_of_chars len_of chars ks) (row_without (place len_of chars k + j) (place len_of chars q) (len_of (get_or chars q 0)) out)
+    All-append (λ (p : ℕ). p ≢ place len_of chars k + j) (units_of_char len_of chars q) (units_of_chars len_of chars ks)
+    (row_without _ (place len_of chars q) _ (grind (
+      arith,
+      place-mono,
+      place-more len_of chars k 0,
+      place-more len_of chars q 0,
+    )))
     (units_without len_of chars k j fits below ks (All-tail (λ (i : ℕ). i < length chars) q ks are) (All-tail (λ (i : ℕ). i ≢ k) q ks none))
 
 pub IsPerChar-units : {X : Type 0} (d : X) (len_of : ℕ → ℕ) → HasUnits len_of → (chars : List ℕ) (values new : List X) (ks : List ℕ) (answers : List X) → length values ≡ length chars → AreIndexes chars ks → length answers ≡ length ks
@@ -118,11 +109,10 @@ pub IsPerChar-units : {X : Type 0} (d : X) (len_of : ℕ → ℕ) → HasUnits l
     → ((u : ℕ) → All (λ q. q ≢ u) (units_of_chars len_of chars ks) → get_or new u d ≡ get_or (per_unit len_of chars values) u d) → IsPerChar len_of chars new
 IsPerChar-units {X} d len_of h chars values new ks answers long are many size e stays =
     let now = per_char d len_of chars new in
-    let count : length now ≡ length chars = length-per_char d len_of chars new in
-    let whole : length (per_unit len_of chars now) ≡ text_len len_of chars = length-per_unit len_of chars now count in (
+    let count : length now ≡ length chars = length-per_char d len_of chars new in (
       now,
       count,
-      ext_get_or d new (per_unit len_of chars now) (omega arith) (λ u below.
+      ext_get_or d new (per_unit len_of chars now) (grind (arith, length-per_unit)) (λ u below.
           let w = unit_of len_of chars u (omega arith) in
           rw w.at_place (alike w.index w.offset w.within w.below
           ∙ simp (get_or-per_unit len_of chars now w.index w.offset 0 d count w.within w.below, get_or-per_char d len_of chars new w.index d w.within))),
@@ -131,12 +121,12 @@ IsPerChar-units {X} d len_of h chars values new ks answers long are many size e 
     alike : (k j : ℕ) → k < length chars → j < len_of (get_or chars k 0) → get_or new (place len_of chars k + j) d ≡ get_or new (place len_of chars k) d
     alike k j fits below =
         let first : place len_of chars k + 0 ≡ place len_of chars k = omega arith in
-        let some = h (get_or chars k 0) in
         let each : (v : X) × ((j : ℕ) → j < len_of (get_or chars k 0) → get_or new (place len_of chars k + j) d ≡ v) = elim (among k ks) [
           | inl w ↦ (get_or answers w.0 d, grind (arith, get_or-from_units))
           | inr none ↦ (
             get_or values k d,
-            λ j below. stays (place len_of chars k + j) (units_without len_of chars k j fits below ks are none) ∙ get_or-per_unit len_of chars values k j 0 d long fits below,
+            λ j below.
+                grind (arith, stays (place len_of chars k + j) (units_without len_of chars k j fits below ks are none), get_or-per_unit),
           )
         ] in
         each.1 j below ∙ sym (simp first at (each.1 0 (omega arith)))
@@ -145,7 +135,7 @@ IsPerChar-units {X} d len_of h chars values new ks answers long are many size e 
 
 filter_all : (test : ℕ → Bool) (u n : ℕ) → ((p : ℕ) → u ≤ p → p < u + n → test p ≡ true) → filter test (range_with_len u n) ≡ range_with_len u n
 filter_all test u zero each = refl
-filter_all test u (suc n) each = simp (each u (omega arith) (omega arith), filter_all test (u + 1) n (λ p from below. each p (omega arith) (omega arith)))
+filter_all test u (suc n) each = grind (arith, filter_all test (u + 1) n)
 
 module _ (len_of : ℕ → ℕ) (h : HasUnits len_of) (chars : List ℕ) (values : List BidiClass) (long : length values ≡ length chars) where
   abbrev reads : ℕ → Bool
@@ -159,33 +149,37 @@ module _ (len_of : ℕ → ℕ) (h : HasUnits len_of) (chars : List ℕ) (values
   in_line i zero fits = grind arith
   in_line i (suc n) fits =
       let a = place len_of chars i in
-      let m = len_of (get_or chars i 0) in
-      let next : i + 1 + n ≡ i + suc n = omega arith in
-      let order = place-mono len_of chars (i + 1) (i + suc n) (omega arith) in
-      let step : place len_of chars (i + 1) ≡ a + m = place-more len_of chars i 0 (omega arith) in
-      let later = filter reads_char (range_with_len (i + 1) n) in
+      let b = a + len_of (get_or chars i 0) in
       let end = place len_of chars (i + suc n) in
-      let count : end - a ≡ m + (end - (a + m)) = omega arith in
-      let rest : filter reads (range_with_len (a + m) (end - (a + m))) ≡ units_of_chars len_of chars later = simp (next, step) at (in_line (i + 1) n (omega arith)) in
-      let one : (p : ℕ) → a ≤ p → p < a + m → reads p ≡ reads a = λ p from below.
+      let step : place len_of chars (i + 1) ≡ b = place-more len_of chars i 0 (omega arith) in
+      let count : end - a ≡ len_of (get_or chars i 0) + (end - b) =
+      omega (arith, place-mono len_of chars (i + 1) (i + suc n) (omega arith)) in
+      let next : i + 1 + n ≡ i + suc n = omega arith in
+      let rest = simp (next, step) at (in_line (i + 1) n (omega arith)) in
+      let one : (p : ℕ) → a ≤ p → p < b → reads p ≡ reads a = λ p from below.
       let at : a + (p - a) ≡ p = omega arith in
-      let here = simp at at (get_or-per_unit len_of chars values i (p - a) 0 L long (omega arith) (omega arith)) in
-      grind (arith, here, get_or-per_unit-place) in
-      simp (count, range_with_len-append, filter-append) (elim (cases_Bool (reads a)) [
-        | inl yes' ↦ simp (yes', rest, filter_all reads a m (λ p from below. one p from below ∙ yes'))
-        | inr no' ↦ simp (no', rest, filter_range-none reads a m (λ p from below. one p from below ∙ no'))
-      ])
+      grind (
+        arith,
+        simp at at (get_or-per_unit len_of chars values i (p - a) 0 L long (omega arith) (omega arith)),
+        get_or-per_unit-place,
+      ) in
+      simp (count, range_with_len-append, filter-append) (grind (
+        arith,
+        rest,
+        one,
+        filter_all reads a,
+        filter_range-none reads a,
+      ))
 
   pub read_units-is : (runs : List (ℕ × ℕ)) → AreLines len_of chars runs → filter (λ u. is_kept_in_place (class_at (per_unit len_of chars values) u)) (units_in_runs runs) ≡ units_of_chars len_of chars (kept_in_place len_of chars (per_unit len_of chars values) runs)
   unfolding kept_in_place chars_in_runs
   read_units-is [] lines = refl
   read_units-is (r ∷ runs) lines =
       let i = char_index len_of chars r.0 in
-      let j = char_index len_of chars r.1 in
-      let line = All-head (λ (q : ℕ × ℕ). IsLine len_of chars q.0 q.1) r runs lines in
-      let w = line_places len_of h chars r.0 r.1 line in
-      let whole : i + (j - i) ≡ j = omega (arith, w.ordered) in
-      let here = simp (whole, ← w.begins, ← w.ends) at (in_line i (j - i) (omega (arith, w.within))) in
+      let w = line_places len_of h chars r.0 r.1 (All-head (λ (q : ℕ × ℕ). IsLine len_of chars q.0 q.1) r runs lines) in
+      let whole : i + (char_index len_of chars r.1 - i) ≡ char_index len_of chars r.1 = omega (arith, w.ordered) in
+      let here = simp (whole, ← w.begins, ← w.ends) at (in_line i (char_index len_of chars r.1 - i)
+      (omega (arith, w.within))) in
       simp (filter-append, flat_map-append, here, read_units-is runs (All-tail (λ (q : ℕ × ℕ). IsLine len_of chars q.0 q.1) r runs lines))
 
   -- ---- a pass over the units that are read
@@ -201,10 +195,8 @@ module _ (len_of : ℕ → ℕ) (h : HasUnits len_of) (chars : List ℕ) (values
       in_runs_below : (runs : List (ℕ × ℕ)) → AreLines len_of chars runs → All (λ k. k < length chars) (chars_in_runs len_of chars runs)
       in_runs_below [] lines = All-nil (λ (k : ℕ). k < length chars)
       in_runs_below (r ∷ runs) lines =
-          let i = char_index len_of chars r.0 in
-          let j = char_index len_of chars r.1 in
           let w = line_places len_of h chars r.0 r.1 (All-head (λ (q : ℕ × ℕ). IsLine len_of chars q.0 q.1) r runs lines) in
-          All-append (λ (k : ℕ). k < length chars) (between i j) (chars_in_runs len_of chars runs) (range_below i (j - i) (length chars) (omega (arith, w.ordered, w.within)))
+          All-append (λ (k : ℕ). k < length chars) _ _ (range_below _ _ _ (omega (arith, w.ordered, w.within)))
           (in_runs_below runs (All-tail (λ (q : ℕ × ℕ). IsLine len_of chars q.0 q.1) r runs lines))
 
   module _ (runs : List (ℕ × ℕ)) (lines : AreLines len_of chars runs) where
@@ -225,9 +217,7 @@ module _ (len_of : ℕ → ℕ) (h : HasUnits len_of) (chars : List ℕ) (values
         → (let us = filter (λ u. is_kept_in_place (class_at (per_unit len_of chars values) u)) (units_in_runs runs) in at_places L new us ≡ per_unit len_of (at_places 0 chars (kept_in_place len_of chars (per_unit len_of chars values) runs)) answers)
         → ((u : ℕ) → All (λ q. q ≢ u) (filter (λ u. is_kept_in_place (class_at (per_unit len_of chars values) u)) (units_in_runs runs)) → class_at new u ≡ class_at (per_unit len_of chars values) u) → IsPerChar len_of chars new
     read_units-per_char new answers many size e stays =
-        let ks = kept_in_place len_of chars (per_unit len_of chars values) runs in
-        let same = read_units-is runs lines in
-        IsPerChar-units L len_of h chars values new ks answers long (kept_in_place-AreIndexes runs lines) many size (simp same at e) (λ u none. stays u (rw same none))
+        grind (arith, read_units-is, IsPerChar-units, kept_in_place-AreIndexes)
 
     -- so a rule that commutes with repetition may run over the units
     pub read_units-rule : (rule : List BidiClass → List BidiClass) → ((cs : List BidiClass) → length (rule cs) ≡ length cs)

@@ -1,29 +1,12 @@
 -- What the levels of sequences are, once some of them are resolved and once all are: bounds, and what they do not depend on.
-use Rattle.std.proofs.Common.{◌≡◌, ℕ, zero, suc, ◌+◌, ◌<◌, ◌≤◌, true, not, cond, eqb, List, [], ◌∷◌, ◌++◌, length, get_or, map, count_by, Option, None, refl, ap, subst, ◌∙◌, arith, le_refl}
+use Rattle.bidi_base.proofs.Common.{◌≡◌, ℕ, suc, ◌+◌, ◌<◌, ◌≤◌, true, cond, eqb, List, [], ◌∷◌, ◌++◌, length, get_or, map, count_by, Option, None, refl, ap, ◌∙◌, arith, rules, AllByRecursion, length-map, map-append, sum_by-cons, sum_by-append, BidiClass, BN, BidiMatchedOpeningBracket, is_removed, first_or, Source, stored_classes, explicit_levels, explicit_classes, RunSequence, is_kept_at, level_at, sequences, weak_classes, n0_pair, n0, neutral_classes, implicit_levels, resolved_levels, sequence_levels, level_in, filled_levels, levels_in, stored_levels, All-from_recursion}
 use Rattle.std.specs.Prelude.{flat_map, zip}
-use Rattle.std.specs.List.{All, AllByRecursion}
-use Rattle.std.proofs.lemmas.Bool.{cond_both}
-use Rattle.std.proofs.lemmas.List.{length-map, map-append}
-use Rattle.std.proofs.lemmas.List.Sums.{sum_by-cons, sum_by-append}
-use Rattle.bidi_base.specs.declared.char_data.BidiClass.{BidiClass}
-use Rattle.bidi_base.specs.declared.char_data.BidiClass.TheVariants.{BN}
-use Rattle.bidi_base.specs.declared.data_source.BidiMatchedOpeningBracket.{BidiMatchedOpeningBracket}
-use Rattle.bidi_base.specs.Classes.{is_removed}
-use Rattle.bidi_base.specs.Places.{first_or}
-use Rattle.bidi_base.specs.Source.{Source}
-use Rattle.bidi_base.specs.Isolates.{stored_classes}
-use Rattle.bidi_base.specs.Explicit.{explicit_levels, explicit_classes}
-use Rattle.bidi_base.specs.Sequences.{RunSequence, is_kept_at, level_at, sequences}
-use Rattle.bidi_base.specs.Weak.{weak_classes}
-use Rattle.bidi_base.specs.Neutral.{n0_pair, n0, neutral_classes}
-use Rattle.bidi_base.specs.Implicit.{implicit_levels}
-use Rattle.bidi_base.specs.Stored.{resolved_levels, sequence_levels, level_in, filled_levels, levels_in, stored_levels}
+use Rattle.std.specs.List.{All}
 use Rattle.bidi_base.proofs.PlacesLemmas.{length-in_context}
 use Rattle.bidi_base.proofs.StoredSteps.{length-stored_classes}
 use Rattle.bidi_base.proofs.SequencePlaces.{times_in, places_of, sequences-kept, sequences-all, sequence-kept, sequence-not_empty}
 use Rattle.bidi_base.proofs.StoredLemmas.{IsExplicitIn, explicit_levels-IsExplicitIn, length-at_places, at_places-agree, times_in-at, is_kept_at-stored_classes}
 use Rattle.bidi_base.proofs.PairChanges.{length-n0_pair}
-use Rattle.std.proofs.lemmas.List.Elements.{All-from_recursion}
 
 -- ---- lengths
 
@@ -67,14 +50,12 @@ AllByRecursion-flat_map {X} P f (x ∷ xs) each = AllByRecursion-append P (f x) 
 
 AllByRecursion-zip : (P : ℕ → Type 0) (ps vs : List ℕ) → AllByRecursion P vs → AllByRecursion (λ (e : ℕ × ℕ). P e.1) (zip ps vs)
 AllByRecursion-zip P [] vs h = tt
-AllByRecursion-zip P (p ∷ ps) [] h = tt
-AllByRecursion-zip P (p ∷ ps) (v ∷ vs) h = (h.0, AllByRecursion-zip P ps vs h.1)
+AllByRecursion-zip P (p ∷ ps) vs h = grind (arith, AllByRecursion-zip P ps)
 
 times_in-zip : (p : ℕ) (ps vs : List ℕ) → length vs ≡ length ps → count_by (λ (e : ℕ × ℕ). eqb e.0 p) (zip ps vs) ≡ times_in ps p
 times_in-zip p [] vs long = refl
 times_in-zip p (q ∷ ps) [] long = absurd (omega arith)
-times_in-zip p (q ∷ ps) (v ∷ vs) long =
-    omega (arith, sum_by-cons (λ (e : ℕ × ℕ). cond (eqb e.0 p) 1 0) (q, v) (zip ps vs), sum_by-cons (λ r. cond (eqb r p) 1 0) q ps, times_in-zip p ps vs (omega arith))
+times_in-zip p (q ∷ ps) (v ∷ vs) long = search (rules, times_in-zip p ps vs, sum_by-cons)
 
 -- what a table says of a place that has an entry is so, if all its levels are
 level_in-AllByRecursion : (P : ℕ → Type 0) (table : List (ℕ × ℕ)) (p : ℕ) → AllByRecursion (λ (e : ℕ × ℕ). P e.1) table → 0 < count_by (λ (e : ℕ × ℕ). eqb e.0 p) table → P (level_in table p)
@@ -86,11 +67,17 @@ AllByRecursion-filled_levels : (P : ℕ → Type 0) (table : List (ℕ × ℕ)) 
 unfolding filled_levels
 AllByRecursion-filled_levels P table p before [] h kept = tt
 AllByRecursion-filled_levels P table p before (c ∷ classes) h kept =
-    let here : P (cond (is_removed c) before (level_in table p)) =
-    cond_both (is_removed c) before (level_in table p) P (λ e. h) (λ e. subst (λ (q : ℕ). P (level_in table q)) (let none : p + 0 ≡ p = omega arith in none) (kept 0 (omega arith) (ap not e))) in (
+    let here : P (cond (is_removed c) before (level_in table p)) = grind (
+      arith,
+      kept 0,
+      ap (level_in table) (let none : p + 0 ≡ p = omega arith in none),
+    ) in (
       here,
-      AllByRecursion-filled_levels P table (p + 1) (cond (is_removed c) before (level_in table p)) classes here
-          (λ k within stays. subst (λ (q : ℕ). P (level_in table q)) (let next : p + suc k ≡ p + 1 + k = omega arith in next) (kept (suc k) (omega arith) stays)),
+      AllByRecursion-filled_levels P table (p + 1) _ classes here (λ k within stays. grind (
+        arith,
+        kept (suc k),
+        ap (level_in table) (let next : p + suc k ≡ p + 1 + k = omega arith in next),
+      )),
     )
 
 first_in : (ps : List ℕ) → 0 < length ps → 0 < times_in ps (first_or 0 ps)
@@ -99,15 +86,15 @@ first_in (p ∷ ps) some = times_in-at (p ∷ ps) 0 0 (omega arith)
 
 AllByRecursion-implicit_levels : (paragraph level : ℕ) (classes : List BidiClass) → IsExplicitIn paragraph level → AllByRecursion (IsStoredIn paragraph) (implicit_levels level classes)
 AllByRecursion-implicit_levels paragraph level [] h = tt
-AllByRecursion-implicit_levels paragraph level (c ∷ classes) h = (grind arith, AllByRecursion-implicit_levels paragraph level classes h)
+AllByRecursion-implicit_levels paragraph level (c ∷ classes) h =
+    grind (arith, AllByRecursion-implicit_levels paragraph level classes)
 
 -- the level of the k-th sequence
 pub sequence-level : (paragraph : ℕ) (classes : List BidiClass) (k : ℕ) (d : RunSequence) → paragraph ≤ 125 → k < length (sequences paragraph classes (explicit_levels paragraph classes))
     → IsExplicitIn paragraph (level_at (explicit_levels paragraph classes) (first_or 0 (get_or (sequences paragraph classes (explicit_levels paragraph classes)) k d).places))
 sequence-level paragraph classes k d fits within =
-    let levels = explicit_levels paragraph classes in
-    let places : List ℕ = (get_or (sequences paragraph classes levels) k d).places in
-    explicit_levels-IsExplicitIn paragraph classes (first_or 0 places) fits (sequence-kept paragraph classes levels k d within (first_or 0 places) (first_in places (sequence-not_empty paragraph classes levels k d within))).1
+    explicit_levels-IsExplicitIn paragraph classes _ fits
+    (sequence-kept paragraph classes _ k d within _ (first_in _ (sequence-not_empty paragraph classes _ k d within))).1
 
 -- each stored level is at least the paragraph's, and at most the greatest
 pub levels_in-IsStoredIn : (paragraph : ℕ) (source : List BidiClass) (brackets : List (Option BidiMatchedOpeningBracket)) → paragraph ≤ 125 → All (IsStoredIn paragraph) (levels_in paragraph source brackets)
@@ -115,16 +102,21 @@ unfolding levels_in sequence_levels resolved_levels
 levels_in-IsStoredIn paragraph source brackets fits =
     let stored = stored_classes source in
     let levels = explicit_levels paragraph stored in
-    let classes = explicit_classes paragraph stored in
     let seqs = sequences paragraph stored levels in
-    let table : List (ℕ × ℕ) = flat_map (sequence_levels source brackets levels classes) seqs in
+    let table : List (ℕ × ℕ) = flat_map (sequence_levels source brackets levels (explicit_classes paragraph stored)) seqs in
     let all : AllByRecursion (λ (e : ℕ × ℕ). IsStoredIn paragraph e.1) table =
-    AllByRecursion-flat_map (λ (e : ℕ × ℕ). IsStoredIn paragraph e.1) (sequence_levels source brackets levels classes) seqs
-    (λ k d within. AllByRecursion-zip (IsStoredIn paragraph) (get_or seqs k d).places (resolved_levels source brackets levels classes (get_or seqs k d)) (AllByRecursion-implicit_levels paragraph _ _ (sequence-level paragraph stored k d fits within))) in
+    AllByRecursion-flat_map (λ (e : ℕ × ℕ). IsStoredIn paragraph e.1)
+    (sequence_levels source brackets levels (explicit_classes paragraph stored)) seqs
+    (λ k d within. AllByRecursion-zip (IsStoredIn paragraph) (get_or seqs k d).places _
+    (AllByRecursion-implicit_levels paragraph _ _ (sequence-level paragraph stored k d fits within))) in
     All-from_recursion (IsStoredIn paragraph) (filled_levels table 0 paragraph stored)
-    (AllByRecursion-filled_levels (IsStoredIn paragraph) table 0 paragraph stored (record { above = le_refl _; below = omega arith })
-    (λ k within kept. subst (λ (p : ℕ). IsStoredIn paragraph (level_in table p)) (let none : k ≡ 0 + k = omega arith in none)
-    (level_in-AllByRecursion (IsStoredIn paragraph) table k all (omega (arith, counted seqs k, sequences-all paragraph stored levels k kept within)))))
+    (AllByRecursion-filled_levels (IsStoredIn paragraph) table 0 paragraph stored (grind arith)
+    (λ k within kept. grind (
+      arith,
+      level_in-AllByRecursion (IsStoredIn paragraph) table k all,
+      counted seqs k,
+      sequences-all paragraph stored levels k kept within,
+    )))
   where
     counted : (seqs : List RunSequence) (p : ℕ)
         → count_by (λ (e : ℕ × ℕ). eqb e.0 p) (flat_map (sequence_levels source brackets (explicit_levels paragraph (stored_classes source)) (explicit_classes paragraph (stored_classes source))) seqs) ≡ times_in (places_of seqs) p
@@ -142,11 +134,7 @@ sequence_levels-agree : (source : List BidiClass) (brackets other : List (Option
 unfolding sequence_levels resolved_levels
 sequence_levels-agree source brackets other levels classes [] agree = refl
 sequence_levels-agree source brackets other levels classes (s ∷ seqs) agree =
-    let joined : (p : ℕ) → times_in (places_of (s ∷ seqs)) p ≡ times_in s.places p + times_in (places_of seqs) p = λ p. sum_by-append (λ q. cond (eqb q p) 1 0) s.places (places_of seqs) in
-    simp (
-      at_places-agree None brackets other s.places (λ p there. agree p (omega (arith, joined p))),
-      sequence_levels-agree source brackets other levels classes seqs (λ p there. agree p (omega (arith, joined p))),
-    )
+    grind (arith, sequence_levels-agree source brackets other levels classes seqs, times_in, places_of, sum_by-append, at_places-agree)
 
 pub levels_in-agree : (paragraph : ℕ) (source : List BidiClass) (brackets other : List (Option BidiMatchedOpeningBracket)) → ((p : ℕ) → p < length source → is_kept_at source p ≡ true → get_or brackets p None ≡ get_or other p None)
     → levels_in paragraph source brackets ≡ levels_in paragraph source other
@@ -158,10 +146,8 @@ levels_in-agree paragraph source brackets other agree =
     (λ p there. grind (arith, agree p, sequences-kept paragraph stored levels p there, length-stored_classes, is_kept_at-stored_classes)))
 
 other_there : {X : Type 0} (f : ℕ → X) (front back : List ℕ) (c d : ℕ) (p : ℕ) (e : X) → (p ≡ length front → ⊥) → get_or (map f (front ++ c ∷ back)) p e ≡ get_or (map f (front ++ d ∷ back)) p e
-other_there f [] back c d zero e apart = absurd (apart refl)
-other_there f [] back c d (suc p) e apart = refl
-other_there f (x ∷ front) back c d zero e apart = refl
-other_there f (x ∷ front) back c d (suc p) e apart = other_there f front back c d p e (λ same. apart (ap suc same))
+other_there f [] back c d p e apart = grind arith
+other_there f (x ∷ front) back c d p e apart = grind (arith, other_there f front back c d)
 
 found_there : {X : Type 0} (f : ℕ → X) (front back : List ℕ) (c : ℕ) (e : X) → get_or (map f (front ++ c ∷ back)) (length front) e ≡ f c
 found_there f [] back c e = refl

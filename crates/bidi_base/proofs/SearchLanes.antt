@@ -1,13 +1,8 @@
 -- The first of sixteen lanes that a test marks.
-use Rattle.std.proofs.Common.{◌≡◌, ℕ, ◌+◌, ◌<◌, ◌≤◌, Bool, false, not, List, [], ◌∷◌, map, length, cond, eqb, ap, ◌∙◌, arith}
-use Rattle.std.specs.List.{prefix_len}
-use Rattle.std.proofs.lemmas.Simd.{map-map, length-chunk, trailing_mask_l, leading_from_mask_l, run_in_chunk_fails, run_in_chunk_stops}
+use Rattle.bidi_base.proofs.Common.{◌≡◌, ℕ, ◌+◌, ◌<◌, ◌≤◌, Bool, false, not, List, [], ◌∷◌, map, length, cond, eqb, ap, ◌∙◌, arith, prefix_len, map-map, length-chunk, run_in_chunk_fails, run_in_chunk_stops, BidiClass, L, class_at, IsFirst}
+use Rattle.std.proofs.lemmas.Simd.{trailing_mask_l, leading_from_mask_l}
 use lib.Count.{count_trailing_zeros}
 use lib.Lanes.{chunk, mask_l}
-use Rattle.bidi_base.specs.declared.char_data.BidiClass.{BidiClass}
-use Rattle.bidi_base.specs.declared.char_data.BidiClass.TheVariants.{L}
-use Rattle.bidi_base.specs.Places.{class_at}
-use Rattle.bidi_base.specs.Search.{IsFirst}
 
 abbrev pub is_marked : ℕ → Bool
 is_marked mark = not (eqb mark 0)
@@ -36,7 +31,12 @@ module _ (test : BidiClass → Bool) (classes : List BidiClass) (at bits : ℕ) 
 
   pub lanes_first : 0 < bits → (IsFirst test classes at (at + 16) (at + count_trailing_zeros 64 bits)) × (at + count_trailing_zeros 64 bits < at + 16)
   lanes_first some =
-      let low = count_trailing_zeros 64 bits in
-      let here : low ≡ prefix_len (λ x. not (shows x)) (chunk at 16 classes) = grind (arith, trailing_mask_l) in
-      let short : prefix_len (λ x. not (shows x)) (chunk at 16 classes) < length (chunk at 16 classes) = set_lane shows (chunk at 16 classes) (omega (arith, own_mask)) in
-      grind (arith, here, short, long, run_in_chunk_fails shows classes at 16 low L room here, run_in_chunk_stops shows classes at 16 low L room here)
+      grind (
+        arith,
+        trailing_mask_l,
+        set_lane shows (chunk at 16 classes),
+        own_mask,
+        long,
+        run_in_chunk_fails shows classes at 16 (count_trailing_zeros 64 bits) L room,
+        run_in_chunk_stops shows classes at 16 (count_trailing_zeros 64 bits) L room,
+      )

@@ -1,13 +1,6 @@
 -- Where the characters of sequences stand: each is kept, no two sequences share one, and none stands twice. What their levels and ends are.
-use Rattle.std.proofs.Common.{◌≡◌, ℕ, zero, suc, ◌+◌, ◌<◌, ◌≤◌, Bool, true, cond, eqb, List, [], ◌∷◌, length, get_or, take, count_by, Option, Some, sym, subst, arith}
-use Rattle.std.specs.Prelude.{filter, flat_map}
-use Rattle.std.specs.List.{range_with_len}
-use Rattle.std.proofs.lemmas.List.{length-map, get_or-map}
-use Rattle.std.proofs.lemmas.List.Sums.{sum_by-cons, sum_by-append}
-use Rattle.std.proofs.lemmas.List.Sorted.{sum_by-IsPermutation}
-use Rattle.bidi_base.specs.declared.char_data.BidiClass.{BidiClass}
-use Rattle.bidi_base.specs.Places.{chain}
-use Rattle.bidi_base.specs.Sequences.{RunSequence, is_kept_at, kept_places, successor, is_first, sequence_from, sequences}
+use Rattle.bidi_base.proofs.Common.{◌≡◌, ℕ, zero, suc, ◌+◌, ◌<◌, ◌≤◌, Bool, true, cond, eqb, List, [], ◌∷◌, length, get_or, take, count_by, arith, filter, range_with_len, length-map, get_or-map, sum_by-cons, sum_by-append, sum_by-IsPermutation, BidiClass, RunSequence, is_kept_at, kept_places, is_first, sequence_from, sequences}
+use Rattle.std.specs.Prelude.{flat_map}
 use Rattle.bidi_base.proofs.SequencesLemmas.{IsPermutation-sequences}
 use Rattle.bidi_base.proofs.LevelTableLemmas.{count_at-range, count_at-in}
 
@@ -30,13 +23,6 @@ times_in-parts f (x ∷ xs) (suc k) d p within = grind (arith, times_in-parts f 
 -- the places of some sequences
 abbrev pub places_of : List RunSequence → List ℕ
 places_of seqs = flat_map (λ (s : RunSequence). s.places) seqs
-
-chain_begun : (next : ℕ → Option ℕ) (n first : ℕ) → 0 < n → 0 < length (chain next n (Some first))
-chain_begun next n first some = grind arith
-
-some_classes : (paragraph : ℕ) (classes : List BidiClass) (levels : List ℕ) (k : ℕ) → k < length (sequences paragraph classes levels) → 0 < length classes
-unfolding sequences kept_places
-some_classes paragraph classes levels k within = grind arith
 
 module _ (paragraph : ℕ) (classes : List BidiClass) (levels : List ℕ) where
   times_in-sequences : (p : ℕ) → times_in (places_of (sequences paragraph classes levels)) p ≡ times_in (kept_places classes) p
@@ -72,5 +58,5 @@ module _ (paragraph : ℕ) (classes : List BidiClass) (levels : List ℕ) where
         (get_or starts k 0, get_or-map (sequence_from paragraph classes levels) starts k 0 d inside)
 
     pub sequence-not_empty : 0 < length (get_or (sequences paragraph classes levels) k d).places
-    unfolding sequence_from
-    sequence-not_empty = subst (λ (s : RunSequence). 0 < length s.places) (sym sequence-begun.1) (chain_begun (successor classes levels) (length classes) sequence-begun.0 (some_classes paragraph classes levels k within))
+    unfolding sequences sequence_from kept_places
+    sequence-not_empty = grind (arith, sequence-begun)

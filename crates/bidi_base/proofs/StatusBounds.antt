@@ -1,10 +1,7 @@
 -- The status stack holds at most 126 entries, and each count is at most the number of characters read.
-use Rattle.std.proofs.Common.{◌≡◌, ℕ, ◌+◌, ◌<◌, ◌≤◌, List, [], ◌∷◌, length, arith}
-use Rattle.bidi_base.specs.declared.char_data.BidiClass.{BidiClass}
-use Rattle.bidi_base.specs.Places.{class_at}
-use Rattle.bidi_base.specs.Explicit.{asked_level}
+use Rattle.bidi_base.proofs.Common.{◌≡◌, ℕ, ◌+◌, ◌<◌, ◌≤◌, List, [], ◌∷◌, length, arith, BidiClass, class_at, asked_level, Entry, State, drop_isolate, closed, step, state_at, IsWithinDepth, counted, IsPoppable}
 use Rattle.bidi_base.proofs.OpenersStack.{left_at, IsPushed, left_at-IsPushed}
-use Rattle.bidi_base.specs.StatusMachine.{Entry, State, drop_isolate, closed, step, state_at, AreBelow, IsWithinDepth, counted, IsPoppable}
+use Rattle.bidi_base.specs.StatusMachine.{AreBelow}
 use Rattle.bidi_base.proofs.StatusMachine.{state_of, EnteredAs, state_of-EnteredAs}
 use Rattle.bidi_base.proofs.StatusMachine.{IsInsideOf, overflowed, inside, split_state, state_at-state_of, closed-state_at}
 

@@ -1,17 +1,9 @@
 -- The directional status stack answers at each character the level and the class that the definitions give.
-use Rattle.std.proofs.Common.{◌≡◌, ℕ, zero, suc, ◌+◌, ◌<◌, ◌≤◌, Bool, true, false, not, ◌&&◌, cond, leb, eqb, List, [], ◌∷◌, ◌++◌}
-use Rattle.std.proofs.lemmas.Grind.{common_steps}
-use Rattle.std.proofs.Common.{length, map, reverse, refl, ap, ◌∙◌, arith, ◌⊎◌, inl, inr, eq-eqb}
+use Rattle.bidi_base.proofs.Common.{◌≡◌, ℕ, zero, suc, ◌+◌, ◌<◌, ◌≤◌, Bool, true, false, not, ◌&&◌, cond, leb, eqb, List, [], ◌∷◌, ◌++◌, common_steps, length, map, reverse, refl, ap, ◌∙◌, arith, ◌⊎◌, inl, inr, eq-eqb, cases_Bool, cases_eq, both_ways, cond-true, cond-false, BidiClass, is_initiator, class_at, Status, override_of, asked_level, status_inside, status_at, explicit_level, explicit_class, State, start, fits_in, entry_of, taken, refused, entered, drop_isolate, close_isolate, close_embedding, closed, opened, state_at}
 use Rattle.std.specs.Prelude.{nat_le, if◌then◌else◌}
-use Rattle.std.proofs.lemmas.Bool.{cases_Bool, cases_eq, both_ways, cond-true, cond-false}
-use Rattle.bidi_base.specs.declared.char_data.BidiClass.{BidiClass}
-use Rattle.bidi_base.specs.Classes.{is_initiator}
 use Rattle.bidi_base.specs.Levels.{max_depth}
-use Rattle.bidi_base.specs.Places.{class_at}
-use Rattle.bidi_base.specs.Isolates.{is_initiator_at}
-use Rattle.bidi_base.specs.Explicit.{Status, override_of, asked_level, status_inside, status_at, explicit_level, explicit_class}
 use Rattle.bidi_base.proofs.OpenersStack.{below_isolate, below_embedding, closed_by, opened_by, openers_read, left_at, open_at-closed_by}
-use Rattle.bidi_base.specs.StatusMachine.{State, start_status, start, fits_in, entry_of, taken, refused, entered, drop_isolate, close_isolate, close_embedding, closed, opened, answer_level, answer_class, state_at}
+use Rattle.bidi_base.specs.StatusMachine.{start_status, answer_level, answer_class}
 
 -- the state that a stack of openers leaves, each entered in text order
 unfoldable pub state_of : ℕ → List BidiClass → List ℕ → State
@@ -23,9 +15,6 @@ pub record IsTaken (c : BidiClass) (s : State) : Type 0 where
   pub asked : asked_level c s.top.status.level ≤ 125
   pub no_isolates : s.overflow_isolates ≡ 0
   pub no_embeddings : s.overflow_embeddings ≡ 0
-
-IsTaken-fits_in : (c : BidiClass) (s : State) → fits_in c s ≡ true → IsTaken c s
-IsTaken-fits_in c s e = grind arith
 
 -- what a refusal does, by kind
 pub refused-embedding : (c : BidiClass) (s : State) → is_initiator c ≡ false → s.overflow_isolates ≡ 0 → refused c s ≡ record s { overflow_embeddings = s.overflow_embeddings + 1 }
@@ -44,7 +33,7 @@ pub data EnteredAs (c : BidiClass) (s : State) : State → Type 0 where
 pub entered_as : (c : BidiClass) (s : State) → EnteredAs c s (entered c s)
 unfolding entered
 entered_as c s = elim (cases_Bool (fits_in c s)) [
-  | inl fits ↦ rw fits (as_taken fits (IsTaken-fits_in c s fits))
+  | inl fits ↦ rw fits (as_taken fits (grind arith))
   | inr high ↦ elim (cases_Bool (is_initiator c)) [
     | inl isolate ↦ rw (high, isolate) (as_isolate high isolate)
     | inr other ↦ elim (cases_eq s.overflow_isolates 0) [
@@ -157,13 +146,17 @@ module _ (paragraph : ℕ) (classes : List BidiClass) where
       (((whole : List ℕ) → below_isolate classes whole stack ≡ whole) × ((inside_all stack).overflow_isolates ≡ 0) × ((inside_all stack).valid_isolates ≡ 0))
       ⊎ ((below : List ℕ) × ((whole : List ℕ) → below_isolate classes whole stack ≡ below) × IsInsideOf (inside_all below) (inside_all stack))
 
-  split_more : (q : ℕ) (stack : List ℕ) → is_initiator_at classes q ≡ false → SplitState stack → SplitState (q ∷ stack)
-  split_more q stack other z3 = grind (arith, entered-embedding (class_at classes q) _ _ (state_of-EnteredAs q stack) other, IsInsideOf-entered (class_at classes q), state_of-EnteredAs q stack)
-
   pub split_state : (stack : List ℕ) → SplitState stack
   unfolding state_of
   split_state [] = inl (λ whole. refl, refl, refl)
-  split_state (q ∷ stack) = grind (arith, entered-IsInsideOf (class_at classes q), state_of-EnteredAs q stack, split_more q stack, split_state stack)
+  split_state (q ∷ stack) = grind (
+    arith,
+    entered-IsInsideOf (class_at classes q),
+    state_of-EnteredAs q stack,
+    entered-embedding (class_at classes q),
+    IsInsideOf-entered (class_at classes q),
+    split_state stack,
+  )
 
   close_embedding-state_of : (stack : List ℕ) → close_embedding (inside_all stack) ≡ inside_all (below_embedding classes stack)
   unfolding state_of
@@ -204,12 +197,18 @@ module _ (paragraph : ℕ) (classes : List BidiClass) where
   unfolding state_of status_inside
   status_of [] = record { top = refl; clear = refl }
   status_of (q ∷ stack) =
-      let c = class_at classes q in
-      let s : State = inside_all stack in
-      let h : IsStatusOf stack = status_of stack in
-      let now = entered-status c s (entered c s) (entered_as c s) in
-      let more = status_inside-more (start_status paragraph) (classes_of stack) c in
-      grind (arith, now.0, now.1, fits_in-clear c s, h.top, h.clear, classes_of-more q stack, more.0, more.1)
+      let now = entered-status (class_at classes q) (inside_all stack) _ (entered_as _ _) in
+      let more = status_inside-more (start_status paragraph) (classes_of stack) (class_at classes q) in
+      grind (
+        arith,
+        now.0,
+        now.1,
+        fits_in-clear (class_at classes q) (inside_all stack),
+        status_of stack,
+        classes_of-more q stack,
+        more.0,
+        more.1,
+      )
 
   -- the machine's status at p is the one that the definitions give
   status_at-state_at : (p : ℕ) → p < length classes → (closed (class_at classes p) (state_at paragraph classes p)).top.status ≡ status_at paragraph classes p

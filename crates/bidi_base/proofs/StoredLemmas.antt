@@ -1,16 +1,5 @@
 -- What the rules of a sequence are given: the classes and levels of a paragraph at the places of its sequences.
-use Rattle.std.proofs.Common.{◌≡◌, ℕ, zero, suc, ◌<◌, ◌≤◌, Bool, true, cond, eqb, List, [], ◌∷◌, ◌++◌, length, get_or, unwrap_or, refl, ap, arith, leb}
-use Rattle.std.proofs.lemmas.Grind.{common_steps}
-use Rattle.std.specs.List.{list_all}
-use Rattle.std.proofs.lemmas.Bool.{cond_both, and_from}
-use Rattle.std.proofs.lemmas.List.Sums.{sum_by-cons}
-use Rattle.std.proofs.lemmas.List.FromFn.{get_or-map-range_with_len}
-use Rattle.bidi_base.specs.declared.char_data.BidiClass.{BidiClass}
-use Rattle.bidi_base.specs.Classes.{is_kept}
-use Rattle.bidi_base.specs.Places.{class_at, at_places}
-use Rattle.bidi_base.specs.Isolates.{stored_class, stored_classes}
-use Rattle.bidi_base.specs.Explicit.{Status, override_of, asked_level, status_inside, status_at, explicit_class, explicit_levels, explicit_classes}
-use Rattle.bidi_base.specs.Sequences.{is_kept_at, level_at}
+use Rattle.bidi_base.proofs.Common.{◌≡◌, ℕ, zero, suc, ◌<◌, ◌≤◌, Bool, true, cond, eqb, List, [], ◌∷◌, ◌++◌, length, get_or, unwrap_or, refl, ap, arith, leb, common_steps, list_all, cond_both, and_from, sum_by-cons, get_or-map-range_with_len, BidiClass, is_kept, class_at, at_places, stored_class, stored_classes, Status, override_of, asked_level, status_inside, status_at, explicit_class, explicit_levels, explicit_classes, is_kept_at, level_at}
 use Rattle.bidi_base.proofs.ExplicitLemmas.{explicit_level-IsWithin, level_at-explicit_levels, class_at-explicit_classes}
 use Rattle.bidi_base.proofs.SequencePlaces.{times_in}
 

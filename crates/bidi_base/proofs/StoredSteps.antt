@@ -1,14 +1,5 @@
 -- A paragraph that is read from the front, one character more: its stored classes (X5c), its deciding character (P2) and its open isolates. The rules at what was read so far are what a pass holds, since an isolate with no matching PDI ends at the end.
-use Rattle.std.proofs.Common.{◌≡◌, ℕ, suc, ◌<◌, Bool, true, false, not, ◌&&◌, ◌||◌, cond, List, [], ◌∷◌, ◌++◌, length, set, map, Option, Some, None, option_map, refl, ap, ◌∙◌, arith}
-use Rattle.std.specs.Prelude.{All}
-use Rattle.std.specs.Option.{option_or}
-use Rattle.std.proofs.lemmas.List.{length-map, map-append, length-set}
-use Rattle.std.proofs.lemmas.List.Elements.{All-nil, All-map}
-use Rattle.bidi_base.specs.declared.char_data.BidiClass.{BidiClass}
-use Rattle.bidi_base.specs.Classes.{is_strong}
-use Rattle.bidi_base.specs.Places.{class_at}
-use Rattle.bidi_base.specs.Reading.{innermost, outer, opened_by, decided_by, is_fsi}
-use Rattle.bidi_base.specs.Isolates.{deciding_class, resolved_fsi, stored_classes}
+use Rattle.bidi_base.proofs.Common.{◌≡◌, ℕ, suc, ◌<◌, Bool, true, false, not, ◌&&◌, ◌||◌, cond, List, [], ◌∷◌, ◌++◌, length, set, map, Option, Some, None, option_map, refl, ap, arith, All, option_or, length-map, map-append, length-set, length-map-range_with_len, All-nil, All-map, BidiClass, is_strong, class_at, innermost, outer, opened_by, decided_by, is_fsi, deciding_class, resolved_fsi, stored_classes}
 use Rattle.bidi_base.proofs.IsolateWalk.{Kind, opening, closing, neither, kind_of, opens_one, depth_by, depth_after, depth_after-deeper, is_zero, ends_by, has_end, has_end-append, deciding_from, deciding_class-from, resolving_from, stored_by, stored_from, stored_classes-from}
 
 -- the indexes of the initiators of the isolates that some characters leave open, outermost first
@@ -126,12 +117,8 @@ later_met c y o stored = grind arith
 stored_from-push : (xs : List BidiClass) (c : BidiClass) → stored_from (xs ++ c ∷ []) ≡ met_by c (innermost (open_initiators xs)) (stored_from xs) ++ c ∷ []
 unfolding found_by
 stored_from-push [] c = grind arith
-stored_from-push (x ∷ xs) c = ap (λ (ys : List BidiClass). stored_by x (resolving_from 0 (xs ++ c ∷ [])) ∷ ys) (stored_from-push xs c) ∙ by_open (open_initiators xs) refl
-  where
-    by_open : (qs : List ℕ) → open_initiators xs ≡ qs → stored_by x (resolving_from 0 (xs ++ c ∷ [])) ∷ (met_by c (innermost qs) (stored_from xs) ++ c ∷ [])
-        ≡ met_by c (innermost (onto_later (opens_one (kind_of x) && not (has_end 0 xs)) (map suc qs))) (stored_by x (resolving_from 0 xs) ∷ stored_from xs) ++ c ∷ []
-    by_open [] e = grind (arith, first_met, is_zero-depth)
-    by_open (q ∷ qs) e = grind (arith, is_zero-depth, first_stays, innermost-later, later_met)
+stored_from-push (x ∷ xs) c =
+    grind (arith, stored_from-push xs c, first_met, is_zero-depth, first_stays, innermost-later, later_met)
 
 -- one more character: a strong one is the direction of the innermost open isolate, if that has an FSI with none so far
 pub stored_classes-push : (xs : List BidiClass) (c : BidiClass) → stored_classes (xs ++ c ∷ []) ≡ met_by c (innermost (open_initiators xs)) (stored_classes xs) ++ c ∷ []
@@ -141,11 +128,8 @@ pub stored_classes-nil : stored_classes [] ≡ []
 stored_classes-nil = stored_classes-from []
 
 pub length-stored_classes : (xs : List BidiClass) → length (stored_classes xs) ≡ length xs
-length-stored_classes xs = ap length (stored_classes-from xs) ∙ same xs
-  where
-    same : (xs : List BidiClass) → length (stored_from xs) ≡ length xs
-    same [] = refl
-    same (x ∷ xs) = ap suc (same xs)
+unfolding stored_classes
+length-stored_classes xs = grind (arith, length-map-range_with_len)
 
 pub length-met_by : (c : BidiClass) (o : Option ℕ) (stored : List BidiClass) → length (met_by c o stored) ≡ length stored
 length-met_by c o stored = grind (arith, length-set)

@@ -1,21 +1,10 @@
 -- A text of UTF-8 as a list of characters: `chars bs`, with `len_utf8` for the lengths.
-use Rattle.std.proofs.Common.{◌≡◌, ℕ, ◌+◌, ◌-◌, ◌≤◌, Bool, true, false, List, [], ◌∷◌, ◌++◌, length, take, drop, Option, Some, None, option_map, slice_get, refl, sym, ◌∙◌, ap, arith, subst, append-nil, length-append, length-take, length-drop, get_or, get_or-drop, ◌<◌, if◌then◌else◌}
-use Rattle.std.proofs.lemmas.Grind.{common_steps}
-use Rattle.std.specs.Prelude.{slice_range}
-use Rattle.std.proofs.Math.Seq.{take-append_seam, drop-append_seam}
-use Rattle.std.specs.Char.{encode_utf8, len_utf8, is_ascii}
-use Rattle.std.specs.Str.{chars, IsUtf8, IsCharBoundary, encode_utf8_all, all_scalars}
-use Rattle.std.specs.Str.Iter.{char_indices_steps, char_indices_rest, char_indices_offset}
-use Rattle.std.specs.declared.str.CharIndices.{CharIndices}
+use Rattle.bidi_base.proofs.Common.{◌≡◌, ℕ, ◌+◌, ◌-◌, ◌≤◌, true, List, [], ◌∷◌, ◌++◌, length, take, drop, Option, Some, None, option_map, slice_get, refl, sym, ◌∙◌, ap, arith, subst, append-nil, length-append, length-take, length-drop, get_or, get_or-drop, ◌<◌, if◌then◌else◌, common_steps, slice_range, take-append_seam, drop-append_seam, len_utf8, chars, IsUtf8, IsCharBoundary, encode_utf8_all, char_indices_steps, char_indices_rest, char_indices_offset, CharIndices, take-append-drop, sum_by-cons, encodes-chars, encodes-append, length-encode, chars-nil, IsUtf8-past_char, and_parts, nat_tests, YieldsList, text_len, char_indices, char_indices_from, indices_lengths_from, char_at, ascii_of, ascii_at, is_boundary, subrange, IsLine}
+use Rattle.std.specs.Char.{encode_utf8, is_ascii}
+use Rattle.std.specs.Str.{all_scalars}
 use Rattle.std.specs.Iterator.{AlwaysYields}
-use Rattle.std.proofs.lemmas.List.{take-append-drop}
-use Rattle.std.proofs.lemmas.List.Sums.{sum_by-cons}
-use Rattle.std.proofs.lemmas.Str.{encodes-chars, encodes-append, chars-append, scalars-chars, length-encode, len_utf8_bounds, chars_past_char, chars-nil, IsUtf8-past_char, IsUtf8-take, IsUtf8-drop, IsCharBoundary-at_seam, IsCharBoundary-before_ascii, IsCharBoundary-from_take, byte_from_char, char_from_byte}
-use Rattle.std.proofs.lemmas.Bool.{and_parts}
-use Rattle.std.proofs.lemmas.Bool.Decides.{nat_tests}
-use Rattle.std.proofs.lemmas.Iterator.{YieldsList}
+use Rattle.std.proofs.lemmas.Str.{chars-append, scalars-chars, len_utf8_bounds, chars_past_char, IsUtf8-take, IsUtf8-drop, IsCharBoundary-at_seam, IsCharBoundary-before_ascii, IsCharBoundary-from_take, byte_from_char, char_from_byte}
 use Rattle.std.proofs.lemmas.Iterator.Splits.{YieldsList-from_shown_while}
-use Rattle.bidi_base.specs.Text.{text_len, char_indices, char_indices_from, indices_lengths_from, char_at, ascii_of, ascii_at, is_boundary, subrange, IsLine}
 use Rattle.bidi_base.proofs.TextLemmas.{HasUnits, cut_at, char_at-append, subrange-middle, char_at-None, char_at-end, char_at-zero}
 
 pub has_units : HasUnits len_utf8
@@ -79,16 +68,13 @@ subrange-from_str bs start end u line mid =
 
 -- ---- what `char_indices` gives
 
-no_chars : (bs : List ℕ) → length bs ≡ 0 → (len : ℕ → ℕ) (n : ℕ) → length (char_indices_from len n (chars bs)) ≡ 0
-no_chars bs e len n = grind (arith, common_steps, chars-nil)
-
 abbrev left : CharIndices → List (ℕ × ℕ)
 left s = char_indices_from len_utf8 (char_indices_offset s) (chars (char_indices_rest s))
 
 pub YieldsList-from_char_indices : (s : CharIndices) → IsUtf8 (char_indices_rest s) → YieldsList char_indices_steps (λ p. p) s (left s)
 YieldsList-from_char_indices s u =
     YieldsList-from_shown_while char_indices_steps (λ p. p) left (λ t. IsUtf8 (char_indices_rest t))
-    (λ s t u h. no_chars (char_indices_rest s) h.0 len_utf8 (char_indices_offset s))
+    (λ s t u h. grind (arith, common_steps, chars-nil, h.0))
     (λ s p t u h. (
       IsUtf8-past_char (char_indices_rest s) (char_indices_rest t) p.1 u h.1,
       grind (arith, h.0, h.2, chars_past_char, length-encode),
@@ -98,12 +84,9 @@ YieldsList-from_char_indices s u =
 pub char_indices_gives : (s : CharIndices) (bs : List ℕ) → IsUtf8 bs → char_indices_rest s ≡ bs → char_indices_offset s ≡ 0 → AlwaysYields char_indices_steps (λ p. p) s (char_indices len_utf8 (chars bs))
 char_indices_gives s bs u e z = grind (arith, YieldsList-from_char_indices)
 
-not_boundary : (b : Bool) (P : Type 0) → (b ≡ true → P) → (P → ⊥) → b ≡ false
-not_boundary b P f n = grind arith
-
 -- nothing stands inside a character
 pub char_at-inside : (bs : List ℕ) (i : ℕ) → IsUtf8 bs → ¬ (IsCharBoundary bs i) → char_at len_utf8 (chars bs) i ≡ None
-char_at-inside bs i u n = char_at-None len_utf8 has_units (chars bs) i (not_boundary _ _ (IsCharBoundary-from_is_boundary bs i u) n)
+char_at-inside bs i u n = grind (arith, char_at-None len_utf8 has_units (chars bs) i, IsCharBoundary-from_is_boundary bs i u)
 
 -- what the first character of the rest says
 pub char_at-read : (bs rest : List ℕ) (i : ℕ) (o : Option ℕ) → IsUtf8 bs → IsCharBoundary bs i → rest ≡ drop i bs → o ≡ slice_get (chars rest) 0 → option_map (λ c. (c, len_utf8 c)) o ≡ char_at len_utf8 (chars bs) i

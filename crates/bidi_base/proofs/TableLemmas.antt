@@ -1,25 +1,12 @@
 -- What a table of ranges and one of brackets answer, by indexes, and when a table has a fault.
-use Rattle.std.proofs.Common.{◌≡◌, ℕ, zero, suc, ◌+◌, ◌-◌, ◌<◌, ◌≤◌, Bool, true, false, min, List, length, get_or, take, drop, replicate, find, Option, Some, None, is_some, option_and_then, ap, ◌∙◌, arith}
-use Rattle.std.proofs.lemmas.Grind.{common_steps}
-use Rattle.std.proofs.lemmas.List.{length-take-le}
+use Rattle.bidi_base.proofs.Common.{◌≡◌, ℕ, zero, suc, ◌+◌, ◌-◌, ◌<◌, ◌≤◌, true, false, min, List, length, get_or, take, drop, replicate, find, Option, Some, None, is_some, option_and_then, ap, ◌∙◌, arith, common_steps, length-take-le, nat_tests, BidiClass, L, between, indexes, table_class, is_member, range_at, fault_at}
 use borrow.Rule.Slice.PartMut.{put_mid}
-use Rattle.std.proofs.lemmas.Bool.Decides.{nat_tests}
-use Rattle.bidi_base.specs.declared.char_data.BidiClass.{BidiClass}
-use Rattle.bidi_base.specs.declared.char_data.BidiClass.TheVariants.{L}
 use Rattle.bidi_base.specs.declared.data_source.TableError.{TableError}
-use Rattle.bidi_base.specs.Places.{between, indexes}
-use Rattle.bidi_base.specs.Source.{in_range, table_class, is_member, bracket_in, table_bracket, range_at, fault_at, table_fault}
-use Rattle.bidi_base.proofs.PlacesLemmas.{IsLeast, find-between, find-between-is, find-between-is_None, find-between-None}
+use Rattle.bidi_base.specs.Source.{in_range, bracket_in, table_bracket, table_fault}
+use Rattle.bidi_base.proofs.PlacesLemmas.{find-between, find-between-is, find-between-is_None, find-between-None}
 use Rattle.bidi_base.proofs.Lists.{find-first, find-none, put_mid-after}
 
--- the class where a range holds the character and none before it does, and where none does
-pub table_class-at : (ranges : List (ℕ × ℕ × BidiClass)) (c i : ℕ) → i < length ranges → in_range c (range_at ranges i) ≡ true → ((k : ℕ) → k < i → in_range c (range_at ranges k) ≡ false) → table_class ranges c ≡ (range_at ranges i).2
-table_class-at ranges c i below holds before = grind (arith, find-first)
-
-pub table_class-none : (ranges : List (ℕ × ℕ × BidiClass)) (c : ℕ) → ((k : ℕ) → k < length ranges → in_range c (range_at ranges k) ≡ false) → table_class ranges c ≡ L
-table_class-none ranges c none = grind (arith, find-none (in_range c) ranges (0, 0, L) none)
-
--- the same for brackets
+-- the bracket where an entry holds the character and none before it does, and where none does
 pub table_bracket-at : (brackets : List (ℕ × ℕ × Option ℕ)) (c i : ℕ) → i < length brackets → is_member c (get_or brackets i (0, 0, None)) ≡ true → ((k : ℕ) → k < i → is_member c (get_or brackets k (0, 0, None)) ≡ false) → table_bracket brackets c ≡ Some (bracket_in (get_or brackets i (0, 0, None)) c)
 table_bracket-at brackets c i below holds before = grind (arith, find-first)
 
@@ -33,10 +20,8 @@ indexes_between ranges = grind arith
 -- the fault of a table where one range is faulty and none before it is, and where none is
 pub table_fault-first : (ranges : List (ℕ × ℕ × BidiClass)) (i : ℕ) (e : TableError) → i < length ranges → fault_at ranges i ≡ Some e → ((k : ℕ) → k < i → fault_at ranges k ≡ None) → table_fault ranges ≡ Some e
 table_fault-first ranges i e below faulty before =
-    let test : ℕ → Bool = λ k. is_some (fault_at ranges k) in
-    let least : IsLeast test 0 (length ranges) i = grind arith in
-    let found : find test (indexes ranges) ≡ Some i = rw (← indexes_between ranges) (find-between-is test 0 (length ranges) i least) in
-    ap (option_and_then (fault_at ranges)) found ∙ faulty
+    let found = find-between-is (λ k. is_some (fault_at ranges k)) 0 (length ranges) i (grind arith) in
+    ap (option_and_then (fault_at ranges)) (rw (indexes_between ranges) at found) ∙ faulty
 
 pub table_fault-none : (ranges : List (ℕ × ℕ × BidiClass)) → ((i : ℕ) → i < length ranges → fault_at ranges i ≡ None) → table_fault ranges ≡ None
 table_fault-none ranges none =
@@ -48,11 +33,8 @@ pub fault_at-in_order : (ranges : List (ℕ × ℕ × BidiClass)) (i : ℕ) → 
 fault_at-in_order ranges i h = grind arith
 
 -- in a table with no fault each range is in order, and begins after the end of every one before it
-fault_found : (ranges : List (ℕ × ℕ × BidiClass)) → table_fault ranges ≡ None → find (λ k. is_some (fault_at ranges k)) (between 0 (length ranges)) ≡ None
-fault_found ranges none = grind (arith, find-between)
-
 pub faultless-at : (ranges : List (ℕ × ℕ × BidiClass)) (i : ℕ) → table_fault ranges ≡ None → i < length ranges → fault_at ranges i ≡ None
-faultless-at ranges i none below = grind (arith, find-between-None (λ k. is_some (fault_at ranges k)) 0 (length ranges) (fault_found ranges none) i)
+faultless-at ranges i none below = grind (arith, find-between-None (λ k. is_some (fault_at ranges k)) 0 (length ranges) (grind (arith, find-between)) i)
 
 pub faultless-in_order : (ranges : List (ℕ × ℕ × BidiClass)) (i : ℕ) → table_fault ranges ≡ None → i < length ranges → (range_at ranges i).0 ≤ (range_at ranges i).1
 faultless-in_order ranges i none below = (fault_at-in_order ranges i (faultless-at ranges i none below)).0
@@ -60,13 +42,6 @@ faultless-in_order ranges i none below = (fault_at-in_order ranges i (faultless-
 pub faultless-ascending : (ranges : List (ℕ × ℕ × BidiClass)) (i j : ℕ) → table_fault ranges ≡ None → i < j → j < length ranges → (range_at ranges i).1 < (range_at ranges j).0
 faultless-ascending ranges i zero none before below = absurd (omega arith)
 faultless-ascending ranges i (suc j) none before below = grind (arith, fault_at-in_order, faultless-at, faultless-ascending ranges i j none, faultless-in_order)
-
--- where a range lies, by its numbers
-pub in_range-holds : (c : ℕ) (r : ℕ × ℕ × BidiClass) → r.0 ≤ c → c ≤ r.1 → in_range c r ≡ true
-in_range-holds c r h k = grind (arith, nat_tests)
-
-pub in_range-before : (c : ℕ) (r : ℕ × ℕ × BidiClass) → r.1 < c → in_range c r ≡ false
-in_range-before c r h = grind (arith, nat_tests)
 
 -- one range against a character, and so all before it or all from it on
 pub all_before : (ranges : List (ℕ × ℕ × BidiClass)) (c i : ℕ) → table_fault ranges ≡ None → i < length ranges → (range_at ranges i).1 < c → (k : ℕ) → k < i + 1 → (range_at ranges k).1 < c
@@ -78,10 +53,10 @@ all_after ranges c i none h k later below = grind (arith, faultless-ascending, f
 -- the class of a character that a range holds, and of one that lies between all ranges
 pub table_class-holder : (ranges : List (ℕ × ℕ × BidiClass)) (c i : ℕ) → table_fault ranges ≡ None → i < length ranges → (range_at ranges i).0 ≤ c → c ≤ (range_at ranges i).1 → table_class ranges c ≡ (range_at ranges i).2
 table_class-holder ranges c i none below from to =
-    grind (arith, table_class-at ranges c i below, in_range-holds c (range_at ranges i) from to, faultless-ascending ranges, in_range-before c)
+    grind (arith, nat_tests, find-first (in_range c) ranges i (0, 0, L) below, faultless-ascending ranges)
 
 pub table_class-between : (ranges : List (ℕ × ℕ × BidiClass)) (c low high : ℕ) → high ≤ low → ((k : ℕ) → k < low → (range_at ranges k).1 < c) → ((k : ℕ) → high ≤ k → k < length ranges → c < (range_at ranges k).0) → table_class ranges c ≡ L
-table_class-between ranges c low high met before after = grind (arith, table_class-none)
+table_class-between ranges c low high met before after = grind (arith, nat_tests, find-none (in_range c) ranges (0, 0, L))
 
 -- the classes of the first characters by the ranges from `i` on, once the part that range `i` holds was filled
 pub kept-filled : (kept : ℕ) (ranges : List (ℕ × ℕ × BidiClass)) (i later end : ℕ) (classes part : List BidiClass) → later ≡ i + 1 → i < length ranges → end ≡ min ((range_at ranges i).1 + 1) kept → (range_at ranges i).0 < end → length classes ≡ kept

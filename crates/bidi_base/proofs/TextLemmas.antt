@@ -1,9 +1,5 @@
 -- Texts cut at boundaries: a boundary is the length of some first characters.
-use Rattle.std.proofs.Common.{◌≡◌, ◌==◌, ℕ, ◌+◌, ◌-◌, ◌≤◌, true, false, ◌||◌, nat_lt, cond, List, [], ◌∷◌, ◌++◌, length, None, is_some, option_map, slice_get, count_by, refl, sym, ap, append_assoc, arith, le-ltb, length-append}
-use Rattle.std.proofs.Math.Seq.{take-append_seam, drop-append_seam}
-use Rattle.std.proofs.lemmas.List.Sums.{sum_by-cons, sum_by-append}
-use Rattle.std.proofs.lemmas.Bool.Decides.{nat_tests}
-use Rattle.bidi_base.specs.Text.{text_len, char_at, is_boundary, char_indices_from, char_index, subrange}
+use Rattle.bidi_base.proofs.Common.{◌≡◌, ◌==◌, ℕ, ◌+◌, ◌-◌, ◌≤◌, true, false, ◌||◌, nat_lt, cond, List, [], ◌∷◌, ◌++◌, length, None, is_some, option_map, slice_get, count_by, refl, sym, ap, append_assoc, arith, le-ltb, length-append, take-append_seam, drop-append_seam, sum_by-cons, sum_by-append, nat_tests, text_len, char_at, is_boundary, char_indices_from, char_index, subrange}
 
 -- every character is at least one unit long
 abbrev pub HasUnits : (ℕ → ℕ) → Type 0

@@ -1,14 +1,9 @@
 -- What the test `is_per_char` says of entries that go with units.
-use Rattle.std.proofs.Common.{◌≡◌, ℕ, zero, suc, ◌<◌, ◌≤◌, Bool, true, false, nat_le, List, [], ◌∷◌, ◌++◌, length, take, drop, refl, sym, ap, ◌∙◌, arith, length-append, length-take}
-use Rattle.std.proofs.lemmas.Grind.{common_steps}
-use Rattle.std.proofs.lemmas.List.{nil_from_length, take-append-drop, length-replicate}
-use Rattle.std.proofs.lemmas.Bool.Decides.{nat_tests}
-use Rattle.std.specs.List.{list_all}
+use Rattle.bidi_base.proofs.Common.{◌≡◌, ℕ, zero, suc, ◌<◌, ◌≤◌, Bool, true, false, nat_le, List, [], ◌∷◌, length, take, drop, refl, ap, ◌∙◌, arith, length-append, length-take, common_steps, nil_from_length, take-append-drop, length-replicate, nat_tests, list_all, text_len, per_unit, per_char, is_per_char, IsPerChar, and_parts}
 use Rattle.std.specs.Prelude.{replicate}
-use Rattle.bidi_base.specs.Text.{text_len, per_unit, per_char, all_same, is_per_char, IsPerChar}
+use Rattle.bidi_base.specs.Text.{all_same}
 use Rattle.bidi_base.proofs.TextLemmas.{HasUnits, zero_test}
 use Rattle.bidi_base.proofs.PerUnit.{length-per_unit, per_char-per_unit}
-use Rattle.std.proofs.lemmas.Bool.{and_parts}
 
 -- ---- steps of `is_per_char`, where c is the first of the characters ds
 module _ {X : Type 0} (eq : X → X → Bool) (len_of : ℕ → ℕ) (ds cs : List ℕ) (c : ℕ) (units : List X) (first : ds ≡ c ∷ cs) where
@@ -36,9 +31,6 @@ pub record IsSameTest {X : Type 0} (eq : X → X → Bool) : Type 0 where
   pub same : (x y : X) → eq x y ≡ true → x ≡ y
   pub self : (x : X) → eq x x ≡ true
 
-le_true : (m n : ℕ) → nat_le m n ≡ true → m ≤ n
-le_true m n e = grind (arith, nat_tests)
-
 module _ {X : Type 0} (eq : X → X → Bool) (test : IsSameTest eq) where
   replicate_from_all : (y : X) (xs : List X) → list_all (λ x. eq x y) xs ≡ true → xs ≡ replicate (length xs) y
   replicate_from_all y [] e = refl
@@ -48,18 +40,16 @@ module _ {X : Type 0} (eq : X → X → Bool) (test : IsSameTest eq) where
   one_value zero units pos le e = absurd (omega arith)
   one_value (suc n) [] pos le e = absurd (omega arith)
   one_value (suc n) (v ∷ units) pos le e =
-      let long : length (v ∷ take n units) ≡ suc n = omega (arith, length-take n units) in
-      (v, replicate_from_all v (v ∷ take n units) e ∙ ap (λ m. replicate m v) long)
+      (v, grind (arith, replicate_from_all v (v ∷ take n units), length-take n units))
 
   -- the units are those of some values
   pub IsPerChar-from_is_per_char : (len_of : ℕ → ℕ) → HasUnits len_of → (chars : List ℕ) (units : List X) → is_per_char eq len_of chars units ≡ true → IsPerChar len_of chars units
   IsPerChar-from_is_per_char len_of h [] units e = ([], refl, nil_from_length units (zero_test (length units) e))
-  IsPerChar-from_is_per_char len_of h (c ∷ chars) units e =
-      let w = and_parts _ _ e in
+  IsPerChar-from_is_per_char len_of h (c ∷ chars) units e = let w = and_parts (nat_le (len_of c) (length units)) _ e in
       let v = and_parts _ _ w.1 in
-      let first = one_value (len_of c) units (h c) (le_true (len_of c) (length units) w.0) v.0 in
+      let first = one_value (len_of c) units (h c) (grind (arith, nat_tests)) v.0 in
       let rest = IsPerChar-from_is_per_char len_of h chars (drop (len_of c) units) v.1 in
-      (first.0 ∷ rest.0, ap suc rest.1, sym (take-append-drop (len_of c) units) ∙ ap (λ xs. xs ++ drop (len_of c) units) first.1 ∙ ap (λ xs. replicate (len_of c) first.0 ++ xs) rest.2)
+      (first.0 ∷ rest.0, ap suc rest.1, grind (arith, take-append-drop (len_of c) units, first.1, rest.2))
 
   all_same-replicate : (n : ℕ) (x : X) → all_same eq (replicate n x) ≡ true
   all_same-replicate zero x = refl
@@ -73,10 +63,15 @@ module _ {X : Type 0} (eq : X → X → Bool) (test : IsSameTest eq) where
   is_per_char-per_unit len_of [] values long = refl
   is_per_char-per_unit len_of (c ∷ chars) [] long = absurd (omega arith)
   is_per_char-per_unit len_of (c ∷ chars) (v ∷ values) long =
-      grind (arith, nat_tests, back, length-append, length-replicate, all_same-replicate (len_of c) v, is_per_char-per_unit len_of chars values, common_steps)
-    where
-      back : drop (len_of c) (replicate (len_of c) v ++ per_unit len_of chars values) ≡ per_unit len_of chars values
-      back = grind (arith, common_steps)
+      grind (
+        arith,
+        is_per_char-per_unit len_of chars values,
+        length-append,
+        length-replicate,
+        all_same-replicate,
+        common_steps,
+        nat_tests,
+      )
 
   pub is_per_char-from_IsPerChar : (len_of : ℕ → ℕ) (chars : List ℕ) (units : List X) → IsPerChar len_of chars units → is_per_char eq len_of chars units ≡ true
   is_per_char-from_IsPerChar len_of chars units w = grind (arith, is_per_char-per_unit)

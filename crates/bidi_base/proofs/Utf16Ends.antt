@@ -1,7 +1,6 @@
 -- The last character of units of UTF-16.
-use Rattle.std.proofs.Common.{suc, ◌≡◌, ℕ, ◌-◌, true, false, List, [], ◌∷◌, length, drop, drop-cons, get_or, ◌∙◌, ap, arith}
-use Rattle.std.proofs.lemmas.List.{drop_all}
-use Rattle.bidi_base.specs.Utf16.{splits_pair, pair_char, lone_char, IsLast}
+use Rattle.bidi_base.proofs.Common.{suc, ◌≡◌, ℕ, ◌-◌, true, false, List, [], ◌∷◌, length, drop, drop-cons, get_or, ◌∙◌, ap, arith, drop_all, splits_pair, pair_char, lone_char}
+use Rattle.bidi_base.specs.Utf16.{IsLast}
 use Rattle.bidi_base.proofs.Utf16Lemmas.{NoPairAt, NoPairAt-from_splits_pair, PairAt, pair_at, utf16_text-cut, utf16_len-lone, utf16_len-pair, text_pair}
 
 -- the last unit, and the last two

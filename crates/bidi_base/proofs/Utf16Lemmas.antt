@@ -1,13 +1,7 @@
 -- Units of UTF-16 as a list of characters: `utf16_text us`, with `utf16_len` for the lengths.
-use Rattle.std.proofs.Common.{zero, suc, ◌≡◌, ◌==◌, ℕ, ◌+◌, ◌-◌, ◌≤◌, Bool, true, false, ◌&&◌, ◌||◌, nat_le, nat_lt, if◌then◌else◌}
-use Rattle.std.proofs.lemmas.Grind.{common_steps}
-use Rattle.std.proofs.Common.{List, [], ◌∷◌, ◌++◌, length, take, drop, get_or, Option, Some, None, MatchOption, inl, inr, refl, ◌∙◌, ap, arith, length-take, length-drop, get_or-drop, drop-cons, ◌<◌}
-use Rattle.std.specs.Prelude.{slice_range}
-use Rattle.std.proofs.lemmas.Bool.{cases_Bool}
-use Rattle.std.proofs.lemmas.Bool.Decides.{nat_tests}
-use Rattle.std.proofs.lemmas.List.Sums.{sum_by-cons}
-use Rattle.bidi_base.specs.Text.{text_len, char_at, ascii_of, ascii_at, is_boundary, subrange, IsLine}
-use Rattle.bidi_base.specs.Utf16.{is_pair, pair_char, lone_char, utf16_text, utf16_len, splits_pair, IsFirst}
+use Rattle.bidi_base.proofs.Common.{zero, suc, ◌≡◌, ◌==◌, ℕ, ◌+◌, ◌-◌, ◌≤◌, Bool, true, false, ◌&&◌, ◌||◌, nat_le, nat_lt, if◌then◌else◌, common_steps, List, [], ◌∷◌, ◌++◌, length, take, drop, get_or, Option, Some, None, inl, inr, refl, ◌∙◌, ap, arith, length-take, length-drop, get_or-drop, drop-cons, ◌<◌, slice_range, cases_Bool, nat_tests, sum_by-cons, text_len, char_at, ascii_of, ascii_at, is_boundary, subrange, IsLine, pair_char, lone_char, utf16_text, utf16_len, splits_pair}
+use Rattle.std.proofs.Common.{MatchOption}
+use Rattle.bidi_base.specs.Utf16.{is_pair, IsFirst}
 use Rattle.bidi_base.proofs.TextLemmas.{HasUnits, is_boundary-le, char_at-append, char_at-None, char_at-end, subrange-middle}
 
 pub has_units : HasUnits utf16_len
@@ -87,18 +81,14 @@ is_boundary-within us i e = omega (arith, is_boundary-le utf16_len (utf16_text u
 
 -- the characters of a line are those of its units
 pub subrange-utf16 : (us : List ℕ) (start end : ℕ) → IsLine utf16_len (utf16_text us) start end → subrange utf16_len (utf16_text us) start end ≡ utf16_text (slice_range us start end)
-subrange-utf16 us start end line =
-    let ys : List ℕ = drop start us in
-    let xs : List ℕ = utf16_text (take start us) in
+subrange-utf16 us start end line = let xs : List ℕ = utf16_text (take start us) in
     let mid : List ℕ = utf16_text (slice_range us start end) in
-    let zs : List ℕ = utf16_text (drop (end - start) ys) in
     let within : end ≤ length us = is_boundary-within us end line.ends in
     let ends = NoPairAt-from_is_boundary us end line.ends in
-    let across : NoPairAt ys (end - start) = λ k e. grind (arith, get_or-drop) in
+    let parts = utf16_text-cut us start (NoPairAt-from_is_boundary us start line.begins) ∙ ap (λ z. xs ++ z) (utf16_text-cut (drop start us) (end - start) (λ k e. grind (arith, get_or-drop))) in
     let front : text_len utf16_len xs ≡ start = text_len-front us start (omega (arith, line.ordered)) in
-    let both : text_len utf16_len xs + text_len utf16_len mid ≡ end = omega (arith, front, text_len-front ys (end - start) (omega (arith, length-drop start us)), line.ordered) in
-    let parts : utf16_text us ≡ xs ++ (mid ++ zs) = utf16_text-cut us start (NoPairAt-from_is_boundary us start line.begins) ∙ ap (λ z. xs ++ z) (utf16_text-cut ys (end - start) across) in
-    cc (parts, front, both, subrange-middle utf16_len has_units xs mid zs)
+    let both : text_len utf16_len xs + text_len utf16_len mid ≡ end = omega (arith, front, text_len-front (drop start us) (end - start) (omega (arith, length-drop start us)), line.ordered) in
+    cc (parts, front, both, subrange-middle utf16_len has_units xs mid (utf16_text (drop (end - start) (drop start us))))
 
 -- ---- the character at an index
 

@@ -1,15 +1,6 @@
 -- A pass over level runs: what is open waits for its match, and a run goes on with the sequence whose initiator its first character matches.
-use Rattle.std.proofs.Common.{◌≡◌, ◌≢◌, ℕ, zero, suc, ◌+◌, ◌<◌, ◌≤◌, true, false}
-use Rattle.std.proofs.Common.{List, [], ◌∷◌, ◌++◌, length, map, get_or, set, length-append, append-nil, Option, Some, None, refl, subst, arith, ◌⊎◌, eq-eqb, ne_eqb}
-use Rattle.std.specs.Prelude.{filter}
-use Rattle.std.specs.List.{range_with_len}
-use Rattle.std.specs.List.Sorted.{IsPermutation}
-use Rattle.std.proofs.lemmas.Bool.{false_from_ne_true}
-use Rattle.std.proofs.lemmas.List.{get_or_append_left, get_or-set_same, get_or-set_other, length-set}
-use Rattle.bidi_base.specs.declared.char_data.BidiClass.{BidiClass}
-use Rattle.bidi_base.specs.Places.{last_or}
-use Rattle.bidi_base.specs.Isolates.{is_initiator_at, is_pdi_at, matching_pdi}
-use Rattle.bidi_base.specs.Sequences.{is_kept_at, kept_places, next_kept, have_one_level, successor, is_first, sequences}
+use Rattle.bidi_base.proofs.Common.{◌≡◌, ◌≢◌, ℕ, zero, suc, ◌+◌, ◌<◌, ◌≤◌, true, false, List, [], ◌∷◌, ◌++◌, length, map, get_or, set, length-append, append-nil, Option, Some, None, refl, subst, arith, ◌⊎◌, eq-eqb, ne_eqb, filter, range_with_len, IsPermutation, false_from_ne_true, get_or_append_left, length-set, BidiClass, last_or, is_initiator_at, is_pdi_at, matching_pdi, is_kept_at, kept_places, next_kept, have_one_level, successor, is_first, sequences}
+use Rattle.std.proofs.lemmas.List.{get_or-set_same, get_or-set_other}
 use Rattle.bidi_base.proofs.ReadStack.{Member, IsReadStack, IsReadStack-more, IsReadStack-stay}
 use Rattle.bidi_base.proofs.OpenMatches.{IsReadStack-match, IsReadStack-matched, IsReadStack-no_match}
 use Rattle.bidi_base.proofs.IsolatesLemmas.{initiators_apart, pdis_apart, matching_pdi-is_pdi}
@@ -43,8 +34,12 @@ count_of-higher x low high (y ∷ ys) after h = grind (arith, ne_eqb, Ascends-or
 module _ (classes : List BidiClass) (levels : List ℕ) where
   Member-all : (x s : ℕ) (out : List (List ℕ)) → s < length out → Member x (get_or out s []) → Member x (all_of classes levels out)
   Member-all x s [] within member = absurd (omega arith)
-  Member-all x zero (ys ∷ out) within member = Member-append x ys (all_of classes levels out) member
-  Member-all x (suc s) (ys ∷ out) within member = Member-append_right x ys (all_of classes levels out) (Member-all x s out (omega arith) member)
+  Member-all x s (ys ∷ out) within member = let rest = λ (r : ℕ). Member-all x r out in grind (
+    arith,
+    Member-append,
+    Member-append_right,
+    rest,
+  )
 
   -- what came so far is earlier
   earlier : (a x s : ℕ) (out : List (List ℕ)) → IsPermutation (kept_below classes levels a) (all_of classes levels out) → s < length out → Member x (get_or out s []) → a ≤ x → ⊥
@@ -55,9 +50,6 @@ module _ (classes : List BidiClass) (levels : List ℕ) where
   last_if : (i m p : ℕ) (ps : List ℕ) → AreSuccessors classes levels (p ∷ ps) → Member i (p ∷ ps) → successor classes levels i ≡ Some m → (Member m (p ∷ ps) → ⊥) → last_or p ps ≡ i
   last_if i m p [] follows z5 next none = grind arith
   last_if i m p (q ∷ ps) follows z5 next none = grind (arith, last_if i m q ps follows.1)
-
-  last_of_sequence : (i m : ℕ) (xs : List ℕ) → IsBegunList classes levels xs → Member i xs → successor classes levels i ≡ Some m → (Member m xs → ⊥) → last_or 0 xs ≡ i
-  last_of_sequence i m xs begun member next none = grind (arith, last_if)
 
   begun_at : (out : List (List ℕ)) (s : ℕ) → AllBegun classes levels out → s < length out → IsBegunList classes levels (get_or out s [])
   begun_at [] s begun within = absurd (omega arith)
@@ -83,10 +75,7 @@ module _ (classes : List BidiClass) (levels : List ℕ) where
   AreWaiting-longer out more (i ∷ stack) [] longer waiting = waiting
   AreWaiting-longer out more (i ∷ stack) (None ∷ waits) longer waiting = (waiting.0, AreWaiting-longer out more stack waits longer waiting.1)
   AreWaiting-longer out more (i ∷ stack) (Some s ∷ waits) longer waiting =
-      ((omega (arith, waiting.0.0, longer.0), longer.1 s i waiting.0.0 waiting.0.1, waiting.0.2), AreWaiting-longer out more stack waits longer waiting.1)
-
-  IsLonger-push : (out : List (List ℕ)) (xs : List ℕ) → IsLonger out (out ++ xs ∷ [])
-  IsLonger-push out xs = grind (arith, length-append, get_or_append_left)
+      grind (arith, AreWaiting-longer out more stack waits longer, longer.0, longer.1 s i)
 
   -- the state of a pass: the level runs up to a stand in their sequences, and all before m was read for what is open
   pub record IsPass (a m : ℕ) (out : List (List ℕ)) (stack : List ℕ) (waits : List (Option ℕ)) : Type 0 where
@@ -139,13 +128,19 @@ module _ (classes : List BidiClass) (levels : List ℕ) where
       → IsPass (a + n) m (out ++ (p ∷ ps) ∷ []) stack waits
   IsPass-begin a n m p ps out stack waits h here fits follows first =
       let front : IsFront classes levels a (a + n) p ps = front_of classes levels a n p ps here in
-      record {
-        begun = AllBegun-push classes levels out p ps h.begun (record { kept = front.kept; within = omega (arith, front.below); first = first; follows = follows });
-        shares = shares-push classes levels a n out (p ∷ ps) h.shares here;
-        in_order = rw (firsts-push classes levels out p ps) (Ascends-higher 0 (p + 1) (a + n) _ (omega (arith, front.below)) (Ascends-push 0 p _ (Ascends-higher 0 a p _ front.from h.in_order)));
-        isolates = h.isolates;
-        waiting = AreWaiting-longer out (out ++ (p ∷ ps) ∷ []) stack waits (IsLonger-push out (p ∷ ps)) h.waiting;
-      }
+      grind (
+        arith,
+        front.kept,
+        front.from,
+        front.below,
+        AllBegun-push classes levels out p ps,
+        shares-push classes levels a n out (p ∷ ps),
+        firsts-push classes levels out p ps,
+        Ascends-higher 0 (p + 1) (a + n),
+        Ascends-push 0 p,
+        Ascends-higher 0 a p,
+        AreWaiting-longer out (out ++ (p ∷ ps) ∷ []) stack waits (grind (arith, length-append, get_or_append_left)),
+      )
 
   -- they go on with the sequence at s
   pub IsPass-join : (a n m p s : ℕ) (ps : List ℕ) (out : List (List ℕ)) (stack : List ℕ) (waits : List (Option ℕ)) → IsPass a m out stack waits
@@ -161,8 +156,17 @@ module _ (classes : List BidiClass) (levels : List ℕ) where
   unfolding matching_pdi
   successor-waiting a m i s out stack waits h after fits here begins =
       let matches = IsReadStack-match (is_initiator_at classes) (is_pdi_at classes) (initiators_apart classes) (length classes) m i stack h.isolates here fits in
-      let next : successor classes levels i ≡ Some m = successor-at_match classes levels i m h.isolates.are_open.0 matches h.waiting.0.2 begins in
-      rw (last_of_sequence i m (get_or out s []) (begun_at out s h.begun h.waiting.0.0) h.waiting.0.1 next (λ member. earlier a m s out h.shares h.waiting.0.0 member after)) next
+      grind (
+        arith,
+        matches,
+        successor-at_match classes levels i m,
+        h.isolates.are_open.0,
+        h.waiting,
+        last_if i m,
+        begun_at out s,
+        h.begun,
+        earlier a m s out,
+      )
 
   -- any other run begins a sequence
   pub is_first-no_pdi : (m : ℕ) → is_pdi_at classes m ≡ false → BeginsRun classes levels m → is_first classes levels m ≡ true
@@ -175,11 +179,15 @@ module _ (classes : List BidiClass) (levels : List ℕ) where
   pub is_first-not_waiting : (a m i : ℕ) (out : List (List ℕ)) (stack : List ℕ) (waits : List (Option ℕ)) → IsPass a m out (i ∷ stack) (None ∷ waits)
       → m < length classes → is_pdi_at classes m ≡ true → BeginsRun classes levels m → is_first classes levels m ≡ true
   unfolding matching_pdi
-  is_first-not_waiting a m i out stack waits h fits here begins = is_first-run classes levels m begins none
-    where
-      none : (j : ℕ) → is_initiator_at classes j ≡ true → matching_pdi classes j ≡ Some m → EndsRun classes levels j → ⊥
-      none j opens matches ends =
-          grind (arith, IsReadStack-matched (is_initiator_at classes) (is_pdi_at classes) (initiators_apart classes) (length classes) m j (i ∷ stack) h.isolates opens matches, ends, h.waiting.0)
+  is_first-not_waiting a m i out stack waits h fits here begins =
+      is_first-run classes levels m begins (λ j opens matches ends.
+      grind (
+        arith,
+        IsReadStack-matched (is_initiator_at classes) (is_pdi_at classes) (initiators_apart classes)
+            (length classes) m j (i ∷ stack) h.isolates opens matches,
+        ends,
+        h.waiting.0,
+      ))
 
   -- an initiator that is not the last of its run waits for nothing
   pub inside_run : (x p : ℕ) (ps : List ℕ) → AreRunSteps classes levels (p ∷ ps) → Member x (p ∷ ps) → x ≢ last_or p ps → have_one_level levels (next_kept classes x) x ≡ true

@@ -1,11 +1,5 @@
 -- The classes that W1 to W7 leave: of kept classes, those with a direction and the neutrals.
-use Rattle.std.proofs.Common.{◌≡◌, Bool, true, not, ◌&&◌, List, [], ◌∷◌, refl, arith}
-use Rattle.std.specs.List.{list_all}
-use Rattle.std.proofs.lemmas.Bool.{and_parts}
-use Rattle.bidi_base.specs.declared.char_data.BidiClass.{BidiClass}
-use Rattle.bidi_base.specs.Classes.{is_kept, is_nsm, is_al, is_l_or_r, is_weak_resolved}
-use Rattle.bidi_base.specs.Places.{nearest}
-use Rattle.bidi_base.specs.Weak.{w1_rule, w2_rule, w3_rule, w4_rule, w5_rule, w6_rule, w7_rule, w1, w2, w3, w4, w5, w6, weak_classes}
+use Rattle.bidi_base.proofs.Common.{◌≡◌, Bool, true, not, ◌&&◌, List, [], ◌∷◌, refl, arith, list_all, and_parts, BidiClass, is_kept, is_nsm, is_al, is_l_or_r, is_weak_resolved, nearest, w1_rule, w2_rule, w3_rule, w4_rule, w5_rule, w6_rule, w7_rule, w1, w2, w3, w4, w5, w6, weak_classes}
 use Rattle.bidi_base.proofs.ContextLemmas.{list_all-in_context, list_all-mapped}
 use Rattle.bidi_base.proofs.PlacesLemmas.{nearest-more}
 
@@ -20,38 +14,14 @@ nearest_after_w1 : (sos : BidiClass) (before : List BidiClass) → is_after_w1 s
 nearest_after_w1 sos [] h k = h
 nearest_after_w1 sos (b ∷ before) h k = grind (arith, and_parts, nearest_after_w1 sos before h, nearest-more)
 
-w1_answers : (sos : BidiClass) → is_after_w1 sos ≡ true → (before : List BidiClass) (c : BidiClass) (after : List BidiClass) → list_all is_kept before ≡ true → is_kept c ≡ true
-    → is_after_w1 (w1_rule sos before c after) ≡ true
-w1_answers sos h before c after k l = grind (arith, nearest_after_w1)
-
-w2_answers : (sos : BidiClass) (before : List BidiClass) (c : BidiClass) (after : List BidiClass) → is_after_w1 c ≡ true → is_after_w1 (w2_rule sos before c after) ≡ true
-w2_answers sos before c after h = grind arith
-
-w3_answers : (c : BidiClass) → is_after_w1 c ≡ true → is_after_w3 (w3_rule c) ≡ true
-w3_answers c h = grind arith
-
-w4_answers : (before : List BidiClass) (c : BidiClass) (after : List BidiClass) → is_after_w3 c ≡ true → is_after_w3 (w4_rule before c after) ≡ true
-w4_answers before c after h = grind arith
-
-w5_answers : (before : List BidiClass) (c : BidiClass) (after : List BidiClass) → is_after_w3 c ≡ true → is_after_w3 (w5_rule before c after) ≡ true
-w5_answers before c after h = grind arith
-
-w6_answers : (c : BidiClass) → is_after_w3 c ≡ true → is_weak_resolved (w6_rule c) ≡ true
-w6_answers c h = grind arith
-
-w7_answers : (sos : BidiClass) (before : List BidiClass) (c : BidiClass) (after : List BidiClass) → is_weak_resolved c ≡ true → is_weak_resolved (w7_rule sos before c after) ≡ true
-w7_answers sos before c after h = grind arith
-
-sos_after_w1 : (sos : BidiClass) → is_l_or_r sos ≡ true → is_after_w1 sos ≡ true
-sos_after_w1 sos h = grind arith
-
 pub weak_classes-resolved : (sos : BidiClass) (classes : List BidiClass) → is_l_or_r sos ≡ true → list_all is_kept classes ≡ true → list_all is_weak_resolved (weak_classes sos classes) ≡ true
 unfolding weak_classes
 weak_classes-resolved sos classes h k =
-    let after_w1 = list_all-in_context (w1_rule sos) is_kept is_after_w1 (w1_answers sos (sos_after_w1 sos h)) [] classes refl k in
-    let after_w2 = list_all-in_context (w2_rule sos) is_after_w1 is_after_w1 (λ before c after l. w2_answers sos before c after) [] (w1 sos classes) refl after_w1 in
-    let after_w3 = list_all-mapped w3_rule is_after_w1 is_after_w3 w3_answers (w2 sos (w1 sos classes)) after_w2 in
-    let after_w4 = list_all-in_context w4_rule is_after_w3 is_after_w3 (λ before c after l. w4_answers before c after) [] (w3 (w2 sos (w1 sos classes))) refl after_w3 in
-    let after_w5 = list_all-in_context w5_rule is_after_w3 is_after_w3 (λ before c after l. w5_answers before c after) [] (w4 (w3 (w2 sos (w1 sos classes)))) refl after_w4 in
-    let after_w6 = list_all-mapped w6_rule is_after_w3 is_weak_resolved w6_answers (w5 (w4 (w3 (w2 sos (w1 sos classes))))) after_w5 in
-    list_all-in_context (w7_rule sos) is_weak_resolved is_weak_resolved (λ before c after l. w7_answers sos before c after) [] (w6 (w5 (w4 (w3 (w2 sos (w1 sos classes)))))) refl after_w6
+    let start : is_after_w1 sos ≡ true = grind arith in
+    let after_w1 = list_all-in_context (w1_rule sos) is_kept is_after_w1 (λ before c after k l. grind (arith, nearest_after_w1)) [] classes refl k in
+    let after_w2 = list_all-in_context (w2_rule sos) is_after_w1 is_after_w1 (λ before c after l h. grind arith) [] (w1 sos classes) refl after_w1 in
+    let after_w3 = list_all-mapped w3_rule is_after_w1 is_after_w3 (λ c h. grind arith) (w2 sos (w1 sos classes)) after_w2 in
+    let after_w4 = list_all-in_context w4_rule is_after_w3 is_after_w3 (λ before c after l h. grind arith) [] (w3 (w2 sos (w1 sos classes))) refl after_w3 in
+    let after_w5 = list_all-in_context w5_rule is_after_w3 is_after_w3 (λ before c after l h. grind arith) [] (w4 (w3 (w2 sos (w1 sos classes)))) refl after_w4 in
+    let after_w6 = list_all-mapped w6_rule is_after_w3 is_weak_resolved (λ c h. grind arith) (w5 (w4 (w3 (w2 sos (w1 sos classes))))) after_w5 in
+    list_all-in_context (w7_rule sos) is_weak_resolved is_weak_resolved (λ before c after l h. grind arith) [] (w6 (w5 (w4 (w3 (w2 sos (w1 sos classes)))))) refl after_w6

@@ -1,10 +1,5 @@
 -- What an analysis holds, as a caller's buffers have it.
-use Rattle.std.proofs.lemmas.List.{length-take-le}
-use Rattle.std.proofs.Common.{◌≡◌, ◌∙◌, ℕ, ◌≤◌, ◌&&◌, nat_le, None, take, List, [], ◌∷◌, map, length, refl, ap, ap₂, sym, Option, arith}
-use Rattle.std.proofs.lemmas.List.{length-map}
-use Rattle.bidi_base.specs.Analysed.{AnalysedText, IsPerCharText}
-use Rattle.bidi_base.specs.Source.{Source}
-use Rattle.bidi_base.specs.Text.{text_len}
+use Rattle.bidi_base.proofs.Common.{length-take-le, ◌≡◌, ◌∙◌, ℕ, ◌≤◌, ◌&&◌, nat_le, None, take, List, [], ◌∷◌, map, length, refl, ap, ap₂, sym, Option, arith, length-map, AnalysedText, IsPerCharText, Source, text_len}
 use Rattle.bidi_base.proofs.PerCharTests.{class_test, level_eq, level_test}
 use Rattle.bidi_base.proofs.TextLemmas.{HasUnits}
 use Rattle.bidi_base.proofs.UnitsLemmas.{length-from_is_per_char}

@@ -1,28 +1,17 @@
 -- What a program's list of runs is: runs are ranges there.
-use Rattle.std.proofs.Common.{◌≡◌, ℕ, ◌+◌, ◌<◌, ◌≤◌, ◌++◌, false, List, [], ◌∷◌, map, length, get_or, take, All, sym, ap, subst, ◌∙◌, arith, rules}
-use Rattle.std.proofs.lemmas.Grind.{common_steps}
-use Rattle.std.specs.declared.ops.Range.{Range}
-use Rattle.std.proofs.lemmas.List.{get_or-map, length-map}
-use Rattle.std.proofs.lemmas.List.FromFn.{length-range_with_len}
-use Rattle.std.proofs.lemmas.List.Sorted.{IsPermutation-refl}
-use Rattle.bidi_base.specs.Levels.{has_rtl}
-use Rattle.bidi_base.specs.Places.{indexes, at_places}
-use Rattle.bidi_base.specs.Order.{visual_order, IsVisualOrder}
-use Rattle.bidi_base.specs.Display.{Run, run_of, level_runs, run_level, visual_runs, IsLevelRun, AreVisualRuns}
+use Rattle.bidi_base.proofs.Common.{◌≡◌, ℕ, ◌+◌, ◌<◌, ◌≤◌, ◌++◌, false, List, [], ◌∷◌, map, length, get_or, take, sym, subst, arith, rules, common_steps, Range, get_or-map, length-map, length-range_with_len, IsPermutation-refl, has_rtl, indexes, at_places, visual_order, IsVisualOrder, Run, run_of, level_runs, run_level, visual_runs, AreVisualRuns}
+use Rattle.std.proofs.Common.{All}
 use Rattle.bidi_lines.proofs.Ordered.{visual_order-still, none_odd}
 use Rattle.bidi_base.proofs.VisualOrderLemmas.{visual_order-unique}
-use Rattle.bidi_lines.proofs.Pieces.{at_places-map}
 use Rattle.bidi_base.proofs.StoredLemmas.{at_places-append}
+use Rattle.bidi_lines.proofs.Pieces.{at_places-map}
 use Rattle.bidi_lines.proofs.RunsLemmas.{level_runs-each}
 use Rattle.bidi_lines.proofs.VisualRuns.{all-runs, visual_runs-are}
 
 -- each begins within the line
 pub runs_within : (start : ℕ) (levels : List ℕ) (ranges : List (Range ℕ)) → map run_of ranges ≡ level_runs start levels
     → All (λ r. (start ≤ r.start) × (r.start < start + length levels)) ranges
-runs_within start levels ranges e k d fits =
-    let long : length (level_runs start levels) ≡ length ranges = sym (ap length e) ∙ length-map ranges run_of in
-    let there : IsLevelRun start levels (run_of (get_or ranges k d)) = simp (← get_or-map run_of ranges k d (0, 0) fits, e) (level_runs-each start levels k (0, 0) (omega arith)) in
-    (there.starts_within, omega (arith, there.not_empty, there.ends_within))
+runs_within start levels ranges e k d fits = grind (arith, length-map ranges run_of, get_or-map run_of ranges k d (0, 0), level_runs-each start levels k (0, 0))
 
 -- one more place
 pub pushed-more : (ranges old new : List (Range ℕ)) (order : List ℕ) (i : ℕ) (d x : Range ℕ) → i < length order → get_or order i 0 < length ranges
@@ -38,19 +27,14 @@ visual_runs-still start levels even = search (rules, visual_order-still, none_od
 -- and so does one run
 pub visual_runs-one : (start : ℕ) (levels : List ℕ) → length (level_runs start levels) ≤ 1 → level_runs start levels ≡ visual_runs start levels
 unfolding visual_runs
-visual_runs-one start levels few = simp (← visual_order-unique of_runs (indexes of_runs) upwards, long, at_places-map (0, 0) (level_runs start levels), all-runs (level_runs start levels))
-  where
-    of_runs : List ℕ
-    of_runs = map (run_level start levels) (level_runs start levels)
-
-    long : length of_runs ≡ length (level_runs start levels)
-    long = length-map (level_runs start levels) (run_level start levels)
-
-    upwards : IsVisualOrder of_runs (indexes of_runs)
-    upwards = record {
+visual_runs-one start levels few =
+    let of_runs = map (run_level start levels) (level_runs start levels) in
+    let long : length of_runs ≡ length (level_runs start levels) = length-map (level_runs start levels) (run_level start levels) in
+    let upwards : IsVisualOrder of_runs (indexes of_runs) = record {
       all_indexes = IsPermutation-refl (indexes of_runs);
-      in_order = λ p q d before fits. absurd (omega (arith, before, fits, few, long, length-range_with_len 0 (length of_runs)));
-    }
+      in_order = λ p q d before fits. absurd (omega (arith, length-range_with_len 0 (length of_runs)));
+    } in
+    simp (← visual_order-unique of_runs (indexes of_runs) upwards, long, at_places-map (0, 0) (level_runs start levels), all-runs (level_runs start levels))
 
 -- and otherwise in the order of their levels
 pub visual_runs-found : (start : ℕ) (levels of_runs order : List ℕ) (runs : List Run) → runs ≡ level_runs start levels → of_runs ≡ map (run_level start levels) runs → order ≡ visual_order of_runs

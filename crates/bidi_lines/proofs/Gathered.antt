@@ -1,7 +1,6 @@
 -- A pass that brings the value of each character's first unit to the character's index.
-use Rattle.std.proofs.Common.{◌≡◌, ◌≢◌, ℕ, ◌+◌, ◌<◌, ◌≤◌, List, [], ◌∷◌, ◌++◌, length, get_or, take, set, refl, sym, ap₂, ◌∙◌, arith, get_or-set_other, length-set, length-take-le}
-use Rattle.std.proofs.lemmas.List.{take_more, take_more_set, take_all}
-use Rattle.bidi_base.specs.Text.{place, text_len, per_char}
+use Rattle.bidi_base.proofs.Common.{◌≡◌, ℕ, ◌+◌, ◌<◌, ◌≤◌, List, length, get_or, take, set, arith, get_or-set_other, take_more, take_more_set, take_all, place, text_len, per_char}
+use Rattle.std.proofs.Common.{length-set, length-take-le}
 use Rattle.bidi_base.proofs.TextLemmas.{HasUnits, length-le-text_len}
 use Rattle.bidi_base.proofs.PlaceLemmas.{place-more, place-more-le}
 use Rattle.bidi_base.proofs.PerUnit.{length-per_char, get_or-per_char}
@@ -18,19 +17,10 @@ module _ (len_of : ℕ → ℕ) (chars old : List ℕ) where
   index-le-place h n fits = grind (arith, length-le-text_len, length-take-le)
 
   pub IsGathered-more : HasUnits len_of → (new : List ℕ) (n x : ℕ) → n < length chars → length old ≡ text_len len_of chars → x ≡ get_or new (place len_of chars n) 0 → IsGathered new n → IsGathered (set new n x) (n + 1)
-  IsGathered-more h new n x fits same is g = record {
-    long = length-set new n x ∙ g.long;
-    front = take_more_set new n x inside
-        ∙ ap₂ (λ xs (v : ℕ). xs ++ v ∷ []) g.front (is ∙ g.rest (place len_of chars n) (omega arith) ∙ sym (get_or-per_char 0 len_of chars old n 0 fits))
-        ∙ sym (take_more (per_char 0 len_of chars old) n 0 (omega (arith, length-per_char 0 len_of chars old)));
-    rest = λ u from. later u from ∙ g.rest u (omega (arith, place-more len_of chars n 0 fits));
-  }
-    where
-      inside : n < length new
-      inside = omega (arith, g.long, index-le-place h n (omega arith), place-more-le len_of chars n 0 fits, h (get_or chars n 0))
-
-      later : (u : ℕ) → place len_of chars (n + 1) ≤ u → get_or (set new n x) u 0 ≡ get_or new u 0
-      later u from = let ne : u ≢ n = omega (arith, index-le-place h (n + 1) (omega arith)) in rw get_or-set_other refl
+  IsGathered-more h new n x fits same is g =
+      let ahead = index-le-place h n (omega arith) in
+      let later = index-le-place h (n + 1) (omega arith) in
+      grind (arith, length-set new n x, take_more_set new n x, take_more (per_char 0 len_of chars old) n 0, get_or-per_char 0 len_of chars old n 0, length-per_char 0 len_of chars old, place-more len_of chars n 0, place-more-le len_of chars n 0, h (get_or chars n 0), get_or-set_other new n)
 
   pub IsGathered-end : (new : List ℕ) (n : ℕ) → n ≡ length chars → IsGathered new n → take n new ≡ per_char 0 len_of chars old
   IsGathered-end new n e g = grind (arith, take_all, length-per_char)

@@ -1,9 +1,8 @@
 -- How many of sixteen lanes come before the first one that a test accepts.
-use Rattle.std.proofs.Common.{◌≡◌, ℕ, ◌+◌, ◌<◌, ◌≤◌, List, map, cond, eqb, length, slice_index, not, true, false, Bool, ap, ◌∙◌, arith}
-use Rattle.std.specs.List.{prefix_len}
+use Rattle.bidi_base.proofs.Common.{◌≡◌, ℕ, ◌+◌, ◌<◌, ◌≤◌, List, map, cond, eqb, length, slice_index, not, true, false, Bool, ap, ◌∙◌, arith, prefix_len, length-chunk, run_in_chunk_fails, run_in_chunk_stops}
 use lib.Count.{count_trailing_zeros}
 use lib.Lanes.{chunk, mask_l}
-use Rattle.std.proofs.lemmas.Simd.{length-chunk, first_set_mask_l, run_in_chunk_le, run_in_chunk_fails, run_in_chunk_stops}
+use Rattle.std.proofs.lemmas.Simd.{first_set_mask_l, run_in_chunk_le}
 
 pub lanes_long : (v xs : List ℕ) (at : ℕ) → v ≡ chunk at 16 xs → at + 16 ≤ length xs → length v ≡ 16
 lanes_long v xs at e room = ap length e ∙ length-chunk at 16 xs room

@@ -1,10 +1,7 @@
 -- The levels of the whole text, those of one of its lines after L1.
-use Rattle.std.proofs.Common.{◌≡◌, ℕ, ◌-◌, ◌≤◌, List, ◌++◌, length, take, drop, arith, append_assoc, length-append, length-take-le, length-drop}
-use Rattle.std.proofs.lemmas.Grind.{common_steps}
-use Rattle.std.specs.Prelude.{slice_range}
-use Rattle.std.proofs.lemmas.List.{drop-drop}
+use Rattle.bidi_base.proofs.Common.{◌≡◌, ℕ, ◌-◌, ◌≤◌, List, ◌++◌, length, take, drop, arith, append_assoc, length-append, length-drop, common_steps, slice_range, drop-drop, line_levels, levels_with_line}
+use Rattle.std.proofs.Common.{length-take-le}
 use Rattle.bidi_base.specs.declared.char_data.BidiClass.{BidiClass}
-use Rattle.bidi_base.specs.Line.{line_levels, levels_with_line}
 use Rattle.bidi_lines.proofs.LineLevels.{length-line_levels}
 
 -- ---- parts of lists

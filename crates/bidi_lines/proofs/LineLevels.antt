@@ -1,16 +1,10 @@
 -- L1 along a line: the level that each place takes, and what a pass over the line keeps true.
-use Rattle.std.proofs.Common.{◌≡◌, ℕ, zero, suc, ◌+◌, ◌-◌, ◌<◌, ◌≤◌, if◌then◌else◌, ◌&&◌, ◌||◌, Bool, true, false, not, nat_lt, List, [], ◌∷◌, length, get_or, drop, set, refl, sym, ap, ◌∙◌, arith, inl, inr, drop-cons, get_or-set_other, get_or-set_same, length-set, ◌≢◌}
-use Rattle.std.proofs.Math.Nat.{add-zero}
-use Rattle.std.proofs.lemmas.Grind.{common_steps, same_number_lists}
-use Rattle.std.proofs.lemmas.Bool.{cases_lt}
-use Rattle.std.proofs.lemmas.List.{get_or_default}
-use Rattle.std.proofs.lemmas.List.Folds.{list_any_at, list_any_none}
+use Rattle.bidi_base.proofs.Common.{◌≡◌, ℕ, zero, suc, ◌+◌, ◌-◌, ◌<◌, ◌≤◌, if◌then◌else◌, ◌&&◌, ◌||◌, Bool, true, false, not, nat_lt, List, [], ◌∷◌, length, get_or, drop, set, refl, sym, ap, ◌∙◌, arith, inl, inr, drop-cons, get_or-set_other, get_or-set_same, ◌≢◌, add-zero, common_steps, same_number_lists, cases_lt, get_or_default, list_any_at, list_any_none, is_removed, is_odd, has_rtl, is_reset, line_levels_after, line_levels, class_at}
+use Rattle.std.proofs.Common.{length-set}
 use Rattle.bidi_base.specs.declared.char_data.BidiClass.{BidiClass}
 use Rattle.bidi_base.specs.declared.char_data.BidiClass.TheVariants.{L}
-use Rattle.bidi_base.specs.Classes.{is_removed, is_separator}
-use Rattle.bidi_base.specs.Levels.{is_odd, has_rtl}
-use Rattle.bidi_base.specs.Line.{is_blank, is_reset, line_levels_after, line_levels}
-use Rattle.bidi_base.specs.Places.{class_at}
+use Rattle.bidi_base.specs.Classes.{is_separator}
+use Rattle.bidi_base.specs.Line.{is_blank}
 
 -- ---- classes
 
@@ -130,23 +124,20 @@ done_stays level classes old xs ys k h here = grind arith
 module _ (level : ℕ) (classes : List BidiClass) (old new : List ℕ) (blank_start before i own : ℕ) where
   -- a removed character takes the level before it
   pub IsResetTo-removed : i < length old → is_removed (class_at classes i) ≡ true → IsResetTo level classes old new blank_start before i → IsResetTo level classes old (set new i before) blank_start before (i + 1)
-  IsResetTo-removed fits removed h = record {
-    ordered = omega (arith, h.ordered);
-    long = length-set new i before ∙ h.long;
-    done = λ k below. done_stays level classes old new (set new i before) k (λ j under. sym (other j (omega (arith, h.ordered)))) (h.done k below);
-    blank = up_to (λ n. is_blank (class_at classes n) ≡ true) blank_start i h.blank (is_blank-removed (class_at classes i) removed);
-    pending = up_to (λ n. get_or (set new i before) n 0 ≡ kept_level level classes old (set new i before) n) blank_start i
-        (λ k from below. other k (omega arith) ∙ h.pending k from below ∙ stays level classes old new (set new i before) k (λ j under. sym (other j (omega arith))))
-        (simp removed (written ∙ h.last ∙ level_before-same level new (set new i before) i (λ k below. sym (other k (omega arith)))));
-    rest = λ k from. other k (omega arith) ∙ h.rest k (omega arith);
-    last = sym (level_before-more level (set new i before) i ∙ written);
-  }
-    where
-      written : get_or (set new i before) i 0 ≡ before
-      written = get_or-set_same new i before 0 (omega (arith, h.long))
-
-      other : (k : ℕ) → k ≢ i → get_or (set new i before) k 0 ≡ get_or new k 0
-      other k ne = get_or-set_other new i k before 0 ne
+  IsResetTo-removed fits removed h =
+      let written = get_or-set_same new i before 0 (omega (arith, h.long)) in
+      let other = λ (k : ℕ) (ne : k ≢ i). get_or-set_other new i k before 0 ne in
+      record {
+        ordered = omega (arith, h.ordered);
+        long = length-set new i before ∙ h.long;
+        done = λ k below. done_stays level classes old new (set new i before) k (λ j under. sym (other j (omega (arith, h.ordered)))) (h.done k below);
+        blank = up_to (λ n. is_blank (class_at classes n) ≡ true) blank_start i h.blank (is_blank-removed (class_at classes i) removed);
+        pending = up_to (λ n. get_or (set new i before) n 0 ≡ kept_level level classes old (set new i before) n) blank_start i
+            (λ k from below. other k (omega arith) ∙ h.pending k from below ∙ stays level classes old new (set new i before) k (λ j under. sym (other j (omega arith))))
+            (simp removed (written ∙ h.last ∙ level_before-same level new (set new i before) i (λ k below. sym (other k (omega arith)))));
+        rest = λ k from. other k (omega arith) ∙ h.rest k (omega arith);
+        last = sym (level_before-more level (set new i before) i ∙ written);
+      }
 
   -- another blank keeps its level for now
   pub IsResetTo-blank : i < length old → own ≡ get_or new i 0 → is_removed (class_at classes i) ≡ false → is_blank (class_at classes i) ≡ true → IsResetTo level classes old new blank_start before i → IsResetTo level classes old new blank_start own (i + 1)
@@ -157,12 +148,10 @@ module _ (level : ℕ) (classes : List BidiClass) (old new : List ℕ) (blank_st
   IsResetTo-other fits read apart other h = record {
     ordered = omega arith;
     long = h.long;
-    done = λ k below. elim (cases_lt k blank_start) [
-      | inl earlier ↦ h.done k earlier
-      | inr from ↦
-          let ahead = is_reset-to classes k i (omega arith, omega arith) (λ j low high. h.blank j (omega arith) high) ∙ is_reset-at_other classes i fits apart other in
-          grind (arith, ahead, h.pending, h.rest, is_removed-not_blank)
-    ];
+    done = λ k below.
+        let ahead = λ (f : blank_start ≤ k). is_reset-to classes k i (omega arith, omega arith) (λ j low high. h.blank j (omega arith) high) in
+        let not_reset = is_reset-at_other classes i fits apart other in
+        grind (arith, h.done k, h.pending k, h.rest k, not_reset, is_removed-not_blank (class_at classes i), ahead);
     blank = λ k from below. absurd (omega arith);
     pending = λ k from below. absurd (omega arith);
     rest = λ k from. h.rest k (omega arith);
@@ -196,8 +185,7 @@ module _ (level : ℕ) (classes : List BidiClass) (old new next : List ℕ) (bla
 
   -- at the line's end the blanks are reset
   pub IsResetTo-end : i ≡ length classes → length old ≡ length classes → IsFilled new next blank_start (length classes) level → IsResetTo level classes old new blank_start before i → next ≡ line_levels level classes old
-  IsResetTo-end e same f h =
-      line_levels-is level classes old next same (f.long ∙ h.long ∙ same) (all_done (length classes) (omega arith)
+  IsResetTo-end e same f h = line_levels-is level classes old next same (f.long ∙ h.long ∙ same) (all_done (length classes) (omega arith)
       (λ k from below. is_reset-to classes k (length classes) (omega arith, omega arith) (λ j low high. h.blank j (omega arith) (omega arith)) ∙ is_reset-end classes) f h)
 
 -- ---- whether some level is odd

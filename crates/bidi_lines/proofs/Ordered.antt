@@ -1,14 +1,5 @@
 -- A list of the indexes in which the pairs stand as the levels ask is the visual order.
-use Rattle.std.proofs.Common.{◌≡◌, ℕ, ◌+◌, ◌<◌, false, true, List, length, get_or, AllPairs, sym, subst, ◌∙◌, arith, inl, inr, eq-eqb, rules}
-use Rattle.std.specs.List.Sorted.{IsPermutation}
-use Rattle.std.proofs.lemmas.Bool.{cases_order}
-use Rattle.std.proofs.lemmas.List.{get_or_default}
-use Rattle.std.proofs.lemmas.List.FromFn.{length-range_with_len, get_or-range_with_len}
-use Rattle.std.proofs.lemmas.List.Sorted.{IsPermutation-refl, length_permutation}
-use Rattle.std.proofs.lemmas.List.Folds.{list_any_at}
-use Rattle.bidi_base.specs.Levels.{has_rtl}
-use Rattle.bidi_base.specs.Places.{indexes}
-use Rattle.bidi_base.specs.Order.{stands_left, visual_order, IsVisualOrder, order_by_reversals}
+use Rattle.bidi_base.proofs.Common.{◌≡◌, ℕ, ◌+◌, ◌<◌, false, true, List, length, get_or, AllPairs, sym, subst, ◌∙◌, arith, inl, inr, eq-eqb, rules, IsPermutation, cases_order, get_or_default, length-range_with_len, get_or-range_with_len, IsPermutation-refl, length_permutation, list_any_at, has_rtl, indexes, stands_left, visual_order, IsVisualOrder, order_by_reversals}
 use Rattle.bidi_base.proofs.OrderLemmas.{stands_left-before, stands_left-after}
 use Rattle.bidi_base.proofs.VisualOrderLemmas.{visual_order-unique}
 use Rattle.bidi_lines.specs.Arranged.{IsEven, StandsLeft, IsArranged, NoneIsOdd}

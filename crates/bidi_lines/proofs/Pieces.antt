@@ -1,14 +1,8 @@
 -- Lists made of pieces: what holds of each pair in them, and their permutations.
-use Rattle.std.proofs.Common.{◌≡◌, ℕ, zero, suc, ◌+◌, ◌-◌, ◌<◌, ◌≤◌, List, [], ◌∷◌, ◌++◌, map, flat_map, reverse, length, get_or, swap, set, AllPairs, All, refl, arith, append_assoc}
-use Rattle.std.proofs.Math.Nat.{zero-add, suc-add}
-use Rattle.std.specs.List.{range_with_len}
-use Rattle.std.specs.List.Sorted.{IsPermutation}
-use Rattle.std.proofs.lemmas.List.{get_or-reverse, length-reverse}
-use Rattle.std.proofs.lemmas.List.Elements.{All-append, All-head, All-tail, All-map}
-use Rattle.std.proofs.lemmas.List.Kept.{AllPairs-cons}
-use Rattle.std.proofs.lemmas.List.FromFn.{length-range_with_len, get_or-range_with_len}
-use Rattle.std.proofs.lemmas.List.Sorted.{IsPermutation-refl, IsPermutation-sym, IsPermutation-keeps, IsPermutation-trans, IsPermutation-append, IsPermutation-append_left, IsPermutation-append_right, IsPermutation-append_comm}
-use Rattle.bidi_base.specs.Places.{between, at_places}
+use Rattle.bidi_base.proofs.Common.{◌≡◌, ℕ, zero, suc, ◌+◌, ◌-◌, ◌<◌, ◌≤◌, List, [], ◌∷◌, ◌++◌, map, flat_map, reverse, length, get_or, set, AllPairs, refl, arith, append_assoc, suc-add, range_with_len, IsPermutation, common_steps, get_or-map, get_or-reverse, length-reverse, All-append, All-head, All-tail, length-range_with_len, get_or-range_with_len, IsPermutation-refl, IsPermutation-sym, IsPermutation-trans, IsPermutation-append_left, IsPermutation-append_right, IsPermutation-append_comm, between, at_places}
+use Rattle.std.proofs.Common.{swap, All}
+use Rattle.std.proofs.Math.Nat.{zero-add}
+use Rattle.std.proofs.lemmas.List.Sorted.{IsPermutation-keeps, IsPermutation-append}
 
 module _ {X : Type 0} (R : X → X → Type 0) where
   pub AllPairs-tail : (x : X) (xs : List X) → AllPairs R (x ∷ xs) → AllPairs R xs
@@ -18,16 +12,12 @@ module _ {X : Type 0} (R : X → X → Type 0) where
   AllPairs-head x xs h k d fits = h zero (suc k) d (omega arith) (omega arith)
 
   pub AllPairs-append : (xs ys : List X) → AllPairs R xs → AllPairs R ys → All (λ x. All (R x) ys) xs → AllPairs R (xs ++ ys)
-  AllPairs-append [] ys h k across = k
-  AllPairs-append (x ∷ xs) ys h k across =
-      AllPairs-cons R x (xs ++ ys) (All-append (R x) xs ys (AllPairs-head x xs h) (All-head (λ x. All (R x) ys) x xs across))
-      (AllPairs-append xs ys (AllPairs-tail x xs h) k (All-tail (λ x. All (R x) ys) x xs across))
+  AllPairs-append xs ys h k across i j d before fits =
+      grind (arith, common_steps, h i j d, k (i - length xs) (j - length xs) d, λ (f : i < length xs). across i d f (j - length xs) d)
 
   pub AllPairs-map : {Y : Type 0} (f : Y → X) (ys : List Y) → AllPairs (λ a b. R (f a) (f b)) ys → AllPairs R (map f ys)
   AllPairs-map f [] h = λ i j d before fits. absurd (omega arith)
-  AllPairs-map f (y ∷ ys) h =
-      AllPairs-cons R (f y) (map f ys) (All-map (R (f y)) f ys (λ k d fits. h zero (suc k) d (omega arith) (omega arith)))
-      (AllPairs-map f ys (λ i j d before fits. h (suc i) (suc j) d (omega arith) (omega arith)))
+  AllPairs-map f (y ∷ ys) h = λ i j d before fits. grind (arith, common_steps, h i j y, get_or-map f (y ∷ ys) i y d, get_or-map f (y ∷ ys) j y d)
 
   pub AllPairs-reverse : (xs : List X) → AllPairs (λ a b. R b a) xs → AllPairs R (reverse xs)
   AllPairs-reverse xs h i j d before fits = grind (arith, length-reverse, get_or-reverse)
@@ -40,9 +30,8 @@ All-flat_map P f (a ∷ parts) h = All-append P (f a) (flat_map f parts) (All-he
 pub AllPairs-flat_map : {A X : Type 0} (R : X → X → Type 0) (f : A → List X) (parts : List A)
     → All (λ a. AllPairs R (f a)) parts → AllPairs (λ a b. All (λ x. All (R x) (f b)) (f a)) parts → AllPairs R (flat_map f parts)
 AllPairs-flat_map R f [] each across = λ i j d before fits. absurd (omega arith)
-AllPairs-flat_map {A} {X} R f (a ∷ parts) each across =
-    AllPairs-append R (f a) (flat_map f parts) (All-head (λ a. AllPairs R (f a)) a parts each)
-    (AllPairs-flat_map R f parts (All-tail (λ a. AllPairs R (f a)) a parts each) (AllPairs-tail (λ a b. All (λ x. All (R x) (f b)) (f a)) a parts across))
+AllPairs-flat_map R f (a ∷ parts) each across = AllPairs-append R (f a) (flat_map f parts) (each 0 a (omega arith))
+    (AllPairs-flat_map R f parts (λ k d fits. each (suc k) d (omega arith)) (λ i j d b fits. across (suc i) (suc j) d (omega arith) (omega arith)))
     (λ k d fits. All-flat_map (R (get_or (f a) k d)) f parts (λ j e inside. across zero (suc j) e (omega arith) (omega arith) k d fits))
 
 -- the numbers from a up to b

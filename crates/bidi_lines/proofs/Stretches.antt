@@ -1,9 +1,5 @@
 -- Parts of a line that stand arranged: seen from a lower level, turned round, and joined.
-use Rattle.std.proofs.Common.{◌≡◌, ℕ, ◌+◌, ◌-◌, ◌<◌, ◌≤◌, List, length, slice_index, arith, inl, inr, ◌∙◌, rules}
-use Rattle.std.specs.List.Sorted.{IsPermutation}
-use Rattle.std.proofs.lemmas.Bool.{cases_lt}
-use Rattle.std.proofs.lemmas.List.Sorted.{IsPermutation-trans}
-use Rattle.bidi_base.specs.Order.{least_between}
+use Rattle.bidi_base.proofs.Common.{◌≡◌, ℕ, ◌+◌, ◌-◌, ◌<◌, ◌≤◌, List, length, slice_index, arith, inl, inr, ◌∙◌, rules, IsPermutation, cases_lt, IsPermutation-trans, least_between}
 use Rattle.bidi_base.proofs.OrderLemmas.{least_between-le}
 use Rattle.bidi_lines.specs.Arranged.{IsEven, IsOdd, IsArranged, AtLeast}
 use Rattle.bidi_lines.proofs.Least.{least_between-is}
@@ -18,10 +14,7 @@ module _ (levels : List ℕ) (base least at end : ℕ) (fits : end ≤ length le
   arranged-nested order even inner = record {
     low = inner.low;
     high = inner.high;
-    pairs = λ p q a b c. record {
-      up = λ d. omega (arith, (inner.pairs p q a b c).up d, deep _ _ (inner.low p a (omega arith)) d (inner.high q (omega arith) c));
-      down = λ d. omega (arith, (inner.pairs p q a b c).down d, deep _ _ (inner.low q (omega arith) c) d (inner.high p a (omega arith)));
-    };
+    pairs = λ p q a b c. grind (arith, inner.pairs p q a b c, deep, inner.low p, inner.high q, inner.low q, inner.high p);
   }
 
   -- an odd number: turned round
@@ -30,14 +23,8 @@ module _ (levels : List ℕ) (base least at end : ℕ) (fits : end ≤ length le
   arranged-turned mid new odd inside inner = record {
     low = λ p a b. rw (mirrored p a b) (inner.low (at + end - 1 - p) (omega arith) (omega arith));
     high = λ p a b. rw (mirrored p a b) (inner.high (at + end - 1 - p) (omega arith) (omega arith));
-    pairs = λ p q a b c.
-        let v : ℕ = at + end - 1 - p in
-        let w : ℕ = at + end - 1 - q in
-        let s = inner.pairs w v (omega arith) (omega arith) (omega arith) in
-        rw (mirrored p a (omega arith), mirrored q (omega arith) c) (record {
-          up = λ d. omega (arith, s.down d, deep _ _ (inner.low v (omega arith) (omega arith)) d (inner.high w (omega arith) (omega arith)));
-          down = λ d. omega (arith, s.up d, deep _ _ (inner.low w (omega arith) (omega arith)) d (inner.high v (omega arith) (omega arith)));
-        });
+    pairs = λ p q a b c. rw (mirrored p a (omega arith), mirrored q (omega arith) c)
+        (grind (arith, inner.pairs (at + end - 1 - q) (at + end - 1 - p), deep, inner.low, inner.high));
   }
     where
       mirrored : (p : ℕ) → at ≤ p → p < end → slice_index new p ≡ slice_index mid (at + end - 1 - p)
@@ -59,8 +46,7 @@ arranged-joined levels base from at end order new fits all parted before old inn
     | inr k ↦ elim (cases_lt p at) [
       | inl m ↦
           let s = parted _ _ (old.low p a m) (old.high p a m) (inner.low q k c) (inner.high q k c) in
-          let l = least_between-is levels _ _ base s.0 s.1 s.2 (omega (arith, inner.high q k c)) s.3 (λ r u v. all r (omega (arith, old.low p a m)) (omega (arith, inner.high q k c))) in
-          rw (before p m) (record { up = λ _. omega (arith, l); down = λ d. absurd (omega (arith, old.high p a m, inner.low q k c)) })
+          rw (before p m) (grind (arith, old.low p, old.high p, inner.low q, inner.high q, least_between-is levels (slice_index order p) (slice_index new q) base s.0 s.1 s.2))
       | inr m ↦ inner.pairs p q m b c
     ]
   ];
@@ -98,40 +84,18 @@ module _ (levels : List ℕ) (base least : ℕ) (old mid : List ℕ) (at end : �
 
   pub IsNextPart-turned : (new : List ℕ) → IsOdd (least - base) → ((p : ℕ) → p < at → slice_index new p ≡ slice_index mid p) → ((p : ℕ) → end ≤ p → slice_index new p ≡ slice_index mid p)
       → ((p q : ℕ) → at ≤ p → at ≤ q → p + q + 1 ≡ at + end → slice_index new p ≡ slice_index mid q) → IsPermutation mid new → IsNextPart levels base old new at end
-  IsNextPart-turned new odd before after inside perm = record {
-    within = part.within;
-    at_least = λ p a b. omega (arith, part.at_least p a b);
-    before = λ p a. before p a ∙ part.before p a;
-    after = λ p a. after p a ∙ part.after p a;
-    arranged = arranged-turned levels base least at end part.within.1 part.at_least under mid new odd inside part.arranged;
-    permutation = IsPermutation-trans _ _ _ part.permutation perm;
-  }
+  IsNextPart-turned new odd before after inside perm = grind (arith, arranged-turned levels base least at end part.within.1 part.at_least under mid new odd inside, IsPermutation-trans old mid new)
 
 module _ (levels : List ℕ) (base from : ℕ) (old mid new : List ℕ) (at end : ℕ) where
   more : IsArrangedTo levels base from old mid at → IsNextPart levels base mid new at end → Parted levels base from at end
       → (end < length levels → base < slice_index levels end → slice_index levels (end - 1) ≡ base) → IsArrangedTo levels base from old new end
-  more h part parted edge = record {
-    begins = omega (arith, h.begins, part.within.0);
-    ends = part.within.1;
-    at_least = all;
-    before = λ p a. part.before p (omega (arith, h.begins)) ∙ h.before p a;
-    after = λ p a. part.after p a ∙ h.after p (omega (arith, part.within.0));
-    edge = λ _ b c. edge b c;
-    arranged = arranged-joined levels base from at end mid new part.within.1 all parted part.before h.arranged part.arranged h.begins part.within.0;
-    permutation = IsPermutation-trans _ _ _ h.permutation part.permutation;
-  }
-    where
-      all : AtLeast levels base from end
-      all p a b = elim (cases_lt p at) [ inl k ↦ h.at_least p a k | inr k ↦ part.at_least p k b ]
+  more h part parted edge = grind (arith, arranged-joined levels base from at end mid new, IsPermutation-trans old mid new)
 
   -- a stretch above the base, after which comes no item above it
   pub IsArrangedTo-stretch : at < length levels → base < slice_index levels at → (end < length levels → slice_index levels end ≤ base)
       → IsNextPart levels base mid new at end → IsArrangedTo levels base from old mid at → IsArrangedTo levels base from old new end
   unfolding Parted
-  IsArrangedTo-stretch some above stops part h =
-      more h part
-      (λ x y a b c d. (at - 1, omega arith, omega arith, h.edge (omega arith) some above))
-      (λ a b. absurd (omega (arith, stops a)))
+  IsArrangedTo-stretch some above stops part h = more h part (λ x y a b c d. (at - 1, omega arith, omega arith, h.edge (omega arith) some above)) (λ a b. absurd (omega (arith, stops a)))
 
 -- a run at the base
 pub IsArrangedTo-run : (levels : List ℕ) (base from : ℕ) (old new : List ℕ) (at end : ℕ) → at < end → end ≤ length levels

@@ -1,17 +1,7 @@
 -- The level runs in the visual order of their levels, written out, are the visual order of the units.
-use Rattle.std.proofs.Common.{◌≡◌, ℕ, zero, suc, ◌+◌, ◌-◌, ◌<◌, ◌≤◌, max, true, List, [], ◌∷◌, map, flat_map, length, get_or, AllPairs, All, refl, sym, ap, subst, ◌∙◌, arith, inl, inr, le_refl}
-use Rattle.std.specs.List.{range_with_len}
-use Rattle.std.specs.List.Sorted.{IsPermutation}
-use Rattle.std.proofs.lemmas.Bool.{cases_lt, cases_order, both_ways, cases_Bool}
-use Rattle.std.proofs.lemmas.List.{get_or-map, length-map, same_lists, get_or_default}
-use Rattle.std.proofs.lemmas.List.Folds.{flat_map-map}
-use Rattle.std.proofs.lemmas.List.FromFn.{length-range_with_len, get_or-range_with_len, length-map-range_with_len, get_or-map-range_with_len}
-use Rattle.std.proofs.lemmas.List.Elements.{All-tail, All-map}
-use Rattle.std.proofs.lemmas.List.Sorted.{All-permutation, IsPermutation-refl, IsPermutation-sym, IsPermutation-trans, IsPermutation-reverse, IsPermutation-map}
-use Rattle.bidi_base.specs.Levels.{is_odd}
-use Rattle.bidi_base.specs.Places.{between, indexes, at_places}
-use Rattle.bidi_base.specs.Order.{least_between, stands_left, visual_order, IsVisualOrder}
-use Rattle.bidi_base.specs.Display.{Run, level_runs, run_level, visual_runs, written_run, written_runs, IsLevelRun, AreVisualRuns}
+use Rattle.bidi_base.proofs.Common.{◌≡◌, ℕ, zero, suc, ◌+◌, ◌-◌, ◌<◌, ◌≤◌, max, true, List, [], ◌∷◌, map, flat_map, length, get_or, AllPairs, refl, ap, subst, arith, inl, inr, range_with_len, IsPermutation, cases_lt, cases_order, both_ways, cases_Bool, get_or-map, length-map, same_lists, get_or_default, flat_map-map, length-range_with_len, get_or-range_with_len, length-map-range_with_len, get_or-map-range_with_len, All-tail, All-map, All-permutation, IsPermutation-refl, IsPermutation-sym, IsPermutation-trans, IsPermutation-reverse, is_odd, between, indexes, at_places, least_between, stands_left, visual_order, IsVisualOrder, Run, level_runs, run_level, visual_runs, written_run, written_runs, IsLevelRun, AreVisualRuns}
+use Rattle.std.proofs.Common.{All}
+use Rattle.std.proofs.lemmas.List.Sorted.{IsPermutation-map}
 use Rattle.bidi_base.proofs.OrderLemmas.{least_between-le, stands_left-before, stands_left-after}
 use Rattle.bidi_base.proofs.VisualOrderLemmas.{stands_left-same, visual_order-unique, all_below}
 use Rattle.bidi_lines.proofs.Least.{least_between-is, least_between-at}
@@ -36,15 +26,12 @@ follow-reach a b (run ∷ runs) h u low high = elim (cases_lt u run.1) [
 
 follow-low : (a b : ℕ) (runs : List Run) → Follow a b runs → (k : ℕ) → k < length runs → a ≤ (run_at runs k).0
 follow-low a b [] h k fits = absurd (omega arith)
-follow-low a b (run ∷ runs) h zero fits = omega (arith, h.0)
-follow-low a b (run ∷ runs) h (suc k) fits = omega (arith, h.0, h.1, follow-low run.1 b runs h.2 k (omega arith))
+follow-low a b (run ∷ runs) h k fits = grind (arith, follow-low run.1 b runs h.2 (k - 1))
 
 -- an earlier run ends before a later one begins
 follow-apart : (a b : ℕ) (runs : List Run) → Follow a b runs → (j k : ℕ) → j < k → k < length runs → (run_at runs j).1 ≤ (run_at runs k).0
 follow-apart a b [] h j k before fits = absurd (omega arith)
-follow-apart a b (run ∷ runs) h j zero before fits = absurd (omega arith)
-follow-apart a b (run ∷ runs) h zero (suc k) before fits = follow-low run.1 b runs h.2 k (omega arith)
-follow-apart a b (run ∷ runs) h (suc j) (suc k) before fits = follow-apart run.1 b runs h.2 j k (omega arith) (omega arith)
+follow-apart a b (run ∷ runs) h j k before fits = grind (arith, follow-low run.1 b runs h.2 (k - 1), follow-apart run.1 b runs h.2 (j - 1) (k - 1))
 
 -- and so neither its begin nor its end is after the other's
 follow-ordered : (a b : ℕ) (runs : List Run) → Follow a b runs → (j k : ℕ) → j ≤ k → k < length runs → (run_at runs k).0 < (run_at runs k).1 → (run_at runs j).0 < (run_at runs j).1
@@ -94,22 +81,20 @@ least-runs from levels runs cut k l u w order fits unit unit' up =
     -- a unit between them is in a run between theirs
     at_unit : (x : ℕ) → u - from ≤ x → x ≤ w - from → least_between (run_levels from levels runs) k l ≤ get_or levels x 0
     at_unit x a b =
-        let back : (from + x) - from ≡ x = omega arith in
         let r = follow-reach from (from + length levels) runs cut.follow (from + x) (omega arith) (omega (arith, unit.0, unit'.1, first.starts_within, last.ends_within)) in
-        let after_first = follow-as_units from (from + length levels) runs cut.follow k r.0 u (from + x) (omega arith) unit r.2 (omega arith) in
-        let before_last = follow-as_units from (from + length levels) runs cut.follow r.0 l (from + x) w r.1 r.2 unit' (omega (arith, unit.0, first.starts_within)) in
-        omega (arith, ap (λ (y : ℕ). get_or levels y 0) back, unit_level from levels runs cut r.0 (from + x) r.1 r.2, least_between-at (run_levels from levels runs) k l r.0 after_first before_last (omega (arith, long)))
+        let left = follow-as_units from (from + length levels) runs cut.follow k r.0 u (from + x) in
+        let right = follow-as_units from (from + length levels) runs cut.follow r.0 l (from + x) w in
+        let least = least_between-at (run_levels from levels runs) k l r.0 in
+        grind (arith, long, first, left, right, unit_level from levels runs cut r.0 (from + x), least)
 
     -- each run between theirs has a unit between them
     at_run : (j : ℕ) → k ≤ j → j ≤ l → least_between levels (u - from) (w - from) ≤ get_or (run_levels from levels runs) j 0
     at_run j a b =
-        let here = cut.each j (0, 0) (omega arith) in
-        let g = follow-ordered from (from + length levels) runs cut.follow k j a (omega arith) here.not_empty first.not_empty in
-        let h = follow-ordered from (from + length levels) runs cut.follow j l b fits last.not_empty here.not_empty in
         let y : ℕ = max u (run_at runs j).0 in
-        let within : y ≤ w = omega (arith, h.0, unit'.0) in
-        let same = unit_level from levels runs cut j y (omega arith) (omega arith, omega (arith, g.1, unit.1, here.not_empty)) in
-        omega (arith, same, least_between-at levels (u - from) (w - from) (y - from) (omega arith) (omega arith) (omega (arith, unit'.1, unit'.0, last.ends_within, last.starts_within)))
+        let left = follow-ordered from (from + length levels) runs cut.follow k j in
+        let right = follow-ordered from (from + length levels) runs cut.follow j l in
+        let least = least_between-at levels (u - from) (w - from) (y - from) in
+        grind (arith, first, last, cut.each j (0, 0), left, right, unit_level from levels runs cut j y, least)
 
 -- units of two runs stand as their runs do
 units-apart : (from : ℕ) (levels : List ℕ) (runs : List Run) → Cut from levels runs → (k l u w : ℕ) → k < length runs → l < length runs → IsUnitOf (run_at runs k) u → IsUnitOf (run_at runs l) w
@@ -129,12 +114,7 @@ units-apart from levels runs cut k l u w fits fits' unit unit' left = elim (case
 -- units of one run stand upwards where its level is even, and downwards where it is odd
 least-inside : (from : ℕ) (levels : List ℕ) (runs : List Run) → Cut from levels runs → (k u w : ℕ) → k < length runs → IsUnitOf (run_at runs k) u → IsUnitOf (run_at runs k) w → u ≤ w
     → least_between levels (u - from) (w - from) ≡ run_level from levels (run_at runs k)
-least-inside from levels runs cut k u w fits unit unit' up =
-    least-runs from levels runs cut k k u w (omega arith) fits unit unit' up
-    ∙ least_between-is (run_levels from levels runs) k k _ k (le_refl k) (le_refl k) (omega (arith, length-run_levels from levels runs)) refl
-    (λ j a b. let e : j ≡ k = omega arith in rw e (le_refl _))
-    ∙ sym (unit_level from levels runs cut k u fits unit)
-    ∙ (cut.each k (0, 0) fits).equal u unit.0 unit.1
+least-inside from levels runs cut k u w fits unit unit' up = grind (arith, least-runs from levels runs cut k k u w, least_between-is (run_levels from levels runs) k k (get_or (run_levels from levels runs) k 0) k, unit_level from levels runs cut k u, cut.each k (0, 0), length-run_levels from levels runs)
 
 -- a run written is its units, or the same the other way round
 IsPermutation-written_run : (from : ℕ) (levels : List ℕ) (run : Run) → IsPermutation (written_run from levels run) (between run.0 run.1)
@@ -152,16 +132,10 @@ Left from levels u w = stands_left levels (u - from) (w - from) ≡ true
 pairs-written_run : (from : ℕ) (levels : List ℕ) (runs : List Run) → Cut from levels runs → (k : ℕ) → k < length runs → AllPairs (Left from levels) (written_run from levels (run_at runs k))
 pairs-written_run from levels runs cut k fits = elim (cases_Bool (is_odd (run_level from levels (run_at runs k)))) [
   | inl odd ↦ simp odd (AllPairs-reverse (Left from levels) _ (AllPairs-between (λ a b. Left from levels b a) (run_at runs k).0 (run_at runs k).1
-      (λ u w a b c. simp (stands_left-after levels (w - from) (u - from) (omega (arith, begins)), inside u w a b c, odd))))
+      (λ u w a b c. grind (arith, stands_left-after, least-inside from levels runs cut k u w, cut.each k (0, 0)))))
   | inr even ↦ simp even (AllPairs-between (Left from levels) (run_at runs k).0 (run_at runs k).1
-      (λ u w a b c. simp (stands_left-before levels (u - from) (w - from) (omega (arith, begins)), inside u w a b c) (grind arith)))
+      (λ u w a b c. grind (arith, stands_left-before, least-inside from levels runs cut k u w, cut.each k (0, 0))))
 ]
-  where
-    begins : from ≤ (run_at runs k).0
-    begins = (cut.each k (0, 0) fits).starts_within
-
-    inside : (u w : ℕ) → (run_at runs k).0 ≤ u → u < w → w < (run_at runs k).1 → least_between levels (u - from) (w - from) ≡ run_level from levels (run_at runs k)
-    inside u w a b c = least-inside from levels runs cut k u w fits (a, omega arith) (omega arith, c) (omega arith)
 
 -- a visual order has the indexes alone
 pub order_below : (of_runs order : List ℕ) (n : ℕ) → length of_runs ≡ n → IsVisualOrder of_runs order → All (λ k. k < n) order
@@ -171,15 +145,10 @@ order_below of_runs order n e h k d fits = omega (arith, All-permutation (λ i. 
 pairs-written_runs : (from : ℕ) (levels : List ℕ) (runs : List Run) (order : List ℕ) → Cut from levels runs → IsVisualOrder (run_levels from levels runs) order
     → AllPairs (Left from levels) (flat_map (λ k. written_run from levels (run_at runs k)) order)
 pairs-written_runs from levels runs order cut h =
-    AllPairs-flat_map (Left from levels) (λ k. written_run from levels (run_at runs k)) order
-    (λ i d fits. pairs-written_run from levels runs cut (get_or order i d) (within i d fits))
-    (λ i j d before fits.
-    All-written_run _ from levels (run_at runs (get_or order i d)) (λ u a b.
-    All-written_run _ from levels (run_at runs (get_or order j d)) (λ w a' b'.
+    let within = order_below (run_levels from levels runs) order (length runs) (length-run_levels from levels runs) h in
+    AllPairs-flat_map (Left from levels) (λ k. written_run from levels (run_at runs k)) order (λ i d fits. pairs-written_run from levels runs cut (get_or order i d) (within i d fits))
+    (λ i j d before fits. All-written_run _ from levels (run_at runs (get_or order i d)) (λ u a b. All-written_run _ from levels (run_at runs (get_or order j d)) (λ w a' b'.
     units-apart from levels runs cut (get_or order i d) (get_or order j d) u w (within i d (omega arith)) (within j d fits) (a, b) (a', b') (h.in_order i j d before fits))))
-  where
-    within : (i d : ℕ) → i < length order → get_or order i d < length runs
-    within i d fits = order_below (run_levels from levels runs) order (length runs) (length-run_levels from levels runs) h i d fits
 
 follow-le : (a b : ℕ) (runs : List Run) → Follow a b runs → a ≤ b
 follow-le a b [] h = omega arith
@@ -188,8 +157,7 @@ follow-le a b (run ∷ runs) h = omega (arith, h.0, h.1, follow-le run.1 b runs 
 -- written upwards, the runs are the units
 flat_map-follow : (a b : ℕ) (runs : List Run) → Follow a b runs → flat_map (λ (run : Run). between run.0 run.1) runs ≡ between a b
 flat_map-follow a b [] h = let none : 0 ≡ b - a = omega arith in ap (range_with_len a) none
-flat_map-follow a b (run ∷ runs) h =
-    cc (flat_map-follow run.1 b runs h.2, between-append run.0 run.1 b (omega (arith, h.1)) (follow-le run.1 b runs h.2), h.0)
+flat_map-follow a b (run ∷ runs) h = grind (arith, flat_map-follow run.1 b runs h.2, between-append run.0 run.1 b, follow-le run.1 b runs h.2)
 
 pub all-runs : (runs : List Run) → map (run_at runs) (range_with_len 0 (length runs)) ≡ runs
 all-runs runs = grind (arith, same_lists, length-map-range_with_len, get_or-map-range_with_len, get_or_default)
@@ -239,15 +207,10 @@ written-visual from levels order h =
 -- `visual_runs` is what the line shows
 pub visual_runs-are : (from : ℕ) (levels : List ℕ) → AreVisualRuns from levels (visual_runs from levels)
 unfolding visual_runs
-visual_runs-are from levels = record {
-  are_runs = rw (at_places-map (0, 0) (level_runs from levels) (runs_order from levels)) (All-map (IsLevelRun from levels) (run_at (level_runs from levels)) (runs_order from levels) each);
-  in_order = written-visual from levels (runs_order from levels) visual;
-}
-  where
-    visual : IsVisualOrder (map (run_level from levels) (level_runs from levels)) (runs_order from levels)
-    visual = visual_order-is (map (run_level from levels) (level_runs from levels))
-
-    each : All (λ k. IsLevelRun from levels (run_at (level_runs from levels) k)) (runs_order from levels)
-    each i d fits =
-        level_runs-each from levels (get_or (runs_order from levels) i d) (0, 0)
-        (order_below (map (run_level from levels) (level_runs from levels)) (runs_order from levels) (length (level_runs from levels)) (length-map (level_runs from levels) (run_level from levels)) visual i d fits)
+visual_runs-are from levels =
+    let visual = visual_order-is (map (run_level from levels) (level_runs from levels)) in
+    let each = order_below (map (run_level from levels) (level_runs from levels)) (runs_order from levels) (length (level_runs from levels)) (length-map (level_runs from levels) (run_level from levels)) visual in
+    record {
+      are_runs = rw (at_places-map (0, 0) (level_runs from levels) (runs_order from levels)) (All-map (IsLevelRun from levels) (run_at (level_runs from levels)) (runs_order from levels) (λ i d fits. level_runs-each from levels _ (0, 0) (each i d fits)));
+      in_order = written-visual from levels (runs_order from levels) visual;
+    }

@@ -1,16 +1,11 @@
 -- What the pass over the characters keeps, and how a character goes into it.
-use Rattle.std.proofs.Common.{◌≡◌, ℕ, ◌+◌, ◌<◌, ◌||◌, cond, List, [], ◌∷◌, ◌++◌, length, map, reverse, None, unwrap_or, refl, arith, inl, inr}
+use Rattle.bidi_base.proofs.Common.{◌≡◌, ℕ, ◌+◌, ◌<◌, ◌||◌, cond, List, [], ◌∷◌, ◌++◌, length, map, reverse, None, unwrap_or, refl, arith, range_with_len, list_any, is_initiator, is_paragraph_separator, is_removed, class_at, Status, status_inside, status_at, explicit_level, explicit_class, explicit_levels, explicit_classes, outside_isolate, left_open}
 use Rattle.std.proofs.lemmas.List.FromFn.{map-range_with_len_more}
 use Rattle.std.proofs.Math.Nat.{zero-add}
-use Rattle.std.specs.List.{range_with_len, list_any}
-use Rattle.std.proofs.lemmas.Bool.{cases_Bool}
 use Rattle.bidi_base.specs.declared.char_data.BidiClass.{BidiClass}
-use Rattle.bidi_base.specs.Classes.{is_initiator, is_paragraph_separator, is_removed}
-use Rattle.bidi_base.specs.Places.{class_at}
-use Rattle.bidi_base.specs.Explicit.{Status, status_inside, status_at, explicit_level, explicit_class, explicit_levels, explicit_classes}
-use Rattle.bidi_base.specs.Openers.{outside_isolate, left_open, then_open}
-use Rattle.bidi_base.proofs.OpenersStack.{below_isolate, closed_by, opened_by, openers_read, open_at-closed_by}
+use Rattle.bidi_base.specs.Openers.{then_open}
 use Rattle.bidi_base.proofs.Lists.{map-reverse}
+use Rattle.bidi_base.proofs.OpenersStack.{open_at-closed_by, below_isolate, closed_by, opened_by, openers_read}
 
 module _ (classes : List BidiClass) where
   abbrev pub classes_of : List ℕ → List BidiClass
@@ -19,10 +14,7 @@ module _ (classes : List BidiClass) where
   -- the stack of indexes and the list of classes step alike
   outside : (whole stack : List ℕ) → classes_of (below_isolate classes whole stack) ≡ cond (list_any is_initiator (classes_of stack)) (outside_isolate (classes_of stack)) (classes_of whole)
   outside whole [] = refl
-  outside whole (q ∷ stack) = elim (cases_Bool (is_initiator (class_at classes q))) [
-    | inl isolate ↦ simp isolate
-    | inr other ↦ simp (other, outside whole stack)
-  ]
+  outside whole (q ∷ stack) = grind (arith, outside whole stack)
 
   classes_of-closed_by : (p : ℕ) (stack : List ℕ) → classes_of (closed_by classes p stack) ≡ left_open (class_at classes p) (classes_of stack)
   unfolding closed_by

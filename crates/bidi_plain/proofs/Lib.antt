@@ -5,4 +5,3 @@ mod Scans
 mod Separators
 mod StatusLemmas
 mod Terminators
-mod WeakRules

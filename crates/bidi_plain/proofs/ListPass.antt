@@ -1,20 +1,16 @@
 -- The pass over a list of characters, one by one.
-use Rattle.std.proofs.Common.{◌≡◌, ℕ, zero, suc, ◌+◌, ◌-◌, ◌<◌, Bool, true, false, eqb, List, [], ◌∷◌, ◌++◌, length, map, get_or, set, reverse, length-append, le_refl, Option, Some, None, refl, sym, ap, ◌∙◌, arith, inl, inr, eqb-true, ne_eqb}
-use Rattle.std.specs.Prelude.{IfSome}
-use Rattle.std.proofs.lemmas.Bool.{cases_eq, eqb-false}
-use Rattle.std.proofs.lemmas.List.{get_or_push, get_or-set_same, length-set}
+use Rattle.bidi_base.proofs.Common.{rules, ◌≡◌, ℕ, ◌+◌, ◌-◌, ◌<◌, Bool, true, false, eqb, List, [], ◌∷◌, ◌++◌, length, map, get_or, reverse, length-append, le_refl, Option, Some, None, refl, sym, ap, ◌∙◌, arith, inl, inr, eqb-true, IfSome, get_or_push, length-set, class_at, last_or, with_ends, is_kept_at, next_kept, level_at, have_one_level, successor, is_first, sequences, read_class, with_entry, index_of}
+use Rattle.std.proofs.lemmas.List.{get_or-set_same}
 use Rattle.bidi_base.specs.declared.char_data.BidiClass.{BidiClass}
-use Rattle.bidi_base.specs.Places.{class_at, last_or}
-use Rattle.bidi_base.specs.Sequences.{with_ends, is_kept_at, next_kept, level_at, have_one_level, successor, is_first, sequences}
-use Rattle.bidi_base.specs.SequencePass.{read_class, wait_of, choice, waits_before, choice_at, with_entry, index_of, ArePlaces}
+use Rattle.bidi_base.specs.SequencePass.{wait_of, choice, waits_before, choice_at, ArePlaces}
 use Rattle.bidi_base.proofs.ReadStack.{Member}
-use Rattle.bidi_base.proofs.SuccessorLemmas.{successor-IsLaterKept, have_one_level-from, next_kept-is, kept_before-is, kept_before-is_None, successor-run_step}
 use Rattle.bidi_base.proofs.OpenPass.{IsAt, IsAt-read, goes_on}
-use Rattle.bidi_base.proofs.PassLemmas.{AreSuccessors, IsBegunList, AllBegun}
-use Rattle.bidi_base.proofs.RunsLemmas.{BeginsRun, EndsRun}
 use Rattle.bidi_base.proofs.ChainLemmas.{filter_range-none}
+use Rattle.bidi_base.proofs.SuccessorLemmas.{successor-IsLaterKept, have_one_level-from, successor-run_step, next_kept-is, kept_before-is, kept_before-is_None}
+use Rattle.bidi_base.proofs.PassLemmas.{AreSuccessors, IsBegunList, AllBegun}
+use Rattle.bidi_base.proofs.RunsLemmas.{BeginsRun}
 use Rattle.bidi_base.proofs.Lists.{last_or-append}
-use Rattle.bidi_base.proofs.WaitingLemmas.{Member-append_right, IsWaiting, IsPass, IsPass-end, IsPass-begin, IsPass-join, IsPass-removed, IsPass-skip, is_first-none_open}
+use Rattle.bidi_base.proofs.WaitingLemmas.{IsPass-end, IsPass-removed, is_first-none_open, Member-append_right, IsWaiting, IsPass, IsPass-begin, IsPass-join, IsPass-skip}
 
 module _ (classes : List BidiClass) (levels : List ℕ) where
   -- all before p came, l was the last of them that X9 keeps, and came to the sequence at s; what is open was read up to l
@@ -34,19 +30,10 @@ module _ (classes : List BidiClass) (levels : List ℕ) where
 
   -- a character that X9 removes
   pub IsStateAt-removed : (p : ℕ) (out : List (List ℕ)) (waits : List (Option ℕ)) (last : Option (ℕ × ℕ)) → IsStateAt p out waits last → is_kept_at classes p ≡ false → IsStateAt (p + 1) out waits last
-  IsStateAt-removed p out waits None h gone =
-      (h.0, h.1, λ k below. elim (cases_eq k p) [ inl same ↦ simp (same, gone) | inr other ↦ h.2 k (omega arith) ])
+  IsStateAt-removed p out waits None h gone = (h.0, h.1, λ k below. grind (arith, h.2 k))
   IsStateAt-removed p out waits (Some e) h gone =
-      record {
-        kept = h.kept;
-        before = omega (arith, h.before);
-        none = λ k from below. elim (cases_eq k p) [ inl same ↦ simp (same, gone) | inr other ↦ h.none k from (omega arith) ];
-        within = h.within;
-        last = h.last;
-        some = h.some;
-        stack = h.stack;
-        pass = IsPass-removed classes levels p 1 e.0 out h.stack (reverse waits) h.pass (simp gone);
-      }
+      let none : (k : ℕ) → e.0 < k → k < p + 1 → is_kept_at classes k ≡ false = λ k a b. grind (arith, h.none k) in
+      search (rules, none, IsPass-removed classes levels p 1 e.0 out h.stack (reverse waits) h.pass (simp gone))
 
   -- the last one is read
   abbrev IsRead : ℕ → List (List ℕ) → List (Option ℕ) → Type 0
@@ -55,37 +42,20 @@ module _ (classes : List BidiClass) (levels : List ℕ) where
   reading : (p l s : ℕ) (out : List (List ℕ)) (waits : List (Option ℕ)) (w : Option ℕ) → IsGoing p out waits l s → IsWaiting classes levels out l w → IsRead p out (read_class (class_at classes l) w waits)
   reading p l s out waits w h wait =
       let read = IsAt-read classes levels p l out waits w (record { stack = h.stack; pass = h.pass }) (λ opens. wait) in
-      let place : l + 1 + (p - (l + 1)) ≡ p = omega (arith, h.before) in
-      record { stack = read.stack; pass = rw place at (IsPass-skip classes levels (p - (l + 1)) p (l + 1) out read.stack _ read.pass (λ k from below. h.none k (omega arith) (omega arith))) }
+      grind (arith, IsPass-skip classes levels (p - (l + 1)) p (l + 1) out read.stack, h.none)
 
   -- a character that goes on with a sequence, or begins one
   came_join : (p s : ℕ) (out : List (List ℕ)) (waits : List (Option ℕ)) → is_kept_at classes p ≡ true → p < length classes → IsRead p out waits → s < length out → successor classes levels (last_or 0 (get_or out s [])) ≡ Some p → IsGoing (p + 1) (with_entry (Some s) p out) waits p s
   came_join p s out waits kept fits read within next =
-      let here : get_or (set out s (get_or out s [] ++ p ∷ [])) s [] ≡ get_or out s [] ++ p ∷ [] = get_or-set_same out s (get_or out s [] ++ p ∷ []) [] within in
-      record {
-        kept = kept;
-        before = omega arith;
-        none = λ k from below. absurd (omega arith);
-        within = omega (arith, length-set out s (get_or out s [] ++ p ∷ []));
-        last = simp (here, last_or-append 0 (get_or out s []) p);
-        some = rw here (Member-append_right p (get_or out s []) (p ∷ []) (inl refl));
-        stack = read.stack;
-        pass = IsPass-join classes levels p 1 p p s [] out read.stack (reverse waits) read.pass (simp kept) tt within next;
-      }
+      let here = get_or-set_same out s (get_or out s [] ++ p ∷ []) [] within in
+      let pass = IsPass-join classes levels p 1 p p s [] out read.stack (reverse waits) read.pass (simp kept) tt within next in
+      grind (arith, length-set, last_or-append, Member-append_right)
 
   came_begin : (p : ℕ) (out : List (List ℕ)) (waits : List (Option ℕ)) → is_kept_at classes p ≡ true → p < length classes → IsRead p out waits → is_first classes levels p ≡ true → IsGoing (p + 1) (with_entry None p out) waits p (length out)
   came_begin p out waits kept fits read first =
       let here = get_or_push out (p ∷ []) [] (length out) refl in
-      record {
-        kept = kept;
-        before = omega arith;
-        none = λ k from below. absurd (omega arith);
-        within = omega (arith, length-append out ((p ∷ []) ∷ []));
-        last = ap (last_or 0) here;
-        some = rw here (inl refl);
-        stack = read.stack;
-        pass = IsPass-begin classes levels p 1 p p [] out read.stack (reverse waits) read.pass (simp kept) (omega arith) tt first;
-      }
+      let pass = IsPass-begin classes levels p 1 p p [] out read.stack (reverse waits) read.pass (simp kept) (omega arith) tt first in
+      grind (arith, length-append)
 
   pass_none : (p : ℕ) → ((k : ℕ) → k < p → is_kept_at classes k ≡ false) → IsPass classes levels p p [] [] []
   pass_none p none = grind (arith, filter_range-none)
@@ -97,7 +67,7 @@ module _ (classes : List BidiClass) (levels : List ℕ) where
       came_begin p [] [] kept fits (record { stack = []; pass = pass }) (is_first-none_open classes levels p p [] [] pass (simp (kept_before-is_None classes p none)))
 
   next_is : (p l s : ℕ) (out : List (List ℕ)) (waits : List (Option ℕ)) → IsGoing p out waits l s → is_kept_at classes p ≡ true → p < length classes → next_kept classes l ≡ Some p
-  next_is p l s out waits h kept fits = next_kept-is classes l p (record { from = omega (arith, h.before); below = fits; passes = kept; first = λ k from below. h.none k (omega arith) below })
+  next_is p l s out waits h kept fits = grind (arith, next_kept-is classes l p)
 
   -- any other
   pub record IsNext (p l s : ℕ) (out : List (List ℕ)) (waits : List (Option ℕ)) (same : Bool) : Type 0 where
@@ -110,7 +80,7 @@ module _ (classes : List BidiClass) (levels : List ℕ) where
       let level : level_at levels p ≡ level_at levels l = sym (eqb-true (level_at levels l) (level_at levels p) (sym e)) in
       let next = next_is p l s out waits h kept fits in
       let read = reading p l s out waits None h (have_one_level-from levels (next_kept classes l) l p next level) in
-      record { fits = h.within; state = came_join p s out (read_class (class_at classes l) None waits) kept fits read h.within (simp (h.last, successor-run_step classes levels l p (record { next = next; level = level }))) }
+      grind (arith, came_join p s out (read_class (class_at classes l) None waits), successor-run_step)
   IsStateAt-next p l s out waits false h kept fits e = elim (goes_on classes levels p p out now read (le_refl _) fits begins) [
     | inl g ↦ record { fits = simp g.0 tt; state = simp g.0 (came_begin p out now kept fits read g.1) }
     | inr g ↦ record { fits = simp g.1 g.2; state = simp g.1 (came_join p g.0 out now kept fits read g.2 g.3) }
@@ -119,14 +89,11 @@ module _ (classes : List BidiClass) (levels : List ℕ) where
       now : List (Option ℕ)
       now = read_class (class_at classes l) (Some s) waits
 
-      ends : EndsRun classes levels l
-      ends = ap (λ o. have_one_level levels o l) (next_is p l s out waits h kept fits) ∙ ne_eqb (level_at levels p) (level_at levels l) (λ same. eqb-false (level_at levels l) (level_at levels p) (sym e) (sym same))
-
       begins : BeginsRun classes levels p
       begins = ap (λ o. have_one_level levels o p) (kept_before-is classes p l (record { from = omega arith; below = h.before; passes = h.kept; last = h.none })) ∙ sym e
 
       read : IsRead p out now
-      read = reading p l s out waits (Some s) h (h.within, h.some, ends)
+      read = reading p l s out waits (Some s) h (h.within, h.some, grind (arith, next_is p l s out waits h kept fits))
 
   -- p has come to the sequence that it goes on with, or to a new one
   pub record HasCome (p : ℕ) (out : List (List ℕ)) (g : Option ℕ) (now : List (Option ℕ)) : Type 0 where
@@ -163,8 +130,7 @@ module _ (classes : List BidiClass) (levels : List ℕ) where
 
   places_at : (out : List (List ℕ)) → AllBegun classes levels out → (k : ℕ) → k < length out → ArePlaces (length classes) (get_or out k [])
   places_at [] h k within = absurd (omega arith)
-  places_at (xs ∷ out) h zero within = begun_places xs h.0
-  places_at (xs ∷ out) h (suc k) within = places_at out h.1 k (omega arith)
+  places_at (xs ∷ out) h k within = grind (arith, begun_places xs, places_at out h.1 (k - 1))
 
   pub IsStateAt-places : (p : ℕ) (out : List (List ℕ)) (waits : List (Option ℕ)) (last : Option (ℕ × ℕ)) → IsStateAt p out waits last → (k : ℕ) → k < length out → ArePlaces (length classes) (get_or out k [])
   IsStateAt-places p out waits last h k within = places_at out (begun p out waits last h) k within

@@ -1,13 +1,7 @@
 -- Isolates among the openers that are open, by their number.
-use Rattle.std.proofs.Common.{◌≡◌, ℕ, ◌+◌, ◌<◌, true, false, cond, List, [], ◌∷◌, count_by, refl, arith, inl, inr}
-use Rattle.std.proofs.Math.Nat.{zero-add}
-use Rattle.std.specs.List.{list_any}
-use Rattle.std.proofs.lemmas.Bool.{cases_Bool}
-use Rattle.std.proofs.lemmas.List.Sums.{sum_by-cons}
+use Rattle.bidi_base.proofs.Common.{◌≡◌, ℕ, ◌+◌, ◌<◌, true, false, cond, List, [], ◌∷◌, count_by, refl, arith, list_any, sum_by-cons, is_initiator, outside_isolate, left_open}
 use Rattle.bidi_base.specs.declared.char_data.BidiClass.{BidiClass}
 use Rattle.bidi_base.specs.declared.char_data.BidiClass.TheVariants.{PDI}
-use Rattle.bidi_base.specs.Classes.{is_initiator}
-use Rattle.bidi_base.specs.Openers.{outside_isolate, left_open}
 
 abbrev pub isolates_in : List BidiClass → ℕ
 isolates_in openers = count_by is_initiator openers
@@ -18,24 +12,15 @@ count_more c openers = sum_by-cons (λ x. cond (is_initiator x) 1 0) c openers
 -- outside the innermost isolate there is one isolate fewer
 pub isolates_in-outside : (openers : List BidiClass) → 0 < isolates_in openers → isolates_in openers ≡ isolates_in (outside_isolate openers) + 1
 isolates_in-outside [] some = absurd (omega arith)
-isolates_in-outside (c ∷ openers) some = elim (cases_Bool (is_initiator c)) [
-  | inl isolate ↦ simp isolate (omega (arith, simp isolate at (count_more c openers)))
-  | inr other ↦ simp (other, zero-add) (isolates_in-outside openers (simp (other, zero-add) at some))
-]
+isolates_in-outside (c ∷ openers) some = grind (arith, count_more, isolates_in-outside openers)
 
 any_some : (openers : List BidiClass) → 0 < isolates_in openers → list_any is_initiator openers ≡ true
 any_some [] some = absurd (omega arith)
-any_some (c ∷ openers) some = elim (cases_Bool (is_initiator c)) [
-  | inl isolate ↦ simp isolate
-  | inr other ↦ simp other (any_some openers (simp (other, zero-add) at some))
-]
+any_some (c ∷ openers) some = grind (arith, count_more, any_some openers)
 
 any_none : (openers : List BidiClass) → isolates_in openers ≡ 0 → list_any is_initiator openers ≡ false
 any_none [] none = refl
-any_none (c ∷ openers) none = elim (cases_Bool (is_initiator c)) [
-  | inl isolate ↦ absurd (omega (arith, simp isolate at none, simp isolate at (count_more c openers)))
-  | inr other ↦ simp other (any_none openers (simp (other, zero-add) at none))
-]
+any_none (c ∷ openers) none = grind (arith, count_more, any_none openers)
 
 -- a PDI closes an isolate where one is open
 pub left_open-pdi : (c : BidiClass) (openers : List BidiClass) → c ≡ PDI → 0 < isolates_in openers → left_open c openers ≡ outside_isolate openers

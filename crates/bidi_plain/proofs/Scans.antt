@@ -1,8 +1,7 @@
 -- A pass over a slice of classes that rewrites it by a rule in context, and carries along the nearest class before that passes a test.
-use Rattle.std.proofs.Common.{◌≡◌, ℕ, ◌+◌, ◌<◌, Bool, cond, List, length, get_or, take, drop, set, reverse, sym, ◌∙◌}
+use Rattle.bidi_base.proofs.Common.{◌≡◌, ℕ, ◌+◌, ◌<◌, Bool, cond, List, length, get_or, take, drop, set, reverse, sym, ◌∙◌, arith, nearest}
 use Rattle.bidi_base.specs.declared.char_data.BidiClass.{BidiClass}
 use Rattle.bidi_base.specs.declared.char_data.BidiClass.TheVariants.{L}
-use Rattle.bidi_base.specs.Places.{nearest}
 use Rattle.bidi_base.proofs.PlacesLemmas.{reverse-take_more, nearest-more}
 use Rattle.bidi_base.proofs.InPlace.{IsRewritten, IsRewritten-read, IsRewritten-write}
 
@@ -30,7 +29,4 @@ module _ (rule : List BidiClass → BidiClass → List BidiClass → BidiClass) 
   -- the rule's answer is written at i
   pub IsScanned-write : (old now : List BidiClass) (s t : BidiClass) (i : ℕ) (c y : BidiClass) → IsScanned old now s i → i < length old → get_or now i L ≡ c → t ≡ cond (test c) c s
       → Answers old s i c y → IsScanned old (set now i y) t (i + 1)
-  IsScanned-write old now s t i c y h fits is next answers = record {
-    rewritten = IsRewritten-write rule old now i y L fits (answer_here old now s i c y h is answers) h.rewritten;
-    is_nearest = next ∙ nearest_later old now s i c h fits is;
-  }
+  IsScanned-write old now s t i c y h fits is next answers = grind (arith, IsRewritten-write rule old now i y L, answer_here old now s i c y h is answers, nearest_later old now s i c h fits is)

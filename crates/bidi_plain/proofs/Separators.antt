@@ -1,11 +1,8 @@
 -- W4 from the front, where the class before is read as the pass has left it.
-use Rattle.std.proofs.Common.{◌≡◌, ℕ, ◌+◌, ◌-◌, ◌<◌, ◌≤◌, List, [], ◌∷◌, length, get_or, take, drop, set, reverse, sym, ap, ◌∙◌, arith, inl, inr}
-use Rattle.std.proofs.lemmas.Bool.{cases_lt}
-use Rattle.std.proofs.lemmas.List.{drop_more, drop_all, get_or-take}
+use Rattle.bidi_base.proofs.Common.{◌≡◌, ℕ, ◌+◌, ◌-◌, ◌<◌, ◌≤◌, List, [], ◌∷◌, length, get_or, take, drop, set, reverse, sym, ◌∙◌, arith, drop_more, drop_all, in_context, w4_rule}
+use Rattle.std.proofs.lemmas.List.{get_or-take}
 use Rattle.bidi_base.specs.declared.char_data.BidiClass.{BidiClass}
 use Rattle.bidi_base.specs.declared.char_data.BidiClass.TheVariants.{L}
-use Rattle.bidi_base.specs.Places.{in_context}
-use Rattle.bidi_base.specs.Weak.{w4_rule}
 use Rattle.bidi_base.proofs.PlacesLemmas.{reverse-take_more}
 use Rattle.bidi_base.proofs.InPlace.{IsRewritten, IsRewritten-read, IsRewritten-write, IsRewritten-keep, IsRewritten-end}
 use Rattle.bidi_base.proofs.Blocks.{answer_is, read_later}
@@ -39,11 +36,4 @@ module _ (old now : List BidiClass) where
 
   -- the last class has none behind it
   pub separators_end : (i : ℕ) → length old ≤ i + 1 → IsRewritten w4_rule old now i → now ≡ in_context w4_rule [] old
-  separators_end i past h = elim (cases_lt i (length old)) [
-    | inl last ↦
-        let c = get_or old i L in
-        let before = reverse (take i old) in
-        IsRewritten-end w4_rule old now (i + 1) past
-        (IsRewritten-keep w4_rule old now i L last (sym (alone before c) ∙ ap (w4_rule before c) (sym (drop_all (i + 1) old past))) h)
-    | inr after ↦ IsRewritten-end w4_rule old now i after h
-  ]
+  separators_end i past h = grind (arith, IsRewritten-end, IsRewritten-keep w4_rule old now i L, alone, drop_all)

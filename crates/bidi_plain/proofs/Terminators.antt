@@ -1,17 +1,11 @@
 -- W5 block by block.
-use Rattle.std.proofs.Common.{◌≡◌, ℕ, suc, ◌+◌, ◌-◌, ◌<◌, ◌≤◌, Bool, true, false, not, ◌||◌, cond, List, ◌∷◌, length, get_or, take, drop, replicate, reverse, sym, ap, subst, ◌∙◌, arith, inl, inr}
-use Rattle.std.proofs.lemmas.Bool.{cases_lt}
-use Rattle.std.proofs.lemmas.List.{drop_more, drop_all, get_or_past}
-use Rattle.std.specs.List.{prefix_len}
+use Rattle.bidi_base.proofs.Common.{◌≡◌, ℕ, suc, ◌+◌, ◌-◌, ◌<◌, ◌≤◌, Bool, true, false, not, ◌||◌, cond, List, ◌∷◌, length, get_or, take, drop, replicate, reverse, ap, subst, ◌∙◌, arith, inl, inr, cases_lt, drop_more, drop_all, get_or_past, prefix_len, is_et, is_en, class_at, nearest_is, w5_rule}
 use borrow.Rule.Slice.PartMut.{put_mid}
 use Rattle.bidi_base.specs.declared.char_data.BidiClass.{BidiClass}
 use Rattle.bidi_base.specs.declared.char_data.BidiClass.TheVariants.{L, EN, ET}
-use Rattle.bidi_base.specs.Classes.{is_et, is_en}
-use Rattle.bidi_base.specs.Places.{class_at, nearest_is}
-use Rattle.bidi_base.specs.Weak.{w5_rule}
 use Rattle.bidi_base.proofs.PlacesLemmas.{reverse-take_more}
 use Rattle.bidi_base.proofs.InPlace.{IsRewritten, IsRewritten-keep}
-use Rattle.bidi_base.proofs.Blocks.{IsBlock, IsBlock-counted, length-part, read_later, look-drop, look-take, answer, IsRewritten-filled, IsRewritten-unchanged, IsRewritten-past}
+use Rattle.bidi_base.proofs.Blocks.{IsBlock, look-drop, look-take, answer, IsRewritten-filled, IsRewritten-unchanged, IsRewritten-past, IsBlock-counted, length-part, read_later}
 
 -- past the terminators a European number is next
 abbrev pub is_number_next : List BidiClass → Bool
@@ -39,10 +33,7 @@ pub record IsAtBlock (old now : List BidiClass) (after_number : Bool) (start : �
 
 module _ (old : List BidiClass) (start n : ℕ) (block : IsBlock is_et old start n) where
   before_number_is : is_en (class_at old (start + n)) ≡ is_number_next (drop (start + n) old)
-  before_number_is = elim (cases_lt (start + n) (length old)) [
-    | inl more ↦ simp (drop_more old (start + n) L more, stops (get_or old (start + n) L) (drop (start + n + 1) old) (block.behind more))
-    | inr past ↦ simp (get_or_past old (start + n) L past, drop_all (start + n) old past)
-  ]
+  before_number_is = grind (arith, drop_more, stops, get_or_past, drop_all)
 
   -- what each terminator of the block becomes
   answers : (after_number : Bool) → after_number ≡ is_number_next (reverse (take start old)) → (k : ℕ) → k < n
@@ -57,27 +48,17 @@ module _ (old : List BidiClass) (start n : ℕ) (block : IsBlock is_et old start
   -- the class behind the block
   behind : (now : List BidiClass) → IsRewritten w5_rule old now (start + n) → IsAtBlock old now (is_en (class_at old (start + n))) (start + n + 1)
   behind now h = elim (cases_lt (start + n) (length old)) [
-    | inl more ↦
-        let x = get_or old (start + n) L in
-        let other : is_et x ≡ false = block.behind more in
-        record {
-          rewritten = IsRewritten-keep w5_rule old now (start + n) L more (w5_rule-other (reverse (take (start + n) old)) x (drop (start + n + 1) old) other) h;
-          number = λ fits. sym (stops x (reverse (take (start + n) old)) other) ∙ ap is_number_next (sym (reverse-take_more old (start + n) L more));
-        }
-    | inr past ↦ record { rewritten = IsRewritten-past w5_rule old now (start + n) (start + n + 1) past (omega arith) h; number = λ fits. absurd (omega arith) }
+    | inl more ↦ grind (arith, IsRewritten-keep w5_rule old now (start + n) L more, block.behind more, w5_rule-other, stops, reverse-take_more old (start + n) L more)
+    | inr past ↦ grind (arith, IsRewritten-past w5_rule old now (start + n) (start + n + 1) past)
   ]
 
   pub IsAtBlock-filled : (now : List BidiClass) (after_number : Bool) (m : ℕ) → IsAtBlock old now after_number start → m ≡ n → (after_number || is_en (class_at old (start + n))) ≡ true
       → IsAtBlock old (put_mid start m now (replicate n EN)) (is_en (class_at old (start + n))) (start + n + 1)
-  IsAtBlock-filled now after_number m h same beside =
-      behind (put_mid start m now (replicate n EN))
-      (IsRewritten-filled w5_rule old now start n m EN h.rewritten block.room same (λ k below. simp (answers after_number (h.number (omega (arith, block.room))) k below, beside)))
+  IsAtBlock-filled now after_number m h same beside = grind (arith, behind (put_mid start m now (replicate n EN)), IsRewritten-filled w5_rule old now start n m EN, answers after_number)
 
   pub IsAtBlock-kept : (now : List BidiClass) (after_number : Bool) → IsAtBlock old now after_number start → (after_number || is_en (class_at old (start + n))) ≡ false
       → IsAtBlock old now (is_en (class_at old (start + n))) (start + n + 1)
-  IsAtBlock-kept now after_number h alone =
-      behind now (IsRewritten-unchanged w5_rule old now start n h.rewritten block.room
-      (λ k below. answers after_number (h.number (omega (arith, block.room))) k below ∙ simp (alone, is_et-ET (get_or old (start + k) L) (block.inside k below))))
+  IsAtBlock-kept now after_number h alone = grind (arith, behind now, IsRewritten-unchanged w5_rule old now start n, answers after_number, is_et-ET)
 
 -- the same two steps as the pass makes them, which counts the block and reads behind it in the slice as it is now
 module _ (old now : List BidiClass) (after_number before_number : Bool) (start n : ℕ) (h : IsAtBlock old now after_number start) (fits : start ≤ length old)
@@ -91,8 +72,8 @@ module _ (old now : List BidiClass) (after_number before_number : Bool) (start n
   pub step-filled : (ys : List BidiClass) → (after_number || before_number) ≡ true → ys ≡ replicate (length (take (start + n - start) (drop start now))) EN
       → IsAtBlock old (put_mid start (start + n - start) now ys) before_number (start + n + 1)
   step-filled ys beside filled =
-      let same : start + n - start ≡ n = omega arith in
-      simp (filled, length-part now start n (omega (arith, block.room, h.rewritten.long)), next_is) (IsAtBlock-filled old start n block now after_number (start + n - start) h same (rw next_is at beside))
+      let h0 = IsAtBlock-filled old start n block now after_number (start + n - start) h (omega arith) (rw next_is at beside) in
+      simp (filled, length-part now start n (omega (arith, block.room, h.rewritten.long)), next_is) h0
 
   pub step-kept : (after_number || before_number) ≡ false → IsAtBlock old now before_number (start + n + 1)
   step-kept alone = rw next_is (IsAtBlock-kept old start n block now after_number h (rw next_is at alone))

@@ -1,9 +1,6 @@
 -- The character that begins at a boundary, and where it ends.
-use Rattle.std.proofs.Common.{◌≡◌, ℕ, ◌+◌, ◌<◌, ◌≤◌, true, List, length, get_or, Some, None, sym, ap, ◌∙◌, arith}
-use Rattle.std.proofs.lemmas.Grind.{common_steps}
+use Rattle.bidi_base.proofs.Common.{◌≡◌, ℕ, ◌+◌, ◌<◌, ◌≤◌, true, List, length, get_or, Some, None, sym, ap, ◌∙◌, arith, common_steps, class_at, char_at, char_index, is_boundary, place, text_len, IsPerChar}
 use Rattle.bidi_base.specs.declared.char_data.BidiClass.{BidiClass}
-use Rattle.bidi_base.specs.Places.{class_at}
-use Rattle.bidi_base.specs.Text.{char_at, char_index, is_boundary, place, text_len, IsPerChar}
 use Rattle.bidi_base.proofs.PlaceLemmas.{char_at-place, char_index-place, is_boundary-place, place-char_index, place-end, place-le-back, place-mono, place-more, place-more-le, place-zero}
 use Rattle.bidi_base.proofs.TextLemmas.{HasUnits}
 use Rattle.bidi_rules.proofs.PassOverText.{alike_class}
@@ -60,10 +57,9 @@ module _ (len_of : ℕ → ℕ) (h : HasUnits len_of) (chars : List ℕ) where
         within = grind (
           arith,
           b.there,
-          there,
           place-char_index len_of h chars to ends,
-          place-mono len_of chars (b.index + 1) (char_index len_of chars to),
-          place-mono len_of chars (char_index len_of chars to) b.index,
+          λ (k : ℕ). place-mono len_of chars k (char_index len_of chars to),
+          λ (k : ℕ). place-mono len_of chars (char_index len_of chars to) k,
         );
         begins = cc (there, is_boundary-place len_of chars (b.index + 1));
         index = cc (there, b.there, char_index-place len_of chars h (b.index + 1) (omega (arith, b.within)), char_index-place len_of chars h b.index (omega (arith, b.within)));

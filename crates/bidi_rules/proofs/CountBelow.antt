@@ -1,14 +1,6 @@
 -- How many units of some ranges lie below a unit, and how many characters begin in them.
-use Rattle.std.proofs.Common.{◌≡◌, ℕ, zero, suc, ◌+◌, ◌-◌, ◌*◌, ◌<◌, ◌≤◌, min, List, [], ◌∷◌, length, true, false, get_or, take, drop, refl, sym, arith, length-append, length-take, length-drop}
-use Rattle.std.proofs.lemmas.Grind.{common_steps, flat_map-append}
-use Rattle.std.specs.Prelude.{All, slice_range}
-use Rattle.std.proofs.lemmas.Bool.{cond-true, cond-false}
-use Rattle.std.proofs.lemmas.List.Elements.{All-head, All-tail}
-use Rattle.std.proofs.lemmas.List.FromFn.{length-range_with_len}
-use Rattle.std.proofs.lemmas.List.Sums.{sum_by-cons, sum_by-take-drop, sum_by-append}
-use Rattle.bidi_base.specs.Places.{between}
-use Rattle.bidi_base.specs.Text.{char_index, IsLine}
-use Rattle.bidi_base.specs.Units.{are_ordered, are_ordered_from, chars_in_runs, units_in_runs, AreLines}
+use Rattle.bidi_base.proofs.Common.{◌≡◌, ℕ, zero, suc, ◌+◌, ◌-◌, ◌*◌, ◌<◌, ◌≤◌, min, List, [], ◌∷◌, length, true, false, get_or, take, drop, refl, sym, arith, length-append, length-take, length-drop, common_steps, flat_map-append, All, slice_range, cond-true, cond-false, All-head, All-tail, length-range_with_len, sum_by-cons, sum_by-append, between, char_index, IsLine, are_ordered, are_ordered_from, chars_in_runs, units_in_runs, AreLines, take_more}
+use Rattle.std.proofs.lemmas.List.Sums.{sum_by-take-drop}
 use Rattle.bidi_base.proofs.PlaceLemmas.{line_places, place-sum}
 use Rattle.bidi_base.proofs.TextLemmas.{HasUnits, length-le-text_len}
 use Rattle.bidi_rules.specs.declared.implicit.weak.numbers.Walk.{Walk}
@@ -16,7 +8,6 @@ use Rattle.bidi_rules.specs.WeakPass.{waits}
 use Rattle.bidi_rules.specs.WeakWalk.{count_below, settled_to, WaitsBelow}
 use Rattle.bidi_rules.proofs.WalkLemmas.{are_ordered-front, are_ordered-take}
 use Rattle.bidi_rules.proofs.InRuns.{run_some, start_after}
-use Rattle.std.proofs.lemmas.List.{take_more}
 
 length-between : (low high : ℕ) → length (between low high) ≡ high - low
 length-between low high = length-range_with_len low (high - low)
@@ -83,7 +74,6 @@ pub paid-by-part : (index : ℕ) (runs : List (ℕ × ℕ)) (u v a b : ℕ) → 
 paid-by-part index runs u v a b ordered order paid =
     omega (
       arith,
-      paid,
       count_below-parts index runs u,
       count_below-parts index runs v,
       count_below-monotone 0 (take index runs) u v (are_ordered-take 0 index runs ordered) order,

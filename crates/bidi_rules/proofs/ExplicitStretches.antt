@@ -1,17 +1,9 @@
 -- The explicit pass by stretches: where no control comes the status stands still, so the characters there have one level and are under one override.
-use Rattle.std.proofs.Common.{◌≡◌, ℕ, zero, suc, ◌+◌, ◌-◌, ◌<◌, ◌≤◌, ◌^◌, Bool, true, false, not, ◌||◌, List, [], ◌∷◌, ◌++◌, length, get_or, Option, Some, None, unwrap_or, refl, sym, ap, subst, ◌∙◌, arith, inl, inr, length-take, eq-eqb}
-use Rattle.std.proofs.lemmas.Grind.{common_steps}
+use Rattle.bidi_base.proofs.Common.{◌≡◌, ℕ, zero, suc, ◌+◌, ◌-◌, ◌<◌, ◌≤◌, ◌^◌, Bool, true, false, not, ◌||◌, List, [], ◌∷◌, ◌++◌, length, get_or, Option, Some, None, unwrap_or, refl, sym, ap, subst, ◌∙◌, arith, inl, inr, length-take, eq-eqb, common_steps, cases_Bool, cases_lt, cases_eq, ext_get_or, length-replicate, get_or-append_right, is_kept, is_kept_in_place, is_paragraph_separator, is_removed, class_at, IsFirst, is_kept_at, level_at, Entry, State, start, closed, step, state_at, char_index, is_boundary, place, text_len, is_per_char, per_unit, IsPerChar, level_run_ranges, add-zero}
 use Rattle.std.specs.Prelude.{if◌then◌else◌}
-use Rattle.std.proofs.lemmas.Bool.{cases_Bool, cases_lt, cases_eq}
-use Rattle.std.proofs.lemmas.List.{ext_get_or, length-replicate, get_or-drop, get_or-append_right}
+use Rattle.std.proofs.lemmas.List.{get_or-drop}
 use Rattle.bidi_base.specs.declared.char_data.BidiClass.{BidiClass}
 use Rattle.bidi_base.specs.declared.char_data.BidiClass.TheVariants.{L, BN}
-use Rattle.bidi_base.specs.Classes.{is_kept, is_kept_in_place, is_paragraph_separator, is_removed}
-use Rattle.bidi_base.specs.Places.{class_at}
-use Rattle.bidi_base.specs.Search.{IsFirst}
-use Rattle.bidi_base.specs.Sequences.{is_kept_at, level_at}
-use Rattle.bidi_base.specs.StatusMachine.{Entry, State, start, closed, step, state_at}
-use Rattle.bidi_base.specs.Text.{char_index, is_boundary, place, text_len, is_per_char, per_unit, IsPerChar}
 use Rattle.bidi_base.proofs.ExplicitLemmas.{length-explicit_levels, length-processing_classes, level_at-explicit_levels, class_at-processing_classes}
 use Rattle.bidi_base.proofs.PerUnit.{length-per_char, length-per_unit, get_or-per_unit}
 use Rattle.bidi_base.proofs.PlaceLemmas.{char_index-place, is_boundary-place, place-end, place-le, place-lt, place-mono, place-more, place-zero, UnitOf, unit_of}
@@ -19,16 +11,14 @@ use Rattle.bidi_base.proofs.StatusBounds.{state_at-more}
 use Rattle.bidi_base.proofs.StatusMachine.{answer_level-explicit_level}
 use Rattle.bidi_base.proofs.TextLemmas.{HasUnits, length-le-text_len}
 use Rattle.bidi_base.proofs.UnitsLemmas.{length-from_IsPerChar, per_unit-from_IsPerChar, IsPerChar-from_is_per_char}
-use Rattle.bidi_base.specs.contracts.char_data.BidiClassPartialEq.TheImpl.{ghosts}
-use Rattle.bidi_base.specs.Units.{level_run_ranges}
 use Rattle.bidi_base.proofs.PerCharTests.{class_test}
+use Rattle.bidi_base.specs.contracts.char_data.BidiClassPartialEq.TheImpl.{ghosts}
 use Rattle.bidi_rules.specs.ExplicitPass.{IsCutTo, filled, differs, runs_before, run_start}
 use Rattle.bidi_rules.specs.ExplicitStretches.{is_control, overridden, IsOverridden, Paragraph, stored, levels_of, classes_of, IsReadTo}
 use Rattle.bidi_rules.specs.declared.explicit.stretches.OpenRun.{OpenRun}
 use Rattle.bidi_rules.proofs.ExplicitUnits.{CanRead, can_read, length-filled, processing_class-is, level_at as level_of_next, put_at, next_at, text_len-some}
 use Rattle.bidi_rules.proofs.RunCutting.{IsCutTo-start, IsCutTo-removed, IsCutTo-kept, IsCutTo-end, IsCutTo-none}
 use Rattle.bidi_rules.proofs.StackLemmas.{closed-other, opened-other}
-use Rattle.std.proofs.Math.Nat.{add-zero}
 
 -- ---- a part of a list that is written over
 
@@ -44,21 +34,19 @@ filled-above from len x d units fits k a = grind (arith, length-replicate, get_o
 module _ (put : BidiClass) (from at next : ℕ) (old now : List BidiClass) (h : IsOverridden (Some put) from at old now) (begun : from ≤ at) (order : at ≤ next) where
   pub IsOverridden-spared : ((u : ℕ) → at ≤ u → u < next → is_kept_in_place (class_at old u) ≡ false) → IsOverridden (Some put) from next old now
   IsOverridden-spared spared = record {
-    inside = λ u above below. grind (arith, cases_lt u at);
+    inside = λ u a b. grind (arith, cases_lt u at);
     below = h.below;
-    above = λ u above. h.above u (omega arith);
+    above = λ u a. h.above u (omega arith);
     long = h.long;
   }
 
   pub IsOverridden-more : next ≤ length old → ((u : ℕ) → at ≤ u → u < next → is_kept_in_place (class_at old u) ≡ true) → IsOverridden (Some put) from next old (filled at (next - at) put now)
-  IsOverridden-more room kept =
-      let fits : at + (next - at) ≤ length now = omega (arith, h.long) in
-      record {
-        inside = λ u above below. grind (arith, cases_lt u at, filled-inside, filled-below);
-        below = λ u below. filled-below at (next - at) put L now fits u (omega arith) ∙ h.below u below;
-        above = λ u above. filled-above at (next - at) put L now fits u (omega arith) ∙ h.above u (omega arith);
-        long = length-filled at (next - at) put now fits ∙ h.long;
-      }
+  IsOverridden-more room kept = record {
+    inside = λ u above below. grind (arith, cases_lt u at, filled-inside, filled-below);
+    below = λ u below. grind (arith, filled-below);
+    above = λ u above. grind (arith, filled-above);
+    long = grind (arith, length-filled);
+  }
 
 -- ---- a class that is no control
 
@@ -135,17 +123,16 @@ module _ (p : Paragraph) (has_units : HasUnits p.len_of) (whole : IsPerChar p.le
   first-begins : (test : BidiClass → Bool) (i from to u : ℕ) → from ≡ place_of i → to ≤ length p.original → IsFirst test p.original from to u → u < to → BeginsFrom i u
   first-begins test i from to u from_is fits h inside =
       let w = unit_of p.len_of p.chars u (omega (arith, original_long)) in
-      let order : i ≤ w.index = unit-from i u (omega (arith, h.begins)) w in
+      let order = unit-from i u (omega (arith, h.begins)) w in
       let after = place-mono p.len_of p.chars i w.index order in
       elim (cases_eq w.offset 0) [
-        | inl none ↦ record { index = w.index; order = order; within = omega (arith, w.within); there = omega (arith, w.at_place) }
-        | inr some ↦ absurd (cc (
-          h.before (place_of w.index) (omega arith) (omega (arith, w.at_place)),
-          h.at inside,
+        | inl none ↦ grind arith
+        | inr some ↦ grind (
+          arith,
+          h.before (place_of w.index),
           class-at_place w.index w.within,
           class-at_unit w.index w.offset w.within w.below,
-          w.at_place,
-        ))
+        )
       ]
 
   -- where a stretch without controls ends
@@ -266,18 +253,18 @@ module _ (p : Paragraph) (from to : ℕ) (stack : State) (levels : List ℕ) (cl
   stretch-read : (level : ℕ) (override : Option BidiClass) (now_levels : List ℕ) (now_classes : List BidiClass) (now_runs : List (ℕ × ℕ)) (now : OpenRun) → level ≡ stack.top.status.level → override ≡ stack.top.status.override
       → now_levels ≡ filled from (to - from) level levels → IsOverridden override from to classes now_classes → IsCut end.index now_runs now.start now.last_level → IsReadTo p to stack now_levels now_classes now_runs now
   stretch-read level override now_levels now_classes now_runs now level_is override_is filled_is over cut =
+      let still = state-to p h.has_units h.per_char h.index end.index end.order end.within plain end.index end.order
+      (omega arith) in
       read-more p from stack levels classes runs run h to end.index end.there end.order end.within stack level now_levels now_classes now_runs now
-      (h.machine ∙ sym (state-to p h.has_units h.per_char h.index end.index end.order end.within plain end.index end.order (omega arith)))
-      filled_is (λ k above below. level-here k above below ∙ sym level_is) over.long over.below over.above
-      (λ v above below w first last. cc (
+      (h.machine ∙ sym still) filled_is
+      (λ k above below. level-here k above below ∙ sym level_is) over.long over.below over.above
+      (λ v above below w first last. grind (
+        arith,
         over.inside v above below,
-        override_is,
         h.unread v above,
-        w.at_place,
-        class-at_unit p h.has_units h.per_char w.index w.offset w.within w.below,
-        class-here w.index first last,
-      ))
-      cut
+        class-at_unit,
+        class-here,
+      )) cut
 
   module _ (level : ℕ) (override : Option BidiClass) (now_levels : List ℕ) (now_classes : List BidiClass) (level_is : level ≡ stack.top.status.level) (override_is : override ≡ stack.top.status.override)
       (filled_is : now_levels ≡ filled from (to - from) level levels) (over : IsOverridden override from to classes now_classes) (v : ℕ) (first : IsFirst is_kept_in_place p.original from to v) where
@@ -337,11 +324,17 @@ module _ (p : Paragraph) (at : ℕ) (stack : State) (levels : List ℕ) (classes
         read-more p at stack levels classes runs run h next (h.index + 1) there (omega arith) (omega (arith, control-fits)) now level now_levels now_classes now_runs now_run
         (next_at p.len_of p.chars p.level (stored p) h.index within (class_at p.original at) control-class stack now status level put now_is status_is level_is put_is h.machine)
         levels_are (λ k above below. cc (one k above below, level-at_control))
-        (simp (classes_are, length-filled at (next - at) put classes room))
-        (λ v below. simp (classes_are, filled-below at (next - at) put L classes room v below))
-        (λ v above. simp (classes_are, filled-above at (next - at) put L classes room v (omega (arith, control-some next ends))))
-        (λ v above below w first last. cc (classes_are, filled-inside at (next - at) put L classes room v above (omega arith), put-at_control, one w.index first last))
-        cut
+        (grind (arith, length-filled)) (λ v below. grind (arith, filled-below)) (λ v above. grind (
+          arith,
+          filled-above,
+          control-some next ends,
+        ))
+        (λ v above below w first last. cc (
+          classes_are,
+          filled-inside at (next - at) put L classes room v above (omega arith),
+          put-at_control,
+          one w.index first last,
+        )) cut
 
     pub control-removed : is_kept (class_at p.original at) ≡ false → IsReadTo p next now now_levels now_classes runs run
     control-removed gone = control-read runs run (IsCutTo-removed p.len_of p.chars (stored p) (levels_of p) h.index runs run.start run.last_level (ap is_kept (sym control-class) ∙ gone) h.cut)
@@ -380,9 +373,7 @@ module _ (p : Paragraph) (at : ℕ) (stack : State) (levels : List ℕ) (classes
 
   -- the last run ends with the text
   pub read-runs : (units : ℕ) → units ≡ length p.original → 0 < units → runs ++ (run.start, units) ∷ [] ≡ level_run_ranges p.len_of p.chars (stored p) (levels_of p)
-  read-runs units is some =
-      simp (is, original_long p h.has_units h.per_char)
-      (IsCutTo-end p.len_of p.chars (stored p) (levels_of p) h.index runs run.start run.last_level all_read (grind (arith, text_len-some, original_long, stored_long)) h.cut)
+  read-runs units is some = grind (arith, original_long, IsCutTo-end, all_read, text_len-some, stored_long)
 
   pub read-no_runs : length p.original ≡ 0 → runs ≡ level_run_ranges p.len_of p.chars (stored p) (levels_of p)
   read-no_runs none =

@@ -1,25 +1,18 @@
 -- The pass over units that gives explicit levels, classes and level runs: what it has written once it read some characters.
 use native.Mathlib.Numerals.{unary_clauses}
-use Rattle.std.proofs.Common.{◌≡◌, ℕ, zero, suc, ◌+◌, ◌<◌, ◌≤◌, ◌^◌, true, List, [], ◌∷◌, length, get_or, set, unwrap_or, refl, sym, ap, ◌∙◌, arith, length-append}
-use Rattle.std.proofs.lemmas.Grind.{common_steps}
+use Rattle.bidi_base.proofs.Common.{◌≡◌, ℕ, zero, suc, ◌+◌, ◌<◌, ◌≤◌, ◌^◌, true, List, [], ◌∷◌, length, get_or, set, unwrap_or, refl, sym, ap, ◌∙◌, arith, length-append, common_steps, take-append-drop, length-replicate, is_paragraph_separator, is_removed, class_at, text_len, per_unit, per_char, is_per_char, explicit_levels, processing_class, processing_classes, Entry, State, closed, step, state_at, counted, IsWithinDepth, IsPoppable, suc-add}
 use Rattle.std.specs.Prelude.{◌||◌, if◌then◌else◌}
-use Rattle.std.proofs.lemmas.List.{take-append-drop, length-take, length-drop, length-replicate}
+use Rattle.std.proofs.lemmas.List.{length-take, length-drop}
 use Rattle.bidi_base.specs.declared.char_data.BidiClass.{BidiClass}
 use Rattle.bidi_base.specs.declared.char_data.BidiClass.TheVariants.{L, BN}
-use Rattle.bidi_base.specs.Classes.{is_paragraph_separator, is_removed}
-use Rattle.bidi_base.specs.Places.{class_at}
-use Rattle.bidi_base.specs.Text.{text_len, per_unit, per_char, is_per_char}
-use Rattle.bidi_base.specs.Explicit.{explicit_levels, processing_class, processing_classes}
-use Rattle.bidi_base.specs.StatusMachine.{Entry, State, closed, step, state_at, counted, IsWithinDepth, IsPoppable}
 use Rattle.bidi_base.proofs.ExplicitLemmas.{length-explicit_levels, level_at-explicit_levels, class_at-processing_classes}
 use Rattle.bidi_base.proofs.TextLemmas.{HasUnits}
 use Rattle.bidi_base.proofs.PerUnit.{per_char-per_unit}
 use Rattle.bidi_base.proofs.UnitsLemmas.{is_per_char-per_unit}
 use Rattle.bidi_base.proofs.PerCharTests.{level_eq}
-use Rattle.bidi_base.proofs.StatusMachine.{answer_level-explicit_level, answer_class-explicit_class}
-use Rattle.bidi_base.proofs.StatusBounds.{state_at-more, state_at-IsPoppable, closed-IsWithinDepth, closed-counted}
+use Rattle.bidi_base.proofs.StatusMachine.{answer_class-explicit_class, answer_level-explicit_level}
+use Rattle.bidi_base.proofs.StatusBounds.{state_at-IsPoppable, closed-IsWithinDepth, closed-counted, state_at-more}
 use Rattle.bidi_rules.specs.ExplicitPass.{filled}
-use Rattle.std.proofs.Math.Nat.{suc-add}
 
 pub processing_class-is : (paragraph : ℕ) (classes : List BidiClass) (k : ℕ) → k < length classes
     → (if is_removed (class_at classes k) then BN else if is_paragraph_separator (class_at classes k) || is_removed (class_at classes k) then class_at classes k else unwrap_or (closed (class_at classes k) (state_at paragraph classes k)).top.status.override (class_at classes k))

@@ -1,21 +1,9 @@
 -- The first unit of some runs that is kept, and the first character.
-use Rattle.std.proofs.Common.{◌≡◌, ℕ, zero, suc, ◌+◌, ◌-◌, ◌<◌, ◌≤◌, Bool, true, false, List, [], ◌∷◌, ◌++◌, length, map, get_or, take, find, Some, None, slice_get, refl, sym, ap, ◌∙◌, arith, inl, inr}
-use Rattle.std.specs.List.{range_with_len}
-use Rattle.std.specs.Option.{option_or}
-use Rattle.std.specs.declared.ops.Range.{Range}
-use Rattle.std.proofs.lemmas.Bool.{cases_Bool}
-use Rattle.std.proofs.lemmas.Grind.{flat_map-append, common_steps}
-use Rattle.std.proofs.lemmas.List.{map-append, take-append-drop}
-use Rattle.std.proofs.lemmas.List.Elements.{All-head, All-tail, filter-append}
-use Rattle.std.proofs.lemmas.List.Folds.{find-append}
+use Rattle.bidi_base.proofs.Common.{◌≡◌, ℕ, zero, suc, ◌+◌, ◌-◌, ◌<◌, ◌≤◌, Bool, true, false, List, [], ◌∷◌, ◌++◌, length, map, get_or, take, find, Some, None, slice_get, refl, arith, range_with_len, option_or, Range, cases_Bool, flat_map-append, common_steps, map-append, take-append-drop, All-head, All-tail, filter-append, find-append, is_kept_in_place, between, class_at, first_or, place, IsLine, char_index, IsPerChar, bounds, chars_in_runs, kept_in_place, units_in_runs, AreLines}
 use Rattle.bidi_base.specs.declared.char_data.BidiClass.{BidiClass}
-use Rattle.bidi_base.specs.Classes.{is_kept_in_place}
-use Rattle.bidi_base.specs.Places.{between, class_at, first_or}
-use Rattle.bidi_base.specs.Text.{place, IsLine, char_index, IsPerChar}
-use Rattle.bidi_base.specs.Units.{bounds, chars_in_runs, kept_in_place, units_in_runs, AreLines}
 use Rattle.bidi_base.proofs.PlaceLemmas.{line_places, place-lt, place-mono}
-use Rattle.bidi_base.proofs.PlacesLemmas.{find-between-is, find-between-is_None}
 use Rattle.bidi_base.proofs.TextLemmas.{HasUnits}
+use Rattle.bidi_base.proofs.PlacesLemmas.{find-between-is, find-between-is_None}
 use Rattle.bidi_rules.specs.NeutralPass.{kept_among}
 use Rattle.bidi_rules.proofs.PassOverText.{alike_class}
 use Rattle.bidi_rules.proofs.KeptRuns.{no_range}
@@ -41,8 +29,14 @@ module _ (test : ℕ → Bool) (runs : List (Range ℕ)) (i : ℕ) (fits : i < l
       → find test (units_in_runs (map bounds runs)) ≡ Some u
   find-stops u from below none here =
       let r = get_or runs i no_range in
-      ap (λ (rs : List (Range ℕ)). find test (units_of rs)) (sym (take-append-drop (i + 1) runs))
-      ∙ simp (units_of-append, find-append, find-next, find-between-is test r.start r.end u (record { from = from; below = below; passes = here; first = none }))
+      grind (
+        arith,
+        take-append-drop (i + 1) runs,
+        units_of-append,
+        find-append,
+        find-next,
+        find-between-is test r.start r.end u,
+      )
 
 -- ---- what it finds is the place of the first character that is read
 
@@ -64,10 +58,10 @@ module _ (len_of : ℕ → ℕ) (h : HasUnits len_of) (chars : List ℕ) (units 
       let some = place-lt len_of chars h i (i + 1) (omega arith) (omega arith) in
       let order = place-mono len_of chars (i + 1) (i + suc n) (omega arith) in
       let rest = simp next at (first_in_line (i + 1) n (omega arith)) in
-      simp (between-append a b (place len_of chars (i + suc n)) (omega arith) order, find-append) (elim (cases_Bool (reads a)) [
-        | inl yes' ↦ simp (find-between-is reads a b a (grind arith), yes')
-        | inr no' ↦ grind (arith, find-between-is_None, alike_class)
-      ])
+      simp (
+        between-append a b (place len_of chars (i + suc n)) (omega arith) order,
+        find-append,
+      ) (grind (arith, cases_Bool (reads a), find-between-is reads a b a, find-between-is_None, alike_class))
 
   pub first_kept-is : (runs : List (ℕ × ℕ)) → AreLines len_of chars runs → find reads (units_in_runs runs) ≡ slice_get (map (place len_of chars) (kept_in_place len_of chars units runs)) 0
   unfolding kept_in_place chars_in_runs
@@ -77,17 +71,9 @@ module _ (len_of : ℕ → ℕ) (h : HasUnits len_of) (chars : List ℕ) (units 
       let j = char_index len_of chars r.1 in
       let w = line_places len_of h chars r.0 r.1 (All-head (λ (q : ℕ × ℕ). IsLine len_of chars q.0 q.1) r runs lines) in
       let whole : i + (j - i) ≡ j = omega (arith, w.ordered) in
-      simp (
-        find-append,
-        filter-append,
-        map-append,
-        first-append,
-        first_kept-is runs (All-tail (λ (q : ℕ × ℕ). IsLine len_of chars q.0 q.1) r runs lines),
-        ← first_in_line i (j - i) (omega (arith, w.within)),
-        whole,
-        ← w.begins,
-        ← w.ends,
-      )
+      let rest = first_kept-is runs (All-tail (λ (q : ℕ × ℕ). IsLine len_of chars q.0 q.1) r runs lines) in
+      let here = first_in_line i (j - i) (omega (arith, w.within)) in
+      simp (find-append, filter-append, map-append, first-append, rest, ← here, whole, ← w.begins, ← w.ends)
 
 -- what that says of the list
 pub first-Some : (us : List ℕ) (u : ℕ) → slice_get us 0 ≡ Some u → first_or 0 us ≡ u

@@ -1,7 +1,6 @@
 -- A fold that looks at every element is the test whether one of them passes.
-use Rattle.std.proofs.Common.{◌≡◌, Bool, false, ◌||◌, List, [], ◌∷◌, ◌∙◌, arith}
-use Rattle.std.specs.List.{fold, list_any}
-use Rattle.std.proofs.Math.Bool.{or_assoc}
+use Rattle.bidi_base.proofs.Common.{◌≡◌, Bool, false, ◌||◌, List, [], ◌∷◌, ◌∙◌, arith, list_any, or_assoc}
+use Rattle.std.specs.List.{fold}
 
 or_false : (a : Bool) → a ≡ (a || false)
 or_false a = grind arith

@@ -1,16 +1,8 @@
 -- The brackets of a sequence by the units at which they begin: as they are gathered, and that they pair as the definitions say.
-use Rattle.std.proofs.Common.{◌≡◌, ℕ, suc, ◌+◌, ◌<◌, List, [], ◌∷◌, ◌++◌, length, map, get_or, refl, sym, ap, subst, ◌∙◌, arith}
-use Rattle.std.proofs.lemmas.Grind.{flat_map-append}
-use Rattle.std.proofs.lemmas.List.{length-map}
+use Rattle.bidi_base.proofs.Common.{◌≡◌, ℕ, suc, ◌+◌, ◌<◌, List, [], ◌∷◌, ◌++◌, length, map, get_or, refl, sym, ap, subst, ◌∙◌, arith, flat_map-append, length-map, counted_brackets, AreNestedPairs, brackets_from, found_brackets, ArePairsOf, at_places, Source, place, bounds, kept_in_place, Range, add-zero}
 use Rattle.bidi_base.specs.declared.brackets.Bracket.{Bracket}
 use Rattle.bidi_base.specs.declared.char_data.BidiClass.{BidiClass}
 use Rattle.bidi_base.specs.declared.char_data.BidiClass.TheVariants.{L}
-use Rattle.bidi_base.specs.Brackets.{counted_brackets, AreNestedPairs}
-use Rattle.bidi_base.specs.FoundBrackets.{brackets_from, found_brackets, ArePairsOf}
-use Rattle.bidi_base.specs.Places.{at_places}
-use Rattle.bidi_base.specs.Source.{Source}
-use Rattle.bidi_base.specs.Text.{place}
-use Rattle.bidi_base.specs.Units.{bounds, kept_in_place}
 use Rattle.bidi_base.proofs.BracketPlaces.{moved, bracket_pairs-moved}
 use Rattle.bidi_base.proofs.NestedPairs.{bracket_pairs-nested}
 use Rattle.bidi_base.proofs.StoredLemmas.{length-at_places}
@@ -18,8 +10,6 @@ use Rattle.bidi_base.proofs.TextLemmas.{HasUnits}
 use Rattle.bidi_rules.specs.NeutralPass.{pairs_in, placed_bracket, placed_brackets, values_of, IsReady}
 use Rattle.bidi_rules.specs.PairWalk.{at_spots, spot}
 use Rattle.bidi_rules.proofs.Spots.{length-values_of, spot-in, spot-rises}
-use Rattle.std.specs.declared.ops.Range.{Range}
-use Rattle.std.proofs.Math.Nat.{add-zero}
 
 module _ (len_of : ℕ → ℕ) (chars : List ℕ) (source : Source) (units : List BidiClass) where
   abbrev placed : List ℕ → List Bracket

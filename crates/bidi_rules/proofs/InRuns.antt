@@ -1,9 +1,7 @@
 -- The units in some ranges that are in order.
-use Rattle.std.proofs.Common.{◌≡◌, ℕ, zero, suc, ◌+◌, ◌<◌, ◌≤◌, Bool, true, false, ◌&&◌, ◌||◌, leb, ltb, List, [], ◌∷◌, length, get_or, take, drop, refl, arith}
-use Rattle.std.specs.Prelude.{All}
-use Rattle.std.proofs.lemmas.Bool.{and_from, and_left, and_right, lt-ltb, le-ltb, le-leb, lt-leb}
-use Rattle.std.proofs.lemmas.List.Folds.{list_any_more, list_any_at}
-use Rattle.bidi_base.specs.Units.{are_ordered_from, in_runs}
+use Rattle.bidi_base.proofs.Common.{◌≡◌, ℕ, zero, suc, ◌+◌, ◌<◌, ◌≤◌, Bool, true, false, ◌&&◌, ◌||◌, leb, ltb, List, [], ◌∷◌, length, get_or, take, drop, refl, arith, All, and_from, and_left, and_right, le-leb, list_any_at, are_ordered_from, in_runs}
+use Rattle.std.proofs.lemmas.Bool.{lt-ltb, le-ltb, lt-leb}
+use Rattle.std.proofs.lemmas.List.Folds.{list_any_more}
 use Rattle.bidi_rules.proofs.WalkLemmas.{are_ordered-front}
 
 -- one range

@@ -1,15 +1,7 @@
 -- N1 for the direction against the embedding one, in one walk: neutrals wait from a class of that direction to the next class with one.
-use Rattle.std.proofs.Common.{◌≡◌, ℕ, zero, suc, ◌+◌, ◌-◌, ◌<◌, ◌≤◌, Bool, true, false, not, ◌&&◌, List, [], ◌∷◌, ◌++◌, length, map, replicate, Some, refl, ap, ◌∙◌, arith, append_assoc, append-nil, ◌⊎◌}
-use Rattle.std.specs.Prelude.{filter}
-use Rattle.std.specs.List.{list_all, range_with_len}
-use Rattle.std.proofs.lemmas.Bool.{cases_Bool, cases_lt}
-use Rattle.std.proofs.lemmas.List.{map-append}
+use Rattle.bidi_base.proofs.Common.{◌≡◌, ℕ, zero, suc, ◌+◌, ◌-◌, ◌<◌, ◌≤◌, Bool, true, false, not, ◌&&◌, List, [], ◌∷◌, ◌++◌, length, map, replicate, Some, refl, ap, ◌∙◌, arith, append_assoc, append-nil, ◌⊎◌, filter, list_all, range_with_len, cases_Bool, cases_lt, map-append, as_direction, is_l_or_r, is_neutral, is_weak_resolved, stands_for, nearest_direction, n1_n2, n2_rule, at_places, class_at, in_runs}
 use Rattle.bidi_base.specs.declared.char_data.BidiClass.{BidiClass}
 use Rattle.bidi_base.specs.declared.char_data.BidiClass.TheVariants.{L}
-use Rattle.bidi_base.specs.Classes.{as_direction, is_l_or_r, is_neutral, is_weak_resolved, stands_for}
-use Rattle.bidi_base.specs.Neutral.{nearest_direction, n1_n2, n2_rule}
-use Rattle.bidi_base.specs.Places.{at_places, class_at}
-use Rattle.bidi_base.specs.Units.{in_runs}
 use Rattle.bidi_base.proofs.NeutralBlocks.{common}
 use Rattle.bidi_base.proofs.NeutralStretches.{n1_n2-neutrals, n1_n2-directed, n1_n2-last}
 use Rattle.bidi_base.proofs.StoredLemmas.{at_places-append, length-at_places}
@@ -129,16 +121,8 @@ module _ (s : Unjoined) where
   -- ---- a step that leaves the units of `now` from `done` on as they are, and reads those up to `to`
   read : (now : List BidiClass) (waits after : Bool) (done at to : ℕ) → done ≤ to → to ≤ size → IsJoined s now waits done at
       → rest_of waits done ≡ map (n2_rule e) (at_old done to) ++ rest_of after to → IsJoined s now after to to
-  read now waits after done at to a b j step = record {
-    written =
-        simp (done-more now done to a, append_assoc, at_marked-same mark now s.old done to (λ k from below is. j.unwritten k from), ← step, j.written);
-    waiting = λ k from below seen. absurd (omega arith);
-    unwritten = λ k from. j.unwritten k (omega arith);
-    unseen = j.unseen;
-    own = j.own;
-    order = omega arith;
-    long = j.long;
-  }
+  read now waits after done at to a b j step =
+      grind (arith, done-more now done to a, append_assoc, at_marked-same mark now s.old done to)
 
   -- more neutrals, or units that are none of the sequence
   pub IsJoined-more : (now : List BidiClass) (waits : Bool) (done at to : ℕ) → at ≤ to → ((k : ℕ) → at ≤ k → k < to → mark k ≡ true → is_neutral (class_at s.old k) ≡ true) → IsJoined s now waits done at → IsJoined s now waits done to
@@ -166,20 +150,18 @@ module _ (s : Unjoined) where
   -- the embedding direction comes
   pub IsJoined-turned : (now : List BidiClass) (done at : ℕ) → at < size → in_runs s.runs at ≡ true → as_direction (class_at s.old at) ≡ Some e → IsJoined s now true done at → IsJoined s now false at at
   IsJoined-turned now done at fits inside is j =
-      read now true false done at at j.order (omega arith) j
-      (simp (
+      let turn = turned e s.eos s.side (at_old done at) (at_old (at + 1) size) (class_at s.old at)
+      (waited now true done at j) is in
+      read now true false done at at j.order (omega arith) j (simp (
         split s.old done at size j.order (omega arith),
         first_at at fits (seen-directed at e inside is),
-        turned e s.eos s.side (at_old done at) (at_old (at + 1) size) (class_at s.old at) (waited now true done at j) is,
+        turn,
       ))
 
   -- what is written to units
   row-written : (now new : List BidiClass) (from to : ℕ) → IsWrittenOver mark against from to now new
       → (done_with new from ≡ done_with now from) × (map (n2_rule e) (at_places L new (marked mark from to)) ≡ replicate (length (at_old from to)) against)
-  row-written now new from to w = (
-    simp (at_marked-same mark new now 0 from (λ k a below seen. w.below k below)),
-    simp (at_marked-all mark new against from to (λ k a b seen. w.inside k a b seen), length-at_places, map-opposite e s.eos s.side),
-  )
+  row-written now new from to w = grind (arith, at_marked-same, at_marked-all, length-at_places, map-opposite)
 
   -- the opposite direction comes, and is written to what waits
   pub IsJoined-settled : (now new : List BidiClass) (done at : ℕ) → at < size → in_runs s.runs at ≡ true → as_direction (class_at s.old at) ≡ Some against → IsWrittenOver mark against done at now new → IsJoined s now true done at
@@ -188,28 +170,28 @@ module _ (s : Unjoined) where
       let first = first_at at fits (seen-directed at against inside is) in
       let between = between_two e s.eos s.side (at_old done at) (at_old (at + 1) size) (class_at s.old at) (waited now true done at j) is in
       let row = row-written now new done at w in
-      record {
-        written = simp (done-more new done at j.order, append_assoc, row.0, row.1, ← j.written, split s.old done at size j.order (omega arith), first, between);
-        waiting = λ k from below seen. absurd (omega arith);
-        unwritten = λ k from. w.above k from ∙ j.unwritten k (let order = j.order in omega arith);
-        unseen = λ k plain. w.failing k plain ∙ j.unseen k plain;
-        own = own-after mark against done at s.old now new w j.own;
-        order = omega arith;
-        long = w.long ∙ j.long;
-      }
+      let written : done_with new at ++ rest_of true at ≡ goal =
+      simp (
+        done-more new done at j.order,
+        append_assoc,
+        row.0,
+        row.1,
+        ← j.written,
+        split s.old done at size j.order (omega arith),
+        first,
+        between,
+      ) in
+      grind (arith, own-after mark against done at s.old now new w j.own)
 
   -- a stretch of the opposite direction
   pub IsJoined-stretch : (now : List BidiClass) (waits : Bool) (at to : ℕ) → at < to → to ≤ size → in_runs s.runs at ≡ true → ((k : ℕ) → at ≤ k → k < to → stands_for against (class_at s.old k) ≡ true)
       → IsJoined s now waits at at → IsJoined s now true to to
   IsJoined-stretch now waits at to some fits inside all j =
       let parts : at_old at to ≡ class_at s.old at ∷ at_old (at + 1) to = grind (arith, seen-directed at against inside, opposite-directed e (class_at s.old at), all at) in
-      read now waits true at at to (omega arith) fits j
-      (simp (
-        split s.old at to size (omega arith) fits,
-        parts,
-        stretch e s.eos s.side (side_before s waits) (class_at s.old at) (at_old (at + 1) to) (at_old to size)
-            (simp parts at (at_marked-each mark (stands_for against) s.old at to (λ k from below is'. all k from below))),
-      ))
+      let each = simp parts at (at_marked-each mark (stands_for against) s.old at to (λ k from below is'. all k from below)) in
+      let row = stretch e s.eos s.side (side_before s waits) (class_at s.old at) (at_old (at + 1) to)
+      (at_old to size) each in
+      read now waits true at at to (omega arith) fits j (simp (split s.old at to size (omega arith) fits, parts, row))
 
   -- ---- the end
 
@@ -224,9 +206,13 @@ module _ (s : Unjoined) where
   -- the embedding direction stands behind what waits
   pub finished-embedding : (now : List BidiClass) (done : ℕ) → s.eos ≡ e → IsJoined s now true done size → done_with now size ≡ goal
   finished-embedding now done is j =
-      let cs = at_old done size in
       let wait = waited now true done size j in
-      let step : rest_of true done ≡ map (n2_rule e) cs = n1_n2-last e against s.eos cs wait ∙ simp (is, common_apart e s.eos s.side, map-settled e s.eos s.side cs wait) in
+      let step : rest_of true done ≡ map (n2_rule e) (at_old done size) = grind (
+        arith,
+        n1_n2-last e against s.eos (at_old done size) wait,
+        common_apart e s.eos s.side,
+        map-settled e s.eos s.side,
+      ) in
       simp (done-more now done size j.order, at_marked-same mark now s.old done size (λ k from below seen. j.unwritten k from), ← step, j.written)
 
   -- the opposite one does, and is written to it

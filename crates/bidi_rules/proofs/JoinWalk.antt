@@ -1,12 +1,7 @@
 -- The walk for N1 over the runs of a sequence.
-use Rattle.std.proofs.Common.{◌≡◌, ℕ, ◌+◌, ◌<◌, ◌≤◌, Bool, true, false, List, length, map, get_or, drop, Some, sym, ap, ◌∙◌, arith, add-one, inl, inr, ◌⊎◌}
-use Rattle.std.proofs.lemmas.Bool.{cases_Bool}
+use Rattle.bidi_base.proofs.Common.{◌≡◌, ℕ, ◌+◌, ◌<◌, ◌≤◌, Bool, true, false, List, length, map, get_or, drop, Some, arith, add-one, inl, inr, ◌⊎◌, cases_Bool, as_direction, has_direction, is_l_or_r, stands_for, n1_n2, n2_rule, at_places, class_at, in_runs}
 use Rattle.bidi_base.specs.declared.char_data.BidiClass.{BidiClass}
 use Rattle.bidi_base.specs.declared.char_data.BidiClass.TheVariants.{L}
-use Rattle.bidi_base.specs.Classes.{as_direction, has_direction, is_l_or_r, stands_for}
-use Rattle.bidi_base.specs.Neutral.{n1_n2, n2_rule}
-use Rattle.bidi_base.specs.Places.{at_places, class_at}
-use Rattle.bidi_base.specs.Units.{in_runs}
 use Rattle.bidi_rules.specs.JoinPass.{side_before, units_of, Unjoined, IsAtOpposite, IsJoined, IsUnderWay}
 use Rattle.bidi_rules.specs.PairWalk.{opposite_of}
 use Rattle.bidi_rules.specs.WeakWalk.{is_seen, IsWrittenOver}
@@ -40,40 +35,35 @@ module _ (s : Unjoined) (now : List BidiClass) (w : Join) where
     IsAtOpposite-settled new next from below none is waiting over =
         let more = IsUnderWay-more next from (omega arith) none in
         let j : IsJoined s now true more.done next = simp waiting at more.joined in
-        let directed = simp (j.unwritten next j.order) at (opposite-directed s.e (class_at now next) is) in
-        record {
-          there = λ some. (simp waiting (IsJoined-settled s now new more.done next (omega arith) (inside next from below) directed (over-old next new more waiting over) j), simp (over.above next (omega arith), is));
-          ended = λ past. absurd (omega arith);
-        }
+        grind (
+          arith,
+          opposite-directed s.e (class_at now next) is,
+          IsJoined-settled s now new more.done next,
+          inside next,
+          over-old next new more waiting over,
+        )
 
     -- the embedding direction comes
     pub IsUnderWay-turned : (next : ℕ) → at ≤ next → next < end → ((k : ℕ) → at ≤ k → k < next → has_direction (class_at now k) ≡ false) → has_direction (class_at now next) ≡ true → stands_for against (class_at now next) ≡ false → w.waits ≡ true
         → IsJoined s now false next next
     IsUnderWay-turned next from below none is other waiting =
         let more = IsUnderWay-more next from (omega arith) none in
-        let j : IsJoined s now true more.done next = simp waiting at more.joined in
-        IsJoined-turned s now more.done next (omega arith) (inside next from below) (simp (j.unwritten next j.order) at (other-embedding s.e (class_at now next) s.side is other)) j
+        grind (arith, IsJoined-turned s now more.done next, inside next, other-embedding s.e (class_at now next))
 
 -- nothing waits
 pub IsAtOpposite-quiet : (s : Unjoined) (now : List BidiClass) (w : Join) (done from next end : ℕ) → IsJoined s now false done from → w.waits ≡ false → from ≤ next → next ≤ end → end ≤ length s.old
     → ((k : ℕ) → from ≤ k → k < next → stands_for (opposite_of s.e) (class_at now k) ≡ false) → (next < end → stands_for (opposite_of s.e) (class_at now next) ≡ true) → IsAtOpposite s now w next end
-IsAtOpposite-quiet s now w done from next end j idle low high fits none is =
-    let q = IsJoined-quiet s now done from next low (omega arith) (λ k a b. ap (stands_for (opposite_of s.e)) (sym (j.unwritten k (let order = j.order in omega arith))) ∙ none k a b) j in
-    let at : IsJoined s now w.waits next next = simp idle q in
-    record {
-      there = λ some. (at, is some);
-      ended = λ past. grind arith;
-    }
+IsAtOpposite-quiet s now w done from next end j idle low high fits none is = grind (
+  arith,
+  IsJoined-quiet s now done from next,
+  j.unwritten,
+)
 
 -- a stretch of it
 pub IsUnderWay-stretch : (s : Unjoined) (now : List BidiClass) (w : Join) (waits : Bool) (run at next : ℕ) → w.waits ≡ true → w.first ≡ next → w.first_run ≡ run → run < length s.runs → (get_or s.runs run (0, 0)).0 ≤ at → next ≤ (get_or s.runs run (0, 0)).1
     → next ≤ length s.old → at < next → ((k : ℕ) → at ≤ k → k < next → stands_for (opposite_of s.e) (class_at now k) ≡ true) → IsJoined s now waits at at → IsUnderWay s now w next
-IsUnderWay-stretch s now w waits run at next waiting first_is run_is fits from upto within some all j = record {
-  done = next;
-  joined = simp waiting
-      (IsJoined-stretch s now waits at next some within (in_runs-at run s.runs at fits from (omega arith)) (λ k a b. ap (stands_for (opposite_of s.e)) (sym (j.unwritten k a)) ∙ all k a b) j);
-  named = λ _. grind (arith, in_runs-drop);
-}
+IsUnderWay-stretch s now w waits run at next waiting first_is run_is fits from upto within some all j =
+    grind (arith, in_runs-drop, IsJoined-stretch s now waits at next, in_runs-at run s.runs at)
 
 -- ---- between runs
 
@@ -105,14 +95,13 @@ module _ (s : Unjoined) where
       → (w.waits ≡ true → IsWrittenOver (is_seen (drop w.first_run s.runs) now) (opposite_of s.e) w.first size now new) → (w.waits ≡ false → new ≡ now) → IsUnderWay s now w size → IsFinished new
   IsFinished-opposite now new w side is held idle u = elim (cases_Bool w.waits) [
     | inl yes' ↦
-        let j : IsJoined s now true u.done size = simp yes' at u.joined in
         let over = over-old s now w size new u yes' (held yes') in
         grind (
           arith,
-          finished-opposite s now new u.done (grind arith) over j,
-          j.unseen,
-          over.failing,
-          own-after (is_seen s.runs s.old) (opposite_of s.e) u.done size s.old now new over j.own,
+          finished-opposite s now new u.done,
+          over,
+          u.joined,
+          own-after (is_seen s.runs s.old) (opposite_of s.e) u.done size s.old now new,
         )
     | inr no' ↦ grind (arith, finished-quiet)
   ]

@@ -1,18 +1,9 @@
 -- The characters of runs that the passes take as kept, one after another.
-use Rattle.std.proofs.Common.{◌≡◌, ℕ, ◌+◌, ◌-◌, ◌<◌, ◌≤◌, true, List, [], ◌∷◌, ◌++◌, length, map, get_or, take, refl, subst, arith, append-nil}
-use Rattle.std.specs.List.{range_with_len}
-use Rattle.std.proofs.lemmas.Grind.{flat_map-append}
-use Rattle.std.proofs.lemmas.List.{get_or-map, length-map, map-append, take_more}
-use Rattle.std.proofs.lemmas.List.Elements.{All-get_or, All-head, All-tail, filter-append}
-use Rattle.std.specs.declared.ops.Range.{Range}
+use Rattle.bidi_base.proofs.Common.{◌≡◌, ℕ, ◌+◌, ◌-◌, ◌<◌, ◌≤◌, true, List, [], ◌∷◌, ◌++◌, length, map, get_or, take, refl, arith, append-nil, range_with_len, flat_map-append, get_or-map, length-map, map-append, take_more, All-get_or, All-head, All-tail, filter-append, Range, is_kept_in_place, between, class_at, place, IsLine, char_index, are_ordered, are_ordered_from, bounds, chars_in_runs, kept_in_place, AreLines}
 use Rattle.bidi_base.specs.declared.char_data.BidiClass.{BidiClass}
-use Rattle.bidi_base.specs.Classes.{is_kept_in_place}
-use Rattle.bidi_base.specs.Places.{between, class_at}
-use Rattle.bidi_base.specs.Text.{place, IsLine, char_index}
-use Rattle.bidi_base.specs.Units.{are_ordered, are_ordered_from, bounds, chars_in_runs, kept_in_place, AreLines}
 use Rattle.bidi_base.proofs.TextLemmas.{HasUnits}
-use Rattle.bidi_base.proofs.PermutationLemmas.{Ascends, Ascends-filter, Ascends-lower, Ascends-range}
 use Rattle.bidi_base.proofs.PlaceLemmas.{char_index-le, line_places, place-le-back}
+use Rattle.bidi_base.proofs.PermutationLemmas.{Ascends-filter, Ascends-lower, Ascends-range, Ascends}
 use Rattle.bidi_rules.specs.NeutralPass.{kept_among}
 use Rattle.bidi_rules.proofs.WalkLemmas.{are_ordered-front}
 
@@ -67,9 +58,16 @@ module _ (len_of : ℕ → ℕ) (h : HasUnits len_of) (chars : List ℕ) where
       let j = char_index len_of chars r.1 in
       let f = are_ordered-front (place len_of chars a) r runs ordered in
       let w = line_places len_of h chars r.0 r.1 (All-head (λ (q : ℕ × ℕ). IsLine len_of chars q.0 q.1) r runs lines) in
-      Ascends-append a j (length chars) (between i j) _
-      (Ascends-lower a i j (between i j) (place-le-back len_of chars h a i within (omega (arith, f.from, w.begins))) (Ascends-range i (j - i) j (omega (arith, w.ordered))))
-      (chars-all j runs (All-tail (λ (q : ℕ × ℕ). IsLine len_of chars q.0 q.1) r runs lines) (subst (λ (u : ℕ). are_ordered_from u runs ≡ true) w.ends f.later) (char_index-le len_of chars r.1))
+      let rest = chars-all j runs (All-tail (λ (q : ℕ × ℕ). IsLine len_of chars q.0 q.1) r runs lines) in
+      grind (
+        arith,
+        Ascends-append a j (length chars) (between i j),
+        Ascends-lower a i j (between i j),
+        place-le-back len_of chars h a i,
+        Ascends-range i (j - i) j,
+        rest,
+        char_index-le len_of chars r.1,
+      )
 
   module _ (units : List BidiClass) where
     pub kept_in_place-Ascends : (runs : List (ℕ × ℕ)) → AreLines len_of chars runs → are_ordered runs ≡ true → Ascends 0 (kept_in_place len_of chars units runs) (length chars)

@@ -1,16 +1,6 @@
 -- The level runs that cover a paragraph, one by one: as ranges of characters, and of units.
-use Rattle.std.proofs.Common.{◌≡◌, ℕ, zero, suc, ◌+◌, ◌-◌, ◌<◌, ◌≤◌, true, false, List, [], ◌∷◌, ◌++◌, length, map, get_or, refl, sym, ap, ◌∙◌, arith, ◌⊎◌, inl, inr, length-append, rules}
-use Rattle.std.specs.Prelude.{filter}
-use Rattle.std.specs.List.{range_with_len}
-use Rattle.std.proofs.lemmas.Bool.{cases_Bool}
-use Rattle.std.proofs.lemmas.List.{map-append, get_or-map, length-map}
-use Rattle.std.proofs.lemmas.List.Elements.{filter-append}
-use Rattle.std.proofs.lemmas.Grind.{flat_map-append}
+use Rattle.bidi_base.proofs.Common.{◌≡◌, ℕ, zero, suc, ◌+◌, ◌-◌, ◌<◌, ◌≤◌, true, false, List, [], ◌∷◌, ◌++◌, length, map, get_or, refl, sym, ap, arith, ◌⊎◌, length-append, rules, filter, range_with_len, cases_Bool, map-append, get_or-map, length-map, filter-append, flat_map-append, indexes, is_kept_at, begins_run, run_starts, place, text_len, ranges_between, level_run_ranges, chars_in_runs, kept_in_runs}
 use Rattle.bidi_base.specs.declared.char_data.BidiClass.{BidiClass}
-use Rattle.bidi_base.specs.Places.{indexes}
-use Rattle.bidi_base.specs.Sequences.{is_kept_at, begins_run, run_starts}
-use Rattle.bidi_base.specs.Text.{place, text_len}
-use Rattle.bidi_base.specs.Units.{ranges_between, level_run_ranges, chars_in_runs, kept_in_runs}
 use Rattle.bidi_base.proofs.TextLemmas.{HasUnits}
 use Rattle.bidi_base.proofs.PlaceLemmas.{place-end, char_index-place}
 use Rattle.bidi_base.proofs.SuccessorLemmas.{kept_before-is_None}
@@ -38,10 +28,12 @@ module _ (classes : List BidiClass) (levels : List ℕ) where
   cut : (low m a : ℕ) → a < low → low + m ≡ length classes → (a ≡ 0) ⊎ (begins_run classes levels a ≡ true) → ((k : ℕ) → a < k → k < low → begins_run classes levels k ≡ false)
       → AreLevelRuns a (filter (begins_run classes levels) (range_with_len low m))
   cut low zero a before all starts none = grind arith
-  cut low (suc m) a before all starts none = elim (cases_Bool (begins_run classes levels low)) [
-    | inl here ↦ simp here (record { not_empty = before; within = omega arith; starts = starts; inside = none; stops = inr here }, cut (low + 1) m low (omega arith) (omega arith) (inr here) (λ k from below. absurd (omega arith)))
-    | inr other ↦ simp other (cut (low + 1) m a (omega arith) (omega arith) starts (λ k from below. grind arith))
-  ]
+  cut low (suc m) a before all starts none = grind (
+    arith,
+    cases_Bool (begins_run classes levels low),
+    cut (low + 1) m low,
+    cut (low + 1) m a,
+  )
 
   begins_run-zero : begins_run classes levels 0 ≡ false
   unfolding begins_run
@@ -85,12 +77,12 @@ level_run_ranges-at len_of chars classes levels k d long within =
     let n : ℕ = length classes in
     let last : text_len len_of chars ≡ place len_of chars n = sym (place-end len_of chars n (omega arith)) in
     let both : length (starts ++ n ∷ []) ≡ length starts + 1 = length-append starts (n ∷ []) in
-    ranges_between-at (map (place len_of chars) starts) (text_len len_of chars) k d (omega (arith, within, length-map starts (place len_of chars)))
-    ∙ simp (
-      last,
-      ← map-append (place len_of chars) starts (n ∷ []),
-      get_or-map (place len_of chars) (starts ++ n ∷ []) k 0 0 (omega (arith, within)),
-      get_or-map (place len_of chars) (starts ++ n ∷ []) (suc k) 0 0 (omega (arith, within)),
+    grind (
+      arith,
+      ranges_between-at (map (place len_of chars) starts) (text_len len_of chars) k d,
+      length-map,
+      map-append (place len_of chars) starts (n ∷ []),
+      get_or-map (place len_of chars) (starts ++ n ∷ []),
     )
 
 pub length-level_run_ranges : (len_of : ℕ → ℕ) (chars : List ℕ) (classes : List BidiClass) (levels : List ℕ) → length (level_run_ranges len_of chars classes levels) ≡ length (run_starts classes levels)

@@ -1,12 +1,6 @@
 -- Searches through runs for a direction, forwards and backwards.
-use Rattle.std.proofs.Common.{◌≡◌, ℕ, ◌+◌, ◌<◌, ◌≤◌, true, false, List, length, map, get_or, take, drop, Some, None, ap, ◌∙◌, arith, inl}
-use Rattle.std.proofs.lemmas.Grind.{common_steps}
-use Rattle.std.specs.declared.ops.Range.{Range}
-use Rattle.std.proofs.lemmas.List.{get_or-map, length-map, drop_more}
+use Rattle.bidi_base.proofs.Common.{◌≡◌, ℕ, ◌+◌, ◌<◌, ◌≤◌, true, false, List, length, map, get_or, take, drop, Some, None, ap, ◌∙◌, arith, inl, common_steps, Range, get_or-map, length-map, drop_more, as_direction, stands_for, class_at, bounds, are_ordered, in_runs}
 use Rattle.bidi_base.specs.declared.char_data.BidiClass.{BidiClass}
-use Rattle.bidi_base.specs.Classes.{as_direction, stands_for}
-use Rattle.bidi_base.specs.Places.{class_at}
-use Rattle.bidi_base.specs.Units.{bounds, are_ordered, in_runs}
 use Rattle.bidi_rules.specs.PairWalk.{IsFirstFor, IsNearestBefore}
 use Rattle.bidi_rules.proofs.InRuns.{in_runs-at, in_runs-drop, in_runs-take}
 use Rattle.bidi_rules.proofs.KeptRuns.{no_range}

@@ -1,33 +1,18 @@
 -- The steps of N0 and N1 over a sequence, one after the other.
-use Rattle.std.proofs.Common.{◌≡◌, ℕ, ◌+◌, ◌<◌, ◌≤◌, Bool, true, false, ◌&&◌, if◌then◌else◌, List, [], ◌∷◌, length, map, find, slice_get, Option, Some, None, refl, sym, ap, ◌∙◌, arith, ◌⊎◌, rules}
-use Rattle.std.specs.Prelude.{All}
-use Rattle.std.specs.List.{list_all}
-use Rattle.std.specs.declared.ops.Range.{Range}
-use Rattle.std.proofs.lemmas.Bool.{cases_Bool, cases_lt, and_parts, and_left, and_right}
-use Rattle.std.proofs.lemmas.List.{nil_from_length, length-map, get_or_past}
-use Rattle.std.proofs.lemmas.List.FromFn.{length-range_with_len, get_or-map-range_with_len}
+use Rattle.bidi_base.proofs.Common.{◌≡◌, ℕ, ◌+◌, ◌<◌, ◌≤◌, Bool, true, false, ◌&&◌, if◌then◌else◌, List, [], ◌∷◌, length, map, find, slice_get, Option, Some, None, refl, sym, ap, ◌∙◌, arith, ◌⊎◌, rules, All, list_all, Range, cases_Bool, cases_lt, and_parts, and_left, and_right, nil_from_length, length-map, get_or_past, length-range_with_len, get_or-map-range_with_len, bracket_pairs, is_l_or_r, is_kept_in_place, is_weak_resolved, direction_of, n0, n1_rule, n1_n2, n2_rule, neutral_classes, at_places, class_at, first_or, indexes, level_at, Source, place, text_len, is_per_char, per_unit, IsPerChar, bounds, in_runs, kept_in_place, units_in_runs, AreLines}
 use Rattle.bidi_base.specs.declared.char_data.BidiClass.{BidiClass}
 use Rattle.bidi_base.specs.declared.char_data.BidiClass.TheVariants.{L, BN}
 use Rattle.bidi_base.specs.declared.data_source.BidiMatchedOpeningBracket.{BidiMatchedOpeningBracket}
-use Rattle.bidi_base.specs.Brackets.{bracket_pairs}
-use Rattle.bidi_base.specs.Classes.{is_l_or_r, is_kept_in_place, is_weak_resolved}
-use Rattle.bidi_base.specs.Levels.{direction_of}
-use Rattle.bidi_base.specs.Neutral.{n0, n1_rule, n1_n2, n2_rule, neutral_classes}
-use Rattle.bidi_base.specs.Places.{at_places, class_at, first_or, indexes}
-use Rattle.bidi_base.specs.Sequences.{level_at}
-use Rattle.bidi_base.specs.Source.{Source}
-use Rattle.bidi_base.specs.Text.{place, text_len, is_per_char, per_unit, IsPerChar}
-use Rattle.bidi_base.specs.Units.{bounds, in_runs, kept_in_place, units_in_runs, AreLines}
 use Rattle.bidi_base.proofs.NeutralLemmas.{n0-resolved}
 use Rattle.bidi_base.proofs.PermutationLemmas.{Ascends}
 use Rattle.bidi_base.proofs.PerCharTests.{class_eq, class_test}
 use Rattle.bidi_base.proofs.PlaceLemmas.{place-lt, place-end}
 use Rattle.bidi_base.proofs.PlacesLemmas.{length-in_context}
 use Rattle.bidi_base.proofs.Repeated.{HaveUnits}
-use Rattle.bidi_base.proofs.RepeatedRules.{n1_n2-per_unit}
-use Rattle.bidi_base.proofs.ResolvedLemmas.{length-n0}
 use Rattle.bidi_base.proofs.TextLemmas.{HasUnits, is_boundary-le}
 use Rattle.bidi_base.proofs.UnitsLemmas.{IsPerChar-from_is_per_char, is_per_char-from_IsPerChar, length-from_IsPerChar}
+use Rattle.bidi_base.proofs.RepeatedRules.{n1_n2-per_unit}
+use Rattle.bidi_base.proofs.ResolvedLemmas.{length-n0}
 use Rattle.bidi_rules.specs.declared.prepare.lent.LentSequence.{LentSequence}
 use Rattle.bidi_rules.specs.NeutralPass.{seen_units, values_of, pairs_in, IsPaired, IsReady}
 use Rattle.bidi_rules.specs.PairWalk.{opposite_of}
@@ -46,13 +31,7 @@ pub IsReady-sequence : (len_of : ℕ → ℕ) → HasUnits len_of → (chars : L
     → is_per_char class_eq len_of chars old ≡ true → AreLines len_of chars (map bounds (lent_runs sequence))
     → list_all is_weak_resolved (values_of L len_of chars old (kept_in_place len_of chars old (map bounds (lent_runs sequence)))) ≡ true → IsReady len_of chars runs sos old
 IsReady-sequence len_of h chars sequence runs sos old runs_is sos_is per lines resolved =
-    simp (runs_is, sos_is) (record {
-      ordered = is_run_sequence-ordered (map bounds sequence.runs.now) sequence.sos sequence.eos sequence.well_formed;
-      lines = lines;
-      per_char = IsPerChar-from_is_per_char class_eq class_test len_of h chars old per;
-      side = grind (arith, and_parts);
-      resolved = resolved;
-    })
+    grind (arith, is_run_sequence-ordered, IsPerChar-from_is_per_char, class_eq, class_test, and_parts)
 
 pub eos-side : (sequence : LentSequence) (eos : BidiClass) → eos ≡ lent_eos sequence → is_l_or_r eos ≡ true
 eos-side sequence eos is = grind (arith, and_parts)
@@ -190,8 +169,7 @@ module _ (len_of : ℕ → ℕ) (h : HasUnits len_of) (chars : List ℕ) (source
     -- N1 over the units then
     pub IsUpToN1-paired : (levels : List ℕ) (first : ℕ) → Some first ≡ find (λ u. is_kept_in_place (class_at old u)) (units_in_runs rs) → e ≡ direction_of (level_at levels first) → IsUpToN1 len_of chars source levels original old new runs sos eos
     IsUpToN1-paired levels first found is =
-        let read = kept_in_place len_of chars old rs in
-        let places = map (place len_of chars) read in
+        let places = map (place len_of chars) (kept_in_place len_of chars old rs) in
         let everywhere = map (n2_rule e) new in
         let ruled : at_places L everywhere places ≡ n1_n2 e sos eos (at_places L mid places) =
         simp same_read at

@@ -1,12 +1,5 @@
 -- The characters of some runs stand in the runs.
-use Rattle.std.proofs.Common.{◌≡◌, ℕ, zero, suc, ◌+◌, ◌-◌, ◌<◌, ◌≤◌, Bool, true, List, [], ◌∷◌, arith}
-use Rattle.std.specs.Prelude.{filter, All}
-use Rattle.std.specs.List.{range_with_len}
-use Rattle.std.proofs.lemmas.Bool.{or_right}
-use Rattle.std.proofs.lemmas.List.Elements.{All-append, All-cons, All-nil, All-head, All-tail, All-weaker, filter_passes}
-use Rattle.bidi_base.specs.Places.{between}
-use Rattle.bidi_base.specs.Text.{place, char_index, IsLine}
-use Rattle.bidi_base.specs.Units.{chars_in_runs, in_runs, AreLines}
+use Rattle.bidi_base.proofs.Common.{◌≡◌, ℕ, zero, suc, ◌+◌, ◌-◌, ◌<◌, ◌≤◌, Bool, true, List, [], ◌∷◌, arith, filter, All, range_with_len, or_right, All-append, All-cons, All-nil, All-head, All-tail, All-weaker, filter_passes, between, place, char_index, IsLine, chars_in_runs, in_runs, AreLines}
 use Rattle.bidi_base.proofs.PlaceLemmas.{line_places, place-lt, place-mono}
 use Rattle.bidi_base.proofs.TextLemmas.{HasUnits}
 use Rattle.bidi_rules.proofs.InRuns.{in_run, in_run-inside}
@@ -16,8 +9,7 @@ all_pass = filter_passes
 
 all_between : (test : ℕ → Bool) (low n : ℕ) → ((k : ℕ) → low ≤ k → k < low + n → test k ≡ true) → All (λ k. test k ≡ true) (range_with_len low n)
 all_between test low zero each = All-nil (λ k. test k ≡ true)
-all_between test low (suc n) each =
-    All-cons (λ k. test k ≡ true) low (range_with_len (low + 1) n) (each low (omega arith) (omega arith)) (all_between test (low + 1) n (λ k from below. each k (omega arith) (omega arith)))
+all_between test low (suc n) each = grind (arith, All-cons, each low, all_between test (low + 1) n)
 
 module _ (len_of : ℕ → ℕ) (h : HasUnits len_of) (chars : List ℕ) where
   -- the characters of runs stand in the runs

@@ -1,23 +1,8 @@
 -- A sequence in which each class is a neutral or one direction, which stands at its ends too: N2 alone is left.
-use Rattle.std.proofs.Common.{◌≡◌, ℕ, Bool, true, false, List, [], ◌∷◌, length, map, find, Option, Some, refl, sym, ap, ◌∙◌, arith}
-use Rattle.std.specs.Prelude.{filter, All}
-use Rattle.std.specs.List.{list_all}
-use Rattle.std.specs.declared.ops.Range.{Range}
-use Rattle.std.proofs.lemmas.Bool.{cases_Bool}
-use Rattle.std.proofs.lemmas.List.{length-map}
-use Rattle.std.proofs.lemmas.List.Elements.{All-head, All-tail, All-nil, All-cons, All-map}
+use Rattle.bidi_base.proofs.Common.{◌≡◌, ℕ, Bool, true, false, List, [], ◌∷◌, map, find, Option, Some, refl, arith, filter, All, list_all, Range, cases_Bool, length-map, All-head, All-tail, All-nil, All-cons, All-map, bracket_pairs, is_l_or_r, is_kept_in_place, is_weak_resolved, same_class, direction_of, n2_rule, neutral_classes, at_places, class_at, level_at, Source, place, bounds, chars_in_runs, in_runs, kept_in_place, units_in_runs}
 use Rattle.bidi_base.specs.declared.char_data.BidiClass.{BidiClass}
 use Rattle.bidi_base.specs.declared.char_data.BidiClass.TheVariants.{L}
 use Rattle.bidi_base.specs.declared.data_source.BidiMatchedOpeningBracket.{BidiMatchedOpeningBracket}
-use Rattle.bidi_base.specs.Brackets.{bracket_pairs}
-use Rattle.bidi_base.specs.Classes.{is_l_or_r, is_kept_in_place, is_weak_resolved, same_class}
-use Rattle.bidi_base.specs.Levels.{direction_of}
-use Rattle.bidi_base.specs.Neutral.{n2_rule, neutral_classes}
-use Rattle.bidi_base.specs.Places.{at_places, class_at}
-use Rattle.bidi_base.specs.Sequences.{level_at}
-use Rattle.bidi_base.specs.Source.{Source}
-use Rattle.bidi_base.specs.Text.{place}
-use Rattle.bidi_base.specs.Units.{bounds, chars_in_runs, in_runs, kept_in_place, units_in_runs}
 use Rattle.bidi_base.proofs.OneDirection.{goes_with, itself, neutral_classes-one, same_lists}
 use Rattle.bidi_base.proofs.PerCharTests.{class_test}
 use Rattle.bidi_base.proofs.TextLemmas.{HasUnits}
@@ -76,11 +61,15 @@ module _ (len_of : ℕ → ℕ) (h : HasUnits len_of) (chars : List ℕ) (runs :
     kept-one level source brackets is =
         let classes = values_of L len_of chars old read in
         let all = all_go e side old places ready.resolved (at_read (λ u. turns_from e (class_at old u) ≡ false) (λ u inside reads. keeps u inside)) in
-        ap (λ (d : BidiClass). map (n2_rule d) classes) (sym is)
-        ∙ same_lists e side (map (n2_rule e) classes) (neutral_classes level e e source brackets classes)
-        (all_same e side classes all)
-        (neutral_classes-one e side level source brackets classes is all)
-        (length-map classes (n2_rule e) ∙ sym (ap length (sym (neutral_classes-is e e e level source classes brackets is)) ∙ length-resolved e e e source classes (bracket_pairs classes brackets)))
+        grind (
+          arith,
+          same_lists e side (map (n2_rule e) classes) (neutral_classes level e e source brackets classes),
+          all_same e side classes all,
+          neutral_classes-one e side level source brackets classes is all,
+          length-map classes (n2_rule e),
+          neutral_classes-is e e e level source classes brackets is,
+          length-resolved e e e source classes (bracket_pairs classes brackets),
+        )
 
     pub IsUpToN1-one : (source : Source) (levels : List ℕ) (original : List BidiClass) (eos : BidiClass) (first : ℕ) → sos ≡ e → eos ≡ e → Some first ≡ find (λ u. is_kept_in_place (class_at old u)) (units_in_runs rs)
         → e ≡ direction_of (level_at levels first) → IsUpToN1 len_of chars source levels original old old runs sos eos

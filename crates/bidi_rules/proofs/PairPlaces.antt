@@ -1,19 +1,10 @@
 -- N0 over the units of a sequence, pair by pair: what a search over units says of the characters between two brackets and before them, and what is written.
-use Rattle.std.proofs.Common.{◌≡◌, ℕ, zero, suc, ◌+◌, ◌-◌, ◌<◌, ◌≤◌, true, false, ltb, List, length, map, get_or, take, drop, reverse, slice_range, Some, None, refl, sym, ap, ◌∙◌, arith, inl, inr, lt-ltb, le-ltb, length-take, length-drop, get_or-take, get_or-drop}
+use Rattle.bidi_base.proofs.Common.{◌≡◌, ℕ, zero, suc, ◌+◌, ◌-◌, ◌<◌, ◌≤◌, true, false, ltb, List, length, map, get_or, take, drop, reverse, Some, None, refl, sym, ap, ◌∙◌, arith, inl, inr, lt-ltb, le-ltb, length-take, length-drop, get_or-take, get_or-drop, list_any, Range, cases_lt, list_any_at, list_any_none, as_direction, is_kept_in_place, stands_for, AreNestedPairs, nearest_direction, class_at, IsPerChar, bounds, in_runs, kept_in_place}
+use Rattle.std.proofs.Common.{slice_range}
 use Rattle.std.proofs.Math.Numerals.{add-one}
-use Rattle.std.specs.List.{list_any}
-use Rattle.std.specs.declared.ops.Range.{Range}
-use Rattle.std.proofs.lemmas.Bool.{cases_lt}
 use Rattle.std.proofs.lemmas.List.Elements.{All-from_get_or}
-use Rattle.std.proofs.lemmas.List.Folds.{list_any_at, list_any_none}
 use Rattle.bidi_base.specs.declared.char_data.BidiClass.{BidiClass}
 use Rattle.bidi_base.specs.declared.char_data.BidiClass.TheVariants.{L}
-use Rattle.bidi_base.specs.Classes.{as_direction, is_kept_in_place, stands_for}
-use Rattle.bidi_base.specs.Brackets.{AreNestedPairs}
-use Rattle.bidi_base.specs.Neutral.{nearest_direction}
-use Rattle.bidi_base.specs.Places.{class_at}
-use Rattle.bidi_base.specs.Text.{IsPerChar}
-use Rattle.bidi_base.specs.Units.{bounds, in_runs, kept_in_place}
 use Rattle.bidi_base.proofs.NeutralLemmas.{nearest_direction-more}
 use Rattle.bidi_base.proofs.PlacesLemmas.{reverse-take_more}
 use Rattle.bidi_base.proofs.TextLemmas.{HasUnits}
@@ -32,17 +23,21 @@ directed-kept c d e = grind arith
 -- the nearest direction before an index, by its place
 nearest-none : (sos : BidiClass) (cs : List BidiClass) (i : ℕ) → i ≤ length cs → ((k : ℕ) → k < i → as_direction (class_at cs k) ≡ None) → nearest_direction sos (reverse (take i cs)) ≡ sos
 nearest-none sos cs zero fits none = refl
-nearest-none sos cs (suc i) fits none =
-    simp (← add-one i, reverse-take_more cs i L (omega arith), none i (omega arith)) (nearest-none sos cs i (omega arith) (λ k below. none k (omega arith)))
+nearest-none sos cs (suc i) fits none = grind (arith, add-one i, reverse-take_more cs i L, none i, nearest-none sos cs i)
 
 nearest-at : (sos d : BidiClass) (cs : List BidiClass) (i x : ℕ) → i ≤ length cs → x < i → as_direction (class_at cs x) ≡ Some d → ((k : ℕ) → x < k → k < i → as_direction (class_at cs k) ≡ None)
     → nearest_direction sos (reverse (take i cs)) ≡ d
 nearest-at sos d cs zero x fits before is none = absurd (omega arith)
 nearest-at sos d cs (suc i) x fits before is none =
-    simp (← add-one i, reverse-take_more cs i L (omega arith), nearest_direction-more) (elim (cases_lt x i) [
-      | inl earlier ↦ simp (none i earlier (omega arith)) (nearest-at sos d cs i x (omega arith) earlier is (λ k a b. none k a (omega arith)))
-      | inr here ↦ grind arith
-    ])
+    grind (
+      arith,
+      add-one i,
+      reverse-take_more cs i L,
+      nearest_direction-more,
+      cases_lt x i,
+      none i,
+      nearest-at sos d cs i x,
+    )
 
 -- the pair at an index
 abbrev pub pair_at : List (ℕ × ℕ) → ℕ → ℕ × ℕ
@@ -101,9 +96,19 @@ module _ (len_of : ℕ → ℕ) (h : HasUnits len_of) (chars : List ℕ) (runs :
       let found = f.at less in
       let w = own r found.1 (stands-kept d (class_at now r) found.2) in
       let x = w.number in
-      let behind_i : i < x = grind (arith, found.0, w.from, w.below, order x i, starts i fits) in
-      let here : r ≡ at x = grind (arith, w.same, w.from, found.2, f.before (at x) (order i x behind_i w.fits), inside x w.fits) in
-      (x, w.fits, behind_i, here)
+      let behind_i : i < x = grind (arith, found.0, w.from, w.below, order x i, starts i fits) in (
+        x,
+        w.fits,
+        behind_i,
+        grind (
+          arith,
+          w.same,
+          w.from,
+          found.2,
+          f.before (at x) (order i x behind_i w.fits),
+          inside x w.fits,
+        ),
+      )
 
   -- so whether it lies before a closing says whether the direction stands between
   pub between : (d : BidiClass) (i j r : ℕ) → j < length ks → ((x : ℕ) → i < x → x < j → at x < r → stands_for d (class_at cs x) ≡ false) → (r < at j → (x : ℕ) × (i < x) × (x < j) × (stands_for d (class_at cs x) ≡ true))
@@ -114,10 +119,9 @@ module _ (len_of : ℕ → ℕ) (h : HasUnits len_of) (chars : List ℕ) (runs :
       elim (cases_lt r (at j)) [
         | inl less ↦
             let w = found less in
-            let y = w.0 - (i + 1) in
-            let place : i + 1 + y ≡ w.0 = omega (arith, w.1) in
-            let there = between_at cs i j y (omega (arith, count)) (omega (arith, w.1, w.2)) in
-            lt-ltb r (at j) less ∙ sym (list_any_at (stands_for d) part y L (omega (arith, w.1, w.2)) (ap (stands_for d) (there.0 ∙ ap (class_at cs) place) ∙ w.3))
+            let there = between_at cs i j (w.0 - (i + 1)) (omega (arith, count)) (omega (arith, w.1, w.2)) in
+            let place : i + 1 + (w.0 - (i + 1)) ≡ w.0 = omega (arith, w.1) in
+            grind (arith, lt-ltb r (at j) less, list_any_at (stands_for d) part (w.0 - (i + 1)) L)
         | inr past ↦
             le-ltb r (at j) past
             ∙ sym (list_any_none (stands_for d) part (All-from_get_or (λ c. stands_for d c ≡ false) part L (λ y below.
@@ -128,8 +132,7 @@ module _ (len_of : ℕ → ℕ) (h : HasUnits len_of) (chars : List ℕ) (runs :
   -- looked for between the two brackets alone
   pub looked-between : (d : BidiClass) (i j r : ℕ) → i < j → j < length ks → IsFirstFor d rs now (ends i) (at j) r → ltb r (at j) ≡ list_any (stands_for d) (slice_range cs (i + 1) j)
   looked-between d i j r less fits f =
-      between d i j r fits
-      (λ x after before lower. ap (stands_for d) (class-is x (omega arith)) ∙ f.before (at x) (order i x after (omega arith)) lower (inside x (omega arith)))
+      between d i j r fits (λ x after before lower. grind (arith, class-is x, f.before (at x), order i x, inside x))
       (λ found.
       let w = first-spot d i (at j) r (omega arith) f found in
       (w.0, w.2, spot-lower len_of h chars old rs ready.lines ready.ordered w.0 j (omega (arith, w.3)), ap (stands_for d) (class-is w.0 w.1 ∙ ap (class_at now) (sym w.3)) ∙ (f.at found).2))
@@ -137,11 +140,16 @@ module _ (len_of : ℕ → ℕ) (h : HasUnits len_of) (chars : List ℕ) (runs :
   -- ---- what a search backwards finds
   pub context-is : (i : ℕ) (d : BidiClass) → i < length ks → IsNearestBefore sos rs now (at i) d → d ≡ nearest_direction sos (reverse (take i cs))
   context-is i d fits (inl found) =
-      let u = found.0 in
-      let w = own u found.2 (directed-kept (class_at now u) d found.3) in
+      let w = own found.0 found.2 (directed-kept (class_at now found.0) d found.3) in
       let x = w.number in
       let early : x < i = spot-lower len_of h chars old rs ready.lines ready.ordered x i (omega (arith, found.1, w.from)) in
-      sym (nearest-at sos d cs i x (omega (arith, count)) early (ap as_direction (class-is x w.fits ∙ sym w.same) ∙ found.3)
-      (λ k after before. ap as_direction (class-is k (omega arith)) ∙ found.4 (at k) (omega (arith, order x k after (omega arith), w.below)) (rising k i before) (inside k (omega arith))))
+      sym (nearest-at sos d cs i x (omega (arith, count)) early (grind (arith, class-is x w.fits, w.same, found.3))
+      (λ k after before. grind (arith, class-is k, found.4 (at k), order x k after, w.below, rising k i before, inside k)))
   context-is i d fits (inr none) =
-      none.0 ∙ sym (nearest-none sos cs i (omega (arith, count)) (λ k before. ap as_direction (class-is k (omega arith)) ∙ none.1 (at k) (omega arith) (rising k i before) (inside k (omega arith))))
+      none.0 ∙ sym (nearest-none sos cs i (omega (arith, count)) (λ k before. grind (
+        arith,
+        class-is k,
+        none.1 (at k),
+        rising k i before,
+        inside k,
+      )))

@@ -1,24 +1,14 @@
 -- N0 over units, one pair after another: what is known ahead, and what a bracket and the marks behind it take.
-use Rattle.std.proofs.Common.{◌≡◌, ℕ, suc, ◌+◌, ◌<◌, ◌≤◌, Bool, true, false, ◌&&◌, ◌||◌, cond, eqb, ltb, List, [], ◌∷◌, length, map, get_or, take, reverse, slice_range, Option, Some, None, refl, sym, ap, ◌∙◌, arith, inl, inr, eq-eqb, ne_eqb, length-take, get_or-take, get_or-drop}
-use Rattle.std.specs.List.{list_all, list_any}
-use Rattle.std.specs.declared.ops.Range.{Range}
-use Rattle.std.proofs.lemmas.Bool.{cases_Bool, cases_lt, and_parts, and_from}
-use Rattle.std.proofs.lemmas.List.{get_or-map, length-map}
-use Rattle.std.proofs.lemmas.List.FromFn.{fill_by_all}
+use Rattle.bidi_base.proofs.Common.{◌≡◌, ℕ, suc, ◌+◌, ◌<◌, ◌≤◌, Bool, true, false, ◌&&◌, ◌||◌, cond, eqb, ltb, List, [], ◌∷◌, length, map, get_or, take, reverse, Option, Some, None, refl, sym, ap, ◌∙◌, arith, inl, inr, eq-eqb, ne_eqb, length-take, get_or-take, get_or-drop, list_all, list_any, Range, cases_Bool, cases_lt, and_parts, and_from, get_or-map, length-map, fill_by_all, AreNestedPairs, has_direction, is_kept_in_place, is_l_or_r, is_nsm, stands_for, is_mark_after, n0_pair, nearest_direction, pair_direction, class_at, is_boundary, place, text_len, IsPerChar, bounds, in_runs, kept_in_place}
+use Rattle.std.proofs.Common.{slice_range}
 use Rattle.bidi_base.specs.declared.char_data.BidiClass.{BidiClass}
 use Rattle.bidi_base.specs.declared.char_data.BidiClass.TheVariants.{L}
-use Rattle.bidi_base.specs.Brackets.{AreNestedPairs}
-use Rattle.bidi_base.specs.Classes.{has_direction, is_kept_in_place, is_l_or_r, is_nsm, stands_for}
-use Rattle.bidi_base.specs.Neutral.{is_mark_after, n0_pair, nearest_direction, pair_direction}
-use Rattle.bidi_base.specs.Places.{class_at}
-use Rattle.bidi_base.specs.Text.{is_boundary, place, text_len, IsPerChar}
-use Rattle.bidi_base.specs.Units.{bounds, in_runs, kept_in_place}
-use Rattle.bidi_base.proofs.BracketRules.{with_bracket, n0_pair-Some, n0_pair-None, n0-none, n0-more, pair_direction-tests}
-use Rattle.bidi_base.proofs.NeutralLemmas.{pair_direction-l_or_r}
-use Rattle.bidi_base.proofs.PairChanges.{goes_with_pair-within, is_mark_after-before, is_mark_after-stopped, n0_pair-elsewhere}
 use Rattle.bidi_base.proofs.PlaceLemmas.{is_boundary-place, place-mono, place-le}
 use Rattle.bidi_base.proofs.TextLemmas.{HasUnits}
 use Rattle.bidi_base.proofs.UnitsLemmas.{length-from_IsPerChar}
+use Rattle.bidi_base.proofs.BracketRules.{with_bracket, n0_pair-Some, n0_pair-None, n0-none, n0-more, pair_direction-tests}
+use Rattle.bidi_base.proofs.NeutralLemmas.{pair_direction-l_or_r}
+use Rattle.bidi_base.proofs.PairChanges.{goes_with_pair-within, is_mark_after-before, is_mark_after-stopped, n0_pair-elsewhere}
 use Rattle.bidi_rules.specs.NeutralPass.{values_of, IsPaired, IsReady}
 use Rattle.bidi_rules.specs.PairWalk.{at_spots, opposite_of, spot, IsAsked, IsFirstFor, IsMarksEnd, IsSet, IsTaken}
 use Rattle.bidi_rules.specs.declared.implicit.neutral.pairs.PairWalk.{PairWalk}
@@ -121,8 +111,7 @@ module _ (len_of : ℕ → ℕ) (h : HasUnits len_of) (chars : List ℕ) (origin
           let first = nested.0 k (0, 0) fits in
           record {
             ahead = λ m from inside_m none x after before upto.
-                let within = nested.0 m (0, 0) inside_m in
-                let here : x < length ks = omega (arith, within.1) in
+                let here : x < length ks = omega (arith, (nested.0 m (0, 0) inside_m).1) in
                 let from_x = order (pair_at pairs k).0 x (omega (arith, opens_upto (length ks) pairs k m nested from inside_m)) here in
                 simp (class-is x here) (elim (cases_lt (at x) next) [
                   | inl less ↦ simp (f.before (at x) from_x less (inside x here), ne_eqb (at x) next (λ e. omega arith))
@@ -172,12 +161,16 @@ module _ (len_of : ℕ → ℕ) (h : HasUnits len_of) (chars : List ℕ) (origin
     -- the character at which the marks end
     stop : end < length now → (x : ℕ) × (x < length ks) × (b < x) × (end ≡ at x) × (is_nsm (class_at sources x) ≡ false)
     stop less =
-        let s = e.stops less in
-        let o = owner len_of h chars old rs ready.lines ready.ordered now ready.per_char per end (sym (same-seen end) ∙ s.3) in
-        let x = o.number in
-        let here : end ≡ at x = grind (arith, s.1, o.from, o.below, place-is x o.fits, place-mono) in
-        let after : b < x = lower b x (omega (arith, starts b fits, s.2)) in
-        (x, o.fits, after, here, ap is_nsm (there-is original x o.fits ∙ ap (class_at original) (sym here)) ∙ s.4)
+        grind (
+          arith,
+          owner len_of h chars old rs ready.lines ready.ordered now ready.per_char per end,
+          same-seen end,
+          place-is,
+          place-mono,
+          lower b,
+          starts b fits,
+          there-is original,
+        )
 
     begins : at b < end
     begins = grind (arith, starts, place-le, total)
@@ -206,9 +199,6 @@ module _ (len_of : ℕ → ℕ) (h : HasUnits len_of) (chars : List ℕ) (origin
           ]
         ])
 
-    pub bracket-others : (u : ℕ) → is_seen rs old u ≡ false → class_at new u ≡ class_at now u
-    bracket-others u plain = w.failing u (same-seen u ∙ plain)
-
     pub bracket-kept : (u : ℕ) → is_kept_in_place (class_at new u) ≡ is_kept_in_place (class_at old u)
     bracket-kept u = by_range u from end (λ before. simp (w.below u before, kept u)) (λ after within. grind (arith, w.inside u after within, w.failing u, kept u, side-kept d side)) (λ past. simp (w.above u past, kept u))
 
@@ -231,6 +221,9 @@ module _ (len_of : ℕ → ℕ) (h : HasUnits len_of) (chars : List ℕ) (origin
                 grind (arith, alike, w.inside u, w.inside first, w.failing u, w.failing first, same_now)
           ]
         ])
+
+    pub bracketed : (values_of L len_of chars new ks ≡ with_bracket sources b (classes now) d) × ((u : ℕ) → is_seen rs old u ≡ false → class_at new u ≡ class_at now u) × ((u : ℕ) → is_kept_in_place (class_at new u) ≡ is_kept_in_place (class_at old u)) × IsPerChar len_of chars new
+    bracketed = (bracket-classes, λ u plain. w.failing u (same-seen u ∙ plain), bracket-kept, bracket-IsPerChar)
 
 -- ---- the pairs one after another
 
@@ -319,23 +312,13 @@ module _ (len_of : ℕ → ℕ) (h : HasUnits len_of) (chars : List ℕ) (origin
         → IsAsked d (map bounds runs) now marked (spots i) inside_of (spots j) known next answer
         → (answer ≡ list_any (stands_for d) (slice_range (cs_of now) (i + 1) j)) × Foresees len_of h chars original runs sos old ready pairs nested d (cs_of now) k next
     answered d marked known next answer mark_is f a = elim (cases_Bool marked) [
-      | inl yes' ↦
-          let l = a.looked yes' in (
-            l.1.2 ∙ looked-between len_of h chars runs sos old ready now w.done.per_char w.done.kept d i j l.1.0 within.0 within.1 l.1.1,
-            simp l.0 f,
-          )
+      | inl yes' ↦ grind (arith, a.looked yes', looked-between len_of h chars runs sos old ready now w.done.per_char w.done.kept d i j, within)
       | inr no' ↦
           let next_is : Foresees len_of h chars original runs sos old ready pairs nested d (cs_of now) k next × (spots i < next) = elim (cases_lt (spots i) known) [
-            | inl known' ↦ let same = a.kept no' known' in (simp same f, omega (arith, same))
-            | inr past ↦
-                let s = a.sought no' past in (
-                  Foresees-asked len_of h chars original runs sos old ready pairs nested d now w.done.per_char w.done.kept k (length now) next fits refl s,
-                  grind (arith, s.at, spot-behind len_of h chars old (map bounds runs) ready.lines ready.ordered i, within, opens, now-size),
-                )
-          ] in (
-            a.ahead no' ∙ Foresees-between len_of h chars original runs sos old ready pairs nested d now w.done.per_char w.done.kept k next fits next_is.0 (sym mark_is ∙ no') next_is.1,
-            next_is.0,
-          )
+            | inl known' ↦ grind (arith, a.kept no' known')
+            | inr past ↦ let s = a.sought no' past in grind (arith, s, Foresees-asked len_of h chars original runs sos old ready pairs nested d now w.done.per_char w.done.kept k (length now) next fits refl s, spot-behind len_of h chars old (map bounds runs) ready.lines ready.ordered i, within, opens, now-size)
+          ] in
+          grind (arith, a.ahead no', next_is, Foresees-between len_of h chars original runs sos old ready pairs nested d now w.done.per_char w.done.kept k next fits)
     ]
 
     -- what the pair takes, and what is known then
@@ -382,18 +365,12 @@ module _ (len_of : ℕ → ℕ) (h : HasUnits len_of) (chars : List ℕ) (origin
         let d_side : is_l_or_r d ≡ true = pair_direction-l_or_r e sos (cs_of now) (pair_at pairs k) d side ready.side takes in
         let i_fits : i < number = (let x = within in omega (arith, x.0, x.1)) in
         let long_now : length original ≡ length now = long ∙ length-from_IsPerChar len_of chars old ready.per_char ∙ sym now-size in
-        let mid_classes = bracket-classes len_of h chars original runs sos old ready now mid p.per_char p.kept d d_side i i_fits (spots i) first.0 refl long_now first.1.0 first.1.1 in
-        let mid_others = bracket-others len_of h chars original runs sos old ready now mid p.per_char p.kept d d_side i i_fits (spots i) first.0 refl long_now first.1.0 first.1.1 in
-        let mid_kept = bracket-kept len_of h chars original runs sos old ready now mid p.per_char p.kept d d_side i i_fits (spots i) first.0 refl long_now first.1.0 first.1.1 in
-        let mid_per = bracket-IsPerChar len_of h chars original runs sos old ready now mid p.per_char p.kept d d_side i i_fits (spots i) first.0 refl long_now first.1.0 first.1.1 in
-        let long_mid : length original ≡ length mid = long ∙ length-from_IsPerChar len_of chars old ready.per_char ∙ sym (length-from_IsPerChar len_of chars mid mid_per) in
-        let new_classes = bracket-classes len_of h chars original runs sos old ready mid new mid_per mid_kept d d_side j within.1 (spots j) last.0 refl long_mid last.1.0 last.1.1 in
+        let mid_is = bracketed len_of h chars original runs sos old ready now mid p.per_char p.kept d d_side i i_fits (spots i) first.0 refl long_now first.1.0 first.1.1 in
+        let long_mid : length original ≡ length mid = long ∙ length-from_IsPerChar len_of chars old ready.per_char ∙ sym (length-from_IsPerChar len_of chars mid mid_is.3) in
+        let new_is = bracketed len_of h chars original runs sos old ready mid new mid_is.3 mid_is.2 d d_side j within.1 (spots j) last.0 refl long_mid last.1.0 last.1.1 in
         let both : cs_of new ≡ n0_pair e sos from_sources (cs_of now) (pair_at pairs k) =
-        new_classes ∙ ap (λ (cs : List BidiClass). with_bracket from_sources j cs d) mid_classes ∙ sym (n0_pair-Some e sos from_sources (cs_of now) (pair_at pairs k) d takes) in
+        new_is.0 ∙ ap (λ (cs : List BidiClass). with_bracket from_sources j cs d) mid_is.0 ∙ sym (n0_pair-Some e sos from_sources (cs_of now) (pair_at pairs k) d takes) in
         let count = length-values_of len_of chars L now (kept_in_place len_of chars old (map bounds runs)) in
-        let kept = bracket-kept len_of h chars original runs sos old ready mid new mid_per mid_kept d d_side j within.1 (spots j) last.0 refl long_mid last.1.0 last.1.1 in
-        let others = bracket-others len_of h chars original runs sos old ready mid new mid_per mid_kept d d_side j within.1 (spots j) last.0 refl long_mid last.1.0 last.1.1 in
-        let per = bracket-IsPerChar len_of h chars original runs sos old ready mid new mid_per mid_kept d d_side j within.1 (spots j) last.0 refl long_mid last.1.0 last.1.1 in
         let embedding = Foresees-pair len_of h chars original runs sos old ready pairs nested e e (cs_of now) k new_walk.embedding.unit count fits a.embedding in
         let opposite = Foresees-pair len_of h chars original runs sos old ready pairs nested (opposite_of e) e (cs_of now) k new_walk.opposite.unit count fits a.opposite in
-        grind (arith, both, p, kept, others, mid_others, per, n0-more e sos from_sources (cs_of old) pairs k (0, 0) fits, embedding, opposite)
+        grind (arith, both, p, mid_is, new_is, n0-more e sos from_sources (cs_of old) pairs k (0, 0) fits, embedding, opposite)

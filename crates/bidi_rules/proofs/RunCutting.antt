@@ -1,16 +1,7 @@
 -- Level runs as a pass over the characters cuts them: what has ended, and where the run that is open began.
-use Rattle.std.proofs.Common.{◌≡◌, ℕ, suc, ◌+◌, ◌-◌, ◌<◌, true, false, cond, List, [], ◌∷◌, ◌++◌, length, Option, Some, None, refl, ◌∙◌, arith, append-nil}
-use Rattle.std.proofs.Math.Numerals.{add-one}
-use Rattle.std.proofs.lemmas.Grind.{common_steps}
-use Rattle.std.specs.Prelude.{filter, option_map}
-use Rattle.std.specs.List.{range_with_len}
-use Rattle.std.proofs.lemmas.List.{reverse-append, map-append}
-use Rattle.std.proofs.lemmas.List.Elements.{filter-append}
+use Rattle.bidi_base.proofs.Common.{◌≡◌, ℕ, ◌+◌, ◌<◌, true, false, cond, List, [], ◌∷◌, ◌++◌, length, Option, Some, None, refl, ◌∙◌, arith, append-nil, common_steps, filter, range_with_len, reverse-append, map-append, filter-append, indexes, is_kept_at, kept_before, level_at, begins_run, run_starts, place, text_len, ranges_between, level_run_ranges}
+use Rattle.std.specs.Prelude.{option_map}
 use Rattle.bidi_base.specs.declared.char_data.BidiClass.{BidiClass}
-use Rattle.bidi_base.specs.Places.{indexes}
-use Rattle.bidi_base.specs.Sequences.{is_kept_at, kept_before, level_at, begins_run, run_starts}
-use Rattle.bidi_base.specs.Text.{place, text_len}
-use Rattle.bidi_base.specs.Units.{ranges_between, level_run_ranges}
 use Rattle.bidi_base.proofs.PlacesLemmas.{range_with_len-more}
 use Rattle.bidi_rules.specs.ExplicitPass.{IsCutTo, differs, runs_before, run_start}
 
@@ -22,10 +13,7 @@ ranges_between-push x (z ∷ xs) y end = simp (ranges_between-push z xs y end)
 -- the kept character before the next place
 kept_before-more : (classes : List BidiClass) (k : ℕ) → kept_before classes (k + 1) ≡ cond (is_kept_at classes k) (Some k) (kept_before classes k)
 unfolding kept_before
-kept_before-more classes k =
-    let more : k + 1 - 0 ≡ suc (k - 0) = omega arith in
-    let last : 0 + (k - 0) ≡ k = omega arith in
-    simp (more, range_with_len-more 0 (k - 0), reverse-append, last)
+kept_before-more classes k = grind (arith, range_with_len-more 0 k, reverse-append) steps 400000
 
 pub run_starts-some : (classes : List BidiClass) (levels : List ℕ) → 0 < length classes → run_starts classes levels ≡ 0 ∷ filter (begins_run classes levels) (indexes classes)
 unfolding run_starts
@@ -53,10 +41,7 @@ module _ (len_of : ℕ → ℕ) (chars : List ℕ) (stored : List BidiClass) (le
   IsCutTo-start = grind arith steps 400000
 
   starts_more : (k : ℕ) → starts_below (k + 1) ≡ starts_below k ++ cond (begins_run stored levels k) (k ∷ []) []
-  starts_more k =
-      let last : 0 + k ≡ k = omega arith in
-      let more : range_with_len 0 (k + 1) ≡ range_with_len 0 k ++ k ∷ [] = simp add-one (simp last at (range_with_len-more 0 k)) in
-      simp (more, filter-append)
+  starts_more k = grind (arith, range_with_len-more 0 k, filter-append)
 
   starts_same : (k : ℕ) → begins_run stored levels k ≡ false → starts_below (k + 1) ≡ starts_below k
   starts_same k none = grind (arith, starts_more, append-nil) steps 400000

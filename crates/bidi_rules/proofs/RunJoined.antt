@@ -1,21 +1,9 @@
 -- The pass over level runs as ranges of units: what has been joined so far, and the sequences at the end.
-use Rattle.std.proofs.Common.{◌≡◌, ℕ, zero, suc, ◌+◌, ◌-◌, ◌<◌, ◌≤◌, false, cond, eqb, max, List, [], ◌∷◌, ◌++◌, length, map, get_or, set, append_assoc, Option, Some, None, refl, sym, ap, subst, ◌∙◌, arith, lt-ltb}
-use Rattle.std.specs.Prelude.{filter, flat_map, IfSome, All, IsPermutation}
-use Rattle.std.specs.List.{range_with_len, fold}
-use Rattle.std.proofs.lemmas.List.{length-map, map-append, map-set, get_or-map}
-use Rattle.std.proofs.lemmas.List.Elements.{All-push, All-set, All-get_or, All-weaker, All-nil, All-cons}
-use Rattle.std.proofs.lemmas.List.Folds.{flat_map-map}
-use Rattle.std.proofs.lemmas.List.Sorted.{IsPermutation-trans, IsPermutation-append_left, IsPermutation-append_right, IsPermutation-append_comm}
-use Rattle.std.proofs.lemmas.Grind.{flat_map-append}
+use Rattle.bidi_base.proofs.Common.{◌≡◌, ℕ, zero, suc, ◌+◌, ◌-◌, ◌<◌, ◌≤◌, false, cond, eqb, max, List, [], ◌∷◌, ◌++◌, length, map, get_or, set, append_assoc, Option, Some, None, refl, sym, ap, subst, ◌∙◌, arith, lt-ltb, filter, IfSome, All, range_with_len, length-map, map-append, map-set, get_or-map, All-push, All-get_or, All-weaker, All-nil, All-cons, flat_map-map, IsPermutation-trans, IsPermutation-append_left, IsPermutation-append_right, IsPermutation-append_comm, flat_map-append, is_initiator, direction_of, class_at, last_or, first_or, between, is_initiator_at, RunSequence, is_kept_at, kept_places, kept_before, level_at, level_or, start_class, end_class, with_ends, sequences, has_places, begins_run, run_starts, read_class, waiting_for, index_of, place, IsLine, kept_in_runs}
+use Rattle.std.specs.Prelude.{flat_map, IsPermutation}
+use Rattle.std.specs.List.{fold}
+use Rattle.std.proofs.lemmas.List.Elements.{All-set}
 use Rattle.bidi_base.specs.declared.char_data.BidiClass.{BidiClass}
-use Rattle.bidi_base.specs.Classes.{is_initiator}
-use Rattle.bidi_base.specs.Levels.{direction_of}
-use Rattle.bidi_base.specs.Places.{class_at, last_or, first_or, between}
-use Rattle.bidi_base.specs.Isolates.{is_initiator_at}
-use Rattle.bidi_base.specs.Sequences.{RunSequence, is_kept_at, kept_places, kept_before, level_at, level_or, start_class, end_class, with_ends, sequences, has_places, begins_run, run_starts}
-use Rattle.bidi_base.specs.SequencePass.{read_class, waiting_for, index_of}
-use Rattle.bidi_base.specs.Text.{place, IsLine}
-use Rattle.bidi_base.specs.Units.{kept_in_runs}
 use Rattle.bidi_base.proofs.ChainLemmas.{filter_range-none}
 use Rattle.bidi_base.proofs.TextLemmas.{HasUnits}
 use Rattle.bidi_base.proofs.PlaceLemmas.{place-mono, IsLine-places}
@@ -26,7 +14,7 @@ use Rattle.bidi_rules.specs.Joining.{JoinedRuns, no_runs, with_run, characters_o
 use Rattle.bidi_rules.proofs.RunCutting.{run_starts-some}
 use Rattle.bidi_rules.proofs.LevelRunLemmas.{kept_in_run, kept_in_runs-push}
 use Rattle.bidi_rules.proofs.RunUnits.{NoneKept, IsLast}
-use Rattle.bidi_base.proofs.OpenPass.{IsAt, IsAt-end}
+use Rattle.bidi_base.proofs.OpenPass.{IsAt-end, IsAt}
 use Rattle.bidi_rules.proofs.RunPass.{with_places, HasCome, HasCome-run}
 use Rattle.bidi_rules.proofs.RunJoining.{IsFirst, first_at, kept_before-first, rest_of, front_is, last_is, one_level, kept_before-next_run, level_beyond, end_is, came, begins_kept, begins_after}
 
@@ -35,8 +23,8 @@ longer : {X : Type 0} (out : List (List X)) (s : ℕ) (xs : List X) → s < leng
 longer [] s xs within = absurd (omega arith)
 longer {X} (ys ∷ out) zero xs within =
     simp append_assoc (IsPermutation-append_right ys (flat_map (λ zs. zs) out ++ xs) (xs ++ flat_map (λ zs. zs) out) (IsPermutation-append_comm (flat_map (λ zs. zs) out) xs))
-longer {X} (ys ∷ out) (suc s) xs within =
-    simp append_assoc (IsPermutation-append_right ys (flat_map (λ zs. zs) out ++ xs) (flat_map (λ zs. zs) (set out s (get_or out s [] ++ xs))) (longer out s xs (omega arith)))
+longer {X} (ys ∷ out) (suc s) xs within = simp append_assoc
+    (IsPermutation-append_right ys _ _ (longer out s xs (omega arith)))
 
 -- a run of units lies in the text and ends at a unit or before it
 pub record IsBefore (len_of : ℕ → ℕ) (chars : List ℕ) (end : ℕ) (r : ℕ × ℕ) : Type 0 where
@@ -175,14 +163,15 @@ module _ (len_of : ℕ → ℕ) (h : HasUnits len_of) (chars : List ℕ) (classe
       -- the run has come, and its characters were read
       pub IsJoined-more : (more : List JoinedRuns) (s : ℕ) (now : List (Option ℕ)) → more ≡ with_run g r sos eos out → s ≡ index_of g out → now ≡ read_range classes (l + 1) s a b waits → IsJoined len_of chars classes levels paragraph b (runs ++ r ∷ []) more now level
       IsJoined-more more s now grown at read =
-          simp grown (record {
-            state = state;
-            ends = ends_with g g-fits;
-            level_before = simp (level_is, kept_before-next_run classes levels paragraph a b l last);
-            lines = lines_with g g-fits;
-            shares = shares_with g g-fits;
-            fresh = λ e. absurd (omega (arith, range.not_empty));
-          })
+          grind (
+            arith,
+            state,
+            ends_with g g-fits,
+            kept_before-next_run classes levels paragraph a b l last,
+            lines_with g g-fits,
+            shares_with g g-fits,
+            range.not_empty,
+          )
         where
           state : IsAt classes levels b b (map places_of (with_run g r sos eos out)) now
           state =

@@ -1,23 +1,16 @@
 -- One level run after another comes to its sequence: what the pass over units keeps, and what it has at the end.
-use Rattle.std.proofs.Common.{◌≡◌, ℕ, zero, suc, ◌+◌, ◌-◌, ◌<◌, ◌≤◌, true, cond, eqb, max, List, [], ◌∷◌, length, Option, Some, None, refl, sym, ap, subst, ◌∙◌, arith, ◌⊎◌, inl, inr, eq-eqb, ne_eqb}
-use Rattle.std.specs.Prelude.{filter, find, if◌then◌else◌, is_some}
-use Rattle.std.specs.List.{range_with_len, fold}
-use Rattle.std.proofs.lemmas.Bool.{cases_eq, both_ways, and_parts}
+use Rattle.bidi_base.proofs.Common.{◌≡◌, ℕ, zero, suc, ◌+◌, ◌-◌, ◌<◌, ◌≤◌, true, cond, eqb, max, List, [], ◌∷◌, length, Option, Some, None, refl, sym, subst, arith, ◌⊎◌, inl, inr, filter, range_with_len, cases_eq, both_ways, and_parts, is_initiator, direction_of, class_at, last_or, between, is_initiator_at, is_kept_at, kept_before, level_at, end_class, begins_run, read_class, waiting_for}
+use Rattle.std.specs.Prelude.{find, if◌then◌else◌, is_some}
+use Rattle.std.specs.List.{fold}
 use Rattle.bidi_base.specs.declared.char_data.BidiClass.{BidiClass}
-use Rattle.bidi_base.specs.Classes.{is_initiator}
-use Rattle.bidi_base.specs.Levels.{direction_of}
-use Rattle.bidi_base.specs.Places.{class_at, last_or, between}
-use Rattle.bidi_base.specs.Isolates.{is_initiator_at}
-use Rattle.bidi_base.specs.Sequences.{is_kept_at, next_kept, kept_before, level_at, level_or, end_class, begins_run}
-use Rattle.bidi_base.specs.SequencePass.{read_class, waiting_for}
 use Rattle.bidi_base.proofs.PlacesLemmas.{find-between, find-between-None}
-use Rattle.bidi_base.proofs.SuccessorLemmas.{is_kept-initiator, next_kept-is, next_kept-is_None, kept_before-is, kept_before-is_None}
-use Rattle.bidi_base.proofs.RunsLemmas.{IsRun, IsLevelRun, IsRun-IsLevelRun, AllOfLevel, AllOfLevel-run}
 use Rattle.bidi_base.proofs.WaitingLemmas.{IsWaiting}
+use Rattle.bidi_base.proofs.OpenPass.{IsAt, IsAt-read}
+use Rattle.bidi_base.proofs.SuccessorLemmas.{is_kept-initiator, next_kept-is, next_kept-is_None, kept_before-is, kept_before-is_None}
+use Rattle.bidi_base.proofs.RunsLemmas.{AllOfLevel, AllOfLevel-run, IsLevelRun, IsRun-IsLevelRun}
 use Rattle.bidi_rules.specs.Joining.{read_range}
 use Rattle.bidi_rules.proofs.KeptRangeLemmas.{filter_range-first, last_or-range}
 use Rattle.bidi_rules.proofs.RunUnits.{NoneKept, IsLast}
-use Rattle.bidi_base.proofs.OpenPass.{IsAt, IsAt-read}
 use Rattle.bidi_rules.proofs.RunPass.{with_places, index_in, HasCome, IsWaiting-in_run}
 
 -- the first kept character of a run
@@ -60,19 +53,24 @@ module _ (classes : List BidiClass) (levels : List ℕ) (paragraph : ℕ) where
   rest_of f b = filter (is_kept_at classes) (range_with_len (f + 1) (b - (f + 1)))
 
   pub front_is : (a b f : ℕ) → IsLevelRun classes levels a b → IsFirst classes a b f → filter (is_kept_at classes) (range_with_len a (b - a)) ≡ f ∷ rest_of f b
-  front_is a b f range first =
-      let top : a + (b - a) ≡ b = omega (arith, range.not_empty) in
-      filter_range-first (is_kept_at classes) a (b - a) f first.kept first.from (omega (arith, first.below)) (λ k low high. first.none k low high)
-      ∙ ap (λ (x : ℕ). f ∷ filter (is_kept_at classes) (range_with_len (f + 1) (x - (f + 1)))) top
+  front_is a b f range first = grind (arith, filter_range-first (is_kept_at classes) a (b - a) f)
 
   pub last_is : (a b f l : ℕ) → IsLevelRun classes levels a b → IsFirst classes a b f → IsLast classes a b l → last_or f (rest_of f b) ≡ l
-  last_is a b f l range first last =
-      last_or-range (is_kept_at classes) a (b - a) f l (rest_of f b) (front_is a b f range first) last.kept last.from (omega (arith, last.below)) (λ k after below. last.none k (omega arith) (omega (arith, range.not_empty)))
+  last_is a b f l range first last = grind (
+    arith,
+    last_or-range (is_kept_at classes) a (b - a) f l,
+    front_is a b f range first,
+  )
 
   pub one_level : (a b f l : ℕ) → IsLevelRun classes levels a b → IsFirst classes a b f → IsLast classes a b l → level_at levels f ≡ level_at levels l
   one_level a b f l range first last =
-      let run : IsRun classes levels f (rest_of f b) = IsRun-IsLevelRun classes levels a b f (rest_of f b) range (front_is a b f range first) in
-      sym (ap (level_at levels) (sym (last_is a b f l range first last)) ∙ last_level (level_at levels f) f (rest_of f b) (AllOfLevel-run classes levels f (rest_of f b) run.steps))
+      grind (
+        arith,
+        IsRun-IsLevelRun classes levels a b f (rest_of f b) range (front_is a b f range first),
+        last_is a b f l range first last,
+        last_level,
+        AllOfLevel-run,
+      )
 
   -- the kept character before the next run
   pub kept_before-next_run : (a b l : ℕ) → IsLast classes a b l → kept_before classes b ≡ Some l
@@ -84,25 +82,29 @@ module _ (classes : List BidiClass) (levels : List ℕ) (paragraph : ℕ) where
 
   pub end_is : (a b l : ℕ) → IsLevelRun classes levels a b → IsLast classes a b l → end_class paragraph classes levels l ≡ direction_of (max (level_at levels l) (level_beyond l b))
   unfolding end_class
-  end_is a b l range last = grind (arith, next_level)
-    where
-      next_level : level_or paragraph levels (next_kept classes l) ≡ (if eqb b (length classes) then paragraph else level_at levels b)
-      next_level = elim (cases_eq b (length classes)) [
-        | inl all ↦ grind (arith, next_kept-is_None)
-        | inr more ↦ elim range.stops [
-          | inl all ↦ absurd (more all)
-          | inr begins ↦
-              simp (next_kept-is classes l b (record { from = omega (arith, last.below); below = omega (arith, range.within, more); passes = begins_kept b begins; first = last.none }), ne_eqb b (length classes) more)
-        ]
-      ]
+  end_is a b l range last = elim (cases_eq b (length classes)) [
+    | inl all ↦ grind (arith, next_kept-is_None)
+    | inr more ↦
+        let begins : begins_run classes levels b ≡ true = grind (arith, range.stops) in
+        let next = next_kept-is classes l b (record {
+          from = omega (arith, last.below);
+          below = omega (arith, range.within, more);
+          passes = begins_kept b begins;
+          first = last.none;
+        }) in
+        grind arith
+  ]
 
   -- reading the characters of a range
   read_all : (b n m : ℕ) (w : ℕ → Option ℕ) (out : List (List ℕ)) (waits : List (Option ℕ)) → IsAt classes levels b m out waits → ((k : ℕ) → m ≤ k → k < m + n → is_initiator_at classes k ≡ true → IsWaiting classes levels out k (w k))
       → IsAt classes levels b (m + n) out (fold (λ ws k. read_class (class_at classes k) (w k) ws) waits (range_with_len m n))
-  read_all b zero m w out waits h wait = subst (λ (x : ℕ). IsAt classes levels b x out waits) (omega arith) h
-  read_all b (suc n) m w out waits h wait =
-      let top : m + suc n ≡ m + 1 + n = omega arith in
-      simp top (read_all b n (m + 1) w out _ (IsAt-read classes levels b m out waits (w m) h (wait m (omega arith) (omega arith))) (λ k from below. wait k (omega arith) (omega arith)))
+  read_all b zero m w out waits h wait = grind arith
+  read_all b (suc n) m w out waits h wait = grind (
+    arith,
+    IsAt-read classes levels b m out waits (w m) h,
+    wait,
+    read_all b n (m + 1) w out,
+  )
 
   -- a run came, and its characters were read
   pub came : (a b f l s : ℕ) (out : List (List ℕ)) (waits now : List (Option ℕ)) → IsLevelRun classes levels a b → IsFirst classes a b f → IsLast classes a b l → HasCome classes levels a b f (rest_of f b) out waits (waiting_for (class_at classes f) waits)
@@ -112,17 +114,11 @@ module _ (classes : List BidiClass) (levels : List ℕ) (paragraph : ℕ) where
       more : List (List ℕ)
       more = with_places (waiting_for (class_at classes f) waits) (f ∷ rest_of f b) out
 
-      top : a + (b - a) ≡ b
-      top = omega (arith, range.not_empty)
-
       within : s < length more
       within = subst (λ (x : ℕ). x < length more) (sym at) c.within
 
       same_last : (k : ℕ) → eqb (k + 1) (l + 1) ≡ eqb k (last_or f (rest_of f b))
-      same_last k = elim (cases_eq k l) [
-        | inl same ↦ eq-eqb (k + 1) (l + 1) (omega arith) ∙ sym (eq-eqb k (last_or f (rest_of f b)) (same ∙ sym (last_is a b f l range first last)))
-        | inr other ↦ ne_eqb (k + 1) (l + 1) (λ e. other (omega arith)) ∙ sym (ne_eqb k (last_or f (rest_of f b)) (λ e. other (e ∙ last_is a b f l range first last)))
-      ]
+      same_last k = grind (arith, last_is a b f l range first last)
 
       waits_by : (k : ℕ) → a ≤ k → k < a + (b - a) → is_initiator_at classes k ≡ true → IsWaiting classes levels more k (cond (eqb (k + 1) (l + 1)) (Some s) None)
       waits_by k from below opens =

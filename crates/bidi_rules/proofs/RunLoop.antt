@@ -1,34 +1,17 @@
 -- The loop over the level runs of a text: the run that comes, what has been joined before it, and what then.
-use Rattle.std.proofs.Common.{◌≡◌, ℕ, ◌+◌, ◌-◌, ◌<◌, ◌≤◌, Bool, true, false, cond, eqb, max, List, [], ◌∷◌, ◌++◌, length, map, get_or, take, Option, unwrap_or, sym, ap, subst, ◌∙◌, arith, length-append, rules}
-use Rattle.std.proofs.lemmas.Grind.{common_steps}
-use Rattle.std.specs.Prelude.{filter, flat_map, IfSome, All, IsPermutation}
-use Rattle.std.specs.List.{list_any}
-use Rattle.std.specs.declared.ops.Range.{Range}
-use Rattle.std.proofs.lemmas.Bool.{both_ways}
-use Rattle.std.proofs.lemmas.List.{length-map, map-append, get_or-map, get_or_default, get_or_past, nil_from_length, take_more}
-use Rattle.std.proofs.lemmas.List.Elements.{All-weaker, All-nil, All-cons}
-use Rattle.std.proofs.lemmas.List.Folds.{flat_map-map, list_any_at}
-use Rattle.std.proofs.lemmas.List.Sorted.{IsPermutation-refl}
-use Rattle.std.proofs.lemmas.Simd.{map-map}
+use Rattle.bidi_base.proofs.Common.{◌≡◌, ℕ, ◌+◌, ◌-◌, ◌<◌, ◌≤◌, Bool, true, false, cond, eqb, max, List, [], ◌∷◌, ◌++◌, length, map, get_or, take, Option, unwrap_or, sym, ap, subst, ◌∙◌, arith, length-append, rules, common_steps, filter, IfSome, All, list_any, Range, both_ways, length-map, map-append, get_or-map, get_or_default, get_or_past, nil_from_length, take_more, All-weaker, All-nil, All-cons, flat_map-map, list_any_at, IsPermutation-refl, map-map, is_initiator, direction_of, class_at, is_initiator_at, is_kept_at, level_at, has_places, sequences, run_starts, waiting_for, place, text_len, per_unit, per_char, is_per_char, is_boundary, IsLine, bounds, kept_in_runs, level_run_ranges, AreLines}
+use Rattle.std.specs.Prelude.{flat_map, IsPermutation}
 use Rattle.bidi_base.specs.declared.char_data.BidiClass.{BidiClass}
 use Rattle.bidi_base.specs.declared.char_data.BidiClass.TheVariants.{L}
-use Rattle.bidi_base.specs.Classes.{is_initiator}
-use Rattle.bidi_base.specs.Levels.{direction_of}
-use Rattle.bidi_base.specs.Places.{class_at}
-use Rattle.bidi_base.specs.Isolates.{is_initiator_at}
-use Rattle.bidi_base.specs.Sequences.{is_kept_at, level_at, has_places, sequences, run_starts}
-use Rattle.bidi_base.specs.SequencePass.{waiting_for}
-use Rattle.bidi_base.specs.Text.{place, text_len, per_unit, per_char, is_per_char, is_boundary, IsLine}
-use Rattle.bidi_base.specs.Units.{bounds, kept_in_runs, level_run_ranges, AreLines}
 use Rattle.bidi_base.proofs.TextLemmas.{HasUnits}
 use Rattle.bidi_base.proofs.PlaceLemmas.{place-lt, place-end, char_index-place, is_boundary-place, IsLine-places}
 use Rattle.bidi_base.proofs.PerUnit.{length-per_char}
 use Rattle.bidi_base.proofs.PerCharTests.{class_eq, class_test, level_eq, level_test}
 use Rattle.bidi_base.proofs.UnitsLemmas.{per_unit-from_is_per_char, length-from_is_per_char}
+use Rattle.bidi_base.proofs.ChainLemmas.{filter_range-none}
 use Rattle.bidi_rules.specs.declared.prepare.sequence.IsolatingRunSequence.{IsolatingRunSequence}
 use Rattle.bidi_rules.specs.Joining.{JoinedRuns, IsKeptEnd, characters_of, level_after_run, with_run, read_range, read_units}
 use Rattle.bidi_rules.specs.RunSequence.{joined, run_bounds, sequences_in}
-use Rattle.bidi_base.proofs.ChainLemmas.{filter_range-none}
 use Rattle.bidi_rules.proofs.LevelRunLemmas.{kept_in_run, length-level_run_ranges}
 use Rattle.bidi_rules.proofs.RunUnits.{cuts, NoneKept, IsRunAt, run_at, unit_run, cuts-last, level_of_unit, class_of_unit, IsLastUnit, none_kept, last_unit}
 use Rattle.bidi_rules.proofs.RunJoining.{IsFirst, first_of, level_beyond}
@@ -133,10 +116,8 @@ module _ (len_of : ℕ → ℕ) (h : HasUnits len_of) (chars : List ℕ) (units 
 
   module _ (paragraph : ℕ) where
     pub AreJoinedSoFar-start : (reads : Bool) (out : List IsolatingRunSequence) (waits : List (Option ℕ)) → out ≡ [] → waits ≡ [] → AreJoinedSoFar len_of chars units unit_levels paragraph reads [] out waits paragraph
-    AreJoinedSoFar-start reads out waits empty none = record {
-      so_far = simp (cuts-first classes levels, empty, none) (IsJoined-start len_of h chars classes levels paragraph long);
-      quiet = λ _. none;
-    }
+    AreJoinedSoFar-start reads out waits empty none =
+        grind (arith, cuts-first classes levels, IsJoined-start len_of h chars classes levels paragraph long, long)
 
     -- the sequences so far end before the run
     pub earlier : (reads : Bool) (came : List (Range ℕ)) (run : Range ℕ) (out : List IsolatingRunSequence) (waits : List (Option ℕ)) (before : ℕ) → AreJoinedSoFar len_of chars units unit_levels paragraph reads came out waits before → IsNext (length came) run → All (λ s. All (λ r. r.1 ≤ run.start) (run_bounds s)) out

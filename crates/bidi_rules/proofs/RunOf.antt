@@ -1,18 +1,9 @@
 -- The run of a unit, and what is found in the runs from it on, or up to it.
-use Rattle.std.proofs.Common.{◌≡◌, ℕ, zero, suc, ◌+◌, ◌<◌, ◌≤◌, ◌&&◌, ◌||◌, true, false, List, [], ◌∷◌, length, map, get_or, take, drop, refl, sym, ap, ◌∙◌, arith, inl, inr}
-use Rattle.std.proofs.lemmas.List.{take_all, get_or-map, length-map}
+use Rattle.bidi_base.proofs.Common.{◌≡◌, ℕ, zero, suc, ◌+◌, ◌<◌, ◌≤◌, ◌&&◌, ◌||◌, true, false, List, [], ◌∷◌, length, map, get_or, take, drop, refl, sym, ap, ◌∙◌, arith, take_all, get_or-map, length-map, is_kept_in_place, class_at, All, All-take, are_ordered, are_ordered_from, bounds, in_runs, Range, cases_Bool}
 use Rattle.bidi_base.specs.declared.char_data.BidiClass.{BidiClass}
-use Rattle.bidi_base.specs.Classes.{is_kept_in_place}
-use Rattle.bidi_base.specs.Places.{class_at}
-use Rattle.bidi_base.specs.Text.{place}
-use Rattle.std.specs.Prelude.{All}
-use Rattle.std.proofs.lemmas.List.Elements.{All-take}
-use Rattle.bidi_base.specs.Units.{are_ordered, are_ordered_from, bounds, in_runs}
-use Rattle.std.specs.declared.ops.Range.{Range}
 use Rattle.bidi_rules.proofs.KeptRuns.{no_range}
 use Rattle.bidi_rules.specs.PairWalk.{IsMarksEnd}
 use Rattle.bidi_rules.specs.WeakWalk.{is_seen, IsWrittenOver}
-use Rattle.std.proofs.lemmas.Bool.{cases_Bool, or_parts}
 use Rattle.bidi_rules.proofs.InRuns.{in_run, in_run-true, in_runs-more, in_run-above, in_runs-take, next_start, start_or-at}
 use Rattle.bidi_rules.proofs.WalkLemmas.{are_ordered-front}
 use Rattle.bidi_rules.proofs.WrittenOver.{IsWrittenOver-same_test}
@@ -48,34 +39,21 @@ pub changed-more : (f : BidiClass → BidiClass) → ((c : BidiClass) → f (f c
     → ((u : ℕ) → in_runs (take i runs) u ≡ true → class_at now u ≡ f (class_at old u)) → ((u : ℕ) → in_runs (take i runs) u ≡ false → class_at now u ≡ class_at old u)
     → ((u : ℕ) → (get_or runs i (0, 0)).0 ≤ u → u < (get_or runs i (0, 0)).1 → class_at new u ≡ f (class_at now u)) → ((u : ℕ) → in_run (get_or runs i (0, 0)) u ≡ false → class_at new u ≡ class_at now u)
     → ((u : ℕ) → in_runs (take (i + 1) runs) u ≡ true → class_at new u ≡ f (class_at old u)) × ((u : ℕ) → in_runs (take (i + 1) runs) u ≡ false → class_at new u ≡ class_at old u)
-changed-more f twice runs i old now new fits changed same inside outside = (
-  λ u came. elim (cases_Bool (in_run (get_or runs i (0, 0)) u)) [
-    | inl here ↦
-        let w = in_run-true (get_or runs i (0, 0)) u here in
-        inside u w.0 w.1 ∙ elim (cases_Bool (in_runs (take i runs) u)) [
-          | inl before ↦ simp (changed u before, twice)
-          | inr fresh ↦ simp (same u fresh)
-        ]
-    | inr out ↦ outside u out ∙ changed u (grind (arith, in_runs-more i runs u fits))
-  ],
-  λ u none.
-      let parts = or_parts (in_runs (take i runs) u) (in_run (get_or runs i (0, 0)) u) (sym (in_runs-more i runs u fits) ∙ none) in
-      outside u parts.1 ∙ same u parts.0,
-)
+changed-more f twice runs i old now new fits changed same inside outside =
+    grind (
+      arith,
+      λ (u : ℕ). cases_Bool (in_run (get_or runs i (0, 0)) u),
+      λ (u : ℕ). cases_Bool (in_runs (take i runs) u),
+      in_run-true,
+      in_runs-more,
+    )
 
 pub IsSet-later : (len_of : ℕ → ℕ) (chars : List ℕ) (later runs : List (ℕ × ℕ)) (original : List BidiClass) (d : BidiClass) (bracket inside end : ℕ) (old new : List BidiClass) → ((k : ℕ) → bracket ≤ k → in_runs later k ≡ in_runs runs k) → bracket ≤ inside
     → IsMarksEnd len_of chars later original old inside end → IsWrittenOver (is_seen later old) d bracket end old new → IsMarksEnd len_of chars runs original old inside end × IsWrittenOver (is_seen runs old) d bracket end old new
-IsSet-later len_of chars later runs original d bracket inside end old new same order m w = (
-  record {
-    marks = λ k from below seen. m.marks k from below (alike (place len_of chars k) (omega arith) ∙ seen);
-    stops = λ less. let s = m.stops less in (s.0, s.1, s.2, sym (alike end (omega (arith, s.2))) ∙ s.3, s.4);
-    within = m.within;
-  },
-  IsWrittenOver-same_test (is_seen later old) (is_seen runs old) d bracket end old new (λ k from below. alike k from) w,
-)
-  where
-    alike : (k : ℕ) → bracket ≤ k → is_seen later old k ≡ is_seen runs old k
-    alike k from = ap (λ b. b && is_kept_in_place (class_at old k)) (same k from)
+IsSet-later len_of chars later runs original d bracket inside end old new same order m w =
+    let alike : (k : ℕ) → bracket ≤ k → is_seen later old k ≡ is_seen runs old k = λ k from. ap
+    (λ b. b && is_kept_in_place (class_at old k)) (same k from) in
+    grind (arith, alike, IsWrittenOver-same_test (is_seen later old) (is_seen runs old) d bracket end old new)
 
 pub ends-later : (n index : ℕ) (runs : List (ℕ × ℕ)) → All (λ r. r.1 ≤ n) runs → All (λ r. r.1 ≤ n) (take index runs)
 ends-later n index runs h = All-take (λ (r : ℕ × ℕ). r.1 ≤ n) index runs h

@@ -1,17 +1,11 @@
 -- The pass over level runs, one by one, and over the characters of each.
-use Rattle.std.proofs.Common.{◌≡◌, ℕ, zero, suc, ◌+◌, ◌-◌, ◌<◌, ◌≤◌, Bool, true, cond, eqb, List, [], ◌∷◌, ◌++◌, length, get_or, set, reverse, length-append, Option, Some, None, refl, sym, subst, arith, inl, inr, eqb-true}
-use Rattle.std.specs.Prelude.{filter, IfSome}
-use Rattle.std.specs.List.{range_with_len}
-use Rattle.std.proofs.lemmas.Bool.{cases_Bool, cases_eq, cond-true}
-use Rattle.std.proofs.lemmas.List.{get_or_push, get_or-set_same, length-set}
+use Rattle.bidi_base.proofs.Common.{◌≡◌, ℕ, zero, suc, ◌+◌, ◌-◌, ◌<◌, ◌≤◌, Bool, true, cond, eqb, List, [], ◌∷◌, ◌++◌, length, get_or, set, reverse, length-append, Option, Some, None, subst, arith, inl, inr, filter, IfSome, range_with_len, cases_Bool, cases_eq, get_or_push, length-set, class_at, last_or, is_kept_at, successor, is_first, waiting_for}
+use Rattle.std.proofs.lemmas.List.{get_or-set_same}
 use Rattle.bidi_base.specs.declared.char_data.BidiClass.{BidiClass}
-use Rattle.bidi_base.specs.Places.{class_at, last_or}
-use Rattle.bidi_base.specs.Sequences.{is_kept_at, successor, is_first}
-use Rattle.bidi_base.specs.SequencePass.{waiting_for}
 use Rattle.bidi_base.proofs.ReadStack.{Member}
 use Rattle.bidi_base.proofs.OpenPass.{IsAt, goes_on}
-use Rattle.bidi_base.proofs.RunsLemmas.{EndsRun, IsRun, IsLevelRun, IsRun-IsLevelRun, AreRunSteps-successors, IsFront, front_of}
-use Rattle.bidi_base.proofs.WaitingLemmas.{Member-append_right, IsWaiting, IsPass, IsPass-begin, IsPass-join, IsPass-skip, inside_run}
+use Rattle.bidi_base.proofs.RunsLemmas.{IsRun, AreRunSteps-successors, IsFront, front_of, IsLevelRun, IsRun-IsLevelRun}
+use Rattle.bidi_base.proofs.WaitingLemmas.{inside_run, Member-append_right, IsWaiting, IsPass, IsPass-begin, IsPass-join, IsPass-skip}
 
 -- the characters of a run come to the sequence at s, or to a new one
 abbrev pub with_places : Option ℕ → List ℕ → List (List ℕ) → List (List ℕ)
@@ -24,15 +18,12 @@ index_in (Some s) out = s
 
 Member-filter : (test : ℕ → Bool) (x low n : ℕ) → low ≤ x → x < low + n → test x ≡ true → Member x (filter test (range_with_len low n))
 Member-filter test x low zero from below passes = absurd (omega arith)
-Member-filter test x low (suc n) from below passes = elim (cases_eq x low) [
-  | inl same ↦ grind arith
-  | inr other ↦
-      let rest : Member x (filter test (range_with_len (low + 1) n)) = Member-filter test x (low + 1) n (omega arith) (omega arith) passes in
-      elim (cases_Bool (test low)) [
-        | inl here ↦ grind arith
-        | inr gone ↦ grind arith
-      ]
-]
+Member-filter test x low (suc n) from below passes = grind (
+  arith,
+  cases_eq x low,
+  cases_Bool (test low),
+  Member-filter test x (low + 1) n,
+)
 
 module _ (classes : List BidiClass) (levels : List ℕ) where
   -- a run came to the sequence at s
@@ -59,31 +50,24 @@ module _ (classes : List BidiClass) (levels : List ℕ) where
       front = front_of classes levels a (b - a) p ps here
 
       at_first : IsAt classes levels a p out waits
-      at_first =
-          let place : a + (p - a) ≡ p = omega (arith, front.from) in
-          record { stack = h.stack; pass = subst (λ (x : ℕ). IsPass classes levels a x out h.stack (reverse waits)) place (IsPass-skip classes levels (p - a) a a out h.stack (reverse waits) h.pass (λ k from below. front.none k from (omega (arith, front.from)))) }
+      at_first = grind (
+        arith,
+        IsPass-skip classes levels (p - a) a a out h.stack (reverse waits) h.pass,
+        front.none,
+        front.from,
+      )
 
       begun : waiting_for (class_at classes p) waits ≡ None → is_first classes levels p ≡ true → HasCome a b p ps out waits (waiting_for (class_at classes p) waits)
       begun e first =
           let pass : IsPass classes levels (a + (b - a)) a (out ++ (p ∷ ps) ∷ []) h.stack (reverse waits) =
           IsPass-begin classes levels a (b - a) a p ps out h.stack (reverse waits) h.pass here (omega (arith, range.within, range.not_empty)) (AreRunSteps-successors classes levels p ps run.steps) first in
-          subst (λ (g : Option ℕ). HasCome a b p ps out waits g) (sym e) (record {
-            fits = tt;
-            state = grind arith;
-            within = omega (arith, length-append out ((p ∷ ps) ∷ []));
-            holds = λ x member. rw (get_or_push out (p ∷ ps) [] (length out) refl) member;
-          })
+          grind (arith, length-append, get_or_push)
 
       joined : (s : ℕ) → waiting_for (class_at classes p) waits ≡ Some s → s < length out → successor classes levels (last_or 0 (get_or out s [])) ≡ Some p → HasCome a b p ps out waits (waiting_for (class_at classes p) waits)
       joined s e fits next =
           let pass : IsPass classes levels (a + (b - a)) a (set out s (get_or out s [] ++ p ∷ ps)) h.stack (reverse waits) =
           IsPass-join classes levels a (b - a) a p s ps out h.stack (reverse waits) h.pass here (AreRunSteps-successors classes levels p ps run.steps) fits next in
-          subst (λ (g : Option ℕ). HasCome a b p ps out waits g) (sym e) (record {
-            fits = fits;
-            state = grind arith;
-            within = omega (arith, length-set out s (get_or out s [] ++ p ∷ ps));
-            holds = λ x member. rw (get_or-set_same out s (get_or out s [] ++ p ∷ ps) [] fits) (Member-append_right x (get_or out s []) (p ∷ ps) member);
-          })
+          grind (arith, length-set, get_or-set_same, Member-append_right)
 
   -- what a character of the run waits with: the sequence at s if it is the last kept one
   pub IsWaiting-in_run : (a b p m s : ℕ) (ps : List ℕ) (out : List (List ℕ)) → IsLevelRun classes levels a b → filter (is_kept_at classes) (range_with_len a (b - a)) ≡ p ∷ ps → s < length out → ((x : ℕ) → Member x (p ∷ ps) → Member x (get_or out s []))
@@ -91,9 +75,4 @@ module _ (classes : List BidiClass) (levels : List ℕ) where
   IsWaiting-in_run a b p m s ps out range here within holds from below kept =
       let run : IsRun classes levels p ps = IsRun-IsLevelRun classes levels a b p ps range here in
       let member : Member m (p ∷ ps) = subst (λ (xs : List ℕ). Member m xs) here (Member-filter (is_kept_at classes) m a (b - a) from (omega (arith, range.not_empty)) kept) in
-      elim (cases_Bool (eqb m (last_or p ps))) [
-        | inl same ↦
-            rw (cond-true (eqb m (last_or p ps)) (Some s) None same)
-            (within, holds m member, subst (EndsRun classes levels) (sym (eqb-true m (last_or p ps) same)) run.ends)
-        | inr other ↦ grind (arith, inside_run)
-      ]
+      grind (arith, cases_Bool (eqb m (last_or p ps)), run.ends, inside_run, holds m)

@@ -1,15 +1,8 @@
 -- The characters of a run that open or close an isolate, read one by one.
-use Rattle.std.proofs.Common.{◌≡◌, ℕ, zero, suc, ◌+◌, ◌-◌, ◌<◌, ◌≤◌, true, false, cond, eqb, List, length, get_or, Option, Some, None, sym, ap, subst, ◌∙◌, arith, ne_eqb, inl, inr}
-use Rattle.std.specs.Bool.{then_some}
-use Rattle.std.proofs.lemmas.Bool.{cases_eq, cases_lt}
-use Rattle.std.proofs.lemmas.List.Sums.{fold_push}
+use Rattle.bidi_base.proofs.Common.{◌≡◌, ℕ, zero, suc, ◌+◌, ◌-◌, ◌<◌, ◌≤◌, true, false, cond, eqb, List, length, get_or, Option, Some, None, sym, ap, ◌∙◌, arith, ne_eqb, inl, inr, then_some, cases_eq, cases_lt, fold_push, class_at, IsFirst, read_class, place, text_len, per_char, is_per_char, is_boundary, char_index, IsLine, IsPerChar}
 use Rattle.bidi_base.specs.declared.char_data.BidiClass.{BidiClass}
 use Rattle.bidi_base.specs.declared.char_data.BidiClass.TheVariants.{L}
 use Rattle.bidi_base.specs.contracts.char_data.BidiClassPartialEq.TheImpl.{ghosts}
-use Rattle.bidi_base.specs.Places.{class_at}
-use Rattle.bidi_base.specs.Search.{IsFirst}
-use Rattle.bidi_base.specs.SequencePass.{read_class}
-use Rattle.bidi_base.specs.Text.{place, text_len, per_char, is_per_char, is_boundary, char_index, IsLine, IsPerChar}
 use Rattle.bidi_base.proofs.TextLemmas.{HasUnits}
 use Rattle.bidi_base.proofs.PlaceLemmas.{is_boundary-place, line_places, place-char_index, char_index-place, place-le, place-more, place-mono}
 use Rattle.bidi_base.proofs.PlacesLemmas.{range_with_len-more}
@@ -59,8 +52,12 @@ module _ (len_of : ℕ → ℕ) (h : HasUnits len_of) (chars : List ℕ) (units 
 
   stored_class : (m : ℕ) → m < length chars → class_at units (place len_of chars m) ≡ class_at stored m
   stored_class m fits =
-      ap (λ us. get_or us (place len_of chars m) L) (per_unit-from_is_per_char ghosts.eq class_test L len_of h chars units whole)
-      ∙ get_or-per_unit-place len_of h chars stored m L (length-per_char L len_of chars units) fits
+      grind (
+        arith,
+        per_unit-from_is_per_char ghosts.eq class_test L len_of h chars units whole,
+        get_or-per_unit-place len_of h chars stored m L,
+        length-per_char L len_of chars units,
+      )
 
   -- up to the next control
   jump : (n m next : ℕ) (old waits : List (Option ℕ)) → m + n ≡ final → first ≤ m → waits ≡ read_to m old → IsFirst is_isolate_control units (place len_of chars m) end next → ReadTo old waits next
@@ -71,18 +68,19 @@ module _ (len_of : ℕ → ℕ) (h : HasUnits len_of) (chars : List ℕ) (units 
       let more = place-more len_of chars m 0 fits in
       let some = h (get_or chars m 0) in
       let upto : place len_of chars (m + 1) ≤ end = omega (arith, w.ends, place-mono len_of chars (m + 1) final (omega arith)) in
-      elim (cases_lt next (place len_of chars (m + 1))) [
-        | inl here ↦
-            grind (arith, f.at, alike_class len_of h chars units per m next fits f.begins here, f.before (place len_of chars m))
-        | inr later ↦
-            jump k (m + 1) next old waits (omega arith) (omega arith)
-            (grind (arith, stored_class m fits, f.before (place len_of chars m), read_range-more stored (char_index len_of chars last) s first m old low, read_class-plain (class_at stored m)))
-            (record { begins = later; ends = f.ends; before = λ u a b. f.before u (omega arith) b; at = f.at })
-      ]
+      grind (
+        arith,
+        cases_lt next (place len_of chars (m + 1)),
+        alike_class len_of h chars units per m next fits f.begins,
+        f.before (place len_of chars m),
+        jump k (m + 1) next old waits,
+        stored_class m fits,
+        read_range-more stored (char_index len_of chars last) s first m old low,
+        read_class-plain (class_at stored m),
+      )
 
   pub IsReadTo-jump : (at next : ℕ) (old waits : List (Option ℕ)) → ReadTo old waits at → IsFirst is_isolate_control units at end next → ReadTo old waits next
-  IsReadTo-jump at next old waits r f =
-      jump (final - r.index) r.index next old waits (omega (arith, r.high)) r.low r.is (subst (λ (u : ℕ). IsFirst is_isolate_control units u end next) r.there f)
+  IsReadTo-jump at next old waits r f = grind (arith, jump (final - r.index) r.index next old waits)
 
   -- what the code asks of the character at hand
   pub record IsAsked (at : ℕ) : Type 0 where

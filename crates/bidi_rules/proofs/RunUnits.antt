@@ -1,15 +1,8 @@
 -- A level run as a range of units: which characters stand in it, and what its last kept unit says.
-use Rattle.std.proofs.Common.{◌≡◌, ℕ, ◌+◌, ◌-◌, ◌<◌, ◌≤◌, true, false, List, [], ◌∷◌, ◌++◌, length, get_or, refl, sym, ap, ◌∙◌, arith, inl, inr}
+use Rattle.bidi_base.proofs.Common.{◌≡◌, ℕ, ◌+◌, ◌-◌, ◌<◌, ◌≤◌, true, false, List, [], ◌∷◌, ◌++◌, length, get_or, sym, ap, ◌∙◌, arith, inl, inr, cases_lt, both_ways, get_or_push, is_kept, class_at, is_kept_at, level_at, run_starts, place, text_len, per_unit, level_run_ranges}
 use Rattle.std.proofs.Math.Numerals.{add-one}
-use Rattle.std.proofs.lemmas.Bool.{cases_lt, both_ways}
-use Rattle.std.proofs.lemmas.List.{get_or_push}
 use Rattle.bidi_base.specs.declared.char_data.BidiClass.{BidiClass}
 use Rattle.bidi_base.specs.declared.char_data.BidiClass.TheVariants.{L}
-use Rattle.bidi_base.specs.Classes.{is_kept}
-use Rattle.bidi_base.specs.Places.{class_at}
-use Rattle.bidi_base.specs.Sequences.{is_kept_at, level_at, run_starts}
-use Rattle.bidi_base.specs.Text.{place, text_len, per_unit}
-use Rattle.bidi_base.specs.Units.{level_run_ranges}
 use Rattle.bidi_base.proofs.TextLemmas.{HasUnits}
 use Rattle.bidi_base.proofs.PlaceLemmas.{place-more, place-mono, place-lt, place-le, UnitOf, unit_of}
 use Rattle.bidi_base.proofs.PerUnit.{get_or-per_unit, get_or-per_unit-place}
@@ -44,15 +37,12 @@ module _ (len_of : ℕ → ℕ) (h : HasUnits len_of) (chars : List ℕ) (classe
   pub run_at : (runs : List (ℕ × ℕ)) (k : ℕ) → runs ≡ level_run_ranges len_of chars classes levels → k < length runs → IsRunAt k (get_or (cuts classes levels) k 0) (get_or (cuts classes levels) (k + 1) 0) (get_or runs k (0, 0))
   run_at runs k e within =
       let fits : k < length (run_starts classes levels) = omega (arith, ap length e, length-level_run_ranges len_of chars classes levels) in
-      let here : get_or runs k (0, 0) ≡ (place len_of chars (get_or (cuts classes levels) k 0), place len_of chars (get_or (cuts classes levels) (k + 1) 0)) =
-      simp (e, add-one) (level_run_ranges-at len_of chars classes levels k (0, 0) long fits) in
-      record {
-        range = simp add-one (IsLevelRun-at classes levels k fits);
-        first = refl;
-        next = refl;
-        start = ap (λ (r : ℕ × ℕ). r.0) here;
-        end = ap (λ (r : ℕ × ℕ). r.1) here;
-      }
+      grind (
+        arith,
+        level_run_ranges-at len_of chars classes levels k (0, 0) long fits,
+        IsLevelRun-at classes levels k fits,
+        add-one k,
+      )
 
   -- the last run ends with the text
   pub cuts-last : (runs : List (ℕ × ℕ)) (k : ℕ) → runs ≡ level_run_ranges len_of chars classes levels → k ≡ length runs → get_or (cuts classes levels) k 0 ≡ length classes
@@ -85,11 +75,14 @@ module _ (len_of : ℕ → ℕ) (h : HasUnits len_of) (chars : List ℕ) (classe
         ap is_kept (sym (class_of_unit m (omega arith))) ∙ e.gone (place len_of chars m) (omega (arith, place-mono len_of chars a m from)) (omega (arith, place-lt len_of chars h m b below (omega arith)))
 
     pub last_unit : (a b start end last : ℕ) → start ≡ place len_of chars a → end ≡ place len_of chars b → b ≤ length chars → IsKeptEnd units start end last → ¬ (last ≡ start) → (l : ℕ) × IsLastUnit a b last l
-    last_unit a b start end last first next fits e some = by_unit (unit_of len_of chars (last - 1) (omega (arith, e.from, e.to, place-le len_of chars b, next, before)))
+    last_unit a b start end last first next fits e some = by_unit (unit_of len_of chars (last - 1) (omega (
+      arith,
+      e.from,
+      e.to,
+      place-le len_of chars b,
+      next,
+    )))
       where
-        before : start < last
-        before = omega (arith, e.from)
-
         by_unit : UnitOf len_of chars (last - 1) → (l : ℕ) × IsLastUnit a b last l
         by_unit w = (w.index, record { is_last = record { from = from; below = below; kept = kept; none = none }; at_end = at_end; class = class; level = level })
           where
@@ -97,10 +90,10 @@ module _ (len_of : ℕ → ℕ) (h : HasUnits len_of) (chars : List ℕ) (classe
             after = place-more len_of chars w.index 0 w.within
 
             unit_is : last ≡ place len_of chars w.index + w.offset + 1
-            unit_is = omega (arith, w.at_place, before)
+            unit_is = omega (arith, w.at_place, e.from)
 
             from : a ≤ w.index
-            from = grind (arith, w.below, after, unit_is, before, place-mono)
+            from = grind (arith, w.below, after, unit_is, place-mono)
 
             below : w.index < b
             below = grind (arith, unit_is, e.to, place-mono)
@@ -112,7 +105,7 @@ module _ (len_of : ℕ → ℕ) (h : HasUnits len_of) (chars : List ℕ) (classe
             level = simp (levels_is, w.at_place, get_or-per_unit len_of chars levels w.index w.offset 0 0 same w.within w.below)
 
             kept : is_kept_at classes w.index ≡ true
-            kept = ap is_kept (sym class) ∙ e.kept before
+            kept = ap is_kept (sym class) ∙ e.kept (omega (arith, e.from))
 
             -- no unit of the character is left after it
             at_end : last ≡ place len_of chars (w.index + 1)

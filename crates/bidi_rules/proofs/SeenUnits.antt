@@ -1,22 +1,13 @@
 -- The units of a sequence that are not BN: those that a pass over units reads, and the characters that they belong to.
-use Rattle.std.proofs.Common.{◌≡◌, ◌≢◌, ℕ, zero, suc, ◌+◌, ◌<◌, ◌≤◌, Bool, true, false, List, [], ◌∷◌, ◌++◌, length, map, replicate, refl, sym, ap, ◌∙◌, arith, inl, inr}
-use Rattle.std.specs.Prelude.{filter, All}
-use Rattle.std.specs.List.{list_all, range_with_len}
-use Rattle.std.proofs.lemmas.Bool.{cases_Bool, and_parts, and_from, and_left}
-use Rattle.std.proofs.lemmas.List.{length-map}
-use Rattle.std.proofs.lemmas.List.Elements.{All-head, All-tail, filter-append}
+use Rattle.bidi_base.proofs.Common.{◌≡◌, ◌≢◌, ℕ, zero, suc, ◌+◌, ◌<◌, ◌≤◌, Bool, true, false, List, [], ◌∷◌, ◌++◌, length, map, replicate, refl, ◌∙◌, arith, inl, inr, filter, All, list_all, range_with_len, cases_Bool, and_parts, and_from, and_left, length-map, All-head, All-tail, filter-append, is_kept_in_place, at_places, between, class_at, place, per_unit, IsPerChar, are_ordered_from, are_ordered, in_runs, kept_in_place, units_in_runs, AreLines}
 use Rattle.std.proofs.lemmas.List.Folds.{list_all-append}
 use Rattle.bidi_base.specs.declared.char_data.BidiClass.{BidiClass}
 use Rattle.bidi_base.specs.declared.char_data.BidiClass.TheVariants.{L}
-use Rattle.bidi_base.specs.Classes.{is_kept_in_place}
-use Rattle.bidi_base.specs.Places.{at_places, between, class_at}
-use Rattle.bidi_base.specs.Text.{place, per_unit, IsPerChar}
-use Rattle.bidi_base.specs.Units.{are_ordered_from, are_ordered, in_runs, kept_in_place, units_in_runs, AreLines}
-use Rattle.bidi_base.proofs.Repeated.{HaveUnits, HaveUnits-every}
-use Rattle.bidi_base.proofs.RepeatedPlaces.{read_units-old, read_units-rule, read_units-per_char}
 use Rattle.bidi_base.proofs.StoredLemmas.{length-at_places, at_places-append}
 use Rattle.bidi_base.proofs.TextLemmas.{HasUnits}
 use Rattle.bidi_base.proofs.UnitsLemmas.{length-from_IsPerChar}
+use Rattle.bidi_base.proofs.Repeated.{HaveUnits-every, HaveUnits}
+use Rattle.bidi_base.proofs.RepeatedPlaces.{read_units-old, read_units-rule, read_units-per_char}
 use Rattle.bidi_rules.specs.NeutralPass.{seen_units}
 use Rattle.bidi_rules.specs.WeakWalk.{is_seen}
 use Rattle.bidi_rules.proofs.InRuns.{in_run-above, gap_before}
@@ -62,8 +53,12 @@ module _ (units : List BidiClass) where
       → seen_units runs units ≡ marked (is_seen runs units) 0 u ++ u ∷ marked (is_seen runs units) (u + 1) (length units)
   seen_at runs u fits here =
       let mark = is_seen runs units in
-      let one = marked-one mark u (u + 1) (omega arith) here (λ k a b. absurd (omega arith)) in
-      simp (marked-parts mark 0 u (length units) (omega arith) (omega arith), marked-parts mark u (u + 1) (length units) (omega arith) (omega arith), one)
+      grind (
+        arith,
+        marked-one mark u (u + 1),
+        marked-parts mark 0 u (length units),
+        marked-parts mark u (u + 1) (length units),
+      )
 
   -- a unit that differs from all of them is none of them
   not_seen : (runs : List (ℕ × ℕ)) (u : ℕ) → u < length units → All (λ q. q ≢ u) (seen_units runs units) → is_seen runs units u ≡ false
@@ -109,14 +104,13 @@ module _ (len_of : ℕ → ℕ) (h : HasUnits len_of) (chars : List ℕ) (old : 
 
   pub ruled-IsPerChar : length new ≡ length old → ((u : ℕ) → is_seen runs old u ≡ false → class_at new u ≡ class_at old u) → IsPerChar len_of chars new
   ruled-IsPerChar long others =
-      let ds = λ (us : List BidiClass). at_places 0 chars (kept_in_place len_of chars us runs) in
-      let cs = λ (us : List BidiClass). at_places L us (map (place len_of chars) (kept_in_place len_of chars us runs)) in
-      let many : length (cs old) ≡ length (kept_in_place len_of chars old runs) = grind (arith, length-at_places, length-map) in
-      let at_old : at_places L old (seen_of old) ≡ per_unit len_of (ds old) (cs old) = simp per.2 (read_units-old len_of h chars per.0 per.1 runs lines) in
-      let seen = seen_units-is old runs ordered within in
-      answered-IsPerChar len_of h chars old per runs lines ordered within new (rule (cs old)) (keeps (cs old) ∙ many)
-      (simp seen at is ∙ ap rule at_old ∙ commutes (ds old) (cs old) (HaveUnits-every len_of h (ds old)) (many ∙ sym (length-at_places 0 chars (kept_in_place len_of chars old runs))))
-      long others
+      let ds = at_places 0 chars (kept_in_place len_of chars old runs) in
+      let cs = at_places L old (map (place len_of chars) (kept_in_place len_of chars old runs)) in
+      let many : length cs ≡ length (kept_in_place len_of chars old runs) = grind (arith, length-at_places, length-map) in
+      let at_old : at_places L old (seen_of old) ≡ per_unit len_of ds cs = simp per.2
+      (read_units-old len_of h chars per.0 per.1 runs lines) in
+      answered-IsPerChar len_of h chars old per runs lines ordered within new (rule cs) (keeps cs ∙ many)
+      (grind (arith, seen_units-is, commutes ds cs, HaveUnits-every len_of h ds, length-at_places)) long others
 
 -- a test that holds of the classes of the characters holds of those of their units
 all_replicate : (test : BidiClass → Bool) (n : ℕ) (c : BidiClass) → test c ≡ true → list_all test (replicate n c) ≡ true
@@ -126,8 +120,7 @@ all_replicate test (suc n) c h = and_from (test c) (list_all test (replicate n c
 all_units : (test : BidiClass → Bool) (len_of : ℕ → ℕ) (chars : List ℕ) (cs : List BidiClass) → list_all test cs ≡ true → list_all test (per_unit len_of chars cs) ≡ true
 all_units test len_of [] cs h = refl
 all_units test len_of (d ∷ ds) [] h = refl
-all_units test len_of (d ∷ ds) (c ∷ cs) h =
-    grind (arith, list_all-append test (replicate (len_of d) c), all_replicate test (len_of d) c, all_units test len_of ds cs)
+all_units test len_of (d ∷ ds) (c ∷ cs) h = grind (arith, list_all-append, all_replicate, all_units test len_of ds cs)
 
 pub seen-every : (len_of : ℕ → ℕ) (h : HasUnits len_of) (chars : List ℕ) (units : List BidiClass) → IsPerChar len_of chars units → (runs : List (ℕ × ℕ)) → AreLines len_of chars runs → are_ordered runs ≡ true
     → All (λ r. r.1 ≤ length units) runs → (test : BidiClass → Bool) → list_all test (at_places L units (map (place len_of chars) (kept_in_place len_of chars units runs))) ≡ true

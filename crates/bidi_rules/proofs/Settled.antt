@@ -1,19 +1,7 @@
 -- N2 over the units of a sequence, once N0 and N1 are done.
-use Rattle.std.proofs.Common.{◌≡◌, ℕ, ◌+◌, ◌<◌, ◌≤◌, true, false, List, [], ◌∷◌, length, map, find, None, refl, sym, ap, subst, ◌∙◌, inl, inr, arith}
-use Rattle.std.specs.Prelude.{All}
-use Rattle.std.specs.declared.ops.Range.{Range}
-use Rattle.std.proofs.lemmas.Bool.{cases_Bool}
-use Rattle.std.proofs.lemmas.List.Elements.{All-head, All-tail}
+use Rattle.bidi_base.proofs.Common.{◌≡◌, ℕ, ◌+◌, ◌<◌, ◌≤◌, true, false, List, [], ◌∷◌, length, map, find, None, refl, ◌∙◌, arith, All, Range, cases_Bool, All-head, All-tail, is_kept_in_place, direction_of, n2_rule, neutral_classes, at_places, class_at, first_or, level_at, Source, place, is_per_char, IsPerChar, bounds, in_runs, kept_in_place, units_in_runs}
 use Rattle.bidi_base.specs.declared.char_data.BidiClass.{BidiClass}
 use Rattle.bidi_base.specs.declared.char_data.BidiClass.TheVariants.{L, BN}
-use Rattle.bidi_base.specs.Classes.{is_kept_in_place}
-use Rattle.bidi_base.specs.Levels.{direction_of}
-use Rattle.bidi_base.specs.Neutral.{n2_rule, neutral_classes}
-use Rattle.bidi_base.specs.Places.{at_places, class_at, first_or}
-use Rattle.bidi_base.specs.Sequences.{level_at}
-use Rattle.bidi_base.specs.Source.{Source}
-use Rattle.bidi_base.specs.Text.{place, is_per_char, IsPerChar}
-use Rattle.bidi_base.specs.Units.{bounds, in_runs, kept_in_place, units_in_runs}
 use Rattle.bidi_base.proofs.PerCharTests.{class_eq, class_test}
 use Rattle.bidi_base.proofs.TextLemmas.{HasUnits}
 use Rattle.bidi_base.proofs.UnitsLemmas.{IsPerChar-from_is_per_char, is_per_char-from_IsPerChar, length-from_IsPerChar}
@@ -34,9 +22,10 @@ pub record IsResolved (len_of : ℕ → ℕ) (chars : List ℕ) (source : Source
 
 at_each : (f : BidiClass → BidiClass) (now new : List BidiClass) (ps : List ℕ) → All (λ u. class_at new u ≡ f (class_at now u)) ps → at_places L new ps ≡ map f (at_places L now ps)
 at_each f now new [] a = refl
-at_each f now new (p ∷ ps) a =
-    let P : ℕ → Type 0 = λ u. class_at new u ≡ f (class_at now u) in
-    simp (All-head P p ps a, at_each f now new ps (All-tail P p ps a))
+at_each f now new (p ∷ ps) a = simp (
+  All-head (λ u. class_at new u ≡ f (class_at now u)) p ps a,
+  at_each f now new ps (All-tail (λ u. class_at new u ≡ f (class_at now u)) p ps a),
+)
 
 -- without a character that is read nothing is to be done
 pub kept-none : (len_of : ℕ → ℕ) (h : HasUnits len_of) (chars : List ℕ) (source : Source) (levels : List ℕ) (original old : List BidiClass) (runs : List (Range ℕ)) (sos eos : BidiClass) → IsReady len_of chars runs sos old
@@ -45,10 +34,11 @@ pub kept-none : (len_of : ℕ → ℕ) (h : HasUnits len_of) (chars : List ℕ) 
     at_places L old places
     ≡ neutral_classes (level_at levels (first_or 0 places)) sos eos (at_places L original places) (map source.bracket_of (at_places 0 chars read)) (at_places L old places))
 kept-none len_of h chars source levels original old runs sos eos ready found =
-    subst
-    (λ (read : List ℕ). let places = map (place len_of chars) read in at_places L old places ≡ map (n2_rule (direction_of (level_at levels (first_or 0 places)))) (at_places L old places))
-    (sym (none-read len_of h chars runs sos old ready found)) refl
-    ∙ (IsUpToN1-none len_of h chars source levels original old runs sos eos ready found).kept
+    grind (
+      arith,
+      none-read len_of h chars runs sos old ready found,
+      (IsUpToN1-none len_of h chars source levels original old runs sos eos ready found).kept,
+    )
 
 module _ (len_of : ℕ → ℕ) (h : HasUnits len_of) (chars : List ℕ) (runs : List (Range ℕ)) (sos eos : BidiClass) (source : Source) (levels : List ℕ) (original old : List BidiClass) (ready : IsReady len_of chars runs sos old)
     (now new : List BidiClass) (up : IsUpToN1 len_of chars source levels original old now runs sos eos) where
@@ -76,9 +66,11 @@ module _ (len_of : ℕ → ℕ) (h : HasUnits len_of) (chars : List ℕ) (runs :
       even : (k : ℕ) → k < length chars → (u : ℕ) → place len_of chars k ≤ u → u < place len_of chars (k + 1) → class_at new u ≡ class_at new (place len_of chars k)
       even k fits u from below =
           let first = place len_of chars k in
-          let alike : in_runs rs u ≡ in_runs rs first = in_runs-alike len_of h chars rs ready.lines k u from below in
-          let now_same : class_at now u ≡ class_at now first = alike_class len_of h chars now per k u fits from below in
-          elim (cases_Bool (in_runs rs first)) [
-            | inl here ↦ changed u (alike ∙ here) ∙ ap (n2_rule e) now_same ∙ sym (changed first here)
-            | inr gone ↦ same u (alike ∙ gone) ∙ now_same ∙ sym (same first gone)
-          ]
+          grind (
+            arith,
+            in_runs-alike len_of h chars rs ready.lines k u from below,
+            alike_class len_of h chars now per k u fits from below,
+            cases_Bool (in_runs rs first),
+            changed,
+            same,
+          )

@@ -1,16 +1,7 @@
 -- The characters of a sequence that are kept, by their numbers, and the units at which they begin.
-use Rattle.std.proofs.Common.{◌≡◌, ℕ, zero, suc, ◌+◌, ◌-◌, ◌<◌, ◌≤◌, true, Bool, List, [], ◌∷◌, ◌++◌, length, map, get_or, refl, sym, ap, ◌∙◌, arith, inl, inr}
-use Rattle.std.specs.Prelude.{filter}
-use Rattle.std.specs.List.{range_with_len}
-use Rattle.std.proofs.lemmas.Bool.{cases_Bool, cases_lt, and_parts, or_cases}
-use Rattle.std.proofs.lemmas.List.{length-map}
-use Rattle.std.proofs.lemmas.List.Elements.{All-head, All-tail, All-filter}
+use Rattle.bidi_base.proofs.Common.{◌≡◌, ℕ, zero, suc, ◌+◌, ◌-◌, ◌<◌, ◌≤◌, true, Bool, List, [], ◌∷◌, ◌++◌, length, map, get_or, refl, sym, ap, ◌∙◌, arith, inl, inr, filter, range_with_len, cases_Bool, cases_lt, and_parts, or_cases, length-map, All-head, All-tail, All-filter, is_kept_in_place, at_places, between, class_at, char_index, place, IsLine, IsPerChar, are_ordered, chars_in_runs, in_runs, kept_in_place, AreLines}
 use Rattle.bidi_base.specs.declared.char_data.BidiClass.{BidiClass}
 use Rattle.bidi_base.specs.declared.char_data.BidiClass.TheVariants.{L}
-use Rattle.bidi_base.specs.Classes.{is_kept_in_place}
-use Rattle.bidi_base.specs.Places.{at_places, between, class_at}
-use Rattle.bidi_base.specs.Text.{char_index, place, IsLine, IsPerChar}
-use Rattle.bidi_base.specs.Units.{are_ordered, chars_in_runs, in_runs, kept_in_place, AreLines}
 use Rattle.bidi_base.proofs.PermutationLemmas.{Ascends}
 use Rattle.bidi_base.proofs.PlaceLemmas.{line_places, place-le, place-le-back, place-lt, place-mono, place-more, unit_of}
 use Rattle.bidi_base.proofs.StoredLemmas.{length-at_places}
@@ -49,20 +40,18 @@ has-right c (x ∷ xs) ys h = has-later x c (xs ++ ys) (has-right c xs ys h)
 
 has-range : (c low n : ℕ) → low ≤ c → c < low + n → Has (range_with_len low n) c
 has-range c low zero from below = absurd (omega arith)
-has-range c low (suc n) from below = elim (cases_lt low c) [
-  | inl later ↦ has-later low c (range_with_len (low + 1) n) (has-range c (low + 1) n (omega arith) (omega arith))
-  | inr here ↦ let same : low ≡ c = omega arith in (0, omega arith, same)
-]
+has-range c low (suc n) from below = grind (
+  arith,
+  cases_lt low c,
+  has-later low c (range_with_len (low + 1) n),
+  has-range c (low + 1) n,
+)
 
 has-filter : (test : ℕ → Bool) (c : ℕ) → test c ≡ true → (xs : List ℕ) (k : ℕ) → k < length xs → get_or xs k 0 ≡ c → Has (filter test xs) c
 has-filter test c passes [] k fits is = absurd (omega arith)
 has-filter test c passes (x ∷ xs) zero fits is = grind arith
 has-filter test c passes (x ∷ xs) (suc k) fits is =
-    let rest = has-filter test c passes xs k (omega arith) is in
-    elim (cases_Bool (test x)) [
-      | inl yes' ↦ simp yes' (has-later x c (filter test xs) rest)
-      | inr no' ↦ grind arith
-    ]
+    grind (arith, cases_Bool (test x), has-later x c (filter test xs), has-filter test c passes xs k)
 
 ascends-at : (low high : ℕ) (ks : List ℕ) (i : ℕ) → Ascends low ks high → i < length ks → (low ≤ get_or ks i 0) × (get_or ks i 0 < high)
 ascends-at low high [] i h fits = absurd (omega arith)
@@ -132,14 +121,16 @@ module _ (len_of : ℕ → ℕ) (h : HasUnits len_of) (chars : List ℕ) (old : 
   unfolding chars_in_runs
   has-runs c within [] lines' inside = absurd (cc inside)
   has-runs c within (r ∷ rs) lines' inside =
-      let line = All-head (λ (q : ℕ × ℕ). IsLine len_of chars q.0 q.1) r rs lines' in
-      let w = line_places len_of h chars r.0 r.1 line in
+      let w = line_places len_of h chars r.0 r.1 (All-head (λ (q : ℕ × ℕ). IsLine len_of chars q.0 q.1) r rs lines') in
       let i = char_index len_of chars r.0 in
       let j = char_index len_of chars r.1 in
       elim (or_cases (in_run r (place len_of chars c)) (in_runs rs (place len_of chars c)) inside) [
         | inl here ↦
-            let ends = in_run-true r (place len_of chars c) here in
-            let there = has-range c i (j - i) (grind (arith, place-le-back)) (grind (arith, place-mono)) in
+            let there = has-range c i (j - i) (grind (arith, in_run-true, place-le-back)) (grind (
+              arith,
+              in_run-true,
+              place-mono,
+            )) in
             has-left c (between i j) (chars_in_runs len_of chars rs) there.0 there.1 there.2
         | inr later ↦ has-right c (between i j) (chars_in_runs len_of chars rs) (has-runs c within rs (All-tail (λ (q : ℕ × ℕ). IsLine len_of chars q.0 q.1) r rs lines') later)
       ]
@@ -157,11 +148,13 @@ module _ (len_of : ℕ → ℕ) (h : HasUnits len_of) (chars : List ℕ) (old : 
   owner units old_per per u seen =
       let parts = and_parts (in_runs runs u) (is_kept_in_place (class_at old u)) seen in
       let w = unit_of len_of chars u (in_runs-within len_of h chars runs lines u parts.0) in
-      let there = w.at_place in
       let short = w.below in
       let next = place-more len_of chars w.index 0 w.within in
       let begin = place len_of chars w.index in
-      let inside : in_runs runs begin ≡ true = sym (in_runs-alike len_of h chars runs lines w.index u (omega arith) (omega arith)) ∙ parts.0 in
+      let inside : in_runs runs begin ≡ true = sym (in_runs-alike len_of h chars runs lines w.index u (omega (
+        arith,
+        w.at_place,
+      )) (omega (arith, w.at_place))) ∙ parts.0 in
       let kept : is_kept_in_place (class_at old begin) ≡ true = grind (arith, alike_class) in
       let all = has-runs w.index w.within runs lines inside in
       let one = has-filter (λ c. is_kept_in_place (class_at old (place len_of chars c))) w.index kept (chars_in_runs len_of chars runs) all.0 all.1 all.2 in
@@ -170,7 +163,7 @@ module _ (len_of : ℕ → ℕ) (h : HasUnits len_of) (chars : List ℕ) (old : 
       record {
         number = one.0;
         fits = one.1;
-        from = omega arith;
-        below = omega arith;
+        from = omega (arith, w.at_place);
+        below = omega (arith, w.at_place);
         same = grind (arith, alike_class);
       }

@@ -1,13 +1,8 @@
 -- What the operations of the machine do to a stack of entries.
-use Rattle.std.proofs.Common.{◌≡◌, ℕ, ◌+◌, ◌-◌, ◌<◌, ◌≤◌, true, false, cond, List, [], ◌∷◌, ◌++◌, length, map, reverse, ◌∙◌, arith, Option}
-use Rattle.std.proofs.lemmas.Grind.{common_steps}
-use Rattle.std.specs.Option.{option_to_list}
+use Rattle.bidi_base.proofs.Common.{◌≡◌, ℕ, ◌+◌, ◌-◌, ◌<◌, ◌≤◌, true, false, cond, List, [], ◌∷◌, ◌++◌, length, map, reverse, ◌∙◌, arith, Option, common_steps, option_to_list, cond-true, cond-false, reverse-append, length-reverse, length-map, is_initiator, is_opener, is_pdi, is_pdf, Entry, State, entry_of, taken, refused, entered, fits_in, drop_isolate, close_isolate, close_embedding, closed, opened, IsPoppable, IsWithinDepth}
 use Rattle.std.specs.Prelude.{IsSome}
-use Rattle.std.proofs.lemmas.Bool.{cond-true, cond-false}
-use Rattle.std.proofs.lemmas.List.{reverse-append, length-reverse, length-map}
 use Rattle.bidi_base.specs.declared.char_data.BidiClass.{BidiClass}
-use Rattle.bidi_base.specs.Classes.{is_initiator, is_opener, is_pdi, is_pdf}
-use Rattle.bidi_base.specs.StatusMachine.{Entry, State, entry_of, taken, refused, entered, fits_in, with_stack, drop_isolate, close_isolate, close_embedding, closed, opened, IsPoppable, IsWithinDepth}
+use Rattle.bidi_base.specs.StatusMachine.{with_stack}
 use Rattle.bidi_base.proofs.StatusBounds.{IsTaken-room}
 use Rattle.bidi_rules.specs.declared.explicit.status.StatusEntry.{StatusEntry}
 use Rattle.bidi_rules.specs.Status.{entry_count, seen, state_by}

@@ -1,16 +1,9 @@
 -- The brackets of a line, gathered unit by unit: those units at which no character begins have none, nor have those of another class than ON.
-use Rattle.std.proofs.Common.{◌≡◌, ℕ, zero, suc, ◌+◌, ◌-◌, ◌<◌, ◌≤◌, false, List, [], ◌∷◌, ◌++◌, length, get_or, None, refl, sym, ap, ◌∙◌, arith, append-nil}
+use Rattle.bidi_base.proofs.Common.{◌≡◌, ℕ, zero, suc, ◌+◌, ◌-◌, ◌<◌, ◌≤◌, false, List, [], ◌∷◌, ◌++◌, length, get_or, None, refl, ap, ◌∙◌, arith, append-nil, range_with_len, flat_map-append, same_class, between, class_at, Source, char_at, char_index, place, IsLine, kept_in_place}
 use Rattle.std.specs.Prelude.{flat_map}
-use Rattle.std.specs.List.{range_with_len}
-use Rattle.std.proofs.lemmas.Grind.{flat_map-append}
 use Rattle.bidi_base.specs.declared.brackets.Bracket.{Bracket}
 use Rattle.bidi_base.specs.declared.char_data.BidiClass.{BidiClass}
 use Rattle.bidi_base.specs.declared.char_data.BidiClass.TheVariants.{ON}
-use Rattle.bidi_base.specs.Classes.{same_class}
-use Rattle.bidi_base.specs.Places.{between, class_at}
-use Rattle.bidi_base.specs.Source.{Source}
-use Rattle.bidi_base.specs.Text.{char_at, char_index, place, IsLine}
-use Rattle.bidi_base.specs.Units.{kept_in_place}
 use Rattle.bidi_base.proofs.PlaceLemmas.{char_at-place, line_places, place-mono, place-more}
 use Rattle.bidi_base.proofs.TextLemmas.{HasUnits}
 use Rattle.bidi_rules.specs.NeutralPass.{kept_among, placed_bracket, placed_brackets, unit_bracket, unit_brackets}
@@ -46,9 +39,11 @@ module _ (len_of : ℕ → ℕ) (chars : List ℕ) (source : Source) (units : Li
   module _ (h : HasUnits len_of) where
     -- no character begins within another one
     within_none : (k u : ℕ) → k < length chars → place len_of chars k < u → u < place len_of chars (k + 1) → char_at len_of chars u ≡ None
-    within_none k u fits from below =
-        let there : place len_of chars k + (u - place len_of chars k) ≡ u = omega arith in
-        simp there at (char_at-inside len_of h chars k (u - place len_of chars k) fits (omega arith) (omega (arith, place-more len_of chars k 0 fits)))
+    within_none k u fits from below = grind (
+      arith,
+      char_at-inside len_of h chars k (u - place len_of chars k),
+      place-more len_of chars k 0,
+    )
 
     -- the units of a character
     one_char : (k : ℕ) → k < length chars → unit_brackets len_of chars source units (place len_of chars k) (place len_of chars (k + 1)) ≡ placed_bracket len_of chars source units k
@@ -63,13 +58,9 @@ module _ (len_of : ℕ → ℕ) (chars : List ℕ) (source : Source) (units : Li
     placed-first i ks = grind arith
 
     some_chars : (i n : ℕ) → i + n ≤ length chars → unit_brackets len_of chars source units (place len_of chars i) (place len_of chars (i + n)) ≡ placed_brackets len_of chars source units (kept_among len_of chars units (range_with_len i n))
-    some_chars i zero fits =
-        let none : place len_of chars (i + 0) - place len_of chars i ≡ 0 = grind arith in
-        simp none
+    some_chars i zero fits = grind arith
     some_chars i (suc n) fits =
-        let next : i + suc n ≡ i + 1 + n = omega arith in
-        let parts = unit_brackets-parts (place len_of chars i) (place len_of chars (i + 1)) (place len_of chars (i + 1 + n)) (place-mono len_of chars i (i + 1) (omega arith)) (place-mono len_of chars (i + 1) (i + 1 + n) (omega arith)) in
-        simp (next, parts, one_char i (omega arith), some_chars (i + 1) n (omega arith), placed-first i (range_with_len (i + 1) n))
+        grind (arith, unit_brackets-parts (place len_of chars i) (place len_of chars (i + 1)) (place len_of chars (i + 1 + n)), place-mono, one_char i, some_chars (i + 1) n, placed-first i (range_with_len (i + 1) n))
 
     -- those of a line
     pub unit_brackets-line : (start end : ℕ) → IsLine len_of chars start end → unit_brackets len_of chars source units start end ≡ placed_brackets len_of chars source units (kept_in_place len_of chars units ((start, end) ∷ []))
@@ -77,8 +68,5 @@ module _ (len_of : ℕ → ℕ) (chars : List ℕ) (source : Source) (units : Li
         let i = char_index len_of chars start in
         let j = char_index len_of chars end in
         let w = line_places len_of h chars start end line in
-        let count : i + (j - i) ≡ j = let order = w.ordered in omega arith in
-        ap (λ u. unit_brackets len_of chars source units u end) w.begins
-        ∙ ap (unit_brackets len_of chars source units (place len_of chars i)) (w.ends ∙ ap (place len_of chars) (sym count))
-        ∙ some_chars i (j - i) (let within = w.within in let order = w.ordered in omega arith)
-        ∙ ap (placed_brackets len_of chars source units) (kept_so_far-end len_of chars units start end (j - i) count)
+        let count : i + (j - i) ≡ j = omega (arith, w.ordered) in
+        grind (arith, some_chars i (j - i), kept_so_far-end len_of chars units start end (j - i))

@@ -1,17 +1,8 @@
 -- Ranges in order, and the walks over the units of some of them.
-use Rattle.std.proofs.Common.{◌≡◌, ℕ, zero, suc, ◌+◌, ◌-◌, ◌<◌, ◌≤◌, true, List, [], ◌∷◌, ◌++◌, length, map, get_or, take, drop, reverse, Some, append-nil, refl, sym, ap, ◌∙◌, arith, length-append, lt-ltb}
-use Rattle.std.proofs.lemmas.List.Elements.{All-head, All-tail}
-use Rattle.std.specs.Prelude.{IsTrue, All}
-use Rattle.std.proofs.lemmas.Bool.{le-leb}
-use Rattle.std.proofs.lemmas.List.{map-append, reverse-append, get_or-map}
+use Rattle.bidi_base.proofs.Common.{◌≡◌, ℕ, zero, suc, ◌+◌, ◌-◌, ◌<◌, ◌≤◌, true, List, [], ◌∷◌, ◌++◌, length, map, get_or, take, drop, reverse, Some, append-nil, refl, sym, ap, ◌∙◌, arith, length-append, lt-ltb, All-head, All-tail, IsTrue, All, le-leb, map-append, reverse-append, get_or-map, flat_map-append, MakesProgress, item_count, Range, between, is_l_or_r, bounds, are_ordered_from, are_ordered, units_in_runs}
 use Rattle.std.proofs.lemmas.Slice.{between_to_end}
-use Rattle.std.proofs.lemmas.Grind.{flat_map-append}
-use Rattle.std.specs.Iterator.{MakesProgress, item_count}
-use Rattle.std.specs.declared.ops.Range.{Range}
-use Rattle.bidi_base.specs.Places.{between}
 use Rattle.bidi_base.specs.declared.char_data.BidiClass.{BidiClass}
-use Rattle.bidi_base.specs.Classes.{is_l_or_r}
-use Rattle.bidi_base.specs.Units.{bounds, are_ordered_from, are_ordered, is_run_sequence, units_in_runs, units_from, units_below}
+use Rattle.bidi_base.specs.Units.{is_run_sequence, units_from, units_below}
 use Rattle.bidi_base.proofs.PlacesLemmas.{range_with_len-more}
 
 -- what one range says
@@ -30,24 +21,22 @@ are_ordered-lower low from (r ∷ runs) order h = grind arith
 pub are_ordered-take : (low k : ℕ) (runs : List (ℕ × ℕ)) → are_ordered_from low runs ≡ true → are_ordered_from low (take k runs) ≡ true
 are_ordered-take low zero runs h = refl
 are_ordered-take low (suc k) [] h = refl
-are_ordered-take low (suc k) (r ∷ runs) h =
-    let f = are_ordered-front low r runs h in
-    simp (le-leb low r.0 f.from, lt-ltb r.0 r.1 f.not_empty, are_ordered-take r.1 k runs f.later)
+are_ordered-take low (suc k) (r ∷ runs) h = grind (arith, are_ordered-front low r runs h, are_ordered-take r.1 k runs)
 
 pub are_ordered-drop : (low k : ℕ) (runs : List (ℕ × ℕ)) → are_ordered_from low runs ≡ true → are_ordered_from low (drop k runs) ≡ true
 are_ordered-drop low zero runs h = h
 are_ordered-drop low (suc k) [] h = refl
-are_ordered-drop low (suc k) (r ∷ runs) h =
-    let f = are_ordered-front low r runs h in
-    are_ordered-lower low r.1 (drop k runs) (omega (arith, f.from, f.not_empty)) (are_ordered-drop r.1 k runs f.later)
+are_ordered-drop low (suc k) (r ∷ runs) h = grind (
+  arith,
+  are_ordered-front low r runs h,
+  are_ordered-drop r.1 k runs,
+  are_ordered-lower low r.1 (drop k runs),
+)
 
 -- the ranges before the last, and the last
 pub are_ordered-last : (low : ℕ) (runs : List (ℕ × ℕ)) (r : ℕ × ℕ) → are_ordered_from low (runs ++ r ∷ []) ≡ true → (are_ordered_from low runs ≡ true) × (r.0 < r.1)
 are_ordered-last low [] r h = (refl, (are_ordered-front low r [] h).not_empty)
-are_ordered-last low (q ∷ runs) r h =
-    let f = are_ordered-front low q (runs ++ r ∷ []) h in
-    let rest = are_ordered-last q.1 runs r f.later in
-    (simp (le-leb low q.0 f.from, lt-ltb q.0 q.1 f.not_empty, rest.0), rest.1)
+are_ordered-last low (q ∷ runs) r h = grind (arith, are_ordered-front low q (runs ++ r ∷ []) h, are_ordered-last q.1 runs r)
 
 -- the first number of a range, and the last
 pub between-first : (low high : ℕ) → low < high → between low high ≡ low ∷ between (low + 1) high
@@ -117,9 +106,8 @@ is_run_sequence-ordered runs sos eos h = grind arith steps 400000
 pub are_ordered-push : (low : ℕ) (runs : List (ℕ × ℕ)) (r : ℕ × ℕ) → low ≤ r.0 → r.0 < r.1 → All (λ (q : ℕ × ℕ). q.1 ≤ r.0) runs → are_ordered_from low runs ≡ true → are_ordered_from low (runs ++ r ∷ []) ≡ true
 are_ordered-push low [] r from some all h = simp (le-leb low r.0 from, lt-ltb r.0 r.1 some)
 are_ordered-push low (q ∷ runs) r from some all h =
-    let f = are_ordered-front low q runs h in
     let P = λ (x : ℕ × ℕ). x.1 ≤ r.0 in
-    simp (le-leb low q.0 f.from, lt-ltb q.0 q.1 f.not_empty, are_ordered-push q.1 runs r (All-head P q runs all) some (All-tail P q runs all) f.later)
+    grind (arith, are_ordered-front low q runs h, All-head P q runs all, are_ordered-push q.1 runs r, All-tail P q runs all)
 
 pub is_run_sequence-push : (runs : List (ℕ × ℕ)) (r : ℕ × ℕ) (sos eos after : BidiClass) → r.0 < r.1 → All (λ (q : ℕ × ℕ). q.1 ≤ r.0) runs → IsTrue (is_l_or_r after) → IsTrue (is_run_sequence runs sos eos) → IsTrue (is_run_sequence (runs ++ r ∷ []) sos after)
 is_run_sequence-push runs r sos eos after some all side h = grind (arith, length-append, are_ordered-push)

@@ -1,19 +1,10 @@
 -- W1 over units, one after another.
-use Rattle.std.proofs.Common.{◌≡◌, ℕ, zero, suc, ◌+◌, ◌-◌, ◌<◌, ◌≤◌, Bool, true, false, List, [], ◌∷◌, ◌++◌, length, map, get_or, set, refl, sym, ap, ◌∙◌, arith, inl, inr, append_assoc, append-nil, length-set, length-take, length-drop, get_or-set_same, get_or-set_other}
+use Rattle.bidi_base.proofs.Common.{◌≡◌, ℕ, zero, suc, ◌+◌, ◌-◌, ◌<◌, ◌≤◌, Bool, true, false, List, [], ◌∷◌, ◌++◌, length, map, get_or, set, refl, sym, ap, ◌∙◌, arith, inl, inr, append_assoc, append-nil, length-take, length-drop, get_or-set_same, get_or-set_other, All, filter, slice_range, list_any, range_with_len, Range, All-nil, All-cons, All-head, All-tail, list_any_at, cases_eq, cases_Bool, both_ways, and_parts, and_left, are_ordered, bounds, in_runs, is_kept_in_place, is_nsm, at_places, class_at, carried}
+use Rattle.std.proofs.Common.{length-set}
 use Rattle.std.proofs.Math.Numerals.{add-one}
-use Rattle.std.specs.Prelude.{All, filter, slice_range}
-use Rattle.std.specs.List.{list_any, range_with_len}
-use Rattle.std.specs.declared.ops.Range.{Range}
 use Rattle.std.proofs.lemmas.List.{get_or-take, get_or-drop}
-use Rattle.std.proofs.lemmas.List.Elements.{All-nil, All-cons, All-head, All-tail}
-use Rattle.std.proofs.lemmas.List.Folds.{list_any_at}
-use Rattle.std.proofs.lemmas.Bool.{cases_eq, cases_Bool, both_ways, and_parts, and_left}
-use Rattle.bidi_base.specs.Units.{are_ordered, bounds, in_runs}
 use Rattle.bidi_base.specs.declared.char_data.BidiClass.{BidiClass}
 use Rattle.bidi_base.specs.declared.char_data.BidiClass.TheVariants.{L}
-use Rattle.bidi_base.specs.Classes.{is_kept_in_place, is_nsm}
-use Rattle.bidi_base.specs.Places.{at_places, class_at}
-use Rattle.bidi_base.specs.Weak.{carried}
 use Rattle.bidi_base.proofs.StoredLemmas.{at_places-append}
 use Rattle.bidi_rules.specs.WeakPass.{marked, after_w1}
 use Rattle.bidi_rules.specs.WeakWalk.{is_seen, part_of, is_any, is_any_of, wide_part_of, is_any_wide, seen_from, seen_units, AreMarked, IsMarked}
@@ -70,8 +61,8 @@ module _ (runs : List (ℕ × ℕ)) (sos : BidiClass) (old : List BidiClass) whe
   module _ (ordered : are_ordered runs ≡ true) (within : All (λ (r : ℕ × ℕ). r.1 ≤ length old) runs) where
     pub AreMarked-first_run : is_kept_in_place sos ≡ true → AreMarked runs sos old old sos (start_or runs 0 (length old))
     AreMarked-first_run kept =
-        AreMarked-unseen old sos 0 (AreMarked-start kept) (start_or runs 0 (length old)) (omega arith) (start_within runs 0 (length old) ordered within)
-        (λ k from below. and_left (in_runs runs k) (is_kept_in_place (class_at old k)) (gap_before 0 runs k (length old) ordered below))
+        AreMarked-unseen old sos 0 (AreMarked-start kept) (start_or runs 0 (length old)) (omega arith)
+        (start_within runs 0 (length old) ordered within) (λ k from below. grind (arith, gap_before))
 
     pub AreMarked-next_run : (now : List BidiClass) (mark : BidiClass) (index : ℕ) → index < length runs → AreMarked runs sos old now mark (get_or runs index (0, 0)).1 → AreMarked runs sos old now mark (start_or runs (index + 1) (length old))
     AreMarked-next_run now mark index fits h =
@@ -82,7 +73,6 @@ module _ (runs : List (ℕ × ℕ)) (sos : BidiClass) (old : List BidiClass) whe
 
 in_part : (test : BidiClass → Bool) (units : List BidiClass) (start end u : ℕ) → end ≤ length units → start ≤ u → u < end → list_any test (slice_range units start end) ≡ false → test (class_at units u) ≡ false
 in_part test units start end u fits from below none =
-    let at : start + (u - start) ≡ u = omega arith in
     grind (arith, list_any_at test (slice_range units start end) (u - start) L, get_or-take, get_or-drop, length-take, length-drop)
 
 -- none passes in parts of the runs that have all their units
@@ -107,10 +97,7 @@ All-seen P runs units each = over 0 (length units - 0)
   where
     over : (low n : ℕ) → All P (filter (is_seen runs units) (range_with_len low n))
     over low zero = All-nil P
-    over low (suc n) = elim (cases_Bool (is_seen runs units low)) [
-      | inl yes' ↦ rw yes' (All-cons P low (filter (is_seen runs units) (range_with_len (low + 1) n)) (each low (and_parts (in_runs runs low) (is_kept_in_place (class_at units low)) yes').0) (over (low + 1) n))
-      | inr no' ↦ rw no' (over (low + 1) n)
-    ]
+    over low (suc n) = grind (arith, cases_Bool (is_seen runs units low), All-cons, each low, over (low + 1) n)
 
 after_w1-none : (units : List BidiClass) (us : List ℕ) (mark : BidiClass) → All (λ u. is_nsm (class_at units u) ≡ false) us → after_w1 mark (at_places L units us) ≡ at_places L units us
 after_w1-none units [] mark none = refl

@@ -1,12 +1,9 @@
 -- The pass from the front gives W1 to W7.
-use Rattle.std.proofs.Common.{◌≡◌, ℕ, zero, suc, Bool, true, false, not, if◌then◌else◌, List, [], ◌∷◌, ◌++◌, replicate, refl, ◌∙◌, append-nil, arith, rules}
+use Rattle.bidi_base.proofs.Common.{◌≡◌, ℕ, zero, suc, Bool, false, not, if◌then◌else◌, List, [], ◌∷◌, ◌++◌, replicate, refl, ◌∙◌, append-nil, arith, rules, is_strong, is_nsm, is_et, is_en, is_l, is_l_or_r, nearest, nearest_is, in_context, carried, w1_rule, w2_rule, w3_rule, w4_rule, w5_rule, w6_rule, w7_rule, w1, w3, w6, weak_classes}
 use Rattle.bidi_base.specs.declared.char_data.BidiClass.{BidiClass}
 use Rattle.bidi_base.specs.declared.char_data.BidiClass.TheVariants.{EN, ES, ET, AN, CS, ON}
 use Rattle.bidi_rules.specs.declared.implicit.weak.steps.Before.{Before}
-use Rattle.bidi_rules.specs.declared.implicit.weak.steps.Before.TheVariants.{Other, European, EuropeanTerminators, Arabic, Terminators, EuropeanSeparator, ArabicSeparator}
-use Rattle.bidi_base.specs.Classes.{is_strong, is_nsm, is_et, is_en, is_l, is_l_or_r}
-use Rattle.bidi_base.specs.Places.{nearest, nearest_is, in_context}
-use Rattle.bidi_base.specs.Weak.{carried, w1_rule, w2_rule, w3_rule, w4_rule, w5_rule, w6_rule, w7_rule, w1, w3, w6, weak_classes}
+use Rattle.bidi_rules.specs.declared.implicit.weak.steps.Before.TheVariants.{Other, European, Arabic, Terminators, EuropeanSeparator, ArabicSeparator}
 use Rattle.bidi_base.proofs.PlacesLemmas.{nearest-more}
 use Rattle.bidi_rules.specs.WeakPass.{marked, after_w1, strengthened, strong_up_to, after_w3, waits, is_beside_european, w7_by, after_w7}
 
@@ -47,12 +44,6 @@ number_of _ = ON
 abbrev is_european : List BidiClass → Bool
 is_european = nearest_is (λ c. not (is_et c)) is_en
 
--- one character, where its class by W4, W5 and W6 is known
-one : (sos : BidiClass) (after_l : Bool) (b4 b5 b7 : List BidiClass) (z c4 c5 c6 : BidiClass) (zs : List BidiClass)
-    → w4_rule b4 z zs ≡ c4 → w5_rule b5 c4 (in_context w4_rule (z ∷ b4) zs) ≡ c5 → w6_rule c5 ≡ c6 → after_l ≡ is_l (nearest is_l_or_r b7 sos)
-    → after_all sos b4 b5 b7 (z ∷ zs) ≡ w7_by after_l c6 ∷ after_all sos (z ∷ b4) (c4 ∷ b5) (c6 ∷ b7) zs
-one sos after_l b4 b5 b7 z c4 c5 c6 zs e4 e5 e6 h = grind arith
-
 -- what is known where nothing waits
 record IsPassed (sos : BidiClass) (b4 b5 b7 : List BidiClass) (after_l : Bool) (before : Before) : Type 0 where
   number : number_before b4 ≡ number_of before
@@ -72,71 +63,32 @@ record IsRight (sos : BidiClass) (zs : List BidiClass) : Type 0 where
   arabic : (b4 b5 b7 : List BidiClass) (after_l : Bool) → after_l ≡ is_l (nearest is_l_or_r b7 sos)
       → after_all sos (AN ∷ b4) b5 b7 (CS ∷ zs) ≡ after_w7 after_l ArabicSeparator 1 zs
 
--- a block of terminators that no European number stands before: what follows decides
-record IsBehind (sos : BidiClass) (after_l : Bool) (cells whole rest : List BidiClass) : Type 0 where
-  c4 : List BidiClass
-  c5 : List BidiClass
-  c7 : List BidiClass
-  is : whole ≡ cells ++ after_all sos c4 c5 c7 rest
-  number : number_before c4 ≡ ON
-  beside : is_european c5 ≡ false
-  left : after_l ≡ is_l (nearest is_l_or_r c7 sos)
-
 is_european-terminators : (rest : List BidiClass) (d : Bool) → ((b : List BidiClass) → is_european (in_context w4_rule (ET ∷ b) rest) ≡ d)
     → (n : ℕ) (b : List BidiClass) → is_european (in_context w4_rule (ET ∷ b) (replicate n ET ++ rest)) ≡ d
 is_european-terminators rest d h zero b = h b
 is_european-terminators rest d h (suc n) b = is_european-terminators rest d h n (ET ∷ b)
 
-left-terminator : (sos : BidiClass) (after_l : Bool) (b7 : List BidiClass) (d : Bool) → after_l ≡ is_l (nearest is_l_or_r b7 sos)
-    → after_l ≡ is_l (nearest is_l_or_r (w6_rule (if d then EN else ET) ∷ b7) sos)
-left-terminator sos after_l b7 d h = grind arith
-
-terminators-behind : (sos : BidiClass) (after_l : Bool) (rest : List BidiClass) (d : Bool) → ((b : List BidiClass) → is_european (in_context w4_rule (ET ∷ b) rest) ≡ d)
+-- a block of terminators that no European number stands before: what follows decides
+terminators-behind : (sos : BidiClass) (after_l : Bool) (rest : List BidiClass) (d : Bool) → ((b : List BidiClass) → is_european (in_context w4_rule (ET ∷ b) rest) ≡ d) → (r : List BidiClass)
+    → ((b4 b5 b7 : List BidiClass) → IsPassed sos b4 b5 b7 after_l Other → after_all sos b4 b5 b7 rest ≡ r)
     → (n : ℕ) (b4 b5 b7 : List BidiClass) → is_european b5 ≡ false → after_l ≡ is_l (nearest is_l_or_r b7 sos)
-    → IsBehind sos after_l (replicate (suc n) (w7_by after_l (w6_rule (if d then EN else ET)))) (after_all sos b4 b5 b7 (ET ∷ (replicate n ET ++ rest))) rest
-terminators-behind sos after_l rest d h zero b4 b5 b7 none left =
-    record {
-      c4 = ET ∷ b4;
-      c5 = ET ∷ b5;
-      c7 = w6_rule (if d then EN else ET) ∷ b7;
-      is = one sos after_l b4 b5 b7 ET ET (if d then EN else ET) (w6_rule (if d then EN else ET)) rest (grind arith) (simp (none, h b4)) refl left;
-      number = refl;
-      beside = none;
-      left = left-terminator sos after_l b7 d left;
-    }
-terminators-behind sos after_l rest d h (suc n) b4 b5 b7 none left =
-    let more = ET ∷ (replicate n ET ++ rest) in
-    let c6 = w6_rule (if d then EN else ET) in
-    let r : IsBehind sos after_l (replicate (suc n) (w7_by after_l c6)) (after_all sos (ET ∷ b4) (ET ∷ b5) (c6 ∷ b7) more) rest =
-    terminators-behind sos after_l rest d h n (ET ∷ b4) (ET ∷ b5) (c6 ∷ b7) none (left-terminator sos after_l b7 d left)
-    in
-    record {
-      c4 = r.c4;
-      c5 = r.c5;
-      c7 = r.c7;
-      is = simp (one sos after_l b4 b5 b7 ET ET (if d then EN else ET) c6 more (grind arith) (simp (none, is_european-terminators rest d h (suc n) b4)) refl left, r.is);
-      number = r.number;
-      beside = r.beside;
-      left = r.left;
-    }
+    → after_all sos b4 b5 b7 (ET ∷ (replicate n ET ++ rest)) ≡ replicate (suc n) (w7_by after_l (w6_rule (if d then EN else ET))) ++ r
+terminators-behind sos after_l rest d h r go zero b4 b5 b7 none left = grind (arith, h b4, go (ET ∷ b4) (ET ∷ b5) (w6_rule (if d then EN else ET) ∷ b7))
+terminators-behind sos after_l rest d h r go (suc n) b4 b5 b7 none left =
+    grind (
+      arith,
+      is_european-terminators rest d h (suc n) b4,
+      terminators-behind sos after_l rest d h r go n (ET ∷ b4) (ET ∷ b5) (w6_rule (if d then EN else ET) ∷ b7),
+    )
 
 pub replicate-onto : (c : BidiClass) (n : ℕ) (zs : List BidiClass) → replicate n c ++ (c ∷ zs) ≡ c ∷ (replicate n c ++ zs)
 replicate-onto c zero zs = refl
 replicate-onto c (suc n) zs = simp (replicate-onto c n zs)
 
 module _ (sos : BidiClass) (zs : List BidiClass) (next : IsRight sos zs) where
-  -- a terminator behind a European number
-  past_terminator : (b4 b5 b7 : List BidiClass) (after_l : Bool) → is_european b5 ≡ true → after_l ≡ is_l (nearest is_l_or_r b7 sos)
-      → after_all sos b4 b5 b7 (ET ∷ zs) ≡ w7_by after_l EN ∷ after_w7 after_l EuropeanTerminators 0 zs
-  past_terminator b4 b5 b7 after_l european left = grind arith
-
-  terminator : (b4 b5 b7 : List BidiClass) (after_l : Bool) (before : Before) → waits before ≡ false → IsPassed sos b4 b5 b7 after_l before
-      → after_all sos b4 b5 b7 (ET ∷ zs) ≡ after_w7 after_l before 0 (ET ∷ zs)
-  terminator b4 b5 b7 after_l before free h = grind (arith, past_terminator, next.terminators 0)
-
   ready-more : (z : BidiClass) (before : Before) (b4 b5 b7 : List BidiClass) (after_l : Bool) → waits before ≡ false → IsPassed sos b4 b5 b7 after_l before
       → after_all sos b4 b5 b7 (z ∷ zs) ≡ after_w7 after_l before 0 (z ∷ zs)
-  ready-more ET before b4 b5 b7 after_l free h = terminator b4 b5 b7 after_l before free h
+  ready-more ET before b4 b5 b7 after_l free h = grind (arith, next.terminators 0)
   ready-more z before b4 b5 b7 after_l free h = grind arith
 
   -- behind what waited, where it is not joined
@@ -147,46 +99,31 @@ module _ (sos : BidiClass) (zs : List BidiClass) (next : IsRight sos zs) where
   terminators-other : (z : BidiClass) → is_et z ≡ false → (n : ℕ) (b4 b5 b7 : List BidiClass) (after_l : Bool) → is_european b5 ≡ false → after_l ≡ is_l (nearest is_l_or_r b7 sos)
       → after_all sos b4 b5 b7 (ET ∷ (replicate n ET ++ (z ∷ zs))) ≡ after_w7 after_l Terminators (suc n) (z ∷ zs)
   terminators-other z other n b4 b5 b7 after_l none left =
-      let cells = replicate (suc n) (w7_by after_l (w6_rule (if is_en z then EN else ET))) in
-      let r : IsBehind sos after_l cells (after_all sos b4 b5 b7 (ET ∷ (replicate n ET ++ (z ∷ zs)))) (z ∷ zs) = grind (arith, terminators-behind) in
-      simp (r.is, ready-more z Other r.c4 r.c5 r.c7 after_l refl (record { number = r.number; beside = r.beside; left = r.left })) (settled-terminators n after_l z other)
+      terminators-behind sos after_l (z ∷ zs) (is_en z) (λ b. grind arith) _ (λ c4 c5 c7. ready-more z Other c4 c5 c7 after_l refl) n b4 b5 b7 none left
+      ∙ settled-terminators n after_l z other
 
   terminators-more : (z : BidiClass) (n : ℕ) (b4 b5 b7 : List BidiClass) (after_l : Bool) → is_european b5 ≡ false → after_l ≡ is_l (nearest is_l_or_r b7 sos)
       → after_all sos b4 b5 b7 (ET ∷ (replicate n ET ++ (z ∷ zs))) ≡ after_w7 after_l Terminators (suc n) (z ∷ zs)
   terminators-more ET n b4 b5 b7 after_l none left = simp (replicate-onto ET n zs) (next.terminators (suc n) b4 b5 b7 after_l none left)
   terminators-more z n b4 b5 b7 after_l none left = terminators-other z refl n b4 b5 b7 after_l none left
 
-  plus-more : (z : BidiClass) (b4 b5 b7 : List BidiClass) (after_l : Bool) → after_l ≡ is_l (nearest is_l_or_r b7 sos)
-      → after_all sos (EN ∷ b4) b5 b7 (ES ∷ (z ∷ zs)) ≡ after_w7 after_l EuropeanSeparator 1 (z ∷ zs)
-  plus-more z b4 b5 b7 after_l left =
-      grind (arith, ready-more z Other (ES ∷ (EN ∷ b4)) (ES ∷ b5) (ON ∷ b7) after_l refl (record { number = refl; beside = refl; left = left }))
-
-  comma-more : (z : BidiClass) (b4 b5 b7 : List BidiClass) (after_l : Bool) → after_l ≡ is_l (nearest is_l_or_r b7 sos)
-      → after_all sos (EN ∷ b4) b5 b7 (CS ∷ (z ∷ zs)) ≡ after_w7 after_l EuropeanSeparator 1 (z ∷ zs)
-  comma-more z b4 b5 b7 after_l left =
-      grind (arith, ready-more z Other (CS ∷ (EN ∷ b4)) (CS ∷ b5) (ON ∷ b7) after_l refl (record { number = refl; beside = refl; left = left }))
-
-  arabic-more : (z : BidiClass) (b4 b5 b7 : List BidiClass) (after_l : Bool) → after_l ≡ is_l (nearest is_l_or_r b7 sos)
-      → after_all sos (AN ∷ b4) b5 b7 (CS ∷ (z ∷ zs)) ≡ after_w7 after_l ArabicSeparator 1 (z ∷ zs)
-  arabic-more z b4 b5 b7 after_l left =
-      grind (arith, ready-more z Other (CS ∷ (AN ∷ b4)) (CS ∷ b5) (ON ∷ b7) after_l refl (record { number = refl; beside = refl; left = left }))
+  right-more : (z : BidiClass) → IsRight sos (z ∷ zs)
+  right-more z = record {
+    ready = ready-more z;
+    terminators = terminators-more z;
+    plus = λ b4 b5 b7. grind (arith, ready-more z Other);
+    comma = grind (arith, ready-more z Other);
+    arabic = grind (arith, ready-more z Other);
+  }
 
 terminators-end : (sos : BidiClass) (n : ℕ) (b4 b5 b7 : List BidiClass) (after_l : Bool) → is_european b5 ≡ false → after_l ≡ is_l (nearest is_l_or_r b7 sos)
     → after_all sos b4 b5 b7 (ET ∷ (replicate n ET ++ [])) ≡ after_w7 after_l Terminators (suc n) []
 terminators-end sos n b4 b5 b7 after_l none left =
-    (terminators-behind sos after_l [] false (λ b. refl) n b4 b5 b7 none left).is ∙ append-nil (replicate (suc n) ON)
+    terminators-behind sos after_l [] false (λ b. refl) [] (λ c4 c5 c7 p. refl) n b4 b5 b7 none left ∙ append-nil (replicate (suc n) ON)
 
 is_right : (sos : BidiClass) (zs : List BidiClass) → IsRight sos zs
 is_right sos [] = search (rules, terminators-end)
-is_right sos (z ∷ zs) =
-    let next = is_right sos zs in
-    record {
-      ready = ready-more sos zs next z;
-      terminators = terminators-more sos zs next z;
-      plus = plus-more sos zs next z;
-      comma = comma-more sos zs next z;
-      arabic = arabic-more sos zs next z;
-    }
+is_right sos (z ∷ zs) = right-more sos zs (is_right sos zs) z
 
 -- W2 to W7 in one pass, behind W1
 pub weak_classes-pass : (sos : BidiClass) (xs : List BidiClass) → weak_classes sos xs ≡ after_w7 (is_l sos) Other 0 (after_w3 sos (w1 sos xs))

@@ -1,25 +1,16 @@
 -- The weak passes over the units of a text: what stands at the characters once all are done.
-use Rattle.std.proofs.Common.{◌≡◌, ℕ, zero, suc, ◌+◌, ◌-◌, ◌<◌, ◌≤◌, Bool, true, false, List, [], length, map, get_or, refl, sym, ap, ◌∙◌, arith, inl, inr}
-use Rattle.std.specs.Prelude.{All, filter}
-use Rattle.std.specs.List.{range_with_len}
-use Rattle.std.proofs.lemmas.Bool.{cases_Bool, cases_eq, and_parts, and_left, and_right}
-use Rattle.std.proofs.lemmas.List.{length-map}
+use Rattle.bidi_base.proofs.Common.{◌≡◌, ℕ, zero, suc, ◌+◌, ◌-◌, ◌<◌, ◌≤◌, Bool, true, false, List, [], length, map, get_or, refl, sym, ap, ◌∙◌, arith, inl, inr, All, filter, range_with_len, cases_Bool, cases_eq, and_parts, and_left, and_right, length-map, is_kept_in_place, at_places, class_at, carried, w1_rule, w1, weak_classes, is_per_char, place, per_unit, IsLine, IsPerChar, are_ordered, in_runs, kept_in_place, units_in_runs, AreLines}
 use Rattle.bidi_base.specs.declared.char_data.BidiClass.{BidiClass}
 use Rattle.bidi_base.specs.declared.char_data.BidiClass.TheVariants.{L, BN}
-use Rattle.bidi_base.specs.Classes.{is_kept_in_place}
-use Rattle.bidi_base.specs.Places.{at_places, class_at}
-use Rattle.bidi_base.specs.Weak.{carried, w1_rule, w1, weak_classes}
-use Rattle.bidi_base.specs.Text.{is_per_char, place, per_unit, IsLine, IsPerChar}
-use Rattle.bidi_base.specs.Units.{are_ordered, in_runs, kept_in_place, units_in_runs, AreLines}
 use Rattle.bidi_base.proofs.PlaceLemmas.{char_at-place, line_places, place-more, place-mono, unit_of}
 use Rattle.bidi_base.proofs.TextLemmas.{HasUnits, is_boundary-le}
 use Rattle.bidi_base.proofs.UnitsLemmas.{length-from_IsPerChar, is_per_char-from_IsPerChar}
 use Rattle.bidi_base.proofs.PerCharTests.{class_eq, class_test}
 use Rattle.bidi_base.proofs.PlacesLemmas.{length-in_context}
-use Rattle.bidi_base.proofs.RepeatedPlaces.{AreIndexes, units_of_chars, read_units-is, read_units-new, kept_in_place-AreIndexes}
-use Rattle.bidi_base.proofs.RepeatedRules.{w1-per_unit}
 use Rattle.bidi_base.proofs.ResolvedLemmas.{length-weak_classes}
 use Rattle.bidi_base.proofs.StoredLemmas.{length-at_places}
+use Rattle.bidi_base.proofs.RepeatedPlaces.{read_units-is, read_units-new, kept_in_place-AreIndexes, AreIndexes, units_of_chars}
+use Rattle.bidi_base.proofs.RepeatedRules.{w1-per_unit}
 use Rattle.bidi_rules.specs.declared.implicit.weak.steps.Before.TheVariants.{Other}
 use Rattle.bidi_rules.specs.WeakPass.{left_over}
 use Rattle.bidi_rules.specs.WeakWalk.{is_seen, seen_units, len_at, IsWhole, IsMarked, IsWalked}
@@ -45,8 +36,7 @@ module _ (len_of : ℕ → ℕ) (h : HasUnits len_of) (chars : List ℕ) where
             let begins : u ≡ place len_of chars k = omega arith in
             let size : len_at len_of chars u ≡ len_of (get_or chars k 0) = ap (len_at len_of chars) begins ∙ len_at-place k w.within in
             let more = place-more len_of chars k 0 w.within in
-            let l = line_places len_of h chars start end line in
-            let ends = l.ends in
+            let ends = (line_places len_of h chars start end line).ends in
             record {
               some = omega (arith, h (get_or chars k 0));
               within = grind (arith, place-mono);
@@ -67,10 +57,12 @@ pub record IsResolved (len_of : ℕ → ℕ) (chars : List ℕ) (runs : List (�
 -- a class that is changed by itself where a unit is marked
 at_marked-map : (f : BidiClass → BidiClass) (mark : ℕ → Bool) (xs ys : List BidiClass) (low n : ℕ) → ((k : ℕ) → mark k ≡ true → class_at xs k ≡ f (class_at ys k)) → at_places L xs (filter mark (range_with_len low n)) ≡ map f (at_places L ys (filter mark (range_with_len low n)))
 at_marked-map f mark xs ys low zero h = refl
-at_marked-map f mark xs ys low (suc n) h = elim (cases_Bool (mark low)) [
-  | inl yes' ↦ simp (yes', h low yes', at_marked-map f mark xs ys (low + 1) n h)
-  | inr no' ↦ simp (no', at_marked-map f mark xs ys (low + 1) n h)
-]
+at_marked-map f mark xs ys low (suc n) h = grind (
+  arith,
+  cases_Bool (mark low),
+  h low,
+  at_marked-map f mark xs ys (low + 1) n h,
+)
 
 module _ (len_of : ℕ → ℕ) (h : HasUnits len_of) (chars : List ℕ) (runs : List (ℕ × ℕ)) (lines : AreLines len_of chars runs) (ordered : are_ordered runs ≡ true) (sos : BidiClass) where
   pub lines-within : (classes : List BidiClass) → IsPerChar len_of chars classes → All (λ r. r.1 ≤ length classes) runs

@@ -1,16 +1,7 @@
 -- The walk over units gives what W2 to W7 give the characters, repeated.
-use Rattle.std.proofs.Common.{◌≡◌, ℕ, zero, suc, ◌+◌, ◌-◌, ◌<◌, ◌≤◌, Bool, true, false, if◌then◌else◌, List, [], ◌∷◌, ◌++◌, length, map, get_or, replicate, refl, sym, ap, ◌∙◌, arith, inl, inr, append-nil, append_assoc, length-append}
-use Rattle.std.specs.Prelude.{All}
-use Rattle.std.specs.List.{range_with_len}
-use Rattle.std.proofs.lemmas.Bool.{cases_Bool}
+use Rattle.bidi_base.proofs.Common.{◌≡◌, ℕ, zero, suc, ◌+◌, ◌-◌, ◌<◌, ◌≤◌, Bool, true, false, if◌then◌else◌, List, [], ◌∷◌, ◌++◌, length, map, get_or, replicate, refl, sym, ap, ◌∙◌, arith, inl, inr, append-nil, append_assoc, length-append, All, range_with_len, cases_Bool, replicate-append-replicate, sum_by-append, sum_by-cons, All-head, All-tail, is_l, at_places, class_at, place, per_unit, text_len}
 use Rattle.bidi_base.specs.declared.char_data.BidiClass.{BidiClass}
 use Rattle.bidi_base.specs.declared.char_data.BidiClass.TheVariants.{L, ET, ON}
-use Rattle.std.proofs.lemmas.List.{replicate-append-replicate}
-use Rattle.std.proofs.lemmas.List.Sums.{sum_by-append, sum_by-cons}
-use Rattle.std.proofs.lemmas.List.Elements.{All-head, All-tail}
-use Rattle.bidi_base.specs.Classes.{is_l}
-use Rattle.bidi_base.specs.Places.{at_places, class_at}
-use Rattle.bidi_base.specs.Text.{place, per_unit, text_len}
 use Rattle.bidi_base.proofs.RepeatedPlaces.{AreIndexes, units_of_chars}
 use Rattle.bidi_base.proofs.TextLemmas.{HasUnits}
 use Rattle.bidi_rules.specs.declared.implicit.weak.steps.Before.{Before}
@@ -34,9 +25,7 @@ module _ (class : ℕ → BidiClass) (len : ℕ → ℕ) where
   -- terminators that join those that wait
   joined : (strong : BidiClass) (m n a : ℕ) (us : List ℕ) → ((k : ℕ) → a ≤ k → k < a + m → class k ≡ ET) → walked class len strong Terminators 0 n (range_with_len a m ++ us) ≡ walked class len strong Terminators 0 (n + m) us
   joined strong zero n a us each = grind arith
-  joined strong (suc m) n a us each =
-      let more : n + suc m ≡ suc n + m = omega arith in
-      simp (each a (omega arith) (omega arith), more) (joined strong m (suc n) (a + 1) us (λ k from below. each k (omega arith) (omega arith)))
+  joined strong (suc m) n a us each = grind (arith, each a, joined strong m (suc n) (a + 1) us)
 
   held_rest : (strong : BidiClass) (next : Before) (m a : ℕ) (us : List ℕ) → waits next ≡ true → (next ≡ Terminators → (k : ℕ) → a ≤ k → k < a + m → class k ≡ ET)
       → walked class len strong next (still_to_come next (suc m)) 1 (range_with_len a m ++ us) ≡ walked class len strong next 0 (suc m) us
@@ -72,8 +61,7 @@ module _ (class : ℕ → BidiClass) (len : ℕ → ℕ) where
 
     decided : IsSteady c strong before → waits next ≡ false → (m a : ℕ) (us : List ℕ) → ((k : ℕ) → a ≤ k → k < a + m → class k ≡ c) → walked class len now next 0 0 (range_with_len a m ++ us) ≡ replicate m own ++ walked class len now next 0 0 us
     decided s free zero a us each = refl
-    decided s free (suc m) a us each =
-        simp (first now c next 0 a (range_with_len (a + 1) m ++ us) (each a (omega arith) (omega arith)), s.apart, s.next, free, s.now, s.own, decided s free m (a + 1) us (λ k from below. each k (omega arith) (omega arith)))
+    decided s free (suc m) a us each = grind (arith, s, each a, decided s free m (a + 1) us)
 
     pub row-waits : (m n a : ℕ) (us : List ℕ) → ((k : ℕ) → a ≤ k → k < a + suc m → class k ≡ c) → joins z before ≡ false → waits next ≡ true → still_to_come next (len a) ≡ still_to_come next (suc m)
         → walked class len strong before 0 n (range_with_len a (suc m) ++ us) ≡ replicate n (w7_by (is_l strong) (settled z before)) ++ walked class len now next 0 (suc m) us
@@ -106,13 +94,14 @@ pub walked-plain : (classes : List BidiClass) (len : ℕ → ℕ) (us : List ℕ
 walked-plain classes len [] none strong before n idle = sym (append-nil (replicate n ON))
 walked-plain classes len (u ∷ us) none strong before n idle =
     let c = class_at classes u in
-    let z = strengthened strong c in
-    let next = next_before z before in
-    let rest = map left_over (at_places L classes us) in
     let p = is_plain c strong before (All-head (λ u. is_number (class_at classes u) ≡ false) u us none) idle in
-    let later = walked-plain classes len us (All-tail (λ u. is_number (class_at classes u) ≡ false) u us none) (strong_up_to strong c) next in
-    elim (cases_Bool (joins z before)) [
-      | inl joins' ↦ rw (joins', p.joined joins') (later (suc n) p.next ∙ sym (replicate-onto ON n rest))
+    let later = walked-plain classes len us (All-tail (λ u. is_number (class_at classes u) ≡ false) u us none)
+    (strong_up_to strong c) (next_before (strengthened strong c) before) in
+    elim (cases_Bool (joins (strengthened strong c) before)) [
+      | inl joins' ↦ rw (
+        joins',
+        p.joined joins',
+      ) (later (suc n) p.next ∙ sym (replicate-onto ON n (map left_over (at_places L classes us))))
       | inr apart ↦ grind arith
     ]
 

@@ -1,18 +1,8 @@
 -- The steps of the walk over numbers, by stretches of units.
-use Rattle.std.proofs.Common.{◌≡◌, ℕ, zero, suc, ◌+◌, ◌-◌, ◌<◌, ◌≤◌, Bool, true, false, List, [], ◌∷◌, ◌++◌, length, get_or, map, take, drop, reverse, replicate, refl, sym, ap, ◌∙◌, arith, inl, inr, append-nil, append_assoc, length-append, get_or-drop}
+use Rattle.bidi_base.proofs.Common.{◌≡◌, ℕ, zero, suc, ◌+◌, ◌-◌, ◌<◌, ◌≤◌, Bool, true, false, List, [], ◌∷◌, ◌++◌, length, get_or, map, take, drop, reverse, replicate, refl, sym, ap, ◌∙◌, arith, inl, inr, append-nil, append_assoc, length-append, get_or-drop, common_steps, All, range_with_len, cases_Bool, both_ways, and_left, and_right, map-append, length-range_with_len, Range, is_l, is_strong, is_kept_in_place, at_places, class_at, nearest, are_ordered, bounds, in_runs}
 use Rattle.std.proofs.Math.Numerals.{add-one}
-use Rattle.std.proofs.lemmas.Grind.{common_steps}
-use Rattle.std.specs.Prelude.{All}
-use Rattle.std.specs.List.{range_with_len}
-use Rattle.std.proofs.lemmas.Bool.{cases_Bool, both_ways, and_left, and_right}
-use Rattle.std.proofs.lemmas.List.{map-append}
-use Rattle.std.proofs.lemmas.List.FromFn.{length-range_with_len}
-use Rattle.std.specs.declared.ops.Range.{Range}
 use Rattle.bidi_base.specs.declared.char_data.BidiClass.{BidiClass}
 use Rattle.bidi_base.specs.declared.char_data.BidiClass.TheVariants.{L, ON}
-use Rattle.bidi_base.specs.Classes.{is_l, is_strong, is_kept_in_place}
-use Rattle.bidi_base.specs.Places.{at_places, class_at, nearest}
-use Rattle.bidi_base.specs.Units.{are_ordered, bounds, in_runs}
 use Rattle.bidi_base.proofs.PlacesLemmas.{nearest-more}
 use Rattle.bidi_base.proofs.StoredLemmas.{at_places-append}
 use Rattle.bidi_rules.specs.declared.implicit.weak.numbers.Walk.{Walk}
@@ -41,11 +31,6 @@ stays-row (suc n) v h = simp (h, stays-row n v h)
 pub joins-waits : (z : BidiClass) (before : Before) → joins z before ≡ true → (waits before ≡ true) × (waits (next_before z before) ≡ true)
 joins-waits z before h = grind arith
 
--- the same walk, by its parts
-pub IsUnderWay-same : (p : Pass) (now now' : List BidiClass) (w w' : Walk) (i : ℕ) → now' ≡ now → w'.strong ≡ w.strong → w'.before ≡ w.before → w'.first ≡ w.first → w'.first_run ≡ w.first_run
-    → IsUnderWay p now w i → IsUnderWay p now' w' i
-IsUnderWay-same p now now' w w' i a b c d e h = grind arith
-
 pub IsUnderWay-start : (p : Pass) → IsUnderWay p p.old (record { strong = p.sos; before = Other; first = 0; first_run = 0 }) 0
 IsUnderWay-start p = grind arith
 
@@ -60,6 +45,10 @@ module _ (p : Pass) (now : List BidiClass) (w : Walk) (i : ℕ) (h : IsUnderWay 
   abbrev rest : BidiClass → Before → ℕ → ℕ → List BidiClass
   rest strong before n j = walked (class_at p.old) p.len strong before 0 n (units p j (length p.old))
 
+  waits-unseen : (j : ℕ) → i ≤ j → j ≤ length p.old → ((k : ℕ) → i ≤ k → k < j → seen p k ≡ false) → waits w.before ≡ true → IsUnderWay p now w j
+  waits-unseen j order fits none wait =
+      grind (arith, marked-empty (seen p) i j none, marked-parts (seen p) i j (length p.old), marked-parts (seen p) h.from i j, append-nil)
+
   -- units that are not seen
   pub IsUnderWay-unseen : (j : ℕ) → i ≤ j → j ≤ length p.old → ((k : ℕ) → i ≤ k → k < j → seen p k ≡ false) → IsUnderWay p now w j
   IsUnderWay-unseen j order fits none =
@@ -68,18 +57,7 @@ module _ (p : Pass) (now : List BidiClass) (w : Walk) (i : ℕ) (h : IsUnderWay 
       let nothing : units p i j ≡ [] = marked-empty (seen p) i j none in
       let reads : map left_over (at_places L now (units p 0 from)) ++ rest w.strong w.before (length (units p from i)) j ≡ target = grind (arith, marked-parts (seen p) i j (length p.old)) in
       elim (cases_Bool (waits w.before)) [
-        | inl wait ↦
-            record {
-              from = from;
-              answers = grind (arith, marked-parts (seen p) from i j, append-nil);
-              unwritten = h.unwritten;
-              unseen = h.unseen;
-              waiting = h.waiting;
-              idle = λ free. absurd (both_ways (waits w.before) free wait);
-              order = omega arith;
-              inside = fits;
-              long = h.long;
-            }
+        | inl wait ↦ waits-unseen j order fits none wait
         | inr free ↦
             let at : from ≡ i = h.idle free in
             record {
@@ -179,22 +157,15 @@ module _ (p : Pass) (now : List BidiClass) (w : Walk) (i : ℕ) (h : IsUnderWay 
     module _ (now1 : List BidiClass) (t : IsWrittenOver (seen p) v h.from i now now1) (apart : joins z w.before ≡ false) where
       pub IsUnderWay-waits : waits next ≡ true → IsUnderWay p now1 (next_walk w c i run) j
       IsUnderWay-waits wait =
-          record {
-            from = i;
-            answers = simp (front-written v now1 t (settled-stays c w.strong (is_l w.strong) w.before), count-stretch, append_assoc)
-                (reads (replicate n v ++ rest strong next (suc m) j) (row-waits (class_at p.old) p.len w.strong c w.before m n i (units p j (length p.old)) each apart wait (s.single ∙ ap (still_to_come next) {y = suc m} (omega (arith, s.some)))));
-            unwritten = λ k a. t.above k a ∙ h.unwritten k (omega (arith, h.order));
-            unseen = λ k u. t.failing k u ∙ h.unseen k u;
-            waiting = λ u. record {
-              first = refl;
-              run_fits = simp s.runs_are s.run_fits;
-              run = simp s.runs_are s.run_starts;
-            };
-            idle = λ free. absurd (both_ways (waits next) free wait);
-            order = omega (arith, s.some);
-            inside = s.inside;
-            long = t.long ∙ h.long;
-          }
+          grind (
+            arith,
+            front-written v now1 t (settled-stays c w.strong (is_l w.strong) w.before),
+            count-stretch,
+            append_assoc,
+            s,
+            reads (replicate n v ++ rest strong next (suc m) j),
+            row-waits (class_at p.old) p.len w.strong c w.before m n i (units p j (length p.old)) each apart wait,
+          )
 
       -- at its units stands what W3 and W6 take to the class that they get
       pub IsUnderWay-decides : waits next ≡ false → (now2 : List BidiClass) → ((k : ℕ) → i ≤ k → k < j → left_over (class_at now2 k) ≡ own)

@@ -1,13 +1,10 @@
 -- A class written over some units of a slice.
-use Rattle.std.proofs.Common.{◌≡◌, ℕ, ◌+◌, ◌-◌, ◌<◌, ◌≤◌, Bool, true, false, min, max, List, length, get_or, set, take, sym, ap, subst, ◌∙◌, arith, inl, inr, length-set, length-take, length-drop, length-append, get_or-set_other, get_or-set_same}
-use Rattle.std.proofs.lemmas.Grind.{common_steps}
-use Rattle.std.proofs.lemmas.Bool.{cases_lt, cases_eq, cases_Bool, and_parts, and_from, and_left, and_right, and_cases, or_parts, both_ways}
-use Rattle.std.proofs.lemmas.List.{length-replicate, get_or-take, get_or-drop, get_or_append_left, get_or-append_right, get_or-replicate}
+use Rattle.bidi_base.proofs.Common.{◌≡◌, ℕ, ◌+◌, ◌-◌, ◌<◌, ◌≤◌, Bool, true, false, min, max, List, length, get_or, set, take, sym, ap, subst, ◌∙◌, arith, inl, inr, length-take, length-drop, length-append, get_or-set_other, get_or-set_same, common_steps, cases_lt, cases_eq, cases_Bool, and_parts, and_from, and_left, or_parts, both_ways, length-replicate, get_or_append_left, get_or-append_right, get_or-replicate, is_kept_in_place, class_at, are_ordered, in_runs}
+use Rattle.std.proofs.Common.{length-set}
+use Rattle.std.proofs.lemmas.Bool.{and_cases}
+use Rattle.std.proofs.lemmas.List.{get_or-take, get_or-drop}
 use Rattle.bidi_base.specs.declared.char_data.BidiClass.{BidiClass}
 use Rattle.bidi_base.specs.declared.char_data.BidiClass.TheVariants.{L}
-use Rattle.bidi_base.specs.Classes.{is_kept_in_place}
-use Rattle.bidi_base.specs.Places.{class_at}
-use Rattle.bidi_base.specs.Units.{are_ordered, in_runs}
 use Rattle.bidi_rules.specs.ExplicitPass.{filled}
 use Rattle.bidi_rules.specs.WeakWalk.{is_seen, IsWrittenOver}
 use Rattle.bidi_rules.proofs.InRuns.{in_run, in_run-true, in_run-inside, in_runs-more, in_runs-take}
@@ -23,10 +20,7 @@ module _ (test : ℕ → Bool) (class : BidiClass) (from : ℕ) (old : List Bidi
   -- one unit more
   pub IsWrittenOver-skip : (i : ℕ) (now : List BidiClass) → test i ≡ false → IsWrittenOver test class from i old now → IsWrittenOver test class from (i + 1) old now
   IsWrittenOver-skip i now plain h = record {
-    inside = λ k a b t. elim (cases_eq k i) [
-      | inl same ↦ absurd (both_ways (test i) plain (subst (λ (j : ℕ). test j ≡ true) same t))
-      | inr other ↦ h.inside k a (omega arith) t
-    ];
+    inside = λ k a b t. grind (arith, cases_eq k i);
     failing = h.failing;
     below = h.below;
     above = λ k a. h.above k (omega arith);
@@ -78,10 +72,7 @@ module _ (runs : List (ℕ × ℕ)) (class : BidiClass) (from to : ℕ) (old : L
 
     -- what is written stays
     stays : (k : ℕ) → class_at now k ≡ class → class_at new k ≡ class
-    stays k written = elim (cases_Bool (is_kept_in_place (class_at now k))) [
-      | inr removed ↦ w.failing k removed ∙ written
-      | inl read ↦ by_range k start end (λ low. w.below k low ∙ written) (λ high within. w.inside k high within read) (λ past. w.above k past ∙ written)
-    ]
+    stays k written = grind (arith, cases_Bool (is_kept_in_place (class_at now k)), cases_lt k start, cases_lt k end)
 
     pub runs-more : IsWrittenOver (is_seen (take (index + 1) runs) old) class from to old new
     runs-more = record {
@@ -92,17 +83,17 @@ module _ (runs : List (ℕ × ℕ)) (class : BidiClass) (from to : ℕ) (old : L
             | inr new' ↦
                 let here : in_run run k ≡ true = simp new' at (sym (in_runs-more index runs k fits) ∙ parts.0) in
                 let ends = in_run-true run k here in
-                let before : class_at now k ≡ class_at old k = h.failing k (and_left (in_runs (take index runs) k) (is_kept_in_place (class_at old k)) new') in
+                let before = h.failing k (and_left (in_runs (take index runs) k) (is_kept_in_place (class_at old k)) new') in
                 w.inside k (omega arith) (omega arith) (ap is_kept_in_place before ∙ parts.1)
           ];
       failing = λ k t. elim (and_cases (in_runs (take (index + 1) runs) k) (is_kept_in_place (class_at old k)) t) [
         | inl outside ↦
             let parts = or_parts (in_runs (take index runs) k) (in_run run k) (sym (in_runs-more index runs k fits) ∙ outside) in
-            let before : class_at now k ≡ class_at old k = h.failing k (and_left (in_runs (take index runs) k) (is_kept_in_place (class_at old k)) parts.0) in
-            by_range k start end (w.below k) (λ high within. absurd (both_ways (in_run run k) parts.1 (in_run-inside run k (omega arith) (omega arith)))) (w.above k) ∙ before
-        | inr removed ↦
-            let before : class_at now k ≡ class_at old k = h.failing k (and_right (in_runs (take index runs) k) (is_kept_in_place (class_at old k)) removed) in
-            w.failing k (ap is_kept_in_place before ∙ removed) ∙ before
+            by_range k start end (λ low. grind (arith, h.failing k, w.below k)) (λ high within. grind (
+              arith,
+              in_run-inside run k,
+            )) (λ past. grind (arith, h.failing k, w.above k))
+        | inr removed ↦ grind (arith, h.failing k, w.failing k)
       ];
       below = λ k a. w.below k (omega arith) ∙ h.below k a;
       above = λ k a. w.above k (omega arith) ∙ h.above k a;

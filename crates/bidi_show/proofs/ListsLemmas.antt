@@ -1,6 +1,6 @@
 -- What is tested or kept of a list under a function.
-use Rattle.std.proofs.Common.{◌≡◌, Bool, ◌&&◌, List, [], ◌∷◌, Option, map, refl, ap}
-use Rattle.std.specs.List.{list_all, filter_map}
+use Rattle.bidi_base.proofs.Common.{◌≡◌, Bool, ◌&&◌, List, [], ◌∷◌, Option, map, refl, ap, list_all}
+use Rattle.std.specs.List.{filter_map}
 
 pub list_all-map : {A B : Type 0} (test : B → Bool) (f : A → B) (items : List A) → list_all test (map f items) ≡ list_all (λ item. test (f item)) items
 list_all-map test f [] = refl

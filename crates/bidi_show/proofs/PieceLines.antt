@@ -1,31 +1,20 @@
 -- What `show` and `lines` print of the paragraphs of a text, read in the text, is what they print of each by itself.
-use Rattle.std.proofs.Common.{◌≡◌, ℕ, ◌+◌, ◌-◌, ◌≤◌, List, [], ◌∷◌, ◌++◌, Option, length, map, flat_map, drop, encode_utf8, refl, sym, ap, ◌∙◌, append_assoc, length-append, arith}
-use Rattle.std.proofs.Math.Nat.{add-zero, zero-add}
-use Rattle.std.proofs.Math.Seq.{take-append-add, take-append_seam, drop-append_seam, drop-append-add}
-use Rattle.std.specs.Prelude.{slice_range, encode_utf8_all}
-use Rattle.std.specs.Char.{len_utf8}
-use Rattle.std.specs.Str.{chars, IsUtf8}
-use Rattle.std.proofs.lemmas.List.{take_all, take-append-le, take-append-drop, drop-append-le, length-drop, length-map}
-use Rattle.std.proofs.lemmas.List.Sums.{sum_by-append}
-use Rattle.std.proofs.lemmas.Str.{encodes-chars, encodes-append, IsUtf8-between}
+use Rattle.bidi_base.proofs.Common.{◌≡◌, ℕ, ◌+◌, ◌-◌, ◌≤◌, List, [], ◌∷◌, ◌++◌, Option, length, map, flat_map, drop, encode_utf8, refl, sym, ap, ◌∙◌, append_assoc, length-append, arith, add-zero, take-append-add, take-append_seam, drop-append_seam, drop-append-add, slice_range, len_utf8, chars, IsUtf8, take_all, take-append-le, take-append-drop, drop-append-le, length-map, sum_by-append, encodes-chars, encodes-append, line_text, paragraph_level, stored_classes, lines_of, paragraphs_of, each_separator, ranges_from, Source, stored_levels, text_classes, text_levels, paragraph_levels, place, text_len, char_index, subrange, per_unit, per_char, IsLine}
+use Rattle.std.proofs.Math.Nat.{zero-add}
+use Rattle.std.specs.Prelude.{encode_utf8_all}
+use Rattle.std.proofs.lemmas.List.{length-drop}
+use Rattle.std.proofs.lemmas.Str.{IsUtf8-between}
 use Rattle.bidi_base.specs.declared.char_data.BidiClass.{BidiClass}
 use Rattle.bidi_base.specs.declared.char_data.BidiClass.TheVariants.{L}
-use Rattle.bidi_base.specs.Display.{line_text}
-use Rattle.bidi_base.specs.Isolates.{paragraph_level, stored_classes}
-use Rattle.bidi_base.specs.Layout.{lines_of}
-use Rattle.bidi_base.specs.Paragraphs.{paragraphs_of, each_separator, ranges_from}
-use Rattle.bidi_base.specs.Source.{Source}
-use Rattle.bidi_base.specs.Stored.{stored_levels, text_classes, text_levels, paragraph_levels}
-use Rattle.bidi_base.specs.Text.{place, text_len, char_index, subrange, per_unit, per_char, IsLine}
 use Rattle.bidi_base.proofs.LayoutLemmas.{lines_of-joined}
 use Rattle.bidi_base.proofs.LevelLaws.{length-stored_levels}
-use Rattle.bidi_base.proofs.ParagraphsLemmas.{joined, paragraphs-joined}
 use Rattle.bidi_base.proofs.PerUnit.{length-per_unit, per_unit-append, per_char-per_unit}
-use Rattle.bidi_base.proofs.PieceUnits.{length-values}
-use Rattle.bidi_base.proofs.PlaceLemmas.{place-le, place-mono, place-end, char_index-place, IsLine-places, subrange-front}
 use Rattle.bidi_base.proofs.StoredSteps.{length-stored_classes}
-use Rattle.bidi_base.proofs.StrLemmas.{has_units, text_len-encodes, subrange-from_str, IsCharBoundary-from_is_boundary}
 use Rattle.bidi_base.proofs.TextLemmas.{subrange-middle}
+use Rattle.bidi_base.proofs.ParagraphsLemmas.{paragraphs-joined, joined}
+use Rattle.bidi_base.proofs.PieceUnits.{length-values}
+use Rattle.bidi_base.proofs.PlaceLemmas.{subrange-front, place-le, place-mono, place-end, char_index-place, IsLine-places}
+use Rattle.bidi_base.proofs.StrLemmas.{text_len-encodes, has_units, subrange-from_str, IsCharBoundary-from_is_boundary}
 use Rattle.bidi_show.specs.Shown.{levels_in, own_end, line_in, text_in, layout_in, layout_text, printed_at, printed_in}
 use Rattle.bidi_show.specs.Texts.{without_separator, shown_line, one_column, one_at_least, layout_lines, paragraph_text, lines_from, shown_text}
 use Rattle.bidi_show.specs.declared.command.View.{View}

@@ -1,15 +1,6 @@
 -- The lines that `show` prints, piece by piece.
-use Rattle.std.proofs.Common.{◌≡◌, ℕ, ◌+◌, ◌-◌, ◌<◌, ◌≤◌, List, [], ◌∷◌, ◌++◌, Result, OnOk, is_ok, true, false, length, get_or, take, flat_map, decimal, refl, sym, ap, subst, ◌∙◌, append_assoc, arith, inl, inr}
-use Rattle.std.proofs.lemmas.Bool.{cases_Bool}
-use Rattle.std.proofs.lemmas.Grind.{common_steps}
-use Rattle.std.specs.Prelude.{codes, if◌then◌else◌, slice_range}
-use Rattle.std.specs.Char.{len_utf8}
-use Rattle.std.specs.Str.{chars, IsUtf8}
-use Rattle.std.proofs.lemmas.List.{take_all, take_more, flat_map_more}
-use Rattle.bidi_base.specs.Classes.{is_paragraph_separator}
-use Rattle.bidi_base.specs.Paragraphs.{ends_with_separator}
-use Rattle.bidi_base.specs.Source.{Source}
-use Rattle.bidi_base.specs.Text.{place, text_len, char_index, subrange, per_char, IsLine}
+use Rattle.bidi_base.proofs.Common.{◌≡◌, ℕ, ◌+◌, ◌-◌, ◌<◌, ◌≤◌, List, [], ◌∷◌, ◌++◌, Result, OnOk, is_ok, true, false, length, get_or, take, flat_map, decimal, refl, sym, ap, subst, ◌∙◌, append_assoc, arith, inl, inr, cases_Bool, common_steps, codes, slice_range, len_utf8, chars, IsUtf8, take_all, take_more, flat_map_more, is_paragraph_separator, ends_with_separator, Source, place, text_len, char_index, subrange, per_char, IsLine}
+use Rattle.std.specs.Prelude.{if◌then◌else◌}
 use Rattle.bidi_base.proofs.PlaceLemmas.{line_places, place-slice_range, IsLine-places}
 use Rattle.bidi_base.proofs.TextLemmas.{is_boundary-le}
 use Rattle.bidi_base.proofs.PerUnit.{length-per_char, get_or-per_char}

@@ -1,8 +1,6 @@
 -- What the tables have in common with Unicode's general categories and its mirrored characters, each by a computation over steps.
-use Rattle.std.proofs.Common.{◌≡◌, ℕ, Bool, true, false, ◌&&◌, ◌||◌, not, ◌==◌, List, [], ◌∷◌, map, Option, Some, None, is_some, option_map, option_and_then, refl, sym, ap, ap₂, eqb-true, ◌∙◌, arith}
-use Rattle.std.specs.Bool.{beq}
-use Rattle.std.proofs.lemmas.Bool.{and_parts}
-use Rattle.std.proofs.lemmas.Bool.Decides.{nat_tests}
+use Rattle.bidi_base.proofs.Common.{◌≡◌, ℕ, Bool, true, false, ◌&&◌, ◌||◌, not, ◌==◌, List, [], ◌∷◌, map, Option, Some, None, is_some, option_map, option_and_then, refl, sym, ap, ◌∙◌, arith, inl, inr, beq, cases_Bool, nat_tests, holds_number}
+use Rattle.std.proofs.Common.{is_none}
 use Rattle.ucd_table.specs.Rows.{Row, value_in}
 use Rattle.ucd_table.proofs.Stepped.{Stepped, of_rows, zip_stepped}
 use Rattle.ucd_table.proofs.StepsLemmas.{rises_from}
@@ -17,7 +15,6 @@ use Rattle.ucd_category.specs.GeneralCategory.{general_category, general_categor
 use Rattle.ucd_category.proofs.GeneralCategoryLemmas.{general_category_stepped}
 use Rattle.bidi_base.specs.declared.data_source.BidiMatchedOpeningBracket.{BidiMatchedOpeningBracket}
 use Rattle.bidi_unicode.specs.declared.tables.Side.{Side}
-use Rattle.bidi_unicode.specs.declared.tables.Side.TheVariants.{Open, Close}
 use Rattle.bidi_unicode.specs.declared.tables.TheConstants.{BRACKETS, MIRRORED}
 use Rattle.bidi_unicode.specs.Rows.{row_value}
 use Rattle.bidi_unicode.specs.Unicode.{bracket_in, bracket_of, mirrored_of, is_opening, is_closing, other_bracket, is_mirrored_in}
@@ -44,43 +41,32 @@ unfoldable mirrored_stepped : Stepped (row_value MIRRORED)
 unfolding rises_from
 mirrored_stepped = stepped_rows MIRRORED refl
 
--- the category and the property together
-abbrev mirrored_in_stepped : (category : GeneralCategory) → Stepped (is_mirrored_in category)
-mirrored_in_stepped category =
-    zip_stepped (λ g m. general_category_eq g category && m) general_category is_bidi_mirrored general_category_stepped is_bidi_mirrored_stepped
+-- a test of the brackets' rows beside the category and the property together
+abbrev agree_stepped : (test : Option (ℕ × Side) → Bool) (category : GeneralCategory) → Stepped (λ c. beq (test (row_value BRACKETS c)) (is_mirrored_in category c))
+agree_stepped test category =
+    zip_stepped (λ row m. beq (test row) m) (row_value BRACKETS) (is_mirrored_in category) brackets_stepped
+    (zip_stepped (λ g m. general_category_eq g category && m) general_category is_bidi_mirrored general_category_stepped is_bidi_mirrored_stepped)
 
--- the row has the side
+-- the row has the side, whatever its character is
 abbrev opens : Option (ℕ × Side) → Bool
-opens None = false
-opens (Some (partner, Open)) = true
-opens (Some (partner, Close)) = false
+opens row = is_opening (option_map (λ (r : ℕ × Side). bracket_in 0 r.0 r.1) row)
 
 abbrev closes : Option (ℕ × Side) → Bool
-closes None = false
-closes (Some (partner, Open)) = false
-closes (Some (partner, Close)) = true
+closes row = is_closing (option_map (λ (r : ℕ × Side). bracket_in 0 r.0 r.1) row)
 
 opening_row : (c : ℕ) (row : Option (ℕ × Side)) → is_opening (option_map (λ (r : ℕ × Side). bracket_in c r.0 r.1) row) ≡ opens row
-opening_row c None = refl
-opening_row c (Some (partner, Open)) = refl
-opening_row c (Some (partner, Close)) = refl
+opening_row c row = grind arith
 
 closing_row : (c : ℕ) (row : Option (ℕ × Side)) → is_closing (option_map (λ (r : ℕ × Side). bracket_in c r.0 r.1) row) ≡ closes row
-closing_row c None = refl
-closing_row c (Some (partner, Open)) = refl
-closing_row c (Some (partner, Close)) = refl
+closing_row c row = grind arith
 
 openings_agree : (c : ℕ) → beq (opens (row_value BRACKETS c)) (is_mirrored_in OpenPunctuation c) ≡ true
 unfolding tables brackets_stepped general_category_stepped is_bidi_mirrored_stepped
-openings_agree =
-    Stepped-everywhere (λ c. beq (opens (row_value BRACKETS c)) (is_mirrored_in OpenPunctuation c))
-    (zip_stepped (λ row m. beq (opens row) m) (row_value BRACKETS) (is_mirrored_in OpenPunctuation) brackets_stepped (mirrored_in_stepped OpenPunctuation)) refl
+openings_agree = Stepped-everywhere _ (agree_stepped opens OpenPunctuation) refl
 
 closings_agree : (c : ℕ) → beq (closes (row_value BRACKETS c)) (is_mirrored_in ClosePunctuation c) ≡ true
 unfolding tables brackets_stepped general_category_stepped is_bidi_mirrored_stepped
-closings_agree =
-    Stepped-everywhere (λ c. beq (closes (row_value BRACKETS c)) (is_mirrored_in ClosePunctuation c))
-    (zip_stepped (λ row m. beq (closes row) m) (row_value BRACKETS) (is_mirrored_in ClosePunctuation) brackets_stepped (mirrored_in_stepped ClosePunctuation)) refl
+closings_agree = Stepped-everywhere _ (agree_stepped closes ClosePunctuation) refl
 
 -- the opening brackets are the mirrored characters of general category Ps
 pub is_opening-bracket_of : (c : ℕ) → is_opening (bracket_of c) ≡ is_mirrored_in OpenPunctuation c
@@ -93,43 +79,29 @@ is_closing-bracket_of c = closing_row c (row_value BRACKETS c) ∙ same_from_beq
 mirrored_agree : (c : ℕ) → (not (is_some (row_value MIRRORED c)) || is_bidi_mirrored c) ≡ true
 unfolding tables mirrored_stepped is_bidi_mirrored_stepped
 mirrored_agree =
-    Stepped-everywhere (λ c. not (is_some (row_value MIRRORED c)) || is_bidi_mirrored c)
-    (zip_stepped (λ (row : Option ℕ) m. not (is_some row) || m) (row_value MIRRORED) is_bidi_mirrored mirrored_stepped is_bidi_mirrored_stepped) refl
+    Stepped-everywhere _ (zip_stepped (λ (row : Option ℕ) m. not (is_some row) || m) (row_value MIRRORED) is_bidi_mirrored mirrored_stepped is_bidi_mirrored_stepped) refl
 
--- the option holds the number
-abbrev holds : Option ℕ → ℕ → Bool
-holds None c = false
-holds (Some p) c = p == c
-
-holds-true : (o : Option ℕ) (c : ℕ) → holds o c ≡ true → o ≡ Some c
-holds-true None c h = cc
-holds-true (Some p) c h = ap Some (eqb-true p c h)
-
-abbrev no_partner : Option ℕ → Bool
-no_partner row = not (is_some row)
+holds_number-true : (o : Option ℕ) (c : ℕ) → holds_number o c ≡ true → o ≡ Some c
+holds_number-true o c h = grind arith
 
 -- the partner of the partner is the character
 abbrev comes_back : ℕ → Option ℕ → Bool
 comes_back c None = true
-comes_back c (Some p) = holds (row_value MIRRORED p) c
+comes_back c (Some p) = holds_number (row_value MIRRORED p) c
 
-all_come_back : at_points (row_value MIRRORED) mirrored_stepped no_partner comes_back ≡ true
+all_come_back : at_points (row_value MIRRORED) mirrored_stepped is_none comes_back ≡ true
 unfolding tables mirrored_stepped points_ok
 all_come_back = refl
 
 -- a character with a partner is mirrored
 pub mirrored_of-is_mirrored : (c : ℕ) → is_some (mirrored_of c) ≡ true → is_bidi_mirrored c ≡ true
-mirrored_of-is_mirrored c some = by_test (is_some (mirrored_of c)) (is_bidi_mirrored c) some (mirrored_agree c)
-  where
-    by_test : (a b : Bool) → a ≡ true → (not a || b) ≡ true → b ≡ true
-    by_test true b e h = h
-    by_test false b e h = cc
+mirrored_of-is_mirrored c some = simp some at (mirrored_agree c)
 
 -- and is its partner's partner
 pub mirrored_of-mirrored_of : (c p : ℕ) → mirrored_of c ≡ Some p → mirrored_of p ≡ Some c
 mirrored_of-mirrored_of c p e =
-    let back : comes_back c (mirrored_of c) ≡ true = Stepped-at_points (row_value MIRRORED) mirrored_stepped no_partner comes_back all_come_back c (ap no_partner e) in
-    holds-true (row_value MIRRORED p) c (ap (comes_back c) (sym e) ∙ back)
+    let back = Stepped-at_points (row_value MIRRORED) mirrored_stepped is_none comes_back all_come_back c (ap is_none e) in
+    holds_number-true (row_value MIRRORED p) c (ap (comes_back c) (sym e) ∙ back)
 
 -- the two tables together
 abbrev both_rows : ℕ → Option ℕ × Option (ℕ × Side)
@@ -144,17 +116,11 @@ both_absent rows = not (is_some rows.0 || is_some rows.1)
 
 abbrev same_bracket : Option BidiMatchedOpeningBracket → Option BidiMatchedOpeningBracket → Bool
 same_bracket None None = true
-same_bracket None (Some b) = false
-same_bracket (Some a) None = false
 same_bracket (Some a) (Some b) = a.opening == b.opening && beq a.is_open b.is_open
+same_bracket a b = false
 
 same_bracket-true : (a b : Option BidiMatchedOpeningBracket) → same_bracket a b ≡ true → a ≡ b
-same_bracket-true None None h = refl
-same_bracket-true None (Some b) h = cc
-same_bracket-true (Some a) None h = cc
-same_bracket-true (Some a) (Some b) h =
-    let parts = and_parts (a.opening == b.opening) (beq a.is_open b.is_open) h in
-    ap₂ (λ (opening : ℕ) (is_open : Bool). Some (record { opening = opening; is_open = is_open })) (eqb-true a.opening b.opening parts.0) (same_from_beq a.is_open b.is_open parts.1)
+same_bracket-true a b h = grind (arith, nat_tests, same_from_beq)
 
 -- the partner is the other bracket of the pair
 abbrev pairs_up : ℕ → Option ℕ × Option (ℕ × Side) → Bool
@@ -166,14 +132,11 @@ unfolding tables mirrored_stepped brackets_stepped points_ok
 all_pair_up = refl
 
 pairs_up-absent : (c : ℕ) (m : Option ℕ) (b : Option (ℕ × Side)) → both_absent (m, b) ≡ true → pairs_up c (m, b) ≡ true
-pairs_up-absent c None None h = refl
-pairs_up-absent c None (Some b) h = cc
-pairs_up-absent c (Some m) b h = cc
+pairs_up-absent c m b h = grind arith
 
 -- the mirrored partner of a bracket is the other bracket of its pair
 pub bracket_of-mirrored_of : (c : ℕ) → option_and_then bracket_of (mirrored_of c) ≡ option_map other_bracket (bracket_of c)
-bracket_of-mirrored_of c = same_bracket-true _ _ (by_rows (both_absent (both_rows c)) refl)
-  where
-    by_rows : (absent : Bool) → both_absent (both_rows c) ≡ absent → pairs_up c (both_rows c) ≡ true
-    by_rows true e = pairs_up-absent c (row_value MIRRORED c) (row_value BRACKETS c) e
-    by_rows false e = Stepped-at_points both_rows both_stepped both_absent pairs_up all_pair_up c e
+bracket_of-mirrored_of c = same_bracket-true _ _ (elim (cases_Bool (both_absent (both_rows c))) [
+  | inl absent ↦ pairs_up-absent c (row_value MIRRORED c) (row_value BRACKETS c) absent
+  | inr found ↦ Stepped-at_points both_rows both_stepped both_absent pairs_up all_pair_up c found
+])

@@ -1,16 +1,8 @@
 -- The level runs of a line's units are those of its characters, where each unit has its character's level.
-use Rattle.std.proofs.Common.{◌≡◌, ◌≢◌, ℕ, zero, suc, ◌+◌, ◌<◌, ◌≤◌, List, [], ◌∷◌, ◌++◌, map, replicate, length, get_or, All, refl, arith, eqb-true, eq-eqb, add-zero}
-use Rattle.std.proofs.lemmas.Bool.{eqb-false}
-use Rattle.std.proofs.lemmas.Simd.{map-map}
-use Rattle.std.proofs.lemmas.List.{get_or-map, length-map, nil_from_length}
-use Rattle.std.proofs.lemmas.List.Sums.{sum_by-cons}
-use Rattle.std.proofs.lemmas.List.Elements.{All-tail}
-use Rattle.bidi_base.specs.Places.{at_places}
-use Rattle.bidi_base.specs.Text.{place, per_unit}
-use Rattle.bidi_base.specs.Order.{visual_order}
+use Rattle.bidi_base.proofs.Common.{◌≡◌, ◌≢◌, ℕ, zero, suc, ◌+◌, ◌<◌, ◌≤◌, List, [], ◌∷◌, ◌++◌, map, replicate, length, get_or, refl, arith, eqb-true, eq-eqb, eqb-false, map-map, get_or-map, length-map, nil_from_length, sum_by-cons, All-tail, at_places, place, per_unit, visual_order, Run, level_runs_from, level_runs, run_level, visual_runs, IsLevelRun}
+use Rattle.std.proofs.Common.{All, add-zero}
 use Rattle.bidi_base.proofs.TextLemmas.{HasUnits}
 use Rattle.bidi_base.proofs.PerUnit.{get_or-per_unit-place}
-use Rattle.bidi_base.specs.Display.{Run, level_runs_from, level_runs, run_level, visual_runs, IsLevelRun}
 use Rattle.bidi_lines.proofs.Ordered.{visual_order-is}
 use Rattle.bidi_lines.proofs.VisualRuns.{order_below}
 use Rattle.bidi_lines.proofs.Pieces.{at_places-map}

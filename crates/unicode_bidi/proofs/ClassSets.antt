@@ -1,15 +1,11 @@
 -- Sets of classes: what is in them, and which tests of what is in them agree.
-use Rattle.std.proofs.Common.{◌≡◌, ℕ, ◌^◌, ◌<◌, ◌≢◌, bit_and, bit_or, bit_xor, Bool, true, false, not, ◌==◌, ◌&&◌, ◌||◌, List, [], ◌∷◌, get_or, refl, arith, inl, inr}
-use Rattle.std.proofs.lemmas.Grind.{common_steps}
+use Rattle.bidi_base.proofs.Common.{◌≡◌, ℕ, ◌^◌, ◌<◌, ◌≢◌, bit_or, Bool, true, false, not, ◌==◌, ◌&&◌, ◌||◌, List, [], ◌∷◌, get_or, refl, arith, inl, inr, common_steps, list_any, cases_Bool, cases_lt, both_ways, false_from_ne_true, list_any_none, list_any_at, class_number, same_class}
+use Rattle.std.proofs.Common.{bit_and, bit_xor}
 use Rattle.std.specs.Int.{bit_at}
-use Rattle.std.specs.List.{list_any}
 use Rattle.std.proofs.Math.Nat.{min-zero}
-use Rattle.std.proofs.lemmas.Bool.{cases_Bool, cases_lt, both_ways, false_from_ne_true}
-use Rattle.std.proofs.lemmas.List.Folds.{list_any_none, list_any_at}
 use Rattle.std.proofs.lemmas.Nat.Bits.{bit_at_or, bit_at_and, bit_at_xor, bit_at-zero, bit_at-pow_other, bit_at_above, bit_at-lt, same_from_bits}
 use Rattle.bidi_base.specs.declared.char_data.BidiClass.{BidiClass}
 use Rattle.bidi_base.specs.declared.char_data.BidiClass.TheVariants.{L}
-use Rattle.bidi_base.specs.Classes.{class_number, same_class}
 use Rattle.unicode_bidi.specs.declared.class_set.ClassSet.{ClassSet}
 use Rattle.unicode_bidi.specs.ClassSet.{has, with, any_of, every_class}
 
@@ -57,10 +53,8 @@ module _ (a b : ClassSet) (small : b.bits < 2 ^ 23) where
   no_bit none k = elim (cases_lt k 23) [
     | inl below ↦
         let c = get_or every_class k L in
-        let at : class_number c ≡ k = class_of_number k below in
         let none_here = false_from_ne_true (has a c && has b c) (λ some. both_ways _ none (list_any_at (λ d. has a d && has b d) every_class k L below some)) in
-        let off : (bit_at (bit_and a.bits b.bits) k == 1) ≡ false = cc (bit_of_both c) in
-        grind (arith, bit_at-lt, bit_at-zero)
+        grind (arith, class_of_number k below, bit_of_both c, none_here, bit_at-lt, bit_at-zero)
     | inr past ↦ simp (bit_at_and, bit_at_above b.bits 23 k small past, bit_at-zero, min-zero)
   ]
 

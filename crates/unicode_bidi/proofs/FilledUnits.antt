@@ -1,32 +1,21 @@
 -- The levels of a paragraph's units: of what X9 removed, and of a paragraph that keeps to its level throughout.
-use Rattle.std.proofs.Common.{◌≡◌, ℕ, zero, suc, ◌+◌, ◌-◌, ◌<◌, ◌≤◌, Bool, true, false, List, [], ◌∷◌, length, get_or, set, Option, refl, map, ap, ◌∙◌, arith, inl, inr, get_or-set_same, get_or-set_other, add-zero}
+use Rattle.bidi_base.proofs.Common.{◌≡◌, ℕ, zero, suc, ◌+◌, ◌-◌, ◌<◌, ◌≤◌, Bool, true, false, List, [], ◌∷◌, length, get_or, set, Option, refl, map, ap, ◌∙◌, arith, inl, inr, get_or-set_same, get_or-set_other, All, list_any, cases_Bool, both_ways, not-true, ext_get_or, replicate-append-replicate, get_or_default, get_or-map, length-map, list_any_at, list_any_none, sum_by-cons, IsPermutation-refl, is_initiator, is_removed, hidden, class_at, resolved_fsi, stored_classes, explicit_levels, explicit_classes, is_kept_at, level_at, sequences, AreResolved, levels_in, text_len, place, is_per_char, per_unit, per_char}
+use Rattle.std.proofs.Common.{add-zero}
 use Rattle.std.specs.Prelude.{replicate}
-use Rattle.std.specs.List.{list_any}
-use Rattle.std.proofs.lemmas.Bool.{cases_Bool, both_ways, not-true}
-use Rattle.std.proofs.lemmas.List.{ext_get_or, replicate-append-replicate, get_or_default, get_or-map, length-map}
-use Rattle.std.proofs.lemmas.List.Folds.{Any-from_list_any, list_any_at, list_any-append}
-use Rattle.std.proofs.lemmas.List.Sums.{sum_by-cons}
-use Rattle.std.proofs.lemmas.List.Sorted.{IsPermutation-refl}
 use Rattle.bidi_base.specs.declared.char_data.BidiClass.{BidiClass}
 use Rattle.bidi_base.specs.declared.char_data.BidiClass.TheVariants.{L, FSI}
 use Rattle.bidi_base.specs.declared.data_source.BidiMatchedOpeningBracket.{BidiMatchedOpeningBracket}
-use Rattle.bidi_base.specs.Classes.{is_initiator, is_removed}
-use Rattle.bidi_base.specs.Flat.{hidden, keeps_to}
-use Rattle.bidi_base.specs.Places.{class_at}
-use Rattle.bidi_base.specs.Isolates.{resolved_fsi, stored_classes}
-use Rattle.bidi_base.specs.Explicit.{explicit_levels, explicit_classes}
-use Rattle.bidi_base.specs.Sequences.{is_kept_at, level_at, sequences}
-use Rattle.bidi_base.specs.Stored.{AreResolved, levels_in}
-use Rattle.bidi_base.specs.Text.{text_len, place, is_per_char, per_unit, per_char}
-use Rattle.bidi_base.proofs.LevelsInLemmas.{levels_in-written}
+use Rattle.bidi_base.specs.Flat.{keeps_to}
+use Rattle.bidi_base.proofs.LevelLaws.{All-per_unit}
 use Rattle.bidi_base.proofs.PerCharTests.{level_eq, level_test}
 use Rattle.bidi_base.proofs.PerUnit.{length-per_char, length-per_unit, get_or-per_char, get_or-per_unit}
 use Rattle.bidi_base.proofs.PlaceLemmas.{place-zero, place-more, place-more-le, unit_of}
-use Rattle.bidi_base.proofs.KeepsToLemmas.{levels_in-keeps_to}
-use Rattle.bidi_base.proofs.StoredLemmas.{class_at-stored_classes}
 use Rattle.bidi_base.proofs.StoredSteps.{length-stored_classes}
 use Rattle.bidi_base.proofs.TextLemmas.{HasUnits}
 use Rattle.bidi_base.proofs.UnitsLemmas.{per_unit-from_is_per_char}
+use Rattle.bidi_base.proofs.LevelsInLemmas.{levels_in-written}
+use Rattle.bidi_base.proofs.KeepsToLemmas.{levels_in-keeps_to}
+use Rattle.bidi_base.proofs.StoredLemmas.{class_at-stored_classes}
 
 -- ---- what X9 removed
 
@@ -92,20 +81,30 @@ module _ (len_of : ℕ → ℕ) (h : HasUnits len_of) (chars : List ℕ) (stored
       grind (arith, own_level w.index w.offset, get_or-per_unit len_of chars filled w.index w.offset 0 0, length-per_char))
 
   filled-kept : (p : ℕ) → p < length stored → is_kept_at stored p ≡ true → level_at filled p ≡ level_at values p
-  filled-kept p within stays = cc (first_unit p (omega (arith, within, stored_long)), kept_unit p 0 (omega (arith, within, stored_long)) (h (get_or chars p 0)) stays)
+  filled-kept p within stays = grind (arith, first_unit p, kept_unit p 0, h (get_or chars p 0))
 
   filled-front : 0 < length stored → is_kept_at stored 0 ≡ false → level_at filled 0 ≡ paragraph
-  filled-front some gone =
-      grind (arith, place-zero, unit_class 0 0, h (get_or chars 0 0), first_unit 0, unit_within 0 0)
+  filled-front some gone = grind (arith, place-zero, unit_class 0 0, h (get_or chars 0 0), first_unit 0, unit_within 0 0)
 
   filled-removed : (p : ℕ) → p + 1 < length stored → is_kept_at stored (p + 1) ≡ false → level_at filled (p + 1) ≡ level_at filled p
   filled-removed p within gone =
-      let next : p + 1 < length chars = omega (arith, within, stored_long) in
       let j : ℕ = len_of (get_or chars p 0) - 1 in
-      let before : place len_of chars (p + 1) + 0 ≡ place len_of chars p + j + 1 = omega (arith, place-more len_of chars p 0 (omega (arith, next)), h (get_or chars p 0)) in
-      let within_all = unit_within (p + 1) 0 next (h (get_or chars (p + 1) 0)) in
-      let same = removed (place len_of chars p + j) (omega (arith, within_all, before)) (simp before at (unit_class (p + 1) 0 next (h (get_or chars (p + 1) 0)) ∙ gone)) in
-      cc (first_unit (p + 1) next, own_level p j (omega (arith, next)) (omega (arith, h (get_or chars p 0))))
+      let before : place len_of chars (p + 1) + 0 ≡ place len_of chars p + j + 1 = omega (
+        arith,
+        place-more len_of chars p 0 (omega (arith, within, stored_long)),
+        h (get_or chars p 0),
+      ) in
+      grind (
+        arith,
+        before,
+        unit_within (p + 1) 0,
+        h (get_or chars p 0),
+        h (get_or chars (p + 1) 0),
+        removed (place len_of chars p + j),
+        unit_class (p + 1) 0,
+        first_unit (p + 1),
+        own_level p j,
+      )
 
   -- so the levels are those of the rules, if those of the kept characters are
   pub filled-levels_in : (source : List BidiClass) (brackets : List (Option BidiMatchedOpeningBracket)) → stored ≡ stored_classes source
@@ -127,20 +126,20 @@ kept_to_levels len_of chars source brackets paragraph old new fits long keeps is
 
 -- ---- a class of a group among the stored classes is one among the source classes
 
-list_any-replicate : {X : Type 0} (test : X → Bool) (n : ℕ) (x : X) → list_any test (replicate n x) ≡ true → test x ≡ true
-list_any-replicate test zero x e = absurd (both_ways false refl e)
-list_any-replicate test (suc n) x e = grind (arith, list_any-replicate test n x)
-
-list_any-per_unit : {X : Type 0} (test : X → Bool) (len_of : ℕ → ℕ) (chars : List ℕ) (vs : List X) → list_any test (per_unit len_of chars vs) ≡ true → list_any test vs ≡ true
-list_any-per_unit test len_of [] vs e = absurd (both_ways false refl e)
-list_any-per_unit test len_of (c ∷ chars) [] e = absurd (both_ways false refl e)
-list_any-per_unit test len_of (c ∷ chars) (v ∷ vs) e = grind (arith, list_any-append, list_any-replicate, list_any-per_unit test len_of chars vs)
-
 module _ (test : BidiClass → Bool) (of_stored : (o : Option BidiClass) → test (resolved_fsi o) ≡ test FSI) where
   any-stored : (len_of : ℕ → ℕ) (chars : List ℕ) (source units : List BidiClass) → units ≡ per_unit len_of chars (stored_classes source) → list_any test units ≡ true → list_any test source ≡ true
-  any-stored len_of chars source units is e =
-      let found = Any-from_list_any test (stored_classes source) (list_any-per_unit test len_of chars (stored_classes source) (simp is at e)) in
-      grind (arith, length-stored_classes, list_any_at test source found.0 L, class_at-stored_classes source found.0, get_or_default (stored_classes source) found.0 L found.1)
+  any-stored len_of chars source units is e = elim (cases_Bool (list_any test source)) [
+    | inl some ↦ some
+    | inr none ↦
+        let each : All (λ c. test c ≡ false) (stored_classes source) = λ k d within. grind (
+          arith,
+          length-stored_classes,
+          list_any_at test source k L,
+          class_at-stored_classes source k,
+          get_or_default (stored_classes source) k L d,
+        ) in
+        absurd (both_ways _ (list_any_none test units (rw is (All-per_unit (λ c. test c ≡ false) len_of chars (stored_classes source) each))) e)
+  ]
 
 module _ (len_of : ℕ → ℕ) (chars : List ℕ) (source units : List BidiClass) (is : units ≡ per_unit len_of chars (stored_classes source)) where
   pub initiators-stored : list_any is_initiator units ≡ true → list_any is_initiator source ≡ true
@@ -148,8 +147,7 @@ module _ (len_of : ℕ → ℕ) (chars : List ℕ) (source units : List BidiClas
 
   -- where X9 removes nothing, each unit is kept
   pub all_kept : list_any is_removed source ≡ false → (u : ℕ) → u < length units → is_kept_at units u ≡ true
-  all_kept none u within =
-      grind (arith, any-stored is_removed, list_any_at is_removed units u L)
+  all_kept none u within = grind (arith, any-stored is_removed, list_any_at is_removed units u L)
 
   -- so the passes begin with the same classes
   pub none_hidden : list_any is_removed source ≡ false → map hidden units ≡ units

@@ -1,16 +1,11 @@
 -- What a paragraph's flags say of its classes.
-use Rattle.std.proofs.Common.{◌≡◌, ℕ, ◌<◌, Bool, false, not, ◌||◌, List, [], ◌∷◌, ◌++◌, length, arith, refl}
-use Rattle.std.proofs.lemmas.Grind.{common_steps}
-use Rattle.std.specs.List.{list_any}
+use Rattle.bidi_base.proofs.Common.{◌≡◌, ℕ, ◌<◌, Bool, false, not, ◌||◌, List, [], ◌∷◌, ◌++◌, length, arith, refl, common_steps, list_any, is_initiator, is_opener, is_removed, may_turn, is_pure_ltr, is_flat, may_leave, or_assoc, or-false}
+use Rattle.bidi_base.specs.Flat.{keeps_to}
 use Rattle.bidi_base.specs.declared.char_data.BidiClass.{BidiClass}
-use Rattle.bidi_base.specs.Classes.{is_initiator, is_opener, is_removed}
-use Rattle.bidi_base.specs.Direction.{may_turn, is_pure_ltr}
-use Rattle.bidi_base.specs.Flat.{is_flat, keeps_to, may_leave}
 use Rattle.unicode_bidi.specs.ClassSet.{any_of}
 use Rattle.unicode_bidi.specs.ParagraphFlags.{is_counted, with_class, with_classes, flags_of}
 use Rattle.unicode_bidi.specs.declared.paragraph_flags.ParagraphFlags.{ParagraphFlags}
 use Rattle.unicode_bidi.proofs.ClassSets.{any_of-with, any_of-empty}
-use Rattle.std.proofs.Math.Bool.{or_assoc, or-false}
 
 pub with_classes-push : (flags : ParagraphFlags) (classes : List BidiClass) (c : BidiClass) → with_classes flags (classes ++ c ∷ []) ≡ with_class (with_classes flags classes) c
 with_classes-push flags [] c = refl

@@ -1,31 +1,22 @@
 -- A paragraph in which nothing opens a level: the passes over its one run.
-use Rattle.std.proofs.Common.{◌≡◌, ℕ, true, List, [], ◌∷◌, length, map, Option, arith, rules}
-use Rattle.std.specs.Prelude.{replicate, filter}
-use Rattle.std.specs.declared.ops.Range.{Range}
+use Rattle.bidi_base.proofs.Common.{◌≡◌, ℕ, true, List, [], ◌∷◌, length, map, Option, arith, filter, Range, All-cons, All-nil, explicit_levels, explicit_classes, is_flat, hidden, stored_classes, direction_of, has_places, kept_places, sequences, IsLine, text_len, per_unit, AreLines, bounds, chars_in_runs, kept_in_runs}
+use Rattle.std.specs.Prelude.{replicate}
 use Rattle.std.proofs.lemmas.List.{append-nil}
-use Rattle.std.proofs.lemmas.List.Elements.{All-cons, All-nil}
 use Rattle.bidi_base.specs.declared.char_data.BidiClass.{BidiClass}
 use Rattle.bidi_base.specs.declared.char_data.BidiClass.TheVariants.{L}
 use Rattle.bidi_base.specs.declared.data_source.BidiMatchedOpeningBracket.{BidiMatchedOpeningBracket}
-use Rattle.bidi_base.specs.Explicit.{explicit_levels, explicit_classes}
-use Rattle.bidi_base.specs.Flat.{is_flat, hidden}
-use Rattle.bidi_base.specs.Isolates.{stored_classes}
-use Rattle.bidi_base.specs.Levels.{direction_of}
-use Rattle.bidi_base.specs.Sequences.{has_places, kept_places, sequences}
-use Rattle.bidi_base.specs.Text.{IsLine, char_index, text_len, per_unit}
-use Rattle.bidi_base.specs.Units.{AreLines, bounds, chars_in_runs, kept_in_runs}
 use Rattle.bidi_base.proofs.FlatLemmas.{stored_classes-flat, explicit_levels-flat, processing_classes-flat, sequences-flat}
 use Rattle.bidi_base.proofs.PerUnit.{map-per_unit, per_char-per_unit}
 use Rattle.bidi_base.proofs.PlaceLemmas.{char_index-place, is_boundary-place, place-zero, place-end}
 use Rattle.bidi_base.proofs.StoredSteps.{length-stored_classes}
 use Rattle.bidi_base.proofs.TextLemmas.{HasUnits}
+use Rattle.bidi_base.proofs.NeutralLemmas.{direction_of-l_or_r}
 use Rattle.bidi_rules.specs.Joining.{JoinedRuns, characters_of}
 use Rattle.bidi_rules.specs.RunSequence.{lent_runs, lent_sos, lent_eos}
 use Rattle.bidi_rules.specs.declared.prepare.lent.LentSequence.{LentSequence}
 use Rattle.unicode_bidi.proofs.FilledUnits.{per_unit-replicate}
 use Rattle.unicode_bidi.proofs.LevelPasses.{AreResolvedTo, AreResolvedTo-start}
 use Rattle.unicode_bidi.proofs.SequencesInPlace.{IsNext, IsNext-at}
-use Rattle.bidi_base.proofs.NeutralLemmas.{direction_of-l_or_r}
 
 -- the runs of a sequence that is lent, with its ends
 abbrev pub lent : LentSequence → JoinedRuns
@@ -48,15 +39,18 @@ module _ (len_of : ℕ → ℕ) (h : HasUnits len_of) (chars : List ℕ) (source
   stored_is : stored ≡ source
   stored_is = stored_classes-flat source flat
 
-  begins : char_index len_of chars 0 ≡ 0
-  begins = search (rules, char_index-place)
-
-  ends : char_index len_of chars (text_len len_of chars) ≡ length chars
-  ends = grind (arith, place-end, char_index-place)
-
   places-whole : kept_in_runs len_of chars stored whole.runs ≡ kept_places stored
   unfolding kept_in_runs chars_in_runs kept_places
-  places-whole = grind (arith, append-nil, begins, ends, length-stored_classes)
+  places-whole =
+      grind (
+        arith,
+        append-nil,
+        char_index-place len_of chars h 0,
+        place-zero,
+        char_index-place len_of chars h (length chars),
+        place-end len_of chars (length chars),
+        length-stored_classes,
+      )
 
   -- it is all there is
   sequences-whole : filter has_places (characters_of len_of chars stored whole ∷ []) ≡ sequences paragraph stored (explicit_levels paragraph stored)

@@ -1,25 +1,18 @@
 -- What follows of the analysis of a text that is cut into its paragraphs.
-use Rattle.std.proofs.Common.{◌≡◌, ◌∙◌, ◌≤◌, ℕ, Bool, List, [], ◌∷◌, length, map, ap, arith}
-use Rattle.std.proofs.lemmas.List.{append-nil, length-map}
-use Rattle.std.specs.Bool.{then_some}
-use Rattle.std.specs.Prelude.{All, IfSome, IsTrue, Option, Some, None, slice_range}
+use Rattle.bidi_base.proofs.Common.{◌≡◌, ◌≤◌, ℕ, Bool, List, [], ◌∷◌, map, arith, length-map, then_some, All, IfSome, IsTrue, slice_range, AnalysedText, IsPerCharText, paragraph_level, stored_classes, HasOwnUnits, AreLevelsFrom, pieces_of, ranges_from, Source, text_classes, text_levels, stored_levels, per_unit, is_per_char, IsLine}
+use Rattle.std.proofs.lemmas.List.{append-nil}
+use Rattle.std.specs.Prelude.{Option, Some, None}
 use Rattle.bidi_base.specs.declared.char_data.BidiClass.{BidiClass}
 use Rattle.bidi_base.specs.declared.char_data.BidiClass.TheVariants.{L}
-use Rattle.bidi_base.specs.Analysed.{AnalysedText, IsPerCharText, HasCharValues}
-use Rattle.bidi_base.specs.Isolates.{paragraph_level, stored_classes}
-use Rattle.bidi_base.specs.Laws.{HasOwnUnits, AreLevelsFrom}
-use Rattle.bidi_base.specs.Paragraphs.{pieces_of, ranges_from}
-use Rattle.bidi_base.specs.Source.{Source}
-use Rattle.bidi_base.specs.Stored.{text_classes, text_levels, stored_levels}
+use Rattle.bidi_base.specs.Analysed.{HasCharValues}
 use Rattle.bidi_base.proofs.CrLfLemmas.{together-AreCrLfParagraphRanges}
-use Rattle.bidi_base.specs.Text.{per_unit, is_per_char, IsLine}
-use Rattle.bidi_base.proofs.LevelLaws.{length-text_levels, stored_levels-AreLevelsFrom, text_classes-one, text_levels-one, paragraph_levels-one, All-per_unit}
-use Rattle.bidi_base.proofs.ParagraphsLemmas.{joined, length-text_classes, cut_after-joined, paragraphs-AreParagraphRanges}
 use Rattle.bidi_base.proofs.PerUnit.{per_char-per_unit}
 use Rattle.bidi_base.proofs.PerCharTests.{class_eq, class_test}
 use Rattle.bidi_base.proofs.StoredSteps.{length-stored_classes}
 use Rattle.bidi_base.proofs.TextLemmas.{HasUnits}
 use Rattle.bidi_base.proofs.UnitsLemmas.{is_per_char-per_unit}
+use Rattle.bidi_base.proofs.LevelLaws.{length-text_levels, text_classes-one, text_levels-one, paragraph_levels-one, stored_levels-AreLevelsFrom, All-per_unit}
+use Rattle.bidi_base.proofs.ParagraphsLemmas.{cut_after-joined, joined, length-text_classes, paragraphs-AreParagraphRanges}
 use Rattle.unicode_bidi.specs.declared.paragraph_info.ParagraphInfo.{ParagraphInfo}
 use Rattle.unicode_bidi.specs.ParagraphInfo.{range_of, ranges_of, levels_of}
 use Rattle.unicode_bidi.specs.SplitRule.{pieces_by, AreParagraphRangesBy, IsAnalysisOf, IsAnalysisBy}
@@ -35,20 +28,20 @@ stored-is_per_char len_of chars class_of classes e = grind (arith, is_per_char-p
 -- cut into any pieces
 module _ (source : Source) (base : Option ℕ) (pieces : List (List ℕ)) (a : AnalysedText) (whole : joined pieces ≡ a.chars) where
   module _ (ranges : List (ℕ × ℕ)) (own_levels : List ℕ) (found : IsAnalysisOf source base pieces a ranges own_levels) where
-    classes_long : length (text_classes source pieces) ≡ length a.chars
-    classes_long = length-text_classes source pieces ∙ ap length whole
-
-    levels_long : length (text_levels source base pieces) ≡ length a.chars
-    levels_long = length-text_levels source base pieces a.chars whole
-
     pub analysis-IsPerCharText : IsPerCharText a
-    analysis-IsPerCharText = grind (arith, is_per_char-per_unit, class_test, classes_long, levels_long)
+    analysis-IsPerCharText = grind (arith, is_per_char-per_unit, class_test, length-text_classes, length-text_levels)
 
     pub analysis-HasCharValues : HasUnits a.len_of → HasCharValues a (text_classes source pieces) (text_levels source base pieces)
-    analysis-HasCharValues some = record {
-      classes = simp (found.classes, per_char-per_unit a.len_of some L a.chars (text_classes source pieces) classes_long);
-      levels = simp (found.levels, per_char-per_unit a.len_of some 0 a.chars (text_levels source base pieces) levels_long);
-    }
+    analysis-HasCharValues some =
+        grind (
+          arith,
+          found.classes,
+          found.levels,
+          per_char-per_unit a.len_of some L a.chars (text_classes source pieces),
+          per_char-per_unit a.len_of some 0 a.chars (text_levels source base pieces),
+          length-text_classes source pieces,
+          length-text_levels source base pieces a.chars,
+        )
 
   module _ (some : HasUnits a.len_of) (ps : List ParagraphInfo) (found : IsAnalysisOf source base pieces a (ranges_of ps) (levels_of ps)) where
     pub bounded-found : IfSome base (λ level. level ≤ 125) → All (λ p. AreLevelsFrom p.level (slice_range a.levels p.range.start p.range.end)) ps
@@ -72,8 +65,7 @@ module _ (source : Source) (len_of : ℕ → ℕ) (some : HasUnits len_of) (char
   rule-AreParagraphRanges rule = grind (arith, paragraphs-AreParagraphRanges, together-AreCrLfParagraphRanges)
 
   pub lines-found : (rule : SplitRule) (ps : List ParagraphInfo) → ranges_of ps ≡ ranges_from len_of 0 (pieces_by (Some rule) source chars) → All (λ p. IsLine len_of chars (range_of p).start (range_of p).end) ps
-  lines-found rule ps e =
-      paragraphs-are_lines len_of chars ps (rw e (grind (arith, rule-AreParagraphRanges rule)))
+  lines-found rule ps e = paragraphs-are_lines len_of chars ps (rw e (grind (arith, rule-AreParagraphRanges rule)))
 
 -- the same of a text that is one paragraph
 module _ (source : Source) (base : Option ℕ) (a : AnalysedText) (ranges : List (ℕ × ℕ)) (own_levels : List ℕ) (found : IsAnalysisBy source base None a ranges own_levels) where

@@ -1,8 +1,6 @@
 -- A character that the walk does not mind changes nothing.
-use Rattle.std.proofs.Common.{◌≡◌, ℕ, false, List, [], arith}
-use Rattle.std.specs.declared.ops.Range.{Range}
+use Rattle.bidi_base.proofs.Common.{◌≡◌, ℕ, false, List, [], arith, Range, is_paragraph_separator}
 use Rattle.bidi_base.specs.declared.char_data.BidiClass.{BidiClass}
-use Rattle.bidi_base.specs.Classes.{is_paragraph_separator}
 use Rattle.unicode_bidi.specs.FirstWalk.{waiting, classes_after, minds, IsReadBy}
 use Rattle.unicode_bidi.specs.declared.first_walk.Reading.{Reading}
 use Rattle.unicode_bidi.proofs.ClassSets.{with-same}

@@ -1,10 +1,7 @@
 -- What is known of the classes of the first characters.
-use Rattle.std.proofs.Common.{◌≡◌, ℕ, ◌<◌, List, length, replicate, Option, Some, None, inl, inr, arith}
-use Rattle.std.specs.Prelude.{slice_set}
-use Rattle.std.proofs.lemmas.Bool.{cases_eq}
-use Rattle.std.proofs.lemmas.List.{get_or-replicate, get_or-set_other, get_or-set_same, get_or_past, length-replicate}
+use Rattle.bidi_base.proofs.Common.{◌≡◌, ℕ, ◌<◌, List, length, replicate, Option, Some, None, inl, inr, arith, slice_set, cases_eq, get_or-replicate, get_or_past, length-replicate, Source}
+use Rattle.std.proofs.lemmas.List.{get_or-set_other, get_or-set_same}
 use Rattle.bidi_base.specs.declared.char_data.BidiClass.{BidiClass}
-use Rattle.bidi_base.specs.Source.{Source}
 use Rattle.unicode_bidi.specs.FirstWalk.{AreKnown}
 
 module _ (source : Source) where

@@ -1,33 +1,19 @@
 -- The passes over the units of a paragraph, put together: what they leave once some sequences are resolved, and once all are.
-use Rattle.std.proofs.Common.{◌≡◌, ℕ, zero, suc, ◌+◌, ◌<◌, ◌≤◌, true, false, List, [], ◌∷◌, ◌++◌, length, get_or, take, map, Option, refl, sym, ap, ◌∙◌, arith}
-use Rattle.std.specs.Prelude.{zip, replicate, filter}
-use Rattle.std.specs.List.{All, list_all}
-use Rattle.std.proofs.lemmas.List.{take_more, take_all, length-map, get_or-map, get_or_default, length-replicate, nil_from_length}
-use Rattle.std.proofs.lemmas.Slice.Zip.{get_or-zip, length-zip}
+use Rattle.bidi_base.proofs.Common.{◌≡◌, ℕ, zero, suc, ◌+◌, ◌<◌, ◌≤◌, true, false, List, [], ◌∷◌, ◌++◌, length, get_or, take, map, Option, refl, sym, ap, ◌∙◌, arith, filter, list_all, take_more, take_all, length-map, get_or-map, get_or_default, length-replicate, nil_from_length, get_or-zip, length-zip, is_weak_resolved, class_at, at_places, first_or, stored_classes, explicit_levels, explicit_classes, processing_classes, RunSequence, level_at, has_places, sequences, weak_classes, direction_of, n2_rule, neutral_classes, implicit_level, AreResolved, text_len, place, is_per_char, per_unit, per_char, AreLines, in_runs, kept_in_runs, kept_in_place}
+use Rattle.std.specs.Prelude.{zip, replicate}
+use Rattle.std.specs.List.{All}
 use Rattle.bidi_base.specs.declared.char_data.BidiClass.{BidiClass}
 use Rattle.bidi_base.specs.declared.char_data.BidiClass.TheVariants.{L, BN}
 use Rattle.bidi_base.specs.declared.data_source.BidiMatchedOpeningBracket.{BidiMatchedOpeningBracket}
-use Rattle.bidi_base.specs.Classes.{is_weak_resolved}
-use Rattle.bidi_base.specs.Places.{class_at, at_places, first_or}
-use Rattle.bidi_base.specs.Isolates.{stored_classes}
-use Rattle.bidi_base.specs.Explicit.{explicit_levels, explicit_classes, processing_classes}
-use Rattle.bidi_base.specs.Sequences.{RunSequence, level_at, has_places, sequences}
-use Rattle.bidi_base.specs.Weak.{weak_classes}
-use Rattle.bidi_base.specs.Levels.{direction_of}
-use Rattle.bidi_base.specs.Neutral.{n2_rule, neutral_classes}
-use Rattle.bidi_base.specs.Implicit.{implicit_level}
-use Rattle.bidi_base.specs.Stored.{AreResolved}
-use Rattle.bidi_base.specs.Text.{text_len, place, is_per_char, per_unit, per_char}
-use Rattle.bidi_base.specs.Units.{AreLines, in_runs, kept_in_runs, kept_in_place}
 use Rattle.bidi_base.proofs.ExplicitLemmas.{length-explicit_levels}
 use Rattle.bidi_base.proofs.LevelLaws.{All-per_unit}
-use Rattle.bidi_base.proofs.NeutralSource.{neutral_classes-source, marks-stored_classes}
 use Rattle.bidi_base.proofs.PerCharTests.{class_eq, class_test, level_eq, level_test}
 use Rattle.bidi_base.proofs.PerUnit.{length-per_char, length-per_unit, map-per_unit, per_char-per_unit}
-use Rattle.bidi_base.proofs.StoredLemmas.{explicit_levels-IsExplicitIn}
 use Rattle.bidi_base.proofs.StoredSteps.{length-stored_classes}
 use Rattle.bidi_base.proofs.TextLemmas.{HasUnits}
 use Rattle.bidi_base.proofs.UnitsLemmas.{per_unit-from_is_per_char, is_per_char-per_unit}
+use Rattle.bidi_base.proofs.NeutralSource.{neutral_classes-source, marks-stored_classes}
+use Rattle.bidi_base.proofs.StoredLemmas.{explicit_levels-IsExplicitIn}
 use Rattle.bidi_rules.specs.Joining.{JoinedRuns, characters_of}
 use Rattle.bidi_rules.specs.RunSequence.{run_bounds, sequence_in, sequences_in}
 use Rattle.bidi_rules.specs.declared.prepare.sequence.IsolatingRunSequence.{IsolatingRunSequence}
@@ -38,7 +24,7 @@ use Rattle.unicode_bidi.proofs.SequenceUnits.{at_places-map, at_places-place, le
 zip-append : {X Y : Type 0} (vs ws : List X) (xs ys : List Y) → length vs ≡ length xs → zip (vs ++ ws) (xs ++ ys) ≡ zip vs xs ++ zip ws ys
 zip-append [] ws xs ys long = grind (arith, nil_from_length)
 zip-append (v ∷ vs) ws [] ys long = absurd (omega arith)
-zip-append (v ∷ vs) ws (x ∷ xs) ys long = ap (λ es. (v, x) ∷ es) (zip-append vs ws xs ys (omega arith))
+zip-append (v ∷ vs) ws (x ∷ xs) ys long = grind (arith, zip-append vs ws xs ys)
 
 zip-replicate : {X Y : Type 0} (n : ℕ) (x : X) (y : Y) → zip (replicate n x) (replicate n y) ≡ replicate n (x, y)
 zip-replicate zero x y = refl
@@ -87,11 +73,9 @@ module _ (len_of : ℕ → ℕ) (h : HasUnits len_of) (chars : List ℕ) (source
   stored_read original fits is = simp (is, per_char-per_unit len_of h L chars stored (length-stored_classes source ∙ fits))
 
   pub AreResolvedTo-start : (original units : List BidiClass) → length source ≡ length chars → original ≡ per_unit len_of chars stored → units ≡ per_unit len_of chars (processing_classes paragraph (per_char L len_of chars original)) → AreResolvedTo [] units
-  AreResolvedTo-start original units fits original_is is = record {
-    values = processing_classes paragraph stored;
-    is = simp (stored_read original fits original_is) at is;
-    under_way = IsUnderWay-start paragraph source brackets stored levels;
-  }
+  AreResolvedTo-start original units fits original_is is =
+      let read = simp (stored_read original fits original_is) at is in
+      record { values = processing_classes paragraph stored; is = read; under_way = IsUnderWay-start paragraph source brackets stored levels }
 
   -- they have one entry a unit, equal within each character
   pub AreResolvedTo-per_char : (seqs : List RunSequence) (units : List BidiClass) → length source ≡ length chars → AreResolvedTo seqs units → is_per_char class_eq len_of chars units ≡ true
@@ -123,21 +107,31 @@ module _ (len_of : ℕ → ℕ) (h : HasUnits len_of) (chars : List ℕ) (source
         let is = per_unit-from_is_per_char class_eq class_test L len_of h chars new per in
         let old_long = as_long now.values now.under_way.long in
         let new_long = length-per_char L len_of chars new in
-        let read = kept_in_place-kept len_of h chars stored now.values old runs in
-        record {
-          values = values;
-          is = is;
-          next = IsWeakNext-from source brackets stored levels classes seqs (members s) next now.values values now.under_way (new_long ∙ sym old_long)
-              (stays_elsewhere len_of h chars stored now.values values old new runs lines old_long new_long now.is is (λ p there. now.under_way.read p (within p there)) removed outside)
-              (grind (arith, read, kept_in_runs-within len_of h chars stored runs, at_places-place len_of h chars L values new ps, at_places-place len_of h chars L now.values old ps, within));
-        }
+        let stays = stays_elsewhere len_of h chars stored now.values values old new runs lines old_long new_long now.is is (λ p there. now.under_way.read p (within p there)) removed outside in
+        let next = IsWeakNext-from source brackets stored levels classes seqs (members s) next now.values values now.under_way (new_long ∙ sym old_long) stays
+        (grind (
+          arith,
+          kept_in_place-kept len_of h chars stored now.values old runs,
+          kept_in_runs-within len_of h chars stored runs,
+          at_places-place len_of h chars L values new ps,
+          at_places-place len_of h chars L now.values old ps,
+          within,
+        )) in
+        record { values = values; is = is; next = next }
 
     -- so N0 to N2 can go on
     pub AreWeakTo-resolved : (units : List BidiClass) → AreWeakTo seqs s units → list_all is_weak_resolved (at_places L units (map (place len_of chars) (kept_in_place len_of chars units runs))) ≡ true
     AreWeakTo-resolved units now =
-        let read = kept_in_place-kept len_of h chars stored now.values units runs in
         let resolved = weak_next-resolved source brackets stored levels classes seqs (members s) next now.values now.next in
-        grind (arith, read, at_places-place len_of h chars L now.values units ps, kept_in_runs-within len_of h chars stored runs, within, as_long, resolved)
+        grind (
+          arith,
+          kept_in_place-kept len_of h chars stored now.values units runs,
+          at_places-place len_of h chars L now.values units ps,
+          kept_in_runs-within len_of h chars stored runs,
+          within,
+          as_long,
+          resolved,
+        )
 
     -- N0 to N2
     pub AreResolvedTo-more : (old new original : List BidiClass) (unit_levels : List ℕ) → original ≡ per_unit len_of chars stored → unit_levels ≡ per_unit len_of chars levels → AreWeakTo seqs s old
@@ -151,19 +145,25 @@ module _ (len_of : ℕ → ℕ) (h : HasUnits len_of) (chars : List ℕ) (source
         let is = per_unit-from_is_per_char class_eq class_test L len_of h chars new per in
         let old_long = as_long now.values now.next.long in
         let new_long = length-per_char L len_of chars new in
-        let read = kept_in_place-kept len_of h chars stored now.values old runs in
-        let inside = kept_in_runs-within len_of h chars stored runs in
-        let level_is = level_at-first len_of h chars levels unit_levels ps in
-        let new_own = at_places-place len_of h chars L values new ps in
-        let old_own = at_places-place len_of h chars L now.values old ps in
-        let stored_own = at_places-place len_of h chars L stored original ps in
-        record {
-          values = values;
-          is = is;
-          under_way = IsUnderWay-more source brackets stored levels classes seqs (members s) next now.values values now.next (new_long ∙ sym old_long)
-              (stays_elsewhere len_of h chars stored now.values values old new runs lines old_long new_long now.is is (λ p there. now.next.read p (within p there)) removed outside)
-              (grind (arith, read, inside, level_is, length-explicit_levels, as_long stored refl, new_own, old_own, stored_own, at_places-map, neutral_classes-source, marks-stored_classes, within));
-        }
+        let own = λ (values : List BidiClass) (units : List BidiClass). at_places-place len_of h chars L values units ps in
+        let stays = stays_elsewhere len_of h chars stored now.values values old new runs lines old_long new_long now.is is (λ p there. now.next.read p (within p there)) removed outside in
+        let under_way = IsUnderWay-more source brackets stored levels classes seqs (members s) next now.values values now.next (new_long ∙ sym old_long) stays
+        (grind (
+          arith,
+          kept_in_place-kept len_of h chars stored now.values old runs,
+          kept_in_runs-within len_of h chars stored runs,
+          level_at-first len_of h chars levels unit_levels ps,
+          length-explicit_levels,
+          as_long stored refl,
+          own values new,
+          own now.values old,
+          own stored original,
+          at_places-map,
+          neutral_classes-source,
+          marks-stored_classes,
+          within,
+        )) in
+        record { values = values; is = is; under_way = under_way }
 
   -- ---- I1 and I2 once all are resolved
 
@@ -174,17 +174,34 @@ module _ (len_of : ℕ → ℕ) (h : HasUnits len_of) (chars : List ℕ) (source
   pub AreLevels-all : (seqs : List RunSequence) (units : List BidiClass) (unit_levels new : List ℕ) → length source ≡ length chars → unit_levels ≡ per_unit len_of chars levels
       → filter has_places seqs ≡ sequences paragraph stored levels → AreResolvedTo seqs units → new ≡ map (λ (e : ℕ × BidiClass). implicit_level e.0 e.1) (zip unit_levels units) → AreLevels new
   AreLevels-all seqs units unit_levels new fits levels_is sequences_are now is =
-      let long : length now.values ≡ length chars = now.under_way.long ∙ length-stored_classes source ∙ fits in
-      let levels_long : length levels ≡ length chars = length-explicit_levels paragraph stored ∙ length-stored_classes source ∙ fits in
       let of_chars : List ℕ = map (λ (e : ℕ × BidiClass). implicit_level e.0 e.1) (zip levels now.values) in
-      let of_chars_long : length of_chars ≡ length chars = omega (arith, length-map (zip levels now.values) (λ (e : ℕ × BidiClass). implicit_level e.0 e.1), length-zip levels now.values, long, levels_long) in
+      let long : length of_chars ≡ length chars = grind (
+        arith,
+        length-map,
+        length-zip,
+        now.under_way.long,
+        length-explicit_levels,
+        length-stored_classes,
+      ) in
       let whole : new ≡ per_unit len_of chars of_chars = simp (is, now.is, levels_is, zip-per_unit, map-per_unit) in
-      record {
-        even = simp (whole, is_per_char-per_unit level_eq level_test len_of chars of_chars of_chars_long);
-        resolved =
-            simp (whole, per_char-per_unit len_of h 0 chars of_chars of_chars_long) (AreResolved-all paragraph stored seqs sequences_are source brackets now.values of_chars now.under_way
-            (λ p within. grind (arith, get_or-map, get_or-zip levels now.values p (0, L), length-zip levels now.values, length-stored_classes)));
-      }
+      let resolved = AreResolved-all paragraph stored seqs sequences_are source brackets now.values of_chars now.under_way
+      (λ p within. grind (
+        arith,
+        get_or-map,
+        get_or-zip levels now.values p (0, L),
+        length-zip levels now.values,
+        length-stored_classes,
+        length-explicit_levels,
+        now.under_way.long,
+      )) in
+      grind (
+        arith,
+        whole,
+        long,
+        is_per_char-per_unit level_eq level_test len_of chars of_chars,
+        per_char-per_unit len_of h 0 chars of_chars,
+        resolved,
+      )
 
   -- ---- what X1 to X10 leave
 
@@ -199,8 +216,7 @@ module _ (len_of : ℕ → ℕ) (h : HasUnits len_of) (chars : List ℕ) (source
       → unit_levels ≡ per_unit len_of chars (explicit_levels paragraph (per_char L len_of chars original))
       → sequences_in len_of chars (per_char L len_of chars original) out ≡ sequences paragraph (per_char L len_of chars original) (explicit_levels paragraph (per_char L len_of chars original))
       → All (λ (s : IsolatingRunSequence). AreLines len_of chars (run_bounds s)) out → ArePrepared original unit_levels out
-  prepared original unit_levels out fits is levels_is sequences_are lines =
-      grind (arith, stored_read original)
+  prepared original unit_levels out fits is levels_is sequences_are lines = grind (arith, stored_read original)
 
   -- of these sequences the first k
   abbrev pub sequences_before : List IsolatingRunSequence → ℕ → List RunSequence

@@ -1,14 +1,8 @@
 -- L1 over the units of a line is L1 over its characters.
-use Rattle.std.proofs.Common.{◌≡◌, ℕ, zero, suc, ◌+◌, ◌-◌, ◌≤◌, if◌then◌else◌, Bool, List, [], ◌∷◌, ◌++◌, length, take, drop, refl, ap₂, ◌∙◌, arith, append_assoc, length-take-le, length-drop}
-use Rattle.std.specs.Prelude.{replicate, slice_range}
-use Rattle.std.specs.List.{list_any}
-use Rattle.std.proofs.Math.Bool.{or-false}
-use Rattle.std.proofs.lemmas.List.{drop-drop, take-append-drop, nil_from_length}
-use Rattle.std.proofs.lemmas.List.Folds.{list_any-append}
+use Rattle.bidi_base.proofs.Common.{◌≡◌, ℕ, zero, suc, ◌-◌, ◌≤◌, if◌then◌else◌, Bool, List, [], ◌∷◌, ◌++◌, length, take, drop, refl, ap₂, ◌∙◌, arith, append_assoc, length-drop, slice_range, list_any, or-false, drop-drop, take-append-drop, nil_from_length, list_any-append, is_removed, is_reset, line_levels_after, line_levels, levels_with_line, place, per_unit, char_index, IsLine}
+use Rattle.std.proofs.Common.{length-take-le}
+use Rattle.std.specs.Prelude.{replicate}
 use Rattle.bidi_base.specs.declared.char_data.BidiClass.{BidiClass}
-use Rattle.bidi_base.specs.Classes.{is_removed}
-use Rattle.bidi_base.specs.Line.{is_reset, line_levels_after, line_levels, levels_with_line}
-use Rattle.bidi_base.specs.Text.{place, per_unit, char_index, IsLine}
 use Rattle.bidi_base.proofs.TextLemmas.{HasUnits}
 use Rattle.bidi_base.proofs.PlaceLemmas.{place-sum, line_places, IsLineAt}
 use Rattle.bidi_base.proofs.PerUnit.{take-per_unit, drop-per_unit, per_unit-append}
@@ -66,8 +60,13 @@ module _ (len_of : ℕ → ℕ) (h : HasUnits len_of) where
 pub slice_range-per_unit : {X : Type 0} (len_of : ℕ → ℕ) (chars : List ℕ) (values : List X) (i j : ℕ) → i ≤ j → j ≤ length chars → length values ≡ length chars
     → slice_range (per_unit len_of chars values) (place len_of chars i) (place len_of chars j) ≡ per_unit len_of (slice_range chars i j) (slice_range values i j)
 slice_range-per_unit len_of chars values i j order within long =
-    let n : place len_of chars j - place len_of chars i ≡ place len_of (drop i chars) (j - i) = omega (arith, place-sum len_of chars i j order (omega arith)) in
-    simp (drop-per_unit len_of chars values i long, n, take-per_unit len_of (drop i chars) (drop i values) (j - i) (omega (arith, length-drop i values, length-drop i chars)))
+    grind (
+      arith,
+      place-sum len_of chars i j,
+      drop-per_unit len_of chars values i,
+      take-per_unit len_of (drop i chars) (drop i values) (j - i),
+      length-drop,
+    )
 
 -- a test over units is the test over characters
 list_any-units : {X : Type 0} (test : X → Bool) (v : X) (n : ℕ) → 1 ≤ n → list_any test (replicate n v) ≡ test v
@@ -94,17 +93,25 @@ levels_with_line-per_unit len_of h level chars classes levels start end e f line
     at_places : (i j : ℕ) → i ≤ j → j ≤ length chars
         → levels_with_line level (per_unit len_of chars classes) (per_unit len_of chars levels) (place len_of chars i) (place len_of chars j) ≡ per_unit len_of chars (levels_with_line level classes levels i j)
     at_places i j order within =
-        let n : i + (j - i) ≡ j = omega arith in
-        let three : take i chars ++ (slice_range chars i j ++ drop j chars) ≡ chars = cc (take-append-drop i chars, take-append-drop (j - i) (drop i chars), drop-drop (j - i) i chars) in
-        let part = length-part chars i j within in
-        let part_classes = length-part classes i j (omega arith) in
-        let part_levels = length-part levels i j (omega arith) in
+        let three : take i chars ++ (slice_range chars i j ++ drop j chars) ≡ chars = grind (
+          arith,
+          take-append-drop i chars,
+          take-append-drop (j - i) (drop i chars),
+          drop-drop (j - i) i chars,
+        ) in
         let line : List ℕ = line_levels level (slice_range classes i j) (slice_range levels i j) in
-        let long = length-line_levels level (slice_range classes i j) (slice_range levels i j) (omega arith) in
-        let own = line_levels-per_unit len_of h level (slice_range chars i j) (slice_range classes i j) (slice_range levels i j) (omega arith) (omega arith) in
-        let join = per_unit-append len_of (slice_range chars i j) (drop j chars) line (drop j levels) (omega arith) in
-        let join_front = per_unit-append len_of (take i chars) (slice_range chars i j ++ drop j chars) (take i levels) (line ++ drop j levels)
-        (omega (arith, length-take-le i levels (omega arith), length-take-le i chars (omega arith))) in
-        let own_classes = slice_range-per_unit len_of chars classes i j order within e in
-        let own_levels = slice_range-per_unit len_of chars levels i j order within f in
-        simp (append_assoc, take-per_unit len_of chars levels i f, drop-per_unit len_of chars levels j f, own_classes, own_levels, own, ← join, ← join_front, three)
+        let long : length line ≡ j - i = grind (arith, length-line_levels, length-part) in
+        let own = line_levels-per_unit len_of h level (slice_range chars i j) (slice_range classes i j) (slice_range levels i j) (grind (arith, length-part)) (grind (arith, length-part)) in
+        let join = per_unit-append len_of (slice_range chars i j) (drop j chars) line (drop j levels) (grind (arith, long, length-part)) in
+        let join_front = per_unit-append len_of (take i chars) (slice_range chars i j ++ drop j chars) (take i levels) (line ++ drop j levels) (grind (arith, length-take-le)) in
+        simp (
+          append_assoc,
+          take-per_unit len_of chars levels i f,
+          drop-per_unit len_of chars levels j f,
+          slice_range-per_unit len_of chars classes i j order within e,
+          slice_range-per_unit len_of chars levels i j order within f,
+          own,
+          ← join,
+          ← join_front,
+          three,
+        )

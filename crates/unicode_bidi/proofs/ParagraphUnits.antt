@@ -1,29 +1,17 @@
 -- The levels of a text, written paragraph by paragraph.
-use Rattle.std.proofs.Common.{◌≡◌, Option, ℕ, ◌+◌, ◌-◌, ◌<◌, ◌≤◌, List, [], ◌∷◌, ◌++◌, length, get_or, take, drop, map, refl, subst, ◌∙◌, append_assoc, append-nil, arith, length-append, zero-add}
-use Rattle.std.proofs.Math.Seq.{take-append_seam, drop-append-add}
+use Rattle.bidi_base.proofs.Common.{◌≡◌, Option, ℕ, ◌+◌, ◌-◌, ◌<◌, ◌≤◌, List, [], ◌∷◌, ◌++◌, length, get_or, take, drop, map, refl, subst, ◌∙◌, append_assoc, append-nil, arith, length-append, zero-add, take-append_seam, drop-append-add, Range, All, IfSome, slice_range, get_or-map, take_more, drop_more, drop-drop, length-map, flat_map-map, sum_by-append, map-map, paragraph_level, stored_classes, HasOwnUnits, AreLevelsFrom, ranges_from, Source, levels_in, stored_levels, text_classes, text_levels, paragraph_levels, text_len, subrange, per_unit, IsLine}
 use Rattle.unicode_bidi.proofs.RunText.{flat_map-same_on}
-use Rattle.std.specs.declared.ops.Range.{Range}
-use Rattle.std.specs.Prelude.{All, IfSome, flat_map, slice_range}
-use Rattle.std.proofs.lemmas.List.{get_or-map, take_more, drop_more, drop-drop, length-map}
+use Rattle.std.specs.Prelude.{flat_map}
 use Rattle.std.proofs.lemmas.List.Concat.{flat_map-append}
-use Rattle.std.proofs.lemmas.List.Folds.{flat_map-map}
-use Rattle.std.proofs.lemmas.List.Sums.{sum_by-append}
-use Rattle.std.proofs.lemmas.Simd.{map-map}
 use Rattle.bidi_base.specs.declared.char_data.BidiClass.{BidiClass}
-use Rattle.bidi_base.specs.Isolates.{paragraph_level, stored_classes}
-use Rattle.bidi_base.specs.Laws.{HasOwnUnits, AreLevelsFrom}
-use Rattle.bidi_base.specs.Paragraphs.{ranges_from}
-use Rattle.bidi_base.specs.Source.{Source}
-use Rattle.bidi_base.specs.Stored.{levels_in, stored_levels, text_classes, text_levels, paragraph_levels}
-use Rattle.bidi_base.specs.Text.{text_len, subrange, per_unit, IsLine}
 use Rattle.bidi_base.proofs.LevelLaws.{paragraph_level-few, length-stored_levels, stored_levels-AreLevelsFrom, All-per_unit}
-use Rattle.bidi_base.proofs.ParagraphsLemmas.{joined, ranges-lines}
-use Rattle.bidi_base.proofs.PieceUnits.{per_unit-pieces, HasOwnUnits-pieces}
 use Rattle.bidi_base.proofs.StoredSteps.{length-stored_classes}
 use Rattle.bidi_base.proofs.PlaceLemmas.{text_len-subrange}
 use Rattle.bidi_base.proofs.PerUnit.{length-per_unit}
-use Rattle.bidi_base.proofs.ResolvedLemmas.{length-levels_in}
 use Rattle.bidi_base.proofs.TextLemmas.{HasUnits, is_boundary-le, subrange-middle}
+use Rattle.bidi_base.proofs.ParagraphsLemmas.{ranges-lines, joined}
+use Rattle.bidi_base.proofs.PieceUnits.{per_unit-pieces, HasOwnUnits-pieces}
+use Rattle.bidi_base.proofs.ResolvedLemmas.{length-levels_in}
 use Rattle.unicode_bidi.specs.declared.paragraph_info.ParagraphInfo.{ParagraphInfo}
 use Rattle.unicode_bidi.specs.Engine.{unit_levels, own_flags, CanWrite, Follow, chars_of}
 use Rattle.unicode_bidi.specs.ParagraphFlags.{flags_of, paragraph_flags}
@@ -70,11 +58,7 @@ module _ (own : ParagraphInfo → List ℕ) (start : List ℕ) (ps : List Paragr
   AreParagraphsWritten-more k levels new p within is order long e h =
       let more : written (k + 1) ≡ written k ++ own p = simp (take_more ps k p within, ← is, flat_map-append, append-nil) in
       let next = simp (drop_more ps k p within, ← is) at h.follow in
-      let ends : p.range.end ≡ length (written k) + length (own p) = omega (arith, next.0) in
-      record {
-        all = simp (e, more, ends, next.0, h.all, take-append_seam, drop-append-add, drop-drop, append_assoc, length-append);
-        follow = simp (more, length-append, ← ends) next.1;
-      }
+      grind (arith, more, next, take-append_seam, drop-append-add, drop-drop, append_assoc, length-append)
 
 -- ---- the paragraphs of a text
 

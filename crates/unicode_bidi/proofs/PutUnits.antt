@@ -1,11 +1,6 @@
 -- Units that get one value, as the walk over a text writes them.
-use Rattle.std.proofs.Common.{◌≡◌, ℕ, ◌+◌, ◌-◌, ◌≤◌, List, ◌++◌, length, take, drop, arith, append_assoc}
-use Rattle.std.proofs.lemmas.Grind.{common_steps}
+use Rattle.bidi_base.proofs.Common.{◌≡◌, ℕ, ◌+◌, ◌-◌, ◌≤◌, List, ◌++◌, length, take, drop, arith, append_assoc, common_steps, Range, take-append-add, take-append-le, drop-append-le, take-take, drop-take, filled}
 use Rattle.std.specs.Prelude.{replicate}
-use Rattle.std.specs.declared.ops.Range.{Range}
-use Rattle.std.proofs.Math.Seq.{take-append-add}
-use Rattle.std.proofs.lemmas.List.{take-append-le, drop-append-le, take-take, drop-take}
-use Rattle.bidi_base.specs.Reading.{filled}
 
 -- ---- the units before some place
 

@@ -1,28 +1,18 @@
 -- The reordered text of a line is that of its runs, from left to right.
-use Rattle.std.proofs.Common.{◌≡◌, ℕ, zero, suc, ◌+◌, ◌-◌, ◌<◌, ◌≤◌, List, [], ◌∷◌, ◌++◌, map, flat_map, slice_range, length, get_or, take, drop, All, refl, sym, arith, inl, inr, add-zero, zero-add, map-id, take_all, le_refl}
-use Rattle.std.specs.List.{range_with_len}
-use Rattle.std.proofs.lemmas.Bool.{cases_Bool}
-use Rattle.std.proofs.lemmas.List.{get_or-map, length-map, drop-drop}
-use Rattle.std.proofs.lemmas.List.Folds.{flat_map-map}
-use Rattle.std.proofs.lemmas.List.Elements.{All-tail}
-use Rattle.std.proofs.lemmas.List.Sorted.{All-permutation, IsPermutation-reverse}
-use Rattle.std.proofs.lemmas.Grind.{flat_map-append, same_number_lists}
-use Rattle.bidi_base.specs.Levels.{is_odd}
-use Rattle.bidi_base.specs.Places.{between}
-use Rattle.bidi_base.specs.Text.{place, text_len, per_unit}
-use Rattle.bidi_base.specs.Display.{Run, run_level, visual_runs, written_run, written_runs, written_char, char_units, reordered_text, run_text, IsLevelRun}
+use Rattle.bidi_base.proofs.Common.{◌≡◌, ℕ, zero, suc, ◌+◌, ◌-◌, ◌<◌, ◌≤◌, List, [], ◌∷◌, ◌++◌, map, flat_map, length, get_or, drop, refl, sym, arith, inl, inr, zero-add, le_refl, range_with_len, cases_Bool, get_or-map, length-map, drop-drop, flat_map-map, All-tail, All-permutation, IsPermutation-reverse, flat_map-append, same_number_lists, is_odd, between, place, text_len, per_unit, Run, run_level, visual_runs, written_run, written_runs, reordered_text, IsLevelRun}
+use Rattle.std.proofs.Common.{slice_range, All, add-zero, map-id, take_all}
+use Rattle.bidi_base.specs.Display.{written_char, char_units, run_text}
 use Rattle.bidi_base.proofs.OrderLemmas.{get_or-slice_range, length-slice_range}
-use Rattle.bidi_lines.proofs.Pieces.{All-between, length-between, get_or-between}
-use Rattle.bidi_lines.specs.Arranged.{NoneIsOdd}
 use Rattle.bidi_base.proofs.TextLemmas.{HasUnits}
 use Rattle.bidi_base.proofs.PlaceLemmas.{place-zero, place-more, place-mono, char_index-place}
+use Rattle.bidi_base.proofs.Lists.{map-reverse}
+use Rattle.bidi_lines.proofs.Pieces.{All-between, length-between, get_or-between}
+use Rattle.bidi_lines.specs.Arranged.{NoneIsOdd}
 use Rattle.bidi_lines.proofs.Ordered.{visual_order-still}
 use Rattle.bidi_lines.proofs.VisualRuns.{visual_runs-are}
 use Rattle.std.proofs.Math.Seq.{take-add}
 use Rattle.std.proofs.Math.Nat.{sub-zero, sub_self}
-use Rattle.unicode_bidi.proofs.DirectionLemmas.{not_odd}
 use Rattle.unicode_bidi.proofs.CharRuns.{units_of, place_from, visual_runs-units, run_level-units}
-use Rattle.bidi_base.proofs.Lists.{map-reverse}
 
 pub flat_map-same_on : {A B : Type 0} (f g : A → List B) (xs : List A) → All (λ x. f x ≡ g x) xs → flat_map f xs ≡ flat_map g xs
 flat_map-same_on f g [] h = refl
@@ -32,13 +22,8 @@ flat_map-flat_map : {A B C : Type 0} (g : B → List C) (f : A → List B) (xs :
 flat_map-flat_map g f [] = refl
 flat_map-flat_map g f (x ∷ xs) = simp (flat_map-append, flat_map-flat_map g f xs)
 
--- slices that meet
-pub take_sum : {X : Type 0} (n m : ℕ) (xs : List X) → take (n + m) xs ≡ take n xs ++ take m (drop n xs)
-take_sum = take-add
-
 slice_range-append : (xs : List ℕ) (i j k : ℕ) → i ≤ j → j ≤ k → slice_range xs i j ++ slice_range xs j k ≡ slice_range xs i k
-slice_range-append xs i j k a b =
-    grind (arith, drop-drop, take_sum (j - i) (k - j) (drop i xs))
+slice_range-append xs i j k a b = grind (arith, drop-drop, take-add (j - i) (k - j) (drop i xs))
 
 -- the units of characters that follow one another
 units-joined : (len_of : ℕ → ℕ) (chars units : List ℕ) (a n : ℕ) → a + n ≤ length chars
@@ -63,9 +48,17 @@ one_run len_of some encode chars units levels e from run h =
     let unit : (u : ℕ) → run.0 ≤ u → u < run.1 → get_or levels u 0 ≡ run_level 0 levels run = λ u a b. simp sub-zero (simp sub-zero at (h.equal u a b)) in
     elim (cases_Bool (is_odd (run_level 0 levels run))) [
       | inl odd ↦
-          let first = char_index-place len_of chars some run.0 (omega arith) in
-          let last = char_index-place len_of chars some run.1 (omega arith) in
-          simp (level, odd, begins, ends, first, last, ← chars-joined chars run.0 run.1 fits, ← map-reverse, flat_map-map)
+          simp (
+            level,
+            odd,
+            begins,
+            ends,
+            char_index-place len_of chars some run.0 (omega arith),
+            char_index-place len_of chars some run.1 (omega arith),
+            ← chars-joined chars run.0 run.1 fits,
+            ← map-reverse,
+            flat_map-map,
+          )
           (sym (flat_map-same_on _ _ _ (All-permutation (λ k. written_char len_of encode chars units levels k ≡ encode (get_or chars k 0)) _ _ (IsPermutation-reverse (between run.0 run.1))
           (All-between (λ k. written_char len_of encode chars units levels k ≡ encode (get_or chars k 0)) run.0 run.1 (λ u a b. simp (unit u a b, odd))))))
       | inr even ↦
@@ -93,6 +86,6 @@ unfolding reordered_text
 reordered_text-still len_of encode chars units levels e long even =
     let all : 0 + length levels ≡ length chars = omega arith in
     let each = simp sub-zero at (All-between (λ k. written_char len_of encode chars units levels k ≡ char_units len_of chars units k) 0 (length levels)
-    (λ u a b. simp (not_odd (get_or levels u 0) (even u b)))) in
+    (λ u a b. grind (arith, even u b))) in
     let own = flat_map-same_on (written_char len_of encode chars units levels) (char_units len_of chars units) (range_with_len 0 (length levels)) each in
     simp (visual_order-still levels even, own, units-joined len_of chars units 0 (length levels) (omega arith), all, place-zero, sub-zero, take_all, le_refl, ← long)

@@ -1,33 +1,18 @@
 -- What the passes over the units of a sequence say about its characters.
-use Rattle.std.proofs.Common.{◌≡◌, ℕ, ◌+◌, ◌-◌, ◌<◌, ◌≤◌, true, false, ◌&&◌, List, [], ◌∷◌, length, map, refl, sym, ◌∙◌, arith, inl, inr}
-use Rattle.std.proofs.lemmas.Grind.{common_steps}
-use Rattle.std.specs.Prelude.{filter, nat_le, nat_lt}
-use Rattle.std.proofs.lemmas.Bool.{cases_Bool, cases_lt, both_ways, or_cases, false_from_ne_true}
-use Rattle.std.proofs.lemmas.Bool.Decides.{nat_tests}
-use Rattle.std.proofs.lemmas.List.{get_or_past, get_or-map}
-use Rattle.std.proofs.lemmas.List.Elements.{filter-append, All-head, All-tail}
-use Rattle.std.proofs.lemmas.List.Sums.{sum_by-append}
+use Rattle.bidi_base.proofs.Common.{◌≡◌, ℕ, ◌+◌, ◌-◌, ◌<◌, true, false, List, [], ◌∷◌, length, map, refl, sym, ◌∙◌, arith, inl, inr, common_steps, filter, cases_Bool, cases_lt, both_ways, false_from_ne_true, nat_tests, get_or_past, get_or-map, filter-append, All-head, All-tail, sum_by-append, is_kept_in_place, class_at, at_places, between, first_or, is_kept_at, level_at, place, IsLine, char_index, per_unit, AreLines, in_runs, chars_in_runs, kept_in_runs, kept_in_place}
 use Rattle.bidi_base.specs.declared.char_data.BidiClass.{BidiClass}
 use Rattle.bidi_base.specs.declared.char_data.BidiClass.TheVariants.{L, BN}
-use Rattle.bidi_base.specs.Classes.{is_kept_in_place}
-use Rattle.bidi_base.specs.Places.{class_at, at_places, between, first_or}
-use Rattle.bidi_base.specs.Sequences.{is_kept_at, level_at}
-use Rattle.bidi_base.specs.Text.{place, IsLine, char_index, per_unit}
-use Rattle.bidi_base.specs.Units.{AreLines, in_runs, chars_in_runs, kept_in_runs, kept_in_place}
 use Rattle.bidi_base.proofs.ChainLemmas.{filter_range-agree}
 use Rattle.bidi_base.proofs.LevelTableLemmas.{count_at-in}
 use Rattle.bidi_base.proofs.PerUnit.{length-per_unit, get_or-per_unit-place}
 use Rattle.bidi_base.proofs.PlaceLemmas.{place-lt, place-mono, char_index-le, line_places}
-use Rattle.bidi_base.proofs.SequencePlaces.{times_in, times_in-kept}
 use Rattle.bidi_base.proofs.StoredLemmas.{times_in-first, times_in-later}
 use Rattle.bidi_base.proofs.TextLemmas.{HasUnits}
+use Rattle.bidi_base.proofs.SequencePlaces.{times_in-kept, times_in}
 
 -- all of some places are indexes of a text
 abbrev pub AreWithin : List ℕ → List ℕ → Type 0
 AreWithin chars ps = (p : ℕ) → 0 < times_in ps p → p < length chars
-
-AreWithin-first : (chars : List ℕ) (p : ℕ) (ps : List ℕ) → AreWithin chars (p ∷ ps) → p < length chars
-AreWithin-first chars p ps h = h p (times_in-first p ps)
 
 AreWithin-later : (chars : List ℕ) (p : ℕ) (ps : List ℕ) → AreWithin chars (p ∷ ps) → AreWithin chars ps
 AreWithin-later chars p ps h = λ q there. h q (omega (arith, there, times_in-later p ps q))
@@ -36,14 +21,18 @@ AreWithin-later chars p ps h = λ q there. h q (omega (arith, there, times_in-la
 pub at_places-map : {X : Type 0} (f : ℕ → X) (d : X) (chars ps : List ℕ) → AreWithin chars ps → map f (at_places 0 chars ps) ≡ at_places d (map f chars) ps
 at_places-map f d chars [] h = refl
 at_places-map f d chars (p ∷ ps) h =
-    simp (get_or-map f chars p 0 d (AreWithin-first chars p ps h), at_places-map f d chars ps (AreWithin-later chars p ps h))
+    simp (get_or-map f chars p 0 d (h p (times_in-first p ps)), at_places-map f d chars ps (AreWithin-later chars p ps h))
 
 module _ (len_of : ℕ → ℕ) (h : HasUnits len_of) (chars : List ℕ) where
   -- the units at the places of characters have their values
   pub at_places-place : {X : Type 0} (d : X) (values units : List X) (ps : List ℕ) → length values ≡ length chars → units ≡ per_unit len_of chars values → AreWithin chars ps → at_places d units (map (place len_of chars) ps) ≡ at_places d values ps
   at_places-place d values units [] long is within = refl
   at_places-place d values units (p ∷ ps) long is within =
-      simp (at_places-place d values units ps long is (AreWithin-later chars p ps within), is, get_or-per_unit-place len_of h chars values p d long (AreWithin-first chars p ps within))
+      simp (
+        at_places-place d values units ps long is (AreWithin-later chars p ps within),
+        is,
+        get_or-per_unit-place len_of h chars values p d long (within p (times_in-first p ps)),
+      )
 
   -- and so has the first of them
   pub level_at-first : (levels units : List ℕ) (ps : List ℕ) → length levels ≡ length chars → units ≡ per_unit len_of chars levels → AreWithin chars ps → level_at units (first_or 0 (map (place len_of chars) ps)) ≡ level_at levels (first_or 0 ps)
@@ -56,10 +45,8 @@ module _ (len_of : ℕ → ℕ) (h : HasUnits len_of) (chars : List ℕ) where
   kept_in_place-kept stored values units [] long is read = refl
   kept_in_place-kept stored values units (r ∷ runs) long is read =
       let i = char_index len_of chars r.0 in
-      let j = char_index len_of chars r.1 in
-      let short = char_index-le len_of chars r.1 in
-      let here = filter_range-agree (λ k. is_kept_in_place (class_at units (place len_of chars k))) (is_kept_at stored) i (j - i)
-      (λ k from below. cc (is, get_or-per_unit-place len_of h chars values k L long (omega arith), read k (omega arith))) in
+      let here = filter_range-agree (λ k. is_kept_in_place (class_at units (place len_of chars k))) (is_kept_at stored) i (char_index len_of chars r.1 - i)
+      (λ k from below. grind (arith, char_index-le len_of chars r.1, get_or-per_unit-place len_of h chars values k L, read k)) in
       simp (filter-append, here, kept_in_place-kept stored values units runs long is read)
 
   times_in-kept_in_runs : (stored : List BidiClass) (r : ℕ × ℕ) (runs : List (ℕ × ℕ)) (p : ℕ) → times_in (kept_in_runs len_of chars stored (r ∷ runs)) p
@@ -82,17 +69,18 @@ module _ (len_of : ℕ → ℕ) (h : HasUnits len_of) (chars : List ℕ) where
   kept_in_runs-in stored (r ∷ runs) p lines fits kept inside =
       let i = char_index len_of chars r.0 in
       let j = char_index len_of chars r.1 in
-      let parts = times_in-kept_in_runs stored r runs p in
-      let u = place len_of chars p in
-      elim (or_cases (nat_le r.0 u && nat_lt u r.1) (in_runs runs u) inside) [
-        | inl here ↦
-            let line = All-head (λ (q : ℕ × ℕ). IsLine len_of chars q.0 q.1) r runs lines in
-            let w = line_places len_of h chars r.0 r.1 line in
-            let bound : (r.0 ≤ u) × (u < r.1) = grind (arith, nat_tests) in
-            grind (arith, parts, place-lt len_of chars h p i, place-mono len_of chars j p, w.begins, w.ends, bound, count_at-in (is_kept_at stored) p i (j - i))
-        | inr later ↦
-            omega (arith, parts, kept_in_runs-in stored runs p (All-tail (λ (q : ℕ × ℕ). IsLine len_of chars q.0 q.1) r runs lines) fits kept later)
-      ]
+      let w = line_places len_of h chars r.0 r.1 (All-head (λ (q : ℕ × ℕ). IsLine len_of chars q.0 q.1) r runs lines) in
+      let later = kept_in_runs-in stored runs p (All-tail (λ (q : ℕ × ℕ). IsLine len_of chars q.0 q.1) r runs lines) fits kept in
+      grind (
+        arith,
+        nat_tests,
+        times_in-kept_in_runs stored r runs p,
+        place-lt len_of chars h p i,
+        place-mono len_of chars j p,
+        w,
+        count_at-in (is_kept_at stored) p i (j - i),
+        later,
+      )
 
   -- a pass that leaves BN and what stands outside some runs changes no other character than theirs
   pub stays_elsewhere : (stored old new units units' : List BidiClass) (runs : List (ℕ × ℕ)) → AreLines len_of chars runs → length old ≡ length chars → length new ≡ length chars → units ≡ per_unit len_of chars old → units' ≡ per_unit len_of chars new

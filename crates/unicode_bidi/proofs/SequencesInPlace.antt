@@ -1,31 +1,14 @@
 -- The sequences of a paragraph, resolved in place one after another: what the classes of its characters say once some of them are.
-use Rattle.std.proofs.Common.{◌≡◌, ℕ, zero, suc, ◌<◌, Bool, true, eqb, lt-ltb, List, [], ◌∷◌, ◌++◌, length, map, get_or, take, Option, None, refl, sym, ap, ◌∙◌, arith, inl, inr}
-use Rattle.std.specs.Prelude.{filter}
-use Rattle.std.specs.List.{list_all}
-use Rattle.std.proofs.lemmas.Bool.{cases_Bool, cases_eq}
-use Rattle.std.proofs.lemmas.Bool.Decides.{nat_tests}
-use Rattle.std.proofs.lemmas.List.{nil_from_length}
-use Rattle.std.proofs.lemmas.List.Folds.{list_all-map}
-use Rattle.std.proofs.lemmas.Grind.{flat_map-append}
-use Rattle.std.proofs.lemmas.List.Sums.{sum_by-append, count_by-le-length}
+use Rattle.bidi_base.proofs.Common.{◌≡◌, ℕ, zero, suc, ◌<◌, Bool, true, eqb, lt-ltb, List, [], ◌∷◌, ◌++◌, length, map, get_or, take, Option, None, refl, sym, ap, ◌∙◌, arith, inl, inr, filter, list_all, cases_Bool, cases_eq, nat_tests, nil_from_length, list_all-map, flat_map-append, sum_by-append, count_by-le-length, has_direction, is_kept, is_l_or_r, is_kept_in_place, is_weak_resolved, class_at, at_places, first_or, explicit_levels, explicit_classes, processing_class, processing_classes, RunSequence, is_kept_at, level_at, has_places, sequences, weak_classes, direction_of, n2_rule, neutral_classes, implicit_level, implicit_levels, resolved_levels, AreResolved}
 use Rattle.bidi_base.specs.declared.char_data.BidiClass.{BidiClass}
 use Rattle.bidi_base.specs.declared.char_data.BidiClass.TheVariants.{L}
 use Rattle.bidi_base.specs.declared.data_source.BidiMatchedOpeningBracket.{BidiMatchedOpeningBracket}
-use Rattle.bidi_base.specs.Classes.{has_direction, is_kept, is_l_or_r, is_kept_in_place, is_weak_resolved}
-use Rattle.bidi_base.specs.Places.{class_at, at_places, first_or}
-use Rattle.bidi_base.specs.Explicit.{explicit_levels, explicit_classes, processing_class, processing_classes}
-use Rattle.bidi_base.specs.Sequences.{RunSequence, is_kept_at, level_at, has_places, sequences}
-use Rattle.bidi_base.specs.Weak.{weak_classes}
-use Rattle.bidi_base.specs.Levels.{direction_of}
-use Rattle.bidi_base.specs.Neutral.{n2_rule, neutral_classes}
-use Rattle.bidi_base.specs.Implicit.{implicit_level, implicit_levels}
-use Rattle.bidi_base.specs.Stored.{resolved_levels, AreResolved}
+use Rattle.bidi_base.proofs.WeakLemmas.{weak_classes-resolved}
 use Rattle.bidi_base.proofs.ExplicitLemmas.{class_at-explicit_classes, class_at-processing_classes, length-processing_classes}
 use Rattle.bidi_base.proofs.MatchLevelsLemmas.{sequence-one_level}
 use Rattle.bidi_base.proofs.NeutralLemmas.{neutral_classes-directed}
-use Rattle.bidi_base.proofs.SequencePlaces.{times_in, times_in-parts, places_of, sequences-once, sequences-kept}
-use Rattle.bidi_base.proofs.StoredLemmas.{explicit_class-kept, explicit_classes-kept, at_places-agree, times_in-first, times_in-later, list_all-at_places, list_all-at_places_back}
-use Rattle.bidi_base.proofs.WeakLemmas.{weak_classes-resolved}
+use Rattle.bidi_base.proofs.SequencePlaces.{times_in-parts, places_of, sequences-once, sequences-kept, times_in}
+use Rattle.bidi_base.proofs.StoredLemmas.{explicit_class-kept, at_places-agree, list_all-at_places_back, explicit_classes-kept, times_in-first, times_in-later, list_all-at_places}
 
 is_kept_in_place-kept : (c : BidiClass) → is_kept c ≡ true → is_kept_in_place c ≡ true
 is_kept_in_place-kept c h = grind arith
@@ -82,7 +65,7 @@ module _ (source : List BidiClass) (brackets : List (Option BidiMatchedOpeningBr
 
   module _ (seqs : List RunSequence) (s : RunSequence) (next : IsNext seqs s) where
     none_of : (p : ℕ) → 0 < times_in (places_of seqs) p → times_in s.places p ≡ 0
-    none_of p there = elim (cases_eq (times_in s.places p) 0) [ inl none ↦ none | inr some ↦ absurd (omega (arith, there, next.apart p (omega arith))) ]
+    none_of p there = grind (arith, next.apart p)
 
     -- what is written is read, and what is not has not changed
     read_after : (old new : List BidiClass) → ((p : ℕ) → p < length stored → is_kept_in_place (class_at old p) ≡ is_kept_at stored p) → StaysElsewhere s.places old new → list_all is_kept_in_place (at_places L new s.places) ≡ true
@@ -103,13 +86,9 @@ module _ (source : List BidiClass) (brackets : List (Option BidiMatchedOpeningBr
     IsWeakNext-from old new h long stays weak =
         let answer : at_places L new s.places ≡ weak_classes s.sos (at_places L classes s.places) =
         cc (weak, at_places-agree L old classes s.places (λ p there. h.rest p (next.kept p there).1 (next.kept p there).0 (next.apart p there))) in
-        record {
-          long = long ∙ h.long;
-          read = read_after old new h.read stays (all_read is_weak_resolved (λ c resolved. grind arith) (at_places L new s.places) (ap (list_all is_weak_resolved) answer ∙ weak_resolved));
-          done = AreNeutral-kept old new seqs (λ p there. stays p (none_of p there)) h.done;
-          weak = answer;
-          rest = λ p within kept none apart. stays p apart ∙ h.rest p within kept none;
-        }
+        let read = read_after old new h.read stays (all_read is_weak_resolved (λ c resolved. grind arith) (at_places L new s.places) (ap (list_all is_weak_resolved) answer ∙ weak_resolved)) in
+        let done = AreNeutral-kept old new seqs (λ p there. stays p (none_of p there)) h.done in
+        record { long = long ∙ h.long; read = read; done = done; weak = answer; rest = grind (arith, stays, h.rest) }
 
     -- so N0 to N2 can go on
     pub weak_next-resolved : (now : List BidiClass) → IsWeakNext seqs s now → list_all is_weak_resolved (at_places L now s.places) ≡ true
@@ -119,18 +98,11 @@ module _ (source : List BidiClass) (brackets : List (Option BidiMatchedOpeningBr
         → map (n2_rule (own_direction s)) (at_places L new s.places) ≡ neutral_classes (level_at levels (first_or 0 s.places)) s.sos s.eos (at_places L source s.places) (at_places None brackets s.places) (at_places L old s.places)
         → IsUnderWay (seqs ++ s ∷ []) new
     IsUnderWay-more old new h long stays neutral =
-        let level : ℕ = level_at levels (first_or 0 s.places) in
-        let own_source = at_places L source s.places in
-        let own_brackets = at_places None brackets s.places in
-        let answer : map (n2_rule (own_direction s)) (at_places L new s.places) ≡ resolved_classes s = neutral ∙ ap (neutral_classes level s.sos s.eos own_source own_brackets) h.weak in
-        let directed : list_all has_direction (map (n2_rule (own_direction s)) (at_places L new s.places)) ≡ true =
-        ap (list_all has_direction) answer ∙ neutral_classes-directed level s.sos s.eos own_source own_brackets (weak_classes s.sos (at_places L classes s.places)) next.sos weak_resolved in
-        record {
-          long = long ∙ h.long;
-          read = read_after old new h.read stays (all_read (λ c. has_direction (n2_rule (own_direction s) c)) (λ c known. grind arith) (at_places L new s.places) (rw list_all-map at directed));
-          done = AreNeutral-push new seqs s (AreNeutral-kept old new seqs (λ p there. stays p (none_of p there)) h.done) answer;
-          rest = λ p within kept none. grind (arith, stays p, h.rest p within kept, flat_map-append, sum_by-append);
-        }
+        let answer : map (n2_rule (own_direction s)) (at_places L new s.places) ≡ resolved_classes s = grind (arith, neutral, h.weak) in
+        let directed : list_all has_direction (map (n2_rule (own_direction s)) (at_places L new s.places)) ≡ true = grind (arith, answer, neutral_classes-directed, next.sos, weak_resolved) in
+        let read = read_after old new h.read stays (all_read (λ c. has_direction (n2_rule (own_direction s) c)) (λ c known. grind arith) (at_places L new s.places) (rw list_all-map at directed)) in
+        let done = AreNeutral-push new seqs s (AreNeutral-kept old new seqs (λ p there. stays p (none_of p there)) h.done) answer in
+        record { long = long ∙ h.long; read = read; done = done; rest = grind (arith, stays, h.rest, flat_map-append, sum_by-append) }
 
   -- ---- the levels
 
@@ -159,8 +131,7 @@ module _ (source : List BidiClass) (brackets : List (Option BidiMatchedOpeningBr
 
   pub AreResolved-filter : (new : List ℕ) (test : RunSequence → Bool) (seqs : List RunSequence) → AreResolved source brackets levels classes new seqs → AreResolved source brackets levels classes new (filter test seqs)
   AreResolved-filter new test [] h = tt
-  AreResolved-filter new test (s ∷ seqs) h =
-      grind (arith, AreResolved-filter new test seqs)
+  AreResolved-filter new test (s ∷ seqs) h = grind (arith, AreResolved-filter new test seqs)
 
 -- ---- the sequences of a paragraph
 
@@ -203,12 +174,8 @@ module _ (paragraph : ℕ) (stored : List BidiClass) (seqs : List RunSequence) (
       let once = λ (p : ℕ). sequences-once paragraph stored levels p in
       let same = λ (p : ℕ). ap (λ (ps : List ℕ). times_in ps p) same_places in
       let kept : (p : ℕ) → 0 < times_in (get_or seqs k d).places p → (is_kept_at stored p ≡ true) × (p < length stored) = λ p there. sequences-kept paragraph stored levels p (omega (arith, parts p, same p)) in
-      record {
-        sos = side;
-        kept = kept;
-        apart = λ p there. omega (arith, parts p, once p, same p);
-        explicit = λ p there. explicit_classes-kept paragraph stored p (kept p there).1 (kept p there).0;
-      }
+      let apart : (p : ℕ) → 0 < times_in (get_or seqs k d).places p → times_in (places_of (take k seqs)) p ≡ 0 = λ p there. omega (arith, parts p, once p, same p) in
+      record { sos = side; kept = kept; apart = apart; explicit = grind (arith, kept, explicit_classes-kept paragraph stored) }
 
   -- once all are resolved, the implicit levels are those of the rules
   pub AreResolved-all : (source : List BidiClass) (brackets : List (Option BidiMatchedOpeningBracket)) (now : List BidiClass) (new : List ℕ) → IsUnderWay source brackets stored levels (explicit_classes paragraph stored) seqs now

@@ -1,18 +1,13 @@
 -- Characters on which nothing depends, read one after another.
-use Rattle.std.proofs.Common.{◌≡◌, ℕ, ◌+◌, ◌-◌, ◌<◌, ◌≤◌, true, false, List, [], ◌∷◌, ◌++◌, length, take, drop, Some, set, refl, sym, ap, ◌∙◌, arith, add-one, append_assoc, length-take, length-drop, rules}
+use Rattle.bidi_base.proofs.Common.{◌≡◌, ℕ, ◌+◌, ◌-◌, ◌<◌, ◌≤◌, true, false, List, [], ◌∷◌, ◌++◌, length, take, drop, Some, set, refl, sym, ap, ◌∙◌, arith, add-one, append_assoc, length-take, length-drop, rules, drop-append_seam, take-append-add, map-append, length-map, take-append-le, take-append-drop, nat_tests, All-nil, All-append, All-push, sum_by-append, sum_by-cons, Source, text_len, char_at, ascii_of, ascii_at, char_index, is_boundary, subrange, IsLine}
 use Rattle.std.specs.Prelude.{replicate}
 use Rattle.std.proofs.Math.Nat.{add_assoc}
-use Rattle.std.proofs.Math.Seq.{drop-append_seam, take-append-add, take-suc-set}
-use Rattle.std.proofs.lemmas.List.{append-nil, map-append, length-map, take-append-le, take-append-drop}
-use Rattle.std.proofs.lemmas.Bool.Decides.{nat_tests}
-use Rattle.std.proofs.lemmas.List.Elements.{All-nil, All-append, All-push}
-use Rattle.std.proofs.lemmas.List.Sums.{sum_by-append, sum_by-cons}
+use Rattle.std.proofs.Math.Seq.{take-suc-set}
+use Rattle.std.proofs.lemmas.List.{append-nil}
 use Rattle.bidi_base.specs.declared.char_data.BidiClass.{BidiClass}
-use Rattle.bidi_base.specs.Source.{Source}
-use Rattle.bidi_base.specs.Text.{text_len, char_at, ascii_of, ascii_at, char_index, is_boundary, subrange, IsLine}
-use Rattle.bidi_base.proofs.TextLemmas.{HasUnits, char_at-append, char_index-append, is_boundary-append, is_boundary-le, cut_at}
 use Rattle.bidi_base.proofs.PlaceLemmas.{text_len-subrange}
 use Rattle.bidi_base.proofs.PerUnit.{per_unit-push, per_unit-append}
+use Rattle.bidi_base.proofs.TextLemmas.{cut_at, HasUnits, char_at-append, char_index-append, is_boundary-append, is_boundary-le}
 use Rattle.unicode_bidi.specs.declared.class_set.ClassSet.{ClassSet}
 use Rattle.unicode_bidi.specs.declared.first_walk.Met.{Met}
 use Rattle.unicode_bidi.specs.ClassSet.{has}
@@ -20,20 +15,9 @@ use Rattle.unicode_bidi.specs.FirstWalk.{ahead, AreWritten, IsSkimmed, IsMet}
 
 -- ---- what is ahead of a boundary
 
--- a text is what stands before a boundary and what is ahead of it
-pub record AheadOf (len_of : ℕ → ℕ) (chars : List ℕ) (u : ℕ) : Type 0 where
-  pub front : List ℕ
-  pub joined : chars ≡ front ++ ahead len_of chars u
-  pub long : text_len len_of front ≡ u
-
 module _ (len_of : ℕ → ℕ) (units : HasUnits len_of) where
   pub ahead-append : (xs ys : List ℕ) → ahead len_of (xs ++ ys) (text_len len_of xs) ≡ ys
   ahead-append xs ys = grind (arith, char_index-append, drop-append_seam)
-
-  pub ahead_of : (chars : List ℕ) (u : ℕ) → is_boundary len_of chars u ≡ true → AheadOf len_of chars u
-  ahead_of chars u b =
-      let w = cut_at len_of chars u b in
-      record { front = w.front; joined = cc (w.joined, w.long, ahead-append w.front w.back); long = w.long }
 
 pub is_boundary-end : (len_of : ℕ → ℕ) (chars : List ℕ) → is_boundary len_of chars (text_len len_of chars) ≡ true
 is_boundary-end len_of chars = ap (λ cs. is_boundary len_of cs (text_len len_of chars)) (sym (append-nil chars)) ∙ is_boundary-append len_of chars []
@@ -50,9 +34,7 @@ pub record AsciiNext (len_of : ℕ → ℕ) (coming : List ℕ) (c : ℕ) : Type
 
 ascii_next : (len_of : ℕ → ℕ) (coming : List ℕ) (c : ℕ) → ascii_of (char_at len_of coming 0) ≡ Some c → AsciiNext len_of coming c
 ascii_next len_of [] c e = absurd (cc e)
-ascii_next len_of (d ∷ ds) c e =
-    let w : (d ≡ c) × (len_of d ≡ 1) = grind (arith, nat_tests) in
-    record { tail = ds; next = cc w.0; one = cc (w.0, w.1) }
+ascii_next len_of (d ∷ ds) c e = record { tail = ds; next = grind (arith, nat_tests); one = grind (arith, nat_tests) }
 
 module _ (source : Source) (len_of : ℕ → ℕ) (minded : ClassSet) where
   -- ---- one character, and some characters, more
@@ -74,82 +56,67 @@ module _ (source : Source) (len_of : ℕ → ℕ) (minded : ClassSet) where
   IsMet-within coming from met old new h = grind (arith, sum_by-append)
 
   unfoldable pub IsSkimmed-start : (coming : List ℕ) (at : ℕ) (classes : List BidiClass) → IsSkimmed source len_of minded coming at at classes classes
-  IsSkimmed-start coming at classes = record {
-    read = [];
-    rest = coming;
-    joined = refl;
-    idle = All-nil (λ c. has minded (source.class_of c) ≡ false);
-    written = record { long = omega arith; classes = sym (append-nil (take at classes)) };
-  }
+  IsSkimmed-start coming at classes =
+      let written : AreWritten source len_of [] at at classes classes = record { long = omega arith; classes = sym (append-nil (take at classes)) } in
+      record { read = []; rest = coming; joined = refl; idle = All-nil (λ c. has minded (source.class_of c) ≡ false); written = written }
 
   module _ (coming : List ℕ) (from at : ℕ) (old new : List BidiClass) (h : IsSkimmed source len_of minded coming from at old new) where
     unfoldable pub IsSkimmed-more : (c : ℕ) (rest : List ℕ) (to : ℕ) (after : List BidiClass) → h.rest ≡ c ∷ rest → has minded (source.class_of c) ≡ false → to ≡ at + len_of c
         → take to after ≡ take at new ++ replicate (len_of c) (source.class_of c) → IsSkimmed source len_of minded coming from to old after
-    IsSkimmed-more c rest to after next idle end is = record {
-      read = h.read ++ c ∷ [];
-      rest = rest;
-      joined = h.joined ∙ ap (λ cs. h.read ++ cs) next ∙ sym (append_assoc h.read (c ∷ []) rest);
-      idle = All-push (λ c. has minded (source.class_of c) ≡ false) h.read c h.idle idle;
-      written = rw end (AreWritten-push h.read from at c old new after h.written (rw end at is));
-    }
+    IsSkimmed-more c rest to after next idle end is =
+        let joined = h.joined ∙ ap (λ cs. h.read ++ cs) next ∙ sym (append_assoc h.read (c ∷ []) rest) in
+        let idle = All-push (λ c. has minded (source.class_of c) ≡ false) h.read c h.idle idle in
+        let written = AreWritten-push h.read from at c old new after h.written (rw end at is) in
+        record { read = h.read ++ c ∷ []; rest = rest; joined = joined; idle = idle; written = rw end written }
 
     pub IsMet-next : (met : Met) (rest : List ℕ) (after : List BidiClass) → h.rest ≡ met.c ∷ rest → met.start ≡ at → met.class ≡ source.class_of met.c
         → take (met.start + len_of met.c) after ≡ take met.start new ++ replicate (len_of met.c) met.class → IsMet source len_of minded coming from met old after
-    IsMet-next met rest after next start class is = record {
-      read = h.read;
-      rest = rest;
-      joined = h.joined ∙ ap (λ cs. h.read ++ cs) next;
-      idle = h.idle;
-      begins = start ∙ h.written.long;
-      class = class;
-      written = rw start (AreWritten-push h.read from at met.c old new after h.written (simp (start, class) at is));
-    }
+    IsMet-next met rest after next start class is =
+        let joined = h.joined ∙ ap (λ cs. h.read ++ cs) next in
+        let written = AreWritten-push h.read from at met.c old new after h.written (simp (start, class) at is) in
+        record { read = h.read; rest = rest; joined = joined; idle = h.idle; begins = cc start; class = class; written = rw start written }
 
     pub IsSkimmed-join : (to : ℕ) (after : List BidiClass) → IsSkimmed source len_of minded h.rest at to new after → IsSkimmed source len_of minded coming from to old after
-    IsSkimmed-join to after k = record {
-      read = h.read ++ k.read;
-      rest = k.rest;
-      joined = h.joined ∙ ap (λ cs. h.read ++ cs) k.joined ∙ sym (append_assoc h.read k.read k.rest);
-      idle = All-append (λ c. has minded (source.class_of c) ≡ false) h.read k.read h.idle k.idle;
-      written = AreWritten-join h.read k.read from at to old new after h.written k.written;
-    }
+    IsSkimmed-join to after k =
+        let joined = h.joined ∙ ap (λ cs. h.read ++ cs) k.joined ∙ sym (append_assoc h.read k.read k.rest) in
+        let idle = All-append (λ c. has minded (source.class_of c) ≡ false) h.read k.read h.idle k.idle in
+        let written = AreWritten-join h.read k.read from at to old new after h.written k.written in
+        record { read = h.read ++ k.read; rest = k.rest; joined = joined; idle = idle; written = written }
 
     pub IsMet-join : (met : Met) (after : List BidiClass) → IsMet source len_of minded h.rest at met new after → IsMet source len_of minded coming from met old after
-    IsMet-join met after k = record {
-      read = h.read ++ k.read;
-      rest = k.rest;
-      joined = h.joined ∙ ap (λ cs. h.read ++ cs) k.joined ∙ sym (append_assoc h.read k.read (met.c ∷ k.rest));
-      idle = All-append (λ c. has minded (source.class_of c) ≡ false) h.read k.read h.idle k.idle;
-      begins = omega (arith, k.begins, h.written.long, sum_by-append len_of h.read k.read);
-      class = k.class;
-      written = rw append_assoc (AreWritten-join h.read (k.read ++ met.c ∷ []) from at (met.start + len_of met.c) old new after h.written k.written);
-    }
+    IsMet-join met after k =
+        let joined = h.joined ∙ ap (λ cs. h.read ++ cs) k.joined ∙ sym (append_assoc h.read k.read (met.c ∷ k.rest)) in
+        let idle = All-append (λ c. has minded (source.class_of c) ≡ false) h.read k.read h.idle k.idle in
+        let begins : met.start ≡ from + text_len len_of (h.read ++ k.read) = omega (
+          arith,
+          k.begins,
+          h.written.long,
+          sum_by-append len_of h.read k.read,
+        ) in
+        let written = AreWritten-join h.read (k.read ++ met.c ∷ []) from at (met.start + len_of met.c) old new after h.written k.written in
+        record { read = h.read ++ k.read; rest = k.rest; joined = joined; idle = idle; begins = begins; class = k.class; written = rw append_assoc written }
 
     -- what has not come yet is ahead
     module _ (units : HasUnits len_of) (chars : List ℕ) (begins : is_boundary len_of chars from ≡ true) (is_ahead : coming ≡ ahead len_of chars from) where
       passed : List ℕ
-      passed = (ahead_of len_of units chars from begins).front ++ h.read
+      passed = (cut_at len_of chars from begins).front ++ h.read
 
       split : chars ≡ passed ++ h.rest
       unfolding passed
-      split = grind (arith, append_assoc)
+      split =
+          let w = cut_at len_of chars from begins in
+          let joined : chars ≡ w.front ++ ahead len_of chars from = cc (w.joined, w.long, ahead-append len_of units w.front w.back) in
+          grind (arith, append_assoc)
 
       passed_long : text_len len_of passed ≡ at
       unfolding passed
-      passed_long = grind (arith, sum_by-append)
+      passed_long = grind (arith, sum_by-append, (cut_at len_of chars from begins).long)
 
       pub is_boundary-skimmed : is_boundary len_of chars at ≡ true
       is_boundary-skimmed = ap (λ cs. is_boundary len_of cs at) split ∙ ap (is_boundary len_of (passed ++ h.rest)) (sym passed_long) ∙ is_boundary-append len_of passed h.rest
 
       pub ahead-skimmed : ahead len_of chars at ≡ h.rest
       ahead-skimmed = ap (λ cs. ahead len_of cs at) split ∙ ap (ahead len_of (passed ++ h.rest)) (sym passed_long) ∙ ahead-append len_of units passed h.rest
-
-      pub char_at-skimmed : char_at len_of chars at ≡ char_at len_of h.rest 0
-      char_at-skimmed = ap (λ cs. char_at len_of cs at) split ∙ ap (char_at len_of (passed ++ h.rest)) (sym passed_long) ∙ char_at-append len_of units passed h.rest
-
-      -- the next of them were read too
-      pub IsSkimmed-on : (to : ℕ) (after : List BidiClass) → IsSkimmed source len_of minded (ahead len_of chars at) at to new after → IsSkimmed source len_of minded coming from to old after
-      IsSkimmed-on to after k = IsSkimmed-join to after (rw ahead-skimmed at k)
 
       pub IsMet-on : (met : Met) (after : List BidiClass) → IsMet source len_of minded (ahead len_of chars at) at met new after → IsMet source len_of minded coming from met old after
       IsMet-on met after k = IsMet-join met after (rw ahead-skimmed at k)
@@ -159,14 +126,11 @@ module _ (source : Source) (len_of : ℕ → ℕ) (minded : ClassSet) where
 
       -- an ASCII character that comes
       pub ascii-skimmed : (c : ℕ) → Some c ≡ ascii_at len_of chars at → AsciiNext len_of h.rest c
-      ascii-skimmed c e = ascii_next len_of h.rest c (ap ascii_of (sym char_at-skimmed) ∙ sym e)
-
-      pub ascii-fits : (c : ℕ) → Some c ≡ ascii_at len_of chars at → at + 1 ≤ text_len len_of chars
-      ascii-fits c e = grind (arith, ascii-skimmed c e, fits-skimmed, sum_by-cons)
+      ascii-skimmed c e = ascii_next len_of h.rest c (cc (char_at-append len_of units passed h.rest, split, passed_long, e))
 
       module _ (c : ℕ) (is : Some c ≡ ascii_at len_of chars at) (class : BidiClass) (is_class : class ≡ source.class_of c) (long : length new ≡ text_len len_of chars) where
         one_more : take (at + 1) (set new at class) ≡ take at new ++ class ∷ []
-        one_more = let fits = ascii-fits c is in rw add-one (take-suc-set new at class (omega arith))
+        one_more = rw add-one (take-suc-set new at class (grind (arith, ascii-skimmed c is, fits-skimmed, sum_by-cons)))
 
         pub IsSkimmed-ascii : has minded class ≡ false → IsSkimmed source len_of minded coming from (at + 1) old (set new at class)
         IsSkimmed-ascii idle =
@@ -181,48 +145,13 @@ module _ (source : Source) (len_of : ℕ → ℕ) (minded : ClassSet) where
       pub within-skimmed : at ≤ text_len len_of chars
       within-skimmed = omega (arith, fits-skimmed)
 
-      -- a block of what comes, read into the units from `at` on
-      module _ (block : List ℕ) (to : ℕ) (line : IsLine len_of chars at to) (is_block : block ≡ subrange len_of chars at to) (part written tail : List BidiClass) (inside : at ≤ length new) (room : text_len len_of block ≤ length written) where
-        behind : List ℕ
-        behind = drop (char_index len_of chars to - char_index len_of chars at) (ahead len_of chars at)
-
-        block_first : h.rest ≡ block ++ behind
-        unfolding behind
-        block_first = sym ahead-skimmed ∙ sym (take-append-drop (char_index len_of chars to - char_index len_of chars at) (ahead len_of chars at)) ∙ ap (λ cs. cs ++ behind) (sym is_block)
-
-        block_long : at + text_len len_of block ≡ to
-        block_long = omega (arith, ap (text_len len_of) is_block, text_len-subrange len_of units chars at to line, line.ordered)
-
-        pub IsSkimmed-block : IsSkimmed source len_of minded block 0 (text_len len_of block) part written → IsSkimmed source len_of minded coming from to old (take at new ++ (written ++ tail))
-        IsSkimmed-block k =
-            IsSkimmed-join to (take at new ++ (written ++ tail)) (record {
-              read = k.read;
-              rest = k.rest ++ behind;
-              joined = block_first ∙ ap (λ cs. cs ++ behind) k.joined ∙ append_assoc k.read k.rest behind;
-              idle = k.idle;
-              written = rw (← block_long) (AreWritten-part k.read at (text_len len_of block) new part written tail inside room k.written);
-            })
-
-        pub IsMet-block : (met : Met) → IsMet source len_of minded block 0 met part written
-            → IsMet source len_of minded coming from (record { start = at + met.start; c = met.c; class = met.class }) old (take at new ++ (written ++ tail))
-        IsMet-block met k =
-            let fits : met.start + len_of met.c ≤ length written = grind (arith, k.written.long, k.joined, sum_by-append, sum_by-cons, room) in
-            IsMet-join (record { start = at + met.start; c = met.c; class = met.class }) (take at new ++ (written ++ tail)) (record {
-              read = k.read;
-              rest = k.rest ++ behind;
-              joined = block_first ∙ ap (λ cs. cs ++ behind) k.joined ∙ append_assoc k.read (met.c ∷ k.rest) behind;
-              idle = k.idle;
-              begins = omega (arith, k.begins);
-              class = k.class;
-              written = rw (add_assoc at met.start (len_of met.c)) (AreWritten-part (k.read ++ met.c ∷ []) at (met.start + len_of met.c) new part written tail inside fits k.written);
-            })
-
 -- ---- one turn of the walk to the next character on which something depends
 
 module _ (source : Source) (len_of : ℕ → ℕ) (minded : ClassSet) (units : HasUnits len_of) (chars : List ℕ) (from at start : ℕ) (old now new : List BidiClass) (begins : is_boundary len_of chars from ≡ true)
     (h : IsSkimmed source len_of minded (ahead len_of chars from) from at old now) (k : IsSkimmed source len_of minded (ahead len_of chars at) at start now new) where
   skimmed : IsSkimmed source len_of minded (ahead len_of chars from) from start old new
-  skimmed = IsSkimmed-on source len_of minded (ahead len_of chars from) from at old now h units chars begins refl start new k
+  skimmed = IsSkimmed-join source len_of minded (ahead len_of chars from) from at old now h start new
+      (rw (ahead-skimmed source len_of minded (ahead len_of chars from) from at old now h units chars begins refl) at k)
 
   pub start-within : start ≤ text_len len_of chars
   start-within = search (rules, within-skimmed, skimmed)
@@ -239,15 +168,50 @@ module _ (source : Source) (len_of : ℕ → ℕ) (minded : ClassSet) (units : H
       pub block-room : length new ≡ text_len len_of chars → text_len len_of block ≤ length (take (length new - start) (drop start new))
       block-room long = omega (arith, block-long, is_boundary-le len_of chars end boundary, length-take (length new - start) (drop start new), length-drop start new)
 
+      -- it is read into the units from there on
+      behind : List ℕ
+      behind = drop (char_index len_of chars end - char_index len_of chars start) (ahead len_of chars start)
+
+      block_first : skimmed.rest ≡ block ++ behind
+      unfolding behind
+      block_first =
+          cc (
+            ahead-skimmed source len_of minded (ahead len_of chars from) from start old new skimmed units chars begins refl,
+            is_block,
+            take-append-drop (char_index len_of chars end - char_index len_of chars start) (ahead len_of chars start),
+          )
+
       module _ (part written tail : List BidiClass) (long : length new ≡ text_len len_of chars) (room : text_len len_of block ≤ length written) where
         inside : start ≤ length new
         inside = omega (arith, long, start-within)
 
         pub IsSkimmed-turn : IsSkimmed source len_of minded block 0 (text_len len_of block) part written → IsSkimmed source len_of minded (ahead len_of chars from) from end old (take start new ++ (written ++ tail))
-        IsSkimmed-turn =
-            IsSkimmed-block source len_of minded (ahead len_of chars from) from start old new skimmed units chars begins refl block end block-line is_block part written tail inside room
+        IsSkimmed-turn k =
+            IsSkimmed-join source len_of minded (ahead len_of chars from) from start old new skimmed end (take start new ++ (written ++ tail)) (record {
+              read = k.read;
+              rest = k.rest ++ behind;
+              joined = cc (block_first, append_assoc k.read k.rest behind, k.joined);
+              idle = k.idle;
+              written = rw (← block-long) (AreWritten-part source len_of minded k.read start (text_len len_of block) new part written tail inside room k.written);
+            })
 
         pub IsMet-turn : (met : Met) → IsMet source len_of minded block 0 met part written
             → IsMet source len_of minded (ahead len_of chars from) from (record { start = start + met.start; c = met.c; class = met.class }) old (take start new ++ (written ++ tail))
-        IsMet-turn =
-            IsMet-block source len_of minded (ahead len_of chars from) from start old new skimmed units chars begins refl block end block-line is_block part written tail inside room
+        IsMet-turn met k =
+            let fits : met.start + len_of met.c ≤ length written = grind (
+              arith,
+              k.written.long,
+              k.joined,
+              sum_by-append,
+              sum_by-cons,
+              room,
+            ) in
+            IsMet-join source len_of minded (ahead len_of chars from) from start old new skimmed (record { start = start + met.start; c = met.c; class = met.class }) (take start new ++ (written ++ tail)) (record {
+              read = k.read;
+              rest = k.rest ++ behind;
+              joined = cc (block_first, append_assoc k.read (met.c ∷ k.rest) behind, k.joined);
+              idle = k.idle;
+              begins = omega (arith, k.begins);
+              class = k.class;
+              written = rw (add_assoc start met.start (len_of met.c)) (AreWritten-part source len_of minded (k.read ++ met.c ∷ []) start (met.start + len_of met.c) new part written tail inside fits k.written);
+            })

@@ -1,14 +1,8 @@
 -- A line of a text whose stored classes and levels pass the test `is_per_char`, as those of the info types do.
-use Rattle.std.proofs.Common.{◌≡◌, ◌∙◌, ℕ, ◌≤◌, List, length, ap, sym, false, arith}
-use Rattle.std.specs.Prelude.{IsTrue, slice_range}
-use Rattle.std.specs.declared.ops.Range.{Range}
-use Rattle.bidi_base.specs.Analysed.{AnalysedText, line_levels_per_char, AreLevelsWithLine, AreLevelsOfLine, IsTextOfLine, levels_with_line_per_char}
+use Rattle.bidi_base.proofs.Common.{◌≡◌, ℕ, ◌≤◌, List, length, false, arith, IsTrue, slice_range, Range, AnalysedText, line_levels_per_char, line_text, has_rtl, levels_of_line, levels_with_line, char_levels_of_line, char_levels_with_line, text_len, subrange, per_char, is_per_char, IsLine, IsPerChar}
+use Rattle.bidi_base.specs.Analysed.{AreLevelsWithLine, AreLevelsOfLine, IsTextOfLine, levels_with_line_per_char}
 use Rattle.bidi_base.specs.declared.char_data.BidiClass.{BidiClass}
 use Rattle.bidi_base.specs.declared.char_data.BidiClass.TheVariants.{L}
-use Rattle.bidi_base.specs.Display.{line_text}
-use Rattle.bidi_base.specs.Levels.{has_rtl}
-use Rattle.bidi_base.specs.Line.{levels_of_line, levels_with_line, char_levels_of_line, char_levels_with_line}
-use Rattle.bidi_base.specs.Text.{text_len, subrange, per_char, is_per_char, IsLine, IsPerChar}
 use Rattle.bidi_base.proofs.PerUnit.{length-per_char, per_char-per_unit}
 use Rattle.bidi_base.proofs.PlaceLemmas.{line_places, text_len-subrange}
 use Rattle.bidi_base.proofs.PerCharTests.{class_eq, class_test, level_eq, level_test}
@@ -37,34 +31,20 @@ module _ (len_of : ℕ → ℕ) (some : HasUnits len_of) (chars : List ℕ) wher
 
     pub of_units : (shown : List ℕ) → shown ≡ levels_with_line level classes levels line.start line.end
         → AreLevelsWithLine (record { len_of = len_of; chars = chars; classes = classes; levels = levels }) level line shown
-    of_units shown e = record {
-      characters =
-          e ∙ line_of.levels_with_line-chars len_of some chars level classes levels line.start line.end (classes_IsPerChar classes of_classes) (levels_IsPerChar levels of_levels) is_line;
-      units = e;
-    }
+    of_units shown e = grind (arith, line_of.levels_with_line-chars, classes_IsPerChar, levels_IsPerChar)
 
     pub of_line : (shown : List ℕ) → shown ≡ levels_of_line level classes levels line.start line.end
         → AreLevelsOfLine (record { len_of = len_of; chars = chars; classes = classes; levels = levels }) level line shown
-    of_line shown e = record {
-      characters =
-          e ∙ line_of.levels_of_line-per_unit len_of some chars level classes levels line.start line.end (classes_IsPerChar classes of_classes) (levels_IsPerChar levels of_levels) is_line;
-      units = e;
-      one_a_unit =
-          let long = line_of.length-levels_of_line len_of some chars level classes levels line.start line.end (classes_IsPerChar classes of_classes) (levels_IsPerChar levels of_levels) is_line in
-          omega (arith, ap length e, long, is_line.ordered);
-    }
+    of_line shown e = grind (arith, line_of.levels_of_line-per_unit, line_of.length-levels_of_line, classes_IsPerChar, levels_IsPerChar)
 
     pub of_chars : (shown : List ℕ) → shown ≡ per_char 0 len_of chars (levels_with_line level classes levels line.start line.end)
         → shown ≡ levels_with_line_per_char (record { len_of = len_of; chars = chars; classes = classes; levels = levels }) level line
-    of_chars shown e =
-        e ∙ line_of.per_char-levels_with_line len_of some chars level classes levels line.start line.end (classes_IsPerChar classes of_classes) (levels_IsPerChar levels of_levels) is_line
+    of_chars shown e = grind (arith, line_of.per_char-levels_with_line, classes_IsPerChar, levels_IsPerChar)
 
     -- L1 on the units, read one a character, is L1 on the characters
     pub of_chars-units : (shown : List ℕ) → shown ≡ levels_with_line level classes levels line.start line.end
         → per_char 0 len_of chars shown ≡ char_levels_with_line len_of chars level classes levels line.start line.end
-    of_chars-units shown e =
-        ap (per_char 0 len_of chars) e
-        ∙ line_of.per_char-levels_with_line len_of some chars level classes levels line.start line.end (classes_IsPerChar classes of_classes) (levels_IsPerChar levels of_levels) is_line
+    of_chars-units shown e = grind (arith, line_of.per_char-levels_with_line, classes_IsPerChar, levels_IsPerChar)
 
     pub has_rtl-chars : has_rtl (levels_of_line level classes levels line.start line.end) ≡ has_rtl (char_levels_of_line len_of chars level classes levels line.start line.end)
     has_rtl-chars = line_of.has_rtl-chars len_of some chars level classes levels line.start line.end (classes_IsPerChar classes of_classes) (levels_IsPerChar levels of_levels) is_line
@@ -72,17 +52,18 @@ module _ (len_of : ℕ → ℕ) (some : HasUnits len_of) (chars : List ℕ) wher
     pub of_text : (encode : ℕ → List ℕ) (units shown : List ℕ)
         → shown ≡ line_text len_of encode chars units level (per_char L len_of chars classes) (per_char 0 len_of chars levels) line.start line.end
         → IsTextOfLine encode units (record { len_of = len_of; chars = chars; classes = classes; levels = levels }) level line shown
-    of_text encode units shown e = record {
-      text = e;
-      empty = λ none. e ∙ line_of.line_text-empty len_of encode chars units level (per_char L len_of chars classes) (per_char 0 len_of chars levels) line.start line.end none;
-    }
+    of_text encode units shown e = grind (arith, line_of.line_text-empty)
 
     -- where no level of the line is odd its text is the line's part of the text
     pub still : (encode : ℕ → List ℕ) (units shown : List ℕ) → length units ≡ text_len len_of chars → has_rtl (levels_of_line level classes levels line.start line.end) ≡ false
         → shown ≡ slice_range units line.start line.end → IsTextOfLine encode units (record { len_of = len_of; chars = chars; classes = classes; levels = levels }) level line shown
-    still encode units shown long even e =
-        of_text encode units shown
-        (e ∙ sym (line_of.line_text-still len_of some chars level classes levels line.start line.end (classes_IsPerChar classes of_classes) (levels_IsPerChar levels of_levels) is_line encode units long even))
+    still encode units shown long even e = grind (
+      arith,
+      line_of.line_text-still,
+      line_of.line_text-empty,
+      classes_IsPerChar,
+      levels_IsPerChar,
+    )
 
 -- ---- the levels of the line's characters
 

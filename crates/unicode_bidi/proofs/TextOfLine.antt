@@ -1,20 +1,12 @@
 -- A line of a text whose classes and levels are one a unit, equal within each character: its levels, its runs and its text are those of its characters.
-use Rattle.std.proofs.Common.{◌≡◌, ℕ, ◌+◌, ◌-◌, ◌<◌, ◌≤◌, List, [], length, get_or, map, flat_map, All, sym, ap, ◌∙◌, arith, false}
-use Rattle.std.specs.Prelude.{slice_range}
-use Rattle.std.specs.declared.ops.Range.{Range}
-use Rattle.std.proofs.lemmas.List.{get_or-map, length-map}
+use Rattle.bidi_base.proofs.Common.{◌≡◌, ℕ, ◌+◌, ◌-◌, ◌<◌, ◌≤◌, List, [], length, get_or, map, flat_map, sym, ap, ◌∙◌, arith, false, slice_range, Range, get_or-map, length-map, Run, run_of, run_text_in, visual_runs, reordered_text, line_text, IsLevelRun, AreVisualRuns, is_odd, has_rtl, line_levels, line_levels_after, levels_of_line, levels_with_line, visual_order, text_len, char_index, subrange, per_unit, per_char, IsLine, IsPerChar, char_levels_of_line, char_levels_with_line}
+use Rattle.std.proofs.Common.{All}
 use Rattle.bidi_base.specs.declared.char_data.BidiClass.{BidiClass}
 use Rattle.bidi_base.specs.declared.char_data.BidiClass.TheVariants.{L}
-use Rattle.bidi_base.specs.Display.{Run, run_of, run_text_in, visual_runs, reordered_text, line_text, IsLevelRun, AreVisualRuns}
-use Rattle.bidi_base.specs.Levels.{is_odd, has_rtl}
-use Rattle.bidi_base.specs.Line.{line_levels, line_levels_after, levels_of_line, levels_with_line}
-use Rattle.bidi_base.specs.Order.{visual_order}
-use Rattle.bidi_base.specs.Text.{place, text_len, char_index, subrange, per_unit, per_char, IsLine, IsPerChar}
 use Rattle.bidi_base.proofs.TextLemmas.{HasUnits}
 use Rattle.bidi_base.proofs.PlaceLemmas.{place-le, place-end, place-slice_range, line_places, text_len-subrange, IsLineAt, IsLine-places}
 use Rattle.bidi_base.proofs.PerUnit.{length-per_char, per_char-per_unit}
 use Rattle.bidi_base.proofs.UnitsLemmas.{per_unit-from_IsPerChar, length-from_IsPerChar}
-use Rattle.bidi_base.specs.Line.{char_levels_of_line, char_levels_with_line}
 use Rattle.unicode_bidi.proofs.CharRuns.{units_of, place_from, visual_runs-units}
 use Rattle.bidi_lines.proofs.LineInText.{length-part, length-line, length-levels_with_line}
 use Rattle.unicode_bidi.proofs.LineUnits.{slice_range-per_unit, line_levels-per_unit, levels_with_line-per_unit, list_any-per_unit}
@@ -32,9 +24,7 @@ line_text-empty len_of encode chars units level classes levels start end same = 
 -- each run is a level run, where it begins
 pub runs_begin : (start : ℕ) (levels : List ℕ) (ranges : List (Range ℕ)) → AreVisualRuns start levels (map run_of ranges)
     → All (λ r. (start ≤ r.start) × (r.start < start + length levels)) ranges
-runs_begin start levels ranges h k d fits =
-    let here = rw (get_or-map run_of ranges k d (0, 0) fits) at (h.are_runs k (0, 0) (omega (arith, fits, length-map ranges run_of))) in
-    (here.starts_within, omega (arith, here.not_empty, here.ends_within))
+runs_begin start levels ranges h k d fits = grind (arith, get_or-map run_of ranges k d (0, 0), length-map, h.are_runs k (0, 0))
 
 -- the text of `len_of` and `chars`, and one class and one level a unit
 module _ (len_of : ℕ → ℕ) (h : HasUnits len_of) (chars : List ℕ) (level : ℕ) (classes : List BidiClass) (levels : List ℕ) (start end : ℕ)
@@ -65,6 +55,8 @@ module _ (len_of : ℕ → ℕ) (h : HasUnits len_of) (chars : List ℕ) (level 
   pub levels_of_line-per_unit : levels_of_line level classes levels start end
       ≡ per_unit len_of (subrange len_of chars start end) (levels_of_line level (per_char L len_of chars classes) (per_char 0 len_of chars levels) (char_index len_of chars start) (char_index len_of chars end))
   levels_of_line-per_unit =
+      let i = char_index len_of chars start in
+      let j = char_index len_of chars end in
       let c_long = length-per_char L len_of chars classes in
       let l_long = length-per_char 0 len_of chars levels in
       cc (
@@ -72,9 +64,10 @@ module _ (len_of : ℕ → ℕ) (h : HasUnits len_of) (chars : List ℕ) (level 
         per_unit-from_IsPerChar 0 len_of h chars levels of_levels,
         ends.begins,
         ends.ends,
-        slice_range-per_unit len_of chars (per_char L len_of chars classes) (char_index len_of chars start) (char_index len_of chars end) ends.ordered ends.within c_long,
-        slice_range-per_unit len_of chars (per_char 0 len_of chars levels) (char_index len_of chars start) (char_index len_of chars end) ends.ordered ends.within l_long,
-        line_levels-per_unit len_of h level (subrange len_of chars start end) _ _ (part_long (per_char L len_of chars classes) c_long) (part_long (per_char 0 len_of chars levels) l_long),
+        slice_range-per_unit len_of chars (per_char L len_of chars classes) i j ends.ordered ends.within c_long,
+        slice_range-per_unit len_of chars (per_char 0 len_of chars levels) i j ends.ordered ends.within l_long,
+        line_levels-per_unit len_of h level
+            (subrange len_of chars start end) _ _ (part_long (per_char L len_of chars classes) c_long) (part_long (per_char 0 len_of chars levels) l_long),
       )
 
   of_chars_long : length of_chars ≡ length (subrange len_of chars start end)
@@ -83,19 +76,26 @@ module _ (len_of : ℕ → ℕ) (h : HasUnits len_of) (chars : List ℕ) (level 
   -- the ends of the runs cut no character
   pub runs_at_boundaries : (ranges : List (Range ℕ)) → map run_of ranges ≡ visual_runs start (levels_of_line level classes levels start end) → All (λ r. IsLine len_of chars r.start r.end) ranges
   runs_at_boundaries ranges e k d fits =
-      let same : map run_of ranges ≡ map (units_of (place_from start len_of (subrange len_of chars start end))) (visual_runs 0 of_chars) =
+      let P : ℕ → ℕ = place_from start len_of (subrange len_of chars start end) in
+      let same : map run_of ranges ≡ map (units_of P) (visual_runs 0 of_chars) =
       e ∙ ap (visual_runs start) levels_of_line-per_unit ∙ visual_runs-units start len_of h (subrange len_of chars start end) of_chars of_chars_long in
-      let inside : k < length (visual_runs 0 of_chars) = omega (arith, fits, ap length same, length-map ranges run_of, length-map (visual_runs 0 of_chars) (units_of (place_from start len_of (subrange len_of chars start end)))) in
+      let inside : k < length (visual_runs 0 of_chars) = omega (
+        arith,
+        fits,
+        ap length same,
+        length-map ranges run_of,
+        length-map (visual_runs 0 of_chars) (units_of P),
+      ) in
       let r : Run = get_or (visual_runs 0 of_chars) k (0, 0) in
       let here : IsLevelRun 0 of_chars r = (visual_runs-are 0 of_chars).are_runs k (0, 0) inside in
-      let ends_here : char_index len_of chars start + r.1 ≤ char_index len_of chars end = omega (arith, here.ends_within, length-of_chars, ends.ordered) in
-      let there : run_of (get_or ranges k d) ≡ units_of (place_from start len_of (subrange len_of chars start end)) r =
-      cc (get_or-map run_of ranges k d (0, 0) fits, same, get_or-map (units_of (place_from start len_of (subrange len_of chars start end))) (visual_runs 0 of_chars) k (0, 0) (0, 0) inside) in
-      let at : (n : ℕ) → char_index len_of chars start + n ≤ char_index len_of chars end → place_from start len_of (subrange len_of chars start end) n ≡ place len_of chars (char_index len_of chars start + n) =
-      λ n fits. omega (arith, ends.begins, place-slice_range len_of chars (char_index len_of chars start) (char_index len_of chars end) n fits ends.within) in
-      let begin : (get_or ranges k d).start ≡ place len_of chars (char_index len_of chars start + r.0) = ap (λ (q : Run). q.0) there ∙ at r.0 (omega (arith, here.not_empty, ends_here)) in
-      let stop : (get_or ranges k d).end ≡ place len_of chars (char_index len_of chars start + r.1) = ap (λ (q : Run). q.1) there ∙ at r.1 ends_here in
-      rw (begin, stop) (IsLine-places len_of chars (char_index len_of chars start + r.0) (char_index len_of chars start + r.1) (omega (arith, here.not_empty)))
+      let there : run_of (get_or ranges k d) ≡ units_of P r = cc (
+        get_or-map run_of ranges k d (0, 0) fits,
+        same,
+        get_or-map (units_of P) (visual_runs 0 of_chars) k (0, 0) (0, 0) inside,
+      ) in
+      let at = λ (n : ℕ). place-slice_range len_of chars (char_index len_of chars start) (char_index len_of chars end) n in
+      let line = IsLine-places len_of chars (char_index len_of chars start + r.0) (char_index len_of chars start + r.1) (omega (arith, here.not_empty)) in
+      grind (arith, there, at r.0, at r.1, here, length-of_chars, ends, line)
 
   -- the runs, written one after the other, are the text of the line
   pub flat_map-runs : (encode : ℕ → List ℕ) (units : List ℕ) (runs : List Run) → length units ≡ text_len len_of chars → runs ≡ visual_runs start (levels_of_line level classes levels start end)
@@ -109,13 +109,17 @@ module _ (len_of : ℕ → ℕ) (h : HasUnits len_of) (chars : List ℕ) (level 
       → line_text len_of encode chars units level (per_char L len_of chars classes) (per_char 0 len_of chars levels) start end ≡ slice_range units start end
   unfolding line_text
   line_text-still encode units long even =
-      let within : end ≤ length units = omega (arith, long, line-within, length-from_IsPerChar len_of chars levels of_levels) in
-      reordered_text-still len_of encode (subrange len_of chars start end) (slice_range units start end) of_chars of_chars_long
-      (length-part units start end within ∙ sym (text_len-subrange len_of h chars start end line))
-      (none_odd of_chars (sym (ap has_rtl levels_of_line-per_unit ∙ list_any-per_unit is_odd len_of h (subrange len_of chars start end) of_chars of_chars_long) ∙ even))
-
-  length-char_levels_with_line : length (char_levels_with_line len_of chars level classes levels start end) ≡ length chars
-  length-char_levels_with_line = grind (arith, length-levels_with_line, length-per_char, ends)
+      grind (
+        arith,
+        reordered_text-still len_of encode (subrange len_of chars start end) (slice_range units start end) of_chars of_chars_long,
+        none_odd of_chars,
+        levels_of_line-per_unit,
+        list_any-per_unit is_odd len_of h (subrange len_of chars start end) of_chars of_chars_long,
+        length-part units start end,
+        text_len-subrange len_of h chars start end line,
+        line-within,
+        length-from_IsPerChar len_of chars levels of_levels,
+      )
 
   -- the levels of all units, those of the line after L1, are those of their characters
   pub levels_with_line-chars : levels_with_line level classes levels start end ≡ per_unit len_of chars (char_levels_with_line len_of chars level classes levels start end)
@@ -125,8 +129,7 @@ module _ (len_of : ℕ → ℕ) (h : HasUnits len_of) (chars : List ℕ) (level 
 
   pub per_char-levels_with_line : per_char 0 len_of chars (levels_with_line level classes levels start end) ≡ char_levels_with_line len_of chars level classes levels start end
   per_char-levels_with_line =
-      ap (per_char 0 len_of chars) levels_with_line-chars
-      ∙ per_char-per_unit len_of h 0 chars (char_levels_with_line len_of chars level classes levels start end) length-char_levels_with_line
+      grind (arith, levels_with_line-chars, per_char-per_unit len_of h 0 chars (char_levels_with_line len_of chars level classes levels start end), length-levels_with_line, length-per_char, ends)
 
   -- a unit of the line has an odd level just where a character has
   pub has_rtl-chars : has_rtl (levels_of_line level classes levels start end) ≡ has_rtl (char_levels_of_line len_of chars level classes levels start end)

@@ -1,28 +1,16 @@
 -- What the walk over a text holds once n characters were read.
-use Rattle.std.proofs.Common.{◌≡◌, ℕ, ◌+◌, ◌<◌, ◌≤◌, true, false, List, [], ◌∷◌, ◌++◌, length, get_or, take, drop, map, Option, Some, None, option_map, unwrap_or, refl, sym, ap, ◌∙◌, arith, ◌⊎◌, inl, inr, append_assoc, length-append, length-take}
-use Rattle.std.proofs.lemmas.Grind.{common_steps}
-use Rattle.std.specs.Prelude.{All, replicate}
-use Rattle.std.specs.Option.{is_none}
-use Rattle.std.specs.declared.ops.Range.{Range}
-use Rattle.std.proofs.lemmas.List.{nil_from_length, append-nil, map-append, length-map, take_more, take_all, drop_all, get_or-append-add, length-take-le, take-append-drop}
-use Rattle.std.proofs.lemmas.List.Sums.{sum_by-append}
+use Rattle.bidi_base.proofs.Common.{◌≡◌, ℕ, ◌+◌, ◌<◌, ◌≤◌, true, false, List, [], ◌∷◌, ◌++◌, length, get_or, take, drop, map, Option, Some, None, option_map, refl, sym, ap, ◌∙◌, arith, ◌⊎◌, inl, inr, append_assoc, length-append, length-take, common_steps, All, is_none, Range, nil_from_length, map-append, length-map, take_more, take_all, drop_all, get_or-append-add, length-take-le, take-append-drop, sum_by-append, is_paragraph_separator, deciding_class, paragraph_level, stored_classes, class_at, ranges_from, innermost, met_units, Source, text_classes, paragraph_levels, char_at, place, text_len, per_unit}
+use Rattle.std.specs.Prelude.{replicate}
+use Rattle.std.proofs.lemmas.List.{append-nil}
 use Rattle.std.proofs.lemmas.List.Concat.{flat_map-append}
 use Rattle.bidi_base.specs.declared.char_data.BidiClass.{BidiClass}
 use Rattle.bidi_base.specs.declared.char_data.BidiClass.TheVariants.{L}
-use Rattle.bidi_base.specs.Classes.{is_paragraph_separator}
-use Rattle.bidi_base.specs.Isolates.{deciding_class, level_by, paragraph_level, stored_classes}
-use Rattle.bidi_base.specs.Places.{class_at}
-use Rattle.bidi_base.specs.Paragraphs.{ranges_from}
-use Rattle.bidi_base.specs.Reading.{innermost, met_units}
-use Rattle.bidi_base.specs.Source.{Source}
-use Rattle.bidi_base.specs.Stored.{text_classes, paragraph_levels}
-use Rattle.bidi_base.specs.Text.{char_at, place, text_len, per_unit}
 use Rattle.bidi_base.proofs.TextLemmas.{HasUnits, char_at-append, length-le-text_len}
 use Rattle.bidi_base.proofs.PerUnit.{per_unit-push, get_or-per_unit-place}
 use Rattle.bidi_base.proofs.PlaceLemmas.{place-le, place-lt, place-mono, place-more}
-use Rattle.bidi_base.proofs.ParagraphsLemmas.{joined, length-text_classes, IsCut, IsCut-start, IsCut-more, IsCut-stop, IsCut-last, IsCut-none, ranges_from-push}
+use Rattle.bidi_base.proofs.ParagraphsLemmas.{IsCut, IsCut-start, IsCut-more, IsCut-stop, IsCut-last, IsCut-none, ranges_from-push, joined, length-text_classes}
 use Rattle.bidi_base.proofs.ReadingLemmas.{char_units, char_units-take, met_units-char, innermost-All}
-use Rattle.bidi_base.proofs.StoredSteps.{open_initiators, open_initiators-push, met_by, stored_classes-push, stored_classes-nil, length-stored_classes, length-met_by, open_initiators-below, deciding_class-push, deciding_class-nil}
+use Rattle.bidi_base.proofs.StoredSteps.{stored_classes-nil, deciding_class-push, deciding_class-nil, open_initiators, open_initiators-push, met_by, stored_classes-push, length-stored_classes, length-met_by, open_initiators-below}
 use Rattle.unicode_bidi.specs.declared.paragraph_flags.ParagraphFlags.{ParagraphFlags}
 use Rattle.unicode_bidi.specs.declared.first_walk.Reading.{Reading}
 use Rattle.unicode_bidi.specs.declared.first_walk.TextReading.{TextReading}
@@ -36,9 +24,6 @@ use Rattle.unicode_bidi.specs.declared.split_rule.SplitRule.{SplitRule}
 use Rattle.unicode_bidi.proofs.FlagsLemmas.{with_classes-push}
 use Rattle.unicode_bidi.proofs.PutUnits.{take-filled, filled-append}
 use Rattle.unicode_bidi.proofs.Undecided.{undecided_from, waits_of, fsi_at, waiting-is, undecided-more, deciding-more, length-opened_by, open_initiators-few, All-undecided}
-
-pub take-turn : (chars : List ℕ) (n c : ℕ) → n < length chars → get_or chars n 0 ≡ c → take (n + 1) chars ≡ take n chars ++ c ∷ []
-take-turn chars n c within is_char = grind (arith, take_more)
 
 -- what the walk has seen: the classes of the units, and the paragraphs that ended
 pub record Seen : Type 0 where
@@ -80,29 +65,6 @@ module _ (source : Source) (len_of : ℕ → ℕ) (chars : List ℕ) where
     pub levels : levels_of found.paragraphs ≡ paragraph_levels source base done
     pub flags : found.flags ≡ paragraph_flags source done
 
-  -- ---- pieces
-
-  text_classes-push : (done : List (List ℕ)) (p : List ℕ) → text_classes source (done ++ p ∷ []) ≡ text_classes source done ++ stored_classes (classes_of p)
-  unfolding text_classes
-  text_classes-push done p = grind (arith, flat_map-append, append-nil)
-
-  paragraph_levels-push : (base : Option ℕ) (done : List (List ℕ)) (p : List ℕ) → paragraph_levels source base (done ++ p ∷ []) ≡ paragraph_levels source base done ++ unwrap_or base (level_by (deciding_class (classes_of p))) ∷ []
-  unfolding paragraph_levels paragraph_level
-  paragraph_levels-push base done p = grind (arith, map-append)
-
-  paragraph_flags-push : (done : List (List ℕ)) (p : List ℕ) → paragraph_flags source (done ++ p ∷ []) ≡ paragraph_flags source done ++ flags_of (classes_of p) ∷ []
-  unfolding paragraph_flags
-  paragraph_flags-push done p = map-append (λ (piece : List ℕ). flags_of (classes_of piece)) done (p ∷ [])
-
-  joined-push : (done : List (List ℕ)) (p : List ℕ) → joined (done ++ p ∷ []) ≡ joined done ++ p
-  joined-push done p = grind (arith, flat_map-append, append-nil)
-
-  -- ---- the start
-
-  pub IsTextRead-start : (base : Option ℕ) (found : Seen) (reading : Reading) → length found.units ≡ text_len len_of chars → found.paragraphs ≡ [] → found.flags ≡ [] → IsFresh reading 0 → IsTextRead base 0 [] [] found reading
-  unfolding text_classes paragraph_levels paragraph_flags
-  IsTextRead-start base found reading sized no_paragraphs no_flags fresh = grind (arith, deciding_class-nil)
-
   -- ---- the end of a paragraph
 
   module _ (base : Option ℕ) (n : ℕ) (done : List (List ℕ)) (current : List ℕ) (found : Seen) (reading : Reading) (h : IsTextRead base n done current found reading) where
@@ -119,15 +81,12 @@ module _ (source : Source) (len_of : ℕ → ℕ) (chars : List ℕ) where
 
     pub IsTextDone-close : (closed : Seen) (end : ℕ) → end ≡ place len_of chars n → closed.units ≡ found.units
         → IsClosed base reading end found.paragraphs found.flags closed.paragraphs closed.flags → IsTextDone base n (done ++ current ∷ []) closed
+    unfolding text_classes paragraph_levels paragraph_level paragraph_flags
     IsTextDone-close closed end here same ended =
-        grind (arith, joined-push, text_classes-push, read_to, ranges_from-push, paragraph_levels-push, paragraph_flags-push)
+        grind (arith, flat_map-append, map-append, append-nil, read_to, ranges_from-push)
 
   pub IsTextDone-none : (base : Option ℕ) (n : ℕ) (done : List (List ℕ)) (current : List ℕ) (found : Seen) (reading : Reading) → current ≡ [] → IsTextRead base n done current found reading → IsTextDone base n done found
   IsTextDone-none base n done current found reading none h = grind (arith, append-nil, stored_classes-nil)
-
-  -- the next paragraph begins
-  pub IsTextRead-next : (base : Option ℕ) (n : ℕ) (done : List (List ℕ)) (found : Seen) (reading : Reading) → IsTextDone base n done found → IsFresh reading (place len_of chars n) → IsTextRead base n done [] found reading
-  IsTextRead-next base n done found reading h fresh = grind (arith, append-nil, stored_classes-nil, deciding_class-nil)
 
   -- ---- one more character
 
@@ -169,22 +128,35 @@ module _ (source : Source) (len_of : ℕ → ℕ) (chars : List ℕ) where
       units_taken : (q : ℕ) → q < length so_far → char_units len_of (take n chars) (length (text_classes source done) + q) ≡ units_after done q
       units_taken q below = grind (arith, long, length-map, length-text_classes, char_units-take)
 
-      stored_below : (q : ℕ) → q < length so_far → q < length (stored_classes so_far)
-      stored_below q below = omega (arith, below, length-stored_classes so_far)
-
       whole_long : length (text_classes source done) + length (stored_classes so_far) ≡ length (take n chars)
       whole_long = omega (arith, length-text_classes source done, length-stored_classes so_far, length-map current source.class_of, long, length-take n chars)
 
       -- the class at an initiator
       class-at : (q : ℕ) → q < length so_far → class_at read_units (units_after done q).start ≡ class_at (stored_classes so_far) q
       class-at q below =
-          grind (arith, h.classes, units_taken q below, length-append, whole_long, stored_below q below, get_or-per_unit-place len_of units (take n chars) values (length (text_classes source done) + q) L, get_or-append-add)
+          grind (
+            arith,
+            h.classes,
+            units_taken q below,
+            length-append,
+            whole_long,
+            length-stored_classes,
+            get_or-per_unit-place len_of units (take n chars) values (length (text_classes source done) + q) L,
+            get_or-append-add,
+          )
 
       -- what the innermost open isolate makes of them
       met : (o : Option ℕ) → innermost (open_initiators so_far) ≡ o
           → met_units class (option_map (units_after done) o) read_units ≡ per_unit len_of (take n chars) (text_classes source done ++ met_by class o (stored_classes so_far))
       met None e = h.classes
-      met (Some q) e = grind (arith, h.classes, index-below q e, units_taken q, stored_below q, met_units-char len_of units (take n chars) (text_classes source done) (stored_classes so_far) class q whole_long)
+      met (Some q) e = grind (
+        arith,
+        h.classes,
+        index-below q e,
+        units_taken q,
+        length-stored_classes,
+        met_units-char len_of units (take n chars) (text_classes source done) (stored_classes so_far) class q whole_long,
+      )
 
       -- its units, as they are written
       pub drawn-is : (drawn : List BidiClass) (from : ℕ) → from ≡ place len_of chars n → take (from + len_of c) drawn ≡ take from found.units ++ replicate (len_of c) class
@@ -206,13 +178,10 @@ module _ (source : Source) (len_of : ℕ → ℕ) (chars : List ℕ) where
         after None e = grind (arith, drawn_is, met None e)
         after (Some q) e = grind (arith, index-below q e, units_within q, class-at q, take-after (fsi_at (units_after done) so_far class q), drawn_is, met (Some q) e)
 
-        waits : waiting reading.depth reading.undecided.items ≡ waits_of (units_after done) so_far class (innermost (open_initiators so_far))
-        waits = simp (h.depth, h.undecided) (waiting-is (units_after done) so_far class (innermost (open_initiators so_far)) refl)
-
         pub IsTextRead-more : (range : Range ℕ) (longer : Seen) (after : Reading) → range ≡ char_units len_of chars n → longer.units ≡ classes_after class (waiting reading.depth reading.undecided.items) drawn
             → length longer.units ≡ length found.units → longer.paragraphs ≡ found.paragraphs → longer.flags ≡ found.flags → IsReadBy class range reading after → IsTextRead base (n + 1) done (current ++ c ∷ []) longer after
         IsTextRead-more range longer new is_range is_longer same_length same_paragraphs same_flags read =
-            grind (arith, append_assoc, take-turn chars n c within is_char, waits, after, per_unit-push, stored_classes-push, map-append, length-opened_by, open_initiators-push, undecided-more, deciding-more, deciding_class-push, with_classes-push, length-append, length-met_by, whole_long, long, length-map)
+            grind (arith, append_assoc, take_more chars n 0, waiting-is (units_after done) so_far class (innermost (open_initiators so_far)) refl, after, per_unit-push, stored_classes-push, map-append, length-opened_by, open_initiators-push, undecided-more, deciding-more, deciding_class-push, with_classes-push, length-append, length-met_by, whole_long, long, length-map)
 
   -- ---- the whole walk
 
@@ -224,35 +193,26 @@ module _ (source : Source) (len_of : ℕ → ℕ) (chars : List ℕ) where
     pub read : IsTextRead base n done current found reading
 
   pub IsRead-start : (split : Option SplitRule) (base : Option ℕ) (found : Seen) (reading : Reading) → length found.units ≡ text_len len_of chars → found.paragraphs ≡ [] → found.flags ≡ [] → IsFresh reading 0 → IsRead split base 0 found reading
-  IsRead-start split base found reading sized no_paragraphs no_flags fresh = record {
-    done = [];
-    current = [];
-    cut = IsCut-start (ends_after split source) chars;
-    one = λ e. refl;
-    read = IsTextRead-start base found reading sized no_paragraphs no_flags fresh;
-  }
+  unfolding text_classes paragraph_levels paragraph_flags
+  IsRead-start split base found reading sized no_paragraphs no_flags fresh =
+      let read : IsTextRead base 0 [] [] found reading = grind (arith, deciding_class-nil) in
+      record { done = []; current = []; cut = IsCut-start (ends_after split source) chars; one = λ e. refl; read = read }
 
   -- the paragraph goes on
   pub IsRead-on : (split : Option SplitRule) (base : Option ℕ) (n c : ℕ) (found : Seen) (reading : Reading) (longer : Seen) (after : Reading) (h : IsRead split base n found reading) → drop n chars ≡ c ∷ drop (n + 1) chars
       → IsTextRead base (n + 1) h.done (h.current ++ c ∷ []) longer after → ends_after split source c (drop (n + 1) chars) ≡ false → IsRead split base (n + 1) longer after
-  IsRead-on split base n c found reading longer after h next read on = record {
-    done = h.done;
-    current = h.current ++ c ∷ [];
-    cut = IsCut-more (ends_after split source) chars h.done h.current c (drop (n + 1) chars) on (rw next at h.cut);
-    one = h.one;
-    read = read;
-  }
+  IsRead-on split base n c found reading longer after h next read on =
+      let cut = IsCut-more (ends_after split source) chars h.done h.current c (drop (n + 1) chars) on (rw next at h.cut) in
+      record { done = h.done; current = h.current ++ c ∷ []; cut = cut; one = h.one; read = read }
 
   -- or it ends, and the next one begins
   pub IsRead-stop : (split : Option SplitRule) (base : Option ℕ) (n c : ℕ) (found : Seen) (reading : Reading) (closed : Seen) (after : Reading) (h : IsRead split base n found reading) → drop n chars ≡ c ∷ drop (n + 1) chars
       → IsTextDone base (n + 1) (h.done ++ (h.current ++ c ∷ []) ∷ []) closed → IsFresh after (place len_of chars (n + 1)) → ends_after split source c (drop (n + 1) chars) ≡ true → IsRead split base (n + 1) closed after
-  IsRead-stop split base n c found reading closed after h next ended fresh stop = record {
-    done = h.done ++ (h.current ++ c ∷ []) ∷ [];
-    current = [];
-    cut = IsCut-stop (ends_after split source) chars h.done h.current c (drop (n + 1) chars) stop (rw next at h.cut);
-    one = λ e. absurd (cc (e, stop));
-    read = IsTextRead-next base (n + 1) (h.done ++ (h.current ++ c ∷ []) ∷ []) closed after ended fresh;
-  }
+  IsRead-stop split base n c found reading closed after h next ended fresh stop =
+      let done = h.done ++ (h.current ++ c ∷ []) ∷ [] in
+      let cut = IsCut-stop (ends_after split source) chars h.done h.current c (drop (n + 1) chars) stop (rw next at h.cut) in
+      let read : IsTextRead base (n + 1) done [] closed after = grind (arith, append-nil, stored_classes-nil, deciding_class-nil) in
+      record { done = done; current = []; cut = cut; one = λ e. absurd (cc (e, stop)); read = read }
 
   -- at the end of the text, what is left is the last paragraph
   module _ (units : HasUnits len_of) (base : Option ℕ) (n : ℕ) (found : Seen) (reading : Reading) (all : n ≡ length chars) where
@@ -269,7 +229,7 @@ module _ (source : Source) (len_of : ℕ → ℕ) (chars : List ℕ) where
     pub IsRead-none : (split : Option SplitRule) (h : IsRead split base n found reading) → is_none split ≡ false → place len_of chars n ≤ reading.start → (h.current ≡ []) × (h.done ≡ pieces_by split source chars)
     IsRead-none None h some order = absurd (cc some)
     IsRead-none (Some rule) h some order =
-        let none : h.current ≡ [] = current-none base n h.done h.current found reading h.read units order in
+        let none = current-none base n h.done h.current found reading h.read units order in
         (none, sym (IsCut-none (ends_by rule source) chars h.done (rw none at (ended (Some rule) h))))
 
   -- ---- what the walk answers
@@ -289,8 +249,7 @@ ends_after-other split source c after other = grind arith
 
 -- the character that begins at a place is the first of those that follow
 pub next-at : (len_of : ℕ → ℕ) → HasUnits len_of → (chars : List ℕ) (n : ℕ) → char_at len_of chars (place len_of chars n) ≡ char_at len_of (drop n chars) 0
-next-at len_of units chars n =
-    rw take-append-drop at (char_at-append len_of units (take n chars) (drop n chars))
+next-at len_of units chars n = rw take-append-drop at (char_at-append len_of units (take n chars) (drop n chars))
 
 pub same_range : (a b c d : ℕ) → a ≡ b → c ≡ d → ◌≡◌ {A = Range ℕ} (record { start = a; end = c }) (record { start = b; end = d })
 same_range a b c d e f = λ i. record { start = e i; end = f i }

@@ -1,21 +1,10 @@
 -- The open isolates of an FSI that no character decided yet: what they are once some characters were read, and after one more.
-use Rattle.std.proofs.Common.{◌≡◌, ℕ, suc, ◌+◌, ◌-◌, ◌<◌, ◌≤◌, Bool, true, false, ◌&&◌, cond, List, [], ◌∷◌, ◌++◌, length, take, map, Option, Some, None, refl, sym, ap, ◌∙◌, arith, length-append, get_or-set_same, get_or-set_other}
-use Rattle.std.specs.Prelude.{All}
-use Rattle.std.specs.Option.{is_some, option_or, option_to_list}
-use Rattle.std.proofs.Math.ListN.{get_or-append}
-use Rattle.std.proofs.Math.Nat.{add-zero}
-use Rattle.std.proofs.Math.Seq.{get_or-append_seam}
-use Rattle.std.specs.declared.ops.Range.{Range}
-use Rattle.std.proofs.lemmas.Bool.{cond_both}
-use Rattle.std.proofs.lemmas.List.{append-nil, length-take-le, length-map}
-use Rattle.std.proofs.lemmas.List.Elements.{All-nil, All-cons, All-head, All-tail, All-take}
+use Rattle.bidi_base.proofs.Common.{◌≡◌, ℕ, suc, ◌+◌, ◌-◌, ◌<◌, ◌≤◌, Bool, true, false, ◌&&◌, cond, List, [], ◌∷◌, ◌++◌, length, take, map, Option, Some, None, refl, ap, ◌∙◌, arith, length-append, get_or-set_same, get_or-set_other, All, option_or, option_to_list, get_or-append, add-zero, get_or-append_seam, Range, cond_both, length-take-le, length-map, All-nil, All-cons, All-head, All-tail, All-take, is_strong, is_initiator, is_pdi, stored_classes, class_at, innermost, outer, opened_by, decided_by, is_fsi}
+use Rattle.std.specs.Option.{is_some}
+use Rattle.std.proofs.lemmas.List.{append-nil}
 use Rattle.bidi_base.specs.declared.char_data.BidiClass.{BidiClass}
-use Rattle.bidi_base.specs.Classes.{is_strong, is_initiator, is_pdi}
-use Rattle.bidi_base.specs.Isolates.{stored_classes}
-use Rattle.bidi_base.specs.Places.{class_at}
-use Rattle.bidi_base.specs.Reading.{innermost, outer, opened_by, decided_by, is_fsi}
 use Rattle.bidi_base.proofs.ReadingLemmas.{outer-take, innermost-All}
-use Rattle.bidi_base.proofs.StoredSteps.{onto_later, open_initiators, open_initiators-push, open_initiators-below, met_by, length-met_by, stored_classes-push, length-stored_classes, resolved-strong}
+use Rattle.bidi_base.proofs.StoredSteps.{onto_later, resolved-strong, open_initiators, open_initiators-push, open_initiators-below, met_by, length-met_by, stored_classes-push, length-stored_classes}
 use Rattle.unicode_bidi.proofs.ClassSets.{apart_eqb}
 use Rattle.unicode_bidi.specs.FirstWalk.{waiting, depth_after, undecided_after, deciding_after}
 use Rattle.unicode_bidi.specs.declared.first_walk.Undecided.{Undecided}
@@ -62,30 +51,24 @@ abbrev Ascend : ℕ → List ℕ → Type 0
 Ascend low [] = Unit {0}
 Ascend low (q ∷ qs) = (low ≤ q) × Ascend (q + 1) qs
 
-Ascend-suc : (low : ℕ) (qs : List ℕ) → Ascend low qs → Ascend (suc low) (map suc qs)
-Ascend-suc low [] h = tt
-Ascend-suc low (q ∷ qs) h = let same : suc (q + 1) ≡ suc q + 1 = omega arith in (omega (arith, h.0), rw (← same) (Ascend-suc (q + 1) qs h.1))
-
-Ascend-lower : (low less : ℕ) (qs : List ℕ) → less ≤ low → Ascend low qs → Ascend less qs
-Ascend-lower low less [] le h = tt
-Ascend-lower low less (q ∷ qs) le h = (omega (arith, h.0), h.1)
-
-Ascend-last : (low : ℕ) (qs : List ℕ) (q : ℕ) → Ascend low (qs ++ q ∷ []) → low ≤ q
-Ascend-last low [] q h = h.0
-Ascend-last low (p ∷ qs) q h = omega (arith, h.0, Ascend-last (p + 1) qs q h.1)
+Ascend-suc : (low less : ℕ) (qs : List ℕ) → less ≤ suc low → Ascend low qs → Ascend less (map suc qs)
+Ascend-suc low less [] le h = tt
+Ascend-suc low less (q ∷ qs) le h = (omega (arith, h.0), Ascend-suc (q + 1) (suc q + 1) qs (omega arith) h.1)
 
 -- all others stand before the innermost one
-before_last : (low : ℕ) (qs : List ℕ) (q : ℕ) → Ascend low (qs ++ q ∷ []) → All (λ (p : ℕ). p < q) qs
-before_last low [] q h = All-nil (λ (p : ℕ). p < q)
-before_last low (p ∷ qs) q h = All-cons (λ (p : ℕ). p < q) p qs (omega (arith, Ascend-last (p + 1) qs q h.1)) (before_last (p + 1) qs q h.1)
+before_last : (low : ℕ) (qs : List ℕ) (q : ℕ) → Ascend low (qs ++ q ∷ []) → (low ≤ q) × All (λ (p : ℕ). p < q) qs
+before_last low [] q h = (h.0, All-nil (λ (p : ℕ). p < q))
+before_last low (p ∷ qs) q h =
+    let later = before_last (p + 1) qs q h.1 in
+    (omega (arith, h.0, later.0), All-cons (λ (p : ℕ). p < q) p qs (omega (arith, later.0)) later.1)
 
 Ascend-open : (cs : List BidiClass) → Ascend 0 (open_initiators cs)
 Ascend-open [] = tt
 Ascend-open (c ∷ cs) = onto _ (open_initiators cs) (Ascend-open cs)
   where
     onto : (b : Bool) (qs : List ℕ) → Ascend 0 qs → Ascend 0 (onto_later b (map suc qs))
-    onto true qs h = (omega arith, Ascend-suc 0 qs h)
-    onto false qs h = Ascend-lower 1 0 (map suc qs) (omega arith) (Ascend-suc 0 qs h)
+    onto true qs h = (omega arith, Ascend-suc 0 1 qs (omega arith) h)
+    onto false qs h = Ascend-suc 0 0 qs (omega arith) h
 
 -- ---- of a list that is pushed to
 
@@ -93,8 +76,7 @@ module _ (units : ℕ → Range ℕ) where
   undecided-push : (k : ℕ) (stored : List BidiClass) (qs : List ℕ) (q : ℕ)
       → undecided_from units k stored (qs ++ q ∷ []) ≡ undecided_from units k stored qs ++ cond (is_fsi (class_at stored q)) (record { units = units q; depth = k + length qs + 1 } ∷ []) []
   undecided-push k stored [] q = simp add-zero
-  undecided-push k stored (p ∷ qs) q =
-      grind (arith, undecided-push (k + 1) stored qs q)
+  undecided-push k stored (p ∷ qs) q = grind (arith, undecided-push (k + 1) stored qs q)
 
   -- their depths are at most the number of the initiators
   depths : (k : ℕ) (stored : List BidiClass) (qs : List ℕ) → All (λ (u : Undecided). u.depth ≤ k + length qs) (undecided_from units k stored qs)
@@ -128,11 +110,8 @@ open_initiators-few (c ∷ cs) = grind (arith, open_initiators-few cs, length-ma
 too_deep : (d m : ℕ) (xs : List Undecided) → All (λ (u : Undecided). u.depth ≤ m) xs → m < d → waiting d xs ≡ None
 too_deep d m xs h less = grind (arith, innermost-All (λ (u : Undecided). u.depth ≤ m) xs, apart_eqb)
 
-length-outer : {X : Type 0} (xs : List X) → length (outer xs) ≡ length xs - 1
-length-outer xs = ap length (sym (outer-take xs)) ∙ length-take-le (length xs - 1) xs (omega arith)
-
 pub length-opened_by : (c : BidiClass) (n : ℕ) (qs : List ℕ) → length (opened_by c n qs) ≡ depth_after c (length qs)
-length-opened_by c n qs = grind (arith, length-append, length-outer)
+length-opened_by c n qs = grind (arith, length-append, outer-take qs, length-take-le (length qs - 1) qs)
 
 module _ (units : ℕ → Range ℕ) (cs : List BidiClass) (c : BidiClass) where
   abbrev pub qs : List ℕ
@@ -162,15 +141,18 @@ module _ (units : ℕ → Range ℕ) (cs : List BidiClass) (c : BidiClass) where
     before_cut : before ≡ under ++ cond (is_fsi (class_at stored q)) (fsi_at q ∷ []) []
     before_cut = grind (arith, cut, length-append, undecided-push)
 
-    is_waiting : is_fsi (class_at stored q) ≡ true → waiting (length qs) before ≡ Some (fsi_at q)
-    is_waiting fsi = grind (arith, before_cut, innermost-push)
-
-    not_waiting : is_fsi (class_at stored q) ≡ false → waiting (length qs) before ≡ None
-    not_waiting other =
-        grind (arith, before_cut, append-nil, too_deep (length qs) (0 + length (outer qs)) under (depths units 0 stored (outer qs)), cut, length-append)
-
   pub waiting-is : (o : Option ℕ) → innermost qs ≡ o → waiting (length qs) before ≡ waits_of o
-  waiting-is o e = grind (arith, innermost-none qs, is_waiting, not_waiting)
+  waiting-is None e = simp (innermost-none qs e)
+  waiting-is (Some q) e =
+      grind (
+        arith,
+        before_cut q e,
+        innermost-push,
+        append-nil,
+        too_deep (length qs) (0 + length (outer qs)) (under q e) (depths units 0 stored (outer qs)),
+        cut q e,
+        length-append,
+      )
 
   -- ---- the step
 
@@ -181,12 +163,6 @@ module _ (units : ℕ → Range ℕ) (cs : List BidiClass) (c : BidiClass) where
   appended : (st : List BidiClass) → length st ≡ length cs → (xs : List ℕ) → All (λ (q : ℕ). q < length cs) xs → undecided_from units 0 (st ++ c ∷ []) xs ≡ undecided_from units 0 st xs
   appended st long xs below = grind (arith, undecided-agree, get_or-append)
 
-  stored_long : length stored ≡ length cs
-  stored_long = length-stored_classes cs
-
-  all_below : All (λ (q : ℕ). q < length cs) qs
-  all_below = open_initiators-below cs
-
   pushed : undecided_from units 0 (stored_classes (cs ++ c ∷ [])) (open_initiators (cs ++ c ∷ [])) ≡ undecided_from units 0 (met_by c (innermost qs) stored ++ c ∷ []) (opened_by c n qs)
   pushed = grind (arith, stored_classes-push, open_initiators-push)
 
@@ -196,28 +172,57 @@ module _ (units : ℕ → Range ℕ) (cs : List BidiClass) (c : BidiClass) where
   -- an isolate ends, or its FSI is decided
   closes : (o : Option ℕ) → innermost qs ≡ o → undecided_from units 0 stored (outer qs) ≡ closed true
   closes None e = simp (innermost-none qs e)
-  closes (Some q) e = grind (arith, is_waiting q e, not_waiting q e, before_cut q e, append-nil, outer-push (under q e) (fsi_at q))
+  closes (Some q) e = grind (arith, waiting-is (Some q) e, before_cut q e, append-nil, outer-push (under q e) (fsi_at q))
 
   at_pdi : is_initiator c ≡ false → is_pdi c ≡ true → undecided_from units 0 (stored_classes (cs ++ c ∷ [])) (open_initiators (cs ++ c ∷ [])) ≡ closed true
   at_pdi init pdi =
-      let outer_below : All (λ (q : ℕ). q < length cs) (outer qs) = rw outer-take at (All-take (λ (q : ℕ). q < length cs) (length qs - 1) qs all_below) in
-      grind (arith, pushed, init, pdi, appended stored stored_long (outer qs) outer_below, closes (innermost qs) refl)
+      let outer_below : All (λ (q : ℕ). q < length cs) (outer qs) = rw outer-take at (All-take (λ (q : ℕ). q < length cs) (length qs - 1) qs (open_initiators-below cs)) in
+      grind (arith, pushed, init, pdi, appended stored (length-stored_classes cs) (outer qs) outer_below, closes (innermost qs) refl)
 
   at_strong : is_initiator c ≡ false → is_pdi c ≡ false → is_strong c ≡ true → undecided_from units 0 (stored_classes (cs ++ c ∷ [])) (open_initiators (cs ++ c ∷ [])) ≡ closed true
   at_strong init pdi strong =
-      grind (arith, pushed, init, pdi, appended (met_by c (innermost qs) stored), length-met_by, stored_long, all_below, decided (innermost qs) refl, closes (innermost qs) refl)
+      grind (
+        arith,
+        pushed,
+        init,
+        pdi,
+        appended (met_by c (innermost qs) stored),
+        length-met_by,
+        length-stored_classes,
+        open_initiators-below cs,
+        decided (innermost qs) refl,
+        closes (innermost qs) refl,
+      )
     where
       decided : (o : Option ℕ) → innermost qs ≡ o → undecided_from units 0 (met_by c o stored) qs ≡ undecided_from units 0 stored (outer qs)
       decided None e = simp (innermost-none qs e)
       decided (Some q) e =
           let met : List BidiClass = met_by c (Some q) stored in
-          let apart : All (λ (p : ℕ). p < q) (outer qs) = before_last 0 (outer qs) q (rw (cut q e) at (Ascend-open cs)) in
-          let here : is_fsi (class_at met q) ≡ false = grind (arith, strong, get_or-set_same, innermost-All (λ (p : ℕ). p < length cs) qs q all_below e, stored_long, resolved-strong c strong) in
+          let apart : All (λ (p : ℕ). p < q) (outer qs) = (before_last 0 (outer qs) q (rw (cut q e) at (Ascend-open cs))).1 in
+          let here : is_fsi (class_at met q) ≡ false = grind (
+            arith,
+            strong,
+            get_or-set_same,
+            innermost-All (λ (p : ℕ). p < length cs) qs q (open_initiators-below cs) e,
+            length-stored_classes,
+            resolved-strong c strong,
+          ) in
           ap (undecided_from units 0 met) (cut q e) ∙ simp (undecided-push units 0 met (outer qs) q, here, append-nil)
           (undecided-agree units 0 stored met (outer qs) (λ i d within. grind (arith, apart i d within, get_or-set_other)))
 
   pub undecided-more : undecided_from units 0 (stored_classes (cs ++ c ∷ [])) (open_initiators (cs ++ c ∷ [])) ≡ undecided_after c (units n) (length qs) before
-  undecided-more = grind (arith, at_pdi, at_strong, pushed, appended, stored_long, all_below, undecided-push, get_or-append_seam, append-nil)
+  undecided-more = grind (
+    arith,
+    at_pdi,
+    at_strong,
+    pushed,
+    appended,
+    length-stored_classes,
+    open_initiators-below cs,
+    undecided-push,
+    get_or-append_seam,
+    append-nil,
+  )
 
   -- the deciding class
   pub deciding-more : (deciding : Option BidiClass) → option_or deciding (decided_by c qs) ≡ deciding_after c (length qs) deciding

@@ -1,27 +1,20 @@
 -- The walk over a text from one character to the next on which something depends.
-use Rattle.std.proofs.Common.{◌≡◌, ℕ, ◌+◌, ◌≤◌, false, List, [], ◌∷◌, ◌++◌, length, take, drop, map, refl, sym, ap, ◌∙◌, arith, append_assoc, length-append, length-drop, length-take, Option}
-use Rattle.std.specs.Prelude.{All, replicate}
-use Rattle.std.specs.declared.ops.Range.{Range}
-use Rattle.std.proofs.Math.Nat.{add-zero}
-use Rattle.std.proofs.Math.Seq.{take-append_seam, drop-append_seam}
-use Rattle.std.proofs.lemmas.List.{append-nil, map-append, length-map, take-take, drop-drop}
-use Rattle.std.proofs.lemmas.List.Elements.{All-head, All-tail, All-weaker}
-use Rattle.std.proofs.lemmas.List.Sums.{sum_by-append, sum_by-cons}
+use Rattle.bidi_base.proofs.Common.{◌≡◌, ℕ, ◌+◌, ◌≤◌, false, List, [], ◌∷◌, ◌++◌, length, take, drop, map, refl, sym, ap, ◌∙◌, arith, append_assoc, length-append, length-drop, length-take, Option, All, Range, add-zero, take-append_seam, drop-append_seam, map-append, length-map, take-take, drop-drop, All-tail, All-weaker, sum_by-append, sum_by-cons, Source, text_len, place, per_unit}
+use Rattle.std.specs.Prelude.{replicate}
+use Rattle.std.proofs.lemmas.List.{append-nil}
 use Rattle.bidi_base.specs.declared.char_data.BidiClass.{BidiClass}
-use Rattle.bidi_base.specs.Source.{Source}
-use Rattle.bidi_base.specs.Text.{text_len, place, per_unit}
+use Rattle.bidi_base.proofs.ReadingLemmas.{char_units}
 use Rattle.bidi_base.proofs.TextLemmas.{HasUnits}
 use Rattle.bidi_base.proofs.PerUnit.{per_unit-append, length-per_unit}
-use Rattle.bidi_base.proofs.PlaceLemmas.{CharTurn, char_turn_of, char_index-place, place-le, place-le-back, place-end}
+use Rattle.bidi_base.proofs.PlaceLemmas.{char_turn_of, CharTurn, char_index-place, place-le, place-le-back, place-end}
 use Rattle.unicode_bidi.specs.declared.class_set.ClassSet.{ClassSet}
 use Rattle.unicode_bidi.specs.declared.first_walk.Met.{Met}
 use Rattle.unicode_bidi.specs.declared.first_walk.Reading.{Reading}
 use Rattle.unicode_bidi.specs.declared.split_rule.SplitRule.{SplitRule}
 use Rattle.unicode_bidi.specs.ClassSet.{has}
 use Rattle.unicode_bidi.specs.FirstWalk.{minds, ahead, AreIdle, AreWritten, IsSkimmed, IsMet}
-use Rattle.unicode_bidi.specs.SplitRule.{ends_after}
 use Rattle.unicode_bidi.proofs.IdleClasses.{idle-IsReadBy, idle-classes, idle-separator}
-use Rattle.unicode_bidi.proofs.TextRead.{Seen, IsRead, IsRead-on, IsTextRead-more, drawn-is, same_range, ends_after-other, undecided-none}
+use Rattle.unicode_bidi.proofs.TextRead.{Seen, IsRead, IsRead-on, IsTextRead-more, drawn-is, ends_after-other, undecided-none}
 
 -- the same, but other classes are written
 abbrev pub with_units : List BidiClass → Seen → Seen
@@ -40,12 +33,19 @@ module _ (source : Source) (len_of : ℕ → ℕ) where
     both : take to new ≡ front ++ back
     both = grind (arith, map-append, per_unit-append, length-map, append_assoc)
 
-    front_long : length front ≡ from + text_len len_of xs
-    front_long = grind (arith, length-append, length-take, length-per_unit, length-map)
-
     front_is : take (from + text_len len_of xs) new ≡ front
-    front_is =
-        cc (take-take (from + text_len len_of xs) to new (omega (arith, h.long, sum_by-append len_of xs ys)), both, front_long, take-append_seam front back)
+    front_is = grind (
+      arith,
+      take-take,
+      h.long,
+      sum_by-append len_of xs ys,
+      both,
+      take-append_seam front back,
+      length-append,
+      length-take,
+      length-per_unit,
+      length-map,
+    )
 
     pub AreWritten-front : AreWritten source len_of xs from (from + text_len len_of xs) old new
     AreWritten-front = record { long = refl; classes = front_is }
@@ -78,8 +78,7 @@ module _ (source : Source) (len_of : ℕ → ℕ) where
     -- ---- one character on which nothing depends
 
     pub turn_at : (n c : ℕ) (rest : List ℕ) → drop n chars ≡ c ∷ rest → CharTurn len_of chars n (place len_of chars n) c
-    turn_at n c rest next =
-        char_turn_of len_of chars n (place len_of chars n) c refl (cc (next, drop-drop 1 n chars))
+    turn_at n c rest next = char_turn_of len_of chars n (place len_of chars n) c refl (cc (next, drop-drop 1 n chars))
 
     IsRead-idle : (n c : ℕ) (rest : List ℕ) (found : Seen) (reading : Reading) (drawn : List BidiClass) → IsRead source len_of chars split base n found reading → drop n chars ≡ c ∷ rest → minds reading (source.class_of c) ≡ false
         → length drawn ≡ length found.units → take (place len_of chars n + len_of c) drawn ≡ take (place len_of chars n) found.units ++ replicate (len_of c) (source.class_of c)
@@ -88,14 +87,13 @@ module _ (source : Source) (len_of : ℕ → ℕ) where
         let w = turn_at n c rest next in
         let class : BidiClass = source.class_of c in
         let drawn_is = drawn-is source len_of chars units base n h.done h.current found reading w.within h.read c w.is_char class refl drawn (place len_of chars n) refl written in
-        let range : Range ℕ = record { start = place len_of chars n; end = place len_of chars n + len_of c } in
-        let range_is = same_range (place len_of chars n) (place len_of chars n) (place len_of chars n + len_of c) (place len_of chars (n + 1)) refl (sym w.after) in
+        let range : Range ℕ = char_units len_of chars n in
         let empty = undecided-none source len_of chars units base n h.done h.current found reading w.within h.read in
-        let on : ends_after split source c (drop (n + 1) chars) ≡ false = ends_after-other split source c (drop (n + 1) chars) (idle-separator reading class range idle empty) in
         let read =
         IsTextRead-more source len_of chars units base n h.done h.current found reading w.within h.read c w.is_char class refl drawn drawn_is long range (with_units drawn found) reading
-        range_is (idle-classes reading class range idle empty drawn) long refl refl (idle-IsReadBy reading class range idle empty) in
-        IsRead-on source len_of chars split base n c found reading (with_units drawn found) reading h w.next read on
+        refl (idle-classes reading class range idle empty drawn) long refl refl (idle-IsReadBy reading class range idle empty) in
+        IsRead-on source len_of chars split base n c found reading (with_units drawn found) reading h w.next read
+        (ends_after-other split source c (drop (n + 1) chars) (idle-separator reading class range idle empty))
 
     -- ---- characters on which nothing depends
 
@@ -109,9 +107,7 @@ module _ (source : Source) (len_of : ℕ → ℕ) where
         let w = turn_at n c (read ++ rest) next in
         let first = AreWritten-front (c ∷ []) read (place len_of chars n) to found.units drawn inside written in
         let others = AreWritten-back (c ∷ []) read (place len_of chars n) to found.units drawn inside written in
-        let one =
-        IsRead-idle n c (read ++ rest) found reading drawn h next (All-head (λ c. minds reading (source.class_of c) ≡ false) c read idle) long
-        (AreWritten-one c (place len_of chars n) (place len_of chars n + text_len len_of (c ∷ [])) found.units drawn first) in
+        let one = IsRead-idle n c (read ++ rest) found reading drawn h next (idle 0 c (omega arith)) long (grind (arith, first.classes, append-nil)) in
         let later = IsRead-idles read rest (n + 1) to (with_units drawn found) reading drawn one (cc next) (All-tail (λ c. minds reading (source.class_of c) ≡ false) c read idle) refl in
         grind (arith, later, others, w.after, sum_by-cons len_of c [])
 

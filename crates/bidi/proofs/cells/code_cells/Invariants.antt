@@ -1,4 +1,4 @@
-use Rattle.std.proofs.Common.{◌≡◌, map, take, string_bytes}
+use Rattle.bidi_base.proofs.Common.{◌≡◌, map, take, string_bytes}
 use Rattle.bidi.specs.Cells.{hex}
 use Rattle.bidi.proofs.cells.code_cells.Given as goal
 

@@ -1,4 +1,4 @@
-use Rattle.std.proofs.Common.{◌≡◌, ◌++◌, map, zip, drop, string_bytes}
+use Rattle.bidi_base.proofs.Common.{◌≡◌, ◌++◌, map, zip, drop, string_bytes}
 use Rattle.bidi.specs.Cells.{glyph}
 use Rattle.bidi.proofs.cells.glyph_cells.Given as goal
 

@@ -1,5 +1,4 @@
-use Rattle.std.proofs.Common.{arith}
-use Rattle.std.proofs.lemmas.List.{map-append}
+use Rattle.bidi_base.proofs.Common.{arith, map-append}
 use Rattle.bidi.proofs.PagesLemmas.{next_index}
 use Rattle.bidi.proofs.cells.index_cells.Goals as goal
 

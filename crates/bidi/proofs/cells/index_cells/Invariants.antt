@@ -1,5 +1,4 @@
-use Rattle.std.proofs.Common.{◌≡◌, map, decimal, string_bytes}
-use Rattle.std.specs.List.{range_with_len}
+use Rattle.bidi_base.proofs.Common.{◌≡◌, map, decimal, string_bytes, range_with_len}
 use Rattle.bidi.proofs.cells.index_cells.Given as goal
 
 abbrev pub invariant-loop-index : goal.invariant-loop-index

@@ -1,4 +1,4 @@
-use Rattle.std.proofs.Common.{◌≡◌, map, take, decimal, string_bytes}
+use Rattle.bidi_base.proofs.Common.{◌≡◌, map, take, decimal, string_bytes}
 use Rattle.bidi.proofs.cells.number_cells.Given as goal
 
 abbrev pub invariant-loop-number : goal.invariant-loop-number

@@ -1,4 +1,4 @@
-use Rattle.std.proofs.Common.{◌≡◌, map, take, string_bytes}
+use Rattle.bidi_base.proofs.Common.{◌≡◌, map, take, string_bytes}
 use Rattle.bidi.specs.Cells.{option_name}
 use Rattle.bidi.proofs.cells.option_cells.Given as goal
 

@@ -1,5 +1,4 @@
-use Rattle.std.proofs.Common.{rules}
-use Rattle.std.proofs.lemmas.Str.{chars_from_encodes}
+use Rattle.bidi_base.proofs.Common.{rules, chars_from_encodes}
 use Rattle.bidi.proofs.characters.chars_of.Goals as goal
 
 pub returns : goal.returns

@@ -1,4 +1,4 @@
-use Rattle.std.proofs.Common.{◌≡◌, ◌++◌, take, flat_map, encode_utf8, string_bytes}
+use Rattle.bidi_base.proofs.Common.{◌≡◌, ◌++◌, take, flat_map, encode_utf8, string_bytes}
 use Rattle.bidi.proofs.characters.push_chars.Given as goal
 
 abbrev pub invariant-loop-c : goal.invariant-loop-c

@@ -1,7 +1,5 @@
-use Rattle.std.proofs.Common.{◌∙◌, ap}
-use Rattle.std.proofs.lemmas.List.{take_more, take_all}
-use Rattle.std.proofs.lemmas.Str.{chars-nil, IsUtf8-string_bytes}
-use Rattle.std.specs.Str.{chars}
+use Rattle.bidi_base.proofs.Common.{◌∙◌, ap, take_more, take_all, chars-nil, chars}
+use Rattle.std.proofs.lemmas.Str.{IsUtf8-string_bytes}
 use Rattle.bidi_base.proofs.StrLemmas.{chars-push}
 use Rattle.bidi.proofs.characters.text_of.Goals as goal
 

@@ -1,5 +1,4 @@
-use Rattle.std.proofs.Common.{◌≡◌, take, string_bytes}
-use Rattle.std.specs.Str.{chars}
+use Rattle.bidi_base.proofs.Common.{◌≡◌, take, string_bytes, chars}
 use Rattle.bidi.proofs.characters.text_of.Given as goal
 
 abbrev pub invariant-loop-c : goal.invariant-loop-c

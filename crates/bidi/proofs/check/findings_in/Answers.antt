@@ -1,4 +1,4 @@
-use Rattle.std.proofs.Common.{arith}
+use Rattle.bidi_base.proofs.Common.{arith}
 use Rattle.bidi.specs.Findings.{findings_of}
 use Rattle.bidi.proofs.check.findings_in.Goals as goal
 

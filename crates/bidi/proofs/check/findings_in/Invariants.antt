@@ -1,4 +1,4 @@
-use Rattle.std.proofs.Common.{◌≡◌, ◌+◌, ◌++◌, ◌≤◌, length}
+use Rattle.bidi_base.proofs.Common.{◌≡◌, ◌+◌, ◌++◌, ◌≤◌, length}
 use Rattle.bidi.specs.Findings.{findings_from, lines_of, findings_of}
 use Rattle.bidi.proofs.check.findings_in.Given as goal
 

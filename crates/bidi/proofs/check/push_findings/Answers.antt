@@ -1,5 +1,4 @@
-use Rattle.std.proofs.Common.{arith}
-use Rattle.std.proofs.lemmas.List.FromFn.{length-map-range_with_len}
+use Rattle.bidi_base.proofs.Common.{arith, length-map-range_with_len}
 use Rattle.bidi.proofs.FindingsLemmas.{more_findings}
 use Rattle.bidi.proofs.check.push_findings.Goals as goal
 

@@ -1,6 +1,5 @@
-use Rattle.std.proofs.Common.{◌≡◌, ◌++◌, map}
+use Rattle.bidi_base.proofs.Common.{◌≡◌, ◌++◌, map, range_with_len}
 use Rattle.std.specs.Prelude.{filter_map}
-use Rattle.std.specs.List.{range_with_len}
 use Rattle.bidi.specs.Findings.{finding_at}
 use Rattle.bidi.proofs.check.push_findings.Given as goal
 

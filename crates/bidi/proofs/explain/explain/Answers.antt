@@ -1,5 +1,4 @@
-use Rattle.std.proofs.Common.{arith}
-use Rattle.std.proofs.lemmas.List.{nil_from_length}
+use Rattle.bidi_base.proofs.Common.{arith, nil_from_length}
 use Rattle.bidi.proofs.explain.explain.Goals as goal
 
 pub loop-rest-preserved : goal.loop-rest-preserved

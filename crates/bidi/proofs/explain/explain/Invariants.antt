@@ -1,4 +1,4 @@
-use Rattle.std.proofs.Common.{length, string_bytes}
+use Rattle.bidi_base.proofs.Common.{length, string_bytes}
 use Rattle.bidi.specs.Findings.{lines_of}
 use Rattle.bidi.specs.Explained.{AreAppended}
 use Rattle.bidi.proofs.explain.explain.Given as goal

@@ -1,4 +1,4 @@
-use Rattle.std.proofs.Common.{arith}
+use Rattle.bidi_base.proofs.Common.{arith}
 use Rattle.bidi_base.proofs.LevelLaws.{length-stored_levels}
 use Rattle.bidi.proofs.StagesLemmas.{line_levels-long, order-within}
 use Rattle.bidi.proofs.explain.push_paragraph.Goals as goal

@@ -1,4 +1,4 @@
-use Rattle.std.proofs.Common.{arith}
+use Rattle.bidi_base.proofs.Common.{arith}
 use Rattle.bidi.proofs.input.show_input.Goals as goal
 
 pub returns-clause-text : goal.returns-clause-text

@@ -1,6 +1,4 @@
-use Rattle.std.proofs.Common.{◌≡◌, ℕ, ◌+◌, ◌-◌, List, length, take, drop, sym, ◌∙◌, arith, length-drop}
-use Rattle.std.proofs.lemmas.List.{take_all}
-use Rattle.bidi_base.specs.Paragraphs.{cr_lf_together}
+use Rattle.bidi_base.proofs.Common.{◌≡◌, ℕ, ◌+◌, ◌-◌, List, length, take, drop, sym, ◌∙◌, arith, length-drop, take_all, cr_lf_together}
 use Rattle.bidi.proofs.LinesLemmas.{IsUnbroken-more, IsUnbroken-ended, IsUnbroken-whole}
 use Rattle.bidi.proofs.lines.first_line_len.Goals as goal
 

@@ -1,4 +1,4 @@
-use Rattle.bidi_base.specs.Paragraphs.{cr_lf_together}
+use Rattle.bidi_base.proofs.Common.{cr_lf_together}
 use Rattle.bidi.proofs.LinesLemmas.{IsUnbroken}
 use Rattle.bidi.proofs.lines.first_line_len.Given as goal
 

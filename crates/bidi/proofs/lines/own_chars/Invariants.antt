@@ -1,4 +1,4 @@
-use Rattle.std.proofs.Common.{◌≡◌, ◌++◌, take, drop}
+use Rattle.bidi_base.proofs.Common.{◌≡◌, ◌++◌, take, drop}
 use Rattle.bidi.specs.Shown.{own_chars}
 use Rattle.bidi.proofs.lines.own_chars.Given as goal
 

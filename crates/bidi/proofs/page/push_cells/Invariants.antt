@@ -1,4 +1,4 @@
-use Rattle.std.proofs.Common.{◌≡◌, ◌++◌, drop, map, flat_map, string_bytes}
+use Rattle.bidi_base.proofs.Common.{◌≡◌, ◌++◌, drop, map, flat_map, string_bytes}
 use Rattle.bidi.specs.Pages.{cell_element}
 use Rattle.bidi.proofs.page.push_cells.Given as goal
 

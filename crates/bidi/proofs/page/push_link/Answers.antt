@@ -1,4 +1,4 @@
-use Rattle.std.proofs.Common.{append_assoc}
+use Rattle.bidi_base.proofs.Common.{append_assoc}
 use Rattle.bidi.proofs.page.push_link.Goals as goal
 
 pub returns : goal.returns

@@ -1,5 +1,4 @@
-use Rattle.std.proofs.Common.{arith}
-use Rattle.std.proofs.lemmas.List.{flat_map_more}
+use Rattle.bidi_base.proofs.Common.{arith, flat_map_more}
 use Rattle.bidi.proofs.PagesLemmas.{next_index}
 use Rattle.bidi.proofs.page.push_links.Goals as goal
 

@@ -1,5 +1,4 @@
-use Rattle.std.proofs.Common.{◌≡◌, ◌++◌, flat_map, string_bytes}
-use Rattle.std.specs.List.{range_with_len}
+use Rattle.bidi_base.proofs.Common.{◌≡◌, ◌++◌, flat_map, string_bytes, range_with_len}
 use Rattle.bidi.specs.Pages.{link_from}
 use Rattle.bidi.proofs.page.push_links.Given as goal
 

@@ -1,4 +1,4 @@
-use Rattle.std.proofs.Common.{◌≡◌, ◌++◌, take, flat_map, string_bytes}
+use Rattle.bidi_base.proofs.Common.{◌≡◌, ◌++◌, take, flat_map, string_bytes}
 use Rattle.bidi.specs.Pages.{row_element}
 use Rattle.bidi.proofs.page.push_rows.Given as goal
 

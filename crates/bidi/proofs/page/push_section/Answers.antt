@@ -1,4 +1,4 @@
-use Rattle.std.proofs.Common.{◌≡◌, ◌++◌, ℕ, List, append_assoc}
+use Rattle.bidi_base.proofs.Common.{◌≡◌, ◌++◌, ℕ, List, append_assoc}
 use Rattle.bidi.proofs.page.push_section.Goals as goal
 
 -- six texts, each written behind the last

@@ -1,11 +1,5 @@
-use Rattle.std.proofs.Common.{◌≡◌, ◌≤◌, ◌∙◌, ◌++◌, true, List, ℕ, map, get_or, string_bytes, length, ap, arith}
-use Rattle.std.specs.Prelude.{codes}
+use Rattle.bidi_base.proofs.Common.{◌≡◌, ◌≤◌, ◌∙◌, ◌++◌, true, List, ℕ, map, get_or, string_bytes, length, ap, arith, codes, len_utf8, chars, IsAnalysis, run_of, Source}
 use Rattle.std.proofs.lemmas.Result.{on_ok_weaker}
-use Rattle.std.specs.Char.{len_utf8}
-use Rattle.std.specs.Str.{chars}
-use Rattle.bidi_base.specs.Analysed.{IsAnalysis}
-use Rattle.bidi_base.specs.Display.{run_of}
-use Rattle.bidi_base.specs.Source.{Source}
 use Rattle.bidi_terminal.specs.Bases.{level_of_base}
 use Rattle.bidi.specs.Shown.{own_chars}
 use Rattle.bidi.proofs.CharactersLemmas.{if_pushed}

@@ -1,8 +1,4 @@
-use Rattle.std.proofs.Common.{◌≡◌, ◌∙◌, append_assoc, sym, ap, arith}
-use Rattle.std.specs.Char.{len_utf8}
-use Rattle.std.specs.Str.{chars}
-use Rattle.bidi_base.specs.Analysed.{line_levels_per_char}
-use Rattle.bidi_base.specs.Text.{text_len, subrange}
+use Rattle.bidi_base.proofs.Common.{◌≡◌, ◌∙◌, append_assoc, sym, ap, arith, len_utf8, chars, line_levels_per_char, text_len, subrange}
 use Rattle.bidi_base.proofs.PerUnit.{length-per_char}
 use Rattle.bidi_base.proofs.StrLemmas.{has_units, subrange-from_str}
 use Rattle.unicode_bidi.specs.BidiInfo.{text, analysed}

@@ -1,7 +1,4 @@
-use Rattle.std.proofs.Common.{ℕ}
-use Rattle.std.proofs.lemmas.List.{take_more, flat_map_more}
-use Rattle.std.specs.declared.ops.Range.{Range}
-use Rattle.bidi_base.specs.Display.{run_of}
+use Rattle.bidi_base.proofs.Common.{ℕ, take_more, flat_map_more, Range, run_of}
 use Rattle.bidi.specs.Shown.{shown_in}
 use Rattle.unicode_bidi.specs.BidiInfo.{analysed}
 use Rattle.unicode_bidi.specs.ParagraphInfo.{level_of}

@@ -1,5 +1,4 @@
-use Rattle.std.proofs.Common.{◌≡◌, ◌++◌, take, flat_map, string_bytes}
-use Rattle.bidi_base.specs.Display.{run_of}
+use Rattle.bidi_base.proofs.Common.{◌≡◌, ◌++◌, take, flat_map, string_bytes, run_of}
 use Rattle.bidi.specs.Shown.{shown_in}
 use Rattle.unicode_bidi.specs.BidiInfo.{analysed}
 use Rattle.unicode_bidi.specs.ParagraphInfo.{level_of}

@@ -1,4 +1,4 @@
-use Rattle.std.proofs.Common.{arith}
+use Rattle.bidi_base.proofs.Common.{arith}
 use Rattle.bidi.specs.Shown.{shown_text}
 use Rattle.bidi.proofs.paragraphs.show.Goals as goal
 

@@ -1,4 +1,4 @@
-use Rattle.std.proofs.Common.{◌≡◌, ◌++◌, length, flat_map, string_bytes}
+use Rattle.bidi_base.proofs.Common.{◌≡◌, ◌++◌, length, flat_map, string_bytes}
 use Rattle.bidi.specs.Findings.{lines_of}
 use Rattle.bidi.specs.Shown.{own_chars, shown_paragraph, shown_text}
 use Rattle.bidi.proofs.paragraphs.show.Given as goal

@@ -1,4 +1,4 @@
-use Rattle.std.proofs.Common.{arith}
+use Rattle.bidi_base.proofs.Common.{arith}
 use Rattle.bidi.proofs.FindingsLemmas.{report_of-more}
 use Rattle.bidi.proofs.report.report.Goals as goal
 

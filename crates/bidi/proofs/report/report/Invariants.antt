@@ -1,4 +1,4 @@
-use Rattle.std.proofs.Common.{◌≡◌, take, string_bytes}
+use Rattle.bidi_base.proofs.Common.{◌≡◌, take, string_bytes}
 use Rattle.bidi.specs.Findings.{report_of}
 use Rattle.bidi.proofs.report.report.Given as goal
 

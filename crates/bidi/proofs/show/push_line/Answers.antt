@@ -1,5 +1,4 @@
-use Rattle.std.proofs.Common.{List, ℕ}
-use Rattle.bidi_base.specs.Display.{Run, run_of, IsLevelRun}
+use Rattle.bidi_base.proofs.Common.{List, ℕ, Run, run_of, IsLevelRun}
 use Rattle.bidi.specs.Shown.{run_at, shown_line}
 use Rattle.bidi.proofs.ShownLemmas.{All-from_map, flat_map-map}
 use Rattle.bidi.proofs.show.push_line.Goals as goal

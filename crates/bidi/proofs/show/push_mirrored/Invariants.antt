@@ -1,4 +1,4 @@
-use Rattle.std.proofs.Common.{◌≡◌, ◌++◌, take, flat_map, encode_utf8, string_bytes}
+use Rattle.bidi_base.proofs.Common.{◌≡◌, ◌++◌, take, flat_map, encode_utf8, string_bytes}
 use Rattle.bidi.specs.Shown.{mirror}
 use Rattle.bidi.proofs.show.push_mirrored.Given as goal
 

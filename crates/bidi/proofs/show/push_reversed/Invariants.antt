@@ -1,4 +1,4 @@
-use Rattle.std.proofs.Common.{◌≡◌, ◌≤◌, ◌++◌, take, reverse, flat_map, encode_utf8, string_bytes, length}
+use Rattle.bidi_base.proofs.Common.{◌≡◌, ◌≤◌, ◌++◌, take, reverse, flat_map, encode_utf8, string_bytes, length}
 use Rattle.bidi.proofs.show.push_reversed.Given as goal
 
 abbrev pub invariant-loop-end : goal.invariant-loop-end

@@ -1,5 +1,4 @@
-use Rattle.std.proofs.Common.{◌≡◌, ◌++◌, take, flat_map, string_bytes}
-use Rattle.bidi_base.specs.Display.{run_of}
+use Rattle.bidi_base.proofs.Common.{◌≡◌, ◌++◌, take, flat_map, string_bytes, run_of}
 use Rattle.bidi.specs.Shown.{run_at}
 use Rattle.bidi.proofs.show.push_runs.Given as goal
 

@@ -1,4 +1,4 @@
-use Rattle.std.proofs.Common.{append_assoc, arith}
+use Rattle.bidi_base.proofs.Common.{append_assoc, arith}
 use Rattle.std.proofs.lemmas.List.Concat.{flat_map-append}
 use Rattle.bidi.proofs.TurnedLemmas.{turned_step-mark, turned_step-letter}
 use Rattle.bidi.proofs.show.push_turned.Goals as goal

@@ -1,6 +1,4 @@
-use Rattle.std.proofs.Common.{◌≡◌, ◌≤◌, ◌++◌, take, reverse, flat_map, encode_utf8, string_bytes, length}
-use Rattle.std.specs.Prelude.{slice_range}
-use Rattle.bidi_base.specs.Classes.{is_nsm}
+use Rattle.bidi_base.proofs.Common.{◌≡◌, ◌≤◌, ◌++◌, take, reverse, flat_map, encode_utf8, string_bytes, length, slice_range, is_nsm}
 use Rattle.bidi.specs.Shown.{mirror, with_marks, turned}
 use Rattle.bidi.proofs.show.push_turned.Given as goal
 

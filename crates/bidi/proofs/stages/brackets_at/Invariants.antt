@@ -1,5 +1,4 @@
-use Rattle.std.proofs.Common.{◌≡◌, ◌++◌, None, drop}
-use Rattle.bidi_base.specs.Places.{at_places}
+use Rattle.bidi_base.proofs.Common.{◌≡◌, ◌++◌, None, drop, at_places}
 use Rattle.bidi.proofs.stages.brackets_at.Given as goal
 
 abbrev pub invariant-loop-place : goal.invariant-loop-place

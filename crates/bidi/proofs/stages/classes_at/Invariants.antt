@@ -1,6 +1,5 @@
-use Rattle.std.proofs.Common.{◌≡◌, ◌++◌, drop}
+use Rattle.bidi_base.proofs.Common.{◌≡◌, ◌++◌, drop, at_places}
 use Rattle.bidi_base.specs.declared.char_data.BidiClass.TheVariants.{L}
-use Rattle.bidi_base.specs.Places.{at_places}
 use Rattle.bidi.proofs.stages.classes_at.Given as goal
 
 abbrev pub invariant-loop-place : goal.invariant-loop-place

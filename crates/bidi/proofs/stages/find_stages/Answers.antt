@@ -1,7 +1,4 @@
-use Rattle.std.proofs.Common.{◌≡◌, ◌∙◌, false, length, map, ap, arith, rules}
-use Rattle.bidi_base.specs.Analysed.{IsAnalysis}
-use Rattle.bidi_base.specs.Isolates.{paragraph_level}
-use Rattle.bidi_base.specs.Text.{one_unit}
+use Rattle.bidi_base.proofs.Common.{◌≡◌, ◌∙◌, false, length, map, ap, arith, rules, IsAnalysis, paragraph_level, one_unit}
 use Rattle.bidi_base.proofs.LevelLaws.{paragraph_level-few}
 use Rattle.bidi.proofs.ShownLemmas.{alone-classes, alone-levels, alone-level, length-alone_levels}
 use Rattle.bidi.proofs.stages.find_stages.Given.{Over}

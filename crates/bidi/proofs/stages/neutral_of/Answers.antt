@@ -1,4 +1,4 @@
-use Rattle.std.proofs.Common.{arith}
+use Rattle.bidi_base.proofs.Common.{arith}
 use Rattle.bidi_base.proofs.StoredLemmas.{length-at_places}
 use Rattle.bidi.specs.Stages.{neutral_in}
 use Rattle.bidi.proofs.StagesLemmas.{length-weak_in, weak_in-resolved}

@@ -1,5 +1,4 @@
-use Rattle.std.proofs.Common.{◌∙◌, arith}
-use Rattle.std.proofs.lemmas.Grind.{common_steps}
+use Rattle.bidi_base.proofs.Common.{◌∙◌, arith, common_steps}
 use Rattle.bidi.specs.Stages.{row_of}
 use Rattle.bidi.proofs.StagesLemmas.{length-written, written-more}
 use Rattle.bidi.proofs.stages.resolve.Goals as goal

@@ -1,4 +1,4 @@
-use Rattle.std.proofs.Common.{◌≡◌, None, length, zip, take, flat_map, replicate}
+use Rattle.bidi_base.proofs.Common.{◌≡◌, None, length, zip, take, flat_map, replicate}
 use Rattle.bidi.specs.Stages.{written, weak_in, neutral_in}
 use Rattle.bidi.proofs.stages.resolve.Given as goal
 

@@ -1,10 +1,5 @@
-use Rattle.std.proofs.Common.{◌≡◌, ◌∙◌, List, length, map, refl, ap, sym, arith, rules}
-use Rattle.std.proofs.lemmas.List.{length-map}
+use Rattle.bidi_base.proofs.Common.{◌≡◌, ◌∙◌, List, length, map, refl, ap, sym, arith, rules, length-map, explicit_levels, explicit_classes, stored_classes, levels_of_line, sequences}
 use Rattle.bidi_base.specs.declared.char_data.BidiClass.{BidiClass}
-use Rattle.bidi_base.specs.Explicit.{explicit_levels, explicit_classes}
-use Rattle.bidi_base.specs.Isolates.{stored_classes}
-use Rattle.bidi_base.specs.Line.{levels_of_line}
-use Rattle.bidi_base.specs.Sequences.{sequences}
 use Rattle.bidi_base.proofs.ExplicitLemmas.{length-explicit_classes}
 use Rattle.bidi_base.proofs.LayoutLemmas.{own_indexes, visual_places-inverse}
 use Rattle.bidi_base.proofs.StoredSteps.{length-stored_classes}

@@ -1,4 +1,4 @@
-use Rattle.std.proofs.Common.{arith, rules}
+use Rattle.bidi_base.proofs.Common.{arith, rules}
 use Rattle.bidi.specs.Stages.{weak_in}
 use Rattle.bidi.proofs.StagesLemmas.{length-weak_in}
 use Rattle.bidi.proofs.stages.weak_of.Goals as goal

@@ -1,4 +1,4 @@
-use Rattle.std.proofs.Common.{◌≡◌, length, zip, drop}
+use Rattle.bidi_base.proofs.Common.{◌≡◌, length, zip, drop}
 use Rattle.bidi.specs.Stages.{written}
 use Rattle.bidi.proofs.stages.write_row.Given as goal
 

@@ -1,4 +1,4 @@
-use Rattle.std.proofs.Common.{◌≡◌, ◌++◌, drop, map, flat_map, string_bytes}
+use Rattle.bidi_base.proofs.Common.{◌≡◌, ◌++◌, drop, map, flat_map, string_bytes}
 use Rattle.bidi.specs.Tables.{cell_text}
 use Rattle.bidi.proofs.table.push_cells.Given as goal
 

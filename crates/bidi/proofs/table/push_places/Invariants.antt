@@ -1,5 +1,4 @@
-use Rattle.std.proofs.Common.{◌≡◌, ◌++◌, decimal, take, flat_map, string_bytes}
-use Rattle.std.specs.Prelude.{codes}
+use Rattle.bidi_base.proofs.Common.{◌≡◌, ◌++◌, decimal, take, flat_map, string_bytes, codes}
 use Rattle.bidi.proofs.table.push_places.Given as goal
 
 abbrev pub invariant-loop-place : goal.invariant-loop-place

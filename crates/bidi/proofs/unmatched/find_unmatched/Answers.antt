@@ -1,9 +1,6 @@
-use Rattle.std.proofs.Common.{◌≡◌, ℕ, ◌<◌, length, get_or, map, sym, ap, ◌∙◌, arith, List}
-use Rattle.std.proofs.lemmas.List.{length-map, get_or-map}
+use Rattle.bidi_base.proofs.Common.{◌≡◌, ℕ, ◌<◌, length, get_or, map, sym, ap, ◌∙◌, arith, List, length-map, get_or-map, class_at, range_with_len}
 use Rattle.bidi_base.specs.declared.char_data.BidiClass.{BidiClass}
 use Rattle.bidi_base.specs.declared.char_data.BidiClass.TheVariants.{L}
-use Rattle.bidi_base.specs.Places.{class_at}
-use Rattle.std.specs.List.{range_with_len}
 use Rattle.bidi.specs.Matches.{is_unmatched}
 use Rattle.bidi.proofs.UnmatchedPass.{IsReadSoFar-start, IsReadSoFar-room, IsReadSoFar-more, IsReadSoFar-end}
 use Rattle.bidi.proofs.unmatched.find_unmatched.Goals as goal

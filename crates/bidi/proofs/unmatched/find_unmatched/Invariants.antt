@@ -1,4 +1,4 @@
-use Rattle.std.proofs.Common.{map}
+use Rattle.bidi_base.proofs.Common.{map}
 use Rattle.bidi.proofs.UnmatchedPass.{IsReadSoFar}
 use Rattle.bidi.proofs.unmatched.find_unmatched.Given as goal
 

@@ -1,7 +1,4 @@
-use Rattle.std.proofs.Common.{◌≡◌, [], refl, sym, ◌∙◌, arith}
-use Rattle.std.proofs.lemmas.List.{nil_from_length}
-use Rattle.bidi_base.specs.Brackets.{counted_brackets, bracket_pairs}
-use Rattle.bidi_base.specs.FoundBrackets.{found_brackets}
+use Rattle.bidi_base.proofs.Common.{◌≡◌, [], refl, sym, ◌∙◌, arith, nil_from_length, counted_brackets, bracket_pairs, found_brackets}
 use Rattle.bidi_base.proofs.BracketSearch.{IsAt-start, IsAt-end}
 use Rattle.bidi_base.proofs.brackets.find_pairs.Goals as goal
 

@@ -1,13 +1,8 @@
 -- What a bracket does to a search that is under way.
-use Rattle.std.proofs.Common.{◌≡◌, ◌<◌, ◌==◌, Bool, List, Result, length, get_or, None, sym, subst, ◌∙◌, arith}
-use Rattle.std.proofs.lemmas.Grind.{common_steps}
-use Rattle.std.specs.List.{slice_get}
+use Rattle.bidi_base.proofs.Common.{◌≡◌, ◌==◌, Bool, List, Result, get_or, None, sym, subst, ◌∙◌, arith, common_steps, get_or_default, Waiting, find_last}
 use Rattle.std.specs.Result.{IfOk}
 use Rattle.std.specs.declared.alloc.AllocError.{AllocError}
-use Rattle.std.proofs.lemmas.List.{get_or_default}
 use Rattle.std.proofs.lemmas.Bool.{ltb-true, ltb-false}
-use Rattle.bidi_base.specs.declared.brackets.Waiting.{Waiting}
-use Rattle.bidi_base.specs.Places.{find_last}
 use Rattle.bidi_base.proofs.BracketSearch.{IsAt-opening, IsAt-unmatched, IsAt-pair, IsAt-full}
 use Rattle.bidi_base.proofs.brackets.read.Goals as goal
 
@@ -21,37 +16,25 @@ returns-then-bracket-clause-within c = grind (arith, common_steps)
 pub returns-then-bracket-clause-goes_on : goal.returns-then-bracket-clause-goes_on
 returns-then-bracket-clause-goes_on c =
     let o = c.open.ensures in
-    let slots = c.args.pairs.now.items in
-    let waiting = c.args.waiting.now.items in
-    let bracket = c.args.bracket.now in
-    if_answered c.open.result _ _ _ _ _ o.room o.waiting o.pairs o.full
-    (λ more room opened paired full yes' counted rest at.
-    rw (paired yes', opened yes') (IsAt-opening counted slots waiting bracket rest at c.if-bracket.true (ltb-true (length waiting) 63 (sym room ∙ yes'))))
+    if_answered c.open.result _ _ _ _ _ o.room o.waiting o.pairs o.full (λ more room opened paired full yes' counted rest at.
+    rw (paired yes', opened yes') (IsAt-opening counted _ _ c.args.bracket.now rest at c.if-bracket.true (ltb-true _ 63 (sym room ∙ yes'))))
 
 pub returns-then-bracket-clause-ended : goal.returns-then-bracket-clause-ended
 returns-then-bracket-clause-ended c =
     let o = c.open.ensures in
-    let slots = c.args.pairs.now.items in
-    let waiting = c.args.waiting.now.items in
-    let bracket = c.args.bracket.now in
-    if_answered c.open.result _ _ _ _ _ o.room o.waiting o.pairs o.full
-    (λ more room opened paired full no' counted rest at.
-    rw (full no').1 (IsAt-full counted slots waiting bracket rest at c.if-bracket.true (ltb-false (length waiting) 63 (sym room ∙ no'))))
+    if_answered c.open.result _ _ _ _ _ o.room o.waiting o.pairs o.full (λ more room opened paired full no' counted rest at.
+    rw (full no').1 (IsAt-full counted _ _ c.args.bracket.now rest at c.if-bracket.true (ltb-false _ 63 (sym room ∙ no'))))
 
 pub returns-in-Some-clause-within : goal.returns-in-Some-clause-within
 returns-in-Some-clause-within c = grind (arith, common_steps)
 
 pub returns-in-Some-clause-goes_on : goal.returns-in-Some-clause-goes_on
 returns-in-Some-clause-goes_on c = λ _ counted rest h.
-    let slots = c.args.pairs.now.items in
-    let waiting = c.args.waiting.now.items in
-    let bracket = c.args.bracket.now in
     let k = c.in-Some.entry in
-    let first : Waiting = record { opening = 0; pair = 0 } in
-    let e = get_or c.as_slice-in-Some.result.now k first in
-    let hit = subst (λ (ws : List Waiting). (k < length ws) × (find_last (λ (x : Waiting). x.opening == bracket.opening) ws ≡ slice_get ws k)) c.as_slice.ensures.value c.in-Some.ensures.found in
-    let at : get_or waiting k e ≡ e = grind (arith, get_or_default) in
-    rw c.truncate.ensures.items (IsAt-pair counted slots waiting bracket rest k e c.index_mut.result.now h c.if-bracket.false hit.0 hit.1 at c.index_mut.ensures.value)
+    let e = get_or c.as_slice-in-Some.result.now k (record { opening = 0; pair = 0 }) in
+    let hit = rw c.as_slice.ensures.value at c.in-Some.ensures.found in
+    rw c.truncate.ensures.items (IsAt-pair counted c.args.pairs.now.items c.args.waiting.now.items c.args.bracket.now rest k e c.index_mut.result.now h
+    c.if-bracket.false hit.0 hit.1 (grind (arith, get_or_default)) c.index_mut.ensures.value)
 
 pub returns-in_default-clause-goes_on : goal.returns-in_default-clause-goes_on
 returns-in_default-clause-goes_on c = λ _ counted rest h.

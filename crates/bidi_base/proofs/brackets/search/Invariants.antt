@@ -1,7 +1,4 @@
-use Rattle.std.proofs.Common.{◌≡◌, length, drop, List, Option}
-use Rattle.bidi_base.specs.declared.data_source.BidiMatchedOpeningBracket.{BidiMatchedOpeningBracket}
-use Rattle.bidi_base.specs.FoundBrackets.{brackets_from}
-use Rattle.bidi_base.specs.PairSearch.{AreWithin, IsAt}
+use Rattle.bidi_base.proofs.Common.{◌≡◌, length, drop, List, Option, BidiMatchedOpeningBracket, brackets_from, AreWithin, IsAt}
 use Rattle.bidi_base.proofs.brackets.search.Given as goal
 
 abbrev pub invariant-loop-bracket : goal.invariant-loop-bracket

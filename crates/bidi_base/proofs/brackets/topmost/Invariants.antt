@@ -1,6 +1,4 @@
-use Rattle.std.proofs.Common.{◌≡◌, ◌==◌, take}
-use Rattle.bidi_base.specs.Places.{find_last}
-use Rattle.bidi_base.specs.declared.brackets.Waiting.{Waiting}
+use Rattle.bidi_base.proofs.Common.{◌≡◌, ◌==◌, take, find_last, Waiting}
 use Rattle.bidi_base.proofs.brackets.topmost.Given as goal
 
 -- the entries above were looked at

@@ -1,5 +1,4 @@
-use Rattle.std.proofs.Common.{◌≡◌, ℕ, ◌<◌, ◌≤◌, ◌%◌, get_or, length, false, None}
-use Rattle.bidi_base.specs.Source.{is_member}
+use Rattle.bidi_base.proofs.Common.{◌≡◌, ℕ, ◌<◌, ◌≤◌, ◌%◌, get_or, length, false, None, is_member}
 use Rattle.bidi_base.proofs.data_source.bracket_starts.Given as goal
 
 -- of the triples from `i` on, none below a start has a member with that byte

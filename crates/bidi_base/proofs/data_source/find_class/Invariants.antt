@@ -1,5 +1,4 @@
-use Rattle.std.proofs.Common.{ℕ, ◌-◌, ◌<◌, ◌≤◌, length}
-use Rattle.bidi_base.specs.Source.{range_at}
+use Rattle.bidi_base.proofs.Common.{ℕ, ◌-◌, ◌<◌, ◌≤◌, length, range_at}
 use Rattle.bidi_base.proofs.data_source.find_class.Given as goal
 
 -- every range below `low` ends before the character, and every one from `high` on begins after it

@@ -1,4 +1,4 @@
-use Rattle.std.proofs.Common.{sym, arith}
+use Rattle.bidi_base.proofs.Common.{sym, arith}
 use Rattle.bidi_base.proofs.TableLemmas.{table_fault-first, table_fault-none}
 use Rattle.bidi_base.proofs.data_source.first_fault.Goals as goal
 

@@ -1,5 +1,4 @@
-use Rattle.std.proofs.Common.{◌≡◌, ℕ, ◌<◌, None}
-use Rattle.bidi_base.specs.Source.{fault_at}
+use Rattle.bidi_base.proofs.Common.{◌≡◌, ℕ, ◌<◌, None, fault_at}
 use Rattle.bidi_base.proofs.data_source.first_fault.Given as goal
 
 abbrev pub invariant-loop-i : goal.invariant-loop-i

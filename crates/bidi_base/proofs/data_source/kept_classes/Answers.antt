@@ -1,8 +1,4 @@
-use Rattle.std.proofs.Common.{◌≡◌, ℕ, ◌-◌, List, length, drop, arith, sym, ap, ◌∙◌}
-use Rattle.std.proofs.lemmas.List.{get_or-replicate, at_drop_all}
-use Rattle.bidi_base.specs.declared.char_data.BidiClass.{BidiClass}
-use Rattle.bidi_base.specs.declared.char_data.BidiClass.TheVariants.{L}
-use Rattle.bidi_base.specs.Source.{table_class}
+use Rattle.bidi_base.proofs.Common.{◌≡◌, ℕ, ◌-◌, List, length, drop, arith, sym, ap, ◌∙◌, get_or-replicate, at_drop_all, BidiClass, L, table_class}
 use Rattle.bidi_base.proofs.TableLemmas.{kept-filled}
 use Rattle.bidi_base.proofs.data_source.kept_classes.Goals as goal
 

@@ -1,6 +1,4 @@
-use Rattle.std.proofs.Common.{◌≡◌, ℕ, ◌<◌, get_or, drop}
-use Rattle.bidi_base.specs.declared.char_data.BidiClass.TheVariants.{L}
-use Rattle.bidi_base.specs.Source.{table_class}
+use Rattle.bidi_base.proofs.Common.{◌≡◌, ℕ, ◌<◌, get_or, drop, L, table_class}
 use Rattle.bidi_base.proofs.data_source.kept_classes.Given as goal
 
 -- the classes by the ranges from `i` on

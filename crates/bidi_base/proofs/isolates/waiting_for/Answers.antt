@@ -1,4 +1,4 @@
-use Rattle.std.proofs.Common.{arith}
+use Rattle.bidi_base.proofs.Common.{arith}
 use Rattle.bidi_base.proofs.PlacesLemmas.{last_or-slice_get}
 use Rattle.bidi_base.proofs.isolates.waiting_for.Goals as goal
 

@@ -1,5 +1,4 @@
-use Rattle.std.proofs.Common.{arith}
-use Rattle.std.proofs.lemmas.Grind.{common_steps}
+use Rattle.bidi_base.proofs.Common.{arith, common_steps}
 use Rattle.bidi_base.proofs.LevelsLemmas.{either_odd}
 use Rattle.bidi_base.proofs.level.has_rtl.Goals as goal
 

@@ -1,6 +1,4 @@
-use Rattle.std.proofs.Common.{◌≡◌, ◌%◌, ◌==◌, take}
-use Rattle.std.specs.List.{list_any}
-use Rattle.bidi_base.specs.Levels.{is_odd}
+use Rattle.bidi_base.proofs.Common.{◌≡◌, ◌%◌, ◌==◌, take, list_any, is_odd}
 use Rattle.bidi_base.proofs.level.has_rtl.Given as goal
 
 -- the numbers so far have an odd one exactly if their bits joined are odd

@@ -1,11 +1,5 @@
-use Rattle.std.proofs.Common.{◌≡◌, ℕ, ◌<◌, ◌+◌, List, length, get_or, drop, reverse, None, unwrap_or, Option, sym, ap, ◌∙◌, arith}
-use Rattle.std.proofs.lemmas.Grind.{common_steps}
+use Rattle.bidi_base.proofs.Common.{◌≡◌, ℕ, ◌<◌, ◌+◌, List, length, get_or, drop, reverse, None, unwrap_or, Option, sym, ap, ◌∙◌, arith, common_steps, YieldsList-turn, YieldsList-end, at_drop_all, length_push, BidiClass, as_direction, nearest_direction}
 use Rattle.std.proofs.lemmas.Iterator.Adapters.{YieldsList-from_rev_slice}
-use Rattle.std.proofs.lemmas.Iterator.Consumers.{YieldsList-turn, YieldsList-end}
-use Rattle.std.proofs.lemmas.List.{at_drop_all, length_push}
-use Rattle.bidi_base.specs.declared.char_data.BidiClass.{BidiClass}
-use Rattle.bidi_base.specs.Classes.{as_direction}
-use Rattle.bidi_base.specs.Neutral.{nearest_direction}
 use Rattle.bidi_base.proofs.neutrals.nearest_direction.Goals as goal
 
 -- what the next class says

@@ -1,5 +1,4 @@
-use Rattle.std.proofs.Common.{◌≡◌, length, drop, reverse}
-use Rattle.bidi_base.specs.Neutral.{nearest_direction}
+use Rattle.bidi_base.proofs.Common.{◌≡◌, length, drop, reverse, nearest_direction}
 use Rattle.bidi_base.proofs.neutrals.nearest_direction.Given as goal
 
 -- what is left has the same nearest direction

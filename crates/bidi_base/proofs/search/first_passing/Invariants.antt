@@ -1,6 +1,5 @@
 -- What came does not pass.
-use Rattle.std.proofs.Common.{◌-◌, ◌≡◌, ℕ, ◌<◌, ◌≤◌, false}
-use Rattle.bidi_base.specs.Places.{class_at}
+use Rattle.bidi_base.proofs.Common.{◌-◌, ◌≡◌, ℕ, ◌<◌, ◌≤◌, false, class_at}
 use Rattle.bidi_base.proofs.search.first_passing.Given as goal
 
 abbrev pub invariant-loop-at : goal.invariant-loop-at

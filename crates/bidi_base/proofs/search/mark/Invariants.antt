@@ -1,5 +1,4 @@
-use Rattle.std.proofs.Common.{◌≡◌, ℕ, ◌<◌, slice_index, if◌then◌else◌}
-use Rattle.bidi_base.specs.Places.{class_at}
+use Rattle.bidi_base.proofs.Common.{◌≡◌, ℕ, ◌<◌, slice_index, if◌then◌else◌, class_at}
 use Rattle.bidi_base.proofs.search.mark.Given as goal
 
 abbrev pub invariant-loop-i : goal.invariant-loop-i

@@ -1,4 +1,4 @@
-use Rattle.std.proofs.Common.{arith}
+use Rattle.bidi_base.proofs.Common.{arith}
 use Rattle.bidi_base.proofs.text.all_equal.Goals as goal
 
 pub returns-in-len1-up : goal.returns-in-len1-up

@@ -1,5 +1,4 @@
-use Rattle.std.proofs.Common.{◌≡◌, length, drop}
-use Rattle.bidi_base.specs.Text.{is_per_char}
+use Rattle.bidi_base.proofs.Common.{◌≡◌, length, drop, is_per_char}
 use Rattle.bidi_base.proofs.text.is_per_char.Given as goal
 
 abbrev pub invariant-loop-c : goal.invariant-loop-c

@@ -1,4 +1,4 @@
-use Rattle.std.proofs.Common.{◌∙◌, length, ap, rules, arith}
+use Rattle.bidi_base.proofs.Common.{◌∙◌, length, ap, rules, arith}
 use Rattle.unicode_bidi.specs.Engine.{with_analysis, paragraphs}
 use Rattle.bidi_c.specs.Numbers.{base_of, split_of}
 use Rattle.bidi_c.proofs.FoundText.{rows-found, count-found, length-classes, length-levels, fit-both, length-front}

@@ -1,5 +1,4 @@
-use Rattle.std.proofs.Common.{◌≡◌, map, take}
-use Rattle.bidi_base.specs.Classes.{class_number}
+use Rattle.bidi_base.proofs.Common.{◌≡◌, map, take, class_number}
 use Rattle.bidi_c.proofs.checked.write_classes.Given as goal
 
 -- the numbers so far

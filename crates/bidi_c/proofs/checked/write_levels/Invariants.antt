@@ -1,4 +1,4 @@
-use Rattle.std.proofs.Common.{◌≡◌, take}
+use Rattle.bidi_base.proofs.Common.{◌≡◌, take}
 use Rattle.bidi_c.proofs.checked.write_levels.Given as goal
 
 -- the numbers so far

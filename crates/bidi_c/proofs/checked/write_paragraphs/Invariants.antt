@@ -1,4 +1,4 @@
-use Rattle.std.proofs.Common.{◌≡◌, map, take}
+use Rattle.bidi_base.proofs.Common.{◌≡◌, map, take}
 use Rattle.bidi_c.specs.Rows.{paragraph_row}
 use Rattle.unicode_bidi.specs.ParagraphInfo.{range_of, level_of}
 use Rattle.bidi_c.proofs.checked.write_paragraphs.Given as goal

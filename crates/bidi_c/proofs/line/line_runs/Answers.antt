@@ -1,4 +1,4 @@
-use Rattle.std.proofs.Common.{arith}
+use Rattle.bidi_base.proofs.Common.{arith}
 use Rattle.unicode_bidi.proofs.TextOfLine.{runs_begin}
 use Rattle.bidi_c.proofs.line.line_runs.Goals as goal
 

@@ -1,4 +1,4 @@
-use Rattle.std.proofs.Common.{arith}
+use Rattle.bidi_base.proofs.Common.{arith}
 use Rattle.bidi_c.proofs.FoundText.{length-front}
 use Rattle.bidi_c.proofs.KeptLines.{length-visual_order}
 use Rattle.bidi_c.proofs.line.visual_order.Goals as goal

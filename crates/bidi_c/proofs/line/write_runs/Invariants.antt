@@ -1,5 +1,4 @@
-use Rattle.std.proofs.Common.{◌≡◌, map, take}
-use Rattle.bidi_base.specs.Display.{run_of}
+use Rattle.bidi_base.proofs.Common.{◌≡◌, map, take, run_of}
 use Rattle.bidi_c.specs.Rows.{run_row}
 use Rattle.bidi_c.proofs.line.write_runs.Given as goal
 

@@ -1,5 +1,4 @@
-use Rattle.std.proofs.Common.{◌≡◌, nat_lt, take}
-use Rattle.std.specs.List.{list_all}
+use Rattle.bidi_base.proofs.Common.{◌≡◌, nat_lt, take, list_all}
 use Rattle.bidi_c.proofs.numbers.all_below.Given as goal
 
 -- the numbers read so far

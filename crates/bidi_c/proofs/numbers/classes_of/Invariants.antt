@@ -1,4 +1,4 @@
-use Rattle.std.proofs.Common.{◌≡◌, map, take}
+use Rattle.bidi_base.proofs.Common.{◌≡◌, map, take}
 use Rattle.bidi_c.specs.Numbers.{class_numbered}
 use Rattle.bidi_c.proofs.numbers.classes_of.Given as goal
 

@@ -1,4 +1,4 @@
-use Rattle.std.proofs.Common.{◌≡◌, map, take}
+use Rattle.bidi_base.proofs.Common.{◌≡◌, map, take}
 use Rattle.bidi_c.specs.Tables.{range_of}
 use Rattle.bidi_c.proofs.tables.ranges_of.Given as goal
 

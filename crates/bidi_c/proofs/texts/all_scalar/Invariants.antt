@@ -1,5 +1,4 @@
-use Rattle.std.proofs.Common.{◌≡◌, take}
-use Rattle.std.specs.List.{list_all}
+use Rattle.bidi_base.proofs.Common.{◌≡◌, take, list_all}
 use Rattle.bidi_c.specs.Texts.{is_scalar}
 use Rattle.bidi_c.proofs.texts.all_scalar.Given as goal
 

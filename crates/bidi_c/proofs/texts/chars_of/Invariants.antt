@@ -1,4 +1,4 @@
-use Rattle.std.proofs.Common.{◌≡◌, take}
+use Rattle.bidi_base.proofs.Common.{◌≡◌, take}
 use Rattle.bidi_c.proofs.texts.chars_of.Given as goal
 
 -- the characters so far

@@ -1,4 +1,4 @@
-use Rattle.std.proofs.Common.{rules}
+use Rattle.bidi_base.proofs.Common.{rules}
 use Rattle.bidi_base.proofs.Utf16Lemmas.{text_len-utf16}
 use Rattle.bidi_c.proofs.utf16.analyse.Goals as goal
 

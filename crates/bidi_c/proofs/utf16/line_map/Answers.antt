@@ -1,5 +1,4 @@
-use Rattle.std.proofs.Common.{arith}
-use Rattle.std.proofs.lemmas.Grind.{common_steps}
+use Rattle.bidi_base.proofs.Common.{arith, common_steps}
 use Rattle.bidi_base.proofs.Utf16Lemmas.{text_len-utf16}
 use Rattle.bidi_c.proofs.utf16.line_map.Goals as goal
 

@@ -1,4 +1,4 @@
-use Rattle.std.proofs.Common.{arith}
+use Rattle.bidi_base.proofs.Common.{arith}
 use Rattle.bidi_base.proofs.PlaceLemmas.{text_len-one_unit}
 use Rattle.bidi_c.proofs.utf32.analyse.Goals as goal
 

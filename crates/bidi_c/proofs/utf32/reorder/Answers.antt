@@ -1,14 +1,13 @@
-use Rattle.std.proofs.Common.{arith}
+use Rattle.bidi_base.proofs.Common.{arith, length-map}
 use Rattle.bidi_lines.proofs.VisualRuns.{order_below}
 use Rattle.bidi_c.proofs.FoundText.{length-front}
-use Rattle.bidi_c.proofs.KeptLines.{chars-own, length-visual_order, length-reordered_chars}
+use Rattle.bidi_c.proofs.KeptLines.{length-visual_order}
+use Rattle.bidi_c.specs.Shown.{reordered_chars}
 use Rattle.bidi_c.proofs.utf32.reorder.Goals as goal
 
-pub write_chars-requires-clause-same_len : goal.write_chars-requires-clause-same_len
-write_chars-requires-clause-same_len c = grind (arith, length-front, length-visual_order)
-
-pub write_chars-requires-clause-within : goal.write_chars-requires-clause-within
-write_chars-requires-clause-within c = grind (arith, order_below)
+pub write_chars-requires : goal.write_chars-requires
+write_chars-requires c = grind (arith, length-front, length-visual_order, order_below)
 
 pub returns-clause-text : goal.returns-clause-text
-returns-clause-text c = grind (arith, chars-own, length-reordered_chars)
+unfolding reordered_chars
+returns-clause-text c = grind (arith, length-map, length-visual_order)

@@ -1,4 +1,4 @@
-use Rattle.std.proofs.Common.{◌≡◌, map, take, get_or}
+use Rattle.bidi_base.proofs.Common.{◌≡◌, map, take, get_or}
 use Rattle.bidi_c.proofs.utf32.write_chars.Given as goal
 
 -- the characters so far

@@ -1,4 +1,4 @@
-use Rattle.std.proofs.Common.{rules}
+use Rattle.bidi_base.proofs.Common.{rules}
 use Rattle.bidi_base.proofs.StrLemmas.{text_len-chars}
 use Rattle.bidi_c.proofs.utf8.analyse.Goals as goal
 

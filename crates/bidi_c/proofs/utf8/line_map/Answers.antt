@@ -1,4 +1,4 @@
-use Rattle.std.proofs.Common.{arith}
+use Rattle.bidi_base.proofs.Common.{arith}
 use Rattle.bidi_base.proofs.StrLemmas.{text_len-chars}
 use Rattle.bidi_c.proofs.utf8.line_map.Goals as goal
 

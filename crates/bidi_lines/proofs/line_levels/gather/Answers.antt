@@ -1,6 +1,4 @@
-use Rattle.std.proofs.Common.{◌≡◌, ◌∙◌, ℕ, ◌<◌, List, length, get_or, ap, sym, arith, rules}
-use Rattle.std.proofs.lemmas.List.{get_or_default, length_push}
-use Rattle.bidi_base.specs.Text.{place}
+use Rattle.bidi_base.proofs.Common.{◌≡◌, ◌∙◌, ℕ, ◌<◌, List, length, get_or, ap, sym, arith, rules, get_or_default, length_push, place}
 use Rattle.bidi_base.proofs.TextLemmas.{length-le-text_len}
 use Rattle.bidi_base.proofs.PlaceLemmas.{length_turn, length_end}
 use Rattle.bidi_lines.proofs.Gathered.{IsGathered-more, IsGathered-end}

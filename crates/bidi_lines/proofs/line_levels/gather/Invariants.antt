@@ -1,4 +1,4 @@
-use Rattle.std.proofs.Common.{◌≡◌, length}
+use Rattle.bidi_base.proofs.Common.{◌≡◌, length}
 use Rattle.bidi_lines.proofs.Gathered.{IsGathered}
 use Rattle.bidi_lines.proofs.line_levels.gather.Given as goal
 

@@ -1,4 +1,4 @@
-use Rattle.std.proofs.Common.{arith}
+use Rattle.bidi_base.proofs.Common.{arith}
 use Rattle.bidi_lines.proofs.LineInText.{length-levels_with_line}
 use Rattle.bidi_lines.proofs.line_levels.levels_per_char.Goals as goal
 

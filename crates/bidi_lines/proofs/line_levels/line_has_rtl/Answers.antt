@@ -1,5 +1,4 @@
-use Rattle.std.proofs.Common.{◌≡◌, ◌<◌, ◌-◌, ◌+◌, length, sym, subst, ◌∙◌, arith, ℕ}
-use Rattle.std.proofs.lemmas.List.{get_or_default}
+use Rattle.bidi_base.proofs.Common.{◌≡◌, ◌<◌, ◌-◌, ◌+◌, length, sym, subst, ◌∙◌, arith, ℕ, get_or_default}
 use Rattle.bidi_lines.proofs.LineLevels.{IsQuietFrom, IsQuietFrom-start, IsQuietFrom-more, read-at, has_rtl-shown, has_rtl-even, has_rtl-end}
 use Rattle.bidi_lines.proofs.line_levels.line_has_rtl.Goals as goal
 

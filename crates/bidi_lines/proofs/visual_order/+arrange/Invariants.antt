@@ -1,4 +1,4 @@
-use Rattle.std.proofs.Common.{length, ◌-◌}
+use Rattle.bidi_base.proofs.Common.{length, ◌-◌}
 use Rattle.bidi_lines.proofs.Stretches.{IsArrangedTo}
 use Rattle.bidi_lines.proofs.visual_order.+arrange.Given as goal
 

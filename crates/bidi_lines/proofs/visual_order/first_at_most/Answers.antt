@@ -1,7 +1,6 @@
-use Rattle.std.proofs.Common.{ℕ, nat_le, Bool, arith, w8}
+use Rattle.bidi_base.proofs.Common.{ℕ, nat_le, Bool, arith, w8, bitmask_splat}
 use Rattle.std.proofs.lemmas.Bool.{leb-true}
 use borrow.Author.Tests.{leb-false}
-use Rattle.std.proofs.lemmas.Simd.{bitmask_splat}
 use Rattle.bidi_lines.proofs.Lanes.{counted_lanes, lanes_long}
 use Rattle.bidi_lines.proofs.visual_order.first_at_most.Goals as goal
 

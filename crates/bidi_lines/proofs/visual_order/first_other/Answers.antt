@@ -1,5 +1,4 @@
-use Rattle.std.proofs.Common.{◌≡◌, ℕ, ◌≢◌, eqb, not, true, false, Bool, arith, w8}
-use Rattle.std.proofs.lemmas.Simd.{bitmask_splat}
+use Rattle.bidi_base.proofs.Common.{◌≡◌, ℕ, ◌≢◌, eqb, not, true, false, Bool, arith, w8, bitmask_splat}
 use Rattle.bidi_lines.proofs.Lanes.{counted_lanes, lanes_long}
 use Rattle.bidi_lines.proofs.visual_order.first_other.Goals as goal
 

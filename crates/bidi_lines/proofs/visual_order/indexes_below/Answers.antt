@@ -1,4 +1,4 @@
-use Rattle.std.proofs.Common.{refl, arith}
+use Rattle.bidi_base.proofs.Common.{refl, arith}
 use Rattle.std.proofs.lemmas.Iterator.{YieldsList-from_range, items_from_collect}
 use Rattle.bidi_lines.proofs.visual_order.indexes_below.Goals as goal
 

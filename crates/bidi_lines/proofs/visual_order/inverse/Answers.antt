@@ -1,7 +1,5 @@
-use Rattle.std.proofs.Common.{◌<◌, ℕ, length, get_or, arith, below_more, get_or-set_other, get_or-set_same}
-use Rattle.std.proofs.lemmas.List.{length-set}
-use Rattle.std.proofs.lemmas.List.Sorted.{All-permutation}
-use Rattle.bidi_base.specs.Places.{indexes}
+use Rattle.bidi_base.proofs.Common.{◌<◌, ℕ, length, get_or, arith, get_or-set_other, get_or-set_same, length-set, All-permutation, indexes}
+use Rattle.std.proofs.Common.{below_more}
 use Rattle.bidi_base.proofs.LayoutLemmas.{AreInverse-from_back}
 use Rattle.bidi_base.proofs.VisualOrderLemmas.{all_below}
 use Rattle.bidi_lines.proofs.Distinct.{distinct}
@@ -22,5 +20,4 @@ loop-place-preserved c =
     )
 
 pub returns : goal.returns
-returns c =
-    AreInverse-from_back c.args.order.now c.loop-place.places.items c.requires c.loop-place.invariant.0 (λ k within. c.loop-place.invariant.1 k (omega arith))
+returns c = grind (arith, AreInverse-from_back c.args.order.now c.loop-place.places.items)

@@ -1,4 +1,4 @@
-use Rattle.std.proofs.Common.{◌≡◌, ℕ, ◌<◌, length, get_or}
+use Rattle.bidi_base.proofs.Common.{◌≡◌, ℕ, ◌<◌, length, get_or}
 use Rattle.bidi_lines.proofs.visual_order.inverse.Given as goal
 
 abbrev pub invariant-loop-place : goal.invariant-loop-place

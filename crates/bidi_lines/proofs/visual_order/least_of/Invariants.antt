@@ -1,4 +1,4 @@
-use Rattle.std.proofs.Common.{ℕ, ◌<◌, ◌≤◌, slice_index}
+use Rattle.bidi_base.proofs.Common.{ℕ, ◌<◌, ◌≤◌, slice_index}
 use Rattle.bidi_lines.proofs.visual_order.least_of.Given as goal
 
 abbrev pub invariant-loop-i : goal.invariant-loop-i

@@ -1,4 +1,4 @@
-use Rattle.std.proofs.Common.{◌-◌, ℕ, ◌<◌, ◌≤◌, length, slice_index}
+use Rattle.bidi_base.proofs.Common.{◌-◌, ℕ, ◌<◌, ◌≤◌, length, slice_index}
 use Rattle.bidi_lines.proofs.visual_order.stretch_end.Given as goal
 
 abbrev pub invariant-loop-at : goal.invariant-loop-at

@@ -1,5 +1,4 @@
-use Rattle.std.proofs.Common.{◌≡◌, map, take}
-use Rattle.bidi_base.specs.Display.{run_of, run_level}
+use Rattle.bidi_base.proofs.Common.{◌≡◌, map, take, run_of, run_level}
 use Rattle.bidi_lines.proofs.visual_runs.levels_of_runs.Given as goal
 
 abbrev pub invariant-loop-run : goal.invariant-loop-run

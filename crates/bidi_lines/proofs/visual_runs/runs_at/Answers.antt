@@ -1,4 +1,4 @@
-use Rattle.std.proofs.Common.{arith}
+use Rattle.bidi_base.proofs.Common.{arith}
 use Rattle.bidi_lines.proofs.FoundRuns.{pushed-more}
 use Rattle.bidi_lines.proofs.visual_runs.runs_at.Goals as goal
 

@@ -1,6 +1,4 @@
-use Rattle.std.proofs.Common.{◌≡◌, map, take}
-use Rattle.bidi_base.specs.Display.{run_of}
-use Rattle.bidi_base.specs.Places.{at_places}
+use Rattle.bidi_base.proofs.Common.{◌≡◌, map, take, run_of, at_places}
 use Rattle.bidi_lines.proofs.visual_runs.runs_at.Given as goal
 
 abbrev pub invariant-loop-k : goal.invariant-loop-k

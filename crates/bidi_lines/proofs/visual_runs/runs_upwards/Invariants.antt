@@ -1,5 +1,4 @@
-use Rattle.std.proofs.Common.{◌≡◌, ◌+◌, ◌-◌, ◌≤◌, map, ◌++◌, drop, length}
-use Rattle.bidi_base.specs.Display.{run_of, level_runs}
+use Rattle.bidi_base.proofs.Common.{◌≡◌, ◌+◌, ◌-◌, ◌≤◌, map, ◌++◌, drop, length, run_of, level_runs}
 use Rattle.bidi_lines.proofs.visual_runs.runs_upwards.Given as goal
 
 abbrev pub invariant-loop-at : goal.invariant-loop-at

@@ -1,5 +1,4 @@
-use Rattle.std.proofs.Common.{arith}
-use Rattle.std.proofs.lemmas.List.{take_more_set}
+use Rattle.bidi_base.proofs.Common.{arith, take_more_set}
 use Rattle.bidi_base.proofs.ChainLemmas.{range_with_len-append}
 use Rattle.bidi_lines.proofs.visual_runs.write_indexes.Goals as goal
 

@@ -1,5 +1,4 @@
-use Rattle.std.proofs.Common.{◌≡◌, take}
-use Rattle.std.specs.List.{range_with_len}
+use Rattle.bidi_base.proofs.Common.{◌≡◌, take, range_with_len}
 use Rattle.bidi_lines.proofs.visual_runs.write_indexes.Given as goal
 
 -- the indexes so far

@@ -1,5 +1,4 @@
-use Rattle.std.proofs.Common.{◌≡◌, map, take}
-use Rattle.bidi_base.specs.Display.{run_of, run_level}
+use Rattle.bidi_base.proofs.Common.{◌≡◌, map, take, run_of, run_level}
 use Rattle.bidi_lines.proofs.visual_runs.write_levels.Given as goal
 
 -- the levels so far

@@ -1,4 +1,4 @@
-use Rattle.std.proofs.Common.{[]}
+use Rattle.bidi_base.proofs.Common.{[]}
 use Rattle.bidi_neutral_vectors.proofs.neutrals.pairs_one_by_one.Goals as goal
 
 pub read-requires-2 : goal.read-requires-2

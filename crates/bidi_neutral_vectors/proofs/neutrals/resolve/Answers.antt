@@ -1,6 +1,5 @@
 -- The classes that a sequence's characters have are among those of all units.
-use Rattle.std.proofs.Common.{sym, ◌∙◌}
-use Rattle.bidi_base.specs.Units.{kept_in_place}
+use Rattle.bidi_base.proofs.Common.{sym, ◌∙◌, kept_in_place}
 use Rattle.bidi_neutral_vectors.proofs.LeftClasses.{all_resolved}
 use Rattle.bidi_neutral_vectors.proofs.neutrals.resolve.Goals as goal
 

@@ -1,6 +1,5 @@
 -- The same of a sequence that is lent.
-use Rattle.std.proofs.Common.{sym, ◌∙◌}
-use Rattle.bidi_base.specs.Units.{kept_in_place}
+use Rattle.bidi_base.proofs.Common.{sym, ◌∙◌, kept_in_place}
 use Rattle.bidi_neutral_vectors.proofs.LeftClasses.{all_resolved}
 use Rattle.bidi_neutral_vectors.proofs.neutrals.resolve_lent.Goals as goal
 

@@ -1,15 +1,7 @@
 -- The classes that a sequence's characters have are among those of all units.
-use Rattle.std.proofs.Common.{◌≡◌, ℕ, ◌<◌, ◌≤◌, Bool, true, false, not, ◌||◌, List, [], ◌∷◌, length, map, refl, sym, ap, ◌∙◌, inl, inr}
-use Rattle.std.specs.Prelude.{filter}
-use Rattle.std.specs.List.{list_all}
-use Rattle.std.proofs.lemmas.Bool.{and_from, cases_Bool, cases_lt, cond-true, cond-false}
-use Rattle.std.proofs.lemmas.List.{get_or_past}
+use Rattle.bidi_base.proofs.Common.{◌≡◌, ℕ, ◌<◌, ◌≤◌, Bool, true, false, not, ◌||◌, List, [], ◌∷◌, length, map, refl, sym, ap, ◌∙◌, inl, inr, filter, list_all, and_from, cases_Bool, cases_lt, cond-true, cond-false, get_or_past, is_kept_in_place, is_weak_resolved, at_places, class_at, place, kept_in_place}
 use Rattle.bidi_base.specs.declared.char_data.BidiClass.{BidiClass}
 use Rattle.bidi_base.specs.declared.char_data.BidiClass.TheVariants.{L, BN}
-use Rattle.bidi_base.specs.Classes.{is_kept_in_place, is_weak_resolved}
-use Rattle.bidi_base.specs.Places.{at_places, class_at}
-use Rattle.bidi_base.specs.Text.{place}
-use Rattle.bidi_base.specs.Units.{kept_in_place}
 use Rattle.bidi_base.proofs.ContextLemmas.{list_all-get_or}
 use Rattle.bidi_refusals.proofs.passes.resolve.Goals as goal
 

@@ -1,11 +1,7 @@
 -- What `compute` leaves is what `isolating_run_sequences` asks.
-use Rattle.std.proofs.Common.{ℕ, List, sym, ap, ◌∙◌}
-use Rattle.std.specs.Char.{len_utf8}
-use Rattle.std.specs.Str.{chars}
+use Rattle.bidi_base.proofs.Common.{ℕ, List, sym, ap, ◌∙◌, len_utf8, chars, per_char, level_run_ranges}
 use Rattle.bidi_base.specs.declared.char_data.BidiClass.{BidiClass}
 use Rattle.bidi_base.specs.declared.char_data.BidiClass.TheVariants.{L}
-use Rattle.bidi_base.specs.Text.{per_char}
-use Rattle.bidi_base.specs.Units.{level_run_ranges}
 use Rattle.bidi_base.proofs.PerUnit.{length-per_char}
 use Rattle.bidi_base.proofs.StrLemmas.{has_units}
 use Rattle.bidi_rules.proofs.ExplicitUnits.{is_per_char-explicit_levels, per_char-explicit_levels}

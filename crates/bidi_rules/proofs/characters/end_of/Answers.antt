@@ -1,4 +1,4 @@
-use Rattle.std.proofs.Common.{arith}
+use Rattle.bidi_base.proofs.Common.{arith}
 use Rattle.bidi_rules.proofs.CharEnds.{end-at, end-within, never-None}
 use Rattle.bidi_rules.proofs.characters.end_of.Goals as goal
 

@@ -1,7 +1,5 @@
 -- What the characters so far have left. Each took at most four turns, but for those that its opener paid with an entry of the stack.
-use Rattle.std.proofs.Common.{◌+◌, ◌*◌, ◌-◌, ◌≤◌, map}
-use Rattle.bidi_base.specs.Text.{char_index}
-use Rattle.bidi_base.specs.Units.{bounds}
+use Rattle.bidi_base.proofs.Common.{◌+◌, ◌*◌, ◌-◌, ◌≤◌, map, char_index, bounds}
 use Rattle.bidi_rules.specs.ExplicitStretches.{IsReadTo}
 use Rattle.bidi_rules.specs.Status.{entry_count}
 use Rattle.bidi_rules.proofs.explicit.compute_counted.Given as goal

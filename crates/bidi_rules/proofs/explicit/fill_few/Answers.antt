@@ -1,6 +1,5 @@
 -- One unit after another.
-use Rattle.std.proofs.Common.{◌≡◌, ◌+◌, ◌≤◌, ℕ, List, length, set, sym, arith}
-use Rattle.std.proofs.lemmas.Grind.{common_steps}
+use Rattle.bidi_base.proofs.Common.{◌≡◌, ◌+◌, ◌≤◌, ℕ, List, length, set, sym, arith, common_steps}
 use Rattle.bidi_rules.specs.ExplicitPass.{filled}
 use Rattle.bidi_rules.proofs.ExplicitUnits.{filled-none, filled-more}
 use Rattle.bidi_rules.proofs.explicit.fill_few.Goals as goal

@@ -1,4 +1,4 @@
-use Rattle.std.proofs.Common.{◌≡◌, ◌-◌, ◌^◌, vec_len}
+use Rattle.bidi_base.proofs.Common.{◌≡◌, ◌-◌, ◌^◌, vec_len}
 use Rattle.std.specs.Io.KnownBytes.{Consumes}
 use Rattle.bidi_show.proofs.input.read_all.Given as goal
 

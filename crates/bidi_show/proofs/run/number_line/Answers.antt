@@ -1,4 +1,4 @@
-use Rattle.std.proofs.Common.{append_assoc, arith}
+use Rattle.bidi_base.proofs.Common.{append_assoc, arith}
 use Rattle.bidi_show.proofs.TextsLemmas.{next_number}
 use Rattle.bidi_show.proofs.run.number_line.Goals as goal
 use Rattle.bidi_show.proofs.run.number_line.Goals.{then-place-gt0+in_ok-push, else-place-gt0}

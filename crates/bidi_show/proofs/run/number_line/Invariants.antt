@@ -1,5 +1,4 @@
-use Rattle.std.proofs.Common.{◌≡◌, map, take, decimal, string_bytes}
-use Rattle.std.specs.List.{join_with_byte}
+use Rattle.bidi_base.proofs.Common.{◌≡◌, map, take, decimal, string_bytes, join_with_byte}
 use Rattle.std.specs.Str.{byte}
 use Rattle.bidi_show.proofs.run.number_line.Given as goal
 

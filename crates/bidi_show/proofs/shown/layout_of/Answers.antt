@@ -1,11 +1,4 @@
-use Rattle.std.proofs.Common.{◌≡◌, ◌∙◌, ◌++◌, ◌<◌, ◌∷◌, [], List, ℕ, length, map, sym, ap, arith, eqb-true}
-use Rattle.std.proofs.lemmas.Grind.{common_steps}
-use Rattle.std.proofs.lemmas.Bool.{eqb-false}
-use Rattle.std.specs.Char.{len_utf8}
-use Rattle.std.specs.Str.{chars}
-use Rattle.std.specs.declared.ops.Range.{Range}
-use Rattle.bidi_base.specs.Display.{Run, run_of}
-use Rattle.bidi_base.specs.Layout.{line_ranges}
+use Rattle.bidi_base.proofs.Common.{◌≡◌, ◌∙◌, ◌++◌, ◌<◌, ◌∷◌, [], List, ℕ, length, map, sym, ap, arith, eqb-true, common_steps, eqb-false, len_utf8, chars, Range, Run, run_of, line_ranges}
 use Rattle.bidi_show.specs.Texts.{one_column, one_at_least}
 use Rattle.unicode_bidi.specs.BidiInfo.{text as text_of}
 use Rattle.unicode_bidi.specs.ParagraphInfo.{range_of}

@@ -1,4 +1,4 @@
-use Rattle.std.proofs.Common.{arith}
+use Rattle.bidi_base.proofs.Common.{arith}
 use Rattle.bidi_show.proofs.ShownLemmas.{own_part}
 use Rattle.bidi_show.proofs.shown.own_end.Goals as goal
 

@@ -1,8 +1,4 @@
-use Rattle.std.proofs.Common.{◌≡◌, ◌∙◌, ◌++◌, ◌<◌, List, ℕ, length, get_or, decimal, string_bytes, ap, arith}
-use Rattle.std.specs.Prelude.{codes}
-use Rattle.std.specs.Char.{len_utf8}
-use Rattle.std.specs.Str.{chars}
-use Rattle.std.proofs.lemmas.List.{get_or_default, length_push}
+use Rattle.bidi_base.proofs.Common.{◌≡◌, ◌∙◌, ◌++◌, ◌<◌, List, ℕ, length, get_or, decimal, string_bytes, ap, arith, codes, len_utf8, chars, get_or_default, length_push}
 use Rattle.bidi_base.proofs.PlaceLemmas.{index_turn, index_end}
 use Rattle.bidi_base.proofs.StrLemmas.{has_units, text_len-chars}
 use Rattle.bidi_show.proofs.ShownLemmas.{if_pushed, levels_so_far-more, levels_so_far-end}

@@ -1,5 +1,4 @@
-use Rattle.std.proofs.Common.{◌≡◌, length, string_bytes}
-use Rattle.std.specs.Str.{chars}
+use Rattle.bidi_base.proofs.Common.{◌≡◌, length, string_bytes, chars}
 use Rattle.bidi_show.proofs.ShownLemmas.{levels_so_far}
 use Rattle.bidi_show.proofs.shown.push_levels.Given as goal
 

@@ -1,5 +1,4 @@
-use Rattle.std.proofs.Common.{◌≡◌, ◌++◌, take, map, string_bytes}
-use Rattle.bidi_base.specs.Display.{run_of}
+use Rattle.bidi_base.proofs.Common.{◌≡◌, ◌++◌, take, map, string_bytes, run_of}
 use Rattle.bidi_show.specs.Shown.{layout_text}
 use Rattle.bidi_show.proofs.shown.push_lines.Given as goal
 use Rattle.unicode_bidi.specs.BidiInfo.{text as text_of, original_classes, levels as levels_of_info}

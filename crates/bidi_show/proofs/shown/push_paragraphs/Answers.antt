@@ -1,5 +1,4 @@
-use Rattle.std.proofs.Common.{arith}
-use Rattle.std.proofs.lemmas.Grind.{common_steps}
+use Rattle.bidi_base.proofs.Common.{arith, common_steps}
 use Rattle.bidi_show.proofs.shown.push_paragraphs.Goals as goal
 
 pub loop-paragraph-preserved : goal.loop-paragraph-preserved

@@ -1,4 +1,4 @@
-use Rattle.std.proofs.Common.{◌≡◌, ◌++◌, take, flat_map, string_bytes}
+use Rattle.bidi_base.proofs.Common.{◌≡◌, ◌++◌, take, flat_map, string_bytes}
 use Rattle.bidi_show.specs.Shown.{printed_in}
 use Rattle.bidi_show.proofs.shown.push_paragraphs.Given as goal
 use Rattle.unicode_bidi.specs.BidiInfo.{text as text_of, original_classes, levels as levels_of_info}

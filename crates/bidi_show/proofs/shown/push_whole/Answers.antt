@@ -1,6 +1,4 @@
-use Rattle.std.proofs.Common.{◌≤◌, List, ℕ, length, arith}
-use Rattle.std.specs.Char.{len_utf8}
-use Rattle.bidi_base.specs.Text.{IsLine, IsPerChar}
+use Rattle.bidi_base.proofs.Common.{◌≤◌, List, ℕ, length, arith, len_utf8, IsLine, IsPerChar}
 use Rattle.bidi_base.proofs.TextLemmas.{is_boundary-le}
 use Rattle.bidi_base.proofs.UnitsLemmas.{length-from_IsPerChar}
 use Rattle.bidi_show.proofs.shown.push_whole.Goals as goal

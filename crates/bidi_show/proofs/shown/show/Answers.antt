@@ -1,4 +1,4 @@
-use Rattle.std.proofs.Common.{arith}
+use Rattle.bidi_base.proofs.Common.{arith}
 use Rattle.bidi_show.proofs.PieceLines.{printed_in-shown}
 use Rattle.bidi_show.proofs.shown.show.Goals as goal
 

@@ -1,7 +1,4 @@
-use Rattle.std.proofs.Common.{arith}
-use Rattle.std.proofs.lemmas.List.{nil_from_length}
-use Rattle.std.proofs.lemmas.Str.{chars-nil}
-use Rattle.std.specs.Str.{chars}
+use Rattle.bidi_base.proofs.Common.{arith, nil_from_length, chars-nil, chars}
 use Rattle.bidi_base.proofs.StrLemmas.{chars-push}
 use Rattle.bidi_show.proofs.ShownLemmas.{without_separator-separator, without_separator-other}
 use Rattle.bidi_show.proofs.shown.without_separator.Goals as goal

@@ -1,4 +1,4 @@
-use Rattle.std.proofs.Common.{◌∙◌, sym, arith}
+use Rattle.bidi_base.proofs.Common.{◌∙◌, sym, arith}
 use Rattle.bidi_terminal.proofs.NumbersLemmas.{parse_short}
 use Rattle.bidi_terminal.proofs.number.parse_number.Goals as goal
 

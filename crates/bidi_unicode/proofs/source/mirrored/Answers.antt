@@ -1,4 +1,4 @@
-use Rattle.std.proofs.Common.{is_some, sym, ap}
+use Rattle.bidi_base.proofs.Common.{is_some, sym, ap}
 use Rattle.bidi_unicode.proofs.TableLaws.{mirrored_of-is_mirrored, mirrored_of-mirrored_of}
 use Rattle.bidi_unicode.proofs.source.mirrored.Goals as goal
 

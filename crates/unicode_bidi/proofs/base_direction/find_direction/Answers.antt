@@ -1,10 +1,7 @@
-use Rattle.std.proofs.Common.{◌≡◌, ◌∙◌, ◌+◌, ◌≤◌, ◌∷◌, ◌++◌, [], ◌⊎◌, inl, inr, ℕ, List, false, length, map, sym, ap, arith, rules}
-use Rattle.std.proofs.lemmas.List.{length_push, drop_all}
-use Rattle.bidi_base.specs.Classes.{is_strong}
-use Rattle.bidi_base.specs.Text.{place}
-use Rattle.bidi_base.proofs.DirectionWalk.{direction_from, direction_from-is, direction-decided, direction-ended, direction-next, direction-on, depth-le}
-use Rattle.bidi_base.proofs.PlaceLemmas.{CharTurn, char_turn, char_end}
+use Rattle.bidi_base.proofs.Common.{◌≡◌, ◌∙◌, ◌+◌, ◌≤◌, ◌∷◌, ◌++◌, [], ◌⊎◌, inl, inr, ℕ, List, false, length, map, sym, ap, arith, rules, length_push, drop_all, is_strong, place}
 use Rattle.bidi_base.proofs.TextLemmas.{length-le-text_len}
+use Rattle.bidi_base.proofs.DirectionWalk.{direction_from-is, direction-decided, direction-ended, direction-next, direction-on, depth-le, direction_from}
+use Rattle.bidi_base.proofs.PlaceLemmas.{char_turn, char_end, CharTurn}
 use Rattle.unicode_bidi.proofs.base_direction.find_direction.Given.{Over}
 use Rattle.unicode_bidi.proofs.base_direction.find_direction.Goals as goal
 use Rattle.unicode_bidi.proofs.base_direction.find_direction.Goals.{In-Some, else-depth-eq0-via-then-depth-eq0+else-is_strong, else-depth-eq0-via-else-depth-eq0}

@@ -1,4 +1,4 @@
-use Rattle.std.proofs.Common.{◌≡◌, ◌≤◌, length, drop, map}
+use Rattle.bidi_base.proofs.Common.{◌≡◌, ◌≤◌, length, drop, map}
 use Rattle.bidi_base.proofs.DirectionWalk.{direction_from}
 use Rattle.unicode_bidi.proofs.base_direction.find_direction.Given as goal
 

@@ -1,4 +1,4 @@
-use Rattle.std.proofs.Common.{arith}
+use Rattle.bidi_base.proofs.Common.{arith}
 use Rattle.bidi_base.proofs.DirectionWalk.{base_direction-Rtl}
 use Rattle.unicode_bidi.proofs.base_direction.get_base_direction_with_data_source.Goals as goal
 

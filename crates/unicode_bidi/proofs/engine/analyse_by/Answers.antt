@@ -1,8 +1,6 @@
-use Rattle.std.proofs.Common.{◌∙◌, List, ℕ, arith}
-use Rattle.std.proofs.Math.Seq.{take-append_seam}
+use Rattle.bidi_base.proofs.Common.{◌∙◌, List, ℕ, arith, take-append_seam}
 use Rattle.bidi_base.proofs.ParagraphsLemmas.{length-text_classes}
 use Rattle.bidi_base.proofs.PerUnit.{length-per_unit}
-use Rattle.unicode_bidi.specs.SplitRule.{pieces_by}
 use Rattle.unicode_bidi.proofs.FoundLaws.{analysis-IsPerCharText, pieces_by-joined}
 use Rattle.unicode_bidi.proofs.ParagraphUnits.{paragraphs-Follow, paragraphs-flags, paragraphs-CanWrite, paragraphs-levels}
 use Rattle.unicode_bidi.proofs.engine.analyse_by.Goals as goal
@@ -12,8 +10,8 @@ write_paragraphs-requires-clause-paragraphs g c =
     let source = g.D.BidiDataSource.source c.args.data_source.now in
     let cs : List ℕ = g.T.TextSource.characters c.args.text in
     rw c.as_slice-2.ensures.value
-    (paragraphs-CanWrite source c.args.base g.T.TextSource.units g.met.T.TextSource.has_units cs (pieces_by c.args.split source cs) (pieces_by-joined c.args.split source cs) c.in_ok-found.found.paragraphs.items
-    c.in_ok-found.ensures.ranges c.in_ok-found.ensures.levels c.as_slice.result.now (c.as_slice.ensures.value ∙ c.in_ok-found.ensures.classes) c.requires)
+    (paragraphs-CanWrite source c.args.base _ g.met.T.TextSource.has_units _ _ (pieces_by-joined c.args.split source cs)
+    c.in_ok-found.found.paragraphs.items c.in_ok-found.ensures.ranges c.in_ok-found.ensures.levels _ (c.as_slice.ensures.value ∙ c.in_ok-found.ensures.classes) c.requires)
 
 pub write_paragraphs-requires-clause-flags : goal.write_paragraphs-requires-clause-flags
 write_paragraphs-requires-clause-flags g c = grind (arith, paragraphs-flags, pieces_by-joined)
@@ -23,8 +21,8 @@ write_paragraphs-requires-clause-follow g c =
     let source = g.D.BidiDataSource.source c.args.data_source.now in
     let cs : List ℕ = g.T.TextSource.characters c.args.text in
     rw c.as_slice-2.ensures.value
-    (paragraphs-Follow source c.args.base g.T.TextSource.units g.met.T.TextSource.has_units cs (pieces_by c.args.split source cs) (pieces_by-joined c.args.split source cs) c.in_ok-found.found.paragraphs.items
-    c.in_ok-found.ensures.ranges c.in_ok-found.ensures.levels)
+    (paragraphs-Follow source c.args.base _ g.met.T.TextSource.has_units _ _ (pieces_by-joined c.args.split source cs)
+    c.in_ok-found.found.paragraphs.items c.in_ok-found.ensures.ranges c.in_ok-found.ensures.levels)
 
 pub invariant_of-classified : goal.invariant_of-classified
 invariant_of-classified g c = grind (arith, length-per_unit, length-text_classes, pieces_by-joined)
@@ -36,4 +34,4 @@ pub returns-clause-per_char : goal.returns-clause-per_char
 returns-clause-per_char g c =
     let source = g.D.BidiDataSource.source c.args.data_source.now in
     let cs : List ℕ = g.T.TextSource.characters c.args.text in
-    analysis-IsPerCharText source c.args.base (pieces_by c.args.split source cs) _ (pieces_by-joined c.args.split source cs) _ _ (returns-clause-analysis g c)
+    analysis-IsPerCharText _ c.args.base _ _ (pieces_by-joined c.args.split source cs) _ _ (returns-clause-analysis g c)

@@ -1,13 +1,9 @@
-use Rattle.std.proofs.Common.{arith}
-use Rattle.std.proofs.lemmas.Result.{IfOk-weaker}
+use Rattle.bidi_base.proofs.Common.{arith, IfOk-weaker}
 use Rattle.unicode_bidi.proofs.StoredLine.{same_len, within, of_units, of_chars-units}
 use Rattle.unicode_bidi.proofs.engine.line_levels.Goals as goal
 
-pub levels_with_line-requires-clause-same_len : goal.levels_with_line-requires-clause-same_len
-levels_with_line-requires-clause-same_len g c = grind (arith, same_len)
-
-pub levels_with_line-requires-clause-within : goal.levels_with_line-requires-clause-within
-levels_with_line-requires-clause-within g c = grind (arith, within)
+pub levels_with_line-requires : goal.levels_with_line-requires
+levels_with_line-requires g c = grind (arith, same_len, within)
 
 pub returns-clause-levels : goal.returns-clause-levels
 returns-clause-levels g c =

@@ -1,6 +1,4 @@
-use Rattle.std.proofs.Common.{◌≡◌, ◌∙◌, List, ℕ, ap, arith}
-use Rattle.std.specs.declared.ops.Range.{Range}
-use Rattle.bidi_base.specs.Text.{subrange}
+use Rattle.bidi_base.proofs.Common.{◌≡◌, ◌∙◌, List, ℕ, ap, arith, Range, subrange}
 use Rattle.unicode_bidi.proofs.ParagraphUnits.{paragraph-IsPart, paragraph-written}
 use Rattle.unicode_bidi.specs.Engine.{chars_of}
 use Rattle.unicode_bidi.proofs.engine.write_paragraph.Goals as goal

@@ -1,6 +1,4 @@
-use Rattle.std.proofs.Common.{◌∙◌, List, ℕ, get_or, arith, ap, sym, subst}
-use Rattle.std.proofs.lemmas.List.{get_or-map}
-use Rattle.std.proofs.lemmas.List.Elements.{All-get_or}
+use Rattle.bidi_base.proofs.Common.{◌∙◌, List, ℕ, get_or, arith, ap, sym, subst, get_or-map, All-get_or}
 use Rattle.unicode_bidi.specs.Engine.{unit_levels, own_flags, CanWrite}
 use Rattle.unicode_bidi.specs.declared.paragraph_flags.ParagraphFlags.{ParagraphFlags}
 use Rattle.unicode_bidi.proofs.ParagraphUnits.{AreParagraphsWritten-more, length-unit_levels}
@@ -14,10 +12,8 @@ write_paragraph-requires-clause-paragraph g c =
 pub write_paragraph-requires-clause-flags : goal.write_paragraph-requires-clause-flags
 write_paragraph-requires-clause-flags g c =
     let own = own_flags (g.D.BidiDataSource.source c.args.text.now.data_source.now) g.T.TextSource.units (g.T.TextSource.characters c.args.text.now.text) in
-    let ps = c.args.paragraphs.now in
-    let k = c.loop-index.index in
     let none : ParagraphFlags = record { met = record { bits = 0 } } in
-    ap (λ flags. get_or flags k none) c.requires.flags ∙ get_or-map own ps k c.index-paragraphs-index.result none (omega arith) ∙ ap own (sym c.index-paragraphs-index.is)
+    ap (λ flags. get_or flags c.loop-index.index none) c.requires.flags ∙ get_or-map own c.args.paragraphs.now _ c.index-paragraphs-index.result none (omega arith) ∙ ap own (sym c.index-paragraphs-index.is)
 
 pub loop-index-preserved : goal.loop-index-preserved
 loop-index-preserved g c =

@@ -1,4 +1,4 @@
-use Rattle.std.proofs.Common.{◌<◌, arith}
+use Rattle.bidi_base.proofs.Common.{◌<◌, arith}
 use Rattle.unicode_bidi.proofs.Skimmed.{is_boundary-end, inside-lt}
 use Rattle.unicode_bidi.proofs.first_walk.block_end.Given.{Over}
 use Rattle.unicode_bidi.proofs.first_walk.block_end.Goals as goal

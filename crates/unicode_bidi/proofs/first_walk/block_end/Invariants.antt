@@ -1,4 +1,4 @@
-use Rattle.std.proofs.Common.{◌≤◌, ◌<◌, ◌-◌}
+use Rattle.bidi_base.proofs.Common.{◌≤◌, ◌<◌, ◌-◌}
 use Rattle.unicode_bidi.proofs.first_walk.block_end.Given as goal
 
 abbrev pub invariant-loop-text : goal.invariant-loop-text

@@ -1,4 +1,4 @@
-use Rattle.std.proofs.Common.{◌∙◌, ◌<◌, length, sym, ap, arith}
+use Rattle.bidi_base.proofs.Common.{◌∙◌, ◌<◌, length, sym, ap, arith}
 use Rattle.unicode_bidi.proofs.KnownClasses.{AreKnown-more}
 use Rattle.unicode_bidi.proofs.first_walk.class_of_byte.Goals as goal
 

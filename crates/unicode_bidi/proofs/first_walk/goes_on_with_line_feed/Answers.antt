@@ -1,6 +1,4 @@
-use Rattle.std.proofs.Common.{◌≡◌, ℕ, ◌&&◌, ◌==◌, drop, arith}
-use Rattle.bidi_base.specs.Classes.{is_paragraph_separator}
-use Rattle.bidi_base.specs.Paragraphs.{begins_with_line_feed}
+use Rattle.bidi_base.proofs.Common.{◌≡◌, ℕ, ◌&&◌, ◌==◌, drop, arith, is_paragraph_separator, begins_with_line_feed}
 use Rattle.bidi_base.specs.Text.{place as place_of}
 use Rattle.unicode_bidi.proofs.TextRead.{next-at}
 use Rattle.unicode_bidi.proofs.first_walk.goes_on_with_line_feed.Goals as goal

@@ -1,4 +1,4 @@
-use Rattle.std.proofs.Common.{◌∙◌, ◌≤◌, length, refl, arith, rules}
+use Rattle.bidi_base.proofs.Common.{◌∙◌, ◌≤◌, length, refl, arith, rules}
 use Rattle.unicode_bidi.proofs.Skimmed.{IsSkimmed-start, is_boundary-skimmed, within-skimmed, start-within, block-line, block-long, block-room, IsMet-on, IsMet-within, IsSkimmed-turn, IsMet-turn}
 use Rattle.unicode_bidi.proofs.first_walk.next_minded.Goals as goal
 

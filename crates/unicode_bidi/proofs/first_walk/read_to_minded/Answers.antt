@@ -1,6 +1,4 @@
-use Rattle.std.proofs.Common.{◌≡◌, ◌∙◌, ◌+◌, ℕ, List, length, drop, refl, arith, rules}
-use Rattle.std.proofs.lemmas.List.{length_push}
-use Rattle.bidi_base.specs.Text.{place}
+use Rattle.bidi_base.proofs.Common.{◌≡◌, ◌∙◌, ◌+◌, ℕ, List, length, drop, refl, arith, rules, length_push, place}
 use Rattle.bidi_base.proofs.PlaceLemmas.{CharTurn, index_turn, index_end, place-end}
 use Rattle.unicode_bidi.proofs.Skimmed.{IsSkimmed-start, IsSkimmed-more, IsMet-next}
 use Rattle.unicode_bidi.proofs.first_walk.read_to_minded.Given.{Over}

@@ -1,5 +1,4 @@
-use Rattle.std.proofs.Common.{◌≡◌, length, drop}
-use Rattle.bidi_base.specs.Text.{place}
+use Rattle.bidi_base.proofs.Common.{◌≡◌, length, drop, place}
 use Rattle.unicode_bidi.specs.FirstWalk.{IsSkimmed}
 use Rattle.unicode_bidi.proofs.first_walk.read_to_minded.Given as goal
 

@@ -1,4 +1,4 @@
-use Rattle.std.proofs.Common.{◌∙◌, Some, refl, sym, ap}
+use Rattle.bidi_base.proofs.Common.{◌∙◌, Some, refl, sym, ap}
 use Rattle.unicode_bidi.proofs.Skimmed.{IsSkimmed-start, IsSkimmed-ascii, IsMet-ascii}
 use Rattle.unicode_bidi.proofs.first_walk.skim.Goals as goal
 

@@ -1,4 +1,4 @@
-use Rattle.std.proofs.Common.{◌-◌, length}
+use Rattle.bidi_base.proofs.Common.{◌-◌, length}
 use Rattle.unicode_bidi.specs.FirstWalk.{ahead, AreKnown, IsSkimmed}
 use Rattle.unicode_bidi.proofs.first_walk.skim.Given as goal
 

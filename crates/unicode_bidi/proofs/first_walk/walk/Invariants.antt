@@ -1,4 +1,4 @@
-use Rattle.std.proofs.Common.{◌≡◌, ◌-◌, length}
+use Rattle.bidi_base.proofs.Common.{◌≡◌, ◌-◌, length}
 use Rattle.bidi_base.specs.declared.char_data.BidiClass.{BidiClass}
 use Rattle.unicode_bidi.specs.ClassSet.{has}
 use Rattle.unicode_bidi.specs.FirstWalk.{minds, AreKnown}

@@ -1,7 +1,4 @@
-use Rattle.std.proofs.Common.{◌≡◌, ◌∙◌, sym, ap, arith}
-use Rattle.std.specs.Char.{len_utf8}
-use Rattle.std.specs.Str.{chars}
-use Rattle.bidi_base.specs.Text.{text_len, subrange}
+use Rattle.bidi_base.proofs.Common.{◌≡◌, ◌∙◌, sym, ap, arith, len_utf8, chars, text_len, subrange}
 use Rattle.bidi_base.proofs.StrLemmas.{has_units}
 use Rattle.unicode_bidi.specs.BidiInfo.{text, analysed}
 use Rattle.unicode_bidi.specs.ParagraphInfo.{level_of}

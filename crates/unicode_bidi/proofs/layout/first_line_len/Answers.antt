@@ -1,5 +1,4 @@
-use Rattle.std.proofs.Common.{◌∙◌, length, arith, rules}
-use Rattle.std.proofs.lemmas.List.{length_push}
+use Rattle.bidi_base.proofs.Common.{◌∙◌, length, arith, rules, length_push}
 use Rattle.bidi_base.proofs.LayoutLemmas.{first_line-one, first_line-stops, first_line-all, place-turn}
 use Rattle.bidi_base.proofs.PlaceLemmas.{CharTurn, index_turn, index_end}
 use Rattle.unicode_bidi.proofs.layout.first_line_len.Goals as goal
@@ -12,16 +11,14 @@ turn_of g c = search (rules, index_turn)
 
 pub returns-then-width-left : goal.returns-then-width-left
 returns-then-width-left g c =
-    let width_of = g.W.CharWidth.width_of c.args.widths.now in
-    let some = g.met.T.TextSource.has_units in
     let w = turn_of g (goal.at.returns-then-width-left g c).In-Some in
     elim c.if-at-eq0.branch [
       | then-at-eq0 v ↦
           v.result-is ∙ v.char_len.ensures
-          ∙ first_line-one width_of c.args.limit _ some _ _ _ _ c.loop-at.left w c.loop-at.invariant.2 (omega (arith, c.width-width.ensures, c.if-width-left.true)) v.if-at-eq0.true
+          ∙ first_line-one _ c.args.limit _ g.met.T.TextSource.has_units _ _ _ _ c.loop-at.left w c.loop-at.invariant.2 (omega (arith, c.width-width.ensures, c.if-width-left.true)) v.if-at-eq0.true
       | else-at-eq0 v ↦
           v.result-is
-          ∙ first_line-stops width_of c.args.limit _ some _ _ _ _ c.loop-at.left w c.loop-at.invariant.2 (omega (arith, c.width-width.ensures, c.if-width-left.true)) v.if-at-eq0.false
+          ∙ first_line-stops _ c.args.limit _ g.met.T.TextSource.has_units _ _ _ _ c.loop-at.left w c.loop-at.invariant.2 (omega (arith, c.width-width.ensures, c.if-width-left.true)) v.if-at-eq0.false
     ]
 
 pub loop-at-preserved : goal.loop-at-preserved

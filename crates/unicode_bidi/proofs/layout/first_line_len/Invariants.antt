@@ -1,5 +1,4 @@
-use Rattle.std.proofs.Common.{◌≡◌, ◌+◌, length}
-use Rattle.bidi_base.specs.Text.{place}
+use Rattle.bidi_base.proofs.Common.{◌≡◌, ◌+◌, length, place}
 use Rattle.unicode_bidi.proofs.layout.first_line_len.Given as goal
 
 -- what is left of the limit is what the characters so far have not taken

@@ -1,4 +1,4 @@
-use Rattle.std.proofs.lemmas.Result.{IfOk-weaker}
+use Rattle.bidi_base.proofs.Common.{IfOk-weaker}
 use Rattle.unicode_bidi.proofs.layout.lines.Goals as goal
 
 pub returns-clause-lines : goal.returns-clause-lines

@@ -1,5 +1,5 @@
-use Rattle.std.proofs.Common.{◌≡◌, ◌+◌, ℕ, List, arith}
-use Rattle.std.proofs.lemmas.List.{map-append, append_assoc, append-nil}
+use Rattle.bidi_base.proofs.Common.{◌≡◌, ◌+◌, ℕ, List, arith, map-append}
+use Rattle.std.proofs.lemmas.List.{append_assoc, append-nil}
 use Rattle.bidi_base.proofs.LayoutLemmas.{FirstLine, first_line, line_ranges-none, line_ranges-IsPartition}
 use Rattle.unicode_bidi.proofs.layout.lines_of.Goals as goal
 use Rattle.unicode_bidi.proofs.layout.lines_of.Goals.{After-first_line_len}
@@ -9,10 +9,7 @@ use Rattle.unicode_bidi.proofs.layout.lines_of.Given.{Over}
 line_here : (g : Over) (c : After-first_line_len g)
     → FirstLine (g.W.CharWidth.width_of c.args.widths.now) c.args.limit g.T.TextSource.units g.met.T.TextSource.has_units (g.T.TextSource.characters c.args.text) c.loop-start.start c.args.range.end (c.loop-start.start + c.first_line_len.result)
 line_here g c =
-    let len = g.T.TextSource.units in
-    let width_of = g.W.CharWidth.width_of c.args.widths.now in
-    first_line width_of c.args.limit len g.met.T.TextSource.has_units (g.T.TextSource.characters c.args.text) c.loop-start.start c.args.range.end (c.loop-start.start + c.first_line_len.result)
-    c.loop-start.invariant.0 c.loop-start-test.true (cc (c.first_line_len.ensures, c.subrange-rest.ensures))
+    first_line _ _ _ g.met.T.TextSource.has_units _ _ _ _ c.loop-start.invariant.0 c.loop-start-test.true (cc (c.first_line_len.ensures, c.subrange-rest.ensures))
 
 pub overflow_add-end : goal.overflow_add-end
 overflow_add-end g c = grind (arith, line_here)

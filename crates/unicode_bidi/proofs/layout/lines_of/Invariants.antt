@@ -1,7 +1,5 @@
-use Rattle.std.proofs.Common.{◌≡◌, ◌-◌, ◌++◌, map, All}
-use Rattle.bidi_base.specs.Display.{run_of}
-use Rattle.bidi_base.specs.Layout.{line_ranges}
-use Rattle.bidi_base.specs.Text.{IsLine}
+use Rattle.bidi_base.proofs.Common.{◌≡◌, ◌-◌, ◌++◌, map, run_of, line_ranges, IsLine}
+use Rattle.std.proofs.Common.{All}
 use Rattle.unicode_bidi.proofs.layout.lines_of.Given as goal
 
 -- the lines so far, with those of what is left, are those of the range

@@ -1,6 +1,4 @@
-use Rattle.std.proofs.Common.{◌≡◌, take}
-use Rattle.std.specs.List.{list_any}
-use Rattle.bidi_base.specs.Levels.{is_odd, is_even}
+use Rattle.bidi_base.proofs.Common.{◌≡◌, take, list_any, is_odd, is_even}
 use Rattle.unicode_bidi.proofs.level_direction.direction_of.Given as goal
 
 abbrev pub invariant-loop-level : goal.invariant-loop-level

@@ -1,6 +1,4 @@
-use Rattle.std.proofs.Common.{ℕ, ◌-◌, ◌<◌, List, length, get_or, arith}
-use Rattle.std.specs.declared.ops.Range.{Range}
-use Rattle.bidi_base.specs.Display.{run_text_in}
+use Rattle.bidi_base.proofs.Common.{ℕ, ◌-◌, ◌<◌, List, length, get_or, arith, Range, run_text_in}
 use Rattle.unicode_bidi.proofs.WrittenRuns.{flat_map-more, run_text_in-odd, run_text_in-even}
 use Rattle.unicode_bidi.proofs.line_text.write_runs.Goals as goal
 use Rattle.unicode_bidi.proofs.line_text.write_runs.Goals.{then-is_rtl+in_ok-write_backwards, else-is_rtl+in_ok-write_forwards}
@@ -18,16 +16,8 @@ loop-run-preserved g c =
     elim c.if-is_rtl.branch [
       | then-is_rtl+in_ok-write_backwards w ↦
           flat_map-more (run_text_in len encode cs units c.args.start c.args.levels.now) c.args.runs.now c.loop-run.run-index d _ _ _ c.loop-run-test.true c.loop-run.invariant
-          (cc (
-            w.out-is,
-            w.in_ok-write_backwards.ensures,
-            run_text_in-odd len encode cs units c.args.start c.args.levels.now run c.index-levels-run.result c.is_rtl.result inside c.index-levels-run.is c.is_rtl.ensures w.if-is_rtl.true,
-          ))
+          (cc (w.out-is, w.in_ok-write_backwards.ensures, run_text_in-odd len encode cs units _ _ run _ _ inside c.index-levels-run.is c.is_rtl.ensures w.if-is_rtl.true))
       | else-is_rtl+in_ok-write_forwards w ↦
           flat_map-more (run_text_in len encode cs units c.args.start c.args.levels.now) c.args.runs.now c.loop-run.run-index d _ _ _ c.loop-run-test.true c.loop-run.invariant
-          (cc (
-            w.out-is,
-            w.in_ok-write_forwards.ensures,
-            run_text_in-even len encode cs units c.args.start c.args.levels.now run c.index-levels-run.result c.is_rtl.result inside c.index-levels-run.is c.is_rtl.ensures w.if-is_rtl.false,
-          ))
+          (cc (w.out-is, w.in_ok-write_forwards.ensures, run_text_in-even len encode cs units _ _ run _ _ inside c.index-levels-run.is c.is_rtl.ensures w.if-is_rtl.false))
     ]

@@ -1,5 +1,4 @@
-use Rattle.std.proofs.Common.{◌≡◌, ◌++◌, map, take, flat_map}
-use Rattle.bidi_base.specs.Display.{run_of, run_text_in}
+use Rattle.bidi_base.proofs.Common.{◌≡◌, ◌++◌, map, take, flat_map, run_of, run_text_in}
 use Rattle.unicode_bidi.proofs.line_text.write_runs.Given as goal
 
 abbrev pub invariant-loop-run : goal.invariant-loop-run

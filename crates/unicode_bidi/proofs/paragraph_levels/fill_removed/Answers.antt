@@ -1,7 +1,5 @@
-use Rattle.std.proofs.Common.{◌+◌, ℕ, List, length, not, ap, arith}
+use Rattle.bidi_base.proofs.Common.{◌+◌, ℕ, List, length, not, ap, arith, is_removed, IsFirst}
 use Rattle.bidi_base.specs.declared.char_data.BidiClass.{BidiClass}
-use Rattle.bidi_base.specs.Classes.{is_removed}
-use Rattle.bidi_base.specs.Search.{IsFirst}
 use Rattle.unicode_bidi.proofs.FilledUnits.{AreFilled, AreFilled-removed}
 use Rattle.unicode_bidi.proofs.paragraph_levels.fill_removed.Goals as goal
 
@@ -14,24 +12,18 @@ loop-at-init c = grind arith
 
 pub loop-at-preserved : goal.loop-at-preserved
 loop-at-preserved c =
-    let para = c.args.para_level in
-    let classes = c.args.classes.now in
-    let old = c.args.levels.now in
-    let at = c.loop-at.at in
     let inv = c.loop-at.invariant in
     let f = c.first_passing-at-in-loop-at.ensures in
     record {
-      filled = up_to para classes old _ (at + 1) c.first_passing-at-in-loop-at.result f
-          (AreFilled-removed para classes old at c.loop-at.levels inv.filled c.level_before.result (omega (arith, c.loop-at-test.true, c.requires, c.loop-at.auto.levels)) c.level_before.ensures.front c.level_before.ensures.inside (ap not (inv.here c.loop-at-test.true)));
+      filled = up_to _ _ _ _ (c.loop-at.at + 1) _ f
+          (AreFilled-removed _ _ _ _ _ inv.filled c.level_before.result (omega (arith, c.loop-at-test.true, c.requires, c.loop-at.auto.levels)) c.level_before.ensures.front c.level_before.ensures.inside (ap not (inv.here c.loop-at-test.true)));
       ends = f.ends;
       here = f.at;
     }
 
-pub returns-clause-kept : goal.returns-clause-kept
-returns-clause-kept c = grind arith
-
-pub returns-clause-front : goal.returns-clause-front
-returns-clause-front c = λ some k. c.loop-at.invariant.filled.front (omega (arith, c.loop-at-test.false)) k
-
-pub returns-clause-removed : goal.returns-clause-removed
-returns-clause-removed c = grind arith
+pub returns : goal.returns
+returns c = record {
+  kept = grind arith;
+  front = λ some k. c.loop-at.invariant.filled.front (omega (arith, c.loop-at-test.false)) k;
+  removed = grind arith;
+}

@@ -1,6 +1,4 @@
-use Rattle.std.proofs.Common.{◌≡◌, ◌-◌, ◌<◌, ◌≤◌, length, true}
-use Rattle.bidi_base.specs.Classes.{is_removed}
-use Rattle.bidi_base.specs.Places.{class_at}
+use Rattle.bidi_base.proofs.Common.{◌≡◌, ◌-◌, ◌<◌, ◌≤◌, length, true, is_removed, class_at}
 use Rattle.unicode_bidi.proofs.FilledUnits.{AreFilled}
 use Rattle.unicode_bidi.proofs.paragraph_levels.fill_removed.Given as goal
 

@@ -1,6 +1,5 @@
 -- The classes so far are hidden.
-use Rattle.std.proofs.Common.{◌≡◌, ◌++◌, map, take, drop}
-use Rattle.bidi_base.specs.Flat.{hidden}
+use Rattle.bidi_base.proofs.Common.{◌≡◌, ◌++◌, map, take, drop, hidden}
 use Rattle.unicode_bidi.proofs.paragraph_levels.hide_removed.Given as goal
 
 abbrev pub invariant-loop-class : goal.invariant-loop-class

@@ -1,4 +1,4 @@
-use Rattle.std.proofs.Common.{arith}
+use Rattle.bidi_base.proofs.Common.{arith}
 use Rattle.bidi.proofs.OptionsLemmas.{explain_of-html, explain_of-base}
 use Rattle.bidi.proofs.command.Command.+parse_explain.Goals as goal
 

@@ -1,4 +1,4 @@
-use Rattle.std.proofs.Common.{arith}
+use Rattle.bidi_base.proofs.Common.{arith}
 use Rattle.bidi.proofs.OptionsLemmas.{show_of-plain, show_of-base, show_of-width}
 use Rattle.bidi.proofs.command.Command.+parse_show.Goals as goal
 

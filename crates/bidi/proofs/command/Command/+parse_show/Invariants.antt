@@ -1,4 +1,4 @@
-use Rattle.std.proofs.Common.{length}
+use Rattle.bidi_base.proofs.Common.{length}
 use Rattle.bidi.proofs.command.Command.+parse_show.Given as goal
 
 abbrev pub decreases-parse_show : goal.decreases-parse_show

@@ -1,4 +1,4 @@
-use Rattle.std.proofs.Common.{arith}
+use Rattle.bidi_base.proofs.Common.{arith}
 use Rattle.bidi.proofs.ListsLemmas.{list_any-map}
 use Rattle.bidi.proofs.command.FileWords.parse.Goals as goal
 

@@ -1,4 +1,4 @@
-use Rattle.std.proofs.Common.{reverse, ap, arith}
+use Rattle.bidi_base.proofs.Common.{reverse, ap, arith}
 use Rattle.bidi.proofs.OpenersLemmas.{isolates_in, isolates_in-some, isolates_in-none}
 use Rattle.bidi.proofs.openers.Openers.close_isolate.Goals as goal
 

@@ -1,4 +1,4 @@
-use Rattle.std.proofs.Common.{◌≡◌, reverse, vec_len}
+use Rattle.bidi_base.proofs.Common.{◌≡◌, reverse, vec_len}
 use Rattle.bidi.specs.OpenOpeners.{innermost_isolate, outside_isolate}
 use Rattle.bidi.proofs.openers.Openers.take_isolate.Given as goal
 

@@ -1,4 +1,4 @@
-use Rattle.std.proofs.Common.{false, refl}
+use Rattle.bidi_base.proofs.Common.{false, refl}
 use Rattle.bidi_base.proofs.BracketSearch.{HasRead-start}
 use Rattle.bidi_base.proofs.brackets.PairSearch.clear.Goals as goal
 

@@ -1,7 +1,5 @@
 -- Whether the search goes on or is over, the pairs are those of the brackets read.
-use Rattle.std.proofs.Common.{◌∙◌}
-use Rattle.bidi_base.specs.Brackets.{counted_brackets, bracket_pairs}
-use Rattle.bidi_base.specs.FoundBrackets.{found_brackets}
+use Rattle.bidi_base.proofs.Common.{◌∙◌, counted_brackets, bracket_pairs, found_brackets}
 use Rattle.bidi_base.proofs.BracketSearch.{HasRead-end}
 use Rattle.bidi_base.proofs.brackets.PairSearch.finish.Goals as goal
 

@@ -1,4 +1,4 @@
-use Rattle.std.proofs.Common.{not, refl}
+use Rattle.bidi_base.proofs.Common.{not, refl}
 use Rattle.bidi_base.proofs.BracketSearch.{HasRead-next}
 use Rattle.bidi_base.proofs.brackets.PairSearch.read.Goals as goal
 

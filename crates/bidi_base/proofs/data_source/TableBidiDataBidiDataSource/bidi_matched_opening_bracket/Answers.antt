@@ -1,4 +1,4 @@
-use Rattle.std.proofs.Common.{arith}
+use Rattle.bidi_base.proofs.Common.{arith}
 use Rattle.bidi_base.specs.Source.{table_source}
 use Rattle.bidi_base.specs.Table.{source_of}
 use Rattle.bidi_base.proofs.TableLemmas.{table_bracket-at, table_bracket-none}

@@ -1,4 +1,4 @@
-use Rattle.std.proofs.Common.{arith}
+use Rattle.bidi_base.proofs.Common.{arith}
 use Rattle.bidi_base.proofs.TextLemmas.{is_boundary-char_at}
 use Rattle.bidi_base.proofs.text.TextSource.is_boundary.Goals as goal
 

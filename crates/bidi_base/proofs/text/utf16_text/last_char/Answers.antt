@@ -1,4 +1,4 @@
-use Rattle.std.proofs.Common.{arith}
+use Rattle.bidi_base.proofs.Common.{arith}
 use Rattle.bidi_base.proofs.Utf16Ends.{IsLast-lone, IsLast-pair}
 use Rattle.bidi_base.proofs.text.utf16_text.last_char.Goals as goal
 

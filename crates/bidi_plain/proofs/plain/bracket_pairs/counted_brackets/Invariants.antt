@@ -1,5 +1,4 @@
-use Rattle.std.proofs.Common.{◌≡◌, take}
-use Rattle.bidi_base.specs.FoundBrackets.{found_brackets}
+use Rattle.bidi_base.proofs.Common.{◌≡◌, take, found_brackets}
 use Rattle.bidi_plain.proofs.plain.bracket_pairs.counted_brackets.Given as goal
 
 abbrev pub invariant-loop-index : goal.invariant-loop-index

@@ -1,4 +1,4 @@
-use Rattle.std.proofs.Common.{arith}
+use Rattle.bidi_base.proofs.Common.{arith}
 use Rattle.bidi_base.proofs.PairsLemmas.{bracket_pairs-in_order}
 use Rattle.bidi_plain.proofs.plain.bracket_pairs.pairs.Goals as goal
 

@@ -1,4 +1,4 @@
-use Rattle.std.proofs.Common.{◌∙◌}
+use Rattle.bidi_base.proofs.Common.{◌∙◌}
 use Rattle.std.proofs.lemmas.Result.{OkIff-at_ok, OkIff-at_err}
 use Rattle.bidi_plain.proofs.StatusLemmas.{status_inside-none, status_inside-first, status_inside-stops}
 use Rattle.bidi_plain.proofs.plain.embeddings.+status_inside.Goals as goal
@@ -9,9 +9,7 @@ returns-in-empty t c = status_inside-none c.args.status c.args.openers.now c.in-
 pub returns-in-Ok : goal.returns-in-Ok
 returns-in-Ok t c =
     let asked = OkIff-at_ok c.asked_level.result _ _ c.in-Ok.level c.asked_level.ensures c.in-Ok.is in
-    c.status_inside.ensures
-    ∙ status_inside-first c.args.status c.status.inside.level c.status.inside.override_class c.status.view_is c.args.openers.now c.in-Ok.level c.override_of.result c.in-len1-up.len_at_least asked.0 asked.1 c.override_of.ensures
+    c.status_inside.ensures ∙ status_inside-first _ _ _ c.status.view_is _ c.in-Ok.level _ c.in-len1-up.len_at_least asked.0 asked.1 c.override_of.ensures
 
 pub returns-in-Err : goal.returns-in-Err
-returns-in-Err t c =
-    status_inside-stops c.args.status c.status.inside.level c.status.inside.override_class c.status.view_is c.args.openers.now c.in-len1-up.len_at_least (OkIff-at_err c.asked_level.result _ _ c.in-Err.field-0 c.asked_level.ensures c.in-Err.is)
+returns-in-Err t c = status_inside-stops _ _ _ c.status.view_is _ c.in-len1-up.len_at_least (OkIff-at_err c.asked_level.result _ _ c.in-Err.field-0 c.asked_level.ensures c.in-Err.is)

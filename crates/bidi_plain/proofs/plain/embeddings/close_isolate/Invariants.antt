@@ -1,5 +1,4 @@
-use Rattle.std.proofs.Common.{◌≡◌, reverse, vec_len}
-use Rattle.bidi_base.specs.Openers.{outside_isolate}
+use Rattle.bidi_base.proofs.Common.{◌≡◌, reverse, vec_len, outside_isolate}
 use Rattle.bidi_plain.proofs.plain.embeddings.close_isolate.Given as goal
 
 abbrev pub invariant-loop-opener : goal.invariant-loop-opener

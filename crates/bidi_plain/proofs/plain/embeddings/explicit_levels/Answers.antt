@@ -1,29 +1,22 @@
-use Rattle.std.proofs.Common.{arith, rules}
-use Rattle.bidi_base.specs.declared.char_data.BidiClass.{BidiClass}
-use Rattle.bidi_base.specs.Places.{class_at}
+use Rattle.bidi_base.proofs.Common.{arith, rules}
 use Rattle.bidi_base.proofs.ExplicitLemmas.{length-explicit_levels, length-explicit_classes}
 use Rattle.bidi_plain.proofs.ExplicitPass.{IsExplicitSoFar-start, IsExplicitSoFar-more, IsExplicitSoFar-levels, IsExplicitSoFar-classes}
 use Rattle.bidi_plain.proofs.plain.embeddings.explicit_levels.Goals as goal
 
 pub loop-class-init : goal.loop-class-init
-loop-class-init c =
-    IsExplicitSoFar-start c.args.para_level c.args.classes.now c.new-openers.result c.in_ok-levels.levels.items c.in_ok-overridden.overridden.items c.new-openers.ensures c.in_ok-levels.ensures.items c.in_ok-overridden.ensures.items
+loop-class-init c = IsExplicitSoFar-start _ _ _ _ _ c.new-openers.ensures c.in_ok-levels.ensures.items c.in_ok-overridden.ensures.items
 
 pub loop-class-preserved : goal.loop-class-preserved
 loop-class-preserved c =
-    let class : BidiClass = class_at c.args.classes.now c.loop-class.class-index in
     rw (c.in_ok-push.ensures.items, c.in_ok-push-2.ensures.items)
-    (IsExplicitSoFar-more c.args.para_level c.args.classes.now c.loop-class.class-index c.loop-class.openers c.close.new.self c.open.new.self c.loop-class.levels.items c.loop-class.overridden.items c.status-status.result
-    c.level_of.result c.class_of.result c.loop-class-test.true c.loop-class.invariant c.close.ensures c.in_ok-open.ensures c.status-status.ensures
+    (IsExplicitSoFar-more _ _ c.loop-class.class-index _ _ _ _ _ c.status-status.result _ _ c.loop-class-test.true c.loop-class.invariant c.close.ensures c.in_ok-open.ensures c.status-status.ensures
     (simp (c.level_of.ensures, ← c.status.view_is)) (simp (c.class_of.ensures, ← c.status.view_is)))
 
 pub returns-clause-levels : goal.returns-clause-levels
-returns-clause-levels c =
-    IsExplicitSoFar-levels c.args.para_level c.args.classes.now c.loop-class.class-index c.loop-class.openers c.loop-class.levels.items c.loop-class.overridden.items (omega arith) c.loop-class.invariant
+returns-clause-levels c = IsExplicitSoFar-levels _ _ c.loop-class.class-index _ _ _ (omega arith) c.loop-class.invariant
 
 pub returns-clause-classes : goal.returns-clause-classes
-returns-clause-classes c =
-    IsExplicitSoFar-classes c.args.para_level c.args.classes.now c.loop-class.class-index c.loop-class.openers c.loop-class.levels.items c.loop-class.overridden.items (omega arith) c.loop-class.invariant
+returns-clause-classes c = IsExplicitSoFar-classes _ _ c.loop-class.class-index _ _ _ (omega arith) c.loop-class.invariant
 
 pub returns-clause-lengths : goal.returns-clause-lengths
 returns-clause-lengths c = search (rules, returns-clause-levels, length-explicit_levels, returns-clause-classes, length-explicit_classes)

@@ -1,5 +1,4 @@
-use Rattle.std.proofs.Common.{◌≡◌, take}
-use Rattle.bidi_base.specs.Neutral.{n0}
+use Rattle.bidi_base.proofs.Common.{◌≡◌, take, n0}
 use Rattle.bidi_plain.proofs.plain.neutrals.apply_n0.Given as goal
 
 abbrev pub invariant-loop-pair : goal.invariant-loop-pair

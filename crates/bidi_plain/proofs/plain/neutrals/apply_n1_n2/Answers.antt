@@ -1,6 +1,4 @@
-use Rattle.std.proofs.Common.{arith}
-use Rattle.bidi_base.specs.Classes.{is_neutral}
-use Rattle.bidi_base.specs.Neutral.{n1_rule}
+use Rattle.bidi_base.proofs.Common.{arith, is_neutral}
 use Rattle.bidi_base.proofs.Blocks.{IsBlock-counted, length-part}
 use Rattle.bidi_base.proofs.InPlace.{IsRewritten-end}
 use Rattle.bidi_base.proofs.NeutralBlocks.{IsAtNeutrals-block}
@@ -16,7 +14,4 @@ loop-start-preserved c =
     )
 
 pub returns : goal.returns
-returns c =
-    let s = c.loop-start in
-    let a = c.args in
-    IsRewritten-end (n1_rule a.embedding_direction a.sos a.eos) a.classes.now s.classes s.start (omega (arith, s.invariant.rewritten.long)) s.invariant.rewritten
+returns c = grind (arith, IsRewritten-end)

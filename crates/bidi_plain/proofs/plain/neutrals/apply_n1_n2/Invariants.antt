@@ -1,4 +1,4 @@
-use Rattle.std.proofs.Common.{length, ◌-◌}
+use Rattle.bidi_base.proofs.Common.{length, ◌-◌}
 use Rattle.bidi_base.proofs.NeutralBlocks.{IsAtNeutrals}
 use Rattle.bidi_plain.proofs.plain.neutrals.apply_n1_n2.Given as goal
 

@@ -1,4 +1,4 @@
-use Rattle.std.proofs.Common.{sym, arith}
+use Rattle.bidi_base.proofs.Common.{sym, arith}
 use Rattle.bidi_base.proofs.SuccessorLemmas.{kept_before-is, kept_before-is_None}
 use Rattle.bidi_plain.proofs.plain.run_sequences.kept_before.Goals as goal
 

@@ -1,4 +1,4 @@
-use Rattle.std.proofs.Common.{sym, arith}
+use Rattle.bidi_base.proofs.Common.{sym, arith}
 use Rattle.bidi_base.proofs.SuccessorLemmas.{next_kept-is, next_kept-is_None}
 use Rattle.bidi_plain.proofs.plain.run_sequences.next_kept.Goals as goal
 

@@ -1,5 +1,4 @@
-use Rattle.std.proofs.Common.{◌≡◌, ◌<◌, ℕ, false}
-use Rattle.bidi_base.specs.Sequences.{is_kept_at}
+use Rattle.bidi_base.proofs.Common.{◌≡◌, ◌<◌, ℕ, false, is_kept_at}
 use Rattle.bidi_plain.proofs.plain.run_sequences.next_kept.Given as goal
 
 abbrev pub invariant-loop-p : goal.invariant-loop-p

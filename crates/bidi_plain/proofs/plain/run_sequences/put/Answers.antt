@@ -1,7 +1,4 @@
-use Rattle.std.proofs.Common.{◌≡◌, ◌<◌, length, map, ℕ, List, [], ◌∷◌, ◌++◌, get_or, set, Option, Some, arith}
-use Rattle.std.specs.Prelude.{IfSome}
-use Rattle.std.proofs.lemmas.List.{map-set, get_or-map}
-use Rattle.bidi_base.specs.SequencePass.{with_entry}
+use Rattle.bidi_base.proofs.Common.{◌≡◌, ◌<◌, length, map, ℕ, List, [], ◌∷◌, ◌++◌, get_or, set, Option, Some, arith, IfSome, map-set, get_or-map, with_entry}
 use Rattle.bidi_plain.proofs.plain.run_sequences.put.Goals as goal
 
 grown : {X : Type 0} (f : X → List ℕ) (xs : List X) (o : Option ℕ) (s p : ℕ) (v old : X) → o ≡ Some s → IfSome o (λ s. s < length xs) → f v ≡ f old ++ p ∷ [] → old ≡ get_or xs s old → map f (set xs s v) ≡ with_entry o p (map f xs)

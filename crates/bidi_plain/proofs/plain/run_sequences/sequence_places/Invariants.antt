@@ -1,4 +1,4 @@
-use Rattle.std.proofs.Common.{map}
+use Rattle.bidi_base.proofs.Common.{map}
 use Rattle.bidi_plain.proofs.ListPass.{IsStateAt}
 use Rattle.bidi_plain.proofs.plain.run_sequences.sequence_places.Given as goal
 

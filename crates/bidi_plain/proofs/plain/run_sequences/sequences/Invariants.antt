@@ -1,5 +1,4 @@
-use Rattle.std.proofs.Common.{◌≡◌, map}
-use Rattle.bidi_base.specs.Sequences.{with_ends}
+use Rattle.bidi_base.proofs.Common.{◌≡◌, map, with_ends}
 use Rattle.bidi_plain.proofs.plain.run_sequences.sequences.Given as goal
 
 abbrev pub invariant-loop-places : goal.invariant-loop-places

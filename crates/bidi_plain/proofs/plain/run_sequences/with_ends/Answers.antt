@@ -1,7 +1,6 @@
-use Rattle.std.proofs.Common.{◌≡◌, ◌<◌, ◌-◌, ℕ, List, length, get_or, arith, sym, refl}
+use Rattle.bidi_base.proofs.Common.{◌≡◌, ◌<◌, ◌-◌, ℕ, List, length, get_or, arith, sym, refl, last_or}
 use Rattle.std.proofs.lemmas.Option.{slice_get_read}
 use Rattle.bidi_base.proofs.PlacesLemmas.{last_or-slice_get}
-use Rattle.bidi_base.specs.Places.{last_or}
 use Rattle.bidi_plain.proofs.plain.run_sequences.with_ends.Goals as goal
 
 last_is : (places : List ℕ) (n x : ℕ) → 0 < length places → n ≡ length places → x ≡ get_or places (n - 1) x → x ≡ last_or 0 places

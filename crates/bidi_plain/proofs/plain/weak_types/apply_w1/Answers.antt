@@ -1,31 +1,22 @@
-use Rattle.std.proofs.Common.{not, get_or, refl, sym, ap, ◌∙◌}
-use Rattle.std.proofs.lemmas.Bool.{cond-true}
-use Rattle.bidi_base.specs.declared.char_data.BidiClass.TheVariants.{L, NSM}
-use Rattle.bidi_base.specs.Classes.{is_nsm}
-use Rattle.bidi_base.specs.Weak.{carried, w1_rule}
+use Rattle.bidi_base.proofs.Common.{◌≡◌, ℕ, ◌+◌, ◌<◌, not, cond, List, length, get_or, set, refl, arith, is_nsm, carried, w1_rule}
+use Rattle.bidi_base.specs.declared.char_data.BidiClass.{BidiClass}
+use Rattle.bidi_base.specs.declared.char_data.BidiClass.TheVariants.{L}
 use Rattle.bidi_base.proofs.InPlace.{IsRewritten-end}
-use Rattle.bidi_plain.proofs.Scans.{IsScanned-write}
-use Rattle.bidi_plain.proofs.WeakRules.{w1_rule-other, not_nsm}
+use Rattle.bidi_plain.proofs.Scans.{IsScanned, IsScanned-write}
 use Rattle.bidi_plain.proofs.plain.weak_types.apply_w1.Goals as goal
 use Rattle.bidi_plain.proofs.plain.weak_types.apply_w1.Goals.{in-NSM, in_default}
 
+-- one more class: a mark takes what the class before it carries, and others stay
+step : {sos : BidiClass} {old now : List BidiClass} {s t x y : BidiClass} {i : ℕ} → IsScanned (w1_rule sos) (λ c. not (is_nsm c)) sos old now s i → i < length old → get_or now i L ≡ x
+    → t ≡ cond (is_nsm x) s x → y ≡ cond (is_nsm x) (carried s) x → IsScanned (w1_rule sos) (λ c. not (is_nsm c)) sos old (set now i y) t (i + 1)
+step {sos} {old} {now} {s} {t} {x} {y} {i} h fits is next e =
+    IsScanned-write (w1_rule sos) (λ c. not (is_nsm c)) sos old now s t i x y h fits is (grind arith) (λ before after near. grind arith)
+
 pub loop-class-preserved : goal.loop-class-preserved
-loop-class-preserved c =
-    let s = c.loop-class in
-    let sos = c.args.sos in
-    let i = s.class-index in
-    let x = get_or s.classes i L in
-    elim c.match-class.branch [
-      | in-NSM w ↦
-          rw (w.classes-is, w.previous-is)
-          (IsScanned-write (w1_rule sos) (λ c. not (is_nsm c)) sos c.args.classes.now s.classes s.previous s.previous i NSM _ s.invariant c.loop-class-test.true w.in-NSM.is refl
-          (λ before after near. w.mark_class.ensures ∙ ap carried near))
-      | in_default w ↦
-          rw (w.classes-is, w.previous-is)
-          (IsScanned-write (w1_rule sos) (λ c. not (is_nsm c)) sos c.args.classes.now s.classes s.previous _ i x x s.invariant c.loop-class-test.true refl
-          (sym (cond-true (not (is_nsm x)) x s.previous (not_nsm x w.in_default.not-NSM)))
-          (λ before after near. w1_rule-other sos before x after w.in_default.not-NSM))
-    ]
+loop-class-preserved c = elim c.match-class.branch [
+  | in-NSM w ↦ rw (w.classes-is, w.previous-is) (step c.loop-class.invariant c.loop-class-test.true refl (grind arith) (grind arith))
+  | in_default w ↦ rw (w.classes-is, w.previous-is) (step c.loop-class.invariant c.loop-class-test.true refl (grind arith) (grind arith))
+]
 
 pub returns : goal.returns
-returns c = IsRewritten-end (w1_rule c.args.sos) c.args.classes.now c.loop-class.classes c.loop-class.class-index c.loop-class-test.false c.loop-class.invariant.rewritten
+returns c = grind (arith, IsRewritten-end)

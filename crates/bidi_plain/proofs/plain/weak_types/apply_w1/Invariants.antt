@@ -1,6 +1,4 @@
-use Rattle.std.proofs.Common.{not}
-use Rattle.bidi_base.specs.Classes.{is_nsm}
-use Rattle.bidi_base.specs.Weak.{w1_rule}
+use Rattle.bidi_base.proofs.Common.{not, is_nsm, w1_rule}
 use Rattle.bidi_plain.proofs.Scans.{IsScanned}
 use Rattle.bidi_plain.proofs.plain.weak_types.apply_w1.Given as goal
 

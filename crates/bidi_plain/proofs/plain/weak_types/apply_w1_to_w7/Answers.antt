@@ -1,5 +1,4 @@
-use Rattle.std.proofs.Common.{arith}
-use Rattle.bidi_base.specs.Weak.{weak_classes}
+use Rattle.bidi_base.proofs.Common.{arith, weak_classes}
 use Rattle.bidi_base.proofs.WeakLemmas.{weak_classes-resolved}
 use Rattle.bidi_plain.proofs.plain.weak_types.apply_w1_to_w7.Goals as goal
 

@@ -1,47 +1,24 @@
-use Rattle.std.proofs.Common.{◌≡◌, ℕ, ◌+◌, ◌<◌, Bool, cond, List, length, get_or, set, refl, sym, ◌∙◌}
-use Rattle.std.proofs.lemmas.Bool.{cond-true, cond-false}
+use Rattle.bidi_base.proofs.Common.{◌≡◌, ℕ, ◌+◌, ◌<◌, cond, List, length, get_or, set, refl, arith, is_strong, is_al, is_en, w2_rule}
 use Rattle.bidi_base.specs.declared.char_data.BidiClass.{BidiClass}
 use Rattle.bidi_base.specs.declared.char_data.BidiClass.TheVariants.{L, EN, AN}
-use Rattle.bidi_base.specs.Classes.{is_strong, is_al}
-use Rattle.bidi_base.specs.Weak.{w2_rule}
 use Rattle.bidi_base.proofs.InPlace.{IsRewritten-end}
 use Rattle.bidi_plain.proofs.Scans.{IsScanned, IsScanned-write}
-use Rattle.bidi_plain.proofs.WeakRules.{w2_rule-other, is_strong-other, is_strong-one, same_al}
 use Rattle.bidi_plain.proofs.plain.weak_types.apply_w2.Goals as goal
 use Rattle.bidi_plain.proofs.plain.weak_types.apply_w2.Goals.{in-L, in-EN+then-eq, in-EN+else-eq, in_default}
 
--- a number, whose answer goes by the nearest strong class
-number : (sos : BidiClass) (old now : List BidiClass) (s : BidiClass) (i : ℕ) (b : Bool) → IsScanned (w2_rule sos) is_strong sos old now s i → i < length old → get_or now i L ≡ EN
-    → is_al s ≡ b → IsScanned (w2_rule sos) is_strong sos old (set now i (cond b AN EN)) s (i + 1)
-number sos old now s i b h fits is test =
-    IsScanned-write (w2_rule sos) is_strong sos old now s s i EN (cond b AN EN) h fits is refl
-    (λ before after near. simp (← test, near))
+-- one more class: a number goes by the nearest strong class, and others stay
+step : {sos : BidiClass} {old now : List BidiClass} {s t x y : BidiClass} {i : ℕ} → IsScanned (w2_rule sos) is_strong sos old now s i → i < length old → get_or now i L ≡ x
+    → t ≡ cond (is_strong x) x s → y ≡ cond (is_en x) (cond (is_al s) AN EN) x → IsScanned (w2_rule sos) is_strong sos old (set now i y) t (i + 1)
+step {sos} {old} {now} {s} {t} {x} {y} {i} h fits is next e =
+    IsScanned-write (w2_rule sos) is_strong sos old now s t i x y h fits is next (λ before after near. grind arith)
 
 pub loop-class-preserved : goal.loop-class-preserved
-loop-class-preserved c =
-    let s = c.loop-class in
-    let sos = c.args.sos in
-    let old = c.args.classes.now in
-    let i = s.class-index in
-    let x = get_or s.classes i L in
-    let fits = c.loop-class-test.true in
-    elim c.match-class.branch [
-      | in-L w ↦
-          let one = is_strong-one x w.in-L.is in
-          rw (w.classes-is, w.strong-is)
-          (IsScanned-write (w2_rule sos) is_strong sos old s.classes s.strong x i x x s.invariant fits refl (sym (cond-true (is_strong x) x s.strong one.0))
-          (λ before after near. w2_rule-other sos before x after one.1))
-      | in-EN+then-eq w ↦
-          rw (w.classes-is, w.strong-is) (number sos old s.classes s.strong i _ s.invariant fits w.in-EN.is (sym (same_al s.strong) ∙ sym w.eq.ensures ∙ w.if-eq.true))
-      | in-EN+else-eq w ↦
-          rw (w.classes-is, w.strong-is, w.in-EN.is)
-          (number sos old s.classes s.strong i _ s.invariant fits w.in-EN.is (sym (same_al s.strong) ∙ sym w.eq.ensures ∙ w.if-eq.false))
-      | in_default w ↦
-          let d = w.in_default in
-          rw (w.classes-is, w.strong-is)
-          (IsScanned-write (w2_rule sos) is_strong sos old s.classes s.strong s.strong i x x s.invariant fits refl (sym (cond-false (is_strong x) x s.strong (is_strong-other x d.not-L d.not-R d.not-AL)))
-          (λ before after near. w2_rule-other sos before x after d.not-EN))
-    ]
+loop-class-preserved c = elim c.match-class.branch [
+  | in-L w ↦ rw (w.classes-is, w.strong-is) (step c.loop-class.invariant c.loop-class-test.true refl (grind arith) (grind arith))
+  | in-EN+then-eq w ↦ rw (w.classes-is, w.strong-is) (step c.loop-class.invariant c.loop-class-test.true refl (grind arith) (grind arith))
+  | in-EN+else-eq w ↦ rw (w.classes-is, w.strong-is) (step c.loop-class.invariant c.loop-class-test.true refl (grind arith) (grind arith))
+  | in_default w ↦ rw (w.classes-is, w.strong-is) (step c.loop-class.invariant c.loop-class-test.true refl (grind arith) (grind arith))
+]
 
 pub returns : goal.returns
-returns c = IsRewritten-end (w2_rule c.args.sos) c.args.classes.now c.loop-class.classes c.loop-class.class-index c.loop-class-test.false c.loop-class.invariant.rewritten
+returns c = grind (arith, IsRewritten-end)

@@ -1,5 +1,4 @@
-use Rattle.bidi_base.specs.Classes.{is_strong}
-use Rattle.bidi_base.specs.Weak.{w2_rule}
+use Rattle.bidi_base.proofs.Common.{is_strong, w2_rule}
 use Rattle.bidi_plain.proofs.Scans.{IsScanned}
 use Rattle.bidi_plain.proofs.plain.weak_types.apply_w2.Given as goal
 

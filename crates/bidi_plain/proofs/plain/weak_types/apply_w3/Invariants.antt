@@ -1,5 +1,4 @@
-use Rattle.std.proofs.Common.{◌≡◌, ◌++◌, map, take, drop}
-use Rattle.bidi_base.specs.Weak.{w3_rule}
+use Rattle.bidi_base.proofs.Common.{◌≡◌, ◌++◌, map, take, drop, w3_rule}
 use Rattle.bidi_plain.proofs.plain.weak_types.apply_w3.Given as goal
 
 abbrev pub invariant-loop-class : goal.invariant-loop-class

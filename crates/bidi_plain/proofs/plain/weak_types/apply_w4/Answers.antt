@@ -1,5 +1,4 @@
-use Rattle.std.proofs.Common.{arith}
-use Rattle.std.proofs.lemmas.Grind.{common_steps}
+use Rattle.bidi_base.proofs.Common.{arith, common_steps}
 use Rattle.bidi_plain.proofs.Separators.{separator_step, separators_end}
 use Rattle.bidi_plain.proofs.plain.weak_types.apply_w4.Goals as goal
 

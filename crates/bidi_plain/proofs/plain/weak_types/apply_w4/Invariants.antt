@@ -1,4 +1,4 @@
-use Rattle.bidi_base.specs.Weak.{w4_rule}
+use Rattle.bidi_base.proofs.Common.{w4_rule}
 use Rattle.bidi_base.proofs.InPlace.{IsRewritten}
 use Rattle.bidi_plain.proofs.plain.weak_types.apply_w4.Given as goal
 

@@ -1,4 +1,4 @@
-use Rattle.std.proofs.Common.{length, ◌-◌}
+use Rattle.bidi_base.proofs.Common.{length, ◌-◌}
 use Rattle.bidi_plain.proofs.Terminators.{IsAtBlock}
 use Rattle.bidi_plain.proofs.plain.weak_types.apply_w5.Given as goal
 

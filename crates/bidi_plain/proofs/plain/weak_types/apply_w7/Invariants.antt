@@ -1,5 +1,4 @@
-use Rattle.bidi_base.specs.Classes.{is_l_or_r}
-use Rattle.bidi_base.specs.Weak.{w7_rule}
+use Rattle.bidi_base.proofs.Common.{is_l_or_r, w7_rule}
 use Rattle.bidi_plain.proofs.Scans.{IsScanned}
 use Rattle.bidi_plain.proofs.plain.weak_types.apply_w7.Given as goal
 

@@ -1,5 +1,4 @@
-use Rattle.std.proofs.Common.{◌≡◌, ◌+◌, ◌≤◌, length, map, reverse}
-use Rattle.bidi_base.specs.StatusMachine.{drop_isolate}
+use Rattle.bidi_base.proofs.Common.{◌≡◌, ◌+◌, ◌≤◌, length, map, reverse, drop_isolate}
 use Rattle.bidi_rules.specs.Status.{seen}
 use Rattle.bidi_rules.proofs.explicit.status.pop_isolate.Given as goal
 

@@ -1,6 +1,5 @@
 -- The units of a character have one class, so a test of its first unit tells of all.
-use Rattle.std.proofs.Common.{arith}
-use Rattle.std.proofs.lemmas.Bool.{cases_lt}
+use Rattle.bidi_base.proofs.Common.{arith, cases_lt}
 use Rattle.bidi_rules.proofs.CharEnds.{Goes, goes}
 use Rattle.bidi_rules.proofs.explicit.stretches.next_passing.Given.{Over}
 use Rattle.bidi_rules.proofs.explicit.stretches.next_passing.Goals as goal
@@ -18,9 +17,9 @@ loop-at-smaller g c = omega (arith, next g c)
 pub loop-at-preserved : goal.loop-at-preserved
 loop-at-preserved g c =
     let on = next g c in (
-      omega (arith, on.some),
+      omega (arith, on),
       on.within,
       λ k above below. grind (arith, cases_lt k c.loop-at.at, c.loop-at.invariant.2 k),
       on.begins,
-      omega (arith, on.index, c.step_over-at.ensures.steps),
+      omega (arith, on, c.step_over-at.ensures.steps),
     )

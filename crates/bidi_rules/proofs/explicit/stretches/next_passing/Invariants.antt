@@ -1,7 +1,5 @@
 -- No character so far passes, and each was a step.
-use Rattle.std.proofs.Common.{◌≡◌, ℕ, ◌+◌, ◌-◌, ◌<◌, ◌≤◌, false, true}
-use Rattle.bidi_base.specs.Places.{class_at}
-use Rattle.bidi_base.specs.Text.{char_index, is_boundary}
+use Rattle.bidi_base.proofs.Common.{◌≡◌, ℕ, ◌+◌, ◌-◌, ◌<◌, ◌≤◌, false, true, class_at, char_index, is_boundary}
 use Rattle.bidi_rules.proofs.explicit.stretches.next_passing.Given as goal
 
 abbrev pub invariant-loop-at : goal.invariant-loop-at

@@ -1,8 +1,5 @@
 -- One character after another: their units have one class, which is BN or takes the override.
-use Rattle.std.proofs.Common.{◌≡◌, ℕ, ◌+◌, ◌<◌, ◌≤◌, sym, ap, ◌∙◌, arith}
-use Rattle.bidi_base.specs.Classes.{is_kept_in_place}
-use Rattle.bidi_base.specs.Places.{class_at}
-use Rattle.bidi_base.specs.Text.{char_index}
+use Rattle.bidi_base.proofs.Common.{◌≡◌, ℕ, ◌+◌, ◌<◌, ◌≤◌, sym, ap, ◌∙◌, arith, is_kept_in_place, class_at, char_index}
 use Rattle.bidi_rules.proofs.CharEnds.{Goes, goes}
 use Rattle.bidi_rules.proofs.ExplicitStretches.{IsOverridden-more, IsOverridden-spared}
 use Rattle.bidi_rules.proofs.explicit.stretches.put_override.Given.{Over}

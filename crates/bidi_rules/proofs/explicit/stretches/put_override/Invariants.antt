@@ -1,6 +1,5 @@
 -- The override is put on the characters so far, and each was a step.
-use Rattle.std.proofs.Common.{◌≡◌, ◌+◌, ◌-◌, ◌≤◌, true, Some}
-use Rattle.bidi_base.specs.Text.{char_index, is_boundary}
+use Rattle.bidi_base.proofs.Common.{◌≡◌, ◌+◌, ◌-◌, ◌≤◌, true, Some, char_index, is_boundary}
 use Rattle.bidi_rules.specs.ExplicitStretches.{IsOverridden}
 use Rattle.bidi_rules.proofs.explicit.stretches.put_override.Given as goal
 

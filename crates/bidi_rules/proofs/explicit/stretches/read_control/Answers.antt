@@ -1,4 +1,4 @@
-use Rattle.std.proofs.Common.{sym, ◌∙◌, arith, rules}
+use Rattle.bidi_base.proofs.Common.{sym, ◌∙◌, arith, rules}
 use Rattle.bidi_rules.proofs.ExplicitStretches.{control-can, control-index, control-kept, control-removed, control-some, read-begins}
 use Rattle.bidi_rules.proofs.explicit.stretches.read_control.Goals as goal
 

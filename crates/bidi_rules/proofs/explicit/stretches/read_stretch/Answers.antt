@@ -1,4 +1,4 @@
-use Rattle.std.proofs.Common.{ℕ, List, length, arith}
+use Rattle.bidi_base.proofs.Common.{ℕ, List, length, arith}
 use Rattle.bidi_base.proofs.PlaceLemmas.{is_boundary-place, place-end}
 use Rattle.bidi_rules.proofs.CharEnds.{index-le, index-lt}
 use Rattle.bidi_rules.proofs.ExplicitStretches.{stretch-none, stretch-some}

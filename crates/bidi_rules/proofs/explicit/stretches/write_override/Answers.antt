@@ -1,4 +1,4 @@
-use Rattle.std.proofs.Common.{arith}
+use Rattle.bidi_base.proofs.Common.{arith}
 use Rattle.bidi_rules.proofs.CharEnds.{index-le}
 use Rattle.bidi_rules.proofs.explicit.stretches.write_override.Goals as goal
 

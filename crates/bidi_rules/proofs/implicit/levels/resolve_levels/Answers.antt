@@ -1,12 +1,7 @@
-use Rattle.std.proofs.Common.{◌≡◌, ◌<◌, ◌≤◌, ℕ, List, map, get_or, length, arith, get_or-set_same, get_or-set_other}
+use Rattle.bidi_base.proofs.Common.{◌≡◌, ◌<◌, ◌≤◌, ℕ, List, map, get_or, length, arith, get_or-set_same, get_or-set_other, ext_get_or, get_or-map, get_or_default, length-map, take_more_set, fold_push, get_or-zip, length-zip, implicit_level, class_at}
 use Rattle.std.specs.List.{zip}
-use Rattle.std.proofs.lemmas.List.{ext_get_or, get_or-map, get_or_default, length-map, take_more_set}
-use Rattle.std.proofs.lemmas.List.Sums.{fold_push}
-use Rattle.std.proofs.lemmas.Slice.Zip.{get_or-zip, length-zip}
 use Rattle.bidi_base.specs.declared.char_data.BidiClass.{BidiClass}
 use Rattle.bidi_base.specs.declared.char_data.BidiClass.TheVariants.{L}
-use Rattle.bidi_base.specs.Implicit.{implicit_level}
-use Rattle.bidi_base.specs.Places.{class_at}
 use Rattle.bidi_rules.proofs.implicit.levels.resolve_levels.Goals as goal
 
 -- the level that is read is the one before the pass

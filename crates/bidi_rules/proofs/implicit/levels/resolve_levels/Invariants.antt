@@ -1,6 +1,4 @@
-use Rattle.std.proofs.Common.{◌≡◌, ◌<◌, ◌≤◌, ℕ, fold, max, take, get_or}
-use Rattle.bidi_base.specs.Implicit.{implicit_level}
-use Rattle.bidi_base.specs.Places.{class_at}
+use Rattle.bidi_base.proofs.Common.{◌≡◌, ◌<◌, ◌≤◌, ℕ, fold, max, take, get_or, implicit_level, class_at}
 use Rattle.bidi_rules.proofs.implicit.levels.resolve_levels.Given as goal
 
 -- the units so far have their implicit levels, and the others stay

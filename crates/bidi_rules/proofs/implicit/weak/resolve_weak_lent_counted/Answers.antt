@@ -1,11 +1,6 @@
 -- The three steps, one behind another.
-use Rattle.std.proofs.Common.{◌≡◌, ℕ, true, false, List, length, map, arith}
-use Rattle.std.specs.declared.ops.Range.{Range}
+use Rattle.bidi_base.proofs.Common.{◌≡◌, ℕ, true, false, List, length, map, arith, Range, class_at, is_per_char, IsPerChar, bounds, are_ordered, in_runs, AreLines, carried}
 use Rattle.bidi_base.specs.declared.char_data.BidiClass.{BidiClass}
-use Rattle.bidi_base.specs.Places.{class_at}
-use Rattle.bidi_base.specs.Text.{is_per_char, IsPerChar}
-use Rattle.bidi_base.specs.Units.{bounds, are_ordered, in_runs, AreLines}
-use Rattle.bidi_base.specs.Weak.{carried}
 use Rattle.bidi_base.proofs.PerCharTests.{class_eq, class_test}
 use Rattle.bidi_base.proofs.TextLemmas.{HasUnits}
 use Rattle.bidi_base.proofs.UnitsLemmas.{IsPerChar-from_is_per_char}
@@ -44,26 +39,17 @@ resolve_marks_and_numbers-requires-clause-per_char g c =
 
 pub change-requires-clause-within : goal.change-requires-clause-within
 change-requires-clause-within g c =
-    let len_of = g.T.TextSource.units in
-    let chars : List ℕ = g.T.TextSource.characters c.args.text in
-    let h = g.met.T.TextSource.has_units in
-    let old = c.args.processing_classes.now in
-    let read = c.runs-runs.result.now in
-    let w = ready len_of h chars c.args.sequence read old c.runs-runs.ensures c.requires.fits c.requires.per_char in
-    let done = c.resolve_marks_and_numbers.ensures.walked in
-    rw (done.2.long, done.1.long) (lines-within len_of h chars (map bounds read) w.lines w.ordered c.sos-sos.result old w.per)
+    grind (
+      arith,
+      ready g.T.TextSource.units g.met.T.TextSource.has_units (g.T.TextSource.characters c.args.text) c.args.sequence c.runs-runs.result.now c.args.processing_classes.now c.runs-runs.ensures c.requires.fits c.requires.per_char,
+      lines-within g.T.TextSource.units g.met.T.TextSource.has_units (g.T.TextSource.characters c.args.text) (map bounds c.runs-runs.result.now),
+    )
 
 pub returns : goal.returns
 returns g c =
-    let len_of = g.T.TextSource.units in
-    let chars : List ℕ = g.T.TextSource.characters c.args.text in
-    let h = g.met.T.TextSource.has_units in
-    let old = c.args.processing_classes.now in
-    let read = c.runs-runs.result.now in
-    let w = ready len_of h chars c.args.sequence read old c.runs-runs.ensures c.requires.fits c.requires.per_char in
-    let e = c.change.ensures in
-    let s = c.resolve_marks_and_numbers in
-    let done = s.ensures.walked in
-    let r = resolved len_of h chars c.args.sequence read c.sos-sos.result c.runs-runs.ensures c.sos-sos.ensures old done.0 s.new.classes c.change.new.classes w done.1 done.2 e.changed e.same e.long in
-    let few = characters-at_most len_of h chars (map bounds read) w.lines in
-    grind (arith, r, few, s.ensures.at_least, s.ensures.at_most, e.at_least, e.at_most, c.runs-runs.ensures)
+    grind (
+      arith,
+      ready g.T.TextSource.units g.met.T.TextSource.has_units (g.T.TextSource.characters c.args.text) c.args.sequence c.runs-runs.result.now c.args.processing_classes.now c.runs-runs.ensures c.requires.fits c.requires.per_char,
+      resolved g.T.TextSource.units g.met.T.TextSource.has_units (g.T.TextSource.characters c.args.text) c.args.sequence c.runs-runs.result.now c.sos-sos.result c.runs-runs.ensures c.sos-sos.ensures c.args.processing_classes.now c.resolve_marks_and_numbers.ensures.walked.0 c.resolve_marks_and_numbers.new.classes c.change.new.classes,
+      characters-at_most g.T.TextSource.units g.met.T.TextSource.has_units (g.T.TextSource.characters c.args.text) (map bounds c.runs-runs.result.now),
+    )

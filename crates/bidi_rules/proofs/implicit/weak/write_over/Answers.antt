@@ -1,8 +1,6 @@
-use Rattle.std.proofs.Common.{◌≡◌, ℕ, Bool, get_or, sym, ◌∙◌, ap, inl, inr, arith}
-use Rattle.std.proofs.lemmas.Bool.{cases_Bool}
+use Rattle.bidi_base.proofs.Common.{◌≡◌, ℕ, Bool, get_or, sym, ◌∙◌, ap, inl, inr, arith, cases_Bool, is_kept_in_place}
 use Rattle.std.proofs.lemmas.List.{set-get_or}
 use Rattle.bidi_base.specs.declared.char_data.BidiClass.TheVariants.{L}
-use Rattle.bidi_base.specs.Classes.{is_kept_in_place}
 use Rattle.bidi_rules.proofs.WrittenOver.{IsWrittenOver-skip, IsWrittenOver-set, IsWrittenOver-end}
 use Rattle.bidi_rules.proofs.implicit.weak.write_over.Goals as goal
 

@@ -1,6 +1,5 @@
-use Rattle.std.proofs.Common.{◌≡◌, ◌+◌, ◌-◌, ◌≤◌, get_or}
+use Rattle.bidi_base.proofs.Common.{◌≡◌, ◌+◌, ◌-◌, ◌≤◌, get_or, is_kept_in_place}
 use Rattle.bidi_base.specs.declared.char_data.BidiClass.TheVariants.{L}
-use Rattle.bidi_base.specs.Classes.{is_kept_in_place}
 use Rattle.bidi_rules.specs.WeakWalk.{IsWrittenOver}
 use Rattle.bidi_rules.proofs.implicit.weak.write_over.Given as goal
 

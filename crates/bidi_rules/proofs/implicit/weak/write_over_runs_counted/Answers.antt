@@ -1,9 +1,5 @@
-use Rattle.std.proofs.Common.{◌≡◌, ℕ, ◌<◌, ◌&&◌, true, false, List, length, map, drop, get_or, ltb, ◌∙◌, sym, ap, inl, inr, arith, rules}
+use Rattle.bidi_base.proofs.Common.{◌≡◌, ℕ, ◌<◌, ◌&&◌, true, false, List, length, map, drop, get_or, ltb, ◌∙◌, sym, ap, inl, inr, arith, rules, cases_lt, get_or-map, length-map, take_all, Range, bounds}
 use Rattle.std.specs.Prelude.{max, min}
-use Rattle.std.proofs.lemmas.Bool.{cases_lt}
-use Rattle.std.proofs.lemmas.List.{get_or-map, length-map, take_all}
-use Rattle.std.specs.declared.ops.Range.{Range}
-use Rattle.bidi_base.specs.Units.{bounds}
 use Rattle.bidi_rules.proofs.CountBelow.{count_below-none, count_below-more, count_below-parts, count_below-monotone, ends_ascend}
 use Rattle.bidi_rules.proofs.InRuns.{run_some}
 use Rattle.bidi_rules.proofs.KeptRuns.{no_range}
@@ -28,7 +24,6 @@ loop-class-preserved g c =
     let runs = c.args.runs.now in
     let ranges = map bounds runs in
     let index = c.loop-class.index in
-    let inv = c.loop-class.invariant in
     let it = comes runs index c.args.to (sym c.begins_below.ensures ∙ c.loop-class-test.true) in
     let fits : index < length ranges = omega (arith, it.fits, length-map runs bounds) in
     let r = get_or ranges index (0, 0) in
@@ -37,7 +32,7 @@ loop-class-preserved g c =
     record {
       fits = omega (arith, it.fits);
       written = search (rules, runs-more);
-      at_least = omega (arith, inv.at_least, c.write_over.ensures.steps);
+      at_least = omega (arith, c.loop-class.invariant.at_least, c.write_over.ensures.steps);
       at_most = λ some first. grind (arith, ends_ascend, run_some, count_below-more);
     }
 
@@ -57,13 +52,10 @@ returns-clause-written g c =
 
 pub returns-clause-at_most : goal.returns-clause-at_most
 returns-clause-at_most g c =
-    let ranges = map bounds c.args.runs.now in
-    let index = c.loop-class.index in
-    λ some first.
-    omega (
+    grind (
       arith,
-      c.loop-class.invariant.at_most some first,
-      count_below-parts index ranges c.args.from,
-      count_below-parts index ranges c.args.to,
-      count_below-monotone 0 (drop index ranges) c.args.from c.args.to (are_ordered-drop 0 index ranges c.requires.ordered) (omega arith),
+      count_below-parts c.loop-class.index (map bounds c.args.runs.now) c.args.from,
+      count_below-parts c.loop-class.index (map bounds c.args.runs.now) c.args.to,
+      count_below-monotone 0 (drop c.loop-class.index (map bounds c.args.runs.now)) c.args.from c.args.to (are_ordered-drop 0 c.loop-class.index (map bounds c.args.runs.now) c.requires.ordered),
+      are_ordered-drop 0 c.loop-class.index (map bounds c.args.runs.now) c.requires.ordered,
     )

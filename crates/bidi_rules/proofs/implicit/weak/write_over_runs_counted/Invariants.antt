@@ -1,6 +1,5 @@
 -- The runs so far are written, and where each of them ends behind `from` it has a unit there.
-use Rattle.std.proofs.Common.{◌+◌, ◌-◌, ◌*◌, ◌<◌, ◌≤◌, length, map, take, get_or}
-use Rattle.bidi_base.specs.Units.{bounds}
+use Rattle.bidi_base.proofs.Common.{◌+◌, ◌-◌, ◌*◌, ◌<◌, ◌≤◌, length, map, take, get_or, bounds}
 use Rattle.bidi_rules.specs.WeakWalk.{count_below, is_seen, IsWrittenOver}
 use Rattle.bidi_rules.proofs.implicit.weak.write_over_runs_counted.Given as goal
 

@@ -1,8 +1,5 @@
 -- One run after another comes to its sequence.
-use Rattle.std.proofs.Common.{ℕ, get_or, unwrap_or, ap, ◌∙◌, arith, rules}
-use Rattle.std.proofs.lemmas.List.{take_all}
-use Rattle.bidi_base.specs.Places.{class_at}
-use Rattle.bidi_base.specs.SequencePass.{waiting_for}
+use Rattle.bidi_base.proofs.Common.{ℕ, get_or, unwrap_or, ap, ◌∙◌, arith, rules, take_all, class_at, waiting_for}
 use Rattle.bidi_base.proofs.AgreeLemmas.{sequences-explicit_levels}
 use Rattle.bidi_rules.specs.Joining.{read_units}
 use Rattle.bidi_rules.proofs.KeptRuns.{no_range}

@@ -1,5 +1,5 @@
 -- The runs that came are joined.
-use Rattle.std.proofs.Common.{take}
+use Rattle.bidi_base.proofs.Common.{take}
 use Rattle.bidi_rules.proofs.RunLoop.{AreJoinedSoFar}
 use Rattle.bidi_rules.proofs.prepare.joining.join_level_runs.Given as goal
 

@@ -1,6 +1,5 @@
 -- None from here on is kept.
-use Rattle.std.proofs.Common.{◌≡◌, ◌<◌, ◌≤◌, ℕ, false}
-use Rattle.bidi_base.specs.Sequences.{is_kept_at}
+use Rattle.bidi_base.proofs.Common.{◌≡◌, ◌<◌, ◌≤◌, ℕ, false, is_kept_at}
 use Rattle.bidi_rules.proofs.prepare.joining.kept_end.Given as goal
 
 abbrev pub invariant-loop-unit : goal.invariant-loop-unit

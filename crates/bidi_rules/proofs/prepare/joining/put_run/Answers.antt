@@ -1,6 +1,5 @@
-use Rattle.std.proofs.Common.{◌≡◌, ◌<◌, ℕ, List, map, length, get_or, set, Option, Some, [], arith}
-use Rattle.std.specs.Prelude.{IfSome, ◌++◌, ◌∷◌}
-use Rattle.std.proofs.lemmas.List.{map-set, get_or-map}
+use Rattle.bidi_base.proofs.Common.{◌≡◌, ◌<◌, ℕ, List, map, length, get_or, set, Option, Some, [], arith, IfSome, map-set, get_or-map}
+use Rattle.std.specs.Prelude.{◌++◌, ◌∷◌}
 use Rattle.bidi_base.specs.declared.char_data.BidiClass.{BidiClass}
 use Rattle.bidi_rules.specs.declared.prepare.sequence.IsolatingRunSequence.{IsolatingRunSequence}
 use Rattle.bidi_rules.specs.Joining.{with_run}

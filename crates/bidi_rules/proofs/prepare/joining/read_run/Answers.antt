@@ -1,13 +1,11 @@
-use Rattle.std.proofs.Common.{◌≡◌, ◌≤◌, ℕ, List, length, true, arith}
+use Rattle.bidi_base.proofs.Common.{◌≡◌, ◌≤◌, ℕ, List, length, true, arith, is_per_char, IsLine}
 use Rattle.bidi_base.specs.contracts.char_data.BidiClassPartialEq.TheImpl.{ghosts}
-use Rattle.bidi_base.specs.Text.{is_per_char, IsLine}
 use Rattle.bidi_base.specs.declared.char_data.BidiClass.{BidiClass}
 use Rattle.bidi_base.proofs.TextLemmas.{HasUnits, is_boundary-le}
 use Rattle.bidi_base.proofs.PerCharTests.{class_test}
 use Rattle.bidi_base.proofs.UnitsLemmas.{length-from_is_per_char}
 use Rattle.bidi_rules.proofs.RunReading.{IsReadTo-start, IsReadTo-jump, IsReadTo-asked, IsReadTo-more, IsReadTo-end, IsReadTo-past, IsReadTo-within}
 use Rattle.bidi_rules.proofs.prepare.joining.read_run.Goals as goal
-use Rattle.bidi_rules.proofs.prepare.joining.read_run.Goals.{After-first_passing-at-in-loop-at}
 
 -- the run lies within
 within : (len_of : ℕ → ℕ) → HasUnits len_of → (chars : List ℕ) (units : List BidiClass) (start end : ℕ) → is_per_char ghosts.eq len_of chars units ≡ true → IsLine len_of chars start end → end ≤ length units

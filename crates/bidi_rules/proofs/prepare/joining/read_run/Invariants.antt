@@ -1,5 +1,5 @@
 -- The characters before the unit at hand are read.
-use Rattle.std.proofs.Common.{◌-◌}
+use Rattle.bidi_base.proofs.Common.{◌-◌}
 use Rattle.bidi_rules.proofs.RunReading.{IsReadTo}
 use Rattle.bidi_rules.proofs.prepare.joining.read_run.Given as goal
 

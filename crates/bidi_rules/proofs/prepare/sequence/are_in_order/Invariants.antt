@@ -1,6 +1,5 @@
 -- The test of what is left answers for the whole.
-use Rattle.std.proofs.Common.{◌≡◌, map, drop}
-use Rattle.bidi_base.specs.Units.{bounds, are_ordered_from, are_ordered}
+use Rattle.bidi_base.proofs.Common.{◌≡◌, map, drop, bounds, are_ordered_from, are_ordered}
 use Rattle.bidi_rules.proofs.prepare.sequence.are_in_order.Given as goal
 
 abbrev pub invariant-loop-run : goal.invariant-loop-run

@@ -1,4 +1,4 @@
-use Rattle.std.proofs.Common.{arith}
+use Rattle.bidi_base.proofs.Common.{arith}
 use Rattle.bidi_show.proofs.ListsLemmas.{filter_map-map}
 use Rattle.bidi_show.proofs.number.LevelWords.levels.Goals as goal
 

@@ -1,4 +1,4 @@
-use Rattle.std.proofs.Common.{arith}
+use Rattle.bidi_base.proofs.Common.{arith}
 use Rattle.bidi_show.proofs.ListsLemmas.{list_all-map}
 use Rattle.bidi_show.proofs.number.LevelWords.parse.Goals as goal
 

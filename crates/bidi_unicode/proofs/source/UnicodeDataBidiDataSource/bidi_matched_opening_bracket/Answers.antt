@@ -1,4 +1,4 @@
-use Rattle.std.proofs.Common.{option_map, sym, ap, ◌∙◌}
+use Rattle.bidi_base.proofs.Common.{option_map, sym, ap, ◌∙◌}
 use Rattle.bidi_unicode.specs.Unicode.{is_opening, is_closing, other_bracket}
 use Rattle.bidi_unicode.proofs.TableLaws.{is_opening-bracket_of, is_closing-bracket_of, bracket_of-mirrored_of}
 use Rattle.bidi_unicode.proofs.source.UnicodeDataBidiDataSource.bidi_matched_opening_bracket.Goals as goal

@@ -1,4 +1,4 @@
-use Rattle.std.proofs.Common.{arith}
+use Rattle.bidi_base.proofs.Common.{arith}
 use Rattle.unicode_bidi.proofs.analysed.Analysed.line_runs.Goals as goal
 
 pub visual_runs_of-requires : goal.visual_runs_of-requires

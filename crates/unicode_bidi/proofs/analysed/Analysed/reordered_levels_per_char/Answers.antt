@@ -1,16 +1,9 @@
-use Rattle.std.proofs.Common.{arith}
-use Rattle.std.proofs.lemmas.Result.{IfOk-weaker}
+use Rattle.bidi_base.proofs.Common.{arith, IfOk-weaker}
 use Rattle.unicode_bidi.proofs.StoredLine.{same_len, within, one_a_unit, of_chars}
 use Rattle.unicode_bidi.proofs.analysed.Analysed.reordered_levels_per_char.Goals as goal
 
-pub levels_per_char-requires-clause-one_a_unit : goal.levels_per_char-requires-clause-one_a_unit
-levels_per_char-requires-clause-one_a_unit g c = grind (arith, one_a_unit)
-
-pub levels_per_char-requires-clause-same_len : goal.levels_per_char-requires-clause-same_len
-levels_per_char-requires-clause-same_len g c = grind (arith, same_len)
-
-pub levels_per_char-requires-clause-within : goal.levels_per_char-requires-clause-within
-levels_per_char-requires-clause-within g c = grind (arith, within)
+pub levels_per_char-requires : goal.levels_per_char-requires
+levels_per_char-requires g c = grind (arith, one_a_unit, same_len, within)
 
 pub returns : goal.returns
 returns g c =

@@ -1,13 +1,9 @@
-use Rattle.std.proofs.Common.{arith}
-use Rattle.std.proofs.lemmas.Result.{IfOk-weaker}
+use Rattle.bidi_base.proofs.Common.{arith, IfOk-weaker}
 use Rattle.unicode_bidi.proofs.StoredLine.{same_len, within, of_units}
 use Rattle.unicode_bidi.proofs.analysed.Analysed.visual_runs.Goals as goal
 
-pub levels_and_runs-requires-clause-same_len : goal.levels_and_runs-requires-clause-same_len
-levels_and_runs-requires-clause-same_len g c = grind (arith, same_len)
-
-pub levels_and_runs-requires-clause-within : goal.levels_and_runs-requires-clause-within
-levels_and_runs-requires-clause-within g c = grind (arith, within)
+pub levels_and_runs-requires : goal.levels_and_runs-requires
+levels_and_runs-requires g c = grind (arith, same_len, within)
 
 pub returns-clause-levels : goal.returns-clause-levels
 returns-clause-levels g c =

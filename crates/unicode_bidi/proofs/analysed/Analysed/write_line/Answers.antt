@@ -1,15 +1,11 @@
-use Rattle.std.proofs.Common.{ℕ, List, map, ap, ◌∙◌, arith}
-use Rattle.bidi_base.specs.Display.{run_of, visual_runs}
+use Rattle.bidi_base.proofs.Common.{ℕ, List, map, ap, ◌∙◌, arith, run_of, visual_runs}
 use Rattle.unicode_bidi.specs.Analysed.{text_of}
 use Rattle.unicode_bidi.proofs.StoredLine.{same_len, within, classes_IsPerChar, levels_IsPerChar}
 use Rattle.unicode_bidi.proofs.TextOfLine.{runs_begin, length-levels_of_line, runs_at_boundaries, flat_map-runs}
 use Rattle.unicode_bidi.proofs.analysed.Analysed.write_line.Goals as goal
 
-pub levels_of_line-requires-clause-same_len : goal.levels_of_line-requires-clause-same_len
-levels_of_line-requires-clause-same_len g c = grind (arith, same_len)
-
-pub levels_of_line-requires-clause-within : goal.levels_of_line-requires-clause-within
-levels_of_line-requires-clause-within g c = grind (arith, within)
+pub levels_of_line-requires : goal.levels_of_line-requires
+levels_of_line-requires g c = grind (arith, same_len, within)
 
 pub visual_runs_of-requires : goal.visual_runs_of-requires
 visual_runs_of-requires g c = grind (arith, length-levels_of_line, classes_IsPerChar, levels_IsPerChar)

@@ -1,4 +1,4 @@
-use Rattle.std.proofs.Common.{arith}
+use Rattle.bidi_base.proofs.Common.{arith}
 use Rattle.bidi_base.proofs.ReadingLemmas.{innermost-last}
 use Rattle.unicode_bidi.proofs.first_walk.Reading.is_waiting.Goals as goal
 

@@ -1,4 +1,4 @@
-use Rattle.std.proofs.lemmas.Bool.{both_ways}
+use Rattle.bidi_base.proofs.Common.{both_ways}
 use Rattle.unicode_bidi.proofs.first_walk.TextReading.meet.Goals as goal
 use Rattle.unicode_bidi.proofs.first_walk.TextReading.meet.Goals.{then-ends+in_ok-close, else-ends}
 

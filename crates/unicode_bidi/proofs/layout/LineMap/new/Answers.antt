@@ -1,5 +1,4 @@
-use Rattle.std.proofs.Common.{◌∙◌, ap, arith}
-use Rattle.bidi_base.specs.Layout.{visual_places}
+use Rattle.bidi_base.proofs.Common.{◌∙◌, ap, arith, visual_places}
 use Rattle.bidi_base.proofs.LayoutLemmas.{own_indexes, visual_places-inverse}
 use Rattle.unicode_bidi.proofs.layout.LineMap.new.Goals as goal
 

@@ -1,6 +1,4 @@
-use Rattle.std.proofs.Common.{◌≡◌, ℕ, List, [], ◌++◌, reverse, arith}
-use Rattle.std.proofs.lemmas.Grind.{common_steps}
-use Rattle.std.proofs.lemmas.List.{reverse-reverse}
+use Rattle.bidi_base.proofs.Common.{◌≡◌, ℕ, List, [], ◌++◌, reverse, arith, common_steps, reverse-reverse}
 use Rattle.unicode_bidi.proofs.line_text.utf16.push_reversed.Goals as goal
 
 -- at the end all have come

@@ -1,7 +1,5 @@
-use Rattle.std.proofs.Common.{◌≡◌, ◌++◌, flat_map, reverse}
+use Rattle.bidi_base.proofs.Common.{◌≡◌, ◌++◌, flat_map, reverse, rev_source, utf16_text}
 use Rattle.std.specs.Char.Escape.{encode_utf16}
-use Rattle.std.specs.Iterator.Adapters.{rev_source}
-use Rattle.bidi_base.specs.Utf16.{utf16_text}
 use Rattle.unicode_bidi.proofs.line_text.utf16.push_reversed.Given as goal
 
 abbrev pub invariant-loop-c : goal.invariant-loop-c

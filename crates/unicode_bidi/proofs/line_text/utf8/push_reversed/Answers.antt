@@ -1,8 +1,4 @@
-use Rattle.std.proofs.Common.{◌≡◌, ℕ, List, ◌++◌, length, reverse, arith}
-use Rattle.std.proofs.lemmas.Grind.{common_steps}
-use Rattle.std.specs.Str.{chars, encode_utf8_all, IsUtf8}
-use Rattle.std.proofs.lemmas.List.{nil_from_length, reverse-reverse}
-use Rattle.std.proofs.lemmas.Str.{chars_from_encodes}
+use Rattle.bidi_base.proofs.Common.{◌≡◌, ℕ, List, ◌++◌, length, reverse, arith, common_steps, chars, encode_utf8_all, IsUtf8, nil_from_length, reverse-reverse, chars_from_encodes}
 use Rattle.unicode_bidi.proofs.line_text.utf8.push_reversed.Goals as goal
 
 -- at the end all have come

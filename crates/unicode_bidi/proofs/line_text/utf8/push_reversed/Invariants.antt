@@ -1,7 +1,5 @@
-use Rattle.std.proofs.Common.{◌≡◌, ◌++◌, flat_map, reverse}
+use Rattle.bidi_base.proofs.Common.{◌≡◌, ◌++◌, flat_map, reverse, rev_source, chars_rest}
 use Rattle.std.specs.Prelude.{string_bytes, encode_utf8, encode_utf8_all}
-use Rattle.std.specs.Iterator.Adapters.{rev_source}
-use Rattle.std.specs.Str.Iter.{chars_rest}
 use Rattle.unicode_bidi.proofs.line_text.utf8.push_reversed.Given as goal
 
 abbrev pub invariant-loop-c : goal.invariant-loop-c

@@ -1,4 +1,4 @@
-use Rattle.std.proofs.Common.{arith}
+use Rattle.bidi_base.proofs.Common.{arith}
 use Rattle.unicode_bidi.proofs.FilledUnits.{none_hidden}
 use Rattle.unicode_bidi.proofs.FlagsLemmas.{has_removed-flags}
 use Rattle.unicode_bidi.proofs.paragraph_levels.LevelResolver.copy_flat.Goals as goal

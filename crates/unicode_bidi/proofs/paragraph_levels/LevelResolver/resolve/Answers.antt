@@ -1,4 +1,4 @@
-use Rattle.std.proofs.Common.{arith}
+use Rattle.bidi_base.proofs.Common.{arith}
 use Rattle.unicode_bidi.proofs.FlagsLemmas.{is_flat-flags}
 use Rattle.unicode_bidi.proofs.paragraph_levels.LevelResolver.resolve.Goals as goal
 

@@ -1,11 +1,5 @@
 -- The passes over the one run.
-use Rattle.std.proofs.Common.{◌≡◌, ◌∙◌, List, [], ℕ, length, map, refl, arith}
-use Rattle.std.proofs.lemmas.List.{length-map}
-use Rattle.bidi_base.specs.Explicit.{explicit_levels, explicit_classes}
-use Rattle.bidi_base.specs.Isolates.{stored_classes}
-use Rattle.bidi_base.specs.Source.{Source}
-use Rattle.bidi_base.specs.Text.{text_len}
-use Rattle.bidi_base.specs.Units.{AreLines}
+use Rattle.bidi_base.proofs.Common.{◌≡◌, ◌∙◌, List, [], ℕ, length, map, refl, arith, length-map, explicit_levels, explicit_classes, stored_classes, Source, text_len, AreLines}
 use Rattle.bidi_base.specs.declared.char_data.BidiClass.{BidiClass}
 use Rattle.bidi_base.proofs.NeutralLemmas.{direction_of-l_or_r}
 use Rattle.bidi_base.proofs.PerUnit.{length-per_unit}
@@ -60,13 +54,10 @@ module _ (g : Over) (c : After-new-sequence g) where
       (characters_of g.T.TextSource.units chars (stored_classes source) j)
   next = joined-IsNext _ g.met.T.TextSource.has_units _ _ given.bracket_of _ fits c.requires.flat j same
 
-pub resolve_weak_lent-requires-clause-per_char : goal.resolve_weak_lent-requires-clause-per_char
-resolve_weak_lent-requires-clause-per_char g c =
-    let n = (goal.at.resolve_weak_lent-requires-clause-per_char g c).After-new-sequence in
-    AreResolvedTo-per_char _ _ _ _ _ _ [] _ (fits g n) (begun g n)
-
-pub resolve_weak_lent-requires-clause-fits : goal.resolve_weak_lent-requires-clause-fits
-resolve_weak_lent-requires-clause-fits g c = lines g (goal.at.resolve_weak_lent-requires-clause-fits g c).After-new-sequence
+pub resolve_weak_lent-requires : goal.resolve_weak_lent-requires
+resolve_weak_lent-requires g c =
+    let n = (goal.at.resolve_weak_lent-requires g c).After-new-sequence in
+    record { per_char = AreResolvedTo-per_char _ _ _ _ _ _ [] _ (fits g n) (begun g n); fits = lines g n }
 
 pub resolve_up_to_n1-requires-clause-fits : goal.resolve_up_to_n1-requires-clause-fits
 resolve_up_to_n1-requires-clause-fits g c = lines g (goal.at.resolve_up_to_n1-requires-clause-fits g c).After-new-sequence
@@ -89,24 +80,22 @@ resolve_levels-requires-clause-lengths g c =
     omega (arith, c.requires.long, c.fill.auto.self, c.resolve_weak_lent.auto.processing_classes, c.resolve_up_to_n1.auto.processing_classes, units_long)
 
 -- the levels are those of the rules
-answered : (g : Over) (c : _) → let n = (goal.at.returns-clause-per_char g c).After-new-sequence in
+answered : (g : Over) (c : _) → let n = (goal.at.returns g c).After-new-sequence in
     AreLevels g.T.TextSource.units g.met.T.TextSource.has_units (chars g n) (source g n) (given g n).bracket_of (paragraph g n) c.resolve_levels.new.levels
 answered g c =
-    let n = (goal.at.returns-clause-per_char g c).After-new-sequence in
-    let flat = c.requires.flat in
+    let n = (goal.at.returns g c).After-new-sequence in
     let weak =
     AreWeakTo-from _ _ _ _ _ _ (fits g n) [] _ (lines g n) (next g n) _ _ (begun g n)
     c.resolve_weak_lent.ensures.kept c.resolve_weak_lent.ensures.removed c.resolve_weak_lent.ensures.outside c.resolve_weak_lent.ensures.per_char in
     let levels_are =
-    levels-whole _ g.met.T.TextSource.has_units _ (source g n) (given g n).bracket_of _ (fits g n) flat c.args.levels.now c.fill.new.self c.requires.long (c.fill.ensures.after (λ y e. e)) in
-    let resolved =
-    AreResolvedTo-more _ _ _ _ _ _ (fits g n) [] _ (lines g n) (next g n) _ c.resolve_up_to_n1.new.processing_classes c.args.paragraph.now.original_classes.now c.fill.new.self
-    c.args.paragraph.now.stored levels_are weak c.in_ok-resolve_up_to_n1.ensures.kept c.in_ok-resolve_up_to_n1.ensures.removed c.in_ok-resolve_up_to_n1.ensures.outside c.in_ok-resolve_up_to_n1.ensures.per_char in
-    let seqs = joined-sequences _ g.met.T.TextSource.has_units _ (source g n) (given g n).bracket_of _ (fits g n) flat _ (same g n) in
-    AreLevels-all _ _ _ _ _ _ _ c.resolve_up_to_n1.new.processing_classes c.fill.new.self c.resolve_levels.new.levels (fits g n) levels_are seqs resolved c.resolve_levels.ensures.levels
+    levels-whole _ g.met.T.TextSource.has_units _ (source g n) (given g n).bracket_of _ (fits g n) c.requires.flat c.args.levels.now c.fill.new.self c.requires.long (c.fill.ensures.after (λ y e. e)) in
+    AreLevels-all _ _ _ _ _ _ _ c.resolve_up_to_n1.new.processing_classes c.fill.new.self c.resolve_levels.new.levels (fits g n) levels_are
+    (joined-sequences _ g.met.T.TextSource.has_units _ (source g n) (given g n).bracket_of _ (fits g n) c.requires.flat _ (same g n))
+    (AreResolvedTo-more _ _ _ _ _ _ (fits g n) [] _ (lines g n) (next g n) _ c.resolve_up_to_n1.new.processing_classes c.args.paragraph.now.original_classes.now c.fill.new.self
+    c.args.paragraph.now.stored levels_are weak c.in_ok-resolve_up_to_n1.ensures.kept c.in_ok-resolve_up_to_n1.ensures.removed c.in_ok-resolve_up_to_n1.ensures.outside c.in_ok-resolve_up_to_n1.ensures.per_char)
+    c.resolve_levels.ensures.levels
 
-pub returns-clause-per_char : goal.returns-clause-per_char
-returns-clause-per_char g c = (answered g c).even
-
-pub returns-clause-resolved : goal.returns-clause-resolved
-returns-clause-resolved g c = (answered g c).resolved
+pub returns : goal.returns
+returns g c =
+    let levels = answered g c in
+    record { per_char = grind (arith, levels); resolved = grind (arith, levels) }

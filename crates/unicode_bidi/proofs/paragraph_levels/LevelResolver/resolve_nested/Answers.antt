@@ -1,8 +1,6 @@
 -- The passes one after another.
-use Rattle.std.proofs.Common.{◌∙◌, List, ℕ, map, ap, arith}
-use Rattle.std.proofs.lemmas.List.{length-map}
+use Rattle.bidi_base.proofs.Common.{◌∙◌, List, ℕ, map, ap, arith, rules, length-map, per_char}
 use Rattle.bidi_base.specs.declared.char_data.BidiClass.TheVariants.{L}
-use Rattle.bidi_base.specs.Text.{per_char}
 use Rattle.bidi_base.proofs.PerUnit.{length-per_unit}
 use Rattle.bidi_base.proofs.StoredSteps.{length-stored_classes}
 use Rattle.bidi_rules.specs.RunSequence.{joined, sequences_in}
@@ -20,12 +18,11 @@ loop-sequence-init g c =
     AreResolvedTo-start _ g.met.T.TextSource.has_units _ _ _ c.args.paragraph.now.level c.args.paragraph.now.original_classes.now _ (length-map (g.T.TextSource.characters c.args.paragraph.now.text) _) c.args.paragraph.now.stored
     (c.as_mut_slice-classes.ensures.value ∙ c.in_ok-prepare.ensures.classes)
 
-pub resolve_weak-requires-clause-per_char : goal.resolve_weak-requires-clause-per_char
-resolve_weak-requires-clause-per_char g c =
-    AreResolvedTo-per_char _ _ _ _ _ _ _ _ (length-map (g.T.TextSource.characters c.args.paragraph.now.text) _) c.loop-sequence.invariant
-
-pub resolve_weak-requires-clause-fits : goal.resolve_weak-requires-clause-fits
-resolve_weak-requires-clause-fits g c = grind arith
+pub resolve_weak-requires : goal.resolve_weak-requires
+resolve_weak-requires g c = record {
+  per_char = AreResolvedTo-per_char _ _ _ _ _ _ _ _ (length-map (g.T.TextSource.characters c.args.paragraph.now.text) _) c.loop-sequence.invariant;
+  fits = grind arith;
+}
 
 -- the sequences are those of the paragraph
 ready : (g : Over) (c : After-deref-sequence-items g)
@@ -40,17 +37,9 @@ ready g c =
     prepared len _ cs _ given.bracket_of _ original _ _ (length-map cs given.class_of) c.args.paragraph.now.stored c.in_ok-prepare.ensures.levels
     (ap (sequences_in len cs (per_char L len cs original)) c.deref-sequence-items.ensures.value ∙ c.in_ok-prepare.ensures.sequences) (rw c.deref-sequence-items.ensures.value c.in_ok-prepare.ensures.fits)
 
-pub resolve_up_to_n1-requires-clause-levels : goal.resolve_up_to_n1-requires-clause-levels
-resolve_up_to_n1-requires-clause-levels g c =
-    let is_ready = ready g (goal.at.resolve_up_to_n1-requires-clause-levels g c).After-deref-sequence-items in
-    omega (arith, prepared-long _ _ _ _ _ _ _ _ _ is_ready, AreResolvedTo-long _ _ _ _ _ _ _ _ is_ready.fits c.loop-sequence.invariant, c.resolve_weak.auto.processing_classes)
-
-pub resolve_up_to_n1-requires-clause-original : goal.resolve_up_to_n1-requires-clause-original
-resolve_up_to_n1-requires-clause-original g c = grind (arith, length-map, length-per_unit, length-stored_classes)
-
-pub resolve_up_to_n1-requires-clause-resolved : goal.resolve_up_to_n1-requires-clause-resolved
-resolve_up_to_n1-requires-clause-resolved g c =
-    let is_ready = ready g (goal.at.resolve_up_to_n1-requires-clause-resolved g c).After-deref-sequence-items in
+pub resolve_up_to_n1-requires : goal.resolve_up_to_n1-requires
+resolve_up_to_n1-requires g c =
+    let is_ready = ready g (goal.at.resolve_up_to_n1-requires g c).After-deref-sequence-items in
     let s = c.sequence-item.result in
     let within = c.loop-sequence-test.true in
     let next = prepared-next _ _ _ _ _ _ _ _ _ is_ready c.loop-sequence.sequence-index s within c.sequence-item.is in
@@ -58,7 +47,13 @@ resolve_up_to_n1-requires-clause-resolved g c =
     let weak =
     AreWeakTo-from _ _ _ _ _ _ is_ready.fits _ (joined s) line next _ c.resolve_weak.new.processing_classes c.loop-sequence.invariant
     c.resolve_weak.ensures.kept c.resolve_weak.ensures.removed c.resolve_weak.ensures.outside c.resolve_weak.ensures.per_char in
-    rw c.lend.ensures.runs (AreWeakTo-resolved _ _ _ _ _ _ is_ready.fits _ (joined s) line next _ weak)
+    record {
+      per_char = first_of (search rules, grind arith);
+      fits = first_of (search rules, grind arith);
+      levels = omega (arith, prepared-long _ _ _ _ _ _ _ _ _ is_ready, AreResolvedTo-long _ _ _ _ _ _ _ _ is_ready.fits c.loop-sequence.invariant, c.resolve_weak.auto.processing_classes);
+      original = grind (arith, length-map, length-per_unit, length-stored_classes);
+      resolved = rw c.lend.ensures.runs (AreWeakTo-resolved _ _ _ _ _ _ is_ready.fits _ (joined s) line next _ weak);
+    }
 
 pub loop-sequence-preserved : goal.loop-sequence-preserved
 loop-sequence-preserved g c =
@@ -81,19 +76,14 @@ loop-sequence-preserved g c =
     c.resolve_weak.new.processing_classes c.resolve_up_to_n1.new.processing_classes c.args.paragraph.now.original_classes.now _
     c.args.paragraph.now.stored is_ready.levels_is (simp (c.lend.ensures.runs, c.lend.ensures.sos, c.lend.ensures.eos) weak) c.in_ok-resolve_up_to_n1.ensures.kept c.in_ok-resolve_up_to_n1.ensures.removed c.in_ok-resolve_up_to_n1.ensures.outside c.in_ok-resolve_up_to_n1.ensures.per_char))
 
-pub resolve_levels-requires-clause-lengths : goal.resolve_levels-requires-clause-lengths
-resolve_levels-requires-clause-lengths g c =
-    let is_ready = ready g (goal.at.resolve_levels-requires-clause-lengths g c).After-deref-sequence-items in
-    omega (arith, prepared-long _ _ _ _ _ _ _ _ _ is_ready, AreResolvedTo-long _ _ _ _ _ _ _ _ is_ready.fits c.loop-sequence.invariant)
+pub resolve_levels-requires : goal.resolve_levels-requires
+resolve_levels-requires g c =
+    let is_ready = ready g (goal.at.resolve_levels-requires g c).After-deref-sequence-items in record {
+      lengths = omega (arith, prepared-long _ _ _ _ _ _ _ _ _ is_ready, AreResolvedTo-long _ _ _ _ _ _ _ _ is_ready.fits c.loop-sequence.invariant);
+      explicit = prepared-low _ _ _ _ _ _ _ _ _ is_ready c.args.paragraph.now.low;
+    }
 
-pub resolve_levels-requires-clause-explicit : goal.resolve_levels-requires-clause-explicit
-resolve_levels-requires-clause-explicit g c =
-    prepared-low _ _ _ _ _ _ _ _ _ (ready g (goal.at.resolve_levels-requires-clause-explicit g c).After-deref-sequence-items) c.args.paragraph.now.low
-
-pub returns-clause-per_char : goal.returns-clause-per_char
-returns-clause-per_char g c =
-    (AreLevels-from _ _ _ _ _ _ _ _ _ (ready g (goal.at.returns-clause-per_char g c).After-deref-sequence-items) c.loop-sequence.sequence-index _ _ c.loop-sequence-test.false c.loop-sequence.invariant c.resolve_levels.ensures.levels).even
-
-pub returns-clause-resolved : goal.returns-clause-resolved
-returns-clause-resolved g c =
-    (AreLevels-from _ _ _ _ _ _ _ _ _ (ready g (goal.at.returns-clause-resolved g c).After-deref-sequence-items) c.loop-sequence.sequence-index _ _ c.loop-sequence-test.false c.loop-sequence.invariant c.resolve_levels.ensures.levels).resolved
+pub returns : goal.returns
+returns g c =
+    let levels = AreLevels-from _ _ _ _ _ _ _ _ _ (ready g (goal.at.returns g c).After-deref-sequence-items) _ _ _ c.loop-sequence-test.false c.loop-sequence.invariant c.resolve_levels.ensures.levels in
+    record { per_char = levels.even; resolved = levels.resolved }

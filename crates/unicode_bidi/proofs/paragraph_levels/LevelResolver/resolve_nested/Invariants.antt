@@ -1,5 +1,5 @@
 -- The sequences before the next one are resolved.
-use Rattle.std.proofs.Common.{List, ℕ, map}
+use Rattle.bidi_base.proofs.Common.{List, ℕ, map}
 use Rattle.unicode_bidi.proofs.LevelPasses.{AreResolvedTo, sequences_before}
 use Rattle.unicode_bidi.proofs.paragraph_levels.LevelResolver.resolve_nested.Given as goal
 

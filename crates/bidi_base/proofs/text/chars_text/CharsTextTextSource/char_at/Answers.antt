@@ -1,4 +1,4 @@
-use Rattle.std.proofs.Common.{arith}
+use Rattle.bidi_base.proofs.Common.{arith}
 use Rattle.bidi_base.proofs.CharsLemmas.{char_at-one_unit, char_at-past}
 use Rattle.bidi_base.proofs.text.chars_text.CharsTextTextSource.char_at.Goals as goal
 

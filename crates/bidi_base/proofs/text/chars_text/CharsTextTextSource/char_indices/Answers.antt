@@ -1,5 +1,4 @@
-use Rattle.std.proofs.Common.{rules}
-use Rattle.bidi_base.specs.Text.{char_indices_from, one_unit}
+use Rattle.bidi_base.proofs.Common.{rules, char_indices_from, one_unit}
 use Rattle.bidi_base.specs.declared.text.chars_text.CharsCharIndexIter.{CharsCharIndexIter}
 use Rattle.bidi_base.proofs.GivesLemmas.{gives_first}
 use Rattle.bidi_base.proofs.text.chars_text.CharsTextTextSource.char_indices.Goals as goal

@@ -1,4 +1,4 @@
-use Rattle.std.proofs.Common.{rules}
+use Rattle.bidi_base.proofs.Common.{rules}
 use Rattle.bidi_base.proofs.GivesLemmas.{gives_first}
 use Rattle.bidi_base.proofs.text.chars_text.CharsTextTextSource.chars.Goals as goal
 

@@ -1,5 +1,4 @@
-use Rattle.std.proofs.Common.{rules}
-use Rattle.bidi_base.specs.Text.{indices_lengths_from, one_unit}
+use Rattle.bidi_base.proofs.Common.{rules, indices_lengths_from, one_unit}
 use Rattle.bidi_base.specs.declared.text.chars_text.CharsIndexLenIter.{CharsIndexLenIter}
 use Rattle.bidi_base.proofs.GivesLemmas.{gives_first}
 use Rattle.bidi_base.proofs.text.chars_text.CharsTextTextSource.indices_lengths.Goals as goal

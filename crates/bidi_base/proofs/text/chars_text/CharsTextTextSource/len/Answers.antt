@@ -1,4 +1,4 @@
-use Rattle.std.proofs.Common.{sym}
+use Rattle.bidi_base.proofs.Common.{sym}
 use Rattle.bidi_base.proofs.PlaceLemmas.{text_len-one_unit}
 use Rattle.bidi_base.proofs.text.chars_text.CharsTextTextSource.len.Goals as goal
 

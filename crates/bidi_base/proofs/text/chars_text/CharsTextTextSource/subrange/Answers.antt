@@ -1,4 +1,4 @@
-use Rattle.std.proofs.Common.{◌≤◌, length, sym, arith}
+use Rattle.bidi_base.proofs.Common.{◌≤◌, length, sym, arith}
 use Rattle.bidi_base.proofs.CharsLemmas.{is_boundary-within, subrange-one_unit}
 use Rattle.bidi_base.proofs.text.chars_text.CharsTextTextSource.subrange.Goals as goal
 

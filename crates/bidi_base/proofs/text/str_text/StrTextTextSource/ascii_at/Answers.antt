@@ -1,4 +1,4 @@
-use Rattle.std.proofs.Common.{arith}
+use Rattle.bidi_base.proofs.Common.{arith}
 use Rattle.bidi_base.proofs.StrLemmas.{ascii_at-byte, ascii_at-past}
 use Rattle.bidi_base.proofs.text.str_text.StrTextTextSource.ascii_at.Goals as goal
 

@@ -1,8 +1,5 @@
-use Rattle.std.proofs.Common.{◌≡◌, ◌∙◌, ◌-◌, ◌++◌, ℕ, List, length, length-append, refl, arith}
-use Rattle.std.specs.Char.{encode_utf8, len_utf8}
-use Rattle.std.specs.Str.{IsCharBoundary}
-use Rattle.std.specs.Str.Iter.{chars_rest}
-use Rattle.std.proofs.lemmas.Str.{length-encode}
+use Rattle.bidi_base.proofs.Common.{◌≡◌, ◌∙◌, ◌-◌, ◌++◌, ℕ, List, length, length-append, refl, arith, len_utf8, IsCharBoundary, chars_rest, length-encode}
+use Rattle.std.specs.Char.{encode_utf8}
 use Rattle.bidi_base.proofs.StrLemmas.{char_at-inside, char_at-read}
 use Rattle.bidi_base.proofs.text.str_text.StrTextTextSource.char_at.Goals as goal
 

@@ -1,5 +1,4 @@
-use Rattle.std.proofs.Common.{◌∙◌, subst, rules}
-use Rattle.std.specs.Str.{IsUtf8}
+use Rattle.bidi_base.proofs.Common.{◌∙◌, subst, rules, IsUtf8}
 use Rattle.bidi_base.proofs.StrLemmas.{char_indices_gives}
 use Rattle.bidi_base.proofs.text.str_text.StrTextTextSource.char_indices.Goals as goal
 

@@ -1,9 +1,4 @@
-use Rattle.std.proofs.Common.{subst, sym, rules}
-use Rattle.std.specs.Str.{IsUtf8, chars}
-use Rattle.std.specs.Char.{len_utf8}
-use Rattle.std.proofs.lemmas.Iterator.Consumers.{YieldsList-from_first}
-use Rattle.bidi_base.specs.Text.{indices_lengths_from}
-use Rattle.bidi_base.specs.declared.text.str_text.Utf8IndexLenIter.{Utf8IndexLenIter}
+use Rattle.bidi_base.proofs.Common.{subst, sym, rules, IsUtf8, chars, len_utf8, YieldsList-from_first, indices_lengths_from, Utf8IndexLenIter}
 use Rattle.bidi_base.proofs.StrLemmas.{lengths_left}
 use Rattle.bidi_base.proofs.text.str_text.StrTextTextSource.indices_lengths.Goals as goal
 

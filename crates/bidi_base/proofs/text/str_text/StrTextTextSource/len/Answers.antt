@@ -1,4 +1,4 @@
-use Rattle.std.proofs.Common.{sym}
+use Rattle.bidi_base.proofs.Common.{sym}
 use Rattle.bidi_base.proofs.StrLemmas.{text_len-chars}
 use Rattle.bidi_base.proofs.text.str_text.StrTextTextSource.len.Goals as goal
 

@@ -1,4 +1,4 @@
-use Rattle.std.proofs.Common.{arith}
+use Rattle.bidi_base.proofs.Common.{arith}
 use Rattle.bidi_base.proofs.StrLemmas.{IsCharBoundary-from_is_boundary, subrange-from_str}
 use Rattle.bidi_base.proofs.text.str_text.StrTextTextSource.subrange.Goals as goal
 

@@ -1,9 +1,5 @@
-use Rattle.std.proofs.Common.{◌≡◌, ◌∙◌, ◌+◌, ◌-◌, ℕ, Some, length, length-append, ap, arith}
-use Rattle.std.specs.Char.{encode_utf8, len_utf8}
-use Rattle.std.specs.declared.str.CharIndices.{CharIndices}
-use Rattle.std.specs.Str.Iter.{char_indices_rest, char_indices_offset, char_indices_steps}
-use Rattle.std.proofs.lemmas.Str.{IsUtf8-past_char, length-encode}
-use Rattle.bidi_base.specs.declared.text.str_text.Utf8IndexLenIter.{Utf8IndexLenIter}
+use Rattle.bidi_base.proofs.Common.{◌≡◌, ◌∙◌, ◌+◌, ◌-◌, ℕ, Some, length, length-append, ap, arith, len_utf8, CharIndices, char_indices_rest, char_indices_offset, char_indices_steps, IsUtf8-past_char, length-encode, Utf8IndexLenIter}
+use Rattle.std.specs.Char.{encode_utf8}
 use Rattle.bidi_base.proofs.StrLemmas.{lengths_left, lengths_end, lengths_step}
 use Rattle.bidi_base.proofs.GivesLemmas.{progress}
 use Rattle.bidi_base.proofs.text.str_text.Utf8IndexLenIterIterator.next.Goals as goal
@@ -17,10 +13,8 @@ overflow_sub-len c = omega (arith, c.offset.ensures, c.in-Some.ensures.steps.0, 
 
 pub returns-in-Some-clause-steps : goal.returns-in-Some-clause-steps
 returns-in-Some-clause-steps c =
-    let s = c.args.self.now.iter in
-    let t = c.next.new.self in
     let h = c.in-Some.ensures.steps in
-    rw (c.offset.ensures, long s t c.in-Some.at c.in-Some._c h) (lengths_step s t (c.in-Some.at, c.in-Some._c) c.requires.0 h)
+    rw (c.offset.ensures, long c.args.self.now.iter c.next.new.self c.in-Some.at c.in-Some._c h) (lengths_step c.args.self.now.iter c.next.new.self (c.in-Some.at, c.in-Some._c) c.requires.0 h)
 
 pub returns-in-Some-clause-goes : goal.returns-in-Some-clause-goes
 returns-in-Some-clause-goes c =

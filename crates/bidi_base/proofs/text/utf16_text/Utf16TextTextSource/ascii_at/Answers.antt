@@ -1,4 +1,4 @@
-use Rattle.std.proofs.Common.{arith, lt-ltb, le-ltb}
+use Rattle.bidi_base.proofs.Common.{arith, lt-ltb, le-ltb}
 use Rattle.bidi_base.proofs.Utf16Lemmas.{ascii_at-unit, ascii_at-past}
 use Rattle.bidi_base.proofs.text.utf16_text.Utf16TextTextSource.ascii_at.Goals as goal
 

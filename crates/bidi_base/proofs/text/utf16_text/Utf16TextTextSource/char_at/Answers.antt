@@ -1,5 +1,4 @@
-use Rattle.std.proofs.Common.{arith, length-drop}
-use Rattle.std.proofs.lemmas.List.{take_all}
+use Rattle.bidi_base.proofs.Common.{arith, length-drop, take_all}
 use Rattle.bidi_base.proofs.Utf16Lemmas.{char_at-inside, char_at-past, char_at-first, char_at-cut, NoPairAt-from_splits_pair}
 use Rattle.bidi_base.proofs.text.utf16_text.Utf16TextTextSource.char_at.Goals as goal
 use Rattle.bidi_base.proofs.text.utf16_text.Utf16TextTextSource.char_at.Goals.{then-index-units-via-then-index-units, then-index-units-via-else-index-units+then-splits_pair}

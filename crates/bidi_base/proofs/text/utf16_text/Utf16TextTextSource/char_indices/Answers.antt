@@ -1,6 +1,4 @@
-use Rattle.std.proofs.Common.{rules}
-use Rattle.bidi_base.specs.Text.{char_indices_from}
-use Rattle.bidi_base.specs.Utf16.{utf16_text, utf16_len}
+use Rattle.bidi_base.proofs.Common.{rules, char_indices_from, utf16_text, utf16_len}
 use Rattle.bidi_base.specs.declared.text.utf16_text.Utf16CharIndexIter.{Utf16CharIndexIter}
 use Rattle.bidi_base.proofs.GivesLemmas.{gives_first}
 use Rattle.bidi_base.proofs.text.utf16_text.Utf16TextTextSource.char_indices.Goals as goal

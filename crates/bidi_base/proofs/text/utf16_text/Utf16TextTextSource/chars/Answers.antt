@@ -1,5 +1,4 @@
-use Rattle.std.proofs.Common.{ap}
-use Rattle.bidi_base.specs.Utf16.{utf16_text}
+use Rattle.bidi_base.proofs.Common.{ap, utf16_text}
 use Rattle.bidi_base.specs.declared.text.utf16_text.Utf16CharIter.{Utf16CharIter}
 use Rattle.bidi_base.proofs.GivesLemmas.{gives_first}
 use Rattle.bidi_base.proofs.text.utf16_text.Utf16TextTextSource.chars.Goals as goal

@@ -1,6 +1,4 @@
-use Rattle.std.proofs.Common.{rules}
-use Rattle.bidi_base.specs.Text.{indices_lengths_from}
-use Rattle.bidi_base.specs.Utf16.{utf16_text, utf16_len}
+use Rattle.bidi_base.proofs.Common.{rules, indices_lengths_from, utf16_text, utf16_len}
 use Rattle.bidi_base.specs.declared.text.utf16_text.Utf16IndexLenIter.{Utf16IndexLenIter}
 use Rattle.bidi_base.proofs.GivesLemmas.{gives_first}
 use Rattle.bidi_base.proofs.text.utf16_text.Utf16TextTextSource.indices_lengths.Goals as goal

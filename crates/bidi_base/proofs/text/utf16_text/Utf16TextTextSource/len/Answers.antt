@@ -1,4 +1,4 @@
-use Rattle.std.proofs.Common.{sym}
+use Rattle.bidi_base.proofs.Common.{sym}
 use Rattle.bidi_base.proofs.Utf16Lemmas.{text_len-utf16}
 use Rattle.bidi_base.proofs.text.utf16_text.Utf16TextTextSource.len.Goals as goal
 

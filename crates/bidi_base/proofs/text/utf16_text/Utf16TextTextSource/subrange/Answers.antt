@@ -1,4 +1,4 @@
-use Rattle.std.proofs.Common.{arith}
+use Rattle.bidi_base.proofs.Common.{arith}
 use Rattle.bidi_base.proofs.Utf16Lemmas.{is_boundary-within, subrange-utf16}
 use Rattle.bidi_base.proofs.text.utf16_text.Utf16TextTextSource.subrange.Goals as goal
 

@@ -1,4 +1,4 @@
-use Rattle.std.proofs.Common.{arith}
+use Rattle.bidi_base.proofs.Common.{arith}
 use Rattle.bidi_plain.proofs.OpenersLemmas.{isolates_in-outside, left_open-pdi, left_open-unmatched}
 use Rattle.bidi_plain.proofs.plain.embeddings.Openers.close.Goals as goal
 

@@ -1,4 +1,4 @@
-use Rattle.std.proofs.Common.{arith}
+use Rattle.bidi_base.proofs.Common.{arith}
 use Rattle.bidi_rules.proofs.StackLemmas.{closed-pdi, closed-pdf, closed-other}
 use Rattle.bidi_rules.proofs.explicit.status.StatusStack.close.Goals as goal
 

@@ -1,5 +1,4 @@
-use Rattle.std.proofs.Common.{arith}
-use Rattle.std.proofs.lemmas.List.{length-reverse}
+use Rattle.bidi_base.proofs.Common.{arith, length-reverse}
 use Rattle.bidi_rules.proofs.StackLemmas.{close_embedding-inside, close_embedding-overflowed, close_embedding-alone, close_embedding-isolate_top, close_embedding-popped}
 use Rattle.bidi_rules.proofs.explicit.status.StatusStack.close_embedding.Goals as goal
 

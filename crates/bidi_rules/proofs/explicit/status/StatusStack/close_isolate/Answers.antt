@@ -1,5 +1,4 @@
-use Rattle.std.proofs.Common.{arith}
-use Rattle.std.proofs.lemmas.List.{length-reverse}
+use Rattle.bidi_base.proofs.Common.{arith, length-reverse}
 use Rattle.bidi_rules.proofs.StackLemmas.{close_isolate-inside, close_isolate-unmatched, close_isolate-pops}
 use Rattle.bidi_rules.proofs.explicit.status.StatusStack.close_isolate.Goals as goal
 

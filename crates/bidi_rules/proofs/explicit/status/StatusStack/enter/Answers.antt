@@ -1,5 +1,5 @@
 -- An opener that fits is pushed, and any other is counted.
-use Rattle.std.proofs.Common.{arith}
+use Rattle.bidi_base.proofs.Common.{arith}
 use Rattle.bidi_rules.proofs.StackLemmas.{entered_pushed, entered_overflow_isolate, entered_overflow_embedding, entered_inside, fits_in-room}
 use Rattle.bidi_rules.proofs.explicit.status.StatusStack.enter.Goals as goal
 

@@ -1,6 +1,4 @@
-use Rattle.std.proofs.Common.{ℕ, List, map, take, arith, rules}
-use Rattle.bidi_base.specs.Source.{Source}
-use Rattle.bidi_base.specs.Units.{bounds, kept_in_place}
+use Rattle.bidi_base.proofs.Common.{ℕ, List, map, take, arith, rules, Source, bounds, kept_in_place}
 use Rattle.bidi_rules.specs.NeutralPass.{placed_brackets}
 use Rattle.bidi_rules.proofs.Gathered.{placed-append}
 use Rattle.bidi_rules.proofs.KeptRuns.{line_at, kept_in_place-none, kept_in_place-more}

@@ -1,7 +1,5 @@
 -- The brackets of the runs so far are read.
-use Rattle.std.proofs.Common.{map, take}
-use Rattle.bidi_base.specs.PairSearch.{HasRead}
-use Rattle.bidi_base.specs.Units.{bounds, kept_in_place}
+use Rattle.bidi_base.proofs.Common.{map, take, HasRead, bounds, kept_in_place}
 use Rattle.bidi_rules.specs.NeutralPass.{placed_brackets}
 use Rattle.bidi_rules.proofs.implicit.neutral.NeutralResolver.gather.Given as goal
 

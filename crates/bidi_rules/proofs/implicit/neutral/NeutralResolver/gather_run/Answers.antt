@@ -1,15 +1,8 @@
-use Rattle.std.proofs.Common.{◌≡◌, ℕ, List, [], ◌∷◌, ◌++◌, Option, sym, ap, ◌∙◌, arith, append-nil, append_assoc, true}
-use Rattle.std.specs.Option.{option_map_or}
+use Rattle.bidi_base.proofs.Common.{◌≡◌, ℕ, List, [], ◌∷◌, ◌++◌, Option, sym, ap, ◌∙◌, arith, append-nil, append_assoc, true, option_map_or, counted_bracket, same_class, brackets_from, HasRead, class_at, Source}
 use Rattle.bidi_base.specs.declared.brackets.Bracket.{Bracket}
 use Rattle.bidi_base.specs.declared.char_data.BidiClass.{BidiClass}
 use Rattle.bidi_base.specs.declared.char_data.BidiClass.TheVariants.{ON}
 use Rattle.bidi_base.specs.declared.data_source.BidiMatchedOpeningBracket.{BidiMatchedOpeningBracket}
-use Rattle.bidi_base.specs.Brackets.{counted_bracket}
-use Rattle.bidi_base.specs.Classes.{same_class}
-use Rattle.bidi_base.specs.FoundBrackets.{brackets_from}
-use Rattle.bidi_base.specs.PairSearch.{HasRead}
-use Rattle.bidi_base.specs.Places.{class_at}
-use Rattle.bidi_base.specs.Source.{Source}
 use Rattle.bidi_base.proofs.TextLemmas.{is_boundary-le}
 use Rattle.bidi_rules.specs.NeutralPass.{unit_bracket, unit_brackets}
 use Rattle.bidi_rules.proofs.UnitBrackets.{unit_brackets-none, unit_brackets-more, unit_brackets-line}

@@ -1,9 +1,6 @@
 -- The brackets of the units that came are read.
-use Rattle.std.proofs.Common.{◌≡◌, ◌-◌, ◌<◌, ◌≤◌, ◌++◌, List, true}
+use Rattle.bidi_base.proofs.Common.{◌≡◌, ◌-◌, ◌<◌, ◌≤◌, ◌++◌, List, true, HasRead, same_class, class_at}
 use Rattle.bidi_base.specs.declared.brackets.Bracket.{Bracket}
-use Rattle.bidi_base.specs.PairSearch.{HasRead}
-use Rattle.bidi_base.specs.Classes.{same_class}
-use Rattle.bidi_base.specs.Places.{class_at}
 use Rattle.bidi_base.specs.declared.char_data.BidiClass.TheVariants.{ON}
 use Rattle.bidi_rules.specs.NeutralPass.{unit_brackets}
 use Rattle.bidi_rules.proofs.implicit.neutral.NeutralResolver.gather_run.Given as goal

@@ -1,7 +1,5 @@
-use Rattle.std.proofs.Common.{◌∷◌, ◌++◌, [], Option, sym, subst, ◌∙◌}
+use Rattle.bidi_base.proofs.Common.{◌∷◌, ◌++◌, [], Option, sym, subst, ◌∙◌, brackets_from, HasRead}
 use Rattle.bidi_base.specs.declared.data_source.BidiMatchedOpeningBracket.{BidiMatchedOpeningBracket}
-use Rattle.bidi_base.specs.FoundBrackets.{brackets_from}
-use Rattle.bidi_base.specs.PairSearch.{HasRead}
 use Rattle.bidi_rules.proofs.implicit.neutral.NeutralResolver.push.Goals as goal
 
 pub returns-in_ok-read : goal.returns-in_ok-read

@@ -1,5 +1,4 @@
-use Rattle.std.proofs.Common.{ℕ, List, refl}
-use Rattle.bidi_base.specs.Source.{Source}
+use Rattle.bidi_base.proofs.Common.{ℕ, List, refl, Source}
 use Rattle.bidi_rules.specs.NeutralPass.{pairs_in}
 use Rattle.bidi_rules.proofs.Gathered.{pairs-nested, pairs-placed}
 use Rattle.bidi_rules.proofs.NeutralSteps.{long}

@@ -1,9 +1,4 @@
-use Rattle.std.proofs.Common.{◌≡◌, ◌<◌, length, map, find, Some, refl, sym, ap, ◌∙◌, arith, rules}
-use Rattle.std.proofs.lemmas.List.{get_or_default}
-use Rattle.bidi_base.specs.Classes.{is_kept_in_place}
-use Rattle.bidi_base.specs.Levels.{direction_of}
-use Rattle.bidi_base.specs.Places.{class_at}
-use Rattle.bidi_base.specs.Units.{bounds, units_in_runs}
+use Rattle.bidi_base.proofs.Common.{◌≡◌, ◌<◌, length, map, find, Some, refl, sym, ap, ◌∙◌, arith, rules, get_or_default, is_kept_in_place, direction_of, class_at, bounds, units_in_runs}
 use Rattle.bidi_rules.specs.NeutralPass.{IsReady}
 use Rattle.bidi_rules.specs.RunSequence.{lent_runs, lent_sos, lent_eos}
 use Rattle.bidi_rules.proofs.NeutralSteps.{IsReady-sequence, IsUpToN1, runs-within, first-is, first-within}
@@ -27,11 +22,11 @@ found g c = grind arith
 
 within : (g : Over) (c : In-Some g) → c.in-Some.first < length c.args.levels.now
 within g c =
-    omega (
+    grind (
       arith,
-      c.requires.levels,
-      first-within g.T.TextSource.units g.met.T.TextSource.has_units (g.T.TextSource.characters c.args.text) (lent_runs c.args.sequence) (lent_sos c.args.sequence) c.args.processing_classes.now
-          (ready g (goal.at.bounds-levels-first g c).After-runs-runs) c.in-Some.first (found g c),
+      first-within g.T.TextSource.units g.met.T.TextSource.has_units (g.T.TextSource.characters c.args.text) (lent_runs c.args.sequence) (lent_sos c.args.sequence) c.args.processing_classes.now (ready g (goal.at.bounds-levels-first g c).After-runs-runs) c.in-Some.first (found g c),
+      ready g (goal.at.bounds-levels-first g c).After-runs-runs,
+      found g c,
     )
 
 pub bounds-levels-first : goal.bounds-levels-first

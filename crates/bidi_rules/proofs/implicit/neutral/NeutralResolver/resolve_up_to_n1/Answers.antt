@@ -1,8 +1,4 @@
-use Rattle.std.proofs.Common.{◌≡◌, ◌<◌, true, length, refl, sym, ap, ◌∙◌, arith}
-use Rattle.std.proofs.lemmas.List.{get_or_default}
-use Rattle.bidi_base.specs.Classes.{is_l_or_r}
-use Rattle.bidi_base.specs.Levels.{direction_of}
-use Rattle.bidi_base.specs.Sequences.{level_at}
+use Rattle.bidi_base.proofs.Common.{◌≡◌, ◌<◌, true, length, refl, sym, ap, ◌∙◌, arith, get_or_default, is_l_or_r, direction_of, level_at}
 use Rattle.bidi_rules.proofs.OneDirection.{IsUpToN1-one}
 use Rattle.bidi_base.proofs.NeutralLemmas.{direction_of-l_or_r}
 use Rattle.bidi_rules.specs.RunSequence.{lent_runs, lent_sos, lent_eos}
@@ -47,13 +43,14 @@ bounds-levels-first g c =
 -- one direction alone
 pub returns-then-stands_alone-clause-kept : goal.returns-then-stands_alone-clause-kept
 returns-then-stands_alone-clause-kept g c =
-    let r = ready g (goal.at.returns-then-stands_alone-clause-kept g c).After-sos-sos in
-    let it = begins g (goal.at.returns-then-stands_alone-clause-kept g c).After-eos-eos r in
-    let own = side g (goal.at.returns-then-stands_alone-clause-kept g c).After-eos-eos r in
-    let classes = c.args.processing_classes.now in
-    (IsUpToN1-sequence g.T.TextSource.units (g.T.TextSource.characters c.args.text) (g.D.BidiDataSource.source c.args.data_source.now) c.args.levels.now c.args.original_classes.now classes classes c.args.sequence c.runs-runs.result.now c.sos-sos.result c.eos-eos.result c.runs-runs.ensures c.sos-sos.ensures c.eos-eos.ensures
-    (IsUpToN1-one g.T.TextSource.units g.met.T.TextSource.has_units (g.T.TextSource.characters c.args.text) c.runs-runs.result.now c.sos-sos.result classes r c.bidi_class-embedding.result own (c.stands_alone.ensures.classes c.if-stands_alone.true)
-    (g.D.BidiDataSource.source c.args.data_source.now) c.args.levels.now c.args.original_classes.now c.eos-eos.result c.in-Some.first (c.stands_alone.ensures.sos c.if-stands_alone.true) (c.stands_alone.ensures.eos c.if-stands_alone.true) (sym c.in-Some.is ∙ c.first_kept.ensures) it)).kept
+    grind (
+      arith,
+      ready g (goal.at.returns-then-stands_alone-clause-kept g c).After-sos-sos,
+      begins g (goal.at.returns-then-stands_alone-clause-kept g c).After-eos-eos (ready g (goal.at.returns-then-stands_alone-clause-kept g c).After-sos-sos),
+      side g (goal.at.returns-then-stands_alone-clause-kept g c).After-eos-eos (ready g (goal.at.returns-then-stands_alone-clause-kept g c).After-sos-sos),
+      IsUpToN1-sequence g.T.TextSource.units (g.T.TextSource.characters c.args.text) (g.D.BidiDataSource.source c.args.data_source.now) c.args.levels.now c.args.original_classes.now c.args.processing_classes.now c.args.processing_classes.now c.args.sequence c.runs-runs.result.now c.sos-sos.result c.eos-eos.result c.runs-runs.ensures c.sos-sos.ensures c.eos-eos.ensures,
+      IsUpToN1-one g.T.TextSource.units g.met.T.TextSource.has_units (g.T.TextSource.characters c.args.text) c.runs-runs.result.now c.sos-sos.result c.args.processing_classes.now (ready g (goal.at.returns-then-stands_alone-clause-kept g c).After-sos-sos) c.bidi_class-embedding.result (side g (goal.at.returns-then-stands_alone-clause-kept g c).After-eos-eos (ready g (goal.at.returns-then-stands_alone-clause-kept g c).After-sos-sos)) (c.stands_alone.ensures.classes c.if-stands_alone.true) (g.D.BidiDataSource.source c.args.data_source.now) c.args.levels.now c.args.original_classes.now c.eos-eos.result c.in-Some.first (c.stands_alone.ensures.sos c.if-stands_alone.true) (c.stands_alone.ensures.eos c.if-stands_alone.true),
+    )
 
 pub resolve_brackets-requires-clause-ready : goal.resolve_brackets-requires-clause-ready
 resolve_brackets-requires-clause-ready g c = grind (arith, ready) steps 400000

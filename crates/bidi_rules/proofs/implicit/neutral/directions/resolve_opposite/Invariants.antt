@@ -1,6 +1,5 @@
 -- The runs that came are read.
-use Rattle.std.proofs.Common.{◌≡◌, ◌≤◌, length, map}
-use Rattle.bidi_base.specs.Units.{bounds}
+use Rattle.bidi_base.proofs.Common.{◌≡◌, ◌≤◌, length, map, bounds}
 use Rattle.bidi_rules.specs.JoinPass.{IsUnderWay, Unjoined}
 use Rattle.bidi_rules.specs.PairWalk.{opposite_of}
 use Rattle.bidi_rules.proofs.InRuns.{start_or}

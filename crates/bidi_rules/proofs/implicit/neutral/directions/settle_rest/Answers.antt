@@ -1,9 +1,5 @@
-use Rattle.std.proofs.Common.{◌≡◌, ℕ, map, get_or, ap, arith}
-use Rattle.std.proofs.lemmas.Grind.{common_steps}
-use Rattle.std.proofs.lemmas.List.{get_or-map, length-map, take_all}
+use Rattle.bidi_base.proofs.Common.{◌≡◌, ℕ, map, ap, arith, common_steps, get_or-map, length-map, take_all, bounds, n2_rule}
 use Rattle.bidi_base.specs.declared.char_data.BidiClass.{BidiClass}
-use Rattle.bidi_base.specs.Units.{bounds}
-use Rattle.bidi_base.specs.Neutral.{n2_rule}
 use Rattle.bidi_rules.proofs.KeptRuns.{no_range}
 use Rattle.bidi_rules.proofs.RunOf.{changed-more, run_end}
 use Rattle.bidi_rules.proofs.implicit.neutral.directions.settle_rest.Goals as goal
@@ -24,13 +20,9 @@ loop-run-preserved c =
     let here = get_or-map bounds runs i no_range (0, 0) c.loop-run-test.true in
     let from_is = ap (λ (r : ℕ × ℕ). r.0) here in
     let to_is = ap (λ (r : ℕ × ℕ). r.1) here in
-    let r = get_or (map bounds runs) i (0, 0) in
     let done = changed-more (n2_rule c.args.embedding) (settled-twice c.args.embedding) (map bounds runs) i c.args.classes.now c.loop-run.classes c.settle_run.new.classes (omega arith) c.loop-run.invariant.changed c.loop-run.invariant.same
     (λ u from to. c.settle_run.ensures.changed u (omega (arith, from_is)) (omega (arith, to_is))) (λ u out. grind (arith, common_steps)) in
-    record {
-      changed = done.0;
-      same = done.1;
-    }
+    record { changed = done.0; same = done.1 }
 
 pub returns-clause-changed : goal.returns-clause-changed
 returns-clause-changed c = grind (arith, length-map, take_all)

@@ -1,8 +1,5 @@
 -- The runs so far are changed.
-use Rattle.std.proofs.Common.{◌≡◌, ℕ, true, false, map, take}
-use Rattle.bidi_base.specs.Places.{class_at}
-use Rattle.bidi_base.specs.Units.{bounds, in_runs}
-use Rattle.bidi_base.specs.Neutral.{n2_rule}
+use Rattle.bidi_base.proofs.Common.{◌≡◌, ℕ, true, false, map, take, class_at, bounds, in_runs, n2_rule}
 use Rattle.bidi_rules.proofs.implicit.neutral.directions.settle_rest.Given as goal
 
 abbrev pub invariant-loop-run : goal.invariant-loop-run

@@ -1,7 +1,5 @@
 -- The units so far are changed.
-use Rattle.std.proofs.Common.{◌≡◌, ℕ, ◌<◌, ◌≤◌}
-use Rattle.bidi_base.specs.Places.{class_at}
-use Rattle.bidi_base.specs.Neutral.{n2_rule}
+use Rattle.bidi_base.proofs.Common.{◌≡◌, ℕ, ◌<◌, ◌≤◌, class_at, n2_rule}
 use Rattle.bidi_rules.proofs.implicit.neutral.directions.settle_run.Given as goal
 
 abbrev pub invariant-loop-unit : goal.invariant-loop-unit

@@ -1,9 +1,4 @@
-use Rattle.std.proofs.Common.{◌≡◌, ℕ, List, ◌+◌, ◌<◌, ◌≤◌, true, get_or, max, sym, ap, ◌∙◌, arith, inl, inr}
-use Rattle.std.proofs.lemmas.Bool.{cases_lt, and_parts}
-use Rattle.std.proofs.lemmas.List.{length-map, take_all}
-use Rattle.bidi_base.specs.Classes.{is_kept_in_place, is_nsm}
-use Rattle.bidi_base.specs.Places.{class_at}
-use Rattle.bidi_base.specs.Text.{is_boundary, place, text_len, IsLine}
+use Rattle.bidi_base.proofs.Common.{◌≡◌, ℕ, List, ◌+◌, ◌<◌, ◌≤◌, true, get_or, ap, ◌∙◌, arith, inl, inr, cases_lt, and_parts, length-map, take_all, is_kept_in_place, is_nsm, class_at, is_boundary, place, text_len, IsLine}
 use Rattle.bidi_base.proofs.PlaceLemmas.{is_boundary-place, place-lt, place-mono}
 use Rattle.bidi_base.proofs.TextLemmas.{is_boundary-le}
 use Rattle.bidi_rules.proofs.CharEnds.{Begins, begins_at}
@@ -24,12 +19,10 @@ begins g c = search (arith, begins_at, inside)
 
 pub loop-at-init : goal.loop-at-init
 loop-at-init g c =
-    let len_of = g.T.TextSource.units in
-    let chars : List ℕ = g.T.TextSource.characters c.args.text in
-    let r = get_or c.args.runs.now c.loop-run.run-index no_range in
-    let here = line_at len_of chars c.args.runs.now c.loop-run.run-index c.loop-run-test.true c.requires.lines in
-    let is : c.max-at.result ≡ max r.start c.args.from = c.max-at.ensures in
-    grind arith
+    grind (
+      arith,
+      line_at g.T.TextSource.units (g.T.TextSource.characters c.args.text) c.args.runs.now c.loop-run.run-index c.loop-run-test.true c.requires.lines,
+    )
 
 pub bounds-classes-at : goal.bounds-classes-at
 bounds-classes-at g c = omega (arith, inside g c, c.requires.long)
@@ -39,30 +32,34 @@ bounds-original_classes-at g c = grind (arith, inside) steps 400000
 
 pub returns-then-ends_marks : goal.returns-then-ends_marks
 returns-then-ends_marks g c =
-    let loop = (goal.at.returns-then-ends_marks g c).In-loop-at in
-    let b = begins g loop in
-    let ends = sym c.ends_marks.ensures ∙ c.if-ends_marks.true in
-    grind (arith, and_parts, earlier-here, in-here, inside g loop, c.requires.long)
+    grind (
+      arith,
+      begins g ((goal.at.returns-then-ends_marks g c).In-loop-at),
+      and_parts,
+      earlier-here,
+      in-here,
+      inside g ((goal.at.returns-then-ends_marks g c).In-loop-at),
+    )
 
 pub end_of-at-requires-clause-inside : goal.end_of-at-requires-clause-inside
 end_of-at-requires-clause-inside g c = inside g (goal.at.end_of-at-requires-clause-inside g c).In-loop-at
 
 pub loop-at-smaller : goal.loop-at-smaller
 loop-at-smaller g c =
-    let len_of = g.T.TextSource.units in
-    let chars : List ℕ = g.T.TextSource.characters c.args.text in
-    let b = begins g (goal.at.loop-at-smaller g c).In-loop-at in
-    omega (arith, c.end_of-at.ensures b.index b.within b.there, b.there, place-lt len_of chars g.met.T.TextSource.has_units b.index (b.index + 1) (omega arith) b.within, c.loop-at-test.true)
+    grind (
+      arith,
+      begins g (goal.at.loop-at-smaller g c).In-loop-at,
+      place-lt g.T.TextSource.units (g.T.TextSource.characters c.args.text) g.met.T.TextSource.has_units (begins g (goal.at.loop-at-smaller g c).In-loop-at).index ((begins g (goal.at.loop-at-smaller g c).In-loop-at).index + 1),
+    )
 
 pub loop-at-preserved : goal.loop-at-preserved
 loop-at-preserved g c =
     let len_of = g.T.TextSource.units in
-    let h = g.met.T.TextSource.has_units in
     let chars : List ℕ = g.T.TextSource.characters c.args.text in
     let s = c.loop-at in
     let b = begins g (goal.at.loop-at-preserved g c).In-loop-at in
     let next : c.end_of-at.result ≡ place len_of chars (b.index + 1) = c.end_of-at.ensures b.index b.within b.there in
-    let more = place-lt len_of chars h b.index (b.index + 1) (omega arith) b.within in
+    let more = place-lt len_of chars g.met.T.TextSource.has_units b.index (b.index + 1) (omega arith) b.within in
     record {
       begins = ap (is_boundary len_of chars) next ∙ is_boundary-place len_of chars (b.index + 1);
       marks = λ u start below k is from kept. elim (cases_lt u s.at) [

@@ -1,9 +1,5 @@
 -- The characters so far are marks, or BN.
-use Rattle.std.proofs.Common.{◌≡◌, ◌-◌, ◌<◌, ◌≤◌, ℕ, true, map, take, get_or}
-use Rattle.bidi_base.specs.Classes.{is_nsm, is_kept_in_place}
-use Rattle.bidi_base.specs.Places.{class_at}
-use Rattle.bidi_base.specs.Text.{is_boundary, place}
-use Rattle.bidi_base.specs.Units.{bounds, in_runs}
+use Rattle.bidi_base.proofs.Common.{◌≡◌, ◌-◌, ◌<◌, ◌≤◌, ℕ, true, map, take, get_or, is_nsm, is_kept_in_place, class_at, is_boundary, place, bounds, in_runs}
 use Rattle.bidi_rules.proofs.KeptRuns.{no_range}
 use Rattle.bidi_rules.proofs.implicit.neutral.marks.marks_end.Given as goal
 

@@ -1,7 +1,4 @@
-use Rattle.std.proofs.Common.{◌≡◌, ◌+◌, ◌-◌, ◌<◌, None, map, drop, sym, ap, ◌∙◌, arith}
-use Rattle.bidi_base.specs.Classes.{as_direction}
-use Rattle.bidi_base.specs.Places.{class_at}
-use Rattle.bidi_base.specs.Units.{bounds, in_runs}
+use Rattle.bidi_base.proofs.Common.{◌≡◌, ◌+◌, ◌-◌, ◌<◌, None, map, drop, sym, ap, ◌∙◌, arith, as_direction, class_at, bounds, in_runs}
 use Rattle.bidi_rules.proofs.RunOf.{run_end}
 use Rattle.bidi_rules.proofs.NearestLemmas.{every-later, IsNearestBefore-here}
 use Rattle.bidi_rules.proofs.implicit.neutral.nearest.direction_before.Goals as goal

@@ -1,8 +1,5 @@
 -- No unit looked at has a direction.
-use Rattle.std.proofs.Common.{◌≡◌, ◌<◌, ◌≤◌, ℕ, true, None, map, drop, get_or}
-use Rattle.bidi_base.specs.Classes.{as_direction}
-use Rattle.bidi_base.specs.Places.{class_at}
-use Rattle.bidi_base.specs.Units.{bounds, in_runs}
+use Rattle.bidi_base.proofs.Common.{◌≡◌, ◌<◌, ◌≤◌, ℕ, true, None, map, drop, get_or, as_direction, class_at, bounds, in_runs}
 use Rattle.bidi_rules.proofs.KeptRuns.{no_range}
 use Rattle.bidi_rules.proofs.implicit.neutral.nearest.direction_before.Given as goal
 

@@ -1,8 +1,5 @@
 -- No unit so far stands for the direction.
-use Rattle.std.proofs.Common.{◌≡◌, ◌<◌, ◌≤◌, ℕ, true, false, map, take}
-use Rattle.bidi_base.specs.Classes.{stands_for}
-use Rattle.bidi_base.specs.Places.{class_at}
-use Rattle.bidi_base.specs.Units.{bounds, in_runs}
+use Rattle.bidi_base.proofs.Common.{◌≡◌, ◌<◌, ◌≤◌, ℕ, true, false, map, take, stands_for, class_at, bounds, in_runs}
 use Rattle.bidi_rules.proofs.implicit.neutral.nearest.first_for.Given as goal
 
 abbrev pub invariant-loop-run : goal.invariant-loop-run

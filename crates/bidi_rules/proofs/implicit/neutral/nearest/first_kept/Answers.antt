@@ -1,6 +1,4 @@
-use Rattle.std.proofs.Common.{◌≡◌, true, sym, ◌∙◌, arith}
-use Rattle.bidi_base.specs.Classes.{is_kept_in_place}
-use Rattle.bidi_base.specs.Places.{class_at}
+use Rattle.bidi_base.proofs.Common.{◌≡◌, true, sym, ◌∙◌, arith, is_kept_in_place, class_at}
 use Rattle.bidi_rules.proofs.FirstKept.{find-passes, find-stops}
 use Rattle.bidi_rules.proofs.RunOf.{run_end}
 use Rattle.bidi_rules.proofs.implicit.neutral.nearest.first_kept.Goals as goal

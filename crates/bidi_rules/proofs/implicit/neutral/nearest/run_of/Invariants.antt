@@ -1,6 +1,5 @@
 -- The runs below `low` end at or before the unit, those from `high` on behind it.
-use Rattle.std.proofs.Common.{◌-◌, ◌<◌, ◌≤◌, ℕ, length, map, get_or}
-use Rattle.bidi_base.specs.Units.{bounds}
+use Rattle.bidi_base.proofs.Common.{◌-◌, ◌<◌, ◌≤◌, ℕ, length, map, get_or, bounds}
 use Rattle.bidi_rules.proofs.implicit.neutral.nearest.run_of.Given as goal
 
 abbrev pub invariant-loop-low : goal.invariant-loop-low

@@ -1,5 +1,4 @@
-use Rattle.std.proofs.Common.{arith}
-use Rattle.std.proofs.lemmas.List.{get_or-map, length-map, take_all}
+use Rattle.bidi_base.proofs.Common.{arith, get_or-map, length-map, take_all}
 use Rattle.bidi_rules.proofs.InRuns.{in_runs-more}
 use Rattle.bidi_rules.proofs.RunOf.{run_end}
 use Rattle.bidi_rules.proofs.implicit.neutral.one_direction.keep_to.Goals as goal

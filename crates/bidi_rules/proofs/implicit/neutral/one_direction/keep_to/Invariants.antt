@@ -1,7 +1,5 @@
 -- The runs so far keep to the direction.
-use Rattle.std.proofs.Common.{◌≡◌, ℕ, true, false, map, take}
-use Rattle.bidi_base.specs.Places.{class_at}
-use Rattle.bidi_base.specs.Units.{bounds, in_runs}
+use Rattle.bidi_base.proofs.Common.{◌≡◌, ℕ, true, false, map, take, class_at, bounds, in_runs}
 use Rattle.bidi_rules.specs.NeutralPass.{turns_from}
 use Rattle.bidi_rules.proofs.implicit.neutral.one_direction.keep_to.Given as goal
 

@@ -1,8 +1,4 @@
-use Rattle.std.proofs.Common.{◌≡◌, ◌+◌, ◌≤◌, ℕ, List, length, map, get_or, sym, ap, subst, ◌∙◌, arith}
-use Rattle.std.proofs.lemmas.List.{length-map, take_all}
-use Rattle.bidi_base.specs.Classes.{is_nsm}
-use Rattle.bidi_base.specs.Text.{place, text_len}
-use Rattle.bidi_base.specs.Units.{bounds, kept_in_place}
+use Rattle.bidi_base.proofs.Common.{◌≡◌, ◌+◌, ◌≤◌, ℕ, List, length, map, get_or, sym, ap, subst, ◌∙◌, arith, length-map, take_all, is_nsm, place, text_len, bounds, kept_in_place}
 use Rattle.bidi_base.proofs.PlaceLemmas.{place-mono}
 use Rattle.bidi_rules.specs.PairWalk.{spot, IsSet, IsTaken}
 use Rattle.bidi_rules.proofs.NeutralSteps.{runs-within}

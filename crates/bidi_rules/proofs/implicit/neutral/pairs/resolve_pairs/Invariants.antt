@@ -1,8 +1,5 @@
 -- N0 is done for the pairs so far, and the row is what was written last.
-use Rattle.std.proofs.Common.{◌≡◌, ℕ, List, true, length, map}
-use Rattle.bidi_base.specs.Brackets.{AreNestedPairs}
-use Rattle.bidi_base.specs.Classes.{is_l_or_r}
-use Rattle.bidi_base.specs.Units.{bounds, kept_in_place}
+use Rattle.bidi_base.proofs.Common.{◌≡◌, ℕ, List, true, length, map, AreNestedPairs, is_l_or_r, bounds, kept_in_place}
 use Rattle.bidi_base.proofs.TextLemmas.{HasUnits}
 use Rattle.bidi_rules.specs.NeutralPass.{IsReady}
 use Rattle.bidi_rules.specs.PairWalk.{at_spots, IsRow}

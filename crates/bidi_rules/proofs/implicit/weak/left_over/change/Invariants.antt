@@ -1,7 +1,5 @@
 -- The runs so far are changed.
-use Rattle.std.proofs.Common.{◌≡◌, ℕ, ◌+◌, ◌*◌, ◌≤◌, true, false, length, map, take}
-use Rattle.bidi_base.specs.Places.{class_at}
-use Rattle.bidi_base.specs.Units.{bounds, in_runs, units_in_runs}
+use Rattle.bidi_base.proofs.Common.{◌≡◌, ℕ, ◌+◌, ◌*◌, ◌≤◌, true, false, length, map, take, class_at, bounds, in_runs, units_in_runs}
 use Rattle.bidi_rules.specs.WeakPass.{left_over}
 use Rattle.bidi_rules.proofs.implicit.weak.left_over.change.Given as goal
 

@@ -1,5 +1,4 @@
-use Rattle.std.proofs.Common.{◌≢◌, ◌<◌, length, ◌∙◌, inl, inr, arith, get_or-set_same, get_or-set_other}
-use Rattle.std.proofs.lemmas.Bool.{cases_eq}
+use Rattle.bidi_base.proofs.Common.{◌≢◌, ◌<◌, length, ◌∙◌, inl, inr, arith, get_or-set_same, get_or-set_other, cases_eq}
 use Rattle.bidi_base.specs.declared.char_data.BidiClass.TheVariants.{L}
 use Rattle.bidi_rules.proofs.implicit.weak.left_over.change_run.Goals as goal
 

@@ -1,7 +1,5 @@
 -- The units before the run are marked.
-use Rattle.std.proofs.Common.{◌+◌, ◌*◌, ◌≤◌, length, map, take}
-use Rattle.bidi_base.specs.Units.{bounds, units_in_runs}
-use Rattle.bidi_base.specs.Weak.{carried}
+use Rattle.bidi_base.proofs.Common.{◌+◌, ◌*◌, ◌≤◌, length, map, take, bounds, units_in_runs, carried}
 use Rattle.bidi_rules.specs.WeakWalk.{AreMarked}
 use Rattle.bidi_rules.proofs.InRuns.{start_or}
 use Rattle.bidi_rules.proofs.implicit.weak.marks.resolve_marks.Given as goal

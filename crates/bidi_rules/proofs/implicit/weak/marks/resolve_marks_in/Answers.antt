@@ -1,8 +1,4 @@
-use Rattle.std.proofs.Common.{◌≡◌, ◌+◌, ℕ, true, false, ap, subst, ◌∙◌, arith}
-use Rattle.std.proofs.lemmas.Bool.{and_from, and_right}
-use Rattle.bidi_base.specs.Classes.{is_kept_in_place}
-use Rattle.bidi_base.specs.Places.{class_at}
-use Rattle.bidi_base.specs.Units.{in_runs}
+use Rattle.bidi_base.proofs.Common.{◌≡◌, ◌+◌, ℕ, true, false, ap, subst, ◌∙◌, arith, and_from, and_right, is_kept_in_place, class_at, in_runs}
 use Rattle.bidi_rules.specs.WeakWalk.{AreMarked}
 use Rattle.bidi_rules.proofs.WeakMarks.{AreMarked-unseen, AreMarked-more}
 use Rattle.bidi_rules.proofs.implicit.weak.marks.resolve_marks_in.Goals as goal
@@ -20,8 +16,7 @@ loop-unit-preserved g c = (
       elim c.if-is_kept_in_place.branch [
         | then-is_kept_in_place b ↦
             let kept : is_kept_in_place (class_at old i) ≡ true = grind arith in
-            let own = b.marked-own.ensures in
-            rw (b.classes-is, b.next-is, b.carried-next.ensures, own)
+            rw (b.classes-is, b.next-is, b.carried-next.ensures, b.marked-own.ensures)
             (AreMarked-more runs sos old now mark i h (omega (arith, c.requires.within, h.long, fits.classes)) (and_from (in_runs runs i) (is_kept_in_place (class_at old i)) (in_run i (omega arith) c.loop-unit-test.true) kept))
         | else-is_kept_in_place b ↦
             let gone : is_kept_in_place (class_at old i) ≡ false = grind arith in

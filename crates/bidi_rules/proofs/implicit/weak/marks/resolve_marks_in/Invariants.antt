@@ -1,7 +1,6 @@
 -- The units of the run that came are marked.
-use Rattle.std.proofs.Common.{◌≡◌, ℕ, ◌+◌, ◌-◌, ◌<◌, ◌≤◌, true, List}
+use Rattle.bidi_base.proofs.Common.{◌≡◌, ℕ, ◌+◌, ◌-◌, ◌<◌, ◌≤◌, true, List, in_runs}
 use Rattle.bidi_base.specs.declared.char_data.BidiClass.{BidiClass}
-use Rattle.bidi_base.specs.Units.{in_runs}
 use Rattle.bidi_rules.specs.WeakWalk.{AreMarked}
 use Rattle.bidi_rules.proofs.implicit.weak.marks.resolve_marks_in.Given as goal
 

@@ -1,5 +1,4 @@
-use Rattle.std.proofs.Common.{inl, inr, arith}
-use Rattle.std.proofs.lemmas.Bool.{cases_eq}
+use Rattle.bidi_base.proofs.Common.{inl, inr, arith, cases_eq}
 use Rattle.bidi_rules.proofs.implicit.weak.numbers.alike_end.Goals as goal
 
 pub loop-unit-preserved : goal.loop-unit-preserved

@@ -1,5 +1,4 @@
-use Rattle.std.proofs.Common.{◌≡◌, ℕ, ◌+◌, ◌-◌, ◌<◌, ◌≤◌}
-use Rattle.bidi_base.specs.Places.{class_at}
+use Rattle.bidi_base.proofs.Common.{◌≡◌, ℕ, ◌+◌, ◌-◌, ◌<◌, ◌≤◌, class_at}
 use Rattle.bidi_rules.proofs.implicit.weak.numbers.alike_end.Given as goal
 
 -- the units so far have the class

@@ -1,4 +1,5 @@
-use Rattle.std.proofs.Common.{rules, ◌≡◌, ◌*◌, ◌<◌, take, drop, Option, Some, sym, ap, ◌∙◌, arith, tests}
+use Rattle.bidi_base.proofs.Common.{rules, ◌≡◌, ◌*◌, ◌<◌, take, drop, Option, Some, sym, ap, ◌∙◌, arith}
+use Rattle.std.proofs.Common.{tests}
 use Rattle.std.specs.Option.{IfSome, option_map}
 use Rattle.bidi_rules.specs.WeakPass.{is_asked}
 use Rattle.bidi_rules.specs.WeakWalk.{is_any_of}
@@ -19,5 +20,4 @@ returns-clause-idle c =
     λ k below.
     let inside : k < whole.0.len = omega (arith, below, whole.3) in
     both _ _ (whole.0.at k) (source.0.at k) _ (source.2.1 k inside) (whole.0.reads k c.args.classes inside) (steady.0 k) (cut.2 k) (λ x p q.
-    let part : x.now ≡ take 32 (drop (k * 32) c.args.classes.now) = q.2.0 ∙ (λ i. take (size i) (drop (k * size i) (from i))) in
-    ap (is_any_of is_asked) (sym part) ∙ search (rules, tests))
+    ap (is_any_of is_asked) (sym (q.2.0 ∙ (λ i. take (size i) (drop (k * size i) (from i))))) ∙ search (rules, tests))

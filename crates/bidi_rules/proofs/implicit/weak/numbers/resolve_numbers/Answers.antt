@@ -1,8 +1,5 @@
-use Rattle.std.proofs.Common.{◌≡◌, ◌+◌, ◌*◌, ◌<◌, ◌≤◌, ℕ, suc, List, length, map, get_or, refl, sym, ◌∙◌, arith}
-use Rattle.std.proofs.lemmas.List.{length-map}
+use Rattle.bidi_base.proofs.Common.{◌≡◌, ◌+◌, ◌*◌, ◌<◌, ◌≤◌, ℕ, suc, List, length, map, get_or, refl, sym, ◌∙◌, arith, length-map, bounds}
 use Rattle.bidi_base.specs.declared.char_data.BidiClass.TheVariants.{ON}
-use Rattle.bidi_base.specs.Places.{class_at}
-use Rattle.bidi_base.specs.Units.{bounds}
 use Rattle.bidi_rules.specs.WeakWalk.{count_below, len_at, settled_to, Pass, WaitsBelow}
 use Rattle.bidi_rules.specs.declared.implicit.weak.numbers.Walk.{Walk}
 use Rattle.bidi_rules.proofs.CountBelow.{count_below-all, count_below-monotone, count_below-within, count_settled-monotone, WaitsBelow-idle}
@@ -25,27 +22,16 @@ loop-run-init g c =
 
 pub read_run-requires-clause-inside : goal.read_run-requires-clause-inside
 read_run-requires-clause-inside g c =
-    let len_of = g.T.TextSource.units in
-    let chars : List ℕ = g.T.TextSource.characters c.args.text in
-    let runs = map bounds c.args.runs.now in
-    let old = c.args.classes.now in
-    omega (arith, lines-within len_of g.met.T.TextSource.has_units chars runs c.requires.lines c.requires.ordered c.args.sos old c.requires.per_char c.loop-run.run (0, 0) (omega (arith, c.loop-run-test.true, length-map c.args.runs.now bounds)), c.loop-run.invariant.under_way.long)
+    omega (arith, lines-within _ g.met.T.TextSource.has_units _ (map bounds c.args.runs.now) c.requires.lines c.requires.ordered c.args.sos _ c.requires.per_char c.loop-run.run (0, 0) (omega (arith, c.loop-run-test.true, length-map c.args.runs.now bounds)), c.loop-run.invariant.under_way.long)
 
 pub read_run-requires-clause-whole : goal.read_run-requires-clause-whole
 read_run-requires-clause-whole g c =
-    let len_of = g.T.TextSource.units in
-    let chars : List ℕ = g.T.TextSource.characters c.args.text in
-    let runs = map bounds c.args.runs.now in
-    let old = c.args.classes.now in
-    let now = c.loop-run.classes in
-    let index = c.loop-run.run in
-    let r = get_or runs index (0, 0) in
-    let fits : index < length runs = omega (arith, c.loop-run-test.true, length-map c.args.runs.now bounds) in
-    let h = c.loop-run.invariant.under_way in
-    λ u from below.
-    let w = IsWhole-line len_of g.met.T.TextSource.has_units chars old c.requires.per_char r.0 r.1 (c.requires.lines index (0, 0) fits) u from below in
-    let same : (k : ℕ) → u ≤ k → class_at now k ≡ class_at old k = λ k a. h.unwritten k (omega (arith, h.order, start_or-at runs index (length old) fits)) in
-    record { some = w.some; within = w.within; alike = λ k a b. same k a ∙ w.alike k a b ∙ sym (same u (omega arith)) }
+    grind (
+      arith,
+      length-map c.args.runs.now bounds,
+      IsWhole-line g.T.TextSource.units g.met.T.TextSource.has_units (g.T.TextSource.characters c.args.text) c.args.classes.now c.requires.per_char (get_or (map bounds c.args.runs.now) c.loop-run.run (0, 0)).0 (get_or (map bounds c.args.runs.now) c.loop-run.run (0, 0)).1,
+      start_or-at (map bounds c.args.runs.now) c.loop-run.run (length c.args.classes.now),
+    )
 
 pub loop-run-preserved : goal.loop-run-preserved
 loop-run-preserved g c =
@@ -72,13 +58,12 @@ loop-run-preserved g c =
 
 pub returns-clause-walked : goal.returns-clause-walked
 returns-clause-walked g c =
-    let len_of = g.T.TextSource.units in
     let chars : List ℕ = g.T.TextSource.characters c.args.text in
     let runs = map bounds c.args.runs.now in
     let old = c.args.classes.now in
     let now = c.loop-run.classes in
     let w = c.loop-run.walk in
-    let p : Pass = record { runs = runs; sos = c.args.sos; old = old; len = len_at len_of chars } in
+    let p : Pass = record { runs = runs; sos = c.args.sos; old = old; len = len_at g.T.TextSource.units chars } in
     let top : start_or runs c.loop-run.run (length old) ≡ length old = grind (arith, start_or-past, length-map) in
     let h = simp top at c.loop-run.invariant.under_way in
     IsWalked-settled p now w (length old) h c.settle.new.classes (omega arith)
@@ -86,11 +71,8 @@ returns-clause-walked g c =
 
 pub returns-then-not-has_numbers-clause-walked : goal.returns-then-not-has_numbers-clause-walked
 returns-then-not-has_numbers-clause-walked g c =
-    let len_of = g.T.TextSource.units in
-    let chars : List ℕ = g.T.TextSource.characters c.args.text in
-    let old = c.args.classes.now in
-    IsWalked-none (len_at len_of chars) c.args.runs.now c.args.sos old
-    (is_any-none is_number c.args.runs.now old (lines-within len_of g.met.T.TextSource.has_units chars (map bounds c.args.runs.now) c.requires.lines c.requires.ordered c.args.sos old c.requires.per_char) (sym c.has_numbers.ensures ∙ c.if-not-has_numbers.true))
+    IsWalked-none _ c.args.runs.now _ c.args.classes.now
+    (is_any-none is_number c.args.runs.now c.args.classes.now (lines-within _ g.met.T.TextSource.has_units _ _ c.requires.lines c.requires.ordered c.args.sos _ c.requires.per_char) (sym c.has_numbers.ensures ∙ c.if-not-has_numbers.true))
 
 -- all runs are read
 record AreRead (runs : List (ℕ × ℕ)) (w : Walk) (n steps first : ℕ) : Type 0 where
@@ -109,11 +91,6 @@ settle-requires-clause-waiting g c = grind arith
 pub returns-clause-at_most : goal.returns-clause-at_most
 returns-clause-at_most g c =
     let runs = map bounds c.args.runs.now in
-    let w = c.loop-run.walk in
-    let old = c.args.classes.now in
-    let long : length c.loop-run.classes ≡ length old = omega (arith, c.loop-run.auto.classes) in
-    let len_of = g.T.TextSource.units in
-    let chars : List ℕ = g.T.TextSource.characters c.args.text in
-    let all = read runs w c.loop-run.run (length old) c.loop-run.steps c.args.steps.now (omega (arith, c.loop-run-test.false, length-map c.args.runs.now bounds)) c.loop-run.invariant.waiting c.loop-run.invariant.at_most in
-    let settled = simp long at c.settle.ensures.at_most in
-    omega (arith, all.at_most, settled, count_below-all 0 runs (length old) c.requires.ordered (lines-within len_of g.met.T.TextSource.has_units chars runs c.requires.lines c.requires.ordered c.args.sos old c.requires.per_char))
+    let long : length c.loop-run.classes ≡ length c.args.classes.now = omega (arith, c.loop-run.auto.classes) in
+    let all = read runs c.loop-run.walk c.loop-run.run (length c.args.classes.now) c.loop-run.steps c.args.steps.now (omega (arith, c.loop-run-test.false, length-map c.args.runs.now bounds)) c.loop-run.invariant.waiting c.loop-run.invariant.at_most in
+    omega (arith, all.at_most, simp long at c.settle.ensures.at_most, count_below-all 0 runs (length c.args.classes.now) c.requires.ordered (lines-within _ g.met.T.TextSource.has_units _ runs c.requires.lines c.requires.ordered c.args.sos _ c.requires.per_char))

@@ -1,6 +1,5 @@
 -- The units before the run are read, with two turns at most for each, and two more for each that is settled.
-use Rattle.std.proofs.Common.{◌+◌, ◌*◌, ◌≤◌, length, map}
-use Rattle.bidi_base.specs.Units.{bounds}
+use Rattle.bidi_base.proofs.Common.{◌+◌, ◌*◌, ◌≤◌, length, map, bounds}
 use Rattle.bidi_rules.specs.WeakWalk.{count_below, len_at, settled_to, IsUnderWay, WaitsBelow}
 use Rattle.bidi_rules.proofs.InRuns.{start_or}
 use Rattle.bidi_rules.proofs.implicit.weak.numbers.resolve_numbers.Given as goal

@@ -1,7 +1,5 @@
 -- The next unit downwards: of the range that the walk is in, or the last one of the range before it.
-use Rattle.std.proofs.Common.{map, [], ◌∷◌, ap, ◌∙◌, arith}
-use Rattle.std.proofs.lemmas.List.{map-append}
-use Rattle.bidi_base.specs.Units.{bounds}
+use Rattle.bidi_base.proofs.Common.{map, [], ◌∷◌, ap, ◌∙◌, arith, map-append, bounds}
 use Rattle.bidi_rules.specs.RunSequence.{backwards_left}
 use Rattle.bidi_rules.proofs.WalkLemmas.{backwards_unit, backwards_run, earlier_ranges, walks_on}
 use Rattle.bidi_rules.proofs.prepare.sequence.BackwardsFromIterator.next.Goals as goal

@@ -1,6 +1,5 @@
 -- The next unit: of the range that the walk is in, or the first one of the next range.
-use Rattle.std.proofs.Common.{map, ap, arith}
-use Rattle.bidi_base.specs.Units.{bounds}
+use Rattle.bidi_base.proofs.Common.{map, ap, arith, bounds}
 use Rattle.bidi_rules.specs.RunSequence.{forwards_left}
 use Rattle.bidi_rules.proofs.WalkLemmas.{forwards_run, later_ranges, walks_on}
 use Rattle.bidi_rules.proofs.prepare.sequence.ForwardsFromIterator.next.Goals as goal

@@ -1,11 +1,6 @@
 -- The ranges fit if each does, in the order of the list.
-use Rattle.std.proofs.Common.{◌≡◌, ℕ, ◌<◌, ◌≤◌, List, length, map, get_or, take, ◌∙◌, arith, rules}
-use Rattle.std.specs.Prelude.{All}
-use Rattle.std.specs.declared.ops.Range.{Range}
-use Rattle.std.proofs.lemmas.List.{take_all, get_or-map, length-map}
-use Rattle.std.proofs.lemmas.List.Elements.{All-map, All-more, All-get_or}
-use Rattle.bidi_base.specs.Text.{IsLine}
-use Rattle.bidi_base.specs.Units.{bounds, AreLines}
+use Rattle.bidi_base.proofs.Common.{◌≡◌, ℕ, ◌<◌, ◌≤◌, List, length, map, get_or, take, ◌∙◌, arith, rules, All, Range, take_all, get_or-map, length-map, All-map, All-get_or, IsLine, bounds, AreLines}
+use Rattle.std.proofs.lemmas.List.Elements.{All-more}
 use Rattle.bidi_rules.proofs.prepare.sequence.IsolatingRunSequence.fits.Goals as goal
 
 one_of : (len_of : ℕ → ℕ) (chars : List ℕ) (runs read : List (Range ℕ)) (k : ℕ) (d : Range ℕ) → read ≡ runs → k < length read → AreLines len_of chars (map bounds runs) → IsLine len_of chars (get_or read k d).start (get_or read k d).end

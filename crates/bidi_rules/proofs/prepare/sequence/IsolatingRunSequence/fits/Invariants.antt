@@ -1,8 +1,5 @@
 -- All ranges so far fit.
-use Rattle.std.proofs.Common.{ℕ, take}
-use Rattle.std.specs.Prelude.{All}
-use Rattle.std.specs.declared.ops.Range.{Range}
-use Rattle.bidi_base.specs.Text.{IsLine}
+use Rattle.bidi_base.proofs.Common.{ℕ, take, All, Range, IsLine}
 use Rattle.bidi_rules.proofs.prepare.sequence.IsolatingRunSequence.fits.Given as goal
 
 abbrev pub invariant-loop-run : goal.invariant-loop-run

@@ -1,5 +1,4 @@
-use Rattle.std.proofs.lemmas.List.{get_or_default}
-use Rattle.std.proofs.Common.{arith}
+use Rattle.bidi_base.proofs.Common.{get_or_default, arith}
 use Rattle.bidi_rules.proofs.WalkLemmas.{forwards-start, forwards-in_order}
 use Rattle.bidi_rules.proofs.prepare.sequence.IsolatingRunSequence.iter_forwards_from.Goals as goal
 

@@ -1,6 +1,5 @@
 -- A later run keeps the order.
-use Rattle.std.proofs.Common.{arith}
-use Rattle.std.proofs.lemmas.List.{map-append}
+use Rattle.bidi_base.proofs.Common.{arith, map-append}
 use Rattle.bidi_rules.proofs.WalkLemmas.{is_run_sequence-push}
 use Rattle.bidi_rules.proofs.prepare.sequence.IsolatingRunSequence.join.Goals as goal
 

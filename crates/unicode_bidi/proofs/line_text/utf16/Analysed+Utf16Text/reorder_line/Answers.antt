@@ -1,10 +1,9 @@
-use Rattle.std.proofs.Common.{sym, arith}
+use Rattle.bidi_base.proofs.Common.{arith}
 use Rattle.bidi_base.proofs.Utf16Lemmas.{text_len-utf16, is_boundary-within}
-use Rattle.unicode_bidi.specs.Analysed.{text_of}
 use Rattle.unicode_bidi.proofs.line_text.utf16.Analysed+Utf16Text.reorder_line.Goals as goal
 
 pub turned_line-requires-clause-units : goal.turned_line-requires-clause-units
-turned_line-requires-clause-units c = sym (text_len-utf16 (text_of c.args.self.now).units.now)
+turned_line-requires-clause-units c = grind (arith, text_len-utf16)
 
 pub offset_bounds-text-line : goal.offset_bounds-text-line
 offset_bounds-text-line c = grind (arith, is_boundary-within)

@@ -1,4 +1,4 @@
-use Rattle.std.proofs.Common.{arith}
+use Rattle.bidi_base.proofs.Common.{arith}
 use Rattle.bidi_base.proofs.Utf16Lemmas.{is_boundary-within}
 use Rattle.unicode_bidi.proofs.line_text.utf16.VecU16RunWriterUtf16Text.write_forwards.Goals as goal
 

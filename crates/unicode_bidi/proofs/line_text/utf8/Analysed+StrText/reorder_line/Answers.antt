@@ -1,4 +1,4 @@
-use Rattle.std.proofs.Common.{arith}
+use Rattle.bidi_base.proofs.Common.{arith}
 use Rattle.bidi_base.proofs.StrLemmas.{text_len-chars, IsCharBoundary-from_is_boundary}
 use Rattle.unicode_bidi.proofs.line_text.utf8.Analysed+StrText.reorder_line.Goals as goal
 

@@ -1,7 +1,5 @@
-use Rattle.std.proofs.Common.{◌≡◌, ◌≤◌, ◌<◌, ℕ, length, true, false, sym, ap, ◌∙◌, arith}
+use Rattle.bidi_base.proofs.Common.{◌≡◌, ◌≤◌, ◌<◌, ℕ, length, true, false, sym, ap, ◌∙◌, arith, stands_for, class_at}
 use Rattle.bidi_base.specs.declared.char_data.BidiClass.{BidiClass}
-use Rattle.bidi_base.specs.Classes.{stands_for}
-use Rattle.bidi_base.specs.Places.{class_at}
 use Rattle.bidi_rules.specs.PairWalk.{opposite_of}
 use Rattle.bidi_rules.proofs.JoinWalk.{IsAtOpposite-settled, IsAtOpposite-quiet, IsUnderWay-turned}
 use Rattle.bidi_rules.proofs.implicit.neutral.directions.Join.next_opposite.Goals as goal
@@ -11,15 +9,11 @@ pub returns-then-next-end-clause-reads : goal.returns-then-next-end-clause-reads
 returns-then-next-end-clause-reads c = grind arith
 
 pub returns-then-stands_for-clause-reads : goal.returns-then-stands_for-clause-reads
-returns-then-stands_for-clause-reads c = λ s runs_are same inside u.
-    let f = c.first_passing-next.ensures in
-    let now = c.args.classes.now in
-    let w = c.args.self.now in
-    let new = c.settle.new.classes in
-    let next = c.first_passing-next.result in
-    IsAtOpposite-settled s now w c.args.at c.args.end inside (omega (arith, c.requires.inside, u.joined.long)) u new next f.begins (omega (arith, f.ends, c.if-next-end.false)) f.before
-    (ap (λ (d : BidiClass). stands_for d (class_at now next)) same ∙ sym c.stands_for.ensures ∙ c.if-stands_for.true) c.if-self.true
-    (simp (same, runs_are) (c.settle.ensures.held c.if-self.true))
+returns-then-stands_for-clause-reads c =
+    λ s runs_are same inside u. grind (
+      arith,
+      IsAtOpposite-settled s c.args.classes.now c.args.self.now c.args.at c.args.end inside,
+    )
 
 pub returns-clause-reads : goal.returns-clause-reads
 returns-clause-reads c = λ s runs_are same inside u.

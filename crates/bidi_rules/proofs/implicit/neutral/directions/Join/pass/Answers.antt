@@ -1,7 +1,5 @@
-use Rattle.std.proofs.Common.{◌≡◌, ◌<◌, true, false, not, Bool, refl, ap, ◌∙◌, arith}
+use Rattle.bidi_base.proofs.Common.{◌≡◌, ◌<◌, true, false, not, Bool, refl, ap, ◌∙◌, arith, stands_for, class_at}
 use Rattle.bidi_base.specs.declared.char_data.BidiClass.{BidiClass}
-use Rattle.bidi_base.specs.Classes.{stands_for}
-use Rattle.bidi_base.specs.Places.{class_at}
 use Rattle.bidi_rules.proofs.JoinWalk.{IsUnderWay-stretch}
 use Rattle.bidi_rules.proofs.implicit.neutral.directions.Join.pass.Goals as goal
 

@@ -1,5 +1,4 @@
-use Rattle.std.proofs.Common.{arith}
-use Rattle.std.proofs.lemmas.List.{get_or-map, length-map}
+use Rattle.bidi_base.proofs.Common.{arith, get_or-map, length-map}
 use Rattle.bidi_rules.proofs.InRuns.{run_some}
 use Rattle.bidi_rules.proofs.implicit.neutral.directions.Join.read_run.Goals as goal
 

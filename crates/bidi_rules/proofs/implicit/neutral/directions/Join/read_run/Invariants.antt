@@ -1,6 +1,5 @@
 -- The units of the run that came are read.
-use Rattle.std.proofs.Common.{◌≡◌, ◌-◌, ◌≤◌, length, map, get_or}
-use Rattle.bidi_base.specs.Units.{bounds}
+use Rattle.bidi_base.proofs.Common.{◌≡◌, ◌-◌, ◌≤◌, length, map, get_or, bounds}
 use Rattle.bidi_rules.specs.JoinPass.{IsUnderWay, Unjoined}
 use Rattle.bidi_rules.specs.PairWalk.{opposite_of}
 use Rattle.bidi_rules.proofs.implicit.neutral.directions.Join.read_run.Given as goal

@@ -1,10 +1,5 @@
-use Rattle.std.proofs.Common.{◌≡◌, Bool, false, refl, sym, ◌-◌, ◌≤◌, ◌+◌, ℕ, List, length, map, take, drop, min, subst, arith}
-use Rattle.std.proofs.lemmas.Bool.{both_ways}
-use Rattle.std.specs.Prelude.{All}
-use Rattle.std.proofs.lemmas.List.{length-map, take_all}
-use Rattle.std.specs.declared.ops.Range.{Range}
+use Rattle.bidi_base.proofs.Common.{◌≡◌, Bool, false, refl, sym, ◌-◌, ◌≤◌, ◌+◌, ℕ, List, length, map, take, drop, min, subst, arith, both_ways, All, length-map, take_all, Range, bounds, in_runs}
 use Rattle.bidi_base.specs.declared.char_data.BidiClass.{BidiClass}
-use Rattle.bidi_base.specs.Units.{bounds, in_runs}
 use Rattle.bidi_rules.specs.PairWalk.{IsAsked}
 use Rattle.bidi_rules.proofs.RunOf.{ends-later}
 use Rattle.bidi_rules.proofs.WalkLemmas.{are_ordered-take, forwards-in_order, map-take, part_after}
@@ -18,11 +13,10 @@ later runs r d units marked opening inside closing known next answer same order 
 pub returns-then-is_inside-clause-taken : goal.returns-then-is_inside-clause-taken
 returns-then-is_inside-clause-taken c =
     let yes' = c.if-is_inside.true in
-    let e = c.args.self.now.embedding.direction in
     record {
       embedding = c.is_inside.result;
       opposite = false;
-      context = e;
+      context = c.args.self.now.embedding.direction;
       asked = grind (arith, later);
       asked_opposite = λ none. absurd (both_ways c.is_inside.result none yes');
       idle = λ _. refl;
@@ -52,16 +46,13 @@ returns-then-is_inside-2-clause-taken c = grind (arith, later, front)
 
 pub returns-clause-taken : goal.returns-clause-taken
 returns-clause-taken c =
-    let no' = c.if-is_inside.false in
-    let none = c.if-is_inside-2.false in
-    let e = c.args.self.now.embedding.direction in
     record {
       embedding = c.is_inside.result;
       opposite = c.is_inside-2.result;
-      context = e;
+      context = c.args.self.now.embedding.direction;
       asked = grind (arith, later);
       asked_opposite = λ _. grind (arith, later);
-      idle = λ some. absurd (both_ways c.is_inside.result no' some);
-      nearest = λ _ some. absurd (both_ways c.is_inside-2.result none some);
+      idle = λ some. absurd (both_ways c.is_inside.result c.if-is_inside.false some);
+      nearest = λ _ some. absurd (both_ways c.is_inside-2.result c.if-is_inside-2.false some);
       is = grind arith;
     }

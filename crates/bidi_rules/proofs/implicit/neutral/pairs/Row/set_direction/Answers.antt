@@ -1,5 +1,4 @@
-use Rattle.std.proofs.Common.{ℕ, List, map, sym}
-use Rattle.bidi_base.specs.Units.{bounds}
+use Rattle.bidi_base.proofs.Common.{ℕ, List, map, sym, bounds}
 use Rattle.bidi_base.proofs.PerCharTests.{class_test}
 use Rattle.bidi_rules.proofs.CharEnds.{begins_at}
 use Rattle.bidi_rules.proofs.RowLemmas.{IsRow-set, IsSet-held}

@@ -1,8 +1,5 @@
-use Rattle.std.proofs.Common.{◌≡◌, ◌+◌, ◌-◌, ◌<◌, ◌≤◌, ℕ, false, take, drop, arith, inl, inr, length-take, length-drop, get_or-take, get_or-drop}
-use Rattle.std.proofs.lemmas.Bool.{cases_lt}
-use Rattle.std.proofs.lemmas.List.Sums.{fails_before_first}
+use Rattle.bidi_base.proofs.Common.{◌≡◌, ◌+◌, ◌-◌, ◌<◌, ◌≤◌, ℕ, false, take, drop, arith, inl, inr, length-take, length-drop, get_or-take, get_or-drop, cases_lt, fails_before_first, class_at}
 use Rattle.bidi_base.specs.declared.char_data.BidiClass.TheVariants.{L}
-use Rattle.bidi_base.specs.Places.{class_at}
 use Rattle.bidi_rules.specs.WeakPass.{is_asked}
 use Rattle.bidi_rules.proofs.WeakWalkLemmas.{IsUnderWay-passes_all}
 use Rattle.bidi_rules.proofs.implicit.weak.numbers.Walk.pass_over.Goals as goal

@@ -1,18 +1,12 @@
-use Rattle.std.proofs.Common.{◌≡◌, ◌+◌, ◌-◌, ◌*◌, ◌<◌, ◌≤◌, ℕ, Bool, true, false, not, cond, List, length, map, get_or, drop, refl, sym, ap, subst, ◌∙◌, arith}
-use Rattle.std.specs.Prelude.{IsTrue}
-use Rattle.std.proofs.lemmas.Bool.{cond-false}
-use Rattle.std.proofs.lemmas.List.{get_or_past}
+use Rattle.bidi_base.proofs.Common.{◌≡◌, ◌+◌, ◌-◌, ◌*◌, ◌<◌, ◌≤◌, ℕ, Bool, true, false, not, cond, List, length, map, get_or, drop, sym, ap, subst, ◌∙◌, arith, IsTrue, cond-false, get_or_past, is_l, class_at, bounds, are_ordered}
 use Rattle.bidi_base.specs.declared.char_data.BidiClass.{BidiClass}
-use Rattle.bidi_base.specs.Classes.{is_l}
-use Rattle.bidi_base.specs.Places.{class_at}
-use Rattle.bidi_base.specs.Units.{bounds, are_ordered}
 use Rattle.bidi_base.proofs.PerCharTests.{class_test}
 use Rattle.bidi_rules.specs.declared.implicit.weak.numbers.Walk.{Walk}
 use Rattle.bidi_rules.specs.ExplicitPass.{filled}
-use Rattle.bidi_rules.specs.WeakPass.{strengthened, strong_up_to, joins, waits, settled, resolved, next_before, w7_by, left_over}
+use Rattle.bidi_rules.specs.WeakPass.{strengthened, waits, left_over}
 use Rattle.bidi_rules.specs.WeakWalk.{count_below, is_seen, seen, settled_to, IsWrittenOver, Pass, IsUnderWay}
 use Rattle.bidi_rules.proofs.CountBelow.{count_below-monotone}
-use Rattle.bidi_rules.proofs.WeakWalkLemmas.{resolved-stays, IsWrittenOver-settled, IsUnderWay-same, IsUnderWay-joins, IsUnderWay-waits, IsUnderWay-decides}
+use Rattle.bidi_rules.proofs.WeakWalkLemmas.{resolved-stays, IsWrittenOver-settled, IsUnderWay-joins, IsUnderWay-waits, IsUnderWay-decides}
 use Rattle.bidi_rules.proofs.WrittenOver.{IsWrittenOver-filled}
 use Rattle.bidi_rules.proofs.implicit.weak.numbers.Walk.read.Goals as goal
 use Rattle.bidi_rules.proofs.implicit.weak.numbers.Walk.read.Goals.{then-not-is_joined_by+then-waits, then-not-is_joined_by+else-waits+then-ne, then-not-is_joined_by+else-waits+else-ne, else-not-is_joined_by}
@@ -59,35 +53,19 @@ returns-clause-reads g c =
     let z = strengthened w.strong x in
     let read : class_at now i ≡ x = h.unwritten i h.order in
     let z_is : c.strengthened-strong.result ≡ z = c.strengthened-strong.ensures ∙ ap (strengthened w.strong) read in
-    let n_is : c.after-next.result ≡ next_before z w.before = c.after-next.ensures ∙ ap (λ (d : BidiClass). next_before d w.before) z_is in
-    let j_is : c.is_joined_by.result ≡ joins z w.before = c.is_joined_by.ensures ∙ ap (λ (d : BidiClass). joins d w.before) z_is in
-    let v = w7_by (is_l w.strong) (settled z w.before) in
-    let strong_is : (t : Walk) → c.if-not-is_joined_by.self ≡ t → c.strong_up_to-self.result ≡ strong_up_to t.strong x =
-    λ t is. grind arith in
     elim c.if-not-is_joined_by.branch [
       | then-not-is_joined_by+then-waits b ↦
-          let written = settled_by p runs s.runs_are i w now b.settle.new.classes h v b.numbered-held.result (grind arith) c.requires.ordered b.settle.ensures.held b.settle.ensures.idle in
-          IsUnderWay-same p b.settle.new.classes _ _ _ j b.classes-is (strong_is _ b.self-is) n_is (ap (λ (t : Walk). t.first) b.self-is) (ap (λ (t : Walk). t.first_run) b.self-is)
-          (IsUnderWay-waits p now w i h runs c.args.run j s b.settle.new.classes written (sym j_is ∙ b.if-not-is_joined_by.true) (ap waits (sym n_is) ∙ sym b.waits.ensures ∙ b.if-waits.true))
+          let written = settled_by p runs s.runs_are i w now b.settle.new.classes h _ b.numbered-held.result (grind arith) c.requires.ordered b.settle.ensures.held b.settle.ensures.idle in
+          grind (arith, z_is, IsUnderWay-waits p now w i h runs c.args.run j s b.settle.new.classes written)
       | then-not-is_joined_by+else-waits+then-ne b ↦
-          let written = settled_by p runs s.runs_are i w now b.settle.new.classes h v b.numbered-held.result (grind arith) c.requires.ordered b.settle.ensures.held b.settle.ensures.idle in
-          let own : b.numbered-own.result ≡ w7_by (is_l w.strong) (resolved z w.before) = grind arith in
+          let written = settled_by p runs s.runs_are i w now b.settle.new.classes h _ b.numbered-held.result (grind arith) c.requires.ordered b.settle.ensures.held b.settle.ensures.idle in
           let fill = filled_over j b.numbered-own.result i b.settle.new.classes b.fill.new.classes b.fill.ensures (omega (arith, c.requires.some)) (omega (arith, c.requires.inside, b.settle.auto.classes)) in
-          IsUnderWay-same p b.fill.new.classes _ _ _ j b.classes-is (strong_is _ b.self-is) n_is (ap (λ (t : Walk). t.first) b.self-is) (ap (λ (t : Walk). t.first_run) b.self-is)
-          (IsUnderWay-decides p now w i h runs c.args.run j s b.settle.new.classes written (sym j_is ∙ b.if-not-is_joined_by.true) (ap waits (sym n_is) ∙ sym b.waits.ensures ∙ b.if-waits.false) b.fill.new.classes
-          (λ k from below. ap left_over (fill.inside k from below refl ∙ own) ∙ resolved-stays x w.strong (is_l w.strong) w.before)
-          fill.below fill.above fill.long w.first w.first_run)
+          grind (arith, z_is, fill, resolved-stays x w.strong (is_l w.strong) w.before, IsUnderWay-decides p now w i h runs c.args.run j s b.settle.new.classes written)
       | then-not-is_joined_by+else-waits+else-ne b ↦
-          let written = settled_by p runs s.runs_are i w now b.settle.new.classes h v b.numbered-held.result (grind arith) c.requires.ordered b.settle.ensures.held b.settle.ensures.idle in
-          let own : b.numbered-own.result ≡ w7_by (is_l w.strong) (resolved z w.before) = grind arith in
+          let written = settled_by p runs s.runs_are i w now b.settle.new.classes h _ b.numbered-held.result (grind arith) c.requires.ordered b.settle.ensures.held b.settle.ensures.idle in
           let same : left_over (class_at now i) ≡ b.numbered-own.result = sym b.left_over.ensures ∙ class_test.same b.left_over.result b.numbered-own.result (equal _ (sym b.ne.ensures ∙ b.if-ne.false)) in
-          IsUnderWay-same p b.settle.new.classes _ _ _ j b.classes-is (strong_is _ b.self-is) n_is (ap (λ (t : Walk). t.first) b.self-is) (ap (λ (t : Walk). t.first_run) b.self-is)
-          (IsUnderWay-decides p now w i h runs c.args.run j s b.settle.new.classes written (sym j_is ∙ b.if-not-is_joined_by.true) (ap waits (sym n_is) ∙ sym b.waits.ensures ∙ b.if-waits.false) b.settle.new.classes
-          (λ k from below. ap left_over (written.above k from ∙ h.unwritten k (omega (arith, h.order)) ∙ s.alike k from below ∙ sym read) ∙ same ∙ own)
-          (λ k below. refl) (λ k above. refl) refl w.first w.first_run)
-      | else-not-is_joined_by b ↦
-          IsUnderWay-same p now _ _ _ j b.classes-is (strong_is _ b.self-is) n_is (ap (λ (t : Walk). t.first) b.self-is) (ap (λ (t : Walk). t.first_run) b.self-is)
-          (IsUnderWay-joins p now w i h runs c.args.run j s (sym j_is ∙ b.if-not-is_joined_by.false))
+          grind (arith, z_is, same, IsUnderWay-decides p now w i h runs c.args.run j s b.settle.new.classes written)
+      | else-not-is_joined_by b ↦ grind (arith, z_is, IsUnderWay-joins p now w i h runs c.args.run j s)
     ]
 
 run_fits : (runs : List (ℕ × ℕ)) (run start : ℕ) → start < (get_or runs run (0, 0)).1 → run < length runs
@@ -102,20 +80,7 @@ paid_idle runs t first start end a b ordered idle order paid = omega (arith, pai
 
 pub returns-clause-at_most : goal.returns-clause-at_most
 returns-clause-at_most g c =
-    let w = c.args.self.now in
-    let start = c.args.start in
-    let end = c.args.end in
-    let runs = map bounds c.args.runs.now in
-    let first = c.if-not-is_joined_by.self.first in
-    let next = waits c.after-next.result in
-    let old : ℕ = c.args.steps.now in
-    let new : ℕ = c.if-not-is_joined_by.steps in
-    let a = new + 2 * count_below runs (settled_to w start) in
-    elim c.if-not-is_joined_by.branch [
-      | then-not-is_joined_by+then-waits b ↦ grind arith
-      | then-not-is_joined_by+else-waits+then-ne b ↦
-          paid_idle runs next first start end a old c.requires.ordered (sym b.waits.ensures ∙ b.if-waits.false) c.requires.some (rw b.steps-is b.settle.ensures.at_most)
-      | then-not-is_joined_by+else-waits+else-ne b ↦
-          paid_idle runs next first start end a old c.requires.ordered (sym b.waits.ensures ∙ b.if-waits.false) c.requires.some (rw b.steps-is b.settle.ensures.at_most)
-      | else-not-is_joined_by b ↦ grind arith
-    ]
+    grind (
+      arith,
+      paid_idle (map bounds c.args.runs.now) (waits c.after-next.result) c.if-not-is_joined_by.self.first c.args.start c.args.end (c.if-not-is_joined_by.steps + 2 * count_below (map bounds c.args.runs.now) (settled_to c.args.self.now c.args.start)) c.args.steps.now c.requires.ordered,
+    )

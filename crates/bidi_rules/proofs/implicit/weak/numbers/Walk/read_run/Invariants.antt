@@ -1,7 +1,5 @@
 -- The units of the run that came are read. Each stretch takes no more turns than two for each of its units, and one less at the run's end.
-use Rattle.std.proofs.Common.{◌≡◌, ℕ, ◌+◌, ◌-◌, ◌*◌, ◌≤◌, length, map, get_or}
-use Rattle.bidi_base.specs.Places.{class_at}
-use Rattle.bidi_base.specs.Units.{bounds}
+use Rattle.bidi_base.proofs.Common.{◌≡◌, ℕ, ◌+◌, ◌-◌, ◌*◌, ◌≤◌, length, map, get_or, class_at, bounds}
 use Rattle.bidi_rules.specs.WeakWalk.{count_below, len_at, settled_to, ReadsTo, WaitsBelow}
 use Rattle.bidi_rules.proofs.implicit.weak.numbers.Walk.read_run.Given as goal
 

@@ -1,6 +1,5 @@
-use Rattle.std.proofs.Common.{◌≡◌, ℕ, ◌+◌, ◌*◌, ◌<◌, ◌≤◌, true, List, map, get_or, drop, refl, sym, ap, ◌∙◌, arith}
+use Rattle.bidi_base.proofs.Common.{◌≡◌, ℕ, ◌+◌, ◌*◌, ◌<◌, ◌≤◌, true, List, map, get_or, drop, refl, sym, ◌∙◌, arith, bounds, are_ordered}
 use Rattle.std.proofs.lemmas.List.{get_or-drop}
-use Rattle.bidi_base.specs.Units.{bounds, are_ordered}
 use Rattle.bidi_rules.specs.declared.implicit.weak.numbers.Walk.{Walk}
 use Rattle.bidi_rules.specs.WeakPass.{waits}
 use Rattle.bidi_rules.specs.WeakWalk.{count_below, settled_to, WaitsBelow}
@@ -19,20 +18,12 @@ paid : (runs : List (ℕ × ℕ)) (w : Walk) (to old new : ℕ) → are_ordered 
     → (w.first < to → w.first < (get_or (drop w.first_run runs) 0 (0, 0)).1 → new + 2 * count_below (drop w.first_run runs) w.first ≤ old + 2 * count_below (drop w.first_run runs) to)
     → new + 2 * count_below runs (settled_to w to) ≤ old + 2 * count_below runs to
 paid runs w to old new ordered waiting t turns =
-    let before = waiting.first t in
-    let same : w.first_run + 0 ≡ w.first_run = omega arith in
-    let within : w.first < (get_or (drop w.first_run runs) 0 (0, 0)).1 = simp (get_or-drop, same) (waiting.run t) in
-    let all : new + 2 * count_below runs w.first ≤ old + 2 * count_below runs to = paid-by-part w.first_run runs w.first to new old ordered (omega (arith, before)) (turns before within) in
-    omega (arith, all, ap (count_below runs) (settled_to-waits w to t))
+    grind (arith, get_or-drop, paid-by-part w.first_run runs w.first to new old ordered, settled_to-waits w to t)
 
 pub returns-then-waits-clause-at_most : goal.returns-then-waits-clause-at_most
 returns-then-waits-clause-at_most g c =
-    let w = c.args.self.now in
-    let to = c.args.to in
-    let new : ℕ = c.write_over_runs_counted.new.steps in
-    let old : ℕ = c.args.steps.now in
-    paid (map bounds c.args.runs.now) w to old new c.requires.ordered c.requires.waiting (sym c.waits.ensures ∙ c.if-waits.true)
-    (rw (part_after c.args.runs.now c.args.runs.now w.first_run refl) at c.write_over_runs_counted.ensures.at_most)
+    paid (map bounds c.args.runs.now) c.args.self.now c.args.to _ _ c.requires.ordered c.requires.waiting (sym c.waits.ensures ∙ c.if-waits.true)
+    (rw (part_after c.args.runs.now c.args.runs.now c.args.self.now.first_run refl) at c.write_over_runs_counted.ensures.at_most)
 
 pub returns-else-waits-clause-at_most : goal.returns-else-waits-clause-at_most
 returns-else-waits-clause-at_most g c = grind arith
