@@ -1,5 +1,5 @@
 -- The opener that a character closes, by the openers that are open before it: it is the one whose match that character is (BD9, BD11).
-use Rattle.bidi_base.proofs.Common.{◌≡◌, ℕ, suc, ◌+◌, ◌-◌, ◌<◌, Bool, true, false, ◌||◌, cond, List, [], ◌∷◌, length, find, Option, Some, None, refl, sym, ap, subst, ◌∙◌, arith, inl, inr, filter, cases_Bool, and_parts, and_from, false_from_ne_true, is_embedding, is_opener, is_pdf, class_at, is_initiator_at, is_pdi_at, matching_pdi, is_inside, is_level_with, is_embedding_level_with, is_pdf_level_with, closing_pdf}
+use Rattle.bidi_base.proofs.Common.{◌≡◌, ℕ, suc, ◌+◌, ◌-◌, ◌<◌, Bool, true, false, ◌||◌, cond, List, [], ◌∷◌, length, drop, find, Option, Some, None, refl, sym, ap, subst, ◌∙◌, arith, inl, inr, filter, cases_Bool, and_parts, and_from, false_from_ne_true, is_embedding, is_opener, is_pdf, class_at, is_initiator_at, is_pdi_at, matching_pdi, is_inside, is_level_with, is_embedding_level_with, is_pdf_level_with, closing_pdf}
 use Rattle.bidi_base.specs.declared.char_data.BidiClass.{BidiClass}
 use Rattle.bidi_base.proofs.PlacesLemmas.{IsLeast}
 use Rattle.bidi_base.proofs.MatchingLemmas.{match_of-IsLeast, match_of-closes}
@@ -21,19 +21,13 @@ closed_opener classes p stack =
     cond (is_pdi_at classes p) (find (is_initiator_at classes) stack) (cond (is_pdf (class_at classes p)) (top_embedding classes stack) None)
 
 -- what is found first is the first that a filter keeps
-found_first : (test : ℕ → Bool) (xs : List ℕ) (x : ℕ) → find test xs ≡ Some x → (rest : List ℕ) × (filter test xs ≡ x ∷ rest)
+found_first : (test : ℕ → Bool) (xs : List ℕ) (x : ℕ) → find test xs ≡ Some x → filter test xs ≡ x ∷ drop 1 (filter test xs)
 found_first test [] x e = absurd (cc e)
-found_first test (y ∷ ys) x e = elim (cases_Bool (test y)) [
-  | inl passes ↦ let same : y ≡ x = cc (simp passes at e) in (filter test ys, simp passes (ap (λ z. z ∷ filter test ys) same))
-  | inr fails ↦ let later = found_first test ys x (simp fails at e) in (later.0, simp (fails, later.1))
-]
+found_first test (y ∷ ys) x e = grind (arith, found_first test ys x)
 
 first_found : (test : ℕ → Bool) (xs : List ℕ) (x : ℕ) (rest : List ℕ) → filter test xs ≡ x ∷ rest → find test xs ≡ Some x
 first_found test [] x rest e = absurd (cc e)
-first_found test (y ∷ ys) x rest e = elim (cases_Bool (test y)) [
-  | inl passes ↦ let same : y ≡ x = cc (simp passes at e) in simp passes (ap Some same)
-  | inr fails ↦ simp (fails, first_found test ys x rest (simp fails at e))
-]
+first_found test (y ∷ ys) x rest e = grind (arith, first_found test ys x rest)
 
 not_longer : (q : ℕ) (rest : List ℕ) → q ∷ rest ≡ rest → ⊥
 not_longer q rest e = let long : suc (length rest) ≡ length rest = ap length e in omega arith
@@ -62,14 +56,9 @@ module _ (classes : List BidiClass) where
   closed_isolate : (p q : ℕ) → p < length classes → is_pdi_at classes p ≡ true → find (is_initiator_at classes) (openers_read classes p) ≡ Some q → IsCloser p q
   unfolding matching_pdi
   closed_isolate p q fits pdi e =
-      let first = found_first (is_initiator_at classes) (openers_read classes p) q e in
-      let h = simp first.1 at (initiators-IsReadStack classes p) in
-      let opens : is_initiator_at classes q ≡ true = h.are_open.0 in
-      record {
-        before = h.are_open.1.read;
-        opener = ap (λ b. b || is_embedding (class_at classes q)) opens;
-        closes = simp (opens, IsReadStack-match (is_initiator_at classes) (is_pdi_at classes) (initiators_apart classes) (length classes) p q first.0 h pdi fits);
-      }
+      let stack = filter (is_initiator_at classes) (openers_read classes p) in
+      let h = rw (found_first (is_initiator_at classes) (openers_read classes p) q e) at (initiators-IsReadStack classes p) in
+      grind (arith, h.are_open, IsReadStack-match (is_initiator_at classes) (is_pdi_at classes) (initiators_apart classes) (length classes) p q (drop 1 stack) h pdi fits)
 
   closed_embedding : (p q : ℕ) (below : List ℕ) → p < length classes → is_pdi_at classes p ≡ false → is_pdf (class_at classes p) ≡ true → openers_read classes p ≡ q ∷ below → is_initiator_at classes q ≡ false → IsCloser p q
   unfolding closed_by closing_pdf
@@ -80,11 +69,8 @@ module _ (classes : List BidiClass) where
       let itself : is_embedding_level_with classes q q ≡ true = and_from _ _ (simp other at pushed.1) (is_level_with-refl classes q) in
       let stack : filter (is_embedding_level_with classes q) (openers_read classes p) ≡ q ∷ filter (is_embedding_level_with classes q) below = simp (top, itself) in
       let h = simp stack at (level_stack p q pushed.0 fits (λ r within. same r)) in
-      record {
-        before = pushed.0;
-        opener = pushed.1;
-        closes = simp (other, IsReadStack-match (is_embedding_level_with classes q) (is_pdf_level_with classes q) (levels_apart q) (length classes) p q _ h (and_from _ _ pdf level) fits);
-      }
+      let last = filter (is_embedding_level_with classes q) below in
+      grind (arith, pushed, IsReadStack-match (is_embedding_level_with classes q) (is_pdf_level_with classes q) (levels_apart q) (length classes) p q last h (and_from _ _ pdf level) fits)
 
   closed_top : (p q : ℕ) (stack : List ℕ) → p < length classes → openers_read classes p ≡ stack → is_pdi_at classes p ≡ false → is_pdf (class_at classes p) ≡ true
       → top_embedding classes stack ≡ Some q → IsCloser p q
@@ -127,7 +113,5 @@ module _ (classes : List BidiClass) where
   -- a match stands behind what it closes, in the line
   pub closer_of-within : (q m : ℕ) → closer_of classes q ≡ Some m → (q < m) × (m < length classes)
   unfolding closing_pdf
-  closer_of-within q m e = elim (cases_Bool (is_initiator_at classes q)) [
-    | inl opens ↦ let least = matching_pdi-IsLeast classes q m (simp opens at e) in (omega (arith, least.from), least.below)
-    | inr other ↦ let least = match_of-IsLeast (is_embedding_level_with classes q) (is_pdf_level_with classes q) _ q m (simp other at e) in (omega (arith, least.from), least.below)
-  ]
+  closer_of-within q m e =
+      grind (arith, matching_pdi-IsLeast classes q m, match_of-IsLeast (is_embedding_level_with classes q) (is_pdf_level_with classes q) (length classes) q m)

@@ -9,11 +9,7 @@ use Rattle.bidi.specs.Matches.{is_unmatched}
 use Rattle.bidi.specs.declared.finding.Finding.{Finding}
 
 filter_map-range : {Y : Type 0} (f : ℕ → Option Y) (p : ℕ) → filter_map f (range_with_len 0 (p + 1)) ≡ filter_map f (range_with_len 0 p) ++ option_to_list (f p)
-filter_map-range f p = simp (next_index p, filter_map-append f (range_with_len 0 p) (p ∷ []), one_found (f p))
-  where
-    one_found : {Y : Type 0} (o : Option Y) → cons_option o [] ≡ option_to_list o
-    one_found None = refl
-    one_found (Some y) = refl
+filter_map-range f p = grind (arith, next_index, filter_map-append)
 
 -- a finding, where the parts that it is made of are read one by one
 pub more_findings : (class_of : ℕ → BidiClass) (any : Bool) (number : ℕ) (line : List ℕ) (p c : ℕ) (class : BidiClass) (flags : List Bool) (found : Option Finding) (before old new : List Finding)

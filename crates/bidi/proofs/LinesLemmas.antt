@@ -25,7 +25,7 @@ pub record IsUnbroken (ends : SplitTest) (chars : List ℕ) (n : ℕ) : Type 0 w
 
 module _ (ends : SplitTest) (chars : List ℕ) (n c : ℕ) (fits : n < length chars) (here : c ≡ get_or chars n c) where
   from_here : drop n chars ≡ c ∷ drop (n + 1) chars
-  from_here = rw (add-one, drop-cons chars n c) (ap (λ x. x ∷ drop (suc n) chars) (sym here))
+  from_here = grind (arith, add-one, drop-cons chars n c)
 
   with_it : take (n + 1) chars ≡ take n chars ++ c ∷ []
   with_it = take_more chars n c fits ∙ ap (λ x. take n chars ++ x ∷ []) (sym here)

@@ -23,39 +23,32 @@ module _ {Z : Type 0} where
   pub show_of-plain : (view : View) (words : List (String Z)) (first : String Z) → 1 ≤ length words → first ≡ get_or words 0 first → is_named first (codes "--plain") ≡ true
       → show_of (record view { plain = true }) (map string_bytes (slice_range words 1 (length words))) ≡ show_of view (map string_bytes words)
   show_of-plain view [] first some is named = absurd (omega arith)
-  show_of-plain view (w ∷ []) first some is named =
-      simp (simp is at named)
-  show_of-plain view (w ∷ v ∷ words) first some is named =
-      simp (rest-all 1 (w ∷ v ∷ words), simp is at named)
+  show_of-plain view (w ∷ []) first some is named = simp (simp is at named)
+  show_of-plain view (w ∷ v ∷ words) first some is named = simp (rest-all 1 (w ∷ v ∷ words), simp is at named)
 
   pub show_of-base : (view : View) (words : List (String Z)) (first again second : String Z) (base : Base) → 2 ≤ length words → first ≡ get_or words 0 first → again ≡ get_or words 0 again
       → second ≡ get_or words 1 second → is_named first (codes "--plain") ≡ false → is_named again (codes "--base") ≡ true → base_named (string_bytes second) ≡ Some base
       → show_of (record view { base = base }) (map string_bytes (slice_range words 2 (length words))) ≡ show_of view (map string_bytes words)
-  show_of-base view [] first again second base some is is' next other named level = absurd (omega arith)
-  show_of-base view (w ∷ []) first again second base some is is' next other named level = absurd (omega arith)
   show_of-base view (w ∷ v ∷ words) first again second base some is is' next other named level =
       simp (rest-all 2 (w ∷ v ∷ words), simp is at other, simp is' at named, simp next at level)
+  show_of-base view words first again second base some is is' next other named level = absurd (omega arith)
 
   pub show_of-width : (view : View) (words : List (String Z)) (first again third second : String Z) (width : ℕ) → 2 ≤ length words → first ≡ get_or words 0 first → again ≡ get_or words 0 again → third ≡ get_or words 0 third
       → second ≡ get_or words 1 second → is_named first (codes "--plain") ≡ false → is_named again (codes "--base") ≡ false → is_named third (codes "--width") ≡ true → number_of (string_bytes second) ≡ Some width
       → show_of (record view { width = Some width }) (map string_bytes (slice_range words 2 (length words))) ≡ show_of view (map string_bytes words)
-  show_of-width view [] first again third second width some is is' is'' next other another named number = absurd (omega arith)
-  show_of-width view (w ∷ []) first again third second width some is is' is'' next other another named number = absurd (omega arith)
   show_of-width view (w ∷ v ∷ words) first again third second width some is is' is'' next other another named number =
       simp (rest-all 2 (w ∷ v ∷ words), simp is at other, simp is' at another, simp is'' at named, simp next at number)
+  show_of-width view words first again third second width some is is' is'' next other another named number = absurd (omega arith)
 
   pub explain_of-html : (view : StageView) (words : List (String Z)) (first : String Z) → 1 ≤ length words → first ≡ get_or words 0 first → is_named first (codes "--html") ≡ true
       → explain_of (record view { form = Page }) (map string_bytes (slice_range words 1 (length words))) ≡ explain_of view (map string_bytes words)
   explain_of-html view [] first some is named = absurd (omega arith)
-  explain_of-html view (w ∷ []) first some is named =
-      simp (simp is at named)
-  explain_of-html view (w ∷ v ∷ words) first some is named =
-      simp (rest-all 1 (w ∷ v ∷ words), simp is at named)
+  explain_of-html view (w ∷ []) first some is named = simp (simp is at named)
+  explain_of-html view (w ∷ v ∷ words) first some is named = simp (rest-all 1 (w ∷ v ∷ words), simp is at named)
 
   pub explain_of-base : (view : StageView) (words : List (String Z)) (first again second : String Z) (base : Base) → 2 ≤ length words → first ≡ get_or words 0 first → again ≡ get_or words 0 again
       → second ≡ get_or words 1 second → is_named first (codes "--html") ≡ false → is_named again (codes "--base") ≡ true → base_named (string_bytes second) ≡ Some base
       → explain_of (record view { base = base }) (map string_bytes (slice_range words 2 (length words))) ≡ explain_of view (map string_bytes words)
-  explain_of-base view [] first again second base some is is' next other named level = absurd (omega arith)
-  explain_of-base view (w ∷ []) first again second base some is is' next other named level = absurd (omega arith)
   explain_of-base view (w ∷ v ∷ words) first again second base some is is' next other named level =
       simp (rest-all 2 (w ∷ v ∷ words), simp is at other, simp is' at named, simp next at level)
+  explain_of-base view words first again second base some is is' next other named level = absurd (omega arith)

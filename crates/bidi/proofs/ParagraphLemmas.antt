@@ -1,5 +1,5 @@
 -- The lines of a paragraph, read in a text of UTF-8 whose classes and levels are known, are those of its characters.
-use Rattle.bidi_base.proofs.Common.{◌≡◌, ℕ, suc, ◌+◌, ◌<◌, ◌≤◌, Bool, true, false, not, ◌&&◌, List, [], ◌∷◌, ◌++◌, Option, Some, None, length, get_or, map, flat_map, refl, sym, ap, ◌∙◌, arith, append_assoc, append-nil, length-append, zero-add, inl, inr, common_steps, codes, list_all, prefix_len, len_utf8, Range, cases_Bool, and_parts, length-map, sum_by-append, AnalysedText, IsAnalysis, is_paragraph_separator, visual_runs, run_of, paragraph_level, stored_classes, lines_of, line_levels, line_levels_after, visual_order, paragraphs_of, each_separator, ranges_from, Source, stored_levels, text_classes, text_levels, paragraph_levels, text_len, char_index, subrange, per_unit, per_char, one_unit}
+use Rattle.bidi_base.proofs.Common.{◌≡◌, ℕ, suc, ◌+◌, ◌<◌, ◌≤◌, Bool, true, false, not, ◌&&◌, List, [], ◌∷◌, ◌++◌, Option, Some, None, length, get_or, map, flat_map, refl, sym, ap, ◌∙◌, arith, append_assoc, append-nil, length-append, zero-add, inl, inr, common_steps, codes, list_all, prefix_len, len_utf8, Range, cases_Bool, and_parts, length-map, sum_by-append, AnalysedText, IsAnalysis, is_paragraph_separator, visual_runs, run_of, paragraph_level, stored_classes, lines_of, line_levels, line_levels_after, visual_order, paragraphs_of, each_separator, ranges_from, Source, stored_levels, text_classes, text_levels, paragraph_levels, text_len, char_index, subrange, per_unit, per_char, one_unit, flat_map-map}
 use Rattle.bidi_base.specs.declared.char_data.BidiClass.{BidiClass}
 use Rattle.bidi_base.specs.declared.char_data.BidiClass.TheVariants.{L}
 use Rattle.bidi_base.proofs.LayoutLemmas.{lines_of-joined}
@@ -11,7 +11,6 @@ use Rattle.bidi_base.proofs.StoredSteps.{length-stored_classes}
 use Rattle.bidi_base.proofs.StrLemmas.{has_units}
 use Rattle.bidi_base.proofs.TextLemmas.{char_index-append, subrange-middle}
 use Rattle.bidi_terminal.specs.Bases.{level_of_base}
-use Rattle.bidi.proofs.ShownLemmas.{flat_map-map}
 use Rattle.bidi_terminal.specs.Columns.{columns}
 use Rattle.bidi.specs.Shown.{own_chars, shown_line, shown_levels, shown_ranges, shown_range, shown_paragraph, line_ranges_of, shown_in}
 use Rattle.bidi.specs.declared.view.View.{View}
@@ -33,14 +32,11 @@ own_chars-none source (c ∷ chars) = elim (cases_Bool (not (is_paragraph_separa
   | inr ends ↦ simp ends
 ]
 
-first_test : (a b : Bool) → (not a && b) ≡ true → a ≡ false
-first_test a b e = grind arith
-
 -- so it is one piece
-pub one_piece : (source : Source) (c : ℕ) (chars : List ℕ) → has_none source (c ∷ chars) ≡ true → paragraphs_of (each_separator source) (c ∷ chars) ≡ (c ∷ chars) ∷ []
-one_piece source c [] none = simp (first_test (is_paragraph_separator (source.class_of c)) true none)
-one_piece source c (d ∷ chars) none =
-    simp (first_test (is_paragraph_separator (source.class_of c)) _ none, one_piece source d chars (and_parts _ (has_none source (d ∷ chars)) none).1)
+pieces-one : (source : Source) (own : List ℕ) → has_none source own ≡ true → 0 < length own → paragraphs_of (each_separator source) own ≡ own ∷ []
+pieces-one source [] none some = absurd (omega arith)
+pieces-one source (c ∷ []) none some = grind arith
+pieces-one source (c ∷ d ∷ chars) none some = grind (arith, pieces-one source (d ∷ chars))
 
 -- ---- its lines
 
@@ -70,13 +66,16 @@ module _ (source : Source) (view : View) (own : List ℕ) (classes : List BidiCl
       → flat_map (shown_in source view.plain text level) (ranges_from len_utf8 (text_len len_utf8 front) pieces) ≡ flat_map (shown_range source view own) (ranges_from one_unit (length front) pieces)
   lines_from front [] whole = refl
   lines_from front (piece ∷ pieces) whole =
-      let next : own ≡ (front ++ piece) ++ joined pieces = whole ∙ sym (append_assoc front piece (joined pieces)) in
-      let sum : text_len len_utf8 (front ++ piece) ≡ text_len len_utf8 front + text_len len_utf8 piece = sum_by-append len_utf8 front piece in
-      let many : length (front ++ piece) ≡ length front + text_len one_unit piece = omega (arith, length-append front piece, text_len-one_unit piece) in
-      let first : char_index len_utf8 own (text_len len_utf8 front) ≡ length front = ap (λ cs. char_index len_utf8 cs (text_len len_utf8 front)) whole ∙ char_index-append len_utf8 has_units front (piece ++ joined pieces) in
-      let last : char_index len_utf8 own (text_len len_utf8 front + text_len len_utf8 piece) ≡ length front + text_len one_unit piece =
-      simp (← sum, next, char_index-append len_utf8 has_units (front ++ piece) (joined pieces), many) in
-      simp (one_line (text_len len_utf8 front) (text_len len_utf8 front + text_len len_utf8 piece) (length front) (length front + text_len one_unit piece) first last, ← sum, ← many, lines_from (front ++ piece) pieces next)
+      grind (
+        arith,
+        append_assoc,
+        sum_by-append,
+        length-append,
+        text_len-one_unit,
+        char_index-append len_utf8 has_units,
+        one_line (text_len len_utf8 front) (text_len len_utf8 front + text_len len_utf8 piece),
+        lines_from (front ++ piece) pieces,
+      )
 
   pub lines-shown : (start end : ℕ) → 0 < length own → start ≡ 0 → end ≡ text_len len_utf8 own
       → flat_map (shown_in source view.plain text level) (line_ranges_of view.width text (record { start = start; end = end })) ≡ shown_paragraph source view own
@@ -106,10 +105,6 @@ unfolding shown_paragraph
 nothing-shown source view own e = grind (arith, empty-line)
 
 -- ---- what is known of the paragraphs of a text without separators
-
-pieces-one : (source : Source) (own : List ℕ) → has_none source own ≡ true → 0 < length own → paragraphs_of (each_separator source) own ≡ own ∷ []
-pieces-one source [] none some = absurd (omega arith)
-pieces-one source (c ∷ cs) none some = one_piece source c cs none
 
 module _ (source : Source) (base : Option ℕ) (own : List ℕ) (none : has_none source own ≡ true) (classes : List BidiClass) (levels : List ℕ) (ps : List ParagraphInfo)
     (h : IsAnalysis source base true (record { len_of = len_utf8; chars = own; classes = classes; levels = levels }) (ranges_of ps) (levels_of ps)) where
@@ -145,6 +140,6 @@ pub whole-shown : (source : Source) (view : View) (chars own : List ℕ) (classe
     → flat_map (λ (r : Range ℕ). shown_in source view.plain (record { len_of = len_utf8; chars = chars; classes = classes; levels = levels }) (level_of p) (run_of r)) lines ≡ shown_paragraph source view own
 whole-shown source view chars own classes levels ps p lines is_own none h some first lines_are =
     let w = whole source (level_of_base view.base) own none classes levels ps h p some first in
-    flat_map-map (shown_in source view.plain (record { len_of = len_utf8; chars = chars; classes = classes; levels = levels }) (level_of p)) run_of lines
+    sym (flat_map-map (shown_in source view.plain (record { len_of = len_utf8; chars = chars; classes = classes; levels = levels }) (level_of p)) run_of lines)
     ∙ simp (lines_are, is_own, w.own_level)
     (lines-shown source view own classes levels (own-classes source _ own none classes levels ps h w.some) (own-levels source _ own none classes levels ps h w.some) _ _ w.some w.first w.last)

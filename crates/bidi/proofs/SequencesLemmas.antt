@@ -20,13 +20,12 @@ can_resolve paragraph source brackets k d fits bracketed within =
     let levels : List ℕ = explicit_levels paragraph stored in
     let classes : List BidiClass = explicit_classes paragraph stored in
     let s : RunSequence = get_or (sequences paragraph stored levels) k d in
-    let many : length classes ≡ length source = length-explicit_classes paragraph stored ∙ length-stored_classes source in
     let begun = sequence-begun paragraph stored levels k d within in
     let own = sequence-kept paragraph stored levels k d within in
     record {
-      sources = sym many;
-      bracketed = bracketed ∙ sym many;
-      leveled = length-explicit_levels paragraph stored ∙ sym (length-explicit_classes paragraph stored);
+      sources = grind (arith, length-explicit_classes, length-stored_classes);
+      bracketed = grind (arith, length-explicit_classes, length-stored_classes);
+      leveled = grind (arith, length-explicit_levels, length-explicit_classes);
       some = sequence-not_empty paragraph stored levels k d within;
       within = λ i e inside. omega (arith, (own (get_or s.places i e) (times_in-at s.places i e inside)).1, length-explicit_classes paragraph stored);
       sos = rw begun.1 (direction_of-l_or_r _);

@@ -9,10 +9,6 @@ use Rattle.bidi_base.proofs.PerUnit.{per_unit-one_unit}
 pub All-from_map : {X Y : Type 0} (P : Y → Type 0) (f : X → Y) (xs : List X) → All P (map f xs) → All (λ x. P (f x)) xs
 All-from_map P f xs h = λ k d within. subst P (get_or-map f xs k d (f d) within) (h k (f d) (omega (arith, length-map xs f)))
 
-pub flat_map-map : {X Y Z : Type 0} (g : Y → List Z) (f : X → Y) (xs : List X) → flat_map (λ x. g (f x)) xs ≡ flat_map g (map f xs)
-flat_map-map g f [] = refl
-flat_map-map g f (x ∷ xs) = ap (λ rest. g (f x) ++ rest) (flat_map-map g f xs)
-
 module _ (source : Source) (base : Option ℕ) (chars : List ℕ) (classes : List BidiClass) (levels own : List ℕ) (ranges : List (ℕ × ℕ))
     (h : IsAnalysis source base false (record { len_of = one_unit; chars = chars; classes = classes; levels = levels }) ranges own) where
   pub alone-classes : classes ≡ stored_classes (map source.class_of chars)

@@ -26,7 +26,7 @@ length-weak_in classes s = grind (arith, length-weak_classes, length-at_places)
 
 pub weak_in-resolved : (classes : List BidiClass) (s : RunSequence) → is_l_or_r s.sos ≡ true → list_all is_kept (at_places L classes s.places) ≡ true → list_all is_weak_resolved (weak_in classes s) ≡ true
 unfolding weak_in
-weak_in-resolved classes s sos kept = weak_classes-resolved s.sos (at_places L classes s.places) sos kept
+weak_in-resolved classes s sos kept = grind (arith, weak_classes-resolved)
 
 -- one more sequence
 pub written-more : (f : RunSequence → List BidiClass) (row old : List (Option BidiClass)) (seqs : List RunSequence) (i : ℕ) (s d : RunSequence) → i < length seqs → s ≡ get_or seqs i d
@@ -42,8 +42,7 @@ order-below levels = All-permutation (λ p. p < length levels) (indexes levels) 
 module _ (source : Source) (chars : List ℕ) (paragraph : ℕ) (stored : List ℕ) (long : length stored ≡ length chars) (s : Stages) (from : StagesFrom source chars paragraph stored s) where
   -- it has a level in line for each character
   pub line_levels-long : length s.line_levels.items ≡ length chars
-  line_levels-long =
-      simp (from.line_levels, length-line paragraph (stored_classes (map source.class_of chars)) stored 0 (length chars) (simp (long, length-stored_classes, length-map)) (omega arith) (omega arith)) (omega arith)
+  line_levels-long = grind (arith, from, length-line paragraph (stored_classes (map source.class_of chars)) stored 0 (length chars), length-stored_classes, length-map)
 
   pub order-within : All (λ p. p < length chars) s.order.items
   order-within = grind (arith, line_levels-long, order-below)

@@ -1,5 +1,5 @@
 -- The walk along a line: what is open, and which of the characters read so far are controls without a match.
-use Rattle.bidi_base.proofs.Common.{◌≡◌, ℕ, zero, suc, ◌+◌, ◌<◌, ◌≤◌, Bool, true, false, ◌||◌, ◌&&◌, cond, leb, List, [], ◌∷◌, ◌++◌, length, get_or, map, find, Option, Some, None, refl, sym, ap, subst, ◌∙◌, arith, ◌-◌, inl, inr, eq-eqb, length-append, add-one, list_any, range_with_len, cases_Bool, cases_eq, or_right, and_from, cases_lt, false_from_ne_true, length-set, get_or_append_left, get_or_push, fill_by_all, is_opener, class_at, between, holds_number, is_initiator_at}
+use Rattle.bidi_base.proofs.Common.{◌≡◌, ℕ, zero, suc, ◌+◌, ◌<◌, ◌≤◌, Bool, true, false, ◌||◌, ◌&&◌, cond, leb, List, [], ◌∷◌, ◌++◌, length, get_or, map, find, Option, Some, None, refl, sym, ap, subst, ◌∙◌, arith, ◌-◌, inl, inr, eq-eqb, length-append, add-one, list_any, range_with_len, cases_Bool, cases_eq, or_right, and_from, cases_lt, false_from_ne_true, length-set, get_or_append_left, get_or_push, fill_by_all, length-range_with_len, get_or-range_with_len, list_any_none, list_any_at, is_opener, class_at, between, holds_number, is_initiator_at}
 use Rattle.std.specs.Prelude.{is_some, is_none}
 use Rattle.std.proofs.lemmas.List.{get_or-set_same, get_or-set_other}
 use Rattle.bidi_base.specs.declared.char_data.BidiClass.{BidiClass}
@@ -26,10 +26,7 @@ innermost_isolate-at classes (q ∷ stack) = ap (λ rest. cond (is_initiator_at 
 left_by_pdi : (classes : List BidiClass) (whole stack : List ℕ)
     → cond (is_some (innermost_isolate (openers_at classes stack))) (outside_isolate (openers_at classes stack)) (openers_at classes whole) ≡ openers_at classes (below_isolate classes whole stack)
 left_by_pdi classes whole [] = refl
-left_by_pdi classes whole (q ∷ stack) = elim (cases_Bool (is_initiator_at classes q)) [
-  | inl isolate ↦ simp isolate
-  | inr other ↦ simp (other, left_by_pdi classes whole stack)
-]
+left_by_pdi classes whole (q ∷ stack) = grind (arith, left_by_pdi classes whole stack)
 
 module _ (classes : List BidiClass) (p : ℕ) (stack : List ℕ) where
   closed_place-at : closed_place (class_at classes p) (openers_at classes stack) ≡ closed_opener classes p stack
@@ -54,19 +51,6 @@ is_from p (Some m) = leb p m
 abbrev pub unmatched_by : List BidiClass → ℕ → ℕ → Bool
 unmatched_by classes p k = (is_opener (class_at classes k) && is_from p (closer_of classes k)) || closes_nothing classes k
 
--- some number, or none, of consecutive ones passes
-any_range-none : (test : ℕ → Bool) (low n : ℕ) → ((k : ℕ) → low ≤ k → k < low + n → test k ≡ false) → list_any test (range_with_len low n) ≡ false
-any_range-none test low zero none = refl
-any_range-none test low (suc n) none =
-    simp (none low (omega arith) (omega arith), any_range-none test (low + 1) n (λ k from below. none k (omega arith) (omega arith)))
-
-any_range-some : (test : ℕ → Bool) (low n k : ℕ) → low ≤ k → k < low + n → test k ≡ true → list_any test (range_with_len low n) ≡ true
-any_range-some test low zero k from below e = absurd (omega arith)
-any_range-some test low (suc n) k from below e = elim (cases_eq k low) [
-  | inl here ↦ ap (λ b. b || list_any test (range_with_len (low + 1) n)) (subst (λ (x : ℕ). test x ≡ true) here e)
-  | inr other ↦ or_right _ _ (any_range-some test (low + 1) n k (omega arith) (omega arith) e)
-]
-
 holds_number-true : (o : Option ℕ) (n : ℕ) → holds_number o n ≡ true → o ≡ Some n
 holds_number-true o n e = grind arith
 
@@ -77,21 +61,16 @@ module _ (classes : List BidiClass) where
 
   -- another character reads on past an opener that it does not close
   unmatched_by-other : (p k : ℕ) → (closed p ≡ Some k → ⊥) → unmatched_by classes (p + 1) k ≡ unmatched_by classes p k
-  unmatched_by-other p k apart = elim (cases_Bool (is_opener (class_at classes k))) [
-    | inl opener ↦ let same : is_from (p + 1) (closer_of classes k) ≡ is_from p (closer_of classes k) = grind (arith, IsCloser-closed_opener) in simp same
-    | inr other ↦ simp other
-  ]
+  unmatched_by-other p k apart = grind (arith, IsCloser-closed_opener)
 
   -- whether it closes something itself
   closes_some : (p : ℕ) → p < length classes → list_any (is_closed_by classes p) (between 0 p) ≡ is_some (closed p)
   closes_some p fits = by_closed (closed p) refl
     where
       by_closed : (o : Option ℕ) → closed p ≡ o → list_any (is_closed_by classes p) (between 0 p) ≡ is_some o
-      by_closed None e = any_range-none (is_closed_by classes p) 0 (p - 0) (λ q from below. false_from_ne_true (is_closed_by classes p q) (λ f. grind (arith, IsCloser-closed_opener, holds_number-true)))
+      by_closed None e = list_any_none (is_closed_by classes p) (between 0 p) (λ q d within. false_from_ne_true (is_closed_by classes p (get_or (between 0 p) q d)) (λ f. grind (arith, IsCloser-closed_opener, holds_number-true)))
       by_closed (Some q) e =
-          let h = closed_opener-IsCloser classes p q fits e in
-          any_range-some (is_closed_by classes p) 0 (p - 0) q (omega arith) (omega (arith, h.before))
-          (and_from _ _ h.opener (ap (λ o. holds_number o p) h.closes ∙ eq-eqb p p refl))
+          grind (arith, closed_opener-IsCloser classes p q fits e, list_any_at (is_closed_by classes p) (between 0 p) q 0, length-range_with_len, get_or-range_with_len)
 
   -- an opener closes nothing
   opener_closes_none : (p : ℕ) → is_opener (class_at classes p) ≡ true → closed p ≡ None
@@ -122,8 +101,7 @@ module _ (classes : List BidiClass) where
   pub IsReadSoFar-room : (p : ℕ) (openers : List Opener) (unmatched : List Bool) (o : Option ℕ) → p < length classes → IsReadSoFar p openers unmatched
       → o ≡ closed_place (class_at classes p) openers → (q : ℕ) → o ≡ Some q → q < length unmatched
   IsReadSoFar-room p openers unmatched o fits h e q some =
-      let closer = closed_opener-IsCloser classes p q fits (sym (IsReadSoFar-closed p openers unmatched o fits h e) ∙ some) in
-      omega (arith, closer.before, h.long)
+      grind (arith, h, IsReadSoFar-closed p openers unmatched o fits h e, closed_opener-IsCloser classes p q)
 
   length-with_closed : (o : Option ℕ) (unmatched : List Bool) → length (with_closed o unmatched) ≡ length unmatched
   length-with_closed o unmatched = grind (arith, length-set)
@@ -137,21 +115,13 @@ module _ (classes : List BidiClass) where
       → IsReadSoFar p openers unmatched → o ≡ closed_place c openers → left ≡ left_open c openers → now ≡ then_open p c left
       → next ≡ with_closed o unmatched ++ (is_none o && is_control c) ∷ [] → IsReadSoFar (p + 1) now next
   unfolding openers_read
-  IsReadSoFar-more p c openers left now o unmatched next fits is h e left_is now_is next_is = record {
-    are_open = simp (now_is, left_is, ← is, h.are_open, left_open-at classes p (openers_read classes p), then_open-at classes p (left_at classes p), add-one p);
-    long = simp (next_is, length-append, length-with_closed o unmatched, h.long);
-    each = λ k before. rw next_is (elim (cases_lt k p) [
-      | inl early ↦
-          get_or_append_left (with_closed o unmatched) _ false k (omega (arith, length-with_closed o unmatched, h.long))
-          ∙ with_closed-each p k unmatched o fits h.long early (sym closes) (h.each k early)
-      | inr late ↦
-          let here : k ≡ p = omega arith in
-          get_or_push (with_closed o unmatched) _ false k (omega (arith, length-with_closed o unmatched, h.long)) ∙ simp (here, closes, ← is, unmatched_by-last p fits)
-    ]);
-  }
-    where
-      closes : o ≡ closed p
-      closes = IsReadSoFar-closed p openers unmatched o fits h (e ∙ ap (λ x. closed_place x openers) (sym is))
+  IsReadSoFar-more p c openers left now o unmatched next fits is h e left_is now_is next_is =
+      let closes : o ≡ closed p = IsReadSoFar-closed p openers unmatched o fits h (e ∙ ap (λ x. closed_place x openers) (sym is)) in
+      record {
+        are_open = simp (now_is, left_is, ← is, h.are_open, left_open-at classes p (openers_read classes p), then_open-at classes p (left_at classes p), add-one p);
+        long = simp (next_is, length-append, length-with_closed o unmatched, h.long);
+        each = λ k before. grind (arith, closes, h.long, h.each k, cases_lt k p, length-with_closed, get_or_append_left, get_or_push, with_closed-each p k unmatched o, unmatched_by-last p);
+      }
 
   -- at the line's end
   unmatched_by-end : (k : ℕ) → unmatched_by classes (length classes) k ≡ is_unmatched classes k

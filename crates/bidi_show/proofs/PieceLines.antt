@@ -101,14 +101,10 @@ module _ (source : Source) (base : Option ℕ) (text : List ℕ) (utf8 : IsUtf8 
   bytes = sym (encodes-chars text utf8) ∙ simp (whole, encodes-append)
 
   classes_back : per_char L len_utf8 (chars text) (per_unit len_utf8 (chars text) classes) ≡ classes
-  classes_back =
-      per_char-per_unit len_utf8 has_units L (chars text) classes
-      (omega (arith, ap length whole, length-append cf (own_classes source piece ++ cb), length-append (own_classes source piece) cb, length-append front (piece ++ back), length-append piece back, length-own_classes source piece))
+  classes_back = grind (arith, per_char-per_unit len_utf8 has_units L (chars text) classes, length-append, length-own_classes)
 
   levels_back : per_char 0 len_utf8 (chars text) (per_unit len_utf8 (chars text) levels) ≡ levels
-  levels_back =
-      per_char-per_unit len_utf8 has_units 0 (chars text) levels
-      (omega (arith, ap length whole, length-append lf (stored_levels source base piece ++ lb), length-append (stored_levels source base piece) lb, length-append front (piece ++ back), length-append piece back, length-stored_levels source base piece))
+  levels_back = grind (arith, per_char-per_unit len_utf8 has_units 0 (chars text) levels, length-append, length-stored_levels)
 
   -- where it ends without its separator
   own_end-piece : own_end source (chars text) start (start + text_len len_utf8 piece) ≡ start + text_len len_utf8 (without_separator source piece)
@@ -148,11 +144,7 @@ module _ (source : Source) (base : Option ℕ) (text : List ℕ) (utf8 : IsUtf8 
         → flat_map (λ r. shown_line (in_text r.0 r.1)) (ranges_from len_utf8 (start + text_len len_utf8 before) lines) ≡ flat_map (λ r. shown_line (in_piece r.0 r.1)) (ranges_from len_utf8 (text_len len_utf8 before) lines)
     layout_from before [] after e = refl
     layout_from before (l ∷ lines) after e =
-        let stop : start + text_len len_utf8 before + text_len len_utf8 l ≡ start + (text_len len_utf8 before + text_len len_utf8 l) = omega arith in
-        let further : text_len len_utf8 (before ++ l) ≡ text_len len_utf8 before + text_len len_utf8 l = sum_by-append len_utf8 before l in
-        let parts : piece ≡ before ++ (l ++ (joined lines ++ after)) = e ∙ simp append_assoc in
-        let rest = layout_from (before ++ l) lines after (parts ∙ sym (append_assoc before l (joined lines ++ after))) in
-        simp (stop, line_in-piece before l (joined lines ++ after) parts, rw further at rest)
+        grind (arith, append_assoc, sum_by-append, line_in-piece before l (joined lines ++ after), layout_from (before ++ l) lines after)
 
     layout_lines-from : (lines : List (List ℕ)) (after : List ℕ) → piece ≡ joined lines ++ after
         → flat_map (λ r. shown_line (in_text r.0 r.1)) (one_at_least start (ranges_from len_utf8 start lines)) ≡ flat_map (λ r. shown_line (in_piece r.0 r.1)) (one_at_least 0 (ranges_from len_utf8 0 lines))
@@ -186,31 +178,14 @@ module _ (view : View) (source : Source) (base : Option ℕ) (text : List ℕ) (
       → ranges_of ps ≡ ranges_from len_utf8 (text_len len_utf8 front) pieces → levels_of ps ≡ map (λ piece. paragraph_level base (map source.class_of piece)) pieces
       → flat_map (printed_in view source text classes levels) ps ≡ lines_from view source base (text_len len_utf8 front) pieces
   printed_in-from front cf lf [] [] whole cf_long lf_long ks ls ranges own = refl
-  printed_in-from front cf lf [] (p ∷ ps) whole cf_long lf_long ks ls ranges own = absurd (cc ranges)
-  printed_in-from front cf lf (piece ∷ pieces) [] whole cf_long lf_long ks ls ranges own = absurd (cc ranges)
   printed_in-from front cf lf (piece ∷ pieces) (p ∷ ps) whole cf_long lf_long ks ls ranges own =
-      let start : ℕ = text_len len_utf8 front in
-      let end : ℕ = start + text_len len_utf8 piece in
       let cb : List BidiClass = flat_map (own_classes source) pieces in
       let lb : List ℕ = flat_map (stored_levels source base) pieces in
-      let range : ◌≡◌ {A = ℕ × ℕ} (p.range.start, p.range.end) (start, end) = cc ranges in
-      let level : ℕ = paragraph_level base (map source.class_of piece) in
-      let is_level : p.level ≡ level = cc own in
-      let sum : text_len len_utf8 (front ++ piece) ≡ end = sum_by-append len_utf8 front piece in
-      let one : printed_in view source text classes levels p ≡ paragraph_text view source start piece level (own_classes source piece) (stored_levels source base piece) =
-      simp (ap (λ (r : ℕ × ℕ). r.0) range, ap (λ (r : ℕ × ℕ). r.1) range, is_level, ks, ls)
-      (printed-piece source base text utf8 front piece (joined pieces) whole cf cb lf lb cf_long lf_long (length-values (own_classes source) (length-own_classes source) pieces)
-      (length-values (stored_levels source base) (length-stored_levels source base) pieces) level view) in
-      let rest : flat_map (printed_in view source text classes levels) ps ≡ lines_from view source base (text_len len_utf8 (front ++ piece)) pieces =
-      printed_in-from (front ++ piece) (cf ++ own_classes source piece) (lf ++ stored_levels source base piece) pieces ps
-      (whole ∙ sym (append_assoc front piece (joined pieces)))
-      (omega (arith, length-append cf (own_classes source piece), length-append front piece, length-own_classes source piece))
-      (omega (arith, length-append lf (stored_levels source base piece), length-append front piece, length-stored_levels source base piece))
-      (ks ∙ ap (per_unit len_utf8 (chars text)) (sym (append_assoc cf (own_classes source piece) cb)))
-      (ls ∙ ap (per_unit len_utf8 (chars text)) (sym (append_assoc lf (stored_levels source base piece) lb)))
-      (cc (ranges, sum))
-      (cc own) in
-      simp (one, rest, sum)
+      let one = printed-piece source base text utf8 front piece (joined pieces) whole cf cb lf lb cf_long lf_long (length-values (own_classes source) (length-own_classes source) pieces)
+      (length-values (stored_levels source base) (length-stored_levels source base) pieces) (paragraph_level base (map source.class_of piece)) view in
+      let rest = printed_in-from (front ++ piece) (cf ++ own_classes source piece) (lf ++ stored_levels source base piece) pieces ps in
+      grind (arith, one, rest, sum_by-append, append_assoc, length-append, length-own_classes, length-stored_levels)
+  printed_in-from front cf lf pieces ps whole cf_long lf_long ks ls ranges own = absurd (cc ranges)
 
   -- and the whole text
   pub printed_in-shown : (ps : List ParagraphInfo) → classes ≡ per_unit len_utf8 (chars text) (text_classes source (paragraphs_of (each_separator source) (chars text)))

@@ -21,11 +21,7 @@ module _ (start cs levels : List ℕ) where
   -- one more
   pub levels_so_far-more : (n at level : ℕ) → n < length cs → at ≡ place len_utf8 cs n → level ≡ get_or levels at 0 → (levels_so_far n ++ codes " ") ++ decimal level ≡ levels_so_far (n + 1)
   levels_so_far-more n at level within here is =
-      let values : List ℕ = per_char 0 len_utf8 cs levels in
-      let next : get_or values n 0 ≡ level = get_or-per_char 0 len_utf8 cs levels n 0 within ∙ ap (λ p. get_or levels p 0) (sym here) ∙ sym is in
-      append_assoc (levels_so_far n) (codes " ") (decimal level)
-      ∙ flat_map_more spaced (start ++ codes "levels") (take n values) level
-      ∙ simp (take_more values n 0 (omega (arith, length-per_char 0 len_utf8 cs levels)), next)
+      grind (arith, append_assoc, flat_map_more spaced, take_more (per_char 0 len_utf8 cs levels) n 0, length-per_char, get_or-per_char)
 
   -- all of them
   pub levels_so_far-end : (n : ℕ) → n ≡ length cs → levels_so_far n ++ codes "\n" ≡ start ++ levels_line (per_char 0 len_utf8 cs levels)
@@ -62,13 +58,8 @@ pub without_separator-IsLine : (source : Source) (cs : List ℕ) (start end : �
     → IsLine len_utf8 cs start (start + text_len len_utf8 (without_separator source (subrange len_utf8 cs start end)))
 without_separator-IsLine source cs start end line =
     let w = line_places len_utf8 has_units cs start end line in
-    let i : ℕ = char_index len_utf8 cs start in
-    let j : ℕ = char_index len_utf8 cs end in
-    let f = without_separator-IsFront source (slice_range cs i j) in
-    let fits : i + f.many ≤ j = omega (arith, w.ordered, f.short, length-slice_range cs i j w.within) in
-    let stop : start + text_len len_utf8 (without_separator source (slice_range cs i j)) ≡ place len_utf8 cs (i + f.many) =
-    ap (λ l. start + text_len len_utf8 l) f.front ∙ ap (λ u. u + place len_utf8 (slice_range cs i j) f.many) w.begins ∙ sym (place-slice_range len_utf8 cs i j f.many fits w.within) in
-    rw stop (rw (← w.begins) at (IsLine-places len_utf8 cs i (i + f.many) (omega arith)))
+    let f = without_separator-IsFront source (subrange len_utf8 cs start end) in
+    grind (arith, w, f, length-slice_range, place-slice_range, IsLine-places)
 
 -- the part of a text that is a paragraph without its separator
 pub record IsOwnPart (source : Source) (bs own : List ℕ) (start end : ℕ) : Type 0 where
@@ -79,7 +70,4 @@ pub record IsOwnPart (source : Source) (bs own : List ℕ) (start end : ℕ) : T
 pub own_part : (source : Source) (bs part own : List ℕ) (start end : ℕ) → IsUtf8 bs → IsUtf8 part → IsUtf8 own → IsLine len_utf8 (chars bs) start end
     → part ≡ slice_range bs start end → chars own ≡ without_separator source (chars part) → IsOwnPart source bs own start end
 own_part source bs part own start end u v w line is e =
-    let n : length own ≡ text_len len_utf8 (without_separator source (subrange len_utf8 (chars bs) start end)) =
-    sym (text_len-chars own w) ∙ simp (e, is, subrange-from_str bs start end u line (rw is at v)) in
-    let short : IsLine len_utf8 (chars bs) start (start + length own) = subst (λ m. IsLine len_utf8 (chars bs) start (start + m)) (sym n) (without_separator-IsLine source (chars bs) start end line) in
-    record { ends = ap (λ m. start + m) n; line = short; within = omega (arith, is_boundary-le len_utf8 (chars bs) (start + length own) short.ends, text_len-chars bs u) }
+    grind (arith, text_len-chars, subrange-from_str, without_separator-IsLine source (chars bs) start end line, is_boundary-le len_utf8 (chars bs))

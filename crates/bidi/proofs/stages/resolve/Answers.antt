@@ -14,10 +14,6 @@ loop-sequence-preserved c =
       neutral = neutral_written ∙ written-more _ _ _ _ _ _ c.sequence-item.result c.loop-sequence-test.true c.sequence-item.is c.loop-sequence.invariant.neutral;
     }
 
-pub returns-clause-weak : goal.returns-clause-weak
+pub returns : goal.returns
 unfolding row_of
-returns-clause-weak c = grind (arith, common_steps)
-
-pub returns-clause-neutral : goal.returns-clause-neutral
-unfolding row_of
-returns-clause-neutral c = grind (arith, common_steps)
+returns c = grind (arith, common_steps)

@@ -11,7 +11,7 @@ here f line p x class fits at is = (rw (length-map line f) fits, get_or-map f li
 
 pub loop-place-init : goal.loop-place-init
 loop-place-init g c =
-    IsReadSoFar-start (map (g.D.BidiDataSource.source c.args.data_source.now).class_of c.args.line.now) c.clear.new.self c.clear-2.new.self.items c.clear.ensures c.clear-2.ensures.items
+    grind (arith, IsReadSoFar-start)
 
 pub note_character-requires : goal.note_character-requires
 note_character-requires g c =
@@ -25,6 +25,4 @@ loop-place-preserved g c =
 
 pub returns : goal.returns
 returns g c =
-    let classes : List BidiClass = map (g.D.BidiDataSource.source c.args.data_source.now).class_of c.args.line.now in
-    IsReadSoFar-end classes c.loop-place.openers c.loop-place.unmatched.items c.loop-place.place (omega (arith, length-map c.args.line.now (g.D.BidiDataSource.source c.args.data_source.now).class_of)) c.loop-place.invariant
-    ∙ ap (λ (n : ℕ). map (is_unmatched classes) (range_with_len 0 n)) (omega arith)
+    grind (arith, length-map, IsReadSoFar-end (map (g.D.BidiDataSource.source c.args.data_source.now).class_of c.args.line.now) c.loop-place.openers)

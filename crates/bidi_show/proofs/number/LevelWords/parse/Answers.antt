@@ -1,5 +1,4 @@
-use Rattle.bidi_base.proofs.Common.{arith}
-use Rattle.bidi_show.proofs.ListsLemmas.{list_all-map}
+use Rattle.bidi_base.proofs.Common.{arith, list_all-map}
 use Rattle.bidi_show.proofs.number.LevelWords.parse.Goals as goal
 
 pub returns-then-are_levels : goal.returns-then-are_levels
