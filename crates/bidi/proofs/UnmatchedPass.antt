@@ -3,6 +3,7 @@ use Rattle.bidi_base.proofs.Common.{◌≡◌, ℕ, zero, suc, ◌+◌, ◌<◌,
 use Rattle.std.specs.Prelude.{is_some, is_none}
 use Rattle.std.proofs.lemmas.List.{get_or-set_same, get_or-set_other}
 use Rattle.bidi_base.specs.declared.char_data.BidiClass.{BidiClass}
+use Rattle.bidi_base.proofs.ChainLemmas.{holds_number-true}
 use Rattle.bidi_base.proofs.OpenersStack.{openers_read, closed_by, opened_by, left_at, below_isolate}
 use Rattle.bidi.specs.declared.openers.Opener.{Opener}
 use Rattle.bidi.specs.OpenOpeners.{innermost_isolate, outside_isolate, closed_place, left_open, then_open, with_closed}
@@ -50,9 +51,6 @@ is_from p (Some m) = leb p m
 
 abbrev pub unmatched_by : List BidiClass → ℕ → ℕ → Bool
 unmatched_by classes p k = (is_opener (class_at classes k) && is_from p (closer_of classes k)) || closes_nothing classes k
-
-holds_number-true : (o : Option ℕ) (n : ℕ) → holds_number o n ≡ true → o ≡ Some n
-holds_number-true o n e = grind arith
 
 module _ (classes : List BidiClass) where
   -- what the character p closes, by the openers before it

@@ -1,6 +1,7 @@
 -- What the tables have in common with Unicode's general categories and its mirrored characters, each by a computation over steps.
 use Rattle.bidi_base.proofs.Common.{◌≡◌, ℕ, Bool, true, false, ◌&&◌, ◌||◌, not, ◌==◌, List, [], ◌∷◌, map, Option, Some, None, is_some, option_map, option_and_then, refl, sym, ap, ◌∙◌, arith, inl, inr, beq, cases_Bool, nat_tests, holds_number}
 use Rattle.std.proofs.Common.{is_none}
+use Rattle.bidi_base.proofs.ChainLemmas.{holds_number-true}
 use Rattle.ucd_table.specs.Rows.{Row, value_in}
 use Rattle.ucd_table.proofs.Stepped.{Stepped, of_rows, zip_stepped}
 use Rattle.ucd_table.proofs.StepsLemmas.{rises_from}
@@ -80,9 +81,6 @@ mirrored_agree : (c : ℕ) → (not (is_some (row_value MIRRORED c)) || is_bidi_
 unfolding tables mirrored_stepped is_bidi_mirrored_stepped
 mirrored_agree =
     Stepped-everywhere _ (zip_stepped (λ (row : Option ℕ) m. not (is_some row) || m) (row_value MIRRORED) is_bidi_mirrored mirrored_stepped is_bidi_mirrored_stepped) refl
-
-holds_number-true : (o : Option ℕ) (c : ℕ) → holds_number o c ≡ true → o ≡ Some c
-holds_number-true o c h = grind arith
 
 -- the partner of the partner is the character
 abbrev comes_back : ℕ → Option ℕ → Bool
