@@ -1,8 +1,10 @@
 -- The character that begins at a boundary, and where it ends.
-use Rattle.bidi_base.proofs.Common.{◌≡◌, ℕ, ◌+◌, ◌<◌, ◌≤◌, true, List, length, get_or, Some, None, sym, ap, ◌∙◌, arith, common_steps, class_at, char_at, char_index, is_boundary, place, text_len, IsPerChar}
+use Rattle.bidi_base.proofs.Common.{◌≡◌, ℕ, ◌+◌, ◌<◌, ◌≤◌, true, List, length, get_or, Some, None, sym, ap, ◌∙◌, arith, common_steps, class_at, char_at, char_index, is_boundary, place, text_len, is_per_char}
 use Rattle.bidi_base.specs.declared.char_data.BidiClass.{BidiClass}
 use Rattle.bidi_base.proofs.PlaceLemmas.{char_at-place, char_index-place, is_boundary-place, place-char_index, place-end, place-le-back, place-mono, place-more, place-more-le, place-zero}
+use Rattle.bidi_base.proofs.PerCharTests.{class_eq, class_test}
 use Rattle.bidi_base.proofs.TextLemmas.{HasUnits}
+use Rattle.bidi_base.proofs.UnitsLemmas.{IsPerChar-from_is_per_char}
 use Rattle.bidi_rules.proofs.PassOverText.{alike_class}
 
 module _ (len_of : ℕ → ℕ) (h : HasUnits len_of) (chars : List ℕ) where
@@ -47,7 +49,7 @@ module _ (len_of : ℕ → ℕ) (h : HasUnits len_of) (chars : List ℕ) where
     pub index : char_index len_of chars next ≡ char_index len_of chars at + 1
     pub same : (u : ℕ) → at ≤ u → u < next → class_at classes u ≡ class_at classes at
 
-  pub goes : (classes : List BidiClass) (at next to : ℕ) → IsPerChar len_of chars classes → is_boundary len_of chars at ≡ true → is_boundary len_of chars to ≡ true → at < to → to ≤ text_len len_of chars
+  pub goes : (classes : List BidiClass) (at next to : ℕ) → is_per_char class_eq len_of chars classes ≡ true → is_boundary len_of chars at ≡ true → is_boundary len_of chars to ≡ true → at < to → to ≤ text_len len_of chars
       → ((k : ℕ) → k < length chars → at ≡ place len_of chars k → next ≡ place len_of chars (k + 1)) → Goes classes at next to
   goes classes at next to whole begins ends order inside is =
       let b = begins_at at begins (omega arith) in
@@ -63,5 +65,5 @@ module _ (len_of : ℕ → ℕ) (h : HasUnits len_of) (chars : List ℕ) where
         );
         begins = cc (there, is_boundary-place len_of chars (b.index + 1));
         index = cc (there, b.there, char_index-place len_of chars h (b.index + 1) (omega (arith, b.within)), char_index-place len_of chars h b.index (omega (arith, b.within)));
-        same = λ u above upto. cc (alike_class len_of h chars classes whole b.index u b.within (omega (arith, b.there)) (omega (arith, there)), b.there);
+        same = λ u above upto. cc (alike_class len_of h chars classes (IsPerChar-from_is_per_char class_eq class_test len_of h chars classes whole) b.index u b.within (omega (arith, b.there)) (omega (arith, there)), b.there);
       }

@@ -1,5 +1,5 @@
 -- The explicit pass by stretches: where no control comes the status stands still, so the characters there have one level and are under one override.
-use Rattle.bidi_base.proofs.Common.{◌≡◌, ℕ, zero, suc, ◌+◌, ◌-◌, ◌<◌, ◌≤◌, ◌^◌, Bool, true, false, not, ◌||◌, List, [], ◌∷◌, ◌++◌, length, get_or, Option, Some, None, unwrap_or, refl, sym, ap, subst, ◌∙◌, arith, inl, inr, length-take, eq-eqb, common_steps, cases_Bool, cases_lt, cases_eq, ext_get_or, length-replicate, get_or-append_right, is_kept, is_kept_in_place, is_paragraph_separator, is_removed, class_at, IsFirst, is_kept_at, level_at, Entry, State, start, closed, step, state_at, char_index, is_boundary, place, text_len, is_per_char, per_unit, IsPerChar, level_run_ranges, add-zero}
+use Rattle.bidi_base.proofs.Common.{◌≡◌, ℕ, zero, suc, ◌+◌, ◌-◌, ◌<◌, ◌≤◌, ◌^◌, Bool, true, false, not, ◌||◌, List, [], ◌∷◌, ◌++◌, length, get_or, Option, Some, None, unwrap_or, refl, sym, ap, subst, ◌∙◌, arith, inl, inr, length-take, eq-eqb, common_steps, cases_Bool, cases_lt, cases_eq, ext_get_or, length-replicate, get_or-append_right, is_kept, is_kept_in_place, is_paragraph_separator, is_removed, then_some, class_at, IsFirst, is_kept_at, level_at, Entry, State, start, closed, step, state_at, char_index, is_boundary, place, text_len, is_per_char, per_unit, IsPerChar, level_run_ranges, add-zero}
 use Rattle.std.specs.Prelude.{if◌then◌else◌}
 use Rattle.std.proofs.lemmas.List.{get_or-drop}
 use Rattle.bidi_base.specs.declared.char_data.BidiClass.{BidiClass}
@@ -14,7 +14,7 @@ use Rattle.bidi_base.proofs.UnitsLemmas.{length-from_IsPerChar, per_unit-from_Is
 use Rattle.bidi_base.proofs.PerCharTests.{class_test}
 use Rattle.bidi_base.specs.contracts.char_data.BidiClassPartialEq.TheImpl.{ghosts}
 use Rattle.bidi_rules.specs.ExplicitPass.{IsCutTo, filled, differs, runs_before, run_start}
-use Rattle.bidi_rules.specs.ExplicitStretches.{is_control, overridden, IsOverridden, Paragraph, stored, levels_of, classes_of, IsReadTo}
+use Rattle.bidi_rules.specs.ExplicitStretches.{is_control, overridden, run_met, runs_met, IsOverridden, Paragraph, stored, levels_of, classes_of, IsReadTo}
 use Rattle.bidi_rules.specs.declared.explicit.stretches.OpenRun.{OpenRun}
 use Rattle.bidi_rules.proofs.ExplicitUnits.{CanRead, can_read, length-filled, processing_class-is, level_at as level_of_next, put_at, next_at, text_len-some}
 use Rattle.bidi_rules.proofs.RunCutting.{IsCutTo-start, IsCutTo-removed, IsCutTo-kept, IsCutTo-end, IsCutTo-none}
@@ -268,15 +268,13 @@ module _ (p : Paragraph) (from to : ℕ) (stack : State) (levels : List ℕ) (cl
 
   module _ (level : ℕ) (override : Option BidiClass) (now_levels : List ℕ) (now_classes : List BidiClass) (level_is : level ≡ stack.top.status.level) (override_is : override ≡ stack.top.status.override)
       (filled_is : now_levels ≡ filled from (to - from) level levels) (over : IsOverridden override from to classes now_classes) (v : ℕ) (first : IsFirst is_kept_in_place p.original from to v) where
-    -- in which no character is kept
-    pub stretch-none : to ≤ v → IsReadTo p to stack now_levels now_classes runs run
-    stretch-none past = stretch-read level override now_levels now_classes runs run level_is override_is filled_is over (cut-before end.index to end.there end.order
-        (omega arith) (λ u above below. first.before u above (omega arith)))
-
-    -- in which the first kept one begins at v
-    pub stretch-some : (now_runs : List (ℕ × ℕ)) (now : OpenRun) → v < to → now_runs ≡ runs_before run.last_level level run.start v runs → now ≡ record { start = run_start run.last_level level run.start v; last_level = Some level }
-        → IsReadTo p to stack now_levels now_classes now_runs now
-    stretch-some now_runs now inside runs_is now_is = grind (arith, stretch-read, cut-some)
+    -- its first kept character, if there is one, meets the run
+    pub stretch-met : (some : Bool) → (some ≡ true → v < to) → (some ≡ false → to ≤ v) → (kept : Option ℕ) → kept ≡ then_some some v → IsReadTo p to stack now_levels now_classes (runs_met kept level run runs) (run_met kept level run)
+    stretch-met some inside past kept kept_is = elim (cases_Bool some) [
+      | inl set ↦ simp (kept_is, set) (stretch-read level override now_levels now_classes _ _ level_is override_is filled_is over (cut-some v level level_is first (inside set)))
+      | inr none ↦ simp (kept_is, none) (stretch-read level override now_levels now_classes runs run level_is override_is filled_is over (cut-before end.index to end.there end.order
+          (omega arith) (λ u above below. first.before u above (omega (arith, past none)))))
+    ]
 
 -- ---- a control is read
 
@@ -336,14 +334,12 @@ module _ (p : Paragraph) (at : ℕ) (stack : State) (levels : List ℕ) (classes
           one w.index first last,
         )) cut
 
-    pub control-removed : is_kept (class_at p.original at) ≡ false → IsReadTo p next now now_levels now_classes runs run
-    control-removed gone = control-read runs run (IsCutTo-removed p.len_of p.chars (stored p) (levels_of p) h.index runs run.start run.last_level (ap is_kept (sym control-class) ∙ gone) h.cut)
-
-    pub control-kept : (now_runs : List (ℕ × ℕ)) (now_run : OpenRun) → is_kept (class_at p.original at) ≡ true → now_runs ≡ runs_before run.last_level level run.start at runs
-        → now_run ≡ record { start = run_start run.last_level level run.start at; last_level = Some level } → IsReadTo p next now now_levels now_classes now_runs now_run
-    control-kept now_runs now_run kept runs_are run_is =
-        control-read now_runs now_run
-        (simp (run_is, runs_are, h.begins) (IsCutTo-kept p.len_of p.chars (stored p) (levels_of p) h.index runs run.start run.last_level level (ap is_kept (sym control-class) ∙ kept) level-at_control h.cut))
+    -- it meets the run, if it is kept
+    pub control-met : (kept : Option ℕ) → kept ≡ then_some (is_kept (class_at p.original at)) at → IsReadTo p next now now_levels now_classes (runs_met kept level run runs) (run_met kept level run)
+    control-met kept kept_is = elim (cases_Bool (is_kept (class_at p.original at))) [
+      | inl set ↦ simp (kept_is, set) (control-read _ _ (simp h.begins (IsCutTo-kept p.len_of p.chars (stored p) (levels_of p) h.index runs run.start run.last_level level (ap is_kept (sym control-class) ∙ set) level-at_control h.cut)))
+      | inr gone ↦ simp (kept_is, gone) (control-read runs run (IsCutTo-removed p.len_of p.chars (stored p) (levels_of p) h.index runs run.start run.last_level (ap is_kept (sym control-class) ∙ gone) h.cut))
+    ]
 
 -- ---- the start and the end of a paragraph
 

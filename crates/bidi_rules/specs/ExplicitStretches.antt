@@ -7,8 +7,9 @@ use Rattle.bidi_base.specs.Explicit.{explicit_levels, processing_classes}
 use Rattle.bidi_base.specs.Places.{class_at}
 use Rattle.bidi_base.specs.StatusMachine.{State, state_at}
 use Rattle.bidi_base.specs.Text.{place, text_len, per_char, per_unit, IsPerChar}
-use Rattle.bidi_rules.specs.ExplicitPass.{IsCutTo}
+use Rattle.bidi_rules.specs.ExplicitPass.{runs_before, run_start, IsCutTo}
 use Rattle.bidi_rules.specs.declared.explicit.stretches.OpenRun.{OpenRun}
+use Rattle.bidi_rules.specs.declared.explicit.stretches.Progress.{Progress}
 
 -- a class that changes the status, or whose level is not that of the status (X1 to X8)
 abbrev pub is_control : BidiClass → Bool
@@ -37,6 +38,9 @@ pub record Paragraph : Type 0 where
   pub level : ℕ
   pub original : List BidiClass
 
+abbrev pub paragraph_of : (ℕ → ℕ) → List ℕ → ℕ → List BidiClass → Paragraph
+paragraph_of len_of chars level original = record { len_of = len_of; chars = chars; level = level; original = original }
+
 -- the stored class of each character
 abbrev pub stored : Paragraph → List BidiClass
 stored p = per_char L p.len_of p.chars p.original
@@ -63,7 +67,16 @@ pub record IsReadTo (p : Paragraph) (u : ℕ) (stack : State) (levels : List ℕ
   pub unread : (v : ℕ) → u ≤ v → class_at classes v ≡ class_at p.original v
   pub cut : IsCutTo p.len_of p.chars (stored p) (levels_of p) index runs run.start run.last_level
 
--- the units from `from` up to `to`, in which this status holds, are read
-abbrev pub ReadsStretch : List BidiClass → ℕ → ℕ → State → List ℕ → List BidiClass → List (ℕ × ℕ) → OpenRun → List ℕ → List BidiClass → List (ℕ × ℕ) → OpenRun → Type 0
-ReadsStretch original from to stack levels classes runs run levels_now classes_now runs_now run_now =
-    (p : Paragraph) → p.original ≡ original → IsReadTo p from stack levels classes runs run → IsReadTo p to stack levels_now classes_now runs_now run_now
+-- the level runs that have ended once the first kept unit of what was read, if there is one, met the run that is open, and that one then
+abbrev pub runs_met : Option ℕ → ℕ → OpenRun → List (ℕ × ℕ) → List (ℕ × ℕ)
+runs_met None level run runs = runs
+runs_met (Some unit) level run runs = runs_before run.last_level level run.start unit runs
+
+abbrev pub run_met : Option ℕ → ℕ → OpenRun → OpenRun
+run_met None level run = run
+run_met (Some unit) level run = record { start = run_start run.last_level level run.start unit; last_level = Some level }
+
+-- from a unit on a stretch or a control is read, whatever runs came before
+abbrev pub ReadsOn : Paragraph → ℕ → State → List ℕ → List BidiClass → Progress → State → List ℕ → List BidiClass → Type 0
+ReadsOn p from stack levels classes read stack_now levels_now classes_now =
+    (runs : List (ℕ × ℕ)) (run : OpenRun) → IsReadTo p from stack levels classes runs run → IsReadTo p read.end stack_now levels_now classes_now (runs_met read.first_kept read.level run runs) (run_met read.first_kept read.level run)

@@ -20,7 +20,7 @@ use status::StatusStack;
 use std::alloc::{AllocError, Global};
 use std::marker::Brand;
 use std::sync::ledger::{Blank, Ledger};
-use stretches::{OpenRun, is_control, read_control, read_stretch};
+use stretches::{OpenRun, Paragraph, is_control};
 
 // The level of a character, where `level` holds at its place (X8).
 fn own_level(para_level: Level, class: BidiClass, level: Level) -> Level
@@ -217,38 +217,24 @@ pub fn compute_counted<T: TextSource, S: Ledger>(
     ensures at_least { OnOk result (steps.old + length (T.characters text) ≤ steps.new) }
     ensures at_most { OnOk result (steps.new ≤ steps.old + 4 * length (T.characters text)) }
 {
+    let paragraph = Paragraph {
+        text,
+        level: para_level,
+        original_classes,
+    };
     let units = original_classes.len();
     let mut stack = StatusStack::new(para_level);
     let mut run = OpenRun::new();
     let mut at = 0;
     while at < units {
         steps.tick();
-        at = if is_control(original_classes[at]) {
-            read_control(
-                text,
-                para_level,
-                original_classes,
-                at,
-                &mut stack,
-                levels,
-                processing_classes,
-                runs,
-                &mut run,
-                steps,
-            )?
+        let progress = if is_control(original_classes[at]) {
+            paragraph.read_control(at, &mut stack, levels, processing_classes, steps)
         } else {
-            read_stretch(
-                text,
-                original_classes,
-                at,
-                stack.top(),
-                levels,
-                processing_classes,
-                runs,
-                &mut run,
-                steps,
-            )?
+            paragraph.read_stretch(at, stack.top(), levels, processing_classes, steps)
         };
+        run.meet(runs, &progress)?;
+        at = progress.end;
     }
     if units > 0 {
         runs.push(run.start..units)?;

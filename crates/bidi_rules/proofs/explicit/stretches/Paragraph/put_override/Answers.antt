@@ -2,17 +2,17 @@
 use Rattle.bidi_base.proofs.Common.{◌≡◌, ℕ, ◌+◌, ◌<◌, ◌≤◌, sym, ap, ◌∙◌, arith, is_kept_in_place, class_at, char_index}
 use Rattle.bidi_rules.proofs.CharEnds.{Goes, goes}
 use Rattle.bidi_rules.proofs.ExplicitStretches.{IsOverridden-more, IsOverridden-spared}
-use Rattle.bidi_rules.proofs.explicit.stretches.put_override.Given.{Over}
-use Rattle.bidi_rules.proofs.explicit.stretches.put_override.Goals as goal
-use Rattle.bidi_rules.proofs.explicit.stretches.put_override.Goals.{After-step_over-next}
+use Rattle.bidi_rules.proofs.explicit.stretches.Paragraph.put_override.Given.{Over}
+use Rattle.bidi_rules.proofs.explicit.stretches.Paragraph.put_override.Goals as goal
+use Rattle.bidi_rules.proofs.explicit.stretches.Paragraph.put_override.Goals.{After-step_over-next}
 
-next : (g : Over) (c : After-step_over-next g) → Goes g.T.TextSource.units g.met.T.TextSource.has_units (g.T.TextSource.characters c.args.text) c.args.original_classes.now c.loop-at.at c.step_over-next.result c.args.to
+next : (g : Over) (c : After-step_over-next g) → Goes g.T.TextSource.units g.met.T.TextSource.has_units (g.T.TextSource.characters c.args.self.now.text) c.args.self.now.original_classes.now c.loop-at.at c.step_over-next.result c.args.to
 next g c =
-    goes g.T.TextSource.units g.met.T.TextSource.has_units (g.T.TextSource.characters c.args.text) c.args.original_classes.now c.loop-at.at c.step_over-next.result c.args.to
-    c.requires.text c.loop-at.invariant.3 c.requires.ends c.loop-at-test.true (omega (arith, c.requires.within, c.requires.long)) c.step_over-next.ensures.end
+    goes g.T.TextSource.units g.met.T.TextSource.has_units (g.T.TextSource.characters c.args.self.now.text) c.args.self.now.original_classes.now c.loop-at.at c.step_over-next.result c.args.to
+    c.args.self.now.per_char c.loop-at.invariant.3 c.requires.ends c.loop-at-test.true (omega (arith, c.requires.within, c.args.self.now.long)) c.step_over-next.ensures.end
 
 -- the class of its units before the override
-was : (g : Over) (c : After-step_over-next g) (u : ℕ) → c.loop-at.at ≤ u → u < c.step_over-next.result → class_at c.args.classes.now u ≡ class_at c.args.original_classes.now c.loop-at.at
+was : (g : Over) (c : After-step_over-next g) (u : ℕ) → c.loop-at.at ≤ u → u < c.step_over-next.result → class_at c.args.classes.now u ≡ class_at c.args.self.now.original_classes.now c.loop-at.at
 was g c u above below = c.requires.unread u (omega (arith, c.loop-at.invariant.0)) ∙ (next g c).same u above below
 
 pub write_class-requires-clause-ordered : goal.write_class-requires-clause-ordered
@@ -57,4 +57,4 @@ loop-at-preserved g c =
 pub returns-clause-steps : goal.returns-clause-steps
 returns-clause-steps g c =
     let same : c.loop-at.at ≡ c.args.to = omega (arith, c.loop-at.invariant.1) in
-    c.loop-at.invariant.4 ∙ ap (λ u. c.args.steps.now + char_index g.T.TextSource.units (g.T.TextSource.characters c.args.text) u) same
+    c.loop-at.invariant.4 ∙ ap (λ u. c.args.steps.now + char_index g.T.TextSource.units (g.T.TextSource.characters c.args.self.now.text) u) same
