@@ -9,14 +9,18 @@ use std::test::Fail;
 
 /// A number, whether it is a level, and whether it is an explicit one.
 #[rattlefmt::skip]
-const NUMBERS: [(u8, bool, bool); 7] = [
+static NUMBERS: [(u8, bool, bool); 7] = [
     (0, true, true), (1, true, true), (77, true, true), (125, true, true), (126, true, false), (127, false, false), (255, false, false),
 ];
+
+fn number_rows() -> &'static [(u8, bool, bool)] {
+    NUMBERS.as_slice()
+}
 
 /// A level, the least even level above it, the least odd one above it, and the least odd one at or
 /// above it.
 #[rattlefmt::skip]
-const NEXT: [(u8, Option<u8>, Option<u8>, Option<u8>); 6] = [
+static NEXT: [(u8, Option<u8>, Option<u8>, Option<u8>); 6] = [
     (0, Some(2), Some(1), Some(1)),
     (1, Some(2), Some(3), Some(1)),
     (2, Some(4), Some(3), Some(3)),
@@ -25,9 +29,13 @@ const NEXT: [(u8, Option<u8>, Option<u8>, Option<u8>); 6] = [
     (126, None, None, None),
 ];
 
+fn next_rows() -> &'static [(u8, Option<u8>, Option<u8>, Option<u8>)] {
+    NEXT.as_slice()
+}
+
 /// A level, a number, and the levels that `raise`, `raise_explicit` and `lower` by it give.
 #[rattlefmt::skip]
-const STEPS: [(u8, u8, Option<u8>, Option<u8>, Option<u8>); 8] = [
+static STEPS: [(u8, u8, Option<u8>, Option<u8>, Option<u8>); 8] = [
     (100, 200, None, None, None),
     (126, 0, Some(126), None, Some(126)),
     (125, 1, Some(126), None, Some(124)),
@@ -38,11 +46,19 @@ const STEPS: [(u8, u8, Option<u8>, Option<u8>, Option<u8>); 8] = [
     (125, 124, None, None, Some(1)),
 ];
 
+fn step_rows() -> &'static [(u8, u8, Option<u8>, Option<u8>, Option<u8>)] {
+    STEPS.as_slice()
+}
+
 /// Texts, and whether they name level 7.
 #[rattlefmt::skip]
-const TEXTS: [(&str, bool); 6] = [
+static TEXTS: [(&str, bool); 6] = [
     ("x", true), ("7", true), ("07", false), ("+7", false), ("X", false), ("", false),
 ];
+
+fn text_rows() -> &'static [(&'static str, bool)] {
+    TEXTS.as_slice()
+}
 
 // The number of a level that was answered.
 fn number(answer: Result<Level, Error>) -> Option<u8> {
@@ -54,7 +70,7 @@ fn number(answer: Result<Level, Error>) -> Option<u8> {
 
 #[test]
 fn numbers(rt: HostRuntime) {
-    for (n, is_level, is_explicit) in NUMBERS {
+    for &(n, is_level, is_explicit) in number_rows() {
         let wanted = if is_level { Some(n) } else { None };
         assert_eq!(rt; number(Level::new(n)), wanted, "{n}");
         let wanted = if is_explicit { Some(n) } else { None };
@@ -71,7 +87,7 @@ fn numbers(rt: HostRuntime) {
 
 #[test]
 fn next_levels(rt: HostRuntime) -> Result<(), Fail> {
-    for (n, even, odd, odd_from) in NEXT {
+    for &(n, even, odd, odd_from) in next_rows() {
         let level = Level::new(n)?;
         assert_eq!(rt; number(level.new_explicit_next_ltr()), even, "{n}");
         assert_eq!(rt; number(level.new_explicit_next_rtl()), odd, "{n}");
@@ -83,7 +99,7 @@ fn next_levels(rt: HostRuntime) -> Result<(), Fail> {
 // A refusal leaves the level.
 #[test]
 fn steps(rt: HostRuntime) -> Result<(), Fail> {
-    for (n, amount, raised, explicit, lowered) in STEPS {
+    for &(n, amount, raised, explicit, lowered) in step_rows() {
         let mut level = Level::new(n)?;
         assert_eq!(rt;
             level.raise(amount).is_ok(),
@@ -145,7 +161,7 @@ fn lists(rt: HostRuntime) -> Result<(), Fail> {
 #[test]
 fn texts(rt: HostRuntime) -> Result<(), Fail> {
     let seven = Level::new(7)?;
-    for (text, matches) in TEXTS {
+    for &(text, matches) in text_rows() {
         assert_eq!(rt; seven.matches_text(text), matches, "{text:?}");
     }
     assert!(rt; Level::new(126)?.matches_text("126"));

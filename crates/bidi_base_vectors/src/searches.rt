@@ -20,7 +20,7 @@ impl ClassTest for OtherNeutral {
 
 /// Where a search begins, where it ends, and the unit that it finds, among 40 units of class WS but
 /// for ON at 3, 19 and 37.
-const ROWS: [(usize, usize, usize); 9] = [
+static ROWS: [(usize, usize, usize); 9] = [
     (0, 40, 3),
     (3, 40, 3),
     (4, 40, 19),
@@ -32,13 +32,17 @@ const ROWS: [(usize, usize, usize); 9] = [
     (40, 40, 40),
 ];
 
+fn rows() -> &'static [(usize, usize, usize)] {
+    ROWS.as_slice()
+}
+
 #[test]
 fn searches(rt: HostRuntime) {
     let mut classes = [WS; 40];
     classes[3] = ON;
     classes[19] = ON;
     classes[37] = ON;
-    for (from, to, found) in ROWS {
+    for &(from, to, found) in rows() {
         let fits = from <= to && to <= classes.len();
         assert!(rt; fits);
         let unit = first_passing(OtherNeutral, &classes, from, to);

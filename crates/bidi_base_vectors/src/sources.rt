@@ -14,7 +14,7 @@ use std::test::Fail;
 /// The classes of the sample over the whole of Unicode, as its characters follow one another. The
 /// stretches of another class than L are the sample's ranges; the others lie between these.
 #[rattlefmt::skip]
-const STRETCHES: [(char, char, BidiClass); 54] = [
+static STRETCHES: [(char, char, BidiClass); 54] = [
     ('\u{0000}', '\u{0008}', L),
     ('\u{0009}', '\u{0009}', S),
     ('\u{000A}', '\u{000A}', B),
@@ -71,15 +71,23 @@ const STRETCHES: [(char, char, BidiClass); 54] = [
     ('\u{FFFE}', '\u{10FFFF}', L),
 ];
 
+fn stretches() -> &'static [(char, char, BidiClass)] {
+    STRETCHES.as_slice()
+}
+
 /// Characters inside the stretches.
 #[rattlefmt::skip]
-const INSIDE: [(char, BidiClass); 5] = [
+static INSIDE: [(char, BidiClass); 5] = [
     ('7', EN), ('\u{301}', NSM), ('\u{661}', AN), ('a', L), ('\u{10000}', L),
 ];
 
+fn inside() -> &'static [(char, BidiClass)] {
+    INSIDE.as_slice()
+}
+
 /// A character, and its pair's opening and whether it is an opening itself, if it is a bracket.
 #[rattlefmt::skip]
-const BRACKETS: [(char, Option<(char, bool)>); 23] = [
+static BRACKETS: [(char, Option<(char, bool)>); 23] = [
     ('\u{0027}', None), ('\u{0028}', Some(('\u{0028}', true))), ('\u{0029}', Some(('\u{0028}', false))), ('\u{002A}', None),
     ('\u{005A}', None), ('a', None), ('\u{005B}', Some(('\u{005B}', true))), ('\u{005C}', None), ('\u{005D}', Some(('\u{005B}', false))), ('\u{005E}', None),
     ('\u{007A}', None), ('\u{007B}', Some(('\u{007B}', true))), ('\u{007C}', None), ('\u{007D}', Some(('\u{007B}', false))), ('\u{007E}', None),
@@ -87,9 +95,13 @@ const BRACKETS: [(char, Option<(char, bool)>); 23] = [
     ('\u{3007}', None), ('\u{3008}', Some(('\u{3008}', true))), ('\u{3009}', Some(('\u{3008}', false))), ('\u{300A}', None),
 ];
 
+fn bracket_rows() -> &'static [(char, Option<(char, bool)>)] {
+    BRACKETS.as_slice()
+}
+
 /// The format characters, their code points and their classes in the sample.
 #[rattlefmt::skip]
-const FORMAT_CHARS: [(char, u32, BidiClass); 12] = [
+static FORMAT_CHARS: [(char, u32, BidiClass); 12] = [
     (format_chars::ALM, 0x061C, AL),
     (format_chars::LRM, 0x200E, L),
     (format_chars::RLM, 0x200F, R),
@@ -103,6 +115,10 @@ const FORMAT_CHARS: [(char, u32, BidiClass); 12] = [
     (format_chars::FSI, 0x2068, FSI),
     (format_chars::PDI, 0x2069, PDI),
 ];
+
+fn format_rows() -> &'static [(char, u32, BidiClass)] {
+    FORMAT_CHARS.as_slice()
+}
 
 /// Ranges, and the fault in them.
 #[rattlefmt::skip]
@@ -140,7 +156,7 @@ fn no_ranges(rt: HostRuntime) -> Result<(), Fail> {
 fn classes_of_the_sample(rt: HostRuntime) -> Result<(), Fail> {
     let source = sample()?;
     let mut ranges = Vec::new(rt.alloc());
-    for (first, last, class) in STRETCHES {
+    for &(first, last, class) in stretches() {
         assert_eq!(rt; source.bidi_class(first), class, "{first:?}");
         assert_eq!(rt; source.bidi_class(last), class, "{last:?}");
         if class != L {
@@ -148,7 +164,7 @@ fn classes_of_the_sample(rt: HostRuntime) -> Result<(), Fail> {
         }
     }
     assert_eq!(rt; sample::RANGES.as_slice(), ranges.as_slice());
-    for (c, class) in INSIDE {
+    for &(c, class) in inside() {
         assert_eq!(rt; source.bidi_class(c), class, "{c:?}");
     }
     Ok(())
@@ -157,7 +173,7 @@ fn classes_of_the_sample(rt: HostRuntime) -> Result<(), Fail> {
 #[test]
 fn brackets_of_the_sample(rt: HostRuntime) -> Result<(), Fail> {
     let source = sample()?;
-    for (c, wanted) in BRACKETS {
+    for &(c, wanted) in bracket_rows() {
         let found = match source.bidi_matched_opening_bracket(c) {
             Some(bracket) => Some((bracket.opening, bracket.is_open)),
             None => None,
@@ -178,7 +194,7 @@ fn brackets_of_the_sample(rt: HostRuntime) -> Result<(), Fail> {
 #[test]
 fn formatting_characters(rt: HostRuntime) -> Result<(), Fail> {
     let source = sample()?;
-    for (c, code_point, class) in FORMAT_CHARS {
+    for &(c, code_point, class) in format_rows() {
         assert_eq!(rt; u32::from(c), code_point, "{class:?}");
         assert_eq!(rt; source.bidi_class(c), class, "{c:?}");
     }

@@ -27,7 +27,7 @@ type PairRow = (
 );
 
 #[rattlefmt::skip]
-const PAIRS: [PairRow; 7] = [
+static PAIRS: [PairRow; 7] = [
     ("BD16: crossed brackets", "([)]", &[ON; 4], &[(0, 2)]),
     ("BD16: the nearest opening", "(()", &[ON; 3], &[(1, 2)]),
     ("BD16: the order of the openings", "([])", &[ON; 4], &[(0, 3), (1, 2)]),
@@ -37,12 +37,20 @@ const PAIRS: [PairRow; 7] = [
     ("BD16: canonical equivalents the other way", "\u{3008}\u{232A}", &[ON; 2], &[(0, 1)]),
 ];
 
+fn pair_rows() -> &'static [PairRow] {
+    PAIRS.as_slice()
+}
+
 /// A number of openings `{` that wait, behind `()` and before `}`, and the pairs.
 #[rattlefmt::skip]
-const DEEP_PAIRS: [(usize, &[(usize, usize)]); 2] = [
+static DEEP_PAIRS: [(usize, &[(usize, usize)]); 2] = [
     (63, &[(0, 1), (64, 65)]),
     (64, &[(0, 1)]),
 ];
+
+fn deep_pair_rows() -> &'static [(usize, &'static [(usize, usize)])] {
+    DEEP_PAIRS.as_slice()
+}
 
 /// At level 0 a name, a text, its sos and eos, and one a character the classes before the weak types
 /// were resolved, those before the neutrals are, and those after.
@@ -57,7 +65,7 @@ type ListRow = (
 );
 
 #[rattlefmt::skip]
-const LISTS: [ListRow; 6] = [
+static LISTS: [ListRow; 6] = [
     ("N0c: marks behind a bracket after R", "\u{5D0}(\u{5D1})\u{301}", L, L, &[R, ON, R, ON, NSM], &[R, ON, R, ON, ON], &[R, R, R, R, R]),
     ("N0c: marks behind a bracket after L", "a(\u{5D0})\u{301}", L, L, &[L, ON, R, ON, NSM], &[L, ON, R, ON, ON], &[L, L, R, L, L]),
     ("N0c: sos as the context", "(\u{5D0})", R, L, &[ON, R, ON], &[ON, R, ON], &[R, R, R]),
@@ -65,6 +73,10 @@ const LISTS: [ListRow; 6] = [
     ("N0b: the embedding direction first", "\u{5D0}(\u{5D1}a)", L, L, &[R, ON, R, L, ON], &[R, ON, R, L, ON], &[R, L, R, L, L]),
     ("N1: a number beside neutrals", "\u{5D0}!\u{660}", L, L, &[R, ON, AN], &[R, ON, AN], &[R, R, AN]),
 ];
+
+fn list_rows() -> &'static [ListRow] {
+    LISTS.as_slice()
+}
 
 /// A name, a text, an explicit level, the class of sos and eos, the classes of the text, and its
 /// levels after the weak types, the neutrals and the implicit levels.
@@ -78,7 +90,7 @@ type LevelRow = (
 );
 
 #[rattlefmt::skip]
-const LEVELS: [LevelRow; 8] = [
+static LEVELS: [LevelRow; 8] = [
     ("W2 before W4", "\u{627}1,2", 1, R, &[AL, EN, CS, EN], &[1, 2, 2, 2]),
     ("W4, W5: separators and terminators", "\u{5D0}$1+2%,3", 1, R, &[R, ET, EN, ES, EN, ET, CS, EN], &[1, 2, 2, 2, 2, 2, 1, 2]),
     ("W2: the nearest strong class", "\u{627}\u{5D0}$1", 0, L, &[AL, R, ET, EN], &[1, 1, 2, 2]),
@@ -88,6 +100,10 @@ const LEVELS: [LevelRow; 8] = [
     ("BD16: crossed brackets", "\u{5D0}([\u{5D1})]", 0, L, &[R, ON, ON, R, ON, ON], &[1, 1, 1, 1, 1, 0]),
     ("N1: a number beside neutrals", "\u{5D0}!\u{660}", 0, L, &[R, ON, AN], &[1, 1, 2]),
 ];
+
+fn level_rows() -> &'static [LevelRow] {
+    LEVELS.as_slice()
+}
 
 /// A name, a text, the character that closes `(`, its sequences, and one a character the explicit
 /// levels, the classes before the weak types were resolved, those before the neutrals are, and those
@@ -104,7 +120,7 @@ type UnitRow<'r> = (
 );
 
 #[rattlefmt::skip]
-const UNITS: [UnitRow<'static>; 4] = [
+static UNITS: [UnitRow<'static>; 4] = [
     ("N0c: marks behind a removed character", "\u{5D0}(\u{5D1})\u{AD}\u{301}", ')', &[(&[(0, 10)], L, L)], &[0; 6],
         &[R, ON, R, ON, BN, NSM], &[R, ON, R, ON, BN, ON], &[R, R, R, R, BN, R]),
     ("N2: the level of the first character that is kept", "\u{202B}\u{202C}\u{5D0}\u{2066}", ')', &[(&[(0, 11)], L, L)], &[1, 1, 0, 0],
@@ -114,6 +130,10 @@ const UNITS: [UnitRow<'static>; 4] = [
     ("N0, N1: one resolver for many sequences", "\u{5D0}(a)!\u{5D1}", ')', &[(&[(0, 3), (4, 5)], L, L), (&[(3, 4)], R, R), (&[(5, 8)], R, L)], &[0; 6],
         &[R, ON, L, ON, ON, R], &[R, ON, L, ON, ON, R], &[R, L, L, L, R, R]),
 ];
+
+fn unit_rows() -> &'static [UnitRow<'static>] {
+    UNITS.as_slice()
+}
 
 // The brackets of a text, one entry a character.
 fn brackets_of(
@@ -328,7 +348,7 @@ fn resolve_weak_units(
 #[test]
 fn pairs_of_lists(rt: HostRuntime) -> Result<(), Fail> {
     let source = sample()?;
-    for (name, text, classes, wanted) in PAIRS {
+    for &(name, text, classes, wanted) in pair_rows() {
         let brackets = brackets_of(rt.alloc(), &source, text)?;
         assert!(rt; brackets.len() == classes.len());
         assert!(rt; are_left(classes));
@@ -370,7 +390,7 @@ fn openings(alloc: Global, count: usize) -> Result<String, Fail> {
 #[test]
 fn pairs_behind_many_openings(rt: HostRuntime) -> Result<(), Fail> {
     let source = sample()?;
-    for (count, wanted) in DEEP_PAIRS {
+    for &(count, wanted) in deep_pair_rows() {
         let text = openings(rt.alloc(), count)?;
         let brackets = brackets_of(rt.alloc(), &source, text.as_str())?;
         let classes = vec![in rt.alloc(); ON; brackets.len()]?;
@@ -384,7 +404,7 @@ fn pairs_behind_many_openings(rt: HostRuntime) -> Result<(), Fail> {
 #[test]
 fn lists(rt: HostRuntime) -> Result<(), Fail> {
     let source = sample()?;
-    for (name, text, sos, eos, original, classes, wanted) in LISTS {
+    for &(name, text, sos, eos, original, classes, wanted) in list_rows() {
         let brackets = brackets_of(rt.alloc(), &source, text)?;
         let answer = listed(
             &rt,
@@ -416,7 +436,7 @@ fn lists(rt: HostRuntime) -> Result<(), Fail> {
 #[test]
 fn levels_of_lists(rt: HostRuntime) -> Result<(), Fail> {
     let source = sample()?;
-    for (name, text, level, edge, classes, wanted) in LEVELS {
+    for &(name, text, level, edge, classes, wanted) in level_rows() {
         let level = Level::new_explicit(level)?;
         let brackets = brackets_of(rt.alloc(), &source, text)?;
         assert!(rt; is_side(edge));
@@ -443,7 +463,7 @@ fn levels_of_lists(rt: HostRuntime) -> Result<(), Fail> {
 
 #[test]
 fn units(rt: HostRuntime) -> Result<(), Fail> {
-    for row in UNITS {
+    for &row in unit_rows() {
         let brackets = [('(', row.2, None)];
         let Ok(source) = TableBidiData::new(&RANGES, &brackets) else {
             return Err(Fail::from("the sample is faultless"));

@@ -3,8 +3,8 @@
 ghost use Rattle.std.specs.Prelude.{◌≡◌, ◌≤◌, length};
 
 use crate::equality::same;
-use crate::explicit_levels::{LEVELS, Prepared, UNITS, letters};
-use crate::weak_types::{UNITS as WEAK_UNITS, resolve_units};
+use crate::explicit_levels::{Prepared, letters, level_rows, unit_rows};
+use crate::weak_types::{resolve_units, unit_rows as weak_rows};
 use bidi_base::char_data::BidiClass::{
     self, BN, CS, EN, ES, ET, L, LRE, LRI, ON, PDF, PDI, R, RLE,
 };
@@ -24,11 +24,15 @@ type Row = (&'static str, u8, &'static str, &'static [BidiClass]);
 
 /// Rows that no other table has.
 #[rattlefmt::skip]
-const TEXTS: [Row; 3] = [
+static TEXTS: [Row; 3] = [
     ("W6: separators alone", 1, "...", &[CS, CS, CS]),
     ("X5b, X6a: an isolate from end to end", 0, "\u{2066}a\u{2069}", &[LRI, L, PDI]),
     ("W4, W5: separators and terminators", 1, "\u{5D0}$1+2%,3", &[R, ET, EN, ES, EN, ET, CS, EN]),
 ];
+
+fn text_rows() -> &'static [Row] {
+    TEXTS.as_slice()
+}
 
 /// How many openers stand on the status stack, over the paragraph's entry, when it is full.
 const FULL: usize = 125;
@@ -172,13 +176,13 @@ fn push_row(
 
 #[test]
 fn texts(rt: HostRuntime) -> Result<(), Fail> {
-    for (name, para_level, text, classes) in TEXTS {
+    for &(name, para_level, text, classes) in text_rows() {
         agree(&rt, name, para_level, text, classes)?;
     }
-    for (name, para_level, text, classes, ..) in UNITS {
+    for &(name, para_level, text, classes, ..) in unit_rows() {
         agree(&rt, name, para_level, text, classes)?;
     }
-    for (name, para_level, classes, ..) in LEVELS {
+    for &(name, para_level, classes, ..) in level_rows() {
         let text = letters(rt.alloc(), classes)?;
         agree(&rt, name, para_level, text.as_str(), classes)?;
     }
@@ -187,7 +191,7 @@ fn texts(rt: HostRuntime) -> Result<(), Fail> {
 
 #[test]
 fn weak_types(rt: HostRuntime) -> Result<(), Fail> {
-    for (name, text, runs, before, _) in WEAK_UNITS {
+    for &(name, text, runs, before, _) in weak_rows() {
         let units = per_unit(rt.alloc(), StrText::new(text), before)?;
         let sequence = sequence_of(rt.alloc(), runs, R, L)?.ok_or("a sequence")?;
         agree_weak(&rt, name, text, &sequence, units.as_slice())?;

@@ -30,7 +30,7 @@ pub type LevelRow = (
 );
 
 #[rattlefmt::skip]
-pub const LEVELS: [LevelRow; 12] = [
+static LEVELS: [LevelRow; 12] = [
     ("X5a, X6a: an override stops at an isolate", 0, &[RLO, L, LRI, L, PDI, L, PDF], &[0, 1, 1, 2, 1, 1, 0], &[RLO, R, R, L, R, R, PDF]),
     ("X7: a PDF closes nothing outside its isolate", 0, &[RLE, LRI, PDF, PDI, L, PDF], &[0, 1, 2, 1, 1, 0], &[RLE, LRI, PDF, PDI, L, PDF]),
     ("X6a: a PDI closes the embeddings inside", 0, &[RLI, LRE, L, PDI, L], &[0, 1, 2, 0, 0], &[RLI, LRE, L, PDI, L]),
@@ -45,6 +45,10 @@ pub const LEVELS: [LevelRow; 12] = [
     ("no character", 1, &[], &[], &[]),
 ];
 
+pub fn level_rows() -> &'static [LevelRow] {
+    LEVELS.as_slice()
+}
+
 /// A name, the paragraph level, classes, their explicit levels, and the places of each sequence with
 /// its sos and its eos.
 type SequenceRow = (
@@ -56,7 +60,7 @@ type SequenceRow = (
 );
 
 #[rattlefmt::skip]
-const SEQUENCES: [SequenceRow; 5] = [
+static SEQUENCES: [SequenceRow; 5] = [
     ("BD13: an embedding is a sequence of its own", 0, &[L, RLE, R, PDF, L], &[0, 0, 1, 0, 0], &[(&[0], L, R), (&[2], R, R), (&[4], R, L)]),
     ("BD13: a sequence goes on behind an isolate", 0, &[L, R, LRI, L, PDI, ON, R, ON], &[0, 0, 0, 2, 0, 0, 0, 0], &[(&[0, 1, 2, 4, 5, 6, 7], L, L), (&[3], L, L)]),
     ("BD13: a PDI inside its run joins nothing", 0, &[R, LRI, L, B, PDI, RLE, R, PDF, PDI, R], &[0, 0, 2, 0, 0, 0, 1, 0, 0, 0],
@@ -64,6 +68,10 @@ const SEQUENCES: [SequenceRow; 5] = [
     ("X10: eos after an initiator is of the paragraph", 0, &[R, RLI, R], &[0, 0, 1], &[(&[0, 1], L, L), (&[2], R, R)]),
     ("X9: nothing is kept", 1, &[RLE, PDF], &[1, 1], &[]),
 ];
+
+fn sequence_rows() -> &'static [SequenceRow] {
+    SEQUENCES.as_slice()
+}
 
 /// A name, the paragraph level, a text and its classes, one a character; then the levels and the
 /// classes in place, one a character, the level runs, and the sequences.
@@ -79,7 +87,7 @@ pub type UnitRow = (
 );
 
 #[rattlefmt::skip]
-pub const UNITS: [UnitRow; 12] = [
+static UNITS: [UnitRow; 12] = [
     ("X5a, X6a: an override stops at an isolate", 0, "abcdefg", &[RLO, L, LRI, L, PDI, L, PDF], &[0, 1, 1, 2, 1, 1, 0], &[BN, R, R, L, R, R, BN],
         &[(0, 3), (3, 4), (4, 7)], &[(&[(0, 3), (4, 7)], R, R), (&[(3, 4)], L, L)]),
     ("X9: a removed character begins no run", 0, "\u{202B}\u{5D0}\u{202C}a", &[RLE, R, PDF, L], &[0, 1, 0, 0], &[BN, R, BN, L],
@@ -99,6 +107,10 @@ pub const UNITS: [UnitRow; 12] = [
     ("no unit", 0, "", &[], &[], &[], &[], &[]),
     ("X10: an initiator at its run's end, without a PDI", 0, "\u{5D0}\u{2067}\u{5D1}", &[R, RLI, R], &[0, 0, 1], &[R, RLI, R], &[(0, 5), (5, 7)], &[(&[(0, 5)], L, L), (&[(5, 7)], R, R)]),
 ];
+
+pub fn unit_rows() -> &'static [UnitRow] {
+    UNITS.as_slice()
+}
 
 // The level runs of a paragraph, as starts and ends, and its sequences. The slices get levels and
 // classes.
@@ -327,7 +339,7 @@ fn check_plain(
 
 #[test]
 fn levels_of_lists(rt: HostRuntime) -> Result<(), Fail> {
-    for (name, para_level, classes, levels, overridden) in LEVELS {
+    for &(name, para_level, classes, levels, overridden) in level_rows() {
         let level = Level::new_explicit(para_level)?;
         let levels = Level::vec(rt.alloc(), levels)?;
         let explicit = explicit_levels(rt.alloc(), level, classes)?;
@@ -341,7 +353,7 @@ fn levels_of_lists(rt: HostRuntime) -> Result<(), Fail> {
 
 #[test]
 fn sequences_of_lists(rt: HostRuntime) -> Result<(), Fail> {
-    for (name, para_level, classes, levels, wanted) in SEQUENCES {
+    for &(name, para_level, classes, levels, wanted) in sequence_rows() {
         let level = Level::new_explicit(para_level)?;
         let levels = Level::vec(rt.alloc(), levels)?;
         let explicit = explicit_levels(rt.alloc(), level, classes)?;
@@ -356,7 +368,7 @@ fn sequences_of_lists(rt: HostRuntime) -> Result<(), Fail> {
 // Where no class is an initiator, the flag for isolates may be false or true.
 #[test]
 fn units(rt: HostRuntime) -> Result<(), Fail> {
-    for (name, para_level, text, classes, levels, in_place, runs, wanted) in UNITS {
+    for &(name, para_level, text, classes, levels, in_place, runs, wanted) in unit_rows() {
         let levels = Level::vec(rt.alloc(), levels)?;
         for flag in [has_initiator(classes), true] {
             let found = Prepared::new(&rt, para_level, text, classes, flag)?;

@@ -11,23 +11,31 @@ use std::test::Fail;
 type Row = (u8, &'static [BidiClass], &'static [u8]);
 
 #[rattlefmt::skip]
-const LISTS: [Row; 3] = [
+static LISTS: [Row; 3] = [
     (0, &[L, R, AN, EN], &[0, 1, 2, 2]),
     (1, &[L, R, AN, EN], &[2, 1, 2, 2]),
     (125, &[L, R, AN, EN], &[126, 125, 126, 126]),
 ];
 
+fn list_rows() -> &'static [Row] {
+    LISTS.as_slice()
+}
+
 /// What X9 removed keeps its level. The last number is the greatest level.
 #[rattlefmt::skip]
-const UNITS: [(Row, u8); 3] = [
+static UNITS: [(Row, u8); 3] = [
     ((0, &[L, R, AN, EN, BN], &[0, 1, 2, 2, 0]), 2),
     ((125, &[L, R, AN, EN, BN], &[126, 125, 126, 126, 125]), 126),
     ((0, &[], &[]), 0),
 ];
 
+fn unit_rows() -> &'static [(Row, u8)] {
+    UNITS.as_slice()
+}
+
 #[test]
 fn lists(rt: HostRuntime) -> Result<(), Fail> {
-    for (level, classes, levels) in LISTS {
+    for &(level, classes, levels) in list_rows() {
         assert!(rt; are_directed(classes));
         let answer = implicit(rt.alloc(), Level::new_explicit(level)?, classes)?;
         let wanted = Level::vec(rt.alloc(), levels)?;
@@ -38,7 +46,7 @@ fn lists(rt: HostRuntime) -> Result<(), Fail> {
 
 #[test]
 fn units(rt: HostRuntime) -> Result<(), Fail> {
-    for ((level, classes, wanted), greatest) in UNITS {
+    for &((level, classes, wanted), greatest) in unit_rows() {
         let mut levels = vec![in rt.alloc(); Level::new_explicit(level)?; classes.len()]?;
         let answer = resolve_levels(classes, levels.as_mut_slice());
         assert_eq!(rt; answer.number(), greatest, "level {level}");

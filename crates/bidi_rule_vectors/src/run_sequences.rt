@@ -9,7 +9,7 @@ use std::test::Fail;
 
 /// A name, runs with sos and eos, and whether they make a sequence.
 #[rattlefmt::skip]
-const SEQUENCES: [(&str, Sequence<'static>, bool); 8] = [
+static SEQUENCES: [(&str, Sequence<'static>, bool); 8] = [
     ("two runs", (&[(0, 2), (5, 7)], L, R), true),
     ("two runs that touch", (&[(0, 2), (2, 4)], L, R), true),
     ("no run", (&[], L, R), false),
@@ -20,10 +20,14 @@ const SEQUENCES: [(&str, Sequence<'static>, bool); 8] = [
     ("eos that is no direction", (&[(0, 2)], L, AN), false),
 ];
 
+fn sequence_rows() -> &'static [(&'static str, Sequence<'static>, bool)] {
+    SEQUENCES.as_slice()
+}
+
 /// In the runs 0..2, 5..7, 9..10: a unit, the index of its run, the units upwards from there, and
 /// those below it downwards.
 #[rattlefmt::skip]
-const WALKS: [(usize, usize, &[usize], &[usize]); 6] = [
+static WALKS: [(usize, usize, &[usize], &[usize]); 6] = [
     (0, 0, &[0, 1, 5, 6, 9], &[]),
     (1, 0, &[1, 5, 6, 9], &[0]),
     (2, 0, &[5, 6, 9], &[1, 0]),
@@ -32,13 +36,21 @@ const WALKS: [(usize, usize, &[usize], &[usize]); 6] = [
     (10, 2, &[], &[9, 6, 5, 1, 0]),
 ];
 
+fn walk_rows() -> &'static [(usize, usize, &'static [usize], &'static [usize])] {
+    WALKS.as_slice()
+}
+
 /// A text, and whether the runs 0..2, 4..6 cut no character of it.
 #[rattlefmt::skip]
-const TEXTS: [(&str, bool); 3] = [
+static TEXTS: [(&str, bool); 3] = [
     ("\u{5D0}ab\u{5D1}", true),
     ("abc\u{5D0}a", false),
     ("abcde", false),
 ];
+
+fn text_rows() -> &'static [(&'static str, bool)] {
+    TEXTS.as_slice()
+}
 
 // The units of a sequence upwards from a place in one of its runs, and those downwards.
 fn walks(
@@ -61,7 +73,7 @@ fn walks(
 #[test]
 fn what_makes_a_sequence(rt: HostRuntime) -> Result<(), Fail> {
     let alloc = rt.alloc();
-    for (name, (ends, sos, eos), is_one) in SEQUENCES {
+    for &(name, (ends, sos, eos), is_one) in sequence_rows() {
         match sequence_of(alloc, ends, sos, eos)? {
             Some(sequence) => {
                 assert!(rt; is_one, "{name}");
@@ -78,7 +90,7 @@ fn what_makes_a_sequence(rt: HostRuntime) -> Result<(), Fail> {
 fn units_of_a_sequence(rt: HostRuntime) -> Result<(), Fail> {
     let alloc = rt.alloc();
     let sequence = sequence_of(alloc, &[(0, 2), (5, 7), (9, 10)], R, L)?.ok_or("a sequence")?;
-    for (pos, run, upwards, downwards) in WALKS {
+    for &(pos, run, upwards, downwards) in walk_rows() {
         let (forwards, backwards) = walks(alloc, &sequence, pos, run)?;
         assert_eq!(rt; forwards.as_slice(), upwards, "{pos} in run {run}");
         assert_eq!(rt; backwards.as_slice(), downwards, "{pos} in run {run}");
@@ -95,7 +107,7 @@ fn texts_of_a_sequence(rt: HostRuntime) -> Result<(), Fail> {
         ends.as_slice()
     );
     assert_eq!(rt; (sequence.sos(), sequence.eos()), (R, L));
-    for (text, fits) in TEXTS {
+    for &(text, fits) in text_rows() {
         assert_eq!(rt; sequence.fits(StrText::new(text)), fits, "{text:?}");
     }
     Ok(())

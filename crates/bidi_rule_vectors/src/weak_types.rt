@@ -21,7 +21,7 @@ type ListRow = (
 );
 
 #[rattlefmt::skip]
-const LISTS: [ListRow; 7] = [
+static LISTS: [ListRow; 7] = [
     ("W2, W3: numbers after an Arabic letter", R, &[AL, EN, CS, EN], &[R, AN, AN, AN]),
     ("W4, W5: separators and terminators", R, &[R, ET, EN, ES, EN, ET, CS, EN], &[R, EN, EN, EN, EN, EN, ON, EN]),
     ("W1: nonspacing marks", R, &[NSM, LRI, NSM, PDI, NSM, ET, NSM, EN], &[R, LRI, ON, PDI, ON, EN, EN, EN]),
@@ -30,6 +30,10 @@ const LISTS: [ListRow; 7] = [
     ("W4: a European separator between Arabic numbers", R, &[AN, ES, AN], &[AN, ON, AN]),
     ("no character", L, &[], &[]),
 ];
+
+fn list_rows() -> &'static [ListRow] {
+    LISTS.as_slice()
+}
 
 /// A name, a text, the runs of a sequence in it, and the classes before and after, one a character.
 /// sos is R.
@@ -42,7 +46,7 @@ pub type UnitRow = (
 );
 
 #[rattlefmt::skip]
-pub const UNITS: [UnitRow; 9] = [
+static UNITS: [UnitRow; 9] = [
     ("W4, W5: separators and terminators", "\u{5D0}$1+2%,3", &[(0, 9)], &[R, ET, EN, ES, EN, ET, CS, EN], &[R, EN, EN, EN, EN, EN, ON, EN]),
     ("W4: a removed character behind a separator", "1+\u{AD}2", &[(0, 5)], &[EN, ES, BN, EN], &[EN, EN, BN, EN]),
     ("W5: a removed character behind a terminator", "$\u{AD}1", &[(0, 4)], &[ET, BN, EN], &[EN, BN, EN]),
@@ -53,6 +57,10 @@ pub const UNITS: [UnitRow; 9] = [
     ("W4: a separator goes on in the next run", "1,x2", &[(0, 2), (3, 4)], &[EN, CS, L, EN], &[EN, EN, L, EN]),
     ("W5: a terminator goes on in the next run", "$x1", &[(0, 1), (2, 3)], &[ET, L, EN], &[EN, L, EN]),
 ];
+
+pub fn unit_rows() -> &'static [UnitRow] {
+    UNITS.as_slice()
+}
 
 /// Resolves a sequence in place.
 pub fn resolve_units(
@@ -105,7 +113,7 @@ fn letters(
 #[test]
 fn lists(rt: HostRuntime) -> Result<(), Fail> {
     let alloc = rt.alloc();
-    for (name, sos, classes, wanted) in LISTS {
+    for &(name, sos, classes, wanted) in list_rows() {
         assert!(rt; is_side(sos));
         assert!(rt; are_kept(classes));
         let answer = weak(alloc, sos, classes)?;
@@ -127,7 +135,7 @@ fn lists(rt: HostRuntime) -> Result<(), Fail> {
 
 #[test]
 fn units(rt: HostRuntime) -> Result<(), Fail> {
-    for (name, text, runs, before, after) in UNITS {
+    for &(name, text, runs, before, after) in unit_rows() {
         let units = resolve(&rt, text, runs, R, before)?;
         let expected = per_unit(rt.alloc(), StrText::new(text), after)?;
         same(&rt, name, units.as_slice(), expected.as_slice());

@@ -11,6 +11,7 @@ use Rattle.bidi_base.proofs.NeutralLemmas.{pair_direction-l_or_r}
 use Rattle.bidi_base.proofs.PairChanges.{goes_with_pair-within, is_mark_after-before, is_mark_after-stopped, n0_pair-elsewhere}
 use Rattle.bidi_rules.specs.NeutralPass.{values_of, IsPaired, IsReady}
 use Rattle.bidi_rules.specs.PairWalk.{at_spots, opposite_of, spot, IsAsked, IsFirstFor, IsMarksEnd, IsSet, IsTaken}
+use Rattle.bidi_rules.specs.declared.implicit.neutral.pairs.Pair.{Pair}
 use Rattle.bidi_rules.specs.declared.implicit.neutral.pairs.PairWalk.{PairWalk}
 use Rattle.bidi_rules.specs.WeakWalk.{is_seen, IsWrittenOver}
 use Rattle.bidi_rules.proofs.Spots.{length-values_of}
@@ -298,8 +299,8 @@ module _ (len_of : ℕ → ℕ) (h : HasUnits len_of) (chars : List ℕ) (origin
     within : (i < j) × (j < number)
     within = nested.0 k (0, 0) fits
 
-    abbrev inside_of : ℕ
-    inside_of = ends len_of h chars original runs sos old ready i
+    abbrev pair : Pair
+    pair = record { opening = spots i; inside = ends len_of h chars original runs sos old ready i; closing = spots j; is_marked = is_nsm (class_at from_sources i) }
 
     now-size : length now ≡ text_len len_of chars
     now-size = length-from_IsPerChar len_of chars now w.done.per_char
@@ -308,10 +309,10 @@ module _ (len_of : ℕ → ℕ) (h : HasUnits len_of) (chars : List ℕ) (origin
     opens = omega (arith, spot-behind len_of h chars old (map bounds runs) ready.lines ready.ordered i (let x = within in omega (arith, x.0, x.1)), place-le len_of chars (get_or (kept_in_place len_of chars old (map bounds runs)) i 0 + 1))
 
     -- one question answered
-    answered : (d : BidiClass) (marked : Bool) (known next : ℕ) (answer : Bool) → marked ≡ is_nsm (class_at from_sources i) → Foresees len_of h chars original runs sos old ready pairs nested d (cs_of now) k known
-        → IsAsked d (map bounds runs) now marked (spots i) inside_of (spots j) known next answer
+    answered : (d : BidiClass) (known next : ℕ) (answer : Bool) → Foresees len_of h chars original runs sos old ready pairs nested d (cs_of now) k known
+        → IsAsked d (map bounds runs) now pair known next answer
         → (answer ≡ list_any (stands_for d) (slice_range (cs_of now) (i + 1) j)) × Foresees len_of h chars original runs sos old ready pairs nested d (cs_of now) k next
-    answered d marked known next answer mark_is f a = elim (cases_Bool marked) [
+    answered d known next answer f a = elim (cases_Bool pair.is_marked) [
       | inl yes' ↦ grind (arith, a.looked yes', looked-between len_of h chars runs sos old ready now w.done.per_char w.done.kept d i j, within)
       | inr no' ↦
           let next_is : Foresees len_of h chars original runs sos old ready pairs nested d (cs_of now) k next × (spots i < next) = elim (cases_lt (spots i) known) [
@@ -327,17 +328,17 @@ module _ (len_of : ℕ → ℕ) (h : HasUnits len_of) (chars : List ℕ) (origin
       pub embedding : Foresees len_of h chars original runs sos old ready pairs nested e (cs_of now) k new_walk.embedding.unit
       pub opposite : Foresees len_of h chars original runs sos old ready pairs nested (opposite_of e) (cs_of now) k new_walk.opposite.unit
 
-    pub IsAnswered-taken : (marked : Bool) (taken : Option BidiClass) → marked ≡ is_nsm (class_at from_sources i) → IsTaken sos (map bounds runs) now marked (spots i) inside_of (spots j) walk new_walk taken → IsAnswered taken
-    IsAnswered-taken marked taken mark_is t =
+    pub IsAnswered-taken : (taken : Option BidiClass) → IsTaken sos (map bounds runs) now pair walk new_walk taken → IsAnswered taken
+    IsAnswered-taken taken t =
         let part = slice_range (cs_of now) (i + 1) j in
-        let first = answered e marked walk.embedding.unit new_walk.embedding.unit t.embedding mark_is w.embedding (simp w.embedding_is at t.asked) in
+        let first = answered e walk.embedding.unit new_walk.embedding.unit t.embedding w.embedding (simp w.embedding_is at t.asked) in
         let context = nearest_direction sos (reverse (take i (cs_of now))) in
         let tests : (b : Bool) → b ≡ list_any has_direction part → pair_direction e sos (cs_of now) (pair_at pairs k) ≡ cond t.embedding (Some e) (cond b (Some context) None) =
         λ b is. pair_direction-tests e sos (cs_of now) (pair_at pairs k) t.embedding b first.0 is in
         elim (cases_Bool t.embedding) [
           | inl yes' ↦ grind (arith, t.is, tests (list_any has_direction part) refl, w.embedding_is, first.1, t.idle yes', w.opposite)
           | inr no' ↦
-              let second = answered (opposite_of e) marked walk.opposite.unit new_walk.opposite.unit t.opposite mark_is w.opposite (simp w.opposite_is at (t.asked_opposite no')) in
+              let second = answered (opposite_of e) walk.opposite.unit new_walk.opposite.unit t.opposite w.opposite (simp w.opposite_is at (t.asked_opposite no')) in
               let some : t.opposite ≡ list_any has_direction part = second.0 ∙ sym (others-any e part side (sym first.0 ∙ no')) in
               record {
                 direction = simp (t.is, tests t.opposite some, no') (grind (arith, context-is len_of h chars runs sos old ready now w.done.per_char w.done.kept i t.context (let x = within in omega (arith, x.0, x.1)), t.nearest no'));

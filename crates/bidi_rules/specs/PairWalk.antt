@@ -7,6 +7,7 @@ use Rattle.bidi_base.specs.Text.{place, text_len}
 use Rattle.bidi_rules.specs.WeakWalk.{is_seen, IsWrittenOver}
 use Rattle.bidi_base.specs.Places.{class_at}
 use Rattle.bidi_base.specs.Units.{in_runs}
+use Rattle.bidi_rules.specs.declared.implicit.neutral.pairs.Pair.{Pair}
 use Rattle.bidi_rules.specs.declared.implicit.neutral.pairs.PairWalk.{PairWalk}
 use Rattle.bidi_rules.specs.declared.implicit.neutral.pairs.Row.{Row}
 
@@ -44,22 +45,22 @@ abbrev pub opposite_of : BidiClass → BidiClass
 opposite_of L = R
 opposite_of _ = L
 
--- whether a direction stands between an opening and a closing, of which the first unit inside is given: what was asked, and what is known of the next place where it stands
-pub record IsAsked (direction : BidiClass) (runs : List (ℕ × ℕ)) (units : List BidiClass) (marked : Bool) (opening inside closing known next : ℕ) (answer : Bool) : Type 0 where
-  pub looked : marked ≡ true → (next ≡ known) × ((u : ℕ) × IsFirstFor direction runs units inside closing u × (answer ≡ nat_lt u closing))
-  pub ahead : marked ≡ false → answer ≡ nat_lt next closing
-  pub kept : marked ≡ false → opening < known → next ≡ known
-  pub sought : marked ≡ false → known ≤ opening → IsFirstFor direction runs units inside (length units) next
+-- whether a direction stands between the brackets of a pair: what was asked, and what is known of the next place where it stands
+pub record IsAsked (direction : BidiClass) (runs : List (ℕ × ℕ)) (units : List BidiClass) (pair : Pair) (known next : ℕ) (answer : Bool) : Type 0 where
+  pub looked : pair.is_marked ≡ true → (next ≡ known) × ((u : ℕ) × IsFirstFor direction runs units pair.inside pair.closing u × (answer ≡ nat_lt u pair.closing))
+  pub ahead : pair.is_marked ≡ false → answer ≡ nat_lt next pair.closing
+  pub kept : pair.is_marked ≡ false → pair.opening < known → next ≡ known
+  pub sought : pair.is_marked ≡ false → known ≤ pair.opening → IsFirstFor direction runs units pair.inside (length units) next
 
 -- what a pair takes, by what was asked of it
-pub record IsTaken (before : BidiClass) (runs : List (ℕ × ℕ)) (units : List BidiClass) (marked : Bool) (opening inside closing : ℕ) (walk new : PairWalk) (taken : Option BidiClass) : Type 0 where
+pub record IsTaken (before : BidiClass) (runs : List (ℕ × ℕ)) (units : List BidiClass) (pair : Pair) (walk new : PairWalk) (taken : Option BidiClass) : Type 0 where
   pub embedding : Bool
   pub opposite : Bool
   pub context : BidiClass
-  pub asked : IsAsked walk.embedding.direction runs units marked opening inside closing walk.embedding.unit new.embedding.unit embedding
-  pub asked_opposite : embedding ≡ false → IsAsked walk.opposite.direction runs units marked opening inside closing walk.opposite.unit new.opposite.unit opposite
+  pub asked : IsAsked walk.embedding.direction runs units pair walk.embedding.unit new.embedding.unit embedding
+  pub asked_opposite : embedding ≡ false → IsAsked walk.opposite.direction runs units pair walk.opposite.unit new.opposite.unit opposite
   pub idle : embedding ≡ true → new.opposite.unit ≡ walk.opposite.unit
-  pub nearest : embedding ≡ false → opposite ≡ true → IsNearestBefore before runs units opening context
+  pub nearest : embedding ≡ false → opposite ≡ true → IsNearestBefore before runs units pair.opening context
   pub is : taken ≡ (if embedding then Some walk.embedding.direction else (if opposite then Some context else None))
 
 -- a bracket and the marks behind it have a direction, where the k-th character comes behind the bracket, and the marks end at `end`

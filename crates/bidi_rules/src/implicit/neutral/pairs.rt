@@ -48,17 +48,13 @@ pub fn resolve_pairs<T: TextSource>(
     let mut row = Row::new(directions.embedding);
     for pair in pairs {
         let (opening, closing) = *pair;
-        let inside = end_of(text, opening);
-        let marked = is_mark(original_classes[opening]);
-        let taken = walk.pair_direction(
-            directions.sos,
-            runs,
-            classes,
-            marked,
+        let pair = Pair {
             opening,
-            inside,
+            inside: end_of(text, opening),
             closing,
-        );
+            is_marked: is_mark(original_classes[opening]),
+        };
+        let taken = walk.pair_direction(directions.sos, runs, classes, pair);
         if let Some(direction) = taken {
             row.set_direction(text, runs, original_classes, classes, opening, direction);
             row.set_direction(text, runs, original_classes, classes, closing, direction);
@@ -73,6 +69,17 @@ fn is_mark(class: BidiClass) -> bool
     matches!(class, NSM)
 }
 
+/// A pair of brackets, by the units at which they begin.
+#[derive(Clone, Copy, Debug)]
+struct Pair {
+    opening: usize,
+    /// The unit behind the opening.
+    inside: usize,
+    closing: usize,
+    /// Whether the opening is a nonspacing mark by its original class.
+    is_marked: bool,
+}
+
 /// Where a direction stands next.
 #[derive(Clone, Copy, Debug)]
 struct Next {
@@ -85,27 +92,20 @@ struct Next {
 impl Next {
     /// Whether it stands between the brackets of a pair. Openings come in order. A pair that opens at
     /// a mark is looked through.
-    fn is_inside(
-        &mut self,
-        runs: &[LevelRun],
-        classes: &[BidiClass],
-        marked: bool,
-        opening: usize,
-        inside: usize,
-        closing: usize,
-    ) -> bool
+    fn is_inside(&mut self, runs: &[LevelRun], classes: &[BidiClass], pair: Pair) -> bool
         requires ordered { IsTrue (are_ordered (map bounds runs.now)) }
-        requires closing { closing ≤ length classes.now }
+        requires closing { pair.closing ≤ length classes.now }
         ensures direction { self.new.direction ≡ self.old.direction }
-        ensures asked { IsAsked self.old.direction (map bounds runs.now) classes.now marked opening inside closing self.old.unit self.new.unit result }
+        ensures asked { IsAsked self.old.direction (map bounds runs.now) classes.now pair self.old.unit self.new.unit result }
     {
-        if marked {
-            return first_for(self.direction, runs, classes, inside, closing) < closing;
+        if pair.is_marked {
+            let found = first_for(self.direction, runs, classes, pair.inside, pair.closing);
+            return found < pair.closing;
         }
-        if self.unit <= opening {
-            self.unit = first_for(self.direction, runs, classes, inside, classes.len());
+        if self.unit <= pair.opening {
+            self.unit = first_for(self.direction, runs, classes, pair.inside, classes.len());
         }
-        self.unit < closing
+        self.unit < pair.closing
     }
 }
 
@@ -140,33 +140,24 @@ impl PairWalk {
         sos: BidiClass,
         runs: &[LevelRun],
         classes: &[BidiClass],
-        marked: bool,
-        opening: usize,
-        inside: usize,
-        closing: usize,
+        pair: Pair,
     ) -> Option<BidiClass>
         requires ordered { IsTrue (are_ordered (map bounds runs.now)) }
         requires runs { All (λ r. r.1 ≤ length classes.now) (map bounds runs.now) }
-        requires closing { closing ≤ length classes.now }
-        requires inside { opening ≤ inside }
+        requires closing { pair.closing ≤ length classes.now }
+        requires inside { pair.opening ≤ pair.inside }
         ensures embedding { self.new.embedding.direction ≡ self.old.embedding.direction }
         ensures opposite { self.new.opposite.direction ≡ self.old.opposite.direction }
-        ensures taken { IsTaken sos (map bounds runs.now) classes.now marked opening inside closing self.old self.new result }
+        ensures taken { IsTaken sos (map bounds runs.now) classes.now pair self.old self.new result }
     {
-        let run = run_of(runs, opening);
+        let run = run_of(runs, pair.opening);
         let later = &runs[run..];
-        if self
-            .embedding
-            .is_inside(later, classes, marked, opening, inside, closing)
-        {
+        if self.embedding.is_inside(later, classes, pair) {
             return Some(self.embedding.direction);
         }
-        if self
-            .opposite
-            .is_inside(later, classes, marked, opening, inside, closing)
-        {
+        if self.opposite.is_inside(later, classes, pair) {
             let upto = runs.len().min(run + 1);
-            return Some(direction_before(sos, &runs[..upto], classes, opening));
+            return Some(direction_before(sos, &runs[..upto], classes, pair.opening));
         }
         None
     }

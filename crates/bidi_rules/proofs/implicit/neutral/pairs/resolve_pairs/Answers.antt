@@ -1,6 +1,6 @@
 use Rattle.bidi_base.proofs.Common.{◌≡◌, ◌+◌, ◌≤◌, ℕ, List, length, map, get_or, sym, ap, subst, ◌∙◌, arith, length-map, take_all, is_nsm, place, text_len, bounds, kept_in_place}
 use Rattle.bidi_base.proofs.PlaceLemmas.{place-mono}
-use Rattle.bidi_rules.specs.PairWalk.{spot, IsSet, IsTaken}
+use Rattle.bidi_rules.specs.PairWalk.{spot, IsSet}
 use Rattle.bidi_rules.proofs.NeutralSteps.{runs-within}
 use Rattle.bidi_rules.proofs.PairPlaces.{pair_at}
 use Rattle.bidi_rules.proofs.PairSteps.{IsWalkedTo-start, IsWalkedTo-none, IsWalkedTo-set, IsAnswered-taken, Stands, stands}
@@ -23,11 +23,11 @@ here g c = search (arith, stands)
 long : (g : Over) (c : In-loop-pair g) → length c.args.classes.now ≡ text_len g.T.TextSource.units (g.T.TextSource.characters c.args.text)
 long g c = grind arith steps 400000
 
-pub end_of-inside-requires-clause-begins : goal.end_of-inside-requires-clause-begins
-end_of-inside-requires-clause-begins g c = (here g (goal.at.end_of-inside-requires-clause-begins g c).In-loop-pair).first_begins
+pub end_of-requires-clause-begins : goal.end_of-requires-clause-begins
+end_of-requires-clause-begins g c = (here g (goal.at.end_of-requires-clause-begins g c).In-loop-pair).first_begins
 
-pub end_of-inside-requires-clause-inside : goal.end_of-inside-requires-clause-inside
-end_of-inside-requires-clause-inside g c = (here g (goal.at.end_of-inside-requires-clause-inside g c).In-loop-pair).first_inside
+pub end_of-requires-clause-inside : goal.end_of-requires-clause-inside
+end_of-requires-clause-inside g c = (here g (goal.at.end_of-requires-clause-inside g c).In-loop-pair).first_inside
 
 pub bounds-original_classes-opening : goal.bounds-original_classes-opening
 bounds-original_classes-opening g c =
@@ -41,7 +41,7 @@ pair_direction-taken-requires-clause-runs g c =
 pub pair_direction-taken-requires-clause-inside : goal.pair_direction-taken-requires-clause-inside
 pair_direction-taken-requires-clause-inside g c =
     let st = here g (goal.at.pair_direction-taken-requires-clause-inside g c).In-loop-pair in
-    omega (arith, st.first_place, c.end_of-inside.ensures _ st.first_within st.first_place, place-mono g.T.TextSource.units (g.T.TextSource.characters c.args.text) (get_or (kept_in_place g.T.TextSource.units (g.T.TextSource.characters c.args.text) c.args.classes.now (map bounds c.args.runs.now)) (pair_at c.requires.pairs.0 c.loop-pair.pair-index).0 0) (get_or (kept_in_place g.T.TextSource.units (g.T.TextSource.characters c.args.text) c.args.classes.now (map bounds c.args.runs.now)) (pair_at c.requires.pairs.0 c.loop-pair.pair-index).0 0 + 1) (omega arith))
+    grind (arith, st.first_place, c.end_of.ensures _ st.first_within st.first_place, place-mono g.T.TextSource.units (g.T.TextSource.characters c.args.text))
 
 pub pair_direction-taken-requires-clause-closing : goal.pair_direction-taken-requires-clause-closing
 pair_direction-taken-requires-clause-closing g c =
@@ -84,11 +84,9 @@ loop-pair-preserved g c = (
       let j = (pair_at found k).1 in
       let st = stands len_of h chars original runs sos old ready e side long found nested a.pairs.now is k c.loop-pair-test.true in
       let w = s.invariant.0 h ready side long found nested is in
-      let inside : c.end_of-inside.result ≡ place len_of chars (get_or ks i 0 + 1) = c.end_of-inside.ensures (get_or ks i 0) st.first_within st.first_place in
-      let taken : IsTaken sos (map bounds runs) s.classes c.is_mark-marked.result (spot len_of chars ks i) (place len_of chars (get_or ks i 0 + 1)) (spot len_of chars ks j) s.walk c.pair_direction-taken.new.self c.pair_direction-taken.result =
-      rw (sym st.first, sym st.last, sym inside) c.pair_direction-taken.ensures.taken in
-      let marked = c.is_mark-marked.ensures ∙ ap is_nsm (sym st.class_is) in
-      let answer = IsAnswered-taken len_of h chars original runs sos old ready e side long found nested s.classes k st.fits s.walk c.pair_direction-taken.new.self w c.is_mark-marked.result c.pair_direction-taken.result marked taken in
+      let inside : c.end_of.result ≡ place len_of chars (get_or ks i 0 + 1) = c.end_of.ensures (get_or ks i 0) st.first_within st.first_place in
+      let answer = IsAnswered-taken len_of h chars original runs sos old ready e side long found nested s.classes k st.fits s.walk c.pair_direction-taken.new.self w c.pair_direction-taken.result
+      (rw (sym st.first, sym st.last, sym inside, sym (c.is_mark.ensures ∙ ap is_nsm (sym st.class_is))) c.pair_direction-taken.ensures.taken) in
       elim c.match-taken.branch [
         | in-Some b ↦
             rw b.classes-is

@@ -1,14 +1,16 @@
 use Rattle.bidi_base.proofs.Common.{◌≡◌, Bool, false, refl, sym, ◌-◌, ◌≤◌, ◌+◌, ℕ, List, length, map, take, drop, min, subst, arith, both_ways, All, length-map, take_all, Range, bounds, in_runs}
 use Rattle.bidi_base.specs.declared.char_data.BidiClass.{BidiClass}
 use Rattle.bidi_rules.specs.PairWalk.{IsAsked}
+use Rattle.bidi_rules.specs.declared.implicit.neutral.pairs.Pair.{Pair}
 use Rattle.bidi_rules.proofs.RunOf.{ends-later}
 use Rattle.bidi_rules.proofs.WalkLemmas.{are_ordered-take, forwards-in_order, map-take, part_after}
 use Rattle.bidi_rules.proofs.implicit.neutral.pairs.PairWalk.pair_direction.Goals as goal
 
 -- what is asked of the runs from one on is asked of all
-later : (runs : List (Range ℕ)) (r : ℕ) (d : BidiClass) (units : List BidiClass) (marked : Bool) (opening inside closing known next : ℕ) (answer : Bool) → ((k : ℕ) → opening ≤ k → in_runs (drop r (map bounds runs)) k ≡ in_runs (map bounds runs) k) → opening ≤ inside
-    → IsAsked d (map bounds (take (length runs - r) (drop r runs))) units marked opening inside closing known next answer → IsAsked d (map bounds runs) units marked opening inside closing known next answer
-later runs r d units marked opening inside closing known next answer same order a = grind (arith, part_after)
+later : (runs : List (Range ℕ)) (r : ℕ) (d : BidiClass) (units : List BidiClass) (pair : Pair) (known next : ℕ) (answer : Bool)
+    → ((k : ℕ) → pair.opening ≤ k → in_runs (drop r (map bounds runs)) k ≡ in_runs (map bounds runs) k) → pair.opening ≤ pair.inside
+    → IsAsked d (map bounds (take (length runs - r) (drop r runs))) units pair known next answer → IsAsked d (map bounds runs) units pair known next answer
+later runs r d units pair known next answer same order a = grind (arith, part_after)
 
 pub returns-then-is_inside-clause-taken : goal.returns-then-is_inside-clause-taken
 returns-then-is_inside-clause-taken c =
