@@ -1,5 +1,5 @@
 -- What is tested or kept of a list under a function.
-use Rattle.bidi_base.proofs.Common.{◌≡◌, Bool, ◌&&◌, List, [], ◌∷◌, Option, map, refl, ap, list_all}
+use Rattle.bidi_base.proofs.Common.{◌≡◌, List, [], ◌∷◌, Option, map, refl}
 use Rattle.std.specs.List.{filter_map}
 
 pub filter_map-map : {A B C : Type 0} (keep : B → Option C) (f : A → B) (items : List A) → filter_map keep (map f items) ≡ filter_map (λ item. keep (f item)) items
