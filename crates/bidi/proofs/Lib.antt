@@ -1,14 +1,6 @@
 pub mod CharactersLemmas
-pub mod FindingsLemmas
-pub mod LinesLemmas
 pub mod ListsLemmas
-pub mod OpenersLemmas
-pub mod ClosedOpeners
 pub mod OptionsLemmas
-pub mod PagesLemmas
 pub mod ParagraphLemmas
-pub mod SequencesLemmas
 pub mod ShownLemmas
-pub mod StagesLemmas
 pub mod TurnedLemmas
-pub mod UnmatchedPass

@@ -7,8 +7,8 @@ use Rattle.bidi_terminal.specs.Bases.{base_named}
 use Rattle.bidi_terminal.specs.Numbers.{number_of}
 use Rattle.bidi_terminal.specs.declared.base.Base.{Base}
 use Rattle.bidi.specs.Commands.{explain_of, show_of}
-use Rattle.bidi.specs.declared.view.Form.TheVariants.{Page}
-use Rattle.bidi.specs.declared.view.StageView.{StageView}
+use Rattle.bidi_stages.specs.declared.view.Form.TheVariants.{Page}
+use Rattle.bidi_stages.specs.declared.view.StageView.{StageView}
 use Rattle.bidi.specs.declared.view.View.{View}
 
 module _ {Z : Type 0} where

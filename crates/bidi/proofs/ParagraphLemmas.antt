@@ -12,10 +12,11 @@ use Rattle.bidi_base.proofs.StrLemmas.{has_units}
 use Rattle.bidi_base.proofs.TextLemmas.{char_index-append, subrange-middle}
 use Rattle.bidi_terminal.specs.Bases.{level_of_base}
 use Rattle.bidi_terminal.specs.Columns.{columns}
-use Rattle.bidi.specs.Shown.{own_chars, shown_line, shown_levels, shown_ranges, shown_range, shown_paragraph, line_ranges_of, shown_in}
+use Rattle.bidi_controls.specs.Lines.{own_chars}
+use Rattle.bidi.specs.Shown.{shown_line, shown_levels, shown_ranges, shown_range, shown_paragraph, line_ranges_of, shown_in}
 use Rattle.bidi.specs.declared.view.View.{View}
 use Rattle.unicode_bidi.specs.ParagraphInfo.{level_of, range_of, ranges_of, levels_of}
-use Rattle.unicode_bidi.specs.declared.paragraph_info.ParagraphInfo.{ParagraphInfo}
+use Rattle.bidi_paragraphs.specs.declared.paragraph_info.ParagraphInfo.{ParagraphInfo}
 
 -- ---- one paragraph
 

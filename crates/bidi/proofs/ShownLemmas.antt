@@ -1,27 +1,6 @@
--- A line that is analysed as one paragraph, as a list of characters.
-use Rattle.bidi_base.proofs.Common.{◌≡◌, ℕ, ◌++◌, false, List, [], ◌∷◌, length, map, flat_map, Option, refl, ap, subst, ◌∙◌, arith, append-nil, All, length-map, get_or-map, IsAnalysis, paragraph_level, stored_classes, first_or, Source, stored_levels, text_classes, text_levels, paragraph_levels, one_unit}
-use Rattle.bidi_base.specs.declared.char_data.BidiClass.{BidiClass}
-use Rattle.bidi_base.proofs.LevelLaws.{length-stored_levels}
-use Rattle.bidi_base.proofs.StoredSteps.{length-stored_classes}
-use Rattle.bidi_base.proofs.PerUnit.{per_unit-one_unit}
+-- What holds of every element of a list that a function makes.
+use Rattle.bidi_base.proofs.Common.{List, map, subst, arith, All, length-map, get_or-map}
 
 -- what holds of a list under a function, and what it is made into
 pub All-from_map : {X Y : Type 0} (P : Y → Type 0) (f : X → Y) (xs : List X) → All P (map f xs) → All (λ x. P (f x)) xs
 All-from_map P f xs h = λ k d within. subst P (get_or-map f xs k d (f d) within) (h k (f d) (omega (arith, length-map xs f)))
-
-module _ (source : Source) (base : Option ℕ) (chars : List ℕ) (classes : List BidiClass) (levels own : List ℕ) (ranges : List (ℕ × ℕ))
-    (h : IsAnalysis source base false (record { len_of = one_unit; chars = chars; classes = classes; levels = levels }) ranges own) where
-  pub alone-classes : classes ≡ stored_classes (map source.class_of chars)
-  unfolding text_classes
-  alone-classes = grind (arith, append-nil, length-stored_classes, length-map, per_unit-one_unit)
-
-  pub alone-levels : levels ≡ stored_levels source base chars
-  unfolding text_levels
-  alone-levels = grind (arith, append-nil, length-stored_levels, per_unit-one_unit)
-
-  pub alone-level : first_or 0 own ≡ paragraph_level base (map source.class_of chars)
-  unfolding paragraph_levels
-  alone-level = ap (first_or 0) h.paragraph_levels
-
-  pub length-alone_levels : length levels ≡ length chars
-  length-alone_levels = ap length alone-levels ∙ length-stored_levels source base chars

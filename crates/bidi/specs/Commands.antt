@@ -6,10 +6,11 @@ use Rattle.std.specs.Option.{option_and_then}
 use Rattle.bidi_terminal.specs.Bases.{base_named}
 use Rattle.bidi_terminal.specs.Numbers.{number_of}
 use Rattle.bidi_terminal.specs.declared.base.Base.TheVariants.{Auto}
+use Rattle.bidi_stages.specs.Explained.{first_stage_view}
 use Rattle.bidi.specs.declared.command.Command.{Command}
 use Rattle.bidi.specs.declared.command.Command.TheVariants.{Check, Show, Explain}
-use Rattle.bidi.specs.declared.view.Form.TheVariants.{Table, Page}
-use Rattle.bidi.specs.declared.view.StageView.{StageView}
+use Rattle.bidi_stages.specs.declared.view.Form.TheVariants.{Page}
+use Rattle.bidi_stages.specs.declared.view.StageView.{StageView}
 use Rattle.bidi.specs.declared.view.View.{View}
 
 -- a word that begins as an option does
@@ -40,10 +41,6 @@ show_of view (word ∷ value ∷ words) =
     else if bytes_eq word (codes "--base") then option_and_then (λ base. show_of (record view { base = base }) words) (base_named value)
     else if bytes_eq word (codes "--width") then option_and_then (λ width. show_of (record view { width = Some width }) words) (number_of value)
     else option_map (Show view) (file_words (word ∷ value ∷ words))
-
--- what `explain` does without options
-abbrev pub first_stage_view : StageView
-first_stage_view = record { base = Auto; form = Table }
 
 -- behind `explain` and options that ask for this view: further options, in any order, and at least one text
 abbrev pub explain_of : StageView → List (List ℕ) → Option Command

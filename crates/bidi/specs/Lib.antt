@@ -1,14 +1,4 @@
-pub mod Cells
 pub mod Commands
-pub mod Controls
-pub mod Explained
-pub mod Findings
 pub mod Inputs
-pub mod Matches
-pub mod OpenOpeners
-pub mod Pages
-pub mod Rows
 pub mod Shown
-pub mod Stages
 pub mod Statuses
-pub mod Tables

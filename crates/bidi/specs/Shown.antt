@@ -1,8 +1,8 @@
 -- What `show` writes of a line.
-use Rattle.std.specs.Prelude.{ℕ, Bool, if◌then◌else◌, List, [], ◌∷◌, ◌++◌, length, not, take_while, map, flat_map, reverse, slice_range, codes, Option, Some, None, unwrap_or, encode_utf8}
+use Rattle.std.specs.Prelude.{ℕ, Bool, if◌then◌else◌, List, [], ◌∷◌, ◌++◌, length, map, flat_map, reverse, slice_range, codes, Option, Some, None, unwrap_or, encode_utf8}
 use Rattle.std.specs.declared.ops.Range.{Range}
 use Rattle.bidi_base.specs.Analysed.{AnalysedText, line_levels_per_char}
-use Rattle.bidi_base.specs.Classes.{is_nsm, is_paragraph_separator}
+use Rattle.bidi_base.specs.Classes.{is_nsm}
 use Rattle.bidi_base.specs.Display.{Run, run_of, run_level, visual_runs}
 use Rattle.bidi_base.specs.Isolates.{paragraph_level, stored_classes}
 use Rattle.bidi_base.specs.Layout.{line_ranges, lines_of as pieces_of}
@@ -15,7 +15,7 @@ use Rattle.bidi_base.specs.Text.{subrange, one_unit}
 use Rattle.bidi_terminal.specs.Bases.{level_of_base}
 use Rattle.bidi_terminal.specs.Columns.{columns}
 use Rattle.bidi_unicode.specs.Unicode.{mirrored_of}
-use Rattle.bidi.specs.Findings.{lines_of}
+use Rattle.bidi_controls.specs.Lines.{lines_of, own_chars}
 use Rattle.bidi.specs.declared.view.View.{View}
 
 -- the character that is shown at an odd level (L4)
@@ -43,10 +43,6 @@ run_at source plain chars levels run = shown_run source plain (is_odd (run_level
 -- a line as it is shown, from its characters and their levels after L1
 unfoldable pub shown_line : Source → Bool → List ℕ → List ℕ → List ℕ
 shown_line source plain chars levels = flat_map (run_at source plain chars levels) (visual_runs 0 levels)
-
--- a line without the separator or the CR LF that ends it
-abbrev pub own_chars : Source → List ℕ → List ℕ
-own_chars source chars = take_while (λ c. not (is_paragraph_separator (source.class_of c))) chars
 
 -- the levels of the line of a paragraph that goes from one character up to another, after L1
 unfoldable pub shown_levels : Source → Option ℕ → List ℕ → ℕ → ℕ → List ℕ

@@ -3,7 +3,8 @@ ghost use Rattle.std.specs.Prelude.{◌≡◌, map, string_bytes};
 ghost use Rattle.std.specs.List.{list_any};
 ghost use Rattle.bidi.specs.Commands.{is_option};
 
-use crate::view::{Form, StageView, View};
+use crate::view::View;
+use bidi_stages::view::{Form, StageView};
 use bidi_terminal::{Base, parse_number};
 use std::marker::Model;
 

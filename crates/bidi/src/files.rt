@@ -1,8 +1,9 @@
 //! The files of a call: they are read and answered one after the other.
 use crate::input::{InputFault, check_input, explain_text, show_input};
-use crate::page;
 use crate::status::Status;
-use crate::view::{Form, StageView, View};
+use crate::view::View;
+use bidi_stages::page;
+use bidi_stages::view::{Form, StageView};
 use std::fs;
 use std::io::{self, ErrorKind, Read, Write};
 use std::rt::Files;

@@ -2,19 +2,20 @@
 ghost use Rattle.std.specs.Prelude.{◌≡◌, ◌==◌, not, length, IfOk, IfErr, IsErrOf, string_bytes};
 ghost use Rattle.std.specs.Str.{chars, IsUtf8};
 ghost use Rattle.bidi_unicode.specs.Unicode.{unicode_source};
-ghost use Rattle.bidi.specs.Findings.{findings_of, report_of};
-ghost use Rattle.bidi.specs.Explained.{AreTold};
+ghost use Rattle.bidi_controls.specs.Findings.{findings_of, report_of};
+ghost use Rattle.bidi_stages.specs.Explained.{AreTold};
 ghost use Rattle.bidi.specs.Inputs.{TellsInput};
 ghost use Rattle.bidi.specs.Shown.{shown_text};
 ghost use Rattle.bidi.specs.declared.input.InputFault.TheVariants.{Memory};
 
 use crate::characters::chars_of;
-use crate::check::findings_in;
-use crate::explain::explain;
 use crate::paragraphs::show;
-use crate::report::report;
 use crate::status::Status;
-use crate::view::{StageView, View};
+use crate::view::View;
+use bidi_controls::check::findings_in;
+use bidi_controls::report::report;
+use bidi_stages::explain::explain;
+use bidi_stages::view::StageView;
 use bidi_unicode::UnicodeData;
 use std::alloc::{AllocError, Global};
 

@@ -4,28 +4,15 @@
 //! `bidi explain` shows what each stage of the rules makes of the characters of a text.
 #![tactic(auto)]
 
-mod cells;
 mod characters;
-mod check;
 mod command;
-mod control;
-mod explain;
 mod files;
-mod finding;
 mod input;
-mod lines;
-mod openers;
-mod page;
 mod paragraphs;
-mod report;
-mod rows;
 mod show;
-mod stages;
 mod status;
-mod table;
 #[cfg(test)]
 mod tests;
-mod unmatched;
 mod view;
 
 use command::Command;

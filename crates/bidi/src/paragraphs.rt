@@ -2,16 +2,17 @@
 ghost use Rattle.std.specs.Prelude.{◌≡◌, ◌++◌, flat_map, map, All, IfOk, OnOk, string_bytes};
 ghost use Rattle.bidi_base.specs.Analysed.{IsLineOf};
 ghost use Rattle.bidi_base.specs.Display.{run_of};
-ghost use Rattle.bidi.specs.Shown.{own_chars as own_chars_of, line_ranges_of, shown_in, shown_paragraph, shown_text};
+ghost use Rattle.bidi.specs.Shown.{line_ranges_of, shown_in, shown_paragraph, shown_text};
+ghost use Rattle.bidi_controls.specs.Lines.{own_chars as own_chars_of};
 ghost use Rattle.unicode_bidi.specs.BidiInfo.{analysed as analysed_of};
 ghost use Rattle.unicode_bidi.specs.ParagraphInfo.{level_of, range_of};
 
 use crate::characters::{chars_of, text_of, text_of_line};
-use crate::lines::{first_line_len, own_chars};
 use crate::show::push_line;
 use crate::view::View;
 use bidi_base::data_source::BidiDataSource;
 use bidi_base::text::StrText;
+use bidi_controls::lines::{first_line_len, own_chars};
 use bidi_lines::line_levels::first_units;
 use bidi_terminal::Columns;
 use std::alloc::{AllocError, Global};

@@ -1,9 +1,14 @@
 //! Reports of hand-made texts, and what words ask for.
 use crate::command::Command;
-use crate::control::Control;
 use crate::input::{InputFault, check_input, explain_text, show_input};
-use crate::view::{Form, StageView, View};
+use crate::view::View;
 use bidi_base::data_source::BidiDataSource;
+use bidi_controls::check::findings_in;
+use bidi_controls::control::Control;
+use bidi_controls::lines::{first_line_len, own_chars};
+use bidi_controls::report::report;
+use bidi_stages::stages::find_stages;
+use bidi_stages::view::{Form, StageView};
 use bidi_terminal::Base;
 use bidi_unicode::UnicodeData;
 use std::test::Fail;
@@ -544,5 +549,38 @@ fn code_points_have_their_digits(rt: HostRuntime) {
             }
             Err(_) => panic!(rt; "{wanted}"),
         }
+    }
+}
+
+// What `check` finds, call by call: the first line with its CR LF, what it shows, and its findings.
+#[test]
+fn findings_of_lines(rt: HostRuntime) {
+    let text = ['a', '\u{202E}', '\r', '\n', 'b'];
+    assert_eq!(rt; first_line_len(&UnicodeData, &text), 4);
+    assert_eq!(rt; own_chars(&UnicodeData, &text[..4]).len(), 2);
+    let told = findings_in(rt.alloc(), &UnicodeData, false, &text).and_then(|findings| report(
+        rt.alloc(),
+        "f",
+        findings.as_slice(),
+    ));
+    match told {
+        Ok(lines) => {
+            let wanted = "f:1:2: U+202E RIGHT-TO-LEFT OVERRIDE is not closed on its line\n";
+            assert_eq!(rt; lines.as_str(), wanted)
+        }
+        Err(_) => panic!(rt; "memory"),
+    }
+}
+
+// What `explain` asks for: of one letter of either direction, the levels and the order.
+#[test]
+fn stages_of_a_paragraph(rt: HostRuntime) {
+    match find_stages(rt.alloc(), &UnicodeData, None, &['a', '\u{5D0}']) {
+        Ok(stages) => {
+            assert_eq!(rt; stages.level.number(), 0);
+            assert_eq!(rt; stages.levels.get(1).map(|level| level.number()), Some(1));
+            assert_eq!(rt; stages.order.as_slice(), [0, 1].as_slice());
+        }
+        Err(_) => panic!(rt; "memory"),
     }
 }

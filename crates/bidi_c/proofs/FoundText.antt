@@ -5,8 +5,8 @@ use Rattle.bidi_base.proofs.TextLemmas.{HasUnits}
 use Rattle.bidi_base.proofs.UnitsLemmas.{length-from_is_per_char}
 use Rattle.unicode_bidi.specs.ParagraphInfo.{range_of, level_of, ranges_of, levels_of}
 use Rattle.unicode_bidi.specs.SplitRule.{IsAnalysisBy}
-use Rattle.unicode_bidi.specs.declared.paragraph_info.ParagraphInfo.{ParagraphInfo}
-use Rattle.unicode_bidi.specs.declared.split_rule.SplitRule.{SplitRule}
+use Rattle.bidi_paragraphs.specs.declared.paragraph_info.ParagraphInfo.{ParagraphInfo}
+use Rattle.bidi_paragraphs.specs.declared.split_rule.SplitRule.{SplitRule}
 use Rattle.bidi_c.specs.declared.fault.Fault.{Fault}
 use Rattle.bidi_c.specs.declared.rows.Paragraph.{Paragraph}
 use Rattle.bidi_c.specs.Faults.{fault_unless}

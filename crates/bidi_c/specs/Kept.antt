@@ -7,7 +7,7 @@ use Rattle.bidi_base.specs.Source.{Source}
 use Rattle.bidi_base.specs.Stored.{text_classes, text_levels, paragraph_levels}
 use Rattle.bidi_base.specs.Text.{per_unit}
 use Rattle.unicode_bidi.specs.SplitRule.{pieces_by}
-use Rattle.unicode_bidi.specs.declared.split_rule.SplitRule.{SplitRule}
+use Rattle.bidi_paragraphs.specs.declared.split_rule.SplitRule.{SplitRule}
 use Rattle.bidi_c.specs.declared.fault.Fault.{Fault}
 use Rattle.bidi_c.specs.declared.fault.Fault.TheVariants.{BadBaseLevel, BadSplit, NoRoom}
 use Rattle.bidi_c.specs.declared.rows.Paragraph.{Paragraph}

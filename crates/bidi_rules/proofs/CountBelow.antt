@@ -6,8 +6,8 @@ use Rattle.bidi_base.proofs.TextLemmas.{HasUnits, length-le-text_len}
 use Rattle.bidi_rules.specs.declared.implicit.weak.numbers.Walk.{Walk}
 use Rattle.bidi_rules.specs.WeakPass.{waits}
 use Rattle.bidi_rules.specs.WeakWalk.{count_below, settled_to, WaitsBelow}
-use Rattle.bidi_rules.proofs.WalkLemmas.{are_ordered-front, are_ordered-take}
-use Rattle.bidi_rules.proofs.InRuns.{run_some, start_after}
+use Rattle.bidi_runs.proofs.WalkLemmas.{are_ordered-front, are_ordered-take}
+use Rattle.bidi_runs.proofs.InRuns.{run_some, start_after}
 
 length-between : (low high : ℕ) → length (between low high) ≡ high - low
 length-between low high = length-range_with_len low (high - low)

@@ -5,8 +5,8 @@ use Rattle.bidi_base.proofs.PlaceLemmas.{line_places, place-lt, place-mono}
 use Rattle.bidi_base.proofs.TextLemmas.{HasUnits}
 use Rattle.bidi_base.proofs.PlacesLemmas.{find-between-is, find-between-is_None}
 use Rattle.bidi_rules.specs.NeutralPass.{kept_among}
-use Rattle.bidi_rules.proofs.PassOverText.{alike_class}
-use Rattle.bidi_rules.proofs.KeptRuns.{no_range}
+use Rattle.bidi_runs.proofs.PassOverText.{alike_class}
+use Rattle.bidi_runs.proofs.WalkLemmas.{no_range}
 use Rattle.bidi_rules.proofs.Marks.{between-append}
 
 -- ---- a search through the runs one after another

@@ -6,7 +6,7 @@ use Rattle.bidi_rules.specs.JoinPass.{side_before, units_of, Unjoined, IsAtOppos
 use Rattle.bidi_rules.specs.PairWalk.{opposite_of}
 use Rattle.bidi_rules.specs.WeakWalk.{is_seen, IsWrittenOver}
 use Rattle.bidi_rules.specs.declared.implicit.neutral.directions.Join.{Join}
-use Rattle.bidi_rules.proofs.InRuns.{in_runs-at, in_runs-drop, start_or, gap_before, gap_after, next_start}
+use Rattle.bidi_runs.proofs.InRuns.{in_runs-at, in_runs-drop, start_or, gap_before, gap_after, next_start}
 use Rattle.bidi_rules.proofs.JoinScan.{opposite-directed, own-after, IsJoined-more, IsJoined-quiet, IsJoined-turned, IsJoined-settled, IsJoined-stretch, finished-quiet, finished-embedding, finished-opposite}
 use Rattle.bidi_rules.proofs.WrittenOver.{IsWrittenOver-same_test}
 

@@ -5,12 +5,9 @@ use Rattle.bidi_base.proofs.TextLemmas.{HasUnits}
 use Rattle.bidi_base.proofs.PlaceLemmas.{char_index-le, line_places, place-le-back}
 use Rattle.bidi_base.proofs.PermutationLemmas.{Ascends-filter, Ascends-lower, Ascends-range, Ascends}
 use Rattle.bidi_rules.specs.NeutralPass.{kept_among}
-use Rattle.bidi_rules.proofs.WalkLemmas.{are_ordered-front}
+use Rattle.bidi_runs.proofs.WalkLemmas.{no_range, are_ordered-front}
 
 -- ---- the runs one after another
-
-abbrev pub no_range : Range ℕ
-no_range = record { start = 0; end = 0 }
 
 pub line_at : (len_of : ℕ → ℕ) (chars : List ℕ) (runs : List (Range ℕ)) (i : ℕ) → i < length runs → AreLines len_of chars (map bounds runs) → IsLine len_of chars (get_or runs i no_range).start (get_or runs i no_range).end
 line_at len_of chars runs i fits lines =

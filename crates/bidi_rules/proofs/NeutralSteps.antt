@@ -13,18 +13,18 @@ use Rattle.bidi_base.proofs.TextLemmas.{HasUnits, is_boundary-le}
 use Rattle.bidi_base.proofs.UnitsLemmas.{IsPerChar-from_is_per_char, is_per_char-from_IsPerChar, length-from_IsPerChar}
 use Rattle.bidi_base.proofs.RepeatedRules.{n1_n2-per_unit}
 use Rattle.bidi_base.proofs.ResolvedLemmas.{length-n0}
-use Rattle.bidi_rules.specs.declared.prepare.lent.LentSequence.{LentSequence}
+use Rattle.bidi_runs.specs.declared.prepare.lent.LentSequence.{LentSequence}
 use Rattle.bidi_rules.specs.NeutralPass.{seen_units, values_of, pairs_in, IsPaired, IsReady}
 use Rattle.bidi_rules.specs.PairWalk.{opposite_of}
-use Rattle.bidi_rules.specs.RunSequence.{lent_runs, lent_sos, lent_eos}
+use Rattle.bidi_runs.specs.RunSequence.{lent_runs, lent_sos, lent_eos}
 use Rattle.bidi_rules.specs.WeakWalk.{is_seen}
 use Rattle.bidi_rules.proofs.FirstKept.{first_kept-is, first-Some, first-None}
 use Rattle.bidi_rules.proofs.SeenUnits.{kept_in_place-alike, ruled-places, ruled-IsPerChar, seen-every}
 use Rattle.bidi_rules.proofs.Marks.{at_marked-changed}
-use Rattle.bidi_rules.proofs.PassOverText.{IsPerChar-alike, alike_class, in_runs-alike}
+use Rattle.bidi_runs.proofs.PassOverText.{IsPerChar-alike, alike_class, in_runs-alike}
 use Rattle.bidi_rules.proofs.Spots.{Ascends-within}
 use Rattle.bidi_rules.proofs.KeptRuns.{kept_in_place-Ascends}
-use Rattle.bidi_rules.proofs.WalkLemmas.{is_run_sequence-ordered}
+use Rattle.bidi_runs.proofs.WalkLemmas.{is_run_sequence-ordered}
 use Rattle.std.proofs.Math.ListN.{get_or-map as get_or-mapped}
 
 pub IsReady-sequence : (len_of : ℕ → ℕ) → HasUnits len_of → (chars : List ℕ) (sequence : LentSequence) (runs : List (Range ℕ)) (sos : BidiClass) (old : List BidiClass) → runs ≡ lent_runs sequence → sos ≡ lent_sos sequence

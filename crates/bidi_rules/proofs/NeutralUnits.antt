@@ -2,7 +2,7 @@
 use Rattle.bidi_base.proofs.Common.{◌≡◌, ℕ, zero, suc, ◌+◌, ◌-◌, ◌<◌, ◌≤◌, Bool, true, List, [], ◌∷◌, arith, filter, All, range_with_len, or_right, All-append, All-cons, All-nil, All-head, All-tail, All-weaker, filter_passes, between, place, char_index, IsLine, chars_in_runs, in_runs, AreLines}
 use Rattle.bidi_base.proofs.PlaceLemmas.{line_places, place-lt, place-mono}
 use Rattle.bidi_base.proofs.TextLemmas.{HasUnits}
-use Rattle.bidi_rules.proofs.InRuns.{in_run, in_run-inside}
+use Rattle.bidi_runs.proofs.InRuns.{in_run, in_run-inside}
 
 pub all_pass : (test : ℕ → Bool) (ks : List ℕ) → All (λ k. test k ≡ true) (filter test ks)
 all_pass = filter_passes

@@ -10,10 +10,10 @@ use Rattle.bidi_base.proofs.Repeated.{HaveUnits-every, HaveUnits}
 use Rattle.bidi_base.proofs.RepeatedPlaces.{read_units-old, read_units-rule, read_units-per_char}
 use Rattle.bidi_rules.specs.NeutralPass.{seen_units}
 use Rattle.bidi_rules.specs.WeakWalk.{is_seen}
-use Rattle.bidi_rules.proofs.InRuns.{in_run-above, gap_before}
+use Rattle.bidi_runs.proofs.InRuns.{in_run-above, gap_before}
 use Rattle.bidi_rules.proofs.Marks.{marked, marked-parts, marked-empty, marked-one}
-use Rattle.bidi_rules.proofs.PassOverText.{in_runs-within}
-use Rattle.bidi_rules.proofs.WalkLemmas.{are_ordered-front, are_ordered-lower}
+use Rattle.bidi_runs.proofs.PassOverText.{in_runs-within}
+use Rattle.bidi_runs.proofs.WalkLemmas.{are_ordered-front, are_ordered-lower}
 
 -- two tests that agree in a range keep the same units
 same_counted : (t u : ℕ → Bool) (low n : ℕ) → ((k : ℕ) → low ≤ k → k < low + n → t k ≡ u k) → filter t (range_with_len low n) ≡ filter u (range_with_len low n)

@@ -8,7 +8,7 @@ use Rattle.bidi_base.proofs.UnitsLemmas.{IsPerChar-from_is_per_char, is_per_char
 use Rattle.bidi_rules.specs.NeutralPass.{IsReady}
 use Rattle.bidi_rules.proofs.NeutralSteps.{IsUpToN1, IsUpToN1-none, none-read}
 use Rattle.bidi_rules.proofs.OneDirection.{at_read}
-use Rattle.bidi_rules.proofs.PassOverText.{IsPerChar-alike, alike_class, in_runs-alike}
+use Rattle.bidi_runs.proofs.PassOverText.{IsPerChar-alike, alike_class, in_runs-alike}
 
 -- the classes after all steps, over the units
 pub record IsResolved (len_of : ℕ → ℕ) (chars : List ℕ) (source : Source) (levels : List ℕ) (original old new : List BidiClass) (runs : List (Range ℕ)) (sos eos : BidiClass) : Type 0 where

@@ -9,10 +9,10 @@ use Rattle.bidi_base.proofs.TextLemmas.{HasUnits}
 use Rattle.bidi_rules.specs.NeutralPass.{values_of}
 use Rattle.bidi_rules.specs.PairWalk.{spot}
 use Rattle.bidi_rules.specs.WeakWalk.{is_seen}
-use Rattle.bidi_rules.proofs.InRuns.{in_run, in_run-true}
+use Rattle.bidi_runs.proofs.InRuns.{in_run, in_run-true}
 use Rattle.bidi_rules.proofs.KeptRuns.{kept_in_place-Ascends}
 use Rattle.bidi_rules.proofs.NeutralUnits.{places_in_runs, all_pass}
-use Rattle.bidi_rules.proofs.PassOverText.{alike_class, in_runs-alike, in_runs-within}
+use Rattle.bidi_runs.proofs.PassOverText.{alike_class, in_runs-alike, in_runs-within}
 
 pub Ascends-within : (low high : ℕ) (ks : List ℕ) → Ascends low ks high → low ≤ high
 Ascends-within low high [] h = h

@@ -8,8 +8,8 @@ use Rattle.bidi_base.proofs.PlaceLemmas.{char_at-place, line_places, place-mono,
 use Rattle.bidi_base.proofs.TextLemmas.{HasUnits}
 use Rattle.bidi_rules.specs.NeutralPass.{kept_among, placed_bracket, placed_brackets, unit_bracket, unit_brackets}
 use Rattle.bidi_rules.proofs.KeptRuns.{kept_so_far-end}
-use Rattle.bidi_rules.proofs.PassOverText.{char_at-inside}
-use Rattle.bidi_rules.proofs.WalkLemmas.{between-first}
+use Rattle.bidi_runs.proofs.PassOverText.{char_at-inside}
+use Rattle.bidi_runs.proofs.WalkLemmas.{between-first}
 use Rattle.bidi_rules.proofs.Marks.{between-append}
 
 module _ (len_of : ℕ → ℕ) (chars : List ℕ) (source : Source) (units : List BidiClass) where

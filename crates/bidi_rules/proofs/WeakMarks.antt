@@ -9,7 +9,7 @@ use Rattle.bidi_base.proofs.StoredLemmas.{at_places-append}
 use Rattle.bidi_rules.specs.WeakPass.{marked, after_w1}
 use Rattle.bidi_rules.specs.WeakWalk.{is_seen, part_of, is_any, is_any_of, wide_part_of, is_any_wide, seen_from, seen_units, AreMarked, IsMarked}
 use Rattle.bidi_rules.proofs.FoldAny.{fold_any}
-use Rattle.bidi_rules.proofs.InRuns.{in_run-true, start_or, start_within, gap_before, gap_after, next_start}
+use Rattle.bidi_runs.proofs.InRuns.{in_run-true, start_or, start_within, gap_before, gap_after, next_start}
 use Rattle.bidi_rules.proofs.Marks.{marked-parts, marked-empty, marked-one, at_marked-same}
 
 carried-kept : (c : BidiClass) → is_kept_in_place c ≡ true → is_kept_in_place (carried c) ≡ true

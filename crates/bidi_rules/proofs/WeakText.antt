@@ -14,7 +14,7 @@ use Rattle.bidi_base.proofs.RepeatedRules.{w1-per_unit}
 use Rattle.bidi_rules.specs.declared.implicit.weak.steps.Before.TheVariants.{Other}
 use Rattle.bidi_rules.specs.WeakPass.{left_over}
 use Rattle.bidi_rules.specs.WeakWalk.{is_seen, seen_units, len_at, IsWhole, IsMarked, IsWalked}
-use Rattle.bidi_rules.proofs.PassOverText.{alike_class, char_at-inside}
+use Rattle.bidi_runs.proofs.PassOverText.{alike_class, char_at-inside}
 use Rattle.bidi_rules.proofs.SeenUnits.{seen_units-is, ruled-places, ruled-IsPerChar, answered-IsPerChar}
 use Rattle.bidi_rules.proofs.WeakPassLemmas.{after_w1-is, weak_classes-pass}
 use Rattle.bidi_rules.proofs.WeakUnits.{walked-chars}

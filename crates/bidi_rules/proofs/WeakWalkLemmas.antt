@@ -10,7 +10,7 @@ use Rattle.bidi_rules.specs.declared.implicit.weak.steps.Before.{Before}
 use Rattle.bidi_rules.specs.declared.implicit.weak.steps.Before.TheVariants.{Other}
 use Rattle.bidi_rules.specs.WeakPass.{is_asked, is_other, strengthened, strong_up_to, waits, joins, next_before, settled, resolved, w7_by, left_over, is_number, still_to_come, walked}
 use Rattle.bidi_rules.specs.WeakWalk.{is_seen, seen_units, IsWrittenOver, Pass, seen, units, IsUnderWay, IsStretch, IsWalked}
-use Rattle.bidi_rules.proofs.InRuns.{in_runs-at, in_runs-drop, start_or, start_within, gap_before, gap_after, next_start}
+use Rattle.bidi_runs.proofs.InRuns.{in_runs-at, in_runs-drop, start_or, start_within, gap_before, gap_after, next_start}
 use Rattle.bidi_rules.proofs.Marks.{marked-none, marked-parts, marked-empty, marked-full, at_marked-same, at_marked-all}
 use Rattle.bidi_rules.proofs.WeakMarks.{All-seen}
 use Rattle.bidi_rules.proofs.WrittenOver.{by_range}

@@ -5,9 +5,9 @@ use Rattle.std.proofs.lemmas.Bool.{and_cases}
 use Rattle.std.proofs.lemmas.List.{get_or-take, get_or-drop}
 use Rattle.bidi_base.specs.declared.char_data.BidiClass.{BidiClass}
 use Rattle.bidi_base.specs.declared.char_data.BidiClass.TheVariants.{L}
-use Rattle.bidi_rules.specs.ExplicitPass.{filled}
+use Rattle.bidi_runs.specs.ExplicitPass.{filled}
 use Rattle.bidi_rules.specs.WeakWalk.{is_seen, IsWrittenOver}
-use Rattle.bidi_rules.proofs.InRuns.{in_run, in_run-true, in_run-inside, in_runs-more, in_runs-take}
+use Rattle.bidi_runs.proofs.InRuns.{in_run, in_run-true, in_run-inside, in_runs-more, in_runs-take}
 
 -- below a range, in it, or past it
 pub by_range : {A : Type 0} (k from to : ℕ) → (k < from → A) → (from ≤ k → k < to → A) → (to ≤ k → A) → A

@@ -1,10 +1,5 @@
-pub mod ExplicitPass
-pub mod ExplicitStretches
 pub mod JoinPass
-pub mod Joining
 pub mod NeutralPass
 pub mod PairWalk
-pub mod RunSequence
-pub mod Status
 pub mod WeakPass
 pub mod WeakWalk

@@ -2,7 +2,6 @@
 //! paragraph: explicit levels, isolating run sequences, and what is resolved within each.
 #![tactic(auto)]
 
-mod characters;
-pub mod explicit;
 pub mod implicit;
-pub mod prepare;
+
+pub use bidi_runs::{explicit, prepare};

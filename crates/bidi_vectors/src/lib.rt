@@ -7,9 +7,3 @@ mod base_directions;
 mod constructors;
 #[cfg(test)]
 mod equality;
-#[cfg(test)]
-mod layout;
-#[cfg(test)]
-mod lines;
-#[cfg(test)]
-mod orders;

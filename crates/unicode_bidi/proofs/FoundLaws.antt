@@ -1,29 +1,22 @@
 -- What follows of the analysis of a text that is cut into its paragraphs.
-use Rattle.bidi_base.proofs.Common.{◌≡◌, ◌≤◌, ℕ, Bool, List, [], ◌∷◌, map, arith, length-map, then_some, All, IfSome, IsTrue, slice_range, AnalysedText, IsPerCharText, paragraph_level, stored_classes, HasOwnUnits, AreLevelsFrom, pieces_of, ranges_from, Source, text_classes, text_levels, stored_levels, per_unit, is_per_char, IsLine}
+use Rattle.bidi_base.proofs.Common.{◌≡◌, ◌≤◌, ℕ, Bool, List, [], ◌∷◌, map, arith, then_some, All, IfSome, slice_range, AnalysedText, IsPerCharText, paragraph_level, stored_classes, HasOwnUnits, AreLevelsFrom, pieces_of, ranges_from, Source, text_classes, text_levels, stored_levels, per_unit, IsLine}
 use Rattle.std.proofs.lemmas.List.{append-nil}
 use Rattle.std.specs.Prelude.{Option, Some, None}
-use Rattle.bidi_base.specs.declared.char_data.BidiClass.{BidiClass}
 use Rattle.bidi_base.specs.declared.char_data.BidiClass.TheVariants.{L}
 use Rattle.bidi_base.specs.Analysed.{HasCharValues}
 use Rattle.bidi_base.proofs.CrLfLemmas.{together-AreCrLfParagraphRanges}
 use Rattle.bidi_base.proofs.PerUnit.{per_char-per_unit}
-use Rattle.bidi_base.proofs.PerCharTests.{class_eq, class_test}
-use Rattle.bidi_base.proofs.StoredSteps.{length-stored_classes}
+use Rattle.bidi_base.proofs.PerCharTests.{class_test}
 use Rattle.bidi_base.proofs.TextLemmas.{HasUnits}
 use Rattle.bidi_base.proofs.UnitsLemmas.{is_per_char-per_unit}
 use Rattle.bidi_base.proofs.LevelLaws.{length-text_levels, text_classes-one, text_levels-one, paragraph_levels-one, stored_levels-AreLevelsFrom, All-per_unit}
 use Rattle.bidi_base.proofs.ParagraphsLemmas.{cut_after-joined, joined, length-text_classes, paragraphs-AreParagraphRanges}
-use Rattle.unicode_bidi.specs.declared.paragraph_info.ParagraphInfo.{ParagraphInfo}
-use Rattle.unicode_bidi.specs.ParagraphInfo.{range_of, ranges_of, levels_of}
-use Rattle.unicode_bidi.specs.SplitRule.{pieces_by, AreParagraphRangesBy, IsAnalysisOf, IsAnalysisBy}
-use Rattle.unicode_bidi.specs.declared.split_rule.SplitRule.{SplitRule}
-use Rattle.unicode_bidi.specs.declared.split_rule.SplitRule.TheVariants.{EachSeparator}
+use Rattle.bidi_paragraphs.specs.declared.paragraph_info.ParagraphInfo.{ParagraphInfo}
+use Rattle.bidi_paragraphs.specs.ParagraphInfo.{range_of, ranges_of, levels_of}
+use Rattle.bidi_paragraphs.specs.SplitRule.{pieces_by, AreParagraphRangesBy, IsAnalysisOf, IsAnalysisBy}
+use Rattle.bidi_paragraphs.specs.declared.split_rule.SplitRule.{SplitRule}
+use Rattle.bidi_paragraphs.specs.declared.split_rule.SplitRule.TheVariants.{EachSeparator}
 use Rattle.unicode_bidi.proofs.ParagraphUnits.{paragraphs-HasOwnUnits, paragraphs-are_lines, paragraphs-AreLevelsFrom}
-
--- the stored classes of one paragraph are equal within each character
-pub stored-is_per_char : (len_of : ℕ → ℕ) (chars : List ℕ) (class_of : ℕ → BidiClass) (classes : List BidiClass) → classes ≡ per_unit len_of chars (stored_classes (map class_of chars))
-    → IsTrue (is_per_char class_eq len_of chars classes)
-stored-is_per_char len_of chars class_of classes e = grind (arith, is_per_char-per_unit, class_test, length-stored_classes, length-map)
 
 -- cut into any pieces
 module _ (source : Source) (base : Option ℕ) (pieces : List (List ℕ)) (a : AnalysedText) (whole : joined pieces ≡ a.chars) where

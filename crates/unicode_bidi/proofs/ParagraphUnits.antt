@@ -1,6 +1,6 @@
 -- The levels of a text, written paragraph by paragraph.
 use Rattle.bidi_base.proofs.Common.{◌≡◌, Option, ℕ, ◌+◌, ◌-◌, ◌<◌, ◌≤◌, List, [], ◌∷◌, ◌++◌, length, get_or, take, drop, map, refl, subst, ◌∙◌, append_assoc, append-nil, arith, length-append, zero-add, take-append_seam, drop-append-add, Range, All, IfSome, slice_range, get_or-map, take_more, drop_more, drop-drop, length-map, flat_map-map, sum_by-append, map-map, paragraph_level, stored_classes, HasOwnUnits, AreLevelsFrom, ranges_from, Source, levels_in, stored_levels, text_classes, text_levels, paragraph_levels, text_len, subrange, per_unit, IsLine}
-use Rattle.unicode_bidi.proofs.RunText.{flat_map-same_on}
+use Rattle.bidi_text_lines.proofs.RunText.{flat_map-same_on}
 use Rattle.std.specs.Prelude.{flat_map}
 use Rattle.std.proofs.lemmas.List.Concat.{flat_map-append}
 use Rattle.bidi_base.specs.declared.char_data.BidiClass.{BidiClass}
@@ -12,10 +12,10 @@ use Rattle.bidi_base.proofs.TextLemmas.{HasUnits, is_boundary-le, subrange-middl
 use Rattle.bidi_base.proofs.ParagraphsLemmas.{ranges-lines, joined}
 use Rattle.bidi_base.proofs.PieceUnits.{per_unit-pieces, HasOwnUnits-pieces}
 use Rattle.bidi_base.proofs.ResolvedLemmas.{length-levels_in}
-use Rattle.unicode_bidi.specs.declared.paragraph_info.ParagraphInfo.{ParagraphInfo}
+use Rattle.bidi_paragraphs.specs.declared.paragraph_info.ParagraphInfo.{ParagraphInfo}
 use Rattle.unicode_bidi.specs.Engine.{unit_levels, own_flags, CanWrite, Follow, chars_of}
-use Rattle.unicode_bidi.specs.ParagraphFlags.{flags_of, paragraph_flags}
-use Rattle.unicode_bidi.specs.ParagraphInfo.{range_of, level_of, ranges_of, levels_of}
+use Rattle.bidi_paragraphs.specs.ParagraphFlags.{flags_of, paragraph_flags}
+use Rattle.bidi_paragraphs.specs.ParagraphInfo.{range_of, level_of, ranges_of, levels_of}
 
 -- ---- one paragraph
 

@@ -1,12 +1,8 @@
-pub mod Analysed
 pub mod BidiInfo
-pub mod ClassSet
 pub mod Engine
-pub mod FirstWalk
 pub mod InitialInfo
 pub mod LineMap
 pub mod Paragraph
 pub mod ParagraphBidiInfo
-pub mod ParagraphFlags
 pub mod ParagraphInfo
 pub mod SplitRule

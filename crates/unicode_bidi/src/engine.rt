@@ -7,20 +7,20 @@ ghost use Rattle.bidi_base.specs.declared.char_data.BidiClass.TheVariants.{L};
 ghost use Rattle.bidi_base.specs.Paragraphs.{AreParagraphRanges};
 ghost use Rattle.bidi_base.specs.Text.{text_len, is_per_char, per_char, char_index, IsLine};
 ghost use Rattle.unicode_bidi.specs.Engine.{with_analysis, original_classes as original_classes_of, levels as stored_levels_of, paragraphs as paragraphs_of_analysis, flags as flags_of_analysis, unit_levels, own_flags, CanWrite, Follow};
-ghost use Rattle.unicode_bidi.specs.ParagraphFlags.{paragraph_flags};
-ghost use Rattle.unicode_bidi.specs.ParagraphInfo.{ranges_of, levels_of};
-ghost use Rattle.unicode_bidi.specs.SplitRule.{pieces_by, IsAnalysisBy};
+ghost use Rattle.bidi_paragraphs.specs.ParagraphFlags.{paragraph_flags};
+ghost use Rattle.bidi_paragraphs.specs.ParagraphInfo.{ranges_of, levels_of};
+ghost use Rattle.bidi_paragraphs.specs.SplitRule.{pieces_by, IsAnalysisBy};
 
-use crate::first_walk;
-use crate::paragraph_flags::ParagraphFlags;
-use crate::paragraph_info::ParagraphInfo;
-use crate::paragraph_levels::{ClassifiedParagraph, LevelResolver};
-use crate::split_rule::SplitRule;
 use bidi_base::char_data::BidiClass;
 use bidi_base::data_source::BidiDataSource;
 use bidi_base::level::{LTR_LEVEL, Level};
 use bidi_base::text::TextSource;
 use bidi_lines::line_levels::levels_with_line;
+use bidi_paragraphs::first_walk;
+use bidi_paragraphs::paragraph_flags::ParagraphFlags;
+use bidi_paragraphs::paragraph_info::ParagraphInfo;
+use bidi_paragraphs::paragraph_levels::{ClassifiedParagraph, LevelResolver};
+use bidi_paragraphs::split_rule::SplitRule;
 use std::alloc::{AllocError, Global};
 use std::ops::Range;
 

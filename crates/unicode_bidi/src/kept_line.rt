@@ -9,10 +9,10 @@ ghost use Rattle.bidi_base.specs.Analysed.{IsTextOfLine};
 ghost use Rattle.bidi_base.specs.Text.{is_per_char};
 ghost use Rattle.bidi_base.specs.Utf16.{utf16_text, utf16_len};
 
-use crate::analysed::Analysed;
 use bidi_base::char_data::BidiClass;
 use bidi_base::level::Level;
 use bidi_base::text::{StrText, Utf16Text};
+use bidi_text_lines::analysed::Analysed;
 use std::alloc::{AllocError, Global};
 use std::borrow::{CowSlice, CowStr};
 

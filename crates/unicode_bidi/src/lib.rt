@@ -15,24 +15,15 @@
 //! and what each call costs.
 #![tactic(auto)]
 
-mod analysed;
 mod base_direction;
-mod class_set;
 pub mod deprecated;
 pub mod engine;
-mod first_walk;
 mod info;
 mod initial_info;
 pub mod kept_line;
 pub mod layout;
-mod level_direction;
-mod line_text;
 mod paragraph;
 mod paragraph_bidi_info;
-mod paragraph_flags;
-mod paragraph_info;
-mod paragraph_levels;
-mod split_rule;
 pub mod utf16;
 mod utf8;
 
@@ -44,8 +35,8 @@ pub use bidi_base::data_source::BidiDataSource;
 pub use bidi_base::level::{LTR_LEVEL, Level, RTL_LEVEL};
 pub use bidi_base::text::{TextSource, Utf8IndexLenIter};
 pub use bidi_base::{char_data, data_source, format_chars, level, sample, text};
+pub use bidi_paragraphs::paragraph_info::ParagraphInfo;
+pub use bidi_paragraphs::split_rule::SplitRule;
 pub use bidi_rules::prepare::{LevelRun, LevelRunVec};
 pub use bidi_rules::{explicit, implicit, prepare};
-pub use paragraph_info::ParagraphInfo;
-pub use split_rule::SplitRule;
 pub use utf8::{BidiInfo, InitialInfo, Paragraph, ParagraphBidiInfo};

@@ -9,13 +9,13 @@ ghost use Rattle.bidi_base.specs.Order.{visual_order, IsVisualOrder, order_by_re
 ghost use Rattle.bidi_base.specs.Places.{indexes};
 ghost use Rattle.bidi_base.specs.Text.{is_per_char};
 
-use crate::analysed::Analysed;
 use crate::engine;
 use bidi_base::char_data::{BidiClass, Direction};
 use bidi_base::data_source::BidiDataSource;
 use bidi_base::level::Level;
 use bidi_base::text::TextSource;
 use bidi_lines::visual_order;
+use bidi_text_lines::analysed::Analysed;
 use std::alloc::{AllocError, Global};
 use std::ops::Range;
 

@@ -18,7 +18,7 @@ ghost use Rattle.bidi_base.specs.declared.brackets.Bracket.{Bracket};
 ghost use Rattle.bidi_base.specs.FoundBrackets.{brackets_from};
 ghost use Rattle.bidi_base.specs.PairSearch.{HasRead};
 ghost use Rattle.bidi_rules.specs.NeutralPass.{pairs_in, placed_brackets, HasGatheredNothing, IsPaired, IsReady};
-ghost use Rattle.bidi_rules.specs.RunSequence.{lent_runs, lent_sos, lent_eos, runs as runs_of, sos as sos_of, eos as eos_of};
+ghost use Rattle.bidi_runs.specs.RunSequence.{lent_runs, lent_sos, lent_eos, runs as runs_of, sos as sos_of, eos as eos_of};
 
 mod class_tests;
 mod directions;
@@ -27,13 +27,13 @@ mod nearest;
 mod one_direction;
 mod pairs;
 
-use crate::prepare::{IsolatingRunSequence, LentSequence, LevelRun};
 use bidi_base::brackets::{Bracket, PairSearch};
 use bidi_base::char_data::BidiClass;
 use bidi_base::data_source::BidiDataSource;
 use bidi_base::level::Level;
 use bidi_base::search::first_passing;
 use bidi_base::text::TextSource;
+use bidi_runs::prepare::{IsolatingRunSequence, LentSequence, LevelRun};
 use class_tests::OtherNeutral;
 use directions::{Directions, resolve_opposite, settle_rest};
 use nearest::first_kept;

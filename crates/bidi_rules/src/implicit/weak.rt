@@ -8,7 +8,7 @@ ghost use Rattle.bidi_base.specs.Units.{bounds, are_ordered, chars_in_runs, in_r
 ghost use Rattle.bidi_base.specs.Weak.{carried, weak_classes};
 ghost use Rattle.bidi_base.specs.declared.char_data.BidiClass.{BidiClass};
 ghost use Rattle.bidi_base.specs.declared.char_data.BidiClass.TheVariants.{L, BN};
-ghost use Rattle.bidi_rules.specs.RunSequence.{lent_runs, lent_sos, runs as runs_of, sos as sos_of};
+ghost use Rattle.bidi_runs.specs.RunSequence.{lent_runs, lent_sos, runs as runs_of, sos as sos_of};
 ghost use Rattle.bidi_rules.specs.WeakPass.{is_mark_or_number};
 ghost use Rattle.bidi_rules.specs.WeakWalk.{count_below, is_any_of, is_any_wide, is_seen, len_at, part_of, wide_part_of, IsMarked, IsWalked, IsWrittenOver};
 
@@ -18,9 +18,9 @@ mod numbers;
 mod steps;
 
 use super::is_kept_in_place;
-use crate::prepare::{IsolatingRunSequence, LentSequence, LevelRun, Steps};
 use bidi_base::char_data::BidiClass::{self, NSM};
 use bidi_base::text::TextSource;
+use bidi_runs::prepare::{IsolatingRunSequence, LentSequence, LevelRun, Steps};
 use left_over::change;
 use marks::resolve_marks;
 use numbers::{is_number, resolve_numbers};

@@ -1,7 +1,7 @@
 use Rattle.bidi_base.proofs.Common.{◌≡◌, ◌≤◌, ◌∙◌, ◌++◌, true, List, ℕ, map, get_or, string_bytes, length, ap, arith, codes, len_utf8, chars, IsAnalysis, run_of, Source}
 use Rattle.std.proofs.lemmas.Result.{on_ok_weaker}
 use Rattle.bidi_terminal.specs.Bases.{level_of_base}
-use Rattle.bidi.specs.Shown.{own_chars}
+use Rattle.bidi_controls.specs.Lines.{own_chars}
 use Rattle.bidi.proofs.CharactersLemmas.{if_pushed}
 use Rattle.bidi.proofs.ParagraphLemmas.{own_chars-none, nothing-shown, whole-shown, nothing}
 use Rattle.bidi.proofs.paragraphs.push_paragraph.Goals as goal
@@ -9,7 +9,7 @@ use Rattle.bidi.proofs.paragraphs.push_paragraph.Goals.{In_ok-info}
 use Rattle.bidi.proofs.paragraphs.push_paragraph.Given.{Over}
 use Rattle.unicode_bidi.specs.BidiInfo.{original_classes, levels as levels_of_info, paragraphs, text as text_of}
 use Rattle.unicode_bidi.specs.ParagraphInfo.{ranges_of, levels_of}
-use Rattle.unicode_bidi.specs.declared.paragraph_info.ParagraphInfo.{ParagraphInfo}
+use Rattle.bidi_paragraphs.specs.declared.paragraph_info.ParagraphInfo.{ParagraphInfo}
 
 -- the text has the line's own characters
 own_text : (g : Over) (c : In_ok-info g) → chars (text_of c.in_ok-info.info) ≡ own_chars (g.D.BidiDataSource.source c.args.data_source.now) c.args.paragraph.now

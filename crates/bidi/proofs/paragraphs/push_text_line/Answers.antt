@@ -3,7 +3,7 @@ use Rattle.bidi_base.proofs.PerUnit.{length-per_char}
 use Rattle.bidi_base.proofs.StrLemmas.{has_units, subrange-from_str}
 use Rattle.unicode_bidi.specs.BidiInfo.{text, analysed}
 use Rattle.unicode_bidi.specs.ParagraphInfo.{level_of}
-use Rattle.unicode_bidi.proofs.StoredLine.{length-shown, per_char-shown}
+use Rattle.bidi_text_lines.proofs.StoredLine.{length-shown, per_char-shown}
 use Rattle.bidi.proofs.paragraphs.push_text_line.Goals as goal
 use Rattle.bidi.proofs.paragraphs.push_text_line.Goals.{In_ok-levels, After-first_units-levels}
 use Rattle.bidi.proofs.paragraphs.push_text_line.Given.{Over}

@@ -13,10 +13,10 @@ ghost use Rattle.bidi_rules.specs.WeakWalk.{is_seen, IsWrittenOver};
 
 use super::class_tests::{AnyDirection, For, NotFor};
 use crate::implicit::weak::write_over_runs;
-use crate::prepare::LevelRun;
 use bidi_base::char_data::BidiClass::{self, L, R};
 use bidi_base::classes::{is_neutral, stands_for};
 use bidi_base::search::first_passing;
+use bidi_runs::prepare::LevelRun;
 
 /// The directions that neutrals of a sequence can take beside those among them.
 #[derive(Clone, Copy, Debug)]

@@ -6,11 +6,11 @@ ghost use Rattle.bidi_base.specs.Text.{is_boundary, place, text_len};
 ghost use Rattle.bidi_base.specs.Units.{bounds, are_ordered, AreLines};
 ghost use Rattle.bidi_rules.specs.PairWalk.{IsMarksEnd};
 
-use crate::characters::end_of;
 use crate::implicit::is_kept_in_place;
-use crate::prepare::LevelRun;
 use bidi_base::char_data::BidiClass::{self, NSM};
 use bidi_base::text::TextSource;
+use bidi_runs::characters::end_of;
+use bidi_runs::prepare::LevelRun;
 
 /// Whether a character with these classes is neither BN nor a nonspacing mark by its original class.
 fn ends_marks(class: BidiClass, original: BidiClass) -> bool

@@ -8,10 +8,10 @@ ghost use Rattle.bidi_rules.specs.PairWalk.{IsFirstFor, IsNearestBefore};
 
 use super::class_tests::For;
 use crate::implicit::is_kept_in_place;
-use crate::prepare::LevelRun;
 use bidi_base::char_data::BidiClass;
 use bidi_base::classes::as_direction;
 use bidi_base::search::first_passing;
+use bidi_runs::prepare::LevelRun;
 
 /// The first unit of a sequence that is not BN.
 pub fn first_kept(runs: &[LevelRun], classes: &[BidiClass]) -> Option<usize>

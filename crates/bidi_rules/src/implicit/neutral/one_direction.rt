@@ -6,9 +6,9 @@ ghost use Rattle.bidi_base.specs.Units.{bounds, in_runs};
 ghost use Rattle.bidi_rules.specs.NeutralPass.{turns_from};
 
 use super::directions::Directions;
-use crate::prepare::LevelRun;
 use bidi_base::char_data::BidiClass::{self, AN, EN, L, R};
 use bidi_base::search::{ClassTest, first_passing};
+use bidi_runs::prepare::LevelRun;
 
 /// Whether sos and eos are the embedding direction, and no class in the runs is a number or the other
 /// direction.

@@ -11,11 +11,11 @@ ghost use Rattle.bidi_rules.specs.PairWalk.{at_spots, opposite_of, IsAsked, IsRo
 use super::directions::{Directions, opposite_of};
 use super::marks::marks_end;
 use super::nearest::{direction_before, first_for, run_of};
-use crate::characters::end_of;
 use crate::implicit::weak::write_over_runs;
-use crate::prepare::LevelRun;
 use bidi_base::char_data::BidiClass::{self, NSM};
 use bidi_base::text::TextSource;
+use bidi_runs::characters::end_of;
+use bidi_runs::prepare::LevelRun;
 
 /// N0: the pairs one by one, in the order of their openings, each by the units at which its brackets
 /// begin. `original_classes` has the stored classes, and `classes` those after W7.

@@ -6,8 +6,8 @@ ghost use Rattle.bidi_base.specs.Places.{class_at};
 ghost use Rattle.bidi_base.specs.Units.{bounds, are_ordered, in_runs, units_in_runs};
 ghost use Rattle.bidi_rules.specs.WeakPass.{left_over};
 
-use crate::prepare::{LevelRun, Steps};
 use bidi_base::char_data::BidiClass::{self, AL, CS, ES, ET, ON, R};
+use bidi_runs::prepare::{LevelRun, Steps};
 use std::sync::ledger::Ledger;
 
 /// Changes each class in the runs by itself.

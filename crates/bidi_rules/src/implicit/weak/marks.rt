@@ -11,8 +11,8 @@ ghost use Rattle.bidi_rules.specs.WeakWalk.{is_seen, is_any, is_any_of, AreMarke
 
 use super::part_of;
 use crate::implicit::is_kept_in_place;
-use crate::prepare::{LevelRun, Steps};
 use bidi_base::char_data::BidiClass::{self, FSI, LRI, NSM, ON, PDI, RLI};
+use bidi_runs::prepare::{LevelRun, Steps};
 use std::sync::ledger::Ledger;
 
 /// W1 over the units of some runs that are not BN.

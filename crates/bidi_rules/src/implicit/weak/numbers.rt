@@ -8,7 +8,7 @@ ghost use Rattle.bidi_base.specs.Classes.{is_strong};
 ghost use Rattle.bidi_base.specs.Places.{class_at};
 ghost use Rattle.bidi_base.specs.Text.{text_len, IsPerChar};
 ghost use Rattle.bidi_base.specs.Units.{bounds, are_ordered, units_in_runs, AreLines};
-ghost use Rattle.bidi_rules.specs.ExplicitPass.{filled};
+ghost use Rattle.bidi_runs.specs.ExplicitPass.{filled};
 ghost use Rattle.bidi_rules.specs.WeakPass.{is_asked, is_number, is_other, next_before, still_to_come, strengthened, waits};
 ghost use Rattle.bidi_rules.specs.WeakWalk.{count_below, is_any, is_any_of, is_seen, len_at, settled_to, IsWalked, IsWhole, IsWrittenOver, Passes, Reads, ReadsTo, WaitsBelow};
 
@@ -16,10 +16,10 @@ use super::left_over::left_over;
 use super::steps::{Before, numbered, strengthened, strong_up_to};
 use super::{part_of, write_over_runs_counted};
 use crate::implicit::is_kept_in_place;
-use crate::prepare::{LevelRun, Steps};
 use bidi_base::char_data::BidiClass::{self, AN, EN, ET, ON};
 use bidi_base::classes::is_strong;
 use bidi_base::text::TextSource;
+use bidi_runs::prepare::{LevelRun, Steps};
 use std::sync::ledger::Ledger;
 
 /// What a walk over a sequence knows of the units that it has read.

@@ -4,8 +4,8 @@ use Rattle.bidi_base.specs.declared.char_data.BidiClass.{BidiClass}
 use Rattle.bidi_base.proofs.PerCharTests.{class_eq, class_test}
 use Rattle.bidi_base.proofs.TextLemmas.{HasUnits}
 use Rattle.bidi_base.proofs.UnitsLemmas.{IsPerChar-from_is_per_char}
-use Rattle.bidi_rules.specs.declared.prepare.lent.LentSequence.{LentSequence}
-use Rattle.bidi_rules.specs.RunSequence.{lent_runs, lent_sos}
+use Rattle.bidi_runs.specs.declared.prepare.lent.LentSequence.{LentSequence}
+use Rattle.bidi_runs.specs.RunSequence.{lent_runs, lent_sos}
 use Rattle.bidi_rules.specs.WeakPass.{left_over}
 use Rattle.bidi_rules.specs.WeakWalk.{len_at, IsMarked, IsWalked}
 use Rattle.bidi_rules.proofs.CountBelow.{characters-at_most}

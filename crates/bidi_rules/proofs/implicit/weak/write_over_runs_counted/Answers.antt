@@ -1,9 +1,9 @@
 use Rattle.bidi_base.proofs.Common.{◌≡◌, ℕ, ◌<◌, ◌&&◌, true, false, List, length, map, drop, get_or, ltb, ◌∙◌, sym, ap, inl, inr, arith, rules, cases_lt, get_or-map, length-map, take_all, Range, bounds}
 use Rattle.std.specs.Prelude.{max, min}
 use Rattle.bidi_rules.proofs.CountBelow.{count_below-none, count_below-more, count_below-parts, count_below-monotone, ends_ascend}
-use Rattle.bidi_rules.proofs.InRuns.{run_some}
-use Rattle.bidi_rules.proofs.KeptRuns.{no_range}
-use Rattle.bidi_rules.proofs.WalkLemmas.{are_ordered-drop}
+use Rattle.bidi_runs.proofs.InRuns.{run_some}
+use Rattle.bidi_runs.proofs.WalkLemmas.{no_range}
+use Rattle.bidi_runs.proofs.WalkLemmas.{are_ordered-drop}
 use Rattle.bidi_rules.proofs.WrittenOver.{runs-more, runs-stop}
 use Rattle.bidi_rules.proofs.implicit.weak.write_over_runs_counted.Goals as goal
 

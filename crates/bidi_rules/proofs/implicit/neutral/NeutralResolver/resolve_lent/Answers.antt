@@ -1,6 +1,6 @@
 use Rattle.bidi_base.proofs.Common.{◌≡◌, ◌<◌, length, map, find, Some, refl, sym, ap, ◌∙◌, arith, rules, get_or_default, is_kept_in_place, direction_of, class_at, bounds, units_in_runs}
 use Rattle.bidi_rules.specs.NeutralPass.{IsReady}
-use Rattle.bidi_rules.specs.RunSequence.{lent_runs, lent_sos, lent_eos}
+use Rattle.bidi_runs.specs.RunSequence.{lent_runs, lent_sos, lent_eos}
 use Rattle.bidi_rules.proofs.NeutralSteps.{IsReady-sequence, IsUpToN1, runs-within, first-is, first-within}
 use Rattle.bidi_rules.proofs.Settled.{kept-none, IsResolved, IsResolved-settled}
 use Rattle.bidi_rules.proofs.implicit.neutral.NeutralResolver.resolve_lent.Given.{Over}

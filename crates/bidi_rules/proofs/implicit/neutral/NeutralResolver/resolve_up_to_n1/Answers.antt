@@ -1,7 +1,7 @@
 use Rattle.bidi_base.proofs.Common.{◌≡◌, ◌<◌, true, length, refl, sym, ap, ◌∙◌, arith, get_or_default, is_l_or_r, direction_of, level_at}
 use Rattle.bidi_rules.proofs.OneDirection.{IsUpToN1-one}
 use Rattle.bidi_base.proofs.NeutralLemmas.{direction_of-l_or_r}
-use Rattle.bidi_rules.specs.RunSequence.{lent_runs, lent_sos, lent_eos}
+use Rattle.bidi_runs.specs.RunSequence.{lent_runs, lent_sos, lent_eos}
 use Rattle.bidi_rules.proofs.NeutralSteps.{eos-side, IsUpToN1, IsReady-sequence, runs-within, first-within, mid-within, mid-resolved, IsUpToN1-none, IsUpToN1-paired, IsUpToN1-sequence}
 use Rattle.bidi_rules.specs.NeutralPass.{IsReady}
 use Rattle.bidi_rules.proofs.implicit.neutral.NeutralResolver.resolve_up_to_n1.Given.{Over}

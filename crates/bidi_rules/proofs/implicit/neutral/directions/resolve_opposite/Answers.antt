@@ -2,7 +2,7 @@ use Rattle.bidi_base.proofs.Common.{◌≡◌, length, map, true, if◌then◌el
 use Rattle.bidi_base.specs.declared.char_data.BidiClass.{BidiClass}
 use Rattle.bidi_rules.specs.JoinPass.{Unjoined, IsUnderWay}
 use Rattle.bidi_rules.specs.PairWalk.{opposite_of}
-use Rattle.bidi_rules.proofs.InRuns.{start_or-at, start_or-past}
+use Rattle.bidi_runs.proofs.InRuns.{start_or-at, start_or-past}
 use Rattle.bidi_rules.proofs.JoinWalk.{IsUnderWay-start, IsUnderWay-gap, IsFinished, IsFinished-embedding, IsFinished-opposite}
 use Rattle.bidi_rules.proofs.implicit.neutral.directions.resolve_opposite.Goals as goal
 use Rattle.bidi_rules.proofs.implicit.neutral.directions.resolve_opposite.Goals.{After-loop-run, After-stands_for-2}

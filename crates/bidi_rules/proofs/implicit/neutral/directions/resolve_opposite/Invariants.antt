@@ -2,7 +2,7 @@
 use Rattle.bidi_base.proofs.Common.{◌≡◌, ◌≤◌, length, map, bounds}
 use Rattle.bidi_rules.specs.JoinPass.{IsUnderWay, Unjoined}
 use Rattle.bidi_rules.specs.PairWalk.{opposite_of}
-use Rattle.bidi_rules.proofs.InRuns.{start_or}
+use Rattle.bidi_runs.proofs.InRuns.{start_or}
 use Rattle.bidi_rules.proofs.implicit.neutral.directions.resolve_opposite.Given as goal
 
 abbrev pub invariant-loop-run : goal.invariant-loop-run

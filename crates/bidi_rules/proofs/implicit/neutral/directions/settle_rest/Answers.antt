@@ -1,6 +1,6 @@
 use Rattle.bidi_base.proofs.Common.{◌≡◌, ℕ, map, ap, arith, common_steps, get_or-map, length-map, take_all, bounds, n2_rule}
 use Rattle.bidi_base.specs.declared.char_data.BidiClass.{BidiClass}
-use Rattle.bidi_rules.proofs.KeptRuns.{no_range}
+use Rattle.bidi_runs.proofs.WalkLemmas.{no_range}
 use Rattle.bidi_rules.proofs.RunOf.{changed-more, run_end}
 use Rattle.bidi_rules.proofs.implicit.neutral.directions.settle_rest.Goals as goal
 

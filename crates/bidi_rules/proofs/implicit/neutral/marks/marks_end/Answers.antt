@@ -1,8 +1,9 @@
 use Rattle.bidi_base.proofs.Common.{◌≡◌, ℕ, List, ◌+◌, ◌<◌, ◌≤◌, true, get_or, ap, ◌∙◌, arith, inl, inr, cases_lt, and_parts, length-map, take_all, is_kept_in_place, is_nsm, class_at, is_boundary, place, text_len, IsLine}
 use Rattle.bidi_base.proofs.PlaceLemmas.{is_boundary-place, place-lt, place-mono}
 use Rattle.bidi_base.proofs.TextLemmas.{is_boundary-le}
-use Rattle.bidi_rules.proofs.CharEnds.{Begins, begins_at}
-use Rattle.bidi_rules.proofs.KeptRuns.{no_range, line_at}
+use Rattle.bidi_runs.proofs.CharEnds.{Begins, begins_at}
+use Rattle.bidi_rules.proofs.KeptRuns.{line_at}
+use Rattle.bidi_runs.proofs.WalkLemmas.{no_range}
 use Rattle.bidi_rules.proofs.NearestLemmas.{every-more, earlier-here, in-here}
 use Rattle.bidi_rules.proofs.implicit.neutral.marks.marks_end.Goals as goal
 use Rattle.bidi_rules.proofs.implicit.neutral.marks.marks_end.Goals.{In-loop-at}

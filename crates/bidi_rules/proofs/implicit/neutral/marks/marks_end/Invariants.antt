@@ -1,6 +1,6 @@
 -- The characters so far are marks, or BN.
 use Rattle.bidi_base.proofs.Common.{◌≡◌, ◌-◌, ◌<◌, ◌≤◌, ℕ, true, map, take, get_or, is_nsm, is_kept_in_place, class_at, is_boundary, place, bounds, in_runs}
-use Rattle.bidi_rules.proofs.KeptRuns.{no_range}
+use Rattle.bidi_runs.proofs.WalkLemmas.{no_range}
 use Rattle.bidi_rules.proofs.implicit.neutral.marks.marks_end.Given as goal
 
 abbrev pub invariant-loop-run : goal.invariant-loop-run

@@ -1,6 +1,6 @@
 -- No unit looked at has a direction.
 use Rattle.bidi_base.proofs.Common.{◌≡◌, ◌<◌, ◌≤◌, ℕ, true, None, map, drop, get_or, as_direction, class_at, bounds, in_runs}
-use Rattle.bidi_rules.proofs.KeptRuns.{no_range}
+use Rattle.bidi_runs.proofs.WalkLemmas.{no_range}
 use Rattle.bidi_rules.proofs.implicit.neutral.nearest.direction_before.Given as goal
 
 abbrev pub invariant-loop-run : goal.invariant-loop-run

@@ -1,5 +1,5 @@
 use Rattle.bidi_base.proofs.Common.{◌≡◌, ◌<◌, ◌≤◌, ℕ, false, find, None, map, take, get_or, is_kept_in_place, class_at, bounds, units_in_runs}
-use Rattle.bidi_rules.proofs.KeptRuns.{no_range}
+use Rattle.bidi_runs.proofs.WalkLemmas.{no_range}
 use Rattle.bidi_rules.proofs.implicit.neutral.nearest.first_kept.Given as goal
 
 -- nothing was read in the runs so far

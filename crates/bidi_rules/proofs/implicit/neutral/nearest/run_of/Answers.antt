@@ -1,5 +1,5 @@
 use Rattle.bidi_base.proofs.Common.{◌+◌, ◌-◌, ◌/◌, map, arith, get_or-map, length-map, bounds}
-use Rattle.bidi_rules.proofs.KeptRuns.{no_range}
+use Rattle.bidi_runs.proofs.WalkLemmas.{no_range}
 use Rattle.bidi_rules.proofs.RunOf.{ends-rise, in_runs-later, in_runs-upto}
 use Rattle.bidi_rules.proofs.implicit.neutral.nearest.run_of.Goals as goal
 

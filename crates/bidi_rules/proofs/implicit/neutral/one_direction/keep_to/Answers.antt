@@ -1,5 +1,5 @@
 use Rattle.bidi_base.proofs.Common.{arith, get_or-map, length-map, take_all}
-use Rattle.bidi_rules.proofs.InRuns.{in_runs-more}
+use Rattle.bidi_runs.proofs.InRuns.{in_runs-more}
 use Rattle.bidi_rules.proofs.RunOf.{run_end}
 use Rattle.bidi_rules.proofs.implicit.neutral.one_direction.keep_to.Goals as goal
 

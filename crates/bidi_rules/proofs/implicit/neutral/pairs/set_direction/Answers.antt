@@ -1,8 +1,8 @@
 use Rattle.bidi_base.proofs.Common.{◌+◌, map, drop, refl, arith, common_steps, bounds}
 use Rattle.bidi_base.proofs.PlaceLemmas.{is_boundary-place, place-mono}
-use Rattle.bidi_rules.proofs.CharEnds.{begins_at}
+use Rattle.bidi_runs.proofs.CharEnds.{begins_at}
 use Rattle.bidi_rules.proofs.RunOf.{IsSet-later}
-use Rattle.bidi_rules.proofs.WalkLemmas.{forwards-in_order, part_after}
+use Rattle.bidi_runs.proofs.WalkLemmas.{forwards-in_order, part_after}
 use Rattle.bidi_rules.proofs.implicit.neutral.pairs.set_direction.Goals as goal
 
 pub marks_end-end-requires-clause-lines : goal.marks_end-end-requires-clause-lines

@@ -2,8 +2,8 @@ use Rattle.bidi_base.proofs.Common.{◌≡◌, ◌+◌, ◌-◌, ◌<◌, ◌≤
 use Rattle.bidi_base.specs.declared.char_data.BidiClass.{BidiClass}
 use Rattle.bidi_rules.specs.WeakPass.{left_over}
 use Rattle.bidi_rules.proofs.CountBelow.{length-units_in_runs-more}
-use Rattle.bidi_rules.proofs.InRuns.{run_some}
-use Rattle.bidi_rules.proofs.KeptRuns.{no_range}
+use Rattle.bidi_runs.proofs.InRuns.{run_some}
+use Rattle.bidi_runs.proofs.WalkLemmas.{no_range}
 use Rattle.bidi_rules.proofs.RunOf.{changed-more, run_end}
 use Rattle.bidi_rules.proofs.implicit.weak.left_over.change.Goals as goal
 

@@ -1,8 +1,8 @@
 use Rattle.bidi_base.proofs.Common.{◌≡◌, true, length, map, sym, ◌∙◌, arith, common_steps, get_or-map, length-map, take_all, is_kept_in_place, is_l_or_r, is_nsm, bounds, carried}
 use Rattle.bidi_base.specs.declared.char_data.BidiClass.{BidiClass}
 use Rattle.bidi_rules.proofs.CountBelow.{length-units_in_runs-more}
-use Rattle.bidi_rules.proofs.InRuns.{in_runs-at, run_some, start_or-at, start_or-past}
-use Rattle.bidi_rules.proofs.KeptRuns.{no_range}
+use Rattle.bidi_runs.proofs.InRuns.{in_runs-at, run_some, start_or-at, start_or-past}
+use Rattle.bidi_runs.proofs.WalkLemmas.{no_range}
 use Rattle.bidi_rules.proofs.RunOf.{run_end}
 use Rattle.bidi_rules.proofs.WeakMarks.{AreMarked-first_run, AreMarked-next_run, IsMarked-none, is_any-none}
 use Rattle.bidi_rules.proofs.implicit.weak.marks.resolve_marks.Goals as goal

@@ -1,7 +1,7 @@
 -- The units before the run are marked.
 use Rattle.bidi_base.proofs.Common.{◌+◌, ◌*◌, ◌≤◌, length, map, take, bounds, units_in_runs, carried}
 use Rattle.bidi_rules.specs.WeakWalk.{AreMarked}
-use Rattle.bidi_rules.proofs.InRuns.{start_or}
+use Rattle.bidi_runs.proofs.InRuns.{start_or}
 use Rattle.bidi_rules.proofs.implicit.weak.marks.resolve_marks.Given as goal
 
 abbrev pub invariant-loop-run : goal.invariant-loop-run

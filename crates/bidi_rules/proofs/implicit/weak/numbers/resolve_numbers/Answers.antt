@@ -3,7 +3,7 @@ use Rattle.bidi_base.specs.declared.char_data.BidiClass.TheVariants.{ON}
 use Rattle.bidi_rules.specs.WeakWalk.{count_below, len_at, settled_to, Pass, WaitsBelow}
 use Rattle.bidi_rules.specs.declared.implicit.weak.numbers.Walk.{Walk}
 use Rattle.bidi_rules.proofs.CountBelow.{count_below-all, count_below-monotone, count_below-within, count_settled-monotone, WaitsBelow-idle}
-use Rattle.bidi_rules.proofs.InRuns.{next_start, run_some, start_or, start_or-at, start_or-past}
+use Rattle.bidi_runs.proofs.InRuns.{next_start, run_some, start_or, start_or-at, start_or-past}
 use Rattle.bidi_rules.specs.WeakPass.{is_number}
 use Rattle.bidi_rules.proofs.WeakMarks.{is_any-none}
 use Rattle.bidi_rules.proofs.WeakText.{IsWhole-line, lines-within}

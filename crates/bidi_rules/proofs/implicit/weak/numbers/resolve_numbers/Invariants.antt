@@ -1,7 +1,7 @@
 -- The units before the run are read, with two turns at most for each, and two more for each that is settled.
 use Rattle.bidi_base.proofs.Common.{◌+◌, ◌*◌, ◌≤◌, length, map, bounds}
 use Rattle.bidi_rules.specs.WeakWalk.{count_below, len_at, settled_to, IsUnderWay, WaitsBelow}
-use Rattle.bidi_rules.proofs.InRuns.{start_or}
+use Rattle.bidi_runs.proofs.InRuns.{start_or}
 use Rattle.bidi_rules.proofs.implicit.weak.numbers.resolve_numbers.Given as goal
 
 abbrev pub invariant-loop-run : goal.invariant-loop-run

@@ -1,5 +1,5 @@
 use Rattle.bidi_base.proofs.Common.{arith}
-use Rattle.bidi_rules.proofs.WalkLemmas.{forwards-in_order, part_after}
+use Rattle.bidi_runs.proofs.WalkLemmas.{forwards-in_order, part_after}
 use Rattle.bidi_rules.proofs.implicit.neutral.directions.Join.settle.Goals as goal
 
 pub write_over_runs-requires-clause-ordered : goal.write_over_runs-requires-clause-ordered

@@ -3,7 +3,7 @@ use Rattle.bidi_base.specs.declared.char_data.BidiClass.{BidiClass}
 use Rattle.bidi_rules.specs.PairWalk.{IsAsked}
 use Rattle.bidi_rules.specs.declared.implicit.neutral.pairs.Pair.{Pair}
 use Rattle.bidi_rules.proofs.RunOf.{ends-later}
-use Rattle.bidi_rules.proofs.WalkLemmas.{are_ordered-take, forwards-in_order, map-take, part_after}
+use Rattle.bidi_runs.proofs.WalkLemmas.{are_ordered-take, forwards-in_order, map-take, part_after}
 use Rattle.bidi_rules.proofs.implicit.neutral.pairs.PairWalk.pair_direction.Goals as goal
 
 -- what is asked of the runs from one on is asked of all

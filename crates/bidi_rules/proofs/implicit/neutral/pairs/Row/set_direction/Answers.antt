@@ -1,6 +1,6 @@
 use Rattle.bidi_base.proofs.Common.{ℕ, List, map, sym, bounds}
 use Rattle.bidi_base.proofs.PerCharTests.{class_test}
-use Rattle.bidi_rules.proofs.CharEnds.{begins_at}
+use Rattle.bidi_runs.proofs.CharEnds.{begins_at}
 use Rattle.bidi_rules.proofs.RowLemmas.{IsRow-set, IsSet-held}
 use Rattle.bidi_rules.proofs.implicit.neutral.pairs.Row.set_direction.Goals as goal
 

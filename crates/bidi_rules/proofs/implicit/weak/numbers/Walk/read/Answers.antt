@@ -2,7 +2,7 @@ use Rattle.bidi_base.proofs.Common.{◌≡◌, ◌+◌, ◌-◌, ◌*◌, ◌<�
 use Rattle.bidi_base.specs.declared.char_data.BidiClass.{BidiClass}
 use Rattle.bidi_base.proofs.PerCharTests.{class_test}
 use Rattle.bidi_rules.specs.declared.implicit.weak.numbers.Walk.{Walk}
-use Rattle.bidi_rules.specs.ExplicitPass.{filled}
+use Rattle.bidi_runs.specs.ExplicitPass.{filled}
 use Rattle.bidi_rules.specs.WeakPass.{strengthened, waits, left_over}
 use Rattle.bidi_rules.specs.WeakWalk.{count_below, is_seen, seen, settled_to, IsWrittenOver, Pass, IsUnderWay}
 use Rattle.bidi_rules.proofs.CountBelow.{count_below-monotone}

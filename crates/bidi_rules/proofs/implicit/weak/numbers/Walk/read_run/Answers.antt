@@ -3,7 +3,7 @@ use Rattle.bidi_rules.specs.declared.implicit.weak.numbers.Walk.{Walk}
 use Rattle.bidi_rules.specs.WeakPass.{is_other}
 use Rattle.bidi_rules.specs.WeakWalk.{count_below, settled_to}
 use Rattle.bidi_rules.proofs.CountBelow.{count_below-monotone, count_settled-monotone, settled_to-idle, WaitsBelow-later}
-use Rattle.bidi_rules.proofs.InRuns.{run_some}
+use Rattle.bidi_runs.proofs.InRuns.{run_some}
 use Rattle.bidi_rules.proofs.WeakWalkLemmas.{other-free, IsUnderWay-unseen}
 use Rattle.bidi_rules.proofs.implicit.weak.numbers.Walk.read_run.Goals as goal
 

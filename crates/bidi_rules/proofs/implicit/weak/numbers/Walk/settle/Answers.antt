@@ -4,7 +4,7 @@ use Rattle.bidi_rules.specs.declared.implicit.weak.numbers.Walk.{Walk}
 use Rattle.bidi_rules.specs.WeakPass.{waits}
 use Rattle.bidi_rules.specs.WeakWalk.{count_below, settled_to, WaitsBelow}
 use Rattle.bidi_rules.proofs.CountBelow.{paid-by-part, settled_to-waits}
-use Rattle.bidi_rules.proofs.WalkLemmas.{forwards-in_order, part_after}
+use Rattle.bidi_runs.proofs.WalkLemmas.{forwards-in_order, part_after}
 use Rattle.bidi_rules.proofs.implicit.weak.numbers.Walk.settle.Goals as goal
 
 pub write_over_runs_counted-requires-clause-ordered : goal.write_over_runs_counted-requires-clause-ordered

@@ -1,7 +1,0 @@
-use Rattle.bidi_base.proofs.Common.{arith}
-use Rattle.bidi.specs.Findings.{findings_of}
-use Rattle.bidi.proofs.check.findings_in.Goals as goal
-
-pub loop-rest-init : goal.loop-rest-init
-unfolding findings_of
-loop-rest-init g c = grind arith

@@ -1,6 +1,0 @@
-use Rattle.bidi_base.proofs.Common.{append_assoc}
-use Rattle.bidi.proofs.table.push_ends.Goals as goal
-
-pub returns : goal.returns
-returns c =
-    simp (c.in_ok-push_str-5.ensures.bytes, c.in_ok-push_str-4.ensures.bytes, c.class_name-2.ensures, c.in_ok-push_str-3.ensures.bytes, c.in_ok-push_str-2.ensures.bytes, c.class_name.ensures, c.in_ok-push_str.ensures.bytes, append_assoc)

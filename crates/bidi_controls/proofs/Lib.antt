@@ -1,0 +1,6 @@
+pub mod ClosedOpeners
+pub mod FindingsLemmas
+pub mod IndexLemmas
+pub mod LinesLemmas
+pub mod OpenersLemmas
+pub mod UnmatchedPass

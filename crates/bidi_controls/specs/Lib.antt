@@ -1,0 +1,5 @@
+pub mod Controls
+pub mod Findings
+pub mod Lines
+pub mod Matches
+pub mod OpenOpeners

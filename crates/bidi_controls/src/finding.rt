@@ -1,0 +1,84 @@
+//! What `check` finds.
+use crate::control::Control;
+use bidi_base::char_data::BidiClass;
+use bidi_base::classes::{is_embedding, is_initiator};
+
+/// What is the matter with a control.
+#[derive(Clone, Copy, Debug)]
+pub enum Trouble {
+    /// Nothing on its line closes what it opens.
+    NotClosed,
+    /// There is nothing on its line that it closes.
+    ClosesNothing,
+    /// It is there, as every control and mark is that is asked for.
+    Present,
+}
+
+impl Trouble {
+    ghost use Rattle.std.specs.Prelude.{◌≡◌};
+    ghost use Rattle.bidi_controls.specs.Findings.{trouble_of, trouble_text};
+
+    /// What is the matter with a control of this class.
+    pub fn of(unmatched: bool, class: BidiClass) -> Trouble
+        ensures { result ≡ trouble_of unmatched class }
+    {
+        if !unmatched {
+            Trouble::Present
+        } else if is_initiator(class) || is_embedding(class) {
+            Trouble::NotClosed
+        } else {
+            Trouble::ClosesNothing
+        }
+    }
+
+    /// The same in words, behind the name of the control.
+    pub fn text(self) -> &'static str
+        ensures { result.now ≡ trouble_text self }
+    {
+        match self {
+            Trouble::NotClosed => "is not closed on its line",
+            Trouble::ClosesNothing => "closes nothing on its line",
+            Trouble::Present => "is present",
+        }
+    }
+}
+
+/// A control, where it stands, and what is the matter with it.
+#[derive(Clone, Copy, Debug)]
+pub struct Finding {
+    /// The number of its line, counted from 1.
+    pub line: usize,
+    /// Its place in the line, in characters, counted from 1.
+    pub column: usize,
+    pub control: Control,
+    pub trouble: Trouble,
+}
+
+impl Finding {
+    ghost use Rattle.std.specs.Prelude.{◌≡◌, ◌+◌, ◌<◌, ◌^◌};
+    ghost use Rattle.bidi_controls.specs.Findings.{finding_of};
+
+    /// What is found at a place of a line, counted from 0, if something is: a control without its
+    /// match on that line, or with `any` every control and mark.
+    pub fn of(
+        any: bool,
+        line: usize,
+        place: usize,
+        unmatched: bool,
+        class: BidiClass,
+        c: char,
+    ) -> Option<Finding>
+        requires { place + 1 < 2 ^ 64 }
+        ensures { result ≡ finding_of any line place unmatched class c }
+    {
+        if !any && !unmatched {
+            return None;
+        }
+        Some(Finding {
+            line,
+            column: place + 1,
+            control: Control::of(class, c)?,
+            trouble: Trouble::of(unmatched, class),
+        })
+    }
+}

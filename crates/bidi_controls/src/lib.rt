@@ -1,0 +1,11 @@
+//! Direction controls that have no match on their line: they can make a text, also a program, read
+//! otherwise than it is.
+#![tactic(auto)]
+
+pub mod check;
+pub mod control;
+pub mod finding;
+pub mod lines;
+mod openers;
+pub mod report;
+mod unmatched;

@@ -1,0 +1,61 @@
+//! Where the lines of a text end.
+ghost use Rattle.std.specs.Prelude.{◌≡◌, ◌<◌, ◌≤◌, ◌∷◌, length, take, drop};
+ghost use Rattle.bidi_base.specs.Classes.{is_paragraph_separator};
+ghost use Rattle.bidi_base.specs.Paragraphs.{begins_with_line_feed, cr_lf_together};
+ghost use Rattle.bidi_controls.specs.Lines.{lines_of};
+ghost use Rattle.bidi_controls.specs.Lines.{own_chars as own_chars_of};
+
+use bidi_base::char_data::BidiClass;
+use bidi_base::data_source::BidiDataSource;
+
+/// Whether a character separates paragraphs.
+fn is_separator<D: BidiDataSource>(data_source: &D, c: char) -> bool
+    ensures { result ≡ is_paragraph_separator ((D.source data_source.now).class_of c) }
+{
+    matches!(data_source.bidi_class(c), BidiClass::B)
+}
+
+/// Whether a text begins with a line feed that separates paragraphs.
+fn begins_with_line_feed<D: BidiDataSource>(data_source: &D, chars: &[char]) -> bool
+    ensures { result ≡ begins_with_line_feed (D.source data_source.now) chars.now }
+{
+    match chars {
+        [first, ..] => *first == '\n' && is_separator(data_source, *first),
+        [] => false,
+    }
+}
+
+/// Whether a line ends after a character, with these behind it.
+fn ends_line<D: BidiDataSource>(data_source: &D, c: char, after: &[char]) -> bool
+    ensures { result ≡ cr_lf_together (D.source data_source.now) c after.now }
+{
+    is_separator(data_source, c) && !(c == '\r' && begins_with_line_feed(data_source, after))
+}
+
+/// How long the first line of a text is, with the separator that ends it.
+pub fn first_line_len<D: BidiDataSource>(data_source: &D, chars: &[char]) -> usize
+    requires { 0 < length chars.now }
+    ensures some { 0 < result }
+    ensures within { result ≤ length chars.now }
+    ensures first { lines_of (D.source data_source.now) chars.now
+        ≡ take result chars.now ∷ lines_of (D.source data_source.now) (drop result chars.now) }
+{
+    for (at, c) in chars.iter().enumerate() {
+        if ends_line(data_source, *c, &chars[at + 1..]) {
+            return at + 1;
+        }
+    }
+    chars.len()
+}
+
+/// The characters of a line before what ends it.
+pub fn own_chars<'t, D: BidiDataSource>(data_source: &D, line: &'t [char]) -> &'t [char]
+    ensures { result.now ≡ own_chars_of (D.source data_source.now) line.now }
+{
+    for (at, c) in line.iter().enumerate() {
+        if is_separator(data_source, *c) {
+            return &line[..at];
+        }
+    }
+    line
+}

@@ -1,0 +1,246 @@
+-- The passes over the units of a paragraph, put together: what they leave once some sequences are resolved, and once all are.
+use Rattle.bidi_base.proofs.Common.{◌≡◌, ℕ, zero, suc, ◌+◌, ◌<◌, ◌≤◌, true, false, List, [], ◌∷◌, ◌++◌, length, get_or, take, map, Option, refl, sym, ap, ◌∙◌, arith, filter, list_all, take_more, take_all, length-map, get_or-map, get_or_default, length-replicate, nil_from_length, get_or-zip, length-zip, is_weak_resolved, class_at, at_places, first_or, stored_classes, explicit_levels, explicit_classes, processing_classes, RunSequence, level_at, has_places, sequences, weak_classes, direction_of, n2_rule, neutral_classes, implicit_level, AreResolved, text_len, place, is_per_char, per_unit, per_char, AreLines, in_runs, kept_in_runs, kept_in_place}
+use Rattle.std.specs.Prelude.{zip, replicate}
+use Rattle.std.specs.List.{All}
+use Rattle.bidi_base.specs.declared.char_data.BidiClass.{BidiClass}
+use Rattle.bidi_base.specs.declared.char_data.BidiClass.TheVariants.{L, BN}
+use Rattle.bidi_base.specs.declared.data_source.BidiMatchedOpeningBracket.{BidiMatchedOpeningBracket}
+use Rattle.bidi_base.proofs.ExplicitLemmas.{length-explicit_levels}
+use Rattle.bidi_base.proofs.LevelLaws.{All-per_unit}
+use Rattle.bidi_base.proofs.PerCharTests.{class_eq, class_test, level_eq, level_test}
+use Rattle.bidi_base.proofs.PerUnit.{length-per_char, length-per_unit, map-per_unit, per_char-per_unit}
+use Rattle.bidi_base.proofs.StoredSteps.{length-stored_classes}
+use Rattle.bidi_base.proofs.TextLemmas.{HasUnits}
+use Rattle.bidi_base.proofs.UnitsLemmas.{per_unit-from_is_per_char, is_per_char-per_unit}
+use Rattle.bidi_base.proofs.NeutralSource.{neutral_classes-source, marks-stored_classes}
+use Rattle.bidi_base.proofs.StoredLemmas.{explicit_levels-IsExplicitIn}
+use Rattle.bidi_runs.specs.Joining.{JoinedRuns, characters_of}
+use Rattle.bidi_runs.specs.RunSequence.{run_bounds, sequence_in, sequences_in}
+use Rattle.bidi_runs.specs.declared.prepare.sequence.IsolatingRunSequence.{IsolatingRunSequence}
+use Rattle.bidi_paragraphs.proofs.SequencesInPlace.{IsUnderWay, IsNext, IsWeakNext, IsWeakNext-from, weak_next-resolved, IsUnderWay-more, IsUnderWay-start, IsNext-at, AreResolved-all}
+use Rattle.bidi_paragraphs.proofs.SequenceUnits.{at_places-map, at_places-place, level_at-first, kept_in_place-kept, kept_in_runs-within, stays_elsewhere}
+
+-- two values for each unit
+zip-append : {X Y : Type 0} (vs ws : List X) (xs ys : List Y) → length vs ≡ length xs → zip (vs ++ ws) (xs ++ ys) ≡ zip vs xs ++ zip ws ys
+zip-append [] ws xs ys long = grind (arith, nil_from_length)
+zip-append (v ∷ vs) ws [] ys long = absurd (omega arith)
+zip-append (v ∷ vs) ws (x ∷ xs) ys long = grind (arith, zip-append vs ws xs ys)
+
+zip-replicate : {X Y : Type 0} (n : ℕ) (x : X) (y : Y) → zip (replicate n x) (replicate n y) ≡ replicate n (x, y)
+zip-replicate zero x y = refl
+zip-replicate (suc n) x y = ap (λ es. (x, y) ∷ es) (zip-replicate n x y)
+
+zip-per_unit : {X Y : Type 0} (len_of : ℕ → ℕ) (chars : List ℕ) (xs : List X) (ys : List Y) → zip (per_unit len_of chars xs) (per_unit len_of chars ys) ≡ per_unit len_of chars (zip xs ys)
+zip-per_unit len_of [] xs ys = refl
+zip-per_unit len_of (c ∷ chars) [] ys = refl
+zip-per_unit len_of (c ∷ chars) (x ∷ xs) [] = nil_from_length _ (grind (arith, length-zip))
+zip-per_unit len_of (c ∷ chars) (x ∷ xs) (y ∷ ys) =
+    simp (zip-append, length-replicate, zip-replicate, zip-per_unit len_of chars xs ys)
+
+module _ (len_of : ℕ → ℕ) (h : HasUnits len_of) (chars : List ℕ) (source : List BidiClass) (bracket_of : ℕ → Option BidiMatchedOpeningBracket) (paragraph : ℕ) where
+  abbrev stored : List BidiClass
+  stored = stored_classes source
+
+  abbrev brackets : List (Option BidiMatchedOpeningBracket)
+  brackets = map bracket_of chars
+
+  abbrev levels : List ℕ
+  levels = explicit_levels paragraph stored
+
+  abbrev classes : List BidiClass
+  classes = explicit_classes paragraph stored
+
+  -- the characters of runs that were joined, and of a sequence
+  abbrev members : JoinedRuns → RunSequence
+  members s = characters_of len_of chars stored s
+
+  abbrev characters : IsolatingRunSequence → RunSequence
+  characters s = sequence_in len_of chars stored s
+
+  -- the units have the classes of characters of which these sequences are resolved
+  pub record AreResolvedTo (seqs : List RunSequence) (units : List BidiClass) : Type 0 where
+    pub values : List BidiClass
+    pub is : units ≡ per_unit len_of chars values
+    pub under_way : IsUnderWay source brackets stored levels classes seqs values
+
+  -- and the weak types of one more
+  pub record AreWeakTo (seqs : List RunSequence) (s : JoinedRuns) (units : List BidiClass) : Type 0 where
+    pub values : List BidiClass
+    pub is : units ≡ per_unit len_of chars values
+    pub next : IsWeakNext source brackets stored levels classes seqs (members s) values
+
+  stored_read : (original : List BidiClass) → length source ≡ length chars → original ≡ per_unit len_of chars stored → per_char L len_of chars original ≡ stored
+  stored_read original fits is = simp (is, per_char-per_unit len_of h L chars stored (length-stored_classes source ∙ fits))
+
+  pub AreResolvedTo-start : (original units : List BidiClass) → length source ≡ length chars → original ≡ per_unit len_of chars stored → units ≡ per_unit len_of chars (processing_classes paragraph (per_char L len_of chars original)) → AreResolvedTo [] units
+  AreResolvedTo-start original units fits original_is is =
+      let read = simp (stored_read original fits original_is) at is in
+      record { values = processing_classes paragraph stored; is = read; under_way = IsUnderWay-start paragraph source brackets stored levels }
+
+  -- they have one entry a unit, equal within each character
+  pub AreResolvedTo-per_char : (seqs : List RunSequence) (units : List BidiClass) → length source ≡ length chars → AreResolvedTo seqs units → is_per_char class_eq len_of chars units ≡ true
+  AreResolvedTo-per_char seqs units fits now = grind (arith, is_per_char-per_unit, class_test, length-stored_classes)
+
+  pub AreResolvedTo-long : (seqs : List RunSequence) (units : List BidiClass) → length source ≡ length chars → AreResolvedTo seqs units → length units ≡ text_len len_of chars
+  AreResolvedTo-long seqs units fits now = grind (arith, length-per_unit, length-stored_classes)
+
+  module _ (fits : length source ≡ length chars) (seqs : List RunSequence) (s : JoinedRuns) (lines : AreLines len_of chars (s.runs)) (next : IsNext source brackets stored levels classes seqs (members s)) where
+    abbrev runs : List (ℕ × ℕ)
+    runs = s.runs
+
+    abbrev ps : List ℕ
+    ps = kept_in_runs len_of chars stored runs
+
+    within : (p : ℕ) → p < length chars → p < length stored
+    within p there = omega (arith, there, fits, length-stored_classes source)
+
+    as_long : (values : List BidiClass) → length values ≡ length stored → length values ≡ length chars
+    as_long values long = long ∙ length-stored_classes source ∙ fits
+
+    -- W1 to W7
+    pub AreWeakTo-from : (old new : List BidiClass) → AreResolvedTo seqs old
+        → at_places L new (map (place len_of chars) (kept_in_place len_of chars old runs)) ≡ weak_classes s.sos (at_places L old (map (place len_of chars) (kept_in_place len_of chars old runs)))
+        → ((u : ℕ) → class_at old u ≡ BN → class_at new u ≡ BN) → ((u : ℕ) → in_runs runs u ≡ false → class_at new u ≡ class_at old u) → is_per_char class_eq len_of chars new ≡ true
+        → AreWeakTo seqs s new
+    AreWeakTo-from old new now kept removed outside per =
+        let values = per_char L len_of chars new in
+        let is = per_unit-from_is_per_char class_eq class_test L len_of h chars new per in
+        let old_long = as_long now.values now.under_way.long in
+        let new_long = length-per_char L len_of chars new in
+        let stays = stays_elsewhere len_of h chars stored now.values values old new runs lines old_long new_long now.is is (λ p there. now.under_way.read p (within p there)) removed outside in
+        let next = IsWeakNext-from source brackets stored levels classes seqs (members s) next now.values values now.under_way (new_long ∙ sym old_long) stays
+        (grind (
+          arith,
+          kept_in_place-kept len_of h chars stored now.values old runs,
+          kept_in_runs-within len_of h chars stored runs,
+          at_places-place len_of h chars L values new ps,
+          at_places-place len_of h chars L now.values old ps,
+          within,
+        )) in
+        record { values = values; is = is; next = next }
+
+    -- so N0 to N2 can go on
+    pub AreWeakTo-resolved : (units : List BidiClass) → AreWeakTo seqs s units → list_all is_weak_resolved (at_places L units (map (place len_of chars) (kept_in_place len_of chars units runs))) ≡ true
+    AreWeakTo-resolved units now =
+        let resolved = weak_next-resolved source brackets stored levels classes seqs (members s) next now.values now.next in
+        grind (
+          arith,
+          kept_in_place-kept len_of h chars stored now.values units runs,
+          at_places-place len_of h chars L now.values units ps,
+          kept_in_runs-within len_of h chars stored runs,
+          within,
+          as_long,
+          resolved,
+        )
+
+    -- N0 to N2
+    pub AreResolvedTo-more : (old new original : List BidiClass) (unit_levels : List ℕ) → original ≡ per_unit len_of chars stored → unit_levels ≡ per_unit len_of chars levels → AreWeakTo seqs s old
+        → map (n2_rule (direction_of (level_at unit_levels (first_or 0 (map (place len_of chars) (kept_in_place len_of chars old runs)))))) (at_places L new (map (place len_of chars) (kept_in_place len_of chars old runs)))
+        ≡ neutral_classes (level_at unit_levels (first_or 0 (map (place len_of chars) (kept_in_place len_of chars old runs)))) s.sos s.eos
+        (at_places L original (map (place len_of chars) (kept_in_place len_of chars old runs))) (map bracket_of (at_places 0 chars (kept_in_place len_of chars old runs))) (at_places L old (map (place len_of chars) (kept_in_place len_of chars old runs)))
+        → ((u : ℕ) → class_at old u ≡ BN → class_at new u ≡ BN) → ((u : ℕ) → in_runs runs u ≡ false → class_at new u ≡ class_at old u) → is_per_char class_eq len_of chars new ≡ true
+        → AreResolvedTo (seqs ++ members s ∷ []) new
+    AreResolvedTo-more old new original unit_levels original_is levels_is now kept removed outside per =
+        let values = per_char L len_of chars new in
+        let is = per_unit-from_is_per_char class_eq class_test L len_of h chars new per in
+        let old_long = as_long now.values now.next.long in
+        let new_long = length-per_char L len_of chars new in
+        let own = λ (values : List BidiClass) (units : List BidiClass). at_places-place len_of h chars L values units ps in
+        let stays = stays_elsewhere len_of h chars stored now.values values old new runs lines old_long new_long now.is is (λ p there. now.next.read p (within p there)) removed outside in
+        let under_way = IsUnderWay-more source brackets stored levels classes seqs (members s) next now.values values now.next (new_long ∙ sym old_long) stays
+        (grind (
+          arith,
+          kept_in_place-kept len_of h chars stored now.values old runs,
+          kept_in_runs-within len_of h chars stored runs,
+          level_at-first len_of h chars levels unit_levels ps,
+          length-explicit_levels,
+          as_long stored refl,
+          own values new,
+          own now.values old,
+          own stored original,
+          at_places-map,
+          neutral_classes-source,
+          marks-stored_classes,
+          within,
+        )) in
+        record { values = values; is = is; under_way = under_way }
+
+  -- ---- I1 and I2 once all are resolved
+
+  pub record AreLevels (new : List ℕ) : Type 0 where
+    pub even : is_per_char level_eq len_of chars new ≡ true
+    pub resolved : AreResolved source brackets levels classes (per_char 0 len_of chars new) (sequences paragraph stored levels)
+
+  pub AreLevels-all : (seqs : List RunSequence) (units : List BidiClass) (unit_levels new : List ℕ) → length source ≡ length chars → unit_levels ≡ per_unit len_of chars levels
+      → filter has_places seqs ≡ sequences paragraph stored levels → AreResolvedTo seqs units → new ≡ map (λ (e : ℕ × BidiClass). implicit_level e.0 e.1) (zip unit_levels units) → AreLevels new
+  AreLevels-all seqs units unit_levels new fits levels_is sequences_are now is =
+      let of_chars : List ℕ = map (λ (e : ℕ × BidiClass). implicit_level e.0 e.1) (zip levels now.values) in
+      let long : length of_chars ≡ length chars = grind (
+        arith,
+        length-map,
+        length-zip,
+        now.under_way.long,
+        length-explicit_levels,
+        length-stored_classes,
+      ) in
+      let whole : new ≡ per_unit len_of chars of_chars = simp (is, now.is, levels_is, zip-per_unit, map-per_unit) in
+      let resolved = AreResolved-all paragraph stored seqs sequences_are source brackets now.values of_chars now.under_way
+      (λ p within. grind (
+        arith,
+        get_or-map,
+        get_or-zip levels now.values p (0, L),
+        length-zip levels now.values,
+        length-stored_classes,
+        length-explicit_levels,
+        now.under_way.long,
+      )) in
+      grind (
+        arith,
+        whole,
+        long,
+        is_per_char-per_unit level_eq level_test len_of chars of_chars,
+        per_char-per_unit len_of h 0 chars of_chars,
+        resolved,
+      )
+
+  -- ---- what X1 to X10 leave
+
+  pub record ArePrepared (original : List BidiClass) (unit_levels : List ℕ) (out : List IsolatingRunSequence) : Type 0 where
+    pub fits : length source ≡ length chars
+    pub original_is : original ≡ per_unit len_of chars stored
+    pub levels_is : unit_levels ≡ per_unit len_of chars levels
+    pub sequences_are : sequences_in len_of chars stored out ≡ sequences paragraph stored levels
+    pub lines : All (λ (s : IsolatingRunSequence). AreLines len_of chars (run_bounds s)) out
+
+  pub prepared : (original : List BidiClass) (unit_levels : List ℕ) (out : List IsolatingRunSequence) → length source ≡ length chars → original ≡ per_unit len_of chars stored
+      → unit_levels ≡ per_unit len_of chars (explicit_levels paragraph (per_char L len_of chars original))
+      → sequences_in len_of chars (per_char L len_of chars original) out ≡ sequences paragraph (per_char L len_of chars original) (explicit_levels paragraph (per_char L len_of chars original))
+      → All (λ (s : IsolatingRunSequence). AreLines len_of chars (run_bounds s)) out → ArePrepared original unit_levels out
+  prepared original unit_levels out fits is levels_is sequences_are lines = grind (arith, stored_read original)
+
+  -- of these sequences the first k
+  abbrev pub sequences_before : List IsolatingRunSequence → ℕ → List RunSequence
+  sequences_before out k = take k (map characters out)
+
+  module _ (original : List BidiClass) (unit_levels : List ℕ) (out : List IsolatingRunSequence) (ready : ArePrepared original unit_levels out) where
+    pub prepared-next : (k : ℕ) (s : IsolatingRunSequence) → k < length out → s ≡ get_or out k s → IsNext source brackets stored levels classes (sequences_before out k) (characters s)
+    prepared-next k s within is =
+        grind (arith, get_or-map, length-map, IsNext-at paragraph stored (map characters out) ready.sequences_are source brackets k (characters s))
+
+    pub prepared-lines : (k : ℕ) (s : IsolatingRunSequence) → k < length out → s ≡ get_or out k s → AreLines len_of chars (run_bounds s)
+    prepared-lines k s within is = simp (← is) at (ready.lines k s within)
+
+    pub prepared-more : (k : ℕ) (s : IsolatingRunSequence) → k < length out → s ≡ get_or out k s → sequences_before out (k + 1) ≡ sequences_before out k ++ characters s ∷ []
+    prepared-more k s within is = grind (arith, take_more (map characters out) k (characters s), length-map, get_or-map)
+
+    pub prepared-long : length unit_levels ≡ text_len len_of chars
+    prepared-long = simp (ready.levels_is, length-per_unit len_of chars levels (length-explicit_levels paragraph stored ∙ length-stored_classes source ∙ ready.fits))
+
+    pub prepared-low : paragraph ≤ 125 → All (λ (n : ℕ). n ≤ 125) unit_levels
+    prepared-low fits =
+        rw ready.levels_is (All-per_unit (λ (n : ℕ). n ≤ 125) len_of chars levels
+        (λ k d within. grind (arith, get_or_default levels k 0 d, explicit_levels-IsExplicitIn paragraph stored k, length-explicit_levels)))
+
+    pub AreLevels-from : (k : ℕ) (units : List BidiClass) (new : List ℕ) → length out ≤ k → AreResolvedTo (sequences_before out k) units → new ≡ map (λ (e : ℕ × BidiClass). implicit_level e.0 e.1) (zip unit_levels units) → AreLevels new
+    AreLevels-from k units new past now is =
+        grind (arith, take_all, length-map, AreLevels-all (map characters out) units unit_levels new)

@@ -1,0 +1,29 @@
+use Rattle.bidi_base.proofs.Common.{◌+◌, ℕ, List, length, not, ap, arith, is_removed, IsFirst}
+use Rattle.bidi_base.specs.declared.char_data.BidiClass.{BidiClass}
+use Rattle.bidi_paragraphs.proofs.FilledUnits.{AreFilled, AreFilled-removed}
+use Rattle.bidi_paragraphs.proofs.paragraph_levels.fill_removed.Goals as goal
+
+-- up to the next one that is removed
+up_to : (para : ℕ) (classes : List BidiClass) (old now : List ℕ) (i next : ℕ) → IsFirst is_removed classes i (length classes) next → AreFilled para classes old i now → AreFilled para classes old next now
+up_to para classes old now i next f h = grind arith
+
+pub loop-at-init : goal.loop-at-init
+loop-at-init c = grind arith
+
+pub loop-at-preserved : goal.loop-at-preserved
+loop-at-preserved c =
+    let inv = c.loop-at.invariant in
+    let f = c.first_passing-at-in-loop-at.ensures in
+    record {
+      filled = up_to _ _ _ _ (c.loop-at.at + 1) _ f
+          (AreFilled-removed _ _ _ _ _ inv.filled c.level_before.result (omega (arith, c.loop-at-test.true, c.requires, c.loop-at.auto.levels)) c.level_before.ensures.front c.level_before.ensures.inside (ap not (inv.here c.loop-at-test.true)));
+      ends = f.ends;
+      here = f.at;
+    }
+
+pub returns : goal.returns
+returns c = record {
+  kept = grind arith;
+  front = λ some k. c.loop-at.invariant.filled.front (omega (arith, c.loop-at-test.false)) k;
+  removed = grind arith;
+}

@@ -1,0 +1,5 @@
+pub mod ClassSet
+pub mod FirstWalk
+pub mod ParagraphFlags
+pub mod ParagraphInfo
+pub mod SplitRule

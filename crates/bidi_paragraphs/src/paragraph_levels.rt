@@ -1,0 +1,304 @@
+// The levels of one paragraph after another (X1 to I2), by passes in place over its units, and those
+// of the characters that X9 removes.
+ghost use Rattle.std.specs.Prelude.{◌≡◌, ℕ, ◌+◌, ◌<◌, ◌≤◌, true, false, length, map, slice_index, All, IsTrue, OnOk};
+ghost use Rattle.bidi_base.specs.declared.char_data.BidiClass.TheVariants.{L};
+ghost use Rattle.bidi_base.specs.Explicit.{explicit_levels, explicit_classes, processing_classes};
+ghost use Rattle.bidi_base.specs.Flat.{is_flat, hidden};
+ghost use Rattle.bidi_base.specs.Isolates.{stored_classes};
+ghost use Rattle.bidi_base.specs.Sequences.{is_kept_at, sequences};
+ghost use Rattle.bidi_base.specs.Stored.{AreResolved, levels_in};
+ghost use Rattle.bidi_base.specs.Text.{text_len, is_per_char, per_unit, per_char};
+ghost use Rattle.bidi_base.specs.Units.{AreLines};
+ghost use Rattle.bidi_runs.specs.RunSequence.{run_bounds, sequences_in};
+ghost use Rattle.bidi_paragraphs.specs.ParagraphFlags.{flags_of};
+
+use crate::paragraph_flags::ParagraphFlags;
+use bidi_base::char_data::BidiClass;
+use bidi_base::classes::is_removed;
+use bidi_base::data_source::BidiDataSource;
+use bidi_base::level::Level;
+use bidi_base::search::{ClassTest, first_passing};
+use bidi_base::text::TextSource;
+use bidi_rules::explicit;
+use bidi_rules::implicit::{NeutralResolver, resolve_levels, resolve_weak, resolve_weak_lent};
+use bidi_rules::prepare::{IsolatingRunSequenceVec, LentSequence, LevelRunVec, join_level_runs};
+use std::alloc::{AllocError, Global};
+
+/// A paragraph whose stored classes are known, and whose levels are sought.
+#[derive(Drop)]
+pub struct ClassifiedParagraph<'a, D: BidiDataSource, T: TextSource> {
+    pub data_source: &'a D,
+    /// Its own text.
+    pub text: T,
+    pub level: Level,
+    pub flags: ParagraphFlags,
+    /// Its stored classes, one a unit.
+    pub original_classes: &'a [BidiClass],
+    ghost low: { level ≤ 125 },
+    ghost own_flags: { flags ≡ flags_of (map (D.source data_source.now).class_of (T.characters text)) },
+    ghost stored: { original_classes.now ≡ per_unit T.units (T.characters text) (stored_classes (map (D.source data_source.now).class_of (T.characters text))) },
+}
+
+/// Finds the levels of one paragraph after another, and keeps the memory of these lists from each to
+/// the next.
+#[derive(Drop)]
+pub struct LevelResolver {
+    /// The class of each unit, as far as the passes have resolved it.
+    classes: Vec<BidiClass>,
+    /// The level runs.
+    runs: LevelRunVec,
+    /// The isolating run sequences. The runs of each that has several take memory anew.
+    sequences: IsolatingRunSequenceVec,
+    neutrals: NeutralResolver,
+}
+
+impl LevelResolver {
+    /// A resolver that holds no memory yet.
+    pub fn new(alloc: Global) -> LevelResolver {
+        LevelResolver {
+            classes: Vec::new(alloc),
+            runs: Vec::new(alloc),
+            sequences: Vec::new(alloc),
+            neutrals: NeutralResolver::new(alloc),
+        }
+    }
+
+    /// Finds the explicit levels, and the sequences (X1 to X10).
+    fn prepare<D: BidiDataSource, T: TextSource>(
+        &mut self,
+        alloc: Global,
+        paragraph: &ClassifiedParagraph<D, T>,
+        levels: &mut [Level],
+    ) -> Result<(), AllocError>
+        requires { length levels.old ≡ length paragraph.now.original_classes.now }
+        ensures levels { let stored = per_char L T.units (T.characters paragraph.now.text) paragraph.now.original_classes.now in
+            OnOk result (levels.new ≡ per_unit T.units (T.characters paragraph.now.text) (explicit_levels paragraph.now.level stored)) }
+        ensures classes { let stored = per_char L T.units (T.characters paragraph.now.text) paragraph.now.original_classes.now in
+            OnOk result (self.new.classes.items ≡ per_unit T.units (T.characters paragraph.now.text) (processing_classes paragraph.now.level stored)) }
+        ensures sequences { let stored = per_char L T.units (T.characters paragraph.now.text) paragraph.now.original_classes.now in
+            OnOk result (sequences_in T.units (T.characters paragraph.now.text) stored self.new.sequences.items ≡ sequences paragraph.now.level stored (explicit_levels paragraph.now.level stored)) }
+        ensures fits { OnOk result (All (λ s. AreLines T.units (T.characters paragraph.now.text) (run_bounds s)) self.new.sequences.items) }
+    {
+        let original_classes = paragraph.original_classes;
+        self.classes.clear();
+        self.classes.extend_from_slice(original_classes)?;
+        self.runs.clear();
+        self.sequences.clear();
+        explicit::compute(
+            alloc,
+            paragraph.text,
+            paragraph.level,
+            original_classes,
+            levels,
+            self.classes.as_mut_slice(),
+            &mut self.runs,
+        )?;
+        join_level_runs(
+            alloc,
+            paragraph.text,
+            paragraph.level,
+            original_classes,
+            levels,
+            self.runs.as_slice(),
+            paragraph.flags.has_isolates(),
+            &mut self.sequences,
+        )
+    }
+
+    /// Takes the classes of a paragraph in which nothing opens a level, with BN for what X9 removes.
+    fn copy_flat<D: BidiDataSource, T: TextSource>(
+        &mut self,
+        paragraph: &ClassifiedParagraph<D, T>,
+    ) -> Result<(), AllocError>
+        ensures { OnOk result (self.new.classes.items ≡ map hidden paragraph.now.original_classes.now) }
+    {
+        self.classes.clear();
+        self.classes.extend_from_slice(paragraph.original_classes)?;
+        if paragraph.flags.has_removed() {
+            hide_removed(self.classes.as_mut_slice());
+        }
+        Ok(())
+    }
+
+    /// Finds the levels of all characters that X9 keeps, in a paragraph that is not empty and in which
+    /// nothing opens a level. It is one level run, and one sequence. N2 is left out, as its levels are the
+    /// same with and without it.
+    fn resolve_flat<D: BidiDataSource, T: TextSource>(
+        &mut self,
+        paragraph: &ClassifiedParagraph<D, T>,
+        levels: &mut [Level],
+    ) -> Result<(), AllocError>
+        requires long { length levels.old ≡ text_len T.units (T.characters paragraph.now.text) }
+        requires some { 0 < length levels.old }
+        requires flat { is_flat (map (D.source paragraph.now.data_source.now).class_of (T.characters paragraph.now.text)) ≡ true }
+        ensures per_char { OnOk result (IsTrue (is_per_char ⟦<Level as PartialEq>⟧.eq T.units (T.characters paragraph.now.text) levels.new)) }
+        ensures resolved { let source = D.source paragraph.now.data_source.now in
+            let classes = map source.class_of (T.characters paragraph.now.text) in
+            let stored = stored_classes classes in
+            let level = paragraph.now.level in
+            OnOk result (AreResolved classes (map source.bracket_of (T.characters paragraph.now.text)) (explicit_levels level stored) (explicit_classes level stored)
+            (per_char 0 T.units (T.characters paragraph.now.text) levels.new) (sequences level stored (explicit_levels level stored))) }
+    {
+        levels.fill(paragraph.level);
+        self.copy_flat(paragraph)?;
+        let classes = self.classes.as_mut_slice();
+        let runs = [0..classes.len()];
+        let side = paragraph.level.bidi_class();
+        let sequence = LentSequence::new(&runs, side, side);
+        resolve_weak_lent(paragraph.text, sequence, classes);
+        self.neutrals.resolve_up_to_n1(
+            paragraph.text,
+            paragraph.data_source,
+            sequence,
+            levels,
+            paragraph.original_classes,
+            classes,
+        )?;
+        resolve_levels(classes, levels);
+        Ok(())
+    }
+
+    /// The same of any paragraph, by X1 to X10.
+    fn resolve_nested<D: BidiDataSource, T: TextSource>(
+        &mut self,
+        alloc: Global,
+        paragraph: &ClassifiedParagraph<D, T>,
+        levels: &mut [Level],
+    ) -> Result<(), AllocError>
+        requires { length levels.old ≡ text_len T.units (T.characters paragraph.now.text) }
+        ensures per_char { OnOk result (IsTrue (is_per_char ⟦<Level as PartialEq>⟧.eq T.units (T.characters paragraph.now.text) levels.new)) }
+        ensures resolved { let source = D.source paragraph.now.data_source.now in
+            let classes = map source.class_of (T.characters paragraph.now.text) in
+            let stored = stored_classes classes in
+            let level = paragraph.now.level in
+            OnOk result (AreResolved classes (map source.bracket_of (T.characters paragraph.now.text)) (explicit_levels level stored) (explicit_classes level stored)
+            (per_char 0 T.units (T.characters paragraph.now.text) levels.new) (sequences level stored (explicit_levels level stored))) }
+    {
+        self.prepare(alloc, paragraph, levels)?;
+        let classes = self.classes.as_mut_slice();
+        for sequence in &self.sequences {
+            resolve_weak(paragraph.text, sequence, classes);
+            self.neutrals.resolve_up_to_n1(
+                paragraph.text,
+                paragraph.data_source,
+                sequence.lend(),
+                levels,
+                paragraph.original_classes,
+                classes,
+            )?;
+        }
+        resolve_levels(classes, levels);
+        Ok(())
+    }
+
+    /// The same of a paragraph that is not empty.
+    fn resolve<D: BidiDataSource, T: TextSource>(
+        &mut self,
+        alloc: Global,
+        paragraph: &ClassifiedParagraph<D, T>,
+        levels: &mut [Level],
+    ) -> Result<(), AllocError>
+        requires long { length levels.old ≡ text_len T.units (T.characters paragraph.now.text) }
+        requires some { 0 < length levels.old }
+        ensures per_char { OnOk result (IsTrue (is_per_char ⟦<Level as PartialEq>⟧.eq T.units (T.characters paragraph.now.text) levels.new)) }
+        ensures resolved { let source = D.source paragraph.now.data_source.now in
+            let classes = map source.class_of (T.characters paragraph.now.text) in
+            let stored = stored_classes classes in
+            let level = paragraph.now.level in
+            OnOk result (AreResolved classes (map source.bracket_of (T.characters paragraph.now.text)) (explicit_levels level stored) (explicit_classes level stored)
+            (per_char 0 T.units (T.characters paragraph.now.text) levels.new) (sequences level stored (explicit_levels level stored))) }
+    {
+        if paragraph.flags.is_flat() {
+            self.resolve_flat(paragraph, levels)
+        } else {
+            self.resolve_nested(alloc, paragraph, levels)
+        }
+    }
+
+    /// Writes the stored levels of a paragraph, one for each of its units. What `levels` holds
+    /// before doesn't count; where memory is refused it may hold anything.
+    pub fn write_levels<D: BidiDataSource, T: TextSource>(
+        &mut self,
+        alloc: Global,
+        paragraph: &ClassifiedParagraph<D, T>,
+        levels: &mut [Level],
+    ) -> Result<(), AllocError>
+        requires { length levels.old ≡ text_len T.units (T.characters paragraph.now.text) }
+        ensures { let source = D.source paragraph.now.data_source.now in let text = paragraph.now.text in
+            OnOk result (levels.new ≡ per_unit T.units (T.characters text)
+            (levels_in paragraph.now.level (map source.class_of (T.characters text)) (map source.bracket_of (T.characters text)))) }
+    {
+        if paragraph.flags.keeps_to(paragraph.level) {
+            levels.fill(paragraph.level);
+            return Ok(());
+        }
+        self.resolve(alloc, paragraph, levels)?;
+        if paragraph.flags.has_removed() {
+            fill_removed(paragraph.level, paragraph.original_classes, levels);
+        }
+        Ok(())
+    }
+}
+
+// The class that the passes take a class for.
+fn hidden(class: BidiClass) -> BidiClass
+    ensures { result ≡ hidden class }
+{
+    if is_removed(class) {
+        BidiClass::BN
+    } else {
+        class
+    }
+}
+
+// Gives each unit of a removed character the class BN, by which the passes know it.
+fn hide_removed(classes: &mut [BidiClass])
+    ensures { classes.new ≡ map hidden classes.old }
+{
+    for class in classes {
+        *class = hidden(*class);
+    }
+}
+
+// The level before a unit, at the front the paragraph level.
+fn level_before(para_level: Level, levels: &[Level], unit: usize) -> Level
+    requires { unit ≤ length levels.now }
+    ensures front { unit ≡ 0 → result ≡ para_level }
+    ensures inside { (p : ℕ) → p + 1 ≡ unit → result ≡ slice_index levels.now p }
+{
+    if unit == 0 {
+        para_level
+    } else {
+        levels[unit - 1]
+    }
+}
+
+/// What X9 removes.
+#[derive(Clone, Copy, Debug)]
+struct Removed;
+
+impl ClassTest for Removed {
+    ghost use Rattle.bidi_base.specs.Classes.{is_removed};
+
+    ghost test = { λ _. is_removed };
+
+    fn passes(self, class: BidiClass) -> bool {
+        is_removed(class)
+    }
+}
+
+// Gives each unit of a removed character the level of the unit before it, those at the front the
+// paragraph level.
+fn fill_removed(para_level: Level, classes: &[BidiClass], levels: &mut [Level])
+    requires lengths { length levels.old ≡ length classes.now }
+    ensures kept { (u : ℕ) → u < length classes.now → is_kept_at classes.now u ≡ true → slice_index levels.new u ≡ slice_index levels.old u }
+    ensures front { 0 < length classes.now → is_kept_at classes.now 0 ≡ false → slice_index levels.new 0 ≡ para_level }
+    ensures removed { (u : ℕ) → u + 1 < length classes.now → is_kept_at classes.now (u + 1) ≡ false → slice_index levels.new (u + 1) ≡ slice_index levels.new u }
+{
+    let units = classes.len();
+    let mut at = first_passing(Removed, classes, 0, units);
+    while at < units {
+        levels[at] = level_before(para_level, levels, at);
+        at = first_passing(Removed, classes, at + 1, units);
+    }
+}

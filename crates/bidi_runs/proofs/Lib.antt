@@ -1,0 +1,16 @@
+pub mod CharEnds
+pub mod ExplicitStretches
+pub mod ExplicitUnits
+pub mod InRuns
+pub mod KeptRangeLemmas
+pub mod LevelRunLemmas
+pub mod PassOverText
+pub mod RunCutting
+pub mod RunJoined
+pub mod RunJoining
+pub mod RunLoop
+pub mod RunPass
+pub mod RunReading
+pub mod RunUnits
+pub mod StackLemmas
+pub mod WalkLemmas

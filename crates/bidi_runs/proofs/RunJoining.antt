@@ -1,0 +1,128 @@
+-- One level run after another comes to its sequence: what the pass over units keeps, and what it has at the end.
+use Rattle.bidi_base.proofs.Common.{◌≡◌, ℕ, zero, suc, ◌+◌, ◌-◌, ◌<◌, ◌≤◌, true, cond, eqb, max, List, [], ◌∷◌, length, Option, Some, None, refl, sym, subst, arith, ◌⊎◌, inl, inr, filter, range_with_len, cases_eq, both_ways, and_parts, is_initiator, direction_of, class_at, last_or, between, is_initiator_at, is_kept_at, kept_before, level_at, end_class, begins_run, read_class, waiting_for}
+use Rattle.std.specs.Prelude.{find, if◌then◌else◌, is_some}
+use Rattle.std.specs.List.{fold}
+use Rattle.bidi_base.specs.declared.char_data.BidiClass.{BidiClass}
+use Rattle.bidi_base.proofs.PlacesLemmas.{find-between, find-between-None}
+use Rattle.bidi_base.proofs.WaitingLemmas.{IsWaiting}
+use Rattle.bidi_base.proofs.OpenPass.{IsAt, IsAt-read}
+use Rattle.bidi_base.proofs.SuccessorLemmas.{is_kept-initiator, next_kept-is, next_kept-is_None, kept_before-is, kept_before-is_None}
+use Rattle.bidi_base.proofs.RunsLemmas.{AllOfLevel, AllOfLevel-run, IsLevelRun, IsRun-IsLevelRun}
+use Rattle.bidi_runs.specs.Joining.{read_range}
+use Rattle.bidi_runs.proofs.KeptRangeLemmas.{filter_range-first, last_or-range}
+use Rattle.bidi_runs.proofs.RunUnits.{NoneKept, IsLast}
+use Rattle.bidi_runs.proofs.RunPass.{with_places, index_in, HasCome, IsWaiting-in_run}
+
+-- the first kept character of a run
+pub record IsFirst (classes : List BidiClass) (a b f : ℕ) : Type 0 where
+  pub from : a ≤ f
+  pub below : f < b
+  pub kept : is_kept_at classes f ≡ true
+  pub none : NoneKept classes a f
+
+pub first_of : (classes : List BidiClass) (a b l : ℕ) → IsLast classes a b l → (f : ℕ) × IsFirst classes a b f
+first_of classes a b l last = by_result (find (is_kept_at classes) (between a b)) refl
+  where
+    by_result : (o : Option ℕ) → find (is_kept_at classes) (between a b) ≡ o → (f : ℕ) × IsFirst classes a b f
+    by_result None e = absurd (both_ways (is_kept_at classes l) (find-between-None (is_kept_at classes) a b e l last.from last.below) last.kept)
+    by_result (Some f) e = grind (arith, find-between)
+
+module _ (classes : List BidiClass) (levels : List ℕ) (paragraph : ℕ) where
+  -- where a run begins a character is kept, but for the front of the paragraph
+  pub begins_kept : (a : ℕ) → begins_run classes levels a ≡ true → is_kept_at classes a ≡ true
+  unfolding begins_run
+  begins_kept a e = (and_parts _ _ (and_parts _ _ e).0).0
+
+  pub begins_after : (a : ℕ) → begins_run classes levels a ≡ true → is_some (kept_before classes a) ≡ true
+  unfolding begins_run
+  begins_after a e = (and_parts _ _ (and_parts _ _ e).0).1
+
+  -- nothing kept stands before the first kept character of a run
+  pub first_at : (a b f : ℕ) → IsLevelRun classes levels a b → IsFirst classes a b f → (f ≡ a) ⊎ (a ≡ 0)
+  first_at a b f range first = grind (arith, begins_kept)
+
+  pub kept_before-first : (a b f : ℕ) → IsLevelRun classes levels a b → IsFirst classes a b f → kept_before classes f ≡ kept_before classes a
+  kept_before-first a b f range first = grind (arith, first_at a b f range first, kept_before-is_None)
+
+  -- all characters of a run have one level
+  last_level : (level p : ℕ) (ps : List ℕ) → AllOfLevel classes levels level (p ∷ ps) → level_at levels (last_or p ps) ≡ level
+  last_level level p [] h = h.0
+  last_level level p (q ∷ ps) h = last_level level q ps h.1
+
+  abbrev pub rest_of : ℕ → ℕ → List ℕ
+  rest_of f b = filter (is_kept_at classes) (range_with_len (f + 1) (b - (f + 1)))
+
+  pub front_is : (a b f : ℕ) → IsLevelRun classes levels a b → IsFirst classes a b f → filter (is_kept_at classes) (range_with_len a (b - a)) ≡ f ∷ rest_of f b
+  front_is a b f range first = grind (arith, filter_range-first (is_kept_at classes) a (b - a) f)
+
+  pub last_is : (a b f l : ℕ) → IsLevelRun classes levels a b → IsFirst classes a b f → IsLast classes a b l → last_or f (rest_of f b) ≡ l
+  last_is a b f l range first last = grind (
+    arith,
+    last_or-range (is_kept_at classes) a (b - a) f l,
+    front_is a b f range first,
+  )
+
+  pub one_level : (a b f l : ℕ) → IsLevelRun classes levels a b → IsFirst classes a b f → IsLast classes a b l → level_at levels f ≡ level_at levels l
+  one_level a b f l range first last =
+      grind (
+        arith,
+        IsRun-IsLevelRun classes levels a b f (rest_of f b) range (front_is a b f range first),
+        last_is a b f l range first last,
+        last_level,
+        AllOfLevel-run,
+      )
+
+  -- the kept character before the next run
+  pub kept_before-next_run : (a b l : ℕ) → IsLast classes a b l → kept_before classes b ≡ Some l
+  kept_before-next_run a b l last = grind (arith, kept_before-is) steps 400000
+
+  -- the level beyond the last character of a run, as the pass finds it
+  abbrev pub level_beyond : ℕ → ℕ → ℕ
+  level_beyond l b = if is_initiator (class_at classes l) then paragraph else (if eqb b (length classes) then paragraph else level_at levels b)
+
+  pub end_is : (a b l : ℕ) → IsLevelRun classes levels a b → IsLast classes a b l → end_class paragraph classes levels l ≡ direction_of (max (level_at levels l) (level_beyond l b))
+  unfolding end_class
+  end_is a b l range last = elim (cases_eq b (length classes)) [
+    | inl all ↦ grind (arith, next_kept-is_None)
+    | inr more ↦
+        let begins : begins_run classes levels b ≡ true = grind (arith, range.stops) in
+        let next = next_kept-is classes l b (record {
+          from = omega (arith, last.below);
+          below = omega (arith, range.within, more);
+          passes = begins_kept b begins;
+          first = last.none;
+        }) in
+        grind arith
+  ]
+
+  -- reading the characters of a range
+  read_all : (b n m : ℕ) (w : ℕ → Option ℕ) (out : List (List ℕ)) (waits : List (Option ℕ)) → IsAt classes levels b m out waits → ((k : ℕ) → m ≤ k → k < m + n → is_initiator_at classes k ≡ true → IsWaiting classes levels out k (w k))
+      → IsAt classes levels b (m + n) out (fold (λ ws k. read_class (class_at classes k) (w k) ws) waits (range_with_len m n))
+  read_all b zero m w out waits h wait = grind arith
+  read_all b (suc n) m w out waits h wait = grind (
+    arith,
+    IsAt-read classes levels b m out waits (w m) h,
+    wait,
+    read_all b n (m + 1) w out,
+  )
+
+  -- a run came, and its characters were read
+  pub came : (a b f l s : ℕ) (out : List (List ℕ)) (waits now : List (Option ℕ)) → IsLevelRun classes levels a b → IsFirst classes a b f → IsLast classes a b l → HasCome classes levels a b f (rest_of f b) out waits (waiting_for (class_at classes f) waits)
+      → s ≡ index_in (waiting_for (class_at classes f) waits) out → now ≡ read_range classes (l + 1) s a b waits → IsAt classes levels b b (with_places (waiting_for (class_at classes f) waits) (f ∷ rest_of f b) out) now
+  came a b f l s out waits now range first last c at read = grind (arith, all)
+    where
+      more : List (List ℕ)
+      more = with_places (waiting_for (class_at classes f) waits) (f ∷ rest_of f b) out
+
+      within : s < length more
+      within = subst (λ (x : ℕ). x < length more) (sym at) c.within
+
+      same_last : (k : ℕ) → eqb (k + 1) (l + 1) ≡ eqb k (last_or f (rest_of f b))
+      same_last k = grind (arith, last_is a b f l range first last)
+
+      waits_by : (k : ℕ) → a ≤ k → k < a + (b - a) → is_initiator_at classes k ≡ true → IsWaiting classes levels more k (cond (eqb (k + 1) (l + 1)) (Some s) None)
+      waits_by k from below opens =
+          simp (same_last k) (IsWaiting-in_run classes levels a b f k s (rest_of f b) more range (front_is a b f range first) within (λ x member. rw at (c.holds x member)) from (omega (arith, range.not_empty)) (is_kept-initiator (class_at classes k) opens))
+
+      all : IsAt classes levels b (a + (b - a)) more (read_range classes (l + 1) s a b waits)
+      all = read_all b (b - a) a (λ m. cond (eqb (m + 1) (l + 1)) (Some s) None) more waits c.state waits_by

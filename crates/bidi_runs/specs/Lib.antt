@@ -1,0 +1,5 @@
+pub mod ExplicitPass
+pub mod ExplicitStretches
+pub mod Joining
+pub mod RunSequence
+pub mod Status

@@ -1,0 +1,216 @@
+//! Level runs as they are joined to isolating run sequences (BD13, X10).
+
+ghost use Rattle.std.specs.Prelude.{◌≡◌, ℕ, ◌<◌, ◌≤◌, max, [], length, map, flat_map, All, IsPermutation, IsTrue, IfSome, OnOk};
+ghost use Rattle.std.specs.List.{list_any};
+ghost use Rattle.bidi_base.specs.declared.char_data.BidiClass.TheVariants.{L};
+ghost use Rattle.bidi_base.specs.Classes.{is_initiator, is_l_or_r};
+ghost use Rattle.bidi_base.specs.Explicit.{explicit_levels};
+ghost use Rattle.bidi_base.specs.Levels.{direction_of};
+ghost use Rattle.bidi_base.specs.Sequences.{sequences, HasExplicitLevels};
+ghost use Rattle.bidi_base.specs.Text.{IsLine, is_boundary, is_per_char, per_char};
+ghost use Rattle.bidi_base.specs.Units.{bounds, level_run_ranges, AreLines};
+ghost use Rattle.bidi_runs.specs.Joining.{with_run, level_after_run, IsKeptEnd, read_units};
+ghost use Rattle.bidi_runs.specs.RunSequence.{joined, run_bounds, sequences_in};
+
+use super::{
+    IsolatingRunSequence, IsolatingRunSequenceVec, LevelRun, LevelRunVec, not_removed_by_x9,
+};
+use crate::characters::end_of;
+use bidi_base::char_data::BidiClass;
+use bidi_base::classes::is_initiator;
+use bidi_base::isolates::{WaitingSequences, read_class, waiting_for};
+use bidi_base::level::Level;
+use bidi_base::search::{ClassTest, first_passing};
+use bidi_base::text::TextSource;
+use std::alloc::{AllocError, Global};
+
+// The end of the last unit of a run whose class X9 keeps, or the run's start where there is none.
+fn kept_end(classes: &[BidiClass], run: &LevelRun) -> usize
+    requires ordered { run.now.start ≤ run.now.end }
+    requires inside { run.now.end ≤ length classes.now }
+    ensures { IsKeptEnd classes.now run.now.start run.now.end result }
+{
+    for unit in (run.start..run.end).rev() {
+        if not_removed_by_x9(&classes[unit]) {
+            return unit + 1;
+        }
+    }
+    run.start
+}
+
+// The class at an end of a sequence, between characters of these levels (X10).
+fn side(inner: Level, outer: Level) -> BidiClass
+    ensures { result ≡ direction_of (max inner outer) }
+{
+    inner.max(outer).bidi_class()
+}
+
+// The level beyond a run that ends at a unit and whose last kept character has this class: that of
+// the next run. After an initiator and at the end of the text the paragraph level counts.
+fn level_after(para_level: Level, class: BidiClass, levels: &[Level], end: usize) -> Level
+    requires { end ≤ length levels.now }
+    ensures { result ≡ level_after_run para_level class levels.now end }
+{
+    if is_initiator(class) || end == levels.len() {
+        para_level
+    } else {
+        levels[end]
+    }
+}
+
+// Reads the characters of a run for what is open, those alone that open or close. The one that ends at `kept_end` is the last that
+// X9 keeps; if it opens an isolate, the sequence at `s` waits for the PDI.
+fn read_run<T: TextSource>(
+    waiting: &mut WaitingSequences,
+    text: T,
+    classes: &[BidiClass],
+    run: &LevelRun,
+    kept_end: usize,
+    s: usize,
+) -> Result<(), AllocError>
+    requires per_char { IsTrue (is_per_char ⟦<BidiClass as PartialEq>⟧.eq T.units (T.characters text) classes.now) }
+    requires line { IsLine T.units (T.characters text) run.now.start run.now.end }
+    requires kept_end { IsTrue (is_boundary T.units (T.characters text) kept_end) }
+    ensures { OnOk result (waiting.new.items ≡ read_units T.units (T.characters text) classes.now kept_end s run.now.start run.now.end waiting.old.items) }
+{
+    let end = run.end;
+    let mut at = first_passing(IsolateControl, classes, run.start, end);
+    while at < end {
+        let behind = end_of(text, at);
+        let wait = (behind == kept_end).then_some(s);
+        read_class(waiting, classes[at], wait)?;
+        at = first_passing(IsolateControl, classes, behind, end);
+    }
+    Ok(())
+}
+
+// The classes that open or close an isolate. The test has no branch, so that many units are tested at
+// once.
+#[derive(Clone, Copy, Debug)]
+struct IsolateControl;
+
+impl ClassTest for IsolateControl {
+    ghost use Rattle.bidi_runs.specs.Joining.{is_isolate_control};
+
+    ghost test = { λ _. is_isolate_control };
+
+    fn passes(self, class: BidiClass) -> bool {
+        (class == BidiClass::LRI)
+            | (class == BidiClass::RLI)
+            | (class == BidiClass::FSI)
+            | (class == BidiClass::PDI)
+    }
+}
+
+// A run comes to the sequence at `s`, which then ends with the class `eos`, or begins one between
+// the classes `sos` and `eos`.
+fn put_run(
+    alloc: Global,
+    sequences: &mut IsolatingRunSequenceVec,
+    s: Option<usize>,
+    run: LevelRun,
+    sos: BidiClass,
+    eos: BidiClass,
+) -> Result<(), AllocError>
+    requires some { run.start < run.end }
+    requires sos { IsTrue (is_l_or_r sos) }
+    requires eos { IsTrue (is_l_or_r eos) }
+    requires fits { IfSome s (λ s. s < length sequences.old.items) }
+    requires later { All (λ q. All (λ r. r.1 ≤ run.start) (run_bounds q)) sequences.old.items }
+    ensures { OnOk result (map joined sequences.new.items ≡ with_run s (bounds run) sos eos (map joined sequences.old.items)) }
+{
+    match s {
+        Some(s) => sequences[s].join(run, eos)?,
+        None => sequences.push(IsolatingRunSequence::single(alloc, run, sos, eos)?)?,
+    }
+    Ok(())
+}
+
+/// The isolating run sequences of a paragraph, in the order of their first characters (BD13, X10).
+///
+/// `original_classes` has the stored classes and `levels` the explicit ones, one entry a unit;
+/// levels of what X9 removes are not read. `runs` are the level runs that
+/// [`compute`](crate::explicit::compute) cuts. `has_isolate_controls` may be false only where no
+/// class is LRI, RLI or FSI, and then each run is a sequence of its own. `out` comes empty, and gets
+/// each run in exactly one sequence. Where X9 removes the whole paragraph, its one run is a sequence
+/// without characters, between any classes out of L and R. After a refusal `out` holds any
+/// sequences.
+pub fn isolating_run_sequences<T: TextSource>(
+    alloc: Global,
+    text: T,
+    para_level: Level,
+    original_classes: &[BidiClass],
+    levels: &[Level],
+    runs: LevelRunVec,
+    has_isolate_controls: bool,
+    out: &mut IsolatingRunSequenceVec,
+) -> Result<(), AllocError>
+    requires original { IsTrue (is_per_char ⟦<BidiClass as PartialEq>⟧.eq T.units (T.characters text) original_classes.now) }
+    requires levels { IsTrue (is_per_char ⟦<Level as PartialEq>⟧.eq T.units (T.characters text) levels.now) }
+    requires runs { let stored = per_char L T.units (T.characters text) original_classes.now in map bounds runs.items ≡ level_run_ranges T.units (T.characters text) stored (per_char 0 T.units (T.characters text) levels.now) }
+    requires isolates { IsTrue (list_any is_initiator original_classes.now) → IsTrue has_isolate_controls }
+    requires out { out.old.items ≡ [] }
+    ensures sequences { let stored = per_char L T.units (T.characters text) original_classes.now in OnOk result (sequences_in T.units (T.characters text) stored out.new.items ≡ sequences para_level stored (per_char 0 T.units (T.characters text) levels.now)) }
+    // Levels that are explicit ones where X9 keeps characters stand for all explicit levels.
+    ensures explicit { let stored = per_char L T.units (T.characters text) original_classes.now in OnOk result (HasExplicitLevels para_level stored (per_char 0 T.units (T.characters text) levels.now) → sequences_in T.units (T.characters text) stored out.new.items ≡ sequences para_level stored (explicit_levels para_level stored)) }
+    ensures runs { OnOk result (IsPermutation (map bounds runs.items) (flat_map run_bounds out.new.items)) }
+    ensures fits { OnOk result (All (λ s. AreLines T.units (T.characters text) (run_bounds s)) out.new.items) }
+{
+    join_level_runs(
+        alloc,
+        text,
+        para_level,
+        original_classes,
+        levels,
+        runs.as_slice(),
+        has_isolate_controls,
+        out,
+    )
+}
+
+/// As [`isolating_run_sequences`], of level runs that the caller keeps.
+pub fn join_level_runs<T: TextSource>(
+    alloc: Global,
+    text: T,
+    para_level: Level,
+    original_classes: &[BidiClass],
+    levels: &[Level],
+    runs: &[LevelRun],
+    has_isolate_controls: bool,
+    out: &mut IsolatingRunSequenceVec,
+) -> Result<(), AllocError>
+    requires original { IsTrue (is_per_char ⟦<BidiClass as PartialEq>⟧.eq T.units (T.characters text) original_classes.now) }
+    requires levels { IsTrue (is_per_char ⟦<Level as PartialEq>⟧.eq T.units (T.characters text) levels.now) }
+    requires runs { let stored = per_char L T.units (T.characters text) original_classes.now in map bounds runs.now ≡ level_run_ranges T.units (T.characters text) stored (per_char 0 T.units (T.characters text) levels.now) }
+    requires isolates { IsTrue (list_any is_initiator original_classes.now) → IsTrue has_isolate_controls }
+    requires out { out.old.items ≡ [] }
+    ensures sequences { let stored = per_char L T.units (T.characters text) original_classes.now in OnOk result (sequences_in T.units (T.characters text) stored out.new.items ≡ sequences para_level stored (per_char 0 T.units (T.characters text) levels.now)) }
+    // Levels that are explicit ones where X9 keeps characters stand for all explicit levels.
+    ensures explicit { let stored = per_char L T.units (T.characters text) original_classes.now in OnOk result (HasExplicitLevels para_level stored (per_char 0 T.units (T.characters text) levels.now) → sequences_in T.units (T.characters text) stored out.new.items ≡ sequences para_level stored (explicit_levels para_level stored)) }
+    ensures runs { OnOk result (IsPermutation (map bounds runs.now) (flat_map run_bounds out.new.items)) }
+    ensures fits { OnOk result (All (λ s. AreLines T.units (T.characters text) (run_bounds s)) out.new.items) }
+{
+    let mut waiting: WaitingSequences = Vec::new(alloc);
+    let mut level_before = para_level;
+    for run in runs {
+        let kept_end = kept_end(original_classes, run);
+        if kept_end == run.start {
+            // X9 removes the whole paragraph.
+            let side = para_level.bidi_class();
+            out.push(IsolatingRunSequence::single(alloc, run.start..run.end, side, side)?)?;
+            return Ok(());
+        }
+        let level = levels[kept_end - 1];
+        let last_class = original_classes[kept_end - 1];
+        let sos = side(level, level_before);
+        let eos = side(level, level_after(para_level, last_class, levels, run.end));
+        let waits = waiting_for(&waiting, original_classes[run.start]);
+        if has_isolate_controls {
+            let s = waits.unwrap_or(out.len());
+            read_run(&mut waiting, text, original_classes, run, kept_end, s)?;
+        }
+        put_run(alloc, out, waits, run.start..run.end, sos, eos)?;
+        level_before = level;
+    }
+    Ok(())
+}

@@ -1,0 +1,66 @@
+//! An isolating run sequence whose level runs are lent by whoever keeps them.
+
+ghost use Rattle.std.specs.Prelude.{◌≡◌, IsTrue, map};
+ghost use Rattle.bidi_base.specs.Units.{bounds, is_run_sequence};
+
+use super::{IsolatingRunSequence, LevelRun};
+use bidi_base::char_data::BidiClass;
+
+/// What the passes read of an isolating run sequence: level runs in text order, which someone else
+/// keeps, and the classes at both ends, each L or R.
+#[derive(Clone, Copy, Debug)]
+pub struct LentSequence<'s> {
+    runs: &'s [LevelRun],
+    sos: BidiClass,
+    eos: BidiClass,
+    pub ghost well_formed: { IsTrue (is_run_sequence (map bounds runs.now) sos eos) },
+}
+
+impl<'s> LentSequence<'s> {
+    ghost use Rattle.bidi_runs.specs.RunSequence.{lent_runs, lent_sos, lent_eos};
+
+    /// A sequence of these runs: one or more, each non-empty and ending at or before the start of the
+    /// next.
+    pub fn new(runs: &'s [LevelRun], sos: BidiClass, eos: BidiClass) -> LentSequence<'s>
+        requires { IsTrue (is_run_sequence (map bounds runs.now) sos eos) }
+        ensures runs { lent_runs result ≡ runs.now }
+        ensures sos { lent_sos result ≡ sos }
+        ensures eos { lent_eos result ≡ eos }
+    {
+        LentSequence { runs, sos, eos }
+    }
+
+    /// The level runs, in text order.
+    pub fn runs(self) -> &'s [LevelRun]
+        ensures { result.now ≡ lent_runs self.entry }
+    {
+        self.runs
+    }
+
+    /// The class before the first character.
+    pub fn sos(self) -> BidiClass
+        ensures { result ≡ lent_sos self.entry }
+    {
+        self.sos
+    }
+
+    /// The class after the last character.
+    pub fn eos(self) -> BidiClass
+        ensures { result ≡ lent_eos self.entry }
+    {
+        self.eos
+    }
+}
+
+impl IsolatingRunSequence {
+    ghost use Rattle.bidi_runs.specs.RunSequence.{lent_runs, lent_sos, lent_eos, runs as runs_of, sos as sos_of, eos as eos_of};
+
+    /// The same sequence, with its runs lent.
+    pub fn lend(&self) -> LentSequence<'_>
+        ensures runs { lent_runs result ≡ runs_of self.now }
+        ensures sos { lent_sos result ≡ sos_of self.now }
+        ensures eos { lent_eos result ≡ eos_of self.now }
+    {
+        LentSequence::new(self.runs(), self.sos(), self.eos())
+    }
+}

@@ -1,0 +1,4 @@
+pub mod AloneLemmas
+pub mod PagesLemmas
+pub mod SequencesLemmas
+pub mod StagesLemmas

@@ -1,0 +1,35 @@
+use Rattle.bidi_stages.proofs.rows.stage_rows.Goals as goal
+
+pub returns : goal.returns
+returns c =
+    simp (
+      c.in_ok-rows.ensures.items,
+      c.labelled.ensures,
+      c.in_ok-indexes.ensures,
+      c.labelled-2.ensures,
+      c.in_ok-codes.ensures,
+      c.labelled-3.ensures,
+      c.in_ok-classes.ensures,
+      c.as_slice.ensures.value,
+      c.labelled-4.ensures,
+      c.in_ok-explicit_classes.ensures,
+      c.classes.ensures,
+      c.labelled-5.ensures,
+      c.in_ok-explicit_levels.ensures,
+      c.levels.ensures,
+      c.labelled-6.ensures,
+      c.in_ok-weak.ensures,
+      c.as_slice-2.ensures.value,
+      c.labelled-7.ensures,
+      c.in_ok-neutral.ensures,
+      c.as_slice-3.ensures.value,
+      c.labelled-8.ensures,
+      c.in_ok-levels.ensures,
+      c.as_slice-4.ensures.value,
+      c.labelled-9.ensures,
+      c.in_ok-line_levels.ensures,
+      c.as_slice-5.ensures.value,
+      c.labelled-10.ensures,
+      c.in_ok-places.ensures,
+      c.as_slice-6.ensures.value,
+    )

@@ -1,0 +1,88 @@
+-- The cells that stand for a character in a row of each stage.
+use Rattle.std.specs.Prelude.{ℕ, Bool, true, false, ◌/◌, ◌%◌, ◌==◌, nat_le, if◌then◌else◌, List, [], ◌∷◌, ◌++◌, codes, encode_utf8, Option, Some, None}
+use Rattle.bidi_base.specs.declared.char_data.BidiClass.{BidiClass}
+use Rattle.bidi_base.specs.declared.char_data.BidiClass.TheVariants.{L, R, AL, EN, ES, ET, AN, CS, NSM, BN, B, S, WS, ON, LRE, LRO, RLE, RLO, PDF, LRI, RLI, FSI, PDI}
+use Rattle.bidi_base.specs.Classes.{is_nsm}
+use Rattle.bidi_controls.specs.Controls.{control_of, control_short}
+use Rattle.bidi_controls.specs.declared.control.Control.{Control}
+
+-- the name of a class
+abbrev pub class_name : BidiClass → List ℕ
+class_name L = codes "L"
+class_name R = codes "R"
+class_name AL = codes "AL"
+class_name EN = codes "EN"
+class_name ES = codes "ES"
+class_name ET = codes "ET"
+class_name AN = codes "AN"
+class_name CS = codes "CS"
+class_name NSM = codes "NSM"
+class_name BN = codes "BN"
+class_name B = codes "B"
+class_name S = codes "S"
+class_name WS = codes "WS"
+class_name ON = codes "ON"
+class_name LRE = codes "LRE"
+class_name LRO = codes "LRO"
+class_name RLE = codes "RLE"
+class_name RLO = codes "RLO"
+class_name PDF = codes "PDF"
+class_name LRI = codes "LRI"
+class_name RLI = codes "RLI"
+class_name FSI = codes "FSI"
+class_name PDI = codes "PDI"
+
+-- the same, and a dash where there is none
+abbrev pub option_name : Option BidiClass → List ℕ
+option_name (Some class) = class_name class
+option_name None = codes "-"
+
+-- characters of this class are not seen: white space, separators, and boundary neutrals
+abbrev pub is_unseen : BidiClass → Bool
+is_unseen B = true
+is_unseen S = true
+is_unseen WS = true
+is_unseen BN = true
+is_unseen _ = false
+
+-- a character that is no control and no mark: what is not seen is nothing, and a nonspacing mark stands on a dotted circle
+abbrev pub plain_glyph : BidiClass → ℕ → List ℕ
+plain_glyph class c = if is_unseen class then [] else (if is_nsm class then 0xE2 ∷ 0x97 ∷ 0x8C ∷ [] else []) ++ encode_utf8 c
+
+abbrev pub glyph_of : Option Control → BidiClass → ℕ → List ℕ
+glyph_of (Some control) class c = control_short control
+glyph_of None class c = plain_glyph class c
+
+-- a character so that it stands for itself alone: a control or a mark by its short name
+abbrev pub glyph : BidiClass → ℕ → List ℕ
+glyph class c = glyph_of (control_of class c) class c
+
+-- a hexadecimal digit
+abbrev pub hex_digit : ℕ → List ℕ
+hex_digit digit =
+    if digit == 0 then codes "0"
+    else if digit == 1 then codes "1"
+    else if digit == 2 then codes "2"
+    else if digit == 3 then codes "3"
+    else if digit == 4 then codes "4"
+    else if digit == 5 then codes "5"
+    else if digit == 6 then codes "6"
+    else if digit == 7 then codes "7"
+    else if digit == 8 then codes "8"
+    else if digit == 9 then codes "9"
+    else if digit == 10 then codes "A"
+    else if digit == 11 then codes "B"
+    else if digit == 12 then codes "C"
+    else if digit == 13 then codes "D"
+    else if digit == 14 then codes "E"
+    else codes "F"
+
+-- the digit of a number that is worth so much, if the number is no less
+abbrev pub leading_digit : ℕ → ℕ → List ℕ
+leading_digit worth code = if nat_le worth code then hex_digit (code / worth % 16) else []
+
+-- a code point in hexadecimal, with at least four digits
+abbrev pub hex : ℕ → List ℕ
+hex c =
+    leading_digit 0x100000 c
+    ++ (leading_digit 0x10000 c ++ (hex_digit (c / 0x1000 % 16) ++ (hex_digit (c / 0x100 % 16) ++ (hex_digit (c / 0x10 % 16) ++ hex_digit (c % 16)))))

@@ -1,0 +1,35 @@
+//! How stages are told.
+use bidi_terminal::Base;
+
+/// In which form the stages of a text are written.
+#[derive(Clone, Copy, Debug, PartialEq)]
+pub enum Form {
+    /// As tables of plain text.
+    Table,
+    /// As sections of a page of HTML.
+    Page,
+}
+
+/// How the stages of the lines of a text are told.
+#[derive(Clone, Copy, Debug, PartialEq)]
+pub struct StageView {
+    /// The base level of each line.
+    pub base: Base,
+    /// The form that is written.
+    pub form: Form,
+}
+
+impl Default for StageView {
+    ghost use Rattle.std.specs.Prelude.{◌≡◌};
+    ghost use Rattle.bidi_stages.specs.Explained.{first_stage_view};
+
+    /// Tables of lines, each of which finds its own base level.
+    fn default() -> StageView
+        ensures { result ≡ first_stage_view }
+    {
+        StageView {
+            base: Base::Auto,
+            form: Form::Table,
+        }
+    }
+}

@@ -1,0 +1,6 @@
+//! Lines of an analysed text: their visual runs, and the text in visual order, in each encoding.
+#![tactic(auto)]
+
+pub mod analysed;
+pub mod level_direction;
+mod line_text;
