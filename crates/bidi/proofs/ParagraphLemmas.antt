@@ -1,5 +1,5 @@
 -- The lines of a paragraph, read in a text of UTF-8 whose classes and levels are known, are those of its characters.
-use Rattle.bidi_base.proofs.Common.{◌≡◌, ℕ, suc, ◌+◌, ◌<◌, ◌≤◌, Bool, true, false, not, ◌&&◌, List, [], ◌∷◌, ◌++◌, Option, Some, None, length, get_or, map, flat_map, refl, sym, ap, ◌∙◌, arith, append_assoc, append-nil, length-append, zero-add, inl, inr, common_steps, codes, list_all, prefix_len, len_utf8, Range, cases_Bool, and_parts, length-map, sum_by-append, AnalysedText, IsAnalysis, is_paragraph_separator, visual_runs, run_of, paragraph_level, stored_classes, lines_of, line_levels, line_levels_after, visual_order, paragraphs_of, each_separator, ranges_from, Source, stored_levels, text_classes, text_levels, paragraph_levels, text_len, char_index, subrange, per_unit, per_char, one_unit, flat_map-map}
+use Rattle.bidi_base.proofs.Common.{◌≡◌, ℕ, suc, ◌+◌, ◌<◌, ◌≤◌, Bool, true, not, List, [], ◌∷◌, ◌++◌, Option, Some, None, length, get_or, map, flat_map, refl, sym, ap, ◌∙◌, arith, append_assoc, append-nil, length-append, zero-add, inl, inr, common_steps, codes, list_all, prefix_len, len_utf8, Range, cases_Bool, length-map, sum_by-append, AnalysedText, IsAnalysis, is_paragraph_separator, visual_runs, run_of, paragraph_level, stored_classes, lines_of, line_levels, line_levels_after, visual_order, paragraphs_of, each_separator, ranges_from, Source, stored_levels, text_classes, text_levels, paragraph_levels, text_len, char_index, subrange, per_unit, per_char, one_unit, flat_map-map}
 use Rattle.bidi_base.specs.declared.char_data.BidiClass.{BidiClass}
 use Rattle.bidi_base.specs.declared.char_data.BidiClass.TheVariants.{L}
 use Rattle.bidi_base.proofs.LayoutLemmas.{lines_of-joined}

@@ -1,5 +1,5 @@
 -- The opener that a character closes, by the openers that are open before it: it is the one whose match that character is (BD9, BD11).
-use Rattle.bidi_base.proofs.Common.{◌≡◌, ℕ, suc, ◌+◌, ◌-◌, ◌<◌, Bool, true, false, ◌||◌, cond, List, [], ◌∷◌, length, drop, find, Option, Some, None, refl, sym, ap, subst, ◌∙◌, arith, inl, inr, filter, cases_Bool, and_parts, and_from, false_from_ne_true, is_embedding, is_opener, is_pdf, class_at, is_initiator_at, is_pdi_at, matching_pdi, is_inside, is_level_with, is_embedding_level_with, is_pdf_level_with, closing_pdf}
+use Rattle.bidi_base.proofs.Common.{◌≡◌, ℕ, suc, ◌+◌, ◌-◌, ◌<◌, Bool, true, false, cond, List, [], ◌∷◌, length, drop, find, Option, Some, None, refl, sym, ap, subst, ◌∙◌, arith, filter, and_parts, and_from, false_from_ne_true, is_embedding, is_opener, is_pdf, class_at, is_initiator_at, is_pdi_at, matching_pdi, is_inside, is_level_with, is_embedding_level_with, is_pdf_level_with, closing_pdf}
 use Rattle.bidi_base.specs.declared.char_data.BidiClass.{BidiClass}
 use Rattle.bidi_base.proofs.PlacesLemmas.{IsLeast}
 use Rattle.bidi_base.proofs.MatchingLemmas.{match_of-IsLeast, match_of-closes}

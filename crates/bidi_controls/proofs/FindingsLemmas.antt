@@ -1,7 +1,6 @@
 -- The findings of a line, one character more.
-use Rattle.bidi_base.proofs.Common.{◌≡◌, ℕ, ◌+◌, ◌<◌, Bool, false, List, [], ◌∷◌, ◌++◌, Option, Some, None, length, get_or, take, map, refl, arith, append_assoc, common_steps, range_with_len, option_to_list, get_or-map, get_or_default, get_or-map-range_with_len, filter_map-append, indexes}
+use Rattle.bidi_base.proofs.Common.{◌≡◌, ℕ, ◌+◌, ◌<◌, Bool, false, List, ◌++◌, Option, length, get_or, take, map, arith, append_assoc, common_steps, range_with_len, option_to_list, get_or-map, get_or_default, get_or-map-range_with_len, filter_map-append, indexes}
 use Rattle.std.specs.Prelude.{filter_map}
-use Rattle.std.specs.List.{cons_option}
 use Rattle.bidi_controls.proofs.IndexLemmas.{next_index}
 use Rattle.bidi_base.specs.declared.char_data.BidiClass.{BidiClass}
 use Rattle.bidi_controls.specs.Findings.{finding_of, finding_at, finding_line, report_of}

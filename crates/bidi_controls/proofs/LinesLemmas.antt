@@ -1,5 +1,5 @@
 -- The first line of a text, character by character.
-use Rattle.bidi_base.proofs.Common.{◌≡◌, ℕ, suc, ◌+◌, ◌<◌, true, false, List, [], ◌∷◌, ◌++◌, length, get_or, take, drop, refl, sym, ap, ◌∙◌, arith, drop-cons, add-one, onto_first, take_more, drop_all, SplitTest, cut_after}
+use Rattle.bidi_base.proofs.Common.{◌≡◌, ℕ, ◌+◌, ◌<◌, true, false, List, [], ◌∷◌, ◌++◌, length, get_or, take, drop, refl, sym, ap, ◌∙◌, arith, drop-cons, add-one, onto_first, take_more, drop_all, SplitTest, cut_after}
 
 -- characters put before the first of some lines
 abbrev onto_front : List ℕ → List (List ℕ) → List (List ℕ)

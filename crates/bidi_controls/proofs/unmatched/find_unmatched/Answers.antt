@@ -1,7 +1,6 @@
-use Rattle.bidi_base.proofs.Common.{◌≡◌, ℕ, ◌<◌, length, get_or, map, sym, ap, ◌∙◌, arith, List, length-map, get_or-map, class_at, range_with_len}
+use Rattle.bidi_base.proofs.Common.{◌≡◌, ℕ, ◌<◌, length, get_or, map, sym, ap, ◌∙◌, arith, List, length-map, get_or-map, class_at}
 use Rattle.bidi_base.specs.declared.char_data.BidiClass.{BidiClass}
 use Rattle.bidi_base.specs.declared.char_data.BidiClass.TheVariants.{L}
-use Rattle.bidi_controls.specs.Matches.{is_unmatched}
 use Rattle.bidi_controls.proofs.UnmatchedPass.{IsReadSoFar-start, IsReadSoFar-room, IsReadSoFar-more, IsReadSoFar-end}
 use Rattle.bidi_controls.proofs.unmatched.find_unmatched.Goals as goal
 
