@@ -45,8 +45,9 @@ fn push_findings<D: BidiDataSource>(
 }
 
 /// The direction controls in a text that have no match on their line, in order; with `any` every
-/// control and mark. An embedding or an override wants its PDF, an isolate initiator its PDI, and a
-/// PDF or a PDI what it closes. Lines end after a paragraph separator, CR LF as one.
+/// control and mark. An embedding or an override wants its PDF (BD11), an isolate initiator its PDI
+/// (BD9), and a PDF or a PDI what it closes. Lines and columns are counted from 1, columns in
+/// characters. Lines end after a paragraph separator, CR LF as one.
 pub fn findings_in<D: BidiDataSource>(
     alloc: Global,
     data_source: &D,

@@ -32,7 +32,7 @@ fn ends_line<D: BidiDataSource>(data_source: &D, c: char, after: &[char]) -> boo
     is_separator(data_source, c) && !(c == '\r' && begins_with_line_feed(data_source, after))
 }
 
-/// How long the first line of a text is, with the separator that ends it.
+/// How many characters the first line of a text has, with the separator that ends it, CR LF as one.
 pub fn first_line_len<D: BidiDataSource>(data_source: &D, chars: &[char]) -> usize
     requires { 0 < length chars.now }
     ensures some { 0 < result }
@@ -48,7 +48,7 @@ pub fn first_line_len<D: BidiDataSource>(data_source: &D, chars: &[char]) -> usi
     chars.len()
 }
 
-/// The characters of a line before what ends it.
+/// The characters of a line before the separator that ends it (P1).
 pub fn own_chars<'t, D: BidiDataSource>(data_source: &D, line: &'t [char]) -> &'t [char]
     ensures { result.now ≡ own_chars_of (D.source data_source.now) line.now }
 {

@@ -470,10 +470,10 @@ fn ends_paragraph<D: BidiDataSource, T: TextSource>(
     }
 }
 
-/// The stored classes of a text, and its paragraphs with the levels that `base` or their characters
-/// give them. Without a rule the whole text is one paragraph, even an empty one. Any base level will
-/// do. One walk; memory is taken for the answer and for the FSI that are open at once and that nothing
-/// decided.
+/// The stored classes (X5c) of a text, one a code unit, and its paragraphs (P1) with the levels that
+/// `base` or their characters (P2, P3) give them. Without a rule the whole text is one paragraph, even
+/// an empty one. Any base level will do. One walk; memory is taken for the answer and for the FSI that
+/// are open at once and that nothing decided.
 pub fn walk<D: BidiDataSource, T: TextSource>(
     alloc: Global,
     data_source: &D,

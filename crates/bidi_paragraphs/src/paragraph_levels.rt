@@ -39,7 +39,7 @@ pub struct ClassifiedParagraph<'a, D: BidiDataSource, T: TextSource> {
     ghost stored: { original_classes.now ≡ per_unit T.units (T.characters text) (stored_classes (map (D.source data_source.now).class_of (T.characters text))) },
 }
 
-/// Finds the levels of one paragraph after another, and keeps the memory of these lists from each to
+/// Finds the levels (X1 to I2) of one paragraph after another, and keeps the memory of these lists from each to
 /// the next.
 #[derive(Drop)]
 pub struct LevelResolver {

@@ -263,7 +263,8 @@ fn stages_of<D: BidiDataSource>(
     })
 }
 
-/// What each stage of the rules makes of a paragraph.
+/// What each stage of the rules makes of a paragraph, taken by itself, at a base level or at the level
+/// that its characters give it (P2, P3).
 pub fn find_stages<D: BidiDataSource>(
     alloc: Global,
     data_source: &D,

@@ -15,7 +15,11 @@ use bidi_lines::visual_runs::{levels_and_runs, visual_runs_of};
 use std::alloc::{AllocError, Global};
 use std::ops::Range;
 
-/// A text with the stored class and the stored level of each unit.
+/// A text with the stored class (X5c) and the stored level of each code unit.
+///
+/// A line is a range of code units. Both its ends have to begin a character or be the text's length
+/// (see `is_line`), and the level that is handed in with it is its paragraph's. Where memory is refused
+/// nothing has changed.
 #[derive(PartialEq, Debug, Drop)]
 pub struct Analysed<T: TextSource> {
     text: T,
@@ -25,12 +29,10 @@ pub struct Analysed<T: TextSource> {
     ghost levels_per_char: { IsTrue (is_per_char ⟦<Level as PartialEq>⟧.eq T.units (T.characters text) levels.items) },
 }
 
-// A line goes from one unit up to another, both of which have to begin a character or be the text's
-// length (see `is_line`). Its paragraph's level is the one that is handed in.
 impl<T: TextSource> Analysed<T> {
     ghost use Rattle.bidi_text_lines.specs.Analysed.{analysed, text_of};
 
-    /// A text with its classes and levels.
+    /// A text with its classes and levels, one a code unit. The units of a character have to agree.
     pub fn new(text: T, original_classes: Vec<BidiClass>, levels: Vec<Level>) -> Analysed<T>
         requires classes { IsTrue (is_per_char ⟦<BidiClass as PartialEq>⟧.eq T.units (T.characters text) original_classes.items) }
         requires levels { IsTrue (is_per_char ⟦<Level as PartialEq>⟧.eq T.units (T.characters text) levels.items) }
@@ -109,8 +111,8 @@ impl<T: TextSource> Analysed<T> {
         levels_per_char(alloc, self.text, level, classes, self.levels(), line)
     }
 
-    /// The levels of the text's units, those of the line after L1, and the line's level runs from
-    /// left to right.
+    /// The levels of the text's units, those of the line after L1, and the line's level runs (BD7)
+    /// from left to right (L2), as ranges of code units.
     pub fn visual_runs(
         &self,
         alloc: Global,
@@ -137,7 +139,7 @@ impl<T: TextSource> Analysed<T> {
         levels_of_line(alloc, level, self.original_classes(), self.levels(), line)
     }
 
-    /// The line's level runs from left to right.
+    /// The line's level runs (BD7) from left to right (L2), as ranges of code units.
     pub fn line_runs(
         &self,
         alloc: Global,

@@ -1,11 +1,11 @@
-// The direction of a list of levels.
+//! The direction of a list of levels.
 ghost use Rattle.std.specs.Prelude.{◌≡◌};
 ghost use Rattle.bidi_base.specs.Direction.{direction_of_levels};
 
 use bidi_base::char_data::Direction;
 use bidi_base::level::Level;
 
-// Left to right if there are levels and all are even, right to left if none is even, else mixed.
+/// Left to right if there are levels and all are even, right to left if none is even, else mixed.
 pub fn direction_of(levels: &[Level]) -> Direction
     ensures { result ≡ direction_of_levels levels.now }
 {
