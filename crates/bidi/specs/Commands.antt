@@ -25,7 +25,8 @@ file_words words = if list_any is_option words then None else Some words
 abbrev pub check_of : List (List ℕ) → Option Command
 check_of [] = option_map (Check false) (file_words [])
 check_of (word ∷ words) =
-    if bytes_eq word (codes "--any") then option_map (Check true) (file_words words) else option_map (Check false) (file_words (word ∷ words))
+    if bytes_eq word (codes "--any") then option_map (Check true) (file_words words)
+    else option_map (Check false) (file_words (word ∷ words))
 
 -- what `show` does without options
 abbrev pub first_view : View
@@ -35,11 +36,14 @@ first_view = record { base = Auto; width = None; plain = false }
 abbrev pub show_of : View → List (List ℕ) → Option Command
 show_of view [] = option_map (Show view) (file_words [])
 show_of view (word ∷ []) =
-    if bytes_eq word (codes "--plain") then show_of (record view { plain = true }) [] else option_map (Show view) (file_words (word ∷ []))
+    if bytes_eq word (codes "--plain") then show_of (record view { plain = true }) []
+    else option_map (Show view) (file_words (word ∷ []))
 show_of view (word ∷ value ∷ words) =
     if bytes_eq word (codes "--plain") then show_of (record view { plain = true }) (value ∷ words)
-    else if bytes_eq word (codes "--base") then option_and_then (λ base. show_of (record view { base = base }) words) (base_named value)
-    else if bytes_eq word (codes "--width") then option_and_then (λ width. show_of (record view { width = Some width }) words) (number_of value)
+    else if bytes_eq word (codes "--base")
+    then option_and_then (λ base. show_of (record view { base = base }) words) (base_named value)
+    else if bytes_eq word (codes "--width")
+    then option_and_then (λ width. show_of (record view { width = Some width }) words) (number_of value)
     else option_map (Show view) (file_words (word ∷ value ∷ words))
 
 -- behind `explain` and options that ask for this view: further options, in any order, and at least one text
@@ -49,10 +53,14 @@ explain_of view (word ∷ []) =
     if bytes_eq word (codes "--html") then None else option_map (Explain view) (file_words (word ∷ []))
 explain_of view (word ∷ value ∷ words) =
     if bytes_eq word (codes "--html") then explain_of (record view { form = Page }) (value ∷ words)
-    else if bytes_eq word (codes "--base") then option_and_then (λ base. explain_of (record view { base = base }) words) (base_named value)
+    else if bytes_eq word (codes "--base")
+    then option_and_then (λ base. explain_of (record view { base = base }) words) (base_named value)
     else option_map (Explain view) (file_words (word ∷ value ∷ words))
 
 -- the form that words have, where they have one
 abbrev pub command_of : List (List ℕ) → Option Command
 command_of [] = None
-command_of (form ∷ words) = if bytes_eq form (codes "check") then check_of words else if bytes_eq form (codes "show") then show_of first_view words else if bytes_eq form (codes "explain") then explain_of first_stage_view words else None
+command_of (form ∷ words) =
+    if bytes_eq form (codes "check") then check_of words
+    else if bytes_eq form (codes "show") then show_of first_view words
+    else if bytes_eq form (codes "explain") then explain_of first_stage_view words else None

@@ -22,19 +22,23 @@ use Rattle.bidi.specs.declared.view.View.{View}
 abbrev pub mirror : ℕ → ℕ
 mirror c = unwrap_or (mirrored_of c) c
 
--- characters read from the last one back, and the marks that wait for the character that they stand behind: each other character comes with its marks behind it (L3)
+-- characters read from the last one back, and the marks that wait for the character that they stand behind:
+-- each other character comes with its marks behind it (L3)
 abbrev pub with_marks : (ℕ → Bool) → List ℕ → List ℕ → List ℕ
 with_marks is_mark marks [] = marks
-with_marks is_mark marks (c ∷ before) = if is_mark c then with_marks is_mark (c ∷ marks) before else (c ∷ marks) ++ with_marks is_mark [] before
+with_marks is_mark marks (c ∷ before) =
+    if is_mark c then with_marks is_mark (c ∷ marks) before else (c ∷ marks) ++ with_marks is_mark [] before
 
 -- the characters of a run of an odd level, from left to right
 abbrev pub turned : Source → List ℕ → List ℕ
 turned source chars = with_marks (λ c. is_nsm (source.class_of c)) [] (reverse chars)
 
--- a run of a line as it is shown: at an odd level from right to left, mirrored and with its marks behind their letters, or plainly turned round
+-- a run of a line as it is shown: at an odd level from right to left, mirrored and with its marks behind their
+-- letters, or plainly turned round
 abbrev pub shown_run : Source → Bool → Bool → List ℕ → List ℕ
 shown_run source plain odd chars =
-    if odd then (if plain then flat_map encode_utf8 (reverse chars) else flat_map (λ c. encode_utf8 (mirror c)) (turned source chars))
+    if odd then (if plain then flat_map encode_utf8 (reverse chars)
+    else flat_map (λ c. encode_utf8 (mirror c)) (turned source chars))
     else flat_map encode_utf8 chars
 
 abbrev pub run_at : Source → Bool → List ℕ → List ℕ → Run → List ℕ
@@ -50,7 +54,8 @@ shown_levels source base chars start end =
     let classes = map source.class_of chars in
     levels_of_line (paragraph_level base classes) (stored_classes classes) (stored_levels source base chars) start end
 
--- the lines of a paragraph, as ranges of its characters: all of it, or as many characters as fit into so many columns each; an empty paragraph is one empty line
+-- the lines of a paragraph, as ranges of its characters: all of it, or as many characters as fit into so many
+-- columns each; an empty paragraph is one empty line
 abbrev pub shown_ranges : Option ℕ → List ℕ → List Run
 shown_ranges None chars = (0, length chars) ∷ []
 shown_ranges (Some width) [] = (0, 0) ∷ []
@@ -59,7 +64,9 @@ shown_ranges (Some width) (c ∷ chars) = ranges_from one_unit 0 (pieces_of colu
 -- a line of a paragraph as it is shown, ended by a line feed
 abbrev pub shown_range : Source → View → List ℕ → Run → List ℕ
 shown_range source view chars run =
-    shown_line source view.plain (slice_range chars run.0 run.1) (shown_levels source (level_of_base view.base) chars run.0 run.1) ++ codes "\n"
+    shown_line source view.plain (slice_range chars run.0 run.1)
+    (shown_levels source (level_of_base view.base) chars run.0 run.1)
+    ++ codes "\n"
 
 -- the lines of a paragraph
 unfoldable pub shown_paragraph : Source → View → List ℕ → List ℕ

@@ -77,8 +77,12 @@ fn push_text_lines<D: BidiDataSource>(
     lines: &[LevelRun],
 ) -> Result<(), AllocError>
     requires { All (IsLineOf (analysed_of info.now)) lines.now }
-    ensures { OnOk result (string_bytes out.new ≡ string_bytes out.old
-        ++ flat_map (λ r. shown_in (D.source data_source.now) plain (analysed_of info.now) (level_of paragraph.now) (run_of r)) lines.now) }
+    ensures { OnOk result (string_bytes out.new
+        ≡ string_bytes out.old
+        ++ flat_map
+        (λ r. shown_in (D.source data_source.now) plain (analysed_of info.now) (level_of paragraph.now)
+        (run_of r))
+        lines.now) }
 {
     for line in lines {
         push_text_line(alloc, out, data_source, plain, info, paragraph, line)?;

@@ -31,8 +31,10 @@ pub record IsPerCharText (a : AnalysedText) : Type 0 where
   pub classes : IsTrue (is_per_char class_test.eq a.len_of a.chars a.classes)
   pub levels : IsTrue (is_per_char level_test.eq a.len_of a.chars a.levels)
 
--- the text has its stored classes (X5c) and levels (X1 to I2), and these are the ranges (P1) and the levels (P2, P3) of its paragraphs; not split, it is one paragraph
-pub record IsAnalysis (source : Source) (base : Option ℕ) (split : Bool) (a : AnalysedText) (own_ranges : List (ℕ × ℕ)) (own_levels : List ℕ) : Type 0 where
+-- the text has its stored classes (X5c) and levels (X1 to I2), and these are the ranges (P1) and the levels
+-- (P2, P3) of its paragraphs; not split, it is one paragraph
+pub record IsAnalysis (source : Source) (base : Option ℕ) (split : Bool) (a : AnalysedText)
+    (own_ranges : List (ℕ × ℕ)) (own_levels : List ℕ) : Type 0 where
   pub classes : a.classes ≡ per_unit a.len_of a.chars (text_classes source (pieces_of split source a.chars))
   pub levels : a.levels ≡ per_unit a.len_of a.chars (text_levels source base (pieces_of split source a.chars))
   pub ranges : own_ranges ≡ ranges_from a.len_of 0 (pieces_of split source a.chars)
@@ -50,7 +52,8 @@ pub record HasCharValues (a : AnalysedText) (char_classes : List BidiClass) (cha
   pub classes : per_char L a.len_of a.chars a.classes ≡ char_classes
   pub levels : per_char 0 a.len_of a.chars a.levels ≡ char_levels
 
--- a text that is one paragraph has its stored classes and levels, this level, and nothing in it can turn the direction exactly if `pure` says so
+-- a text that is one paragraph has its stored classes and levels, this level, and nothing in it can turn the
+-- direction exactly if `pure` says so
 pub record IsParagraphAnalysis (source : Source) (base : Option ℕ) (a : AnalysedText) (level : ℕ) (pure : Bool) : Type 0 where
   pub classes : a.classes ≡ per_unit a.len_of a.chars (stored_classes (map source.class_of a.chars))
   pub levels : a.levels ≡ per_unit a.len_of a.chars (stored_levels source base a.chars)
@@ -59,7 +62,9 @@ pub record IsParagraphAnalysis (source : Source) (base : Option ℕ) (a : Analys
 
 -- the levels of all units, those of the line after L1 and all others as they are stored: by characters, and by units
 pub record AreLevelsWithLine (a : AnalysedText) (level : ℕ) (line : Range ℕ) (shown : List ℕ) : Type 0 where
-  pub characters : shown ≡ per_unit a.len_of a.chars (char_levels_with_line a.len_of a.chars level a.classes a.levels line.start line.end)
+  pub characters : shown
+      ≡ per_unit a.len_of a.chars
+      (char_levels_with_line a.len_of a.chars level a.classes a.levels line.start line.end)
   pub units : shown ≡ levels_with_line level a.classes a.levels line.start line.end
 
 -- the same levels, one a character
@@ -68,7 +73,9 @@ levels_with_line_per_char a level line = char_levels_with_line a.len_of a.chars 
 
 -- the levels of the line's units after L1, one a unit: by characters, and by units
 pub record AreLevelsOfLine (a : AnalysedText) (level : ℕ) (line : Range ℕ) (shown : List ℕ) : Type 0 where
-  pub characters : shown ≡ per_unit a.len_of (subrange a.len_of a.chars line.start line.end) (char_levels_of_line a.len_of a.chars level a.classes a.levels line.start line.end)
+  pub characters : shown
+      ≡ per_unit a.len_of (subrange a.len_of a.chars line.start line.end)
+      (char_levels_of_line a.len_of a.chars level a.classes a.levels line.start line.end)
   pub units : shown ≡ levels_of_line level a.classes a.levels line.start line.end
   pub one_a_unit : length shown + line.start ≡ line.end
 
@@ -76,14 +83,19 @@ pub record AreLevelsOfLine (a : AnalysedText) (level : ℕ) (line : Range ℕ) (
 abbrev pub line_levels_per_char : AnalysedText → ℕ → Range ℕ → List ℕ
 line_levels_per_char a level line = char_levels_of_line a.len_of a.chars level a.classes a.levels line.start line.end
 
--- the level runs (BD7) of the line after L1, from left to right (L2): as a function, and as the runs that, written out, are the visual order of the line's units
+-- the level runs (BD7) of the line after L1, from left to right (L2): as a function, and as the runs that,
+-- written out, are the visual order of the line's units
 pub record AreRunsOfLine (a : AnalysedText) (level : ℕ) (line : Range ℕ) (shown : List Run) : Type 0 where
   pub runs : shown ≡ visual_runs line.start (levels_of_line level a.classes a.levels line.start line.end)
   pub visual : AreVisualRuns line.start (levels_of_line level a.classes a.levels line.start line.end) shown
 
--- the line's characters in the visual order of their levels after L1, from the text's units and how a character is encoded
-pub record IsTextOfLine (encode : ℕ → List ℕ) (units : List ℕ) (a : AnalysedText) (level : ℕ) (line : Range ℕ) (shown : List ℕ) : Type 0 where
-  pub text : shown ≡ line_text a.len_of encode a.chars units level (per_char L a.len_of a.chars a.classes) (per_char 0 a.len_of a.chars a.levels) line.start line.end
+-- the line's characters in the visual order of their levels after L1, from the text's units and how a character
+-- is encoded
+pub record IsTextOfLine (encode : ℕ → List ℕ) (units : List ℕ) (a : AnalysedText) (level : ℕ) (line : Range ℕ)
+    (shown : List ℕ) : Type 0 where
+  pub text : shown
+      ≡ line_text a.len_of encode a.chars units level (per_char L a.len_of a.chars a.classes)
+      (per_char 0 a.len_of a.chars a.levels) line.start line.end
   pub empty : line.start ≡ line.end → shown ≡ []
 
 -- no level of the line is odd after L1

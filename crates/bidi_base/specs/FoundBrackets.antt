@@ -9,7 +9,8 @@ use Rattle.bidi_base.specs.declared.brackets.Bracket.{Bracket}
 abbrev pub brackets_from : ℕ → List (Option BidiMatchedOpeningBracket) → List Bracket
 brackets_from k [] = []
 brackets_from k (None ∷ brackets) = brackets_from (k + 1) brackets
-brackets_from k (Some b ∷ brackets) = record { index = k; opening = b.opening; is_open = b.is_open } ∷ brackets_from (k + 1) brackets
+brackets_from k (Some b ∷ brackets) =
+    record { index = k; opening = b.opening; is_open = b.is_open } ∷ brackets_from (k + 1) brackets
 
 -- those of a sequence, from its classes after W7 and what the source says of its characters
 unfoldable pub found_brackets : List BidiClass → List (Option BidiMatchedOpeningBracket) → List Bracket
@@ -18,4 +19,5 @@ found_brackets classes brackets = brackets_from 0 (counted_brackets classes brac
 -- the pairs of any sequence in which these brackets count
 abbrev pub ArePairsOf : List Bracket → List (ℕ × ℕ) → Type 0
 ArePairsOf found pairs =
-    (classes : List BidiClass) (brackets : List (Option BidiMatchedOpeningBracket)) → found ≡ found_brackets classes brackets → pairs ≡ bracket_pairs classes brackets
+    (classes : List BidiClass) (brackets : List (Option BidiMatchedOpeningBracket))
+    → found ≡ found_brackets classes brackets → pairs ≡ bracket_pairs classes brackets

@@ -20,9 +20,12 @@ AreLevelsFrom paragraph levels = All (λ level. (paragraph ≤ level) × (level 
 -- which character of class BN stands at a place of a paragraph changes no level
 abbrev pub BoundaryNeutralsAreAlike : Source → Option ℕ → Type 0
 BoundaryNeutralsAreAlike source base =
-    (front back : List ℕ) (c d : ℕ) → source.class_of c ≡ BN → source.class_of d ≡ BN → stored_levels source base (front ++ c ∷ back) ≡ stored_levels source base (front ++ d ∷ back)
+    (front back : List ℕ) (c d : ℕ) → source.class_of c ≡ BN → source.class_of d ≡ BN
+    → stored_levels source base (front ++ c ∷ back) ≡ stored_levels source base (front ++ d ∷ back)
 
 -- a paragraph of level 0 in which no character can turn the direction has level 0 throughout
 abbrev pub StaysLeftToRight : Source → Option ℕ → Type 0
 StaysLeftToRight source base =
-    (piece : List ℕ) → is_pure_ltr (map source.class_of piece) ≡ true → paragraph_level base (map source.class_of piece) ≡ 0 → stored_levels source base piece ≡ replicate (length piece) 0
+    (piece : List ℕ) → is_pure_ltr (map source.class_of piece) ≡ true
+    → paragraph_level base (map source.class_of piece) ≡ 0
+    → stored_levels source base piece ≡ replicate (length piece) 0

@@ -1,4 +1,5 @@
--- Working words: the openers that are open while a text is read, as the list of their classes, the innermost first (X6a, X7).
+-- Working words: the openers that are open while a text is read, as the list of their classes, the innermost
+-- first (X6a, X7).
 use Rattle.std.specs.Prelude.{if◌then◌else◌, List, [], ◌∷◌}
 use Rattle.std.specs.List.{list_any}
 use Rattle.bidi_base.specs.declared.char_data.BidiClass.{BidiClass}

@@ -1,4 +1,5 @@
--- Working words: the search for bracket pairs over the brackets of a sequence alone, with a stack of openings, each with the place of its pair in the list of pairs.
+-- Working words: the search for bracket pairs over the brackets of a sequence alone, with a stack of openings,
+-- each with the place of its pair in the list of pairs.
 use Rattle.std.specs.Prelude.{◌≡◌, ℕ, ◌<◌, ◌≤◌, Bool, true, false, nat_lt, ◌==◌, List, [], ◌++◌, map, length, drop, filter, fold, find, Option, Some, None, option_map, unwrap_or, All}
 use Rattle.std.specs.List.{range_with_len}
 use Rattle.bidi_base.specs.declared.data_source.BidiMatchedOpeningBracket.{BidiMatchedOpeningBracket}
@@ -23,7 +24,8 @@ opening_of (Some b) = b.opening
 -- the pass has read what stands before j: the stack holds what waits there, and had room for each opening
 pub record IsUnderWay (brackets : List (Option BidiMatchedOpeningBracket)) (j : ℕ) (waiting : List ℕ) : Type 0 where
   pub waits : waiting ≡ available brackets (closed_before brackets j) j
-  pub room : (k : ℕ) → k < j → is_opening (bracket_at brackets k) ≡ true → length (available brackets (closed_before brackets k) k) < max_open_brackets
+  pub room : (k : ℕ) → k < j → is_opening (bracket_at brackets k) ≡ true
+      → length (available brackets (closed_before brackets k) k) < max_open_brackets
 
 -- the openings before j
 abbrev pub opens : List (Option BidiMatchedOpeningBracket) → ℕ → Bool
@@ -41,7 +43,8 @@ abbrev pub entry_of : List (Option BidiMatchedOpeningBracket) → ℕ → Waitin
 entry_of counted i = record { opening = opening_of (bracket_at counted i); pair = length (openings counted i) }
 
 -- what stands before j is read
-pub record IsPairing (counted : List (Option BidiMatchedOpeningBracket)) (slots : List (ℕ × ℕ)) (waiting : List Waiting) (j : ℕ) : Type 0 where
+pub record IsPairing (counted : List (Option BidiMatchedOpeningBracket)) (slots : List (ℕ × ℕ))
+    (waiting : List Waiting) (j : ℕ) : Type 0 where
   pub places : List ℕ
   pub under_way : IsUnderWay counted j places
   pub entries : waiting ≡ map (entry_of counted) places
@@ -49,7 +52,8 @@ pub record IsPairing (counted : List (Option BidiMatchedOpeningBracket)) (slots 
   pub inside : j ≤ length counted
 
 -- what stands before a place is read, and these brackets are still to come
-pub record IsAt (counted : List (Option BidiMatchedOpeningBracket)) (slots : List (ℕ × ℕ)) (waiting : List Waiting) (rest : List Bracket) : Type 0 where
+pub record IsAt (counted : List (Option BidiMatchedOpeningBracket)) (slots : List (ℕ × ℕ)) (waiting : List Waiting)
+    (rest : List Bracket) : Type 0 where
   pub place : ℕ
   pub pairing : IsPairing counted slots waiting place
   pub left : rest ≡ brackets_from place (drop place counted)
@@ -65,5 +69,7 @@ closed_slots slots = filter (λ p. nat_lt p.0 p.1) slots
 -- a search that has read these brackets, whatever comes behind them
 pub record HasRead (s : PairSearch) (read : List Bracket) : Type 0 where
   pub within : AreWithin (length s.pairs.items) s.waiting.items
-  pub goes_on : s.is_over ≡ false → (counted : List (Option BidiMatchedOpeningBracket)) (rest : List Bracket) → read ++ rest ≡ brackets_from 0 counted → IsAt counted s.pairs.items s.waiting.items rest
-  pub ended : s.is_over ≡ true → (counted : List (Option BidiMatchedOpeningBracket)) (rest : List Bracket) → read ++ rest ≡ brackets_from 0 counted → closed_slots s.pairs.items ≡ pairs_of counted
+  pub goes_on : s.is_over ≡ false → (counted : List (Option BidiMatchedOpeningBracket)) (rest : List Bracket)
+      → read ++ rest ≡ brackets_from 0 counted → IsAt counted s.pairs.items s.waiting.items rest
+  pub ended : s.is_over ≡ true → (counted : List (Option BidiMatchedOpeningBracket)) (rest : List Bracket)
+      → read ++ rest ≡ brackets_from 0 counted → closed_slots s.pairs.items ≡ pairs_of counted

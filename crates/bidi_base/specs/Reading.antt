@@ -1,4 +1,5 @@
--- Working words: what a pass that reads a paragraph from the front keeps true, the isolates that are open so far, and what one more character does.
+-- Working words: what a pass that reads a paragraph from the front keeps true, the isolates that are open so
+-- far, and what one more character does.
 use Rattle.std.specs.Prelude.{ℕ, ◌-◌, Bool, true, false, if◌then◌else◌, List, [], ◌∷◌, ◌++◌, take, drop, replicate, Option, Some, None}
 use Rattle.std.specs.declared.ops.Range.{Range}
 use Rattle.bidi_base.specs.declared.char_data.BidiClass.{BidiClass}
@@ -38,7 +39,8 @@ filled range x xs = take range.start xs ++ (replicate (range.end - range.start) 
 
 -- an FSI whose units are the range has met a strong character; any other initiator stays
 abbrev pub resolved_units : BidiClass → Range ℕ → List BidiClass → List BidiClass
-resolved_units class range units = if is_fsi (class_at units range.start) then filled range (resolved_fsi (Some class)) units else units
+resolved_units class range units =
+    if is_fsi (class_at units range.start) then filled range (resolved_fsi (Some class)) units else units
 
 -- the classes of the units read so far, once the innermost open isolate has met a class
 abbrev pub met_units : BidiClass → Option (Range ℕ) → List BidiClass → List BidiClass

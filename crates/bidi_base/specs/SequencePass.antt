@@ -1,4 +1,5 @@
--- Working words: a pass that lets isolating run sequences begin and go on (X10), which sequences wait for the PDI of an open isolate, and what has come to each.
+-- Working words: a pass that lets isolating run sequences begin and go on (X10), which sequences wait for the
+-- PDI of an open isolate, and what has come to each.
 use Rattle.std.specs.Prelude.{ℕ, ◌-◌, ◌<◌, ◌==◌, if◌then◌else◌, Bool, List, [], ◌∷◌, ◌++◌, length, take, get_or, slice_set, Option, Some, None}
 use Rattle.bidi_base.specs.declared.char_data.BidiClass.{BidiClass}
 use Rattle.bidi_base.specs.Classes.{is_initiator, is_pdi}
@@ -21,10 +22,12 @@ wait_of same s = if same then None else Some s
 abbrev pub choice : Bool → ℕ → BidiClass → List (Option ℕ) → Option ℕ
 choice same s c waits = if same then Some s else waiting_for c waits
 
--- the same for the character at p, by the last kept one before it, if there is one, and the sequence in which that stands
+-- the same for the character at p, by the last kept one before it, if there is one, and the sequence in which
+-- that stands
 abbrev pub waits_before : List BidiClass → List ℕ → Option (ℕ × ℕ) → ℕ → List (Option ℕ) → List (Option ℕ)
 waits_before classes levels None p waits = waits
-waits_before classes levels (Some e) p waits = read_class (class_at classes e.0) (wait_of (level_at levels e.0 == level_at levels p) e.1) waits
+waits_before classes levels (Some e) p waits =
+    read_class (class_at classes e.0) (wait_of (level_at levels e.0 == level_at levels p) e.1) waits
 
 abbrev pub choice_at : List BidiClass → List ℕ → Option (ℕ × ℕ) → ℕ → List (Option ℕ) → Option ℕ
 choice_at classes levels None p waits = None

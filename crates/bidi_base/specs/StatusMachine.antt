@@ -1,4 +1,5 @@
--- Working words: the directional status stack of X1 to X8 with its three counts, and what each character closes and opens.
+-- Working words: the directional status stack of X1 to X8 with its three counts, and what each character closes
+-- and opens.
 use Rattle.std.specs.Prelude.{ℕ, zero, suc, ◌+◌, ◌-◌, ◌<◌, ◌≤◌, ◌≡◌, Bool, false, ◌&&◌, ◌||◌, ◌==◌, nat_lt, nat_le, if◌then◌else◌, List, [], ◌∷◌, None, unwrap_or, ⊤}
 use Rattle.bidi_base.specs.declared.char_data.BidiClass.{BidiClass}
 use Rattle.bidi_base.specs.Classes.{is_initiator, is_opener, is_pdi, is_pdf, is_paragraph_separator, is_removed}
@@ -23,7 +24,14 @@ abbrev pub start_status : ℕ → Status
 start_status paragraph = record { level = paragraph; override = None }
 
 abbrev pub start : ℕ → State
-start paragraph = record { top = record { status = start_status paragraph; is_isolate = false }; below = []; overflow_isolates = 0; overflow_embeddings = 0; valid_isolates = 0 }
+start paragraph =
+    record {
+      top = record { status = start_status paragraph; is_isolate = false };
+      below = [];
+      overflow_isolates = 0;
+      overflow_embeddings = 0;
+      valid_isolates = 0;
+    }
 
 -- the opener fits: the level that it asks for is no greater than the greatest, and nothing that is open has overflowed
 abbrev pub fits_in : BidiClass → State → Bool
@@ -31,10 +39,21 @@ fits_in c s = nat_le (asked_level c s.top.status.level) max_depth && s.overflow_
 
 -- the entry that it pushes
 abbrev pub entry_of : BidiClass → State → Entry
-entry_of c s = record { status = record { level = asked_level c s.top.status.level; override = override_of c }; is_isolate = is_initiator c }
+entry_of c s =
+    record {
+      status = record { level = asked_level c s.top.status.level; override = override_of c };
+      is_isolate = is_initiator c;
+    }
 
 abbrev pub taken : BidiClass → State → State
-taken c s = record { top = entry_of c s; below = s.top ∷ s.below; overflow_isolates = s.overflow_isolates; overflow_embeddings = s.overflow_embeddings; valid_isolates = s.valid_isolates + (if is_initiator c then 1 else 0) }
+taken c s =
+    record {
+      top = entry_of c s;
+      below = s.top ∷ s.below;
+      overflow_isolates = s.overflow_isolates;
+      overflow_embeddings = s.overflow_embeddings;
+      valid_isolates = s.valid_isolates + (if is_initiator c then 1 else 0);
+    }
 
 abbrev pub refused : BidiClass → State → State
 refused c s =

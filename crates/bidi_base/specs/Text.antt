@@ -31,7 +31,8 @@ indices_lengths len_of chars = indices_lengths_from len_of 0 chars
 -- the character that begins at unit u, with its length; `None` where none begins
 abbrev pub char_at : (ℕ → ℕ) → List ℕ → ℕ → Option (ℕ × ℕ)
 char_at len_of [] u = None
-char_at len_of (c ∷ cs) u = if u == 0 then Some (c, len_of c) else (if nat_lt u (len_of c) then None else char_at len_of cs (u - len_of c))
+char_at len_of (c ∷ cs) u =
+    if u == 0 then Some (c, len_of c) else (if nat_lt u (len_of c) then None else char_at len_of cs (u - len_of c))
 
 abbrev pub ascii_of : Option (ℕ × ℕ) → Option ℕ
 ascii_of None = None
@@ -84,7 +85,8 @@ abbrev pub IsPerChar : {X : Type 0} → (ℕ → ℕ) → List ℕ → List X �
 IsPerChar {X} len_of chars units = (values : List X) × (length values ≡ length chars) × (units ≡ per_unit len_of chars values)
 
 -- the iterator s gives the items xs in order, each once, and then ends
-pub record Gives {S A : Type 0} (can : S → Type 0) (steps : S → Option A → S → Type 0) (left : S → Count) (s : S) (xs : List A) : Type 0 where
+pub record Gives {S A : Type 0} (can : S → Type 0) (steps : S → Option A → S → Type 0) (left : S → Count) (s : S)
+    (xs : List A) : Type 0 where
   pub can_next : can s
   pub finite : IsFinite (left s)
   pub items : AlwaysYields steps (λ x. x) s xs

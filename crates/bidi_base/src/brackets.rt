@@ -141,8 +141,14 @@ fn read(
 ) -> Result<bool, AllocError>
     requires { AreWithin (length pairs.old.items) waiting.old.items }
     ensures within { OnOk result (AreWithin (length pairs.new.items) waiting.new.items) }
-    ensures goes_on { IfOk result (λ more. more ≡ true → (counted : List (Option BidiMatchedOpeningBracket)) (rest : List Bracket) → IsAt counted pairs.old.items waiting.old.items (bracket.now ∷ rest) → IsAt counted pairs.new.items waiting.new.items rest) }
-    ensures ended { IfOk result (λ more. more ≡ false → (counted : List (Option BidiMatchedOpeningBracket)) (rest : List Bracket) → IsAt counted pairs.old.items waiting.old.items (bracket.now ∷ rest) → closed_slots pairs.new.items ≡ pairs_of counted) }
+    ensures goes_on { IfOk result (λ more. more ≡ true
+        → (counted : List (Option BidiMatchedOpeningBracket)) (rest : List Bracket)
+        → IsAt counted pairs.old.items waiting.old.items (bracket.now ∷ rest)
+        → IsAt counted pairs.new.items waiting.new.items rest) }
+    ensures ended { IfOk result (λ more. more ≡ false
+        → (counted : List (Option BidiMatchedOpeningBracket)) (rest : List Bracket)
+        → IsAt counted pairs.old.items waiting.old.items (bracket.now ∷ rest)
+        → closed_slots pairs.new.items ≡ pairs_of counted) }
 {
     if bracket.is_open {
         return open(bracket, waiting, pairs);
@@ -164,8 +170,10 @@ fn open(
     ensures room { IfOk result (λ room. room ≡ nat_lt (length waiting.old.items) max_open_brackets) }
     ensures waiting { IfOk result (λ room. IsTrue room → waiting.new.items ≡ waiting.old.items
         ++ record { opening = bracket.now.opening; pair = length pairs.old.items } ∷ []) }
-    ensures pairs { IfOk result (λ room. IsTrue room → pairs.new.items ≡ pairs.old.items ++ (bracket.now.index, bracket.now.index) ∷ []) }
-    ensures full { IfOk result (λ room. room ≡ false → (waiting.new.items ≡ waiting.old.items) × (pairs.new.items ≡ pairs.old.items)) }
+    ensures pairs { IfOk result (λ room. IsTrue room
+        → pairs.new.items ≡ pairs.old.items ++ (bracket.now.index, bracket.now.index) ∷ []) }
+    ensures full { IfOk result (λ room. room ≡ false
+        → (waiting.new.items ≡ waiting.old.items) × (pairs.new.items ≡ pairs.old.items)) }
 {
     if waiting.is_full() {
         return Ok(false);

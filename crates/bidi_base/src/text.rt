@@ -54,11 +54,13 @@ pub trait TextSource: Copy {
 
     /// Each character with its place, in order.
     fn char_indices(self) -> Self::CharIndexIter
-        ensures { Gives Self.CharIndexIter.can_next Self.CharIndexIter.next_gives Self.CharIndexIter.remaining result (char_indices units (characters self)) };
+        ensures { Gives Self.CharIndexIter.can_next Self.CharIndexIter.next_gives Self.CharIndexIter.remaining result
+            (char_indices units (characters self)) };
 
     /// The place and the length of each character, in order.
     fn indices_lengths(self) -> Self::IndexLenIter
-        ensures { Gives Self.IndexLenIter.can_next Self.IndexLenIter.next_gives Self.IndexLenIter.remaining result (indices_lengths units (characters self)) };
+        ensures { Gives Self.IndexLenIter.can_next Self.IndexLenIter.next_gives Self.IndexLenIter.remaining result
+            (indices_lengths units (characters self)) };
 
     /// The length of a character in units, at least 1.
     fn char_len(c: char) -> usize

@@ -25,7 +25,8 @@ written_if_room xs buffer = if length buffer == 0 then buffer else written xs bu
 
 -- the numbers of the stored classes of a text's units (X5c)
 abbrev pub class_numbers : Source → Option SplitRule → (ℕ → ℕ) → List ℕ → List ℕ
-class_numbers source split len_of chars = map class_number (per_unit len_of chars (text_classes source (pieces_by split source chars)))
+class_numbers source split len_of chars =
+    map class_number (per_unit len_of chars (text_classes source (pieces_by split source chars)))
 
 -- the stored levels of a text's units (X1 to I2)
 abbrev pub level_numbers : Source → Option ℕ → Option SplitRule → (ℕ → ℕ) → List ℕ → List ℕ
@@ -36,7 +37,8 @@ abbrev pub paragraphs_in : Source → Option ℕ → Option SplitRule → (ℕ �
 paragraphs_in source base split len_of chars =
     let pieces = pieces_by split source chars in paragraph_rows (ranges_from len_of 0 pieces) (paragraph_levels source base pieces)
 
--- what is wrong with a call over a text of so many units and paragraphs, by its numbers and the room for classes, levels and paragraphs
+-- what is wrong with a call over a text of so many units and paragraphs, by its numbers and the room for
+-- classes, levels and paragraphs
 abbrev pub analysis_fault : ℕ → ℕ → ℕ → ℕ → ℕ → ℕ → ℕ → Option Fault
 analysis_fault base split units class_room level_room count paragraph_room =
     option_or (fault_unless (is_base base) BadBaseLevel)

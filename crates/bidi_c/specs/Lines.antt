@@ -49,8 +49,11 @@ levels_fault l room = option_or (line_fault l) (fault_unless (nat_le (l.end - l.
 
 -- the same for its runs
 abbrev pub runs_fault : KeptLine → ℕ → Option Fault
-runs_fault l room = option_or (line_fault l) (fault_unless (has_room_or_none (length (visual_runs l.start (shown_levels l))) room) NoRoom)
+runs_fault l room =
+    option_or (line_fault l)
+    (fault_unless (has_room_or_none (length (visual_runs l.start (shown_levels l))) room) NoRoom)
 
 -- what is wrong with a call for the order of some levels, by the room for it
 abbrev pub order_fault : List ℕ → ℕ → Option Fault
-order_fault levels room = option_or (fault_unless (list_all is_level levels) BadLevel) (fault_unless (nat_le (length levels) room) NoRoom)
+order_fault levels room =
+    option_or (fault_unless (list_all is_level levels) BadLevel) (fault_unless (nat_le (length levels) room) NoRoom)

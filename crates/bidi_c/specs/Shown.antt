@@ -29,11 +29,14 @@ own_units text l = slice_range text l.start l.end
 -- the units of a line from left to right (L2)
 unfoldable pub reordered : (ℕ → ℕ) → (ℕ → List ℕ) → List ℕ → List ℕ → KeptLine → List ℕ
 reordered len_of encode chars units l =
-    line_text len_of encode chars units l.paragraph.now.level (per_char L len_of chars (line_classes l)) (per_char 0 len_of chars (own_levels l)) 0 (length units)
+    line_text len_of encode chars units l.paragraph.now.level (per_char L len_of chars (line_classes l))
+    (per_char 0 len_of chars (own_levels l)) 0 (length units)
 
 -- a text has one entry a unit, and the line cuts no character
 abbrev pub text_fault : List ℕ → KeptLine → Bool → Option Fault
-text_fault text l cuts = option_or (fault_unless (length text == length l.levels.now) UnequalLengths) (fault_unless (not cuts) CutCharacter)
+text_fault text l cuts =
+    option_or (fault_unless (length text == length l.levels.now) UnequalLengths)
+    (fault_unless (not cuts) CutCharacter)
 
 -- a line of UTF-8, or of UTF-16, begins or ends inside a character
 abbrev pub cuts_utf8 : List ℕ → KeptLine → Bool
@@ -44,12 +47,14 @@ cuts_utf16 text l = not (is_boundary utf16_len (utf16_text text) l.start && is_b
 
 -- the classes and the levels are equal within each character
 abbrev pub is_even : (ℕ → ℕ) → List ℕ → KeptLine → Bool
-is_even len_of chars l = is_per_char class_test.eq len_of chars (line_classes l) && is_per_char level_test.eq len_of chars (own_levels l)
+is_even len_of chars l =
+    is_per_char class_test.eq len_of chars (line_classes l) && is_per_char level_test.eq len_of chars (own_levels l)
 
 -- what is wrong with the units of a line, and with the room for its text
 abbrev pub shown_fault : (ℕ → ℕ) → (ℕ → List ℕ) → List ℕ → List ℕ → KeptLine → ℕ → Option Fault
 shown_fault len_of encode chars units l room =
-    option_or (fault_unless (is_even len_of chars l) UnevenCharacter) (fault_unless (nat_le (length (reordered len_of encode chars units l)) room) NoRoom)
+    option_or (fault_unless (is_even len_of chars l) UnevenCharacter)
+    (fault_unless (nat_le (length (reordered len_of encode chars units l)) room) NoRoom)
 
 -- the index in the line of the character that stands at each visual place (L2)
 unfoldable pub order_of_line : (ℕ → ℕ) → List ℕ → KeptLine → List ℕ
@@ -65,4 +70,5 @@ reordered_chars chars l = map (λ k. get_or chars k 0) (visual_order (shown_leve
 
 -- what is wrong with the characters of a line, and with the room for them
 abbrev pub chars_fault : List ℕ → ℕ → Option Fault
-chars_fault chars room = option_or (fault_unless (list_all is_scalar chars) NotScalar) (fault_unless (nat_le (length chars) room) NoRoom)
+chars_fault chars room =
+    option_or (fault_unless (list_all is_scalar chars) NotScalar) (fault_unless (nat_le (length chars) room) NoRoom)

@@ -30,16 +30,29 @@ pub(crate) fn analyse_utf8(
     levels: &mut [u8],
     paragraphs: &mut [Paragraph],
 ) -> Result<usize, Fault>
-    ensures not_utf8 { ¬ (IsUtf8 text.now) → FaultsAs result (option_or (tables_fault ranges.now brackets.now) (Some Fault.NotUtf8)) }
-    ensures fault { let rows = paragraphs_in (rows_source ranges.now brackets.now) (base_of base) (split_of split) len_utf8 (chars text.now) in
-        IsUtf8 text.now → FaultsAs result (option_or (tables_fault ranges.now brackets.now) (analysis_fault base split (length text.now) (length classes.old) (length levels.old) (length rows) (length paragraphs.old))) }
+    ensures not_utf8 { ¬ (IsUtf8 text.now)
+        → FaultsAs result (option_or (tables_fault ranges.now brackets.now) (Some Fault.NotUtf8)) }
+    ensures fault { let rows = paragraphs_in (rows_source ranges.now brackets.now) (base_of base) (split_of split)
+        len_utf8 (chars text.now) in
+        IsUtf8 text.now
+        → FaultsAs result (option_or (tables_fault ranges.now brackets.now)
+        (analysis_fault base split (length text.now) (length classes.old) (length levels.old) (length rows)
+        (length paragraphs.old))) }
     ensures kept { OnErr result ((classes.new ≡ classes.old) × (levels.new ≡ levels.old) × (paragraphs.new ≡ paragraphs.old)) }
 
-    ensures classes { OnOk result (classes.new ≡ written (class_numbers (rows_source ranges.now brackets.now) (split_of split) len_utf8 (chars text.now)) classes.old) }
-    ensures levels { OnOk result (levels.new ≡ written (level_numbers (rows_source ranges.now brackets.now) (base_of base) (split_of split) len_utf8 (chars text.now)) levels.old) }
-    ensures paragraphs { let rows = paragraphs_in (rows_source ranges.now brackets.now) (base_of base) (split_of split) len_utf8 (chars text.now) in
+    ensures classes { OnOk result (classes.new
+        ≡ written (class_numbers (rows_source ranges.now brackets.now) (split_of split) len_utf8 (chars text.now))
+        classes.old) }
+    ensures levels { OnOk result (levels.new
+        ≡ written
+        (level_numbers (rows_source ranges.now brackets.now) (base_of base) (split_of split) len_utf8
+        (chars text.now))
+        levels.old) }
+    ensures paragraphs { let rows = paragraphs_in (rows_source ranges.now brackets.now) (base_of base)
+        (split_of split) len_utf8 (chars text.now) in
         OnOk result (paragraphs.new ≡ written_if_room rows paragraphs.old) }
-    ensures count { let rows = paragraphs_in (rows_source ranges.now brackets.now) (base_of base) (split_of split) len_utf8 (chars text.now) in
+    ensures count { let rows = paragraphs_in (rows_source ranges.now brackets.now) (base_of base) (split_of split)
+        len_utf8 (chars text.now) in
         IfOk result (λ count. count ≡ length rows) }
 {
     let tables = Tables::new(alloc, ranges, brackets)?;
@@ -59,7 +72,8 @@ pub(crate) fn base_direction_utf8(
     text: &[u8],
     full: bool,
 ) -> Result<usize, Fault>
-    ensures not_utf8 { ¬ (IsUtf8 text.now) → FaultsAs result (option_or (tables_fault ranges.now brackets.now) (Some Fault.NotUtf8)) }
+    ensures not_utf8 { ¬ (IsUtf8 text.now)
+        → FaultsAs result (option_or (tables_fault ranges.now brackets.now) (Some Fault.NotUtf8)) }
     ensures fault { IsUtf8 text.now → FaultsAs result (tables_fault ranges.now brackets.now) }
     ensures direction { IfOk result (λ n. n ≡ direction_in (rows_source ranges.now brackets.now) full (chars text.now)) }
 {
@@ -82,15 +96,26 @@ pub(crate) fn analyse_utf16(
     levels: &mut [u8],
     paragraphs: &mut [Paragraph],
 ) -> Result<usize, Fault>
-    ensures fault { let rows = paragraphs_in (rows_source ranges.now brackets.now) (base_of base) (split_of split) utf16_len (utf16_text text.now) in
-        FaultsAs result (option_or (tables_fault ranges.now brackets.now) (analysis_fault base split (length text.now) (length classes.old) (length levels.old) (length rows) (length paragraphs.old))) }
+    ensures fault { let rows = paragraphs_in (rows_source ranges.now brackets.now) (base_of base) (split_of split)
+        utf16_len (utf16_text text.now) in
+        FaultsAs result (option_or (tables_fault ranges.now brackets.now) (analysis_fault base split (length text.now)
+        (length classes.old) (length levels.old) (length rows) (length paragraphs.old))) }
     ensures kept { OnErr result ((classes.new ≡ classes.old) × (levels.new ≡ levels.old) × (paragraphs.new ≡ paragraphs.old)) }
 
-    ensures classes { OnOk result (classes.new ≡ written (class_numbers (rows_source ranges.now brackets.now) (split_of split) utf16_len (utf16_text text.now)) classes.old) }
-    ensures levels { OnOk result (levels.new ≡ written (level_numbers (rows_source ranges.now brackets.now) (base_of base) (split_of split) utf16_len (utf16_text text.now)) levels.old) }
-    ensures paragraphs { let rows = paragraphs_in (rows_source ranges.now brackets.now) (base_of base) (split_of split) utf16_len (utf16_text text.now) in
+    ensures classes { OnOk result (classes.new
+        ≡ written
+        (class_numbers (rows_source ranges.now brackets.now) (split_of split) utf16_len (utf16_text text.now))
+        classes.old) }
+    ensures levels { OnOk result (levels.new
+        ≡ written
+        (level_numbers (rows_source ranges.now brackets.now) (base_of base) (split_of split) utf16_len
+        (utf16_text text.now))
+        levels.old) }
+    ensures paragraphs { let rows = paragraphs_in (rows_source ranges.now brackets.now) (base_of base)
+        (split_of split) utf16_len (utf16_text text.now) in
         OnOk result (paragraphs.new ≡ written_if_room rows paragraphs.old) }
-    ensures count { let rows = paragraphs_in (rows_source ranges.now brackets.now) (base_of base) (split_of split) utf16_len (utf16_text text.now) in
+    ensures count { let rows = paragraphs_in (rows_source ranges.now brackets.now) (base_of base) (split_of split)
+        utf16_len (utf16_text text.now) in
         IfOk result (λ count. count ≡ length rows) }
 {
     let tables = Tables::new(alloc, ranges, brackets)?;
@@ -132,16 +157,27 @@ pub(crate) fn analyse_utf32(
     levels: &mut [u8],
     paragraphs: &mut [Paragraph],
 ) -> Result<usize, Fault>
-    ensures fault { let rows = paragraphs_in (rows_source ranges.now brackets.now) (base_of base) (split_of split) one_unit text.now in
-        FaultsAs result (option_or (tables_fault ranges.now brackets.now) (option_or (fault_unless (list_all is_scalar text.now) Fault.NotScalar)
-        (analysis_fault base split (length text.now) (length classes.old) (length levels.old) (length rows) (length paragraphs.old)))) }
+    ensures fault { let rows = paragraphs_in (rows_source ranges.now brackets.now) (base_of base) (split_of split)
+        one_unit text.now in
+        FaultsAs result (option_or (tables_fault ranges.now brackets.now)
+        (option_or (fault_unless (list_all is_scalar text.now) Fault.NotScalar)
+        (analysis_fault base split (length text.now) (length classes.old) (length levels.old) (length rows)
+        (length paragraphs.old)))) }
     ensures kept { OnErr result ((classes.new ≡ classes.old) × (levels.new ≡ levels.old) × (paragraphs.new ≡ paragraphs.old)) }
 
-    ensures classes { OnOk result (classes.new ≡ written (class_numbers (rows_source ranges.now brackets.now) (split_of split) one_unit text.now) classes.old) }
-    ensures levels { OnOk result (levels.new ≡ written (level_numbers (rows_source ranges.now brackets.now) (base_of base) (split_of split) one_unit text.now) levels.old) }
-    ensures paragraphs { let rows = paragraphs_in (rows_source ranges.now brackets.now) (base_of base) (split_of split) one_unit text.now in
+    ensures classes { OnOk result (classes.new
+        ≡ written (class_numbers (rows_source ranges.now brackets.now) (split_of split) one_unit text.now)
+        classes.old) }
+    ensures levels { OnOk result (levels.new
+        ≡ written
+        (level_numbers (rows_source ranges.now brackets.now) (base_of base) (split_of split) one_unit
+        text.now)
+        levels.old) }
+    ensures paragraphs { let rows = paragraphs_in (rows_source ranges.now brackets.now) (base_of base)
+        (split_of split) one_unit text.now in
         OnOk result (paragraphs.new ≡ written_if_room rows paragraphs.old) }
-    ensures count { let rows = paragraphs_in (rows_source ranges.now brackets.now) (base_of base) (split_of split) one_unit text.now in
+    ensures count { let rows = paragraphs_in (rows_source ranges.now brackets.now) (base_of base) (split_of split)
+        one_unit text.now in
         IfOk result (λ count. count ≡ length rows) }
 {
     let tables = Tables::new(alloc, ranges, brackets)?;
@@ -161,7 +197,8 @@ pub(crate) fn base_direction_utf32(
     text: &[u32],
     full: bool,
 ) -> Result<usize, Fault>
-    ensures fault { FaultsAs result (option_or (tables_fault ranges.now brackets.now) (fault_unless (list_all is_scalar text.now) Fault.NotScalar)) }
+    ensures fault { FaultsAs result (option_or (tables_fault ranges.now brackets.now)
+        (fault_unless (list_all is_scalar text.now) Fault.NotScalar)) }
     ensures direction { IfOk result (λ n. n ≡ direction_in (rows_source ranges.now brackets.now) full text.now) }
 {
     let tables = Tables::new(alloc, ranges, brackets)?;

@@ -71,7 +71,9 @@ fn write_paragraphs(out: &mut [Paragraph], paragraphs: &[ParagraphInfo])
 // Writes paragraphs as rows to the front of a buffer, unless that has no room at all.
 fn put_paragraphs(out: &mut [Paragraph], paragraphs: &[ParagraphInfo])
     requires { IsTrue (has_room_or_none (length paragraphs.now) (length out.old)) }
-    ensures { out.new ≡ written_if_room (map (λ p. paragraph_row (((range_of p).start, (range_of p).end), level_of p)) paragraphs.now) out.old }
+    ensures { out.new
+        ≡ written_if_room
+        (map (λ p. paragraph_row (((range_of p).start, (range_of p).end), level_of p)) paragraphs.now) out.old }
 {
     if !out.is_empty() {
         write_paragraphs(&mut out[..paragraphs.len()], paragraphs);
@@ -97,15 +99,24 @@ pub(crate) fn analyse<D: BidiDataSource, T: TextSource>(
     levels: &mut [u8],
     paragraphs: &mut [Paragraph],
 ) -> Result<usize, Fault>
-    ensures fault { let rows = paragraphs_in (D.source data_source.now) (base_of base) (split_of split) T.units (T.characters text) in
-        FaultsAs result (analysis_fault base split (text_len T.units (T.characters text)) (length classes.old) (length levels.old) (length rows) (length paragraphs.old)) }
+    ensures fault { let rows = paragraphs_in (D.source data_source.now) (base_of base) (split_of split) T.units
+        (T.characters text) in
+        FaultsAs result (analysis_fault base split (text_len T.units (T.characters text)) (length classes.old)
+        (length levels.old) (length rows) (length paragraphs.old)) }
     ensures kept { OnErr result ((classes.new ≡ classes.old) × (levels.new ≡ levels.old) × (paragraphs.new ≡ paragraphs.old)) }
 
-    ensures classes { OnOk result (classes.new ≡ written (class_numbers (D.source data_source.now) (split_of split) T.units (T.characters text)) classes.old) }
-    ensures levels { OnOk result (levels.new ≡ written (level_numbers (D.source data_source.now) (base_of base) (split_of split) T.units (T.characters text)) levels.old) }
-    ensures paragraphs { let rows = paragraphs_in (D.source data_source.now) (base_of base) (split_of split) T.units (T.characters text) in
+    ensures classes { OnOk result (classes.new
+        ≡ written (class_numbers (D.source data_source.now) (split_of split) T.units (T.characters text))
+        classes.old) }
+    ensures levels { OnOk result (levels.new
+        ≡ written
+        (level_numbers (D.source data_source.now) (base_of base) (split_of split) T.units (T.characters text))
+        levels.old) }
+    ensures paragraphs { let rows = paragraphs_in (D.source data_source.now) (base_of base) (split_of split) T.units
+        (T.characters text) in
         OnOk result (paragraphs.new ≡ written_if_room rows paragraphs.old) }
-    ensures count { let rows = paragraphs_in (D.source data_source.now) (base_of base) (split_of split) T.units (T.characters text) in
+    ensures count { let rows = paragraphs_in (D.source data_source.now) (base_of base) (split_of split) T.units
+        (T.characters text) in
         IfOk result (λ count. count ≡ length rows) }
 {
     let base = base_level(base)?;

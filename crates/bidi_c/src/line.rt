@@ -180,7 +180,11 @@ fn put_runs(out: &mut [Run], levels: &[Level], start: usize, runs: &[Range<usize
 pub(crate) fn line_runs(alloc: Global, line: &KeptLine<'_>, out: &mut [Run]) -> Result<usize, Fault>
     ensures fault { FaultsAs result (runs_fault line.now (length out.old)) }
     ensures kept { OnErr result (out.new ≡ out.old) }
-    ensures runs { OnOk result (out.new ≡ written_if_room (map (run_row line.now.start (shown_levels line.now)) (visual_runs line.now.start (shown_levels line.now))) out.old) }
+    ensures runs { OnOk result (out.new
+        ≡ written_if_room
+        (map (run_row line.now.start (shown_levels line.now))
+        (visual_runs line.now.start (shown_levels line.now)))
+        out.old) }
     ensures count { IfOk result (λ count. count ≡ length (visual_runs line.now.start (shown_levels line.now))) }
 {
     line.check()?;

@@ -8,7 +8,9 @@ use std::alloc::{AllocError, Global};
 
 /// The text of bytes that are UTF-8.
 pub(crate) fn utf8(bytes: &[u8]) -> Result<&str, Fault>
-    ensures { MatchResult result (λ text. (text.now ≡ bytes.now) × IsUtf8 bytes.now) (λ fault. (fault ≡ Fault.NotUtf8) × ¬ (IsUtf8 bytes.now)) }
+    ensures { MatchResult result
+        (λ text. (text.now ≡ bytes.now) × IsUtf8 bytes.now)
+        (λ fault. (fault ≡ Fault.NotUtf8) × ¬ (IsUtf8 bytes.now)) }
 {
     match simdutf8::compat::from_utf8(bytes) {
         Ok(text) => Ok(text),

@@ -31,15 +31,25 @@ pub(crate) fn analyse<D: BidiDataSource>(
     levels: &mut [u8],
     paragraphs: &mut [Paragraph],
 ) -> Result<usize, Fault>
-    ensures fault { let rows = paragraphs_in (D.source data_source.now) (base_of base) (split_of split) utf16_len (utf16_text text.now) in
-        FaultsAs result (analysis_fault base split (length text.now) (length classes.old) (length levels.old) (length rows) (length paragraphs.old)) }
+    ensures fault { let rows = paragraphs_in (D.source data_source.now) (base_of base) (split_of split) utf16_len
+        (utf16_text text.now) in
+        FaultsAs result (analysis_fault base split (length text.now) (length classes.old) (length levels.old)
+        (length rows) (length paragraphs.old)) }
     ensures kept { OnErr result ((classes.new ≡ classes.old) × (levels.new ≡ levels.old) × (paragraphs.new ≡ paragraphs.old)) }
 
-    ensures classes { OnOk result (classes.new ≡ written (class_numbers (D.source data_source.now) (split_of split) utf16_len (utf16_text text.now)) classes.old) }
-    ensures levels { OnOk result (levels.new ≡ written (level_numbers (D.source data_source.now) (base_of base) (split_of split) utf16_len (utf16_text text.now)) levels.old) }
-    ensures paragraphs { let rows = paragraphs_in (D.source data_source.now) (base_of base) (split_of split) utf16_len (utf16_text text.now) in
+    ensures classes { OnOk result (classes.new
+        ≡ written (class_numbers (D.source data_source.now) (split_of split) utf16_len (utf16_text text.now))
+        classes.old) }
+    ensures levels { OnOk result (levels.new
+        ≡ written
+        (level_numbers (D.source data_source.now) (base_of base) (split_of split) utf16_len
+        (utf16_text text.now))
+        levels.old) }
+    ensures paragraphs { let rows = paragraphs_in (D.source data_source.now) (base_of base) (split_of split) utf16_len
+        (utf16_text text.now) in
         OnOk result (paragraphs.new ≡ written_if_room rows paragraphs.old) }
-    ensures count { let rows = paragraphs_in (D.source data_source.now) (base_of base) (split_of split) utf16_len (utf16_text text.now) in
+    ensures count { let rows = paragraphs_in (D.source data_source.now) (base_of base) (split_of split) utf16_len
+        (utf16_text text.now) in
         IfOk result (λ count. count ≡ length rows) }
 {
     let text = Utf16Text::new(text);
@@ -90,8 +100,10 @@ fn reorder(
     requires sound { IsSound line.now }
     ensures fault { FaultsAs result (shown_fault utf16_len encode_utf16 (utf16_text text.now) text.now line.now (length out.old)) }
     ensures kept { OnErr result (out.new ≡ out.old) }
-    ensures text { OnOk result (out.new ≡ written (reordered utf16_len encode_utf16 (utf16_text text.now) text.now line.now) out.old) }
-    ensures count { IfOk result (λ count. count ≡ length (reordered utf16_len encode_utf16 (utf16_text text.now) text.now line.now)) }
+    ensures text { OnOk result (out.new
+        ≡ written (reordered utf16_len encode_utf16 (utf16_text text.now) text.now line.now) out.old) }
+    ensures count { IfOk result (λ count. count
+        ≡ length (reordered utf16_len encode_utf16 (utf16_text text.now) text.now line.now)) }
 {
     let classes = line.classes(alloc)?;
     let levels = line.levels(alloc)?;
@@ -115,11 +127,15 @@ pub(crate) fn reorder_line(
     out: &mut [u16],
 ) -> Result<usize, Fault>
     ensures fault { let units = own_units text.now line.now in
-        let told = option_or (line_fault line.now) (option_or (text_fault text.now line.now (cuts_utf16 text.now line.now)) (shown_fault utf16_len encode_utf16 (utf16_text units) units line.now (length out.old))) in
+        let told = option_or (line_fault line.now)
+        (option_or (text_fault text.now line.now (cuts_utf16 text.now line.now))
+        (shown_fault utf16_len encode_utf16 (utf16_text units) units line.now (length out.old))) in
         FaultsAs result told }
     ensures kept { OnErr result (out.new ≡ out.old) }
-    ensures text { let units = own_units text.now line.now in OnOk result (out.new ≡ written (reordered utf16_len encode_utf16 (utf16_text units) units line.now) out.old) }
-    ensures count { let units = own_units text.now line.now in IfOk result (λ count. count ≡ length (reordered utf16_len encode_utf16 (utf16_text units) units line.now)) }
+    ensures text { let units = own_units text.now line.now in
+        OnOk result (out.new ≡ written (reordered utf16_len encode_utf16 (utf16_text units) units line.now) out.old) }
+    ensures count { let units = own_units text.now line.now in
+        IfOk result (λ count. count ≡ length (reordered utf16_len encode_utf16 (utf16_text units) units line.now)) }
 {
     line.check()?;
     check_text(text, line)?;
@@ -134,11 +150,15 @@ pub(crate) fn line_map(
     out: &mut [usize],
 ) -> Result<usize, Fault>
     ensures fault { let units = own_units text.now line.now in
-        let told = option_or (line_fault line.now) (option_or (text_fault text.now line.now (cuts_utf16 text.now line.now)) (map_fault utf16_len (utf16_text units) line.now (length out.old))) in
+        let told = option_or (line_fault line.now)
+        (option_or (text_fault text.now line.now (cuts_utf16 text.now line.now))
+        (map_fault utf16_len (utf16_text units) line.now (length out.old))) in
         FaultsAs result told }
     ensures kept { OnErr result (out.new ≡ out.old) }
-    ensures order { OnOk result (out.new ≡ written (order_of_line utf16_len (utf16_text (own_units text.now line.now)) line.now) out.old) }
-    ensures count { IfOk result (λ count. count ≡ length (order_of_line utf16_len (utf16_text (own_units text.now line.now)) line.now)) }
+    ensures order { OnOk result (out.new
+        ≡ written (order_of_line utf16_len (utf16_text (own_units text.now line.now)) line.now) out.old) }
+    ensures count { IfOk result (λ count. count
+        ≡ length (order_of_line utf16_len (utf16_text (own_units text.now line.now)) line.now)) }
 {
     line.check()?;
     check_text(text, line)?;

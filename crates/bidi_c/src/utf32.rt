@@ -32,13 +32,18 @@ pub(crate) fn analyse<D: BidiDataSource>(
     levels: &mut [u8],
     paragraphs: &mut [Paragraph],
 ) -> Result<usize, Fault>
-    ensures fault { let rows = paragraphs_in (D.source data_source.now) (base_of base) (split_of split) one_unit text.now in
+    ensures fault { let rows = paragraphs_in (D.source data_source.now) (base_of base) (split_of split) one_unit
+        text.now in
         FaultsAs result (option_or (fault_unless (list_all is_scalar text.now) Fault.NotScalar)
-        (analysis_fault base split (length text.now) (length classes.old) (length levels.old) (length rows) (length paragraphs.old))) }
+        (analysis_fault base split (length text.now) (length classes.old) (length levels.old) (length rows)
+        (length paragraphs.old))) }
     ensures kept { OnErr result ((classes.new ≡ classes.old) × (levels.new ≡ levels.old) × (paragraphs.new ≡ paragraphs.old)) }
 
-    ensures classes { OnOk result (classes.new ≡ written (class_numbers (D.source data_source.now) (split_of split) one_unit text.now) classes.old) }
-    ensures levels { OnOk result (levels.new ≡ written (level_numbers (D.source data_source.now) (base_of base) (split_of split) one_unit text.now) levels.old) }
+    ensures classes { OnOk result (classes.new
+        ≡ written (class_numbers (D.source data_source.now) (split_of split) one_unit text.now) classes.old) }
+    ensures levels { OnOk result (levels.new
+        ≡ written (level_numbers (D.source data_source.now) (base_of base) (split_of split) one_unit text.now)
+        levels.old) }
     ensures paragraphs { let rows = paragraphs_in (D.source data_source.now) (base_of base) (split_of split) one_unit text.now in
         OnOk result (paragraphs.new ≡ written_if_room rows paragraphs.old) }
     ensures count { let rows = paragraphs_in (D.source data_source.now) (base_of base) (split_of split) one_unit text.now in
@@ -114,7 +119,8 @@ pub(crate) fn reorder_line(
     out: &mut [u32],
 ) -> Result<usize, Fault>
     ensures fault { let chars = own_units text.now line.now in
-        FaultsAs result (option_or (line_fault line.now) (option_or (text_fault text.now line.now false) (chars_fault chars (length out.old)))) }
+        FaultsAs result (option_or (line_fault line.now)
+        (option_or (text_fault text.now line.now false) (chars_fault chars (length out.old)))) }
     ensures kept { OnErr result (out.new ≡ out.old) }
     ensures text { OnOk result (out.new ≡ written (reordered_chars (own_units text.now line.now) line.now) out.old) }
     ensures count { IfOk result (λ count. count ≡ length (own_units text.now line.now)) }
@@ -132,7 +138,9 @@ pub(crate) fn line_map(
     out: &mut [usize],
 ) -> Result<usize, Fault>
     ensures fault { let chars = own_units text.now line.now in
-        FaultsAs result (option_or (line_fault line.now) (option_or (text_fault text.now line.now false) (option_or (fault_unless (list_all is_scalar chars) Fault.NotScalar) (map_fault one_unit chars line.now (length out.old))))) }
+        FaultsAs result (option_or (line_fault line.now) (option_or (text_fault text.now line.now false)
+        (option_or (fault_unless (list_all is_scalar chars) Fault.NotScalar)
+        (map_fault one_unit chars line.now (length out.old))))) }
     ensures kept { OnErr result (out.new ≡ out.old) }
     ensures order { OnOk result (out.new ≡ written (order_of_line one_unit (own_units text.now line.now) line.now) out.old) }
     ensures count { IfOk result (λ count. count ≡ length (order_of_line one_unit (own_units text.now line.now) line.now)) }

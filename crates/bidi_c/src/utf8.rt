@@ -32,13 +32,22 @@ pub(crate) fn analyse<D: BidiDataSource>(
     paragraphs: &mut [Paragraph],
 ) -> Result<usize, Fault>
     ensures not_utf8 { ¬ (IsUtf8 text.now) → result ≡ Err Fault.NotUtf8 }
-    ensures fault { let rows = paragraphs_in (D.source data_source.now) (base_of base) (split_of split) len_utf8 (chars text.now) in
-        IsUtf8 text.now → FaultsAs result (analysis_fault base split (length text.now) (length classes.old) (length levels.old) (length rows) (length paragraphs.old)) }
+    ensures fault { let rows = paragraphs_in (D.source data_source.now) (base_of base) (split_of split) len_utf8
+        (chars text.now) in
+        IsUtf8 text.now
+        → FaultsAs result (analysis_fault base split (length text.now) (length classes.old) (length levels.old)
+        (length rows) (length paragraphs.old)) }
     ensures kept { OnErr result ((classes.new ≡ classes.old) × (levels.new ≡ levels.old) × (paragraphs.new ≡ paragraphs.old)) }
 
-    ensures classes { OnOk result (classes.new ≡ written (class_numbers (D.source data_source.now) (split_of split) len_utf8 (chars text.now)) classes.old) }
-    ensures levels { OnOk result (levels.new ≡ written (level_numbers (D.source data_source.now) (base_of base) (split_of split) len_utf8 (chars text.now)) levels.old) }
-    ensures paragraphs { let rows = paragraphs_in (D.source data_source.now) (base_of base) (split_of split) len_utf8 (chars text.now) in
+    ensures classes { OnOk result (classes.new
+        ≡ written (class_numbers (D.source data_source.now) (split_of split) len_utf8 (chars text.now))
+        classes.old) }
+    ensures levels { OnOk result (levels.new
+        ≡ written
+        (level_numbers (D.source data_source.now) (base_of base) (split_of split) len_utf8 (chars text.now))
+        levels.old) }
+    ensures paragraphs { let rows = paragraphs_in (D.source data_source.now) (base_of base) (split_of split) len_utf8
+        (chars text.now) in
         OnOk result (paragraphs.new ≡ written_if_room rows paragraphs.old) }
     ensures count { let rows = paragraphs_in (D.source data_source.now) (base_of base) (split_of split) len_utf8 (chars text.now) in
         IfOk result (λ count. count ≡ length rows) }
@@ -62,7 +71,9 @@ pub(crate) fn base_direction<D: BidiDataSource>(
     text: &[u8],
     full: bool,
 ) -> Result<usize, Fault>
-    ensures { MatchResult result (λ n. IsUtf8 text.now × (n ≡ direction_in (D.source data_source.now) full (chars text.now))) (λ fault. (fault ≡ Fault.NotUtf8) × ¬ (IsUtf8 text.now)) }
+    ensures { MatchResult result
+        (λ n. IsUtf8 text.now × (n ≡ direction_in (D.source data_source.now) full (chars text.now)))
+        (λ fault. (fault ≡ Fault.NotUtf8) × ¬ (IsUtf8 text.now)) }
 {
     let text = StrText::new(utf8(text)?);
     Ok(checked::base_direction(data_source, text, full))
@@ -108,14 +119,19 @@ pub(crate) fn reorder_line(
     line: &KeptLine<'_>,
     out: &mut [u8],
 ) -> Result<usize, Fault>
-    ensures not_utf8 { let told = option_or (line_fault line.now) (option_or (text_fault text.now line.now (cuts_utf8 text.now line.now)) (Some Fault.NotUtf8)) in
+    ensures not_utf8 { let told = option_or (line_fault line.now)
+        (option_or (text_fault text.now line.now (cuts_utf8 text.now line.now)) (Some Fault.NotUtf8)) in
         ¬ (IsUtf8 (own_units text.now line.now)) → FaultsAs result told }
     ensures fault { let units = own_units text.now line.now in
-        let told = option_or (line_fault line.now) (option_or (text_fault text.now line.now (cuts_utf8 text.now line.now)) (shown_fault len_utf8 encode_utf8 (chars units) units line.now (length out.old))) in
+        let told = option_or (line_fault line.now)
+        (option_or (text_fault text.now line.now (cuts_utf8 text.now line.now))
+        (shown_fault len_utf8 encode_utf8 (chars units) units line.now (length out.old))) in
         IsUtf8 units → FaultsAs result told }
     ensures kept { OnErr result (out.new ≡ out.old) }
-    ensures text { let units = own_units text.now line.now in OnOk result (out.new ≡ written (reordered len_utf8 encode_utf8 (chars units) units line.now) out.old) }
-    ensures count { let units = own_units text.now line.now in IfOk result (λ count. count ≡ length (reordered len_utf8 encode_utf8 (chars units) units line.now)) }
+    ensures text { let units = own_units text.now line.now in
+        OnOk result (out.new ≡ written (reordered len_utf8 encode_utf8 (chars units) units line.now) out.old) }
+    ensures count { let units = own_units text.now line.now in
+        IfOk result (λ count. count ≡ length (reordered len_utf8 encode_utf8 (chars units) units line.now)) }
 {
     line.check()?;
     check_text(text, line)?;
@@ -130,13 +146,17 @@ pub(crate) fn line_map(
     line: &KeptLine<'_>,
     out: &mut [usize],
 ) -> Result<usize, Fault>
-    ensures not_utf8 { let told = option_or (line_fault line.now) (option_or (text_fault text.now line.now (cuts_utf8 text.now line.now)) (Some Fault.NotUtf8)) in
+    ensures not_utf8 { let told = option_or (line_fault line.now)
+        (option_or (text_fault text.now line.now (cuts_utf8 text.now line.now)) (Some Fault.NotUtf8)) in
         ¬ (IsUtf8 (own_units text.now line.now)) → FaultsAs result told }
     ensures fault { let units = own_units text.now line.now in
-        let told = option_or (line_fault line.now) (option_or (text_fault text.now line.now (cuts_utf8 text.now line.now)) (map_fault len_utf8 (chars units) line.now (length out.old))) in
+        let told = option_or (line_fault line.now)
+        (option_or (text_fault text.now line.now (cuts_utf8 text.now line.now))
+        (map_fault len_utf8 (chars units) line.now (length out.old))) in
         IsUtf8 units → FaultsAs result told }
     ensures kept { OnErr result (out.new ≡ out.old) }
-    ensures order { OnOk result (out.new ≡ written (order_of_line len_utf8 (chars (own_units text.now line.now)) line.now) out.old) }
+    ensures order { OnOk result (out.new
+        ≡ written (order_of_line len_utf8 (chars (own_units text.now line.now)) line.now) out.old) }
     ensures count { IfOk result (λ count. count ≡ length (order_of_line len_utf8 (chars (own_units text.now line.now)) line.now)) }
 {
     line.check()?;

@@ -15,11 +15,14 @@ use Rattle.bidi_controls.specs.declared.finding.Trouble.TheVariants.{NotClosed, 
 abbrev pub trouble_of : Bool → BidiClass → Trouble
 trouble_of unmatched class = if unmatched then (if is_opener class then NotClosed else ClosesNothing) else Present
 
--- what is found at a place of a line, if something is: a control without its match on the line, or with `any` every control and mark
+-- what is found at a place of a line, if something is: a control without its match on the line, or with `any`
+-- every control and mark
 abbrev pub finding_of : Bool → ℕ → ℕ → Bool → BidiClass → ℕ → Option Finding
 finding_of any line place unmatched class c =
     if any || unmatched then
-    option_map (λ control. record { line = line; column = place + 1; control = control; trouble = trouble_of unmatched class }) (control_of class c)
+    option_map
+    (λ control. record { line = line; column = place + 1; control = control; trouble = trouble_of unmatched class })
+    (control_of class c)
     else None
 
 -- the same of the character at an index of the line
@@ -52,7 +55,9 @@ place_text name finding = name ++ (codes ":" ++ (decimal finding.line ++ (codes 
 
 -- the line for a finding in the file of this name
 abbrev pub finding_line : List ℕ → Finding → List ℕ
-finding_line name finding = place_text name finding ++ (control_name finding.control ++ (codes " " ++ (trouble_text finding.trouble ++ codes "\n")))
+finding_line name finding =
+    place_text name finding
+    ++ (control_name finding.control ++ (codes " " ++ (trouble_text finding.trouble ++ codes "\n")))
 
 -- those of all findings
 abbrev pub report_of : List ℕ → List Finding → List ℕ

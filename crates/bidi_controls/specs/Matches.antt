@@ -1,4 +1,5 @@
--- Which direction controls of a line have no match on it (BD9, BD11). A line is taken as the list of its characters' classes.
+-- Which direction controls of a line have no match on it (BD9, BD11). A line is taken as the list of its
+-- characters' classes.
 use Rattle.std.specs.Prelude.{ℕ, Bool, not, ◌&&◌, ◌||◌, if◌then◌else◌, List, is_none, Option}
 use Rattle.std.specs.List.{list_any}
 use Rattle.bidi_base.specs.declared.char_data.BidiClass.{BidiClass}
@@ -15,7 +16,8 @@ is_closer class = is_pdi class || is_pdf class
 abbrev pub is_control : BidiClass → Bool
 is_control class = is_opener class || is_closer class
 
--- the character that closes the opener q, if there is one: an isolate's matching PDI (BD9), and of an embedding or an override the first later PDF at its own depth inside the same isolates (BD11)
+-- the character that closes the opener q, if there is one: an isolate's matching PDI (BD9), and of an embedding
+-- or an override the first later PDF at its own depth inside the same isolates (BD11)
 abbrev pub closer_of : List BidiClass → ℕ → Option ℕ
 closer_of classes q = if is_initiator_at classes q then matching_pdi classes q else closing_pdf classes q
 

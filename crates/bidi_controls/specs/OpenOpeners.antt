@@ -39,7 +39,8 @@ left_open _ openers = openers
 
 -- what is open after it, where it stands at this place
 abbrev pub then_open : ℕ → BidiClass → List Opener → List Opener
-then_open place class openers = if is_opener class then record { place = place; is_isolate = is_initiator class } ∷ openers else openers
+then_open place class openers =
+    if is_opener class then record { place = place; is_isolate = is_initiator class } ∷ openers else openers
 
 -- of the characters read so far, which are controls without a match: with one more, which closes what stands at a place
 abbrev pub with_closed : Option ℕ → List Bool → List Bool

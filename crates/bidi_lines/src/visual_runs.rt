@@ -161,8 +161,10 @@ pub fn levels_and_runs(
     requires ordered { line.start ≤ line.end }
     requires within { line.end ≤ length levels.now }
     ensures levels { IfOk result (λ r. r.0.items ≡ levels_with_line level classes.now levels.now line.start line.end) }
-    ensures runs { IfOk result (λ r. map run_of r.1.items ≡ visual_runs line.start (levels_of_line level classes.now levels.now line.start line.end)) }
-    ensures visual { IfOk result (λ r. AreVisualRuns line.start (levels_of_line level classes.now levels.now line.start line.end) (map run_of r.1.items)) }
+    ensures runs { IfOk result (λ r. map run_of r.1.items
+        ≡ visual_runs line.start (levels_of_line level classes.now levels.now line.start line.end)) }
+    ensures visual { IfOk result (λ r. AreVisualRuns line.start
+        (levels_of_line level classes.now levels.now line.start line.end) (map run_of r.1.items)) }
 {
     let (start, end) = (line.start, line.end);
     let shown = levels_with_line(alloc, level, classes, levels, line)?;

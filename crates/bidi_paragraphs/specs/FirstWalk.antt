@@ -74,7 +74,8 @@ pub record IsReadBy (class : BidiClass) (range : Range ℕ) (old new : Reading) 
   pub turns : new.flags ≡ with_class old.flags class
 
 -- the paragraph that was read ends at a unit
-pub record IsClosed (base : Option ℕ) (r : Reading) (end : ℕ) (old : List ParagraphInfo) (old_flags : List ParagraphFlags) (new : List ParagraphInfo) (new_flags : List ParagraphFlags) : Type 0 where
+pub record IsClosed (base : Option ℕ) (r : Reading) (end : ℕ) (old : List ParagraphInfo)
+    (old_flags : List ParagraphFlags) (new : List ParagraphInfo) (new_flags : List ParagraphFlags) : Type 0 where
   pub ranges : ranges_of new ≡ ranges_of old ++ (r.start, end) ∷ []
   pub levels : levels_of new ≡ levels_of old ++ unwrap_or base (level_by r.deciding) ∷ []
   pub flags : new_flags ≡ old_flags ++ r.flags ∷ []
@@ -91,13 +92,15 @@ ahead len_of chars u = drop (char_index len_of chars u) chars
 abbrev pub AreIdle : Source → ClassSet → List ℕ → Type 0
 AreIdle source minded cs = All (λ c. has minded (source.class_of c) ≡ false) cs
 
--- from one unit up to another these characters were read: their classes were written, and what stands before is as it was
+-- from one unit up to another these characters were read: their classes were written, and what stands before is
+-- as it was
 pub record AreWritten (source : Source) (len_of : ℕ → ℕ) (read : List ℕ) (from to : ℕ) (old new : List BidiClass) : Type 0 where
   pub long : to ≡ from + text_len len_of read
   pub classes : take to new ≡ take from old ++ per_unit len_of read (map source.class_of read)
 
 -- the first of the characters that come were read, and nothing depends on them
-pub record IsSkimmed (source : Source) (len_of : ℕ → ℕ) (minded : ClassSet) (coming : List ℕ) (from to : ℕ) (old new : List BidiClass) : Type 0 where
+pub record IsSkimmed (source : Source) (len_of : ℕ → ℕ) (minded : ClassSet) (coming : List ℕ) (from to : ℕ)
+    (old new : List BidiClass) : Type 0 where
   pub read : List ℕ
   pub rest : List ℕ
   pub joined : coming ≡ read ++ rest
@@ -105,7 +108,8 @@ pub record IsSkimmed (source : Source) (len_of : ℕ → ℕ) (minded : ClassSet
   pub written : AreWritten source len_of read from to old new
 
 -- they were read up to one on whose class something may depend
-pub record IsMet (source : Source) (len_of : ℕ → ℕ) (minded : ClassSet) (coming : List ℕ) (from : ℕ) (met : Met) (old new : List BidiClass) : Type 0 where
+pub record IsMet (source : Source) (len_of : ℕ → ℕ) (minded : ClassSet) (coming : List ℕ) (from : ℕ) (met : Met)
+    (old new : List BidiClass) : Type 0 where
   pub read : List ℕ
   pub rest : List ℕ
   pub joined : coming ≡ read ++ met.c ∷ rest

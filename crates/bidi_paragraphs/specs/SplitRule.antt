@@ -29,8 +29,10 @@ abbrev pub AreParagraphRangesBy : SplitRule → Source → (ℕ → ℕ) → Lis
 AreParagraphRangesBy EachSeparator source len_of chars ranges = AreParagraphRanges source len_of chars ranges
 AreParagraphRangesBy CrLfTogether source len_of chars ranges = AreCrLfParagraphRanges source len_of chars ranges
 
--- a text that is cut into these pieces has its stored classes (X5c) and levels (X1 to I2), and these are the ranges (P1) and the levels (P2, P3) of its paragraphs
-pub record IsAnalysisOf (source : Source) (base : Option ℕ) (pieces : List (List ℕ)) (a : AnalysedText) (own_ranges : List (ℕ × ℕ)) (own_levels : List ℕ) : Type 0 where
+-- a text that is cut into these pieces has its stored classes (X5c) and levels (X1 to I2), and these are the
+-- ranges (P1) and the levels (P2, P3) of its paragraphs
+pub record IsAnalysisOf (source : Source) (base : Option ℕ) (pieces : List (List ℕ)) (a : AnalysedText)
+    (own_ranges : List (ℕ × ℕ)) (own_levels : List ℕ) : Type 0 where
   pub classes : a.classes ≡ per_unit a.len_of a.chars (text_classes source pieces)
   pub levels : a.levels ≡ per_unit a.len_of a.chars (text_levels source base pieces)
   pub ranges : own_ranges ≡ ranges_from a.len_of 0 pieces
@@ -38,4 +40,5 @@ pub record IsAnalysisOf (source : Source) (base : Option ℕ) (pieces : List (Li
 
 -- the same of a text that a rule cuts, or that is one paragraph
 abbrev pub IsAnalysisBy : Source → Option ℕ → Option SplitRule → AnalysedText → List (ℕ × ℕ) → List ℕ → Type 0
-IsAnalysisBy source base split a own_ranges own_levels = IsAnalysisOf source base (pieces_by split source a.chars) a own_ranges own_levels
+IsAnalysisBy source base split a own_ranges own_levels =
+    IsAnalysisOf source base (pieces_by split source a.chars) a own_ranges own_levels

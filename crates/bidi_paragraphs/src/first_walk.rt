@@ -144,7 +144,8 @@ impl Reading {
     ) -> Result<(), AllocError>
         requires within { All (λ u. (u.units.start ≤ u.units.end) × (u.units.end ≤ length classes.old)) self.old.undecided.items }
         requires few { self.old.depth < usize.MAX }
-        ensures classes { OnOk result (classes.new ≡ classes_after class (waiting self.old.depth self.old.undecided.items) classes.old) }
+        ensures classes { OnOk result (classes.new
+            ≡ classes_after class (waiting self.old.depth self.old.undecided.items) classes.old) }
         ensures reading { OnOk result (IsReadBy class units self.old self.new) }
     {
         self.flags = self.flags.with(class);
@@ -168,7 +169,9 @@ impl Reading {
     // Takes the innermost open isolate from the undecided ones, if it is one of them.
     fn take_waiting(&mut self) -> Option<Undecided>
         ensures taken { result ≡ waiting self.old.depth self.old.undecided.items }
-        ensures rest { self.new.undecided.items ≡ (if is_some (waiting self.old.depth self.old.undecided.items) then outer self.old.undecided.items else self.old.undecided.items) }
+        ensures rest { self.new.undecided.items
+            ≡ (if is_some (waiting self.old.depth self.old.undecided.items) then outer self.old.undecided.items
+            else self.old.undecided.items) }
         ensures start { self.new.start ≡ self.old.start }
         ensures depth { self.new.depth ≡ self.old.depth }
         ensures deciding { self.new.deciding ≡ self.old.deciding }
@@ -186,7 +189,9 @@ impl Reading {
         requires within { All (λ u. (u.units.start ≤ u.units.end) × (u.units.end ≤ length classes.old)) self.old.undecided.items }
         requires strong { is_strong_class class ≡ true }
         ensures classes { classes.new ≡ classes_after class (waiting self.old.depth self.old.undecided.items) classes.old }
-        ensures rest { self.new.undecided.items ≡ (if is_some (waiting self.old.depth self.old.undecided.items) then outer self.old.undecided.items else self.old.undecided.items) }
+        ensures rest { self.new.undecided.items
+            ≡ (if is_some (waiting self.old.depth self.old.undecided.items) then outer self.old.undecided.items
+            else self.old.undecided.items) }
         ensures start { self.new.start ≡ self.old.start }
         ensures depth { self.new.depth ≡ self.old.depth }
         ensures deciding { self.new.deciding ≡ deciding_after class self.old.depth self.old.deciding }
@@ -225,7 +230,8 @@ impl TextReading {
     // Ends the paragraph that was read at a unit.
     fn close(&mut self, end: usize) -> Result<(), AllocError>
         requires { self.old.reading.start ≤ end }
-        ensures closed { OnOk result (IsClosed self.old.base self.old.reading end self.old.paragraphs.items self.old.flags.items self.new.paragraphs.items self.new.flags.items) }
+        ensures closed { OnOk result (IsClosed self.old.base self.old.reading end self.old.paragraphs.items
+            self.old.flags.items self.new.paragraphs.items self.new.flags.items) }
         ensures reading { self.new.reading ≡ self.old.reading }
         ensures base { self.new.base ≡ self.old.base }
     {
@@ -246,14 +252,21 @@ impl TextReading {
         units: Range<usize>,
         ends: bool,
     ) -> Result<ClassSet, AllocError>
-        requires within { All (λ u. (u.units.start ≤ u.units.end) × (u.units.end ≤ length classes.old)) self.old.reading.undecided.items }
+        requires within { All (λ u. (u.units.start ≤ u.units.end) × (u.units.end ≤ length classes.old))
+            self.old.reading.undecided.items }
         requires few { self.old.reading.depth < usize.MAX }
         requires follows { self.old.reading.start ≤ units.end }
-        ensures classes { OnOk result (classes.new ≡ classes_after class (waiting self.old.reading.depth self.old.reading.undecided.items) classes.old) }
+        ensures classes { OnOk result (classes.new
+            ≡ classes_after class (waiting self.old.reading.depth self.old.reading.undecided.items) classes.old) }
         ensures on { OnOk result (ends ≡ false
-            → IsReadBy class units self.old.reading self.new.reading × (self.new.paragraphs.items ≡ self.old.paragraphs.items) × (self.new.flags.items ≡ self.old.flags.items)) }
+            → IsReadBy class units self.old.reading self.new.reading
+            × (self.new.paragraphs.items ≡ self.old.paragraphs.items)
+            × (self.new.flags.items ≡ self.old.flags.items)) }
         ensures ended { OnOk result (ends ≡ true
-            → IsFresh self.new.reading units.end × ((r : Reading) × IsReadBy class units self.old.reading r × IsClosed self.old.base r units.end self.old.paragraphs.items self.old.flags.items self.new.paragraphs.items self.new.flags.items)) }
+            → IsFresh self.new.reading units.end
+            × ((r : Reading) × IsReadBy class units self.old.reading r
+            × IsClosed self.old.base r units.end self.old.paragraphs.items self.old.flags.items
+            self.new.paragraphs.items self.new.flags.items)) }
         ensures minded { IfOk result (λ set. (c : BidiClass) → has set c ≡ minds self.new.reading c) }
         ensures base { self.new.base ≡ self.old.base }
     {
@@ -329,8 +342,10 @@ fn skim<D: BidiDataSource, T: TextSource>(
     requires sized { length classes.old ≡ text_len T.units (T.characters text) }
     requires begins { IsTrue (is_boundary_of T.units (T.characters text) at.old) }
     ensures met { MatchOption result
-        (IsSkimmed (D.source data_source.now) T.units minded (ahead T.units (T.characters text) at.old) at.old at.new classes.old classes.new)
-        (λ met. IsMet (D.source data_source.now) T.units minded (ahead T.units (T.characters text) at.old) at.old met classes.old classes.new) }
+        (IsSkimmed (D.source data_source.now) T.units minded (ahead T.units (T.characters text) at.old) at.old at.new
+        classes.old classes.new)
+        (λ met. IsMet (D.source data_source.now) T.units minded (ahead T.units (T.characters text) at.old) at.old met
+        classes.old classes.new) }
     ensures known { AreKnown (D.source data_source.now) known.new }
 {
     let mut start = *at;
@@ -381,7 +396,8 @@ fn read_to_minded<D: BidiDataSource, T: TextSource>(
 ) -> Option<Met>
     requires { text_len T.units (T.characters block) ≤ length classes.old }
     ensures { MatchOption result
-        (IsSkimmed (D.source data_source.now) T.units minded (T.characters block) 0 (text_len T.units (T.characters block)) classes.old classes.new)
+        (IsSkimmed (D.source data_source.now) T.units minded (T.characters block) 0
+        (text_len T.units (T.characters block)) classes.old classes.new)
         (λ met. IsMet (D.source data_source.now) T.units minded (T.characters block) 0 met classes.old classes.new) }
 {
     for (start, c) in block.char_indices() {
@@ -408,8 +424,10 @@ fn next_minded<D: BidiDataSource, T: TextSource>(
     requires begins { IsTrue (is_boundary_of T.units (T.characters text) from) }
     requires known { AreKnown (D.source data_source.now) known.old }
     ensures met { MatchOption result
-        (IsSkimmed (D.source data_source.now) T.units minded (ahead T.units (T.characters text) from) from (text_len T.units (T.characters text)) classes.old classes.new)
-        (λ met. IsMet (D.source data_source.now) T.units minded (ahead T.units (T.characters text) from) from met classes.old classes.new) }
+        (IsSkimmed (D.source data_source.now) T.units minded (ahead T.units (T.characters text) from) from
+        (text_len T.units (T.characters text)) classes.old classes.new)
+        (λ met. IsMet (D.source data_source.now) T.units minded (ahead T.units (T.characters text) from) from met
+        classes.old classes.new) }
     ensures known { AreKnown (D.source data_source.now) known.new }
 {
     let mut at = from;
@@ -482,7 +500,8 @@ pub fn walk<D: BidiDataSource, T: TextSource>(
     split: Option<SplitRule>,
 ) -> Result<Found, AllocError>
     ensures classes { let pieces = pieces_by split (D.source data_source.now) (T.characters text) in
-        IfOk result (λ i. i.original_classes.items ≡ per_unit T.units (T.characters text) (text_classes (D.source data_source.now) pieces)) }
+        IfOk result (λ i. i.original_classes.items
+        ≡ per_unit T.units (T.characters text) (text_classes (D.source data_source.now) pieces)) }
     ensures ranges { let pieces = pieces_by split (D.source data_source.now) (T.characters text) in
         IfOk result (λ i. ranges_of i.paragraphs.items ≡ ranges_from T.units 0 pieces) }
     ensures levels { let pieces = pieces_by split (D.source data_source.now) (T.characters text) in

@@ -36,7 +36,9 @@ pub struct ClassifiedParagraph<'a, D: BidiDataSource, T: TextSource> {
     pub original_classes: &'a [BidiClass],
     ghost low: { level ≤ 125 },
     ghost own_flags: { flags ≡ flags_of (map (D.source data_source.now).class_of (T.characters text)) },
-    ghost stored: { original_classes.now ≡ per_unit T.units (T.characters text) (stored_classes (map (D.source data_source.now).class_of (T.characters text))) },
+    ghost stored: { original_classes.now
+        ≡ per_unit T.units (T.characters text)
+        (stored_classes (map (D.source data_source.now).class_of (T.characters text))) },
 }
 
 /// Finds the levels (X1 to I2) of one paragraph after another, and keeps the memory of these lists from each to
@@ -71,13 +73,21 @@ impl LevelResolver {
         levels: &mut [Level],
     ) -> Result<(), AllocError>
         requires { length levels.old ≡ length paragraph.now.original_classes.now }
-        ensures levels { let stored = per_char L T.units (T.characters paragraph.now.text) paragraph.now.original_classes.now in
-            OnOk result (levels.new ≡ per_unit T.units (T.characters paragraph.now.text) (explicit_levels paragraph.now.level stored)) }
-        ensures classes { let stored = per_char L T.units (T.characters paragraph.now.text) paragraph.now.original_classes.now in
-            OnOk result (self.new.classes.items ≡ per_unit T.units (T.characters paragraph.now.text) (processing_classes paragraph.now.level stored)) }
-        ensures sequences { let stored = per_char L T.units (T.characters paragraph.now.text) paragraph.now.original_classes.now in
-            OnOk result (sequences_in T.units (T.characters paragraph.now.text) stored self.new.sequences.items ≡ sequences paragraph.now.level stored (explicit_levels paragraph.now.level stored)) }
-        ensures fits { OnOk result (All (λ s. AreLines T.units (T.characters paragraph.now.text) (run_bounds s)) self.new.sequences.items) }
+        ensures levels { let stored = per_char L T.units (T.characters paragraph.now.text)
+            paragraph.now.original_classes.now in
+            OnOk result (levels.new
+            ≡ per_unit T.units (T.characters paragraph.now.text) (explicit_levels paragraph.now.level stored)) }
+        ensures classes { let stored = per_char L T.units (T.characters paragraph.now.text)
+            paragraph.now.original_classes.now in
+            OnOk result (self.new.classes.items
+            ≡ per_unit T.units (T.characters paragraph.now.text)
+            (processing_classes paragraph.now.level stored)) }
+        ensures sequences { let stored = per_char L T.units (T.characters paragraph.now.text)
+            paragraph.now.original_classes.now in
+            OnOk result (sequences_in T.units (T.characters paragraph.now.text) stored self.new.sequences.items
+            ≡ sequences paragraph.now.level stored (explicit_levels paragraph.now.level stored)) }
+        ensures fits { OnOk result
+            (All (λ s. AreLines T.units (T.characters paragraph.now.text) (run_bounds s)) self.new.sequences.items) }
     {
         let original_classes = paragraph.original_classes;
         self.classes.clear();
@@ -131,13 +141,16 @@ impl LevelResolver {
         requires long { length levels.old ≡ text_len T.units (T.characters paragraph.now.text) }
         requires some { 0 < length levels.old }
         requires flat { is_flat (map (D.source paragraph.now.data_source.now).class_of (T.characters paragraph.now.text)) ≡ true }
-        ensures per_char { OnOk result (IsTrue (is_per_char ⟦<Level as PartialEq>⟧.eq T.units (T.characters paragraph.now.text) levels.new)) }
+        ensures per_char { OnOk result
+            (IsTrue (is_per_char ⟦<Level as PartialEq>⟧.eq T.units (T.characters paragraph.now.text) levels.new)) }
         ensures resolved { let source = D.source paragraph.now.data_source.now in
             let classes = map source.class_of (T.characters paragraph.now.text) in
             let stored = stored_classes classes in
             let level = paragraph.now.level in
-            OnOk result (AreResolved classes (map source.bracket_of (T.characters paragraph.now.text)) (explicit_levels level stored) (explicit_classes level stored)
-            (per_char 0 T.units (T.characters paragraph.now.text) levels.new) (sequences level stored (explicit_levels level stored))) }
+            OnOk result (AreResolved classes (map source.bracket_of (T.characters paragraph.now.text))
+            (explicit_levels level stored) (explicit_classes level stored)
+            (per_char 0 T.units (T.characters paragraph.now.text) levels.new)
+            (sequences level stored (explicit_levels level stored))) }
     {
         levels.fill(paragraph.level);
         self.copy_flat(paragraph)?;
@@ -166,13 +179,16 @@ impl LevelResolver {
         levels: &mut [Level],
     ) -> Result<(), AllocError>
         requires { length levels.old ≡ text_len T.units (T.characters paragraph.now.text) }
-        ensures per_char { OnOk result (IsTrue (is_per_char ⟦<Level as PartialEq>⟧.eq T.units (T.characters paragraph.now.text) levels.new)) }
+        ensures per_char { OnOk result
+            (IsTrue (is_per_char ⟦<Level as PartialEq>⟧.eq T.units (T.characters paragraph.now.text) levels.new)) }
         ensures resolved { let source = D.source paragraph.now.data_source.now in
             let classes = map source.class_of (T.characters paragraph.now.text) in
             let stored = stored_classes classes in
             let level = paragraph.now.level in
-            OnOk result (AreResolved classes (map source.bracket_of (T.characters paragraph.now.text)) (explicit_levels level stored) (explicit_classes level stored)
-            (per_char 0 T.units (T.characters paragraph.now.text) levels.new) (sequences level stored (explicit_levels level stored))) }
+            OnOk result (AreResolved classes (map source.bracket_of (T.characters paragraph.now.text))
+            (explicit_levels level stored) (explicit_classes level stored)
+            (per_char 0 T.units (T.characters paragraph.now.text) levels.new)
+            (sequences level stored (explicit_levels level stored))) }
     {
         self.prepare(alloc, paragraph, levels)?;
         let classes = self.classes.as_mut_slice();
@@ -200,13 +216,16 @@ impl LevelResolver {
     ) -> Result<(), AllocError>
         requires long { length levels.old ≡ text_len T.units (T.characters paragraph.now.text) }
         requires some { 0 < length levels.old }
-        ensures per_char { OnOk result (IsTrue (is_per_char ⟦<Level as PartialEq>⟧.eq T.units (T.characters paragraph.now.text) levels.new)) }
+        ensures per_char { OnOk result
+            (IsTrue (is_per_char ⟦<Level as PartialEq>⟧.eq T.units (T.characters paragraph.now.text) levels.new)) }
         ensures resolved { let source = D.source paragraph.now.data_source.now in
             let classes = map source.class_of (T.characters paragraph.now.text) in
             let stored = stored_classes classes in
             let level = paragraph.now.level in
-            OnOk result (AreResolved classes (map source.bracket_of (T.characters paragraph.now.text)) (explicit_levels level stored) (explicit_classes level stored)
-            (per_char 0 T.units (T.characters paragraph.now.text) levels.new) (sequences level stored (explicit_levels level stored))) }
+            OnOk result (AreResolved classes (map source.bracket_of (T.characters paragraph.now.text))
+            (explicit_levels level stored) (explicit_classes level stored)
+            (per_char 0 T.units (T.characters paragraph.now.text) levels.new)
+            (sequences level stored (explicit_levels level stored))) }
     {
         if paragraph.flags.is_flat() {
             self.resolve_flat(paragraph, levels)
@@ -291,9 +310,11 @@ impl ClassTest for Removed {
 // paragraph level.
 fn fill_removed(para_level: Level, classes: &[BidiClass], levels: &mut [Level])
     requires lengths { length levels.old ≡ length classes.now }
-    ensures kept { (u : ℕ) → u < length classes.now → is_kept_at classes.now u ≡ true → slice_index levels.new u ≡ slice_index levels.old u }
+    ensures kept { (u : ℕ) → u < length classes.now → is_kept_at classes.now u ≡ true
+        → slice_index levels.new u ≡ slice_index levels.old u }
     ensures front { 0 < length classes.now → is_kept_at classes.now 0 ≡ false → slice_index levels.new 0 ≡ para_level }
-    ensures removed { (u : ℕ) → u + 1 < length classes.now → is_kept_at classes.now (u + 1) ≡ false → slice_index levels.new (u + 1) ≡ slice_index levels.new u }
+    ensures removed { (u : ℕ) → u + 1 < length classes.now → is_kept_at classes.now (u + 1) ≡ false
+        → slice_index levels.new (u + 1) ≡ slice_index levels.new u }
 {
     let units = classes.len();
     let mut at = first_passing(Removed, classes, 0, units);

@@ -31,7 +31,8 @@ side_before s waits = if waits then opposite_of s.e else s.e
 
 -- the units below `done` are as N1 leaves them but for N2; those from there up to `at` are neutrals
 pub record IsJoined (s : Unjoined) (now : List BidiClass) (waits : Bool) (done at : ℕ) : Type 0 where
-  pub written : map (n2_rule s.e) (at_places L now (units_of s 0 done)) ++ n1_n2 s.e (side_before s waits) s.eos (at_places L s.old (units_of s done (length s.old)))
+  pub written : map (n2_rule s.e) (at_places L now (units_of s 0 done))
+      ++ n1_n2 s.e (side_before s waits) s.eos (at_places L s.old (units_of s done (length s.old)))
       ≡ n1_n2 s.e s.sos s.eos (at_places L s.old (units_of s 0 (length s.old)))
   pub waiting : (k : ℕ) → done ≤ k → k < at → is_seen s.runs s.old k ≡ true → is_neutral (class_at s.old k) ≡ true
   pub unwritten : (k : ℕ) → done ≤ k → class_at now k ≡ class_at s.old k

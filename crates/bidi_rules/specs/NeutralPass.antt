@@ -1,4 +1,5 @@
--- The neutrals of a sequence over the list of its characters: what is gathered from the units, and what is written back to them.
+-- The neutrals of a sequence over the list of its characters: what is gathered from the units, and what is
+-- written back to them.
 use Rattle.std.specs.Prelude.{◌≡◌, ℕ, Bool, true, false, List, [], ◌∷◌, get_or, map, flat_map, length, filter}
 use Rattle.std.specs.List.{list_all}
 use Rattle.std.specs.Option.{option_map_or}
@@ -32,7 +33,10 @@ values_of d len_of chars units indexes = at_places d units (map (place len_of ch
 
 -- the bracket that the character with an index is, if it counts, by the unit at which it begins
 abbrev pub placed_bracket : (ℕ → ℕ) → List ℕ → Source → List BidiClass → ℕ → List Bracket
-placed_bracket len_of chars source units k = brackets_from (place len_of chars k) (counted_bracket (class_at units (place len_of chars k)) (source.bracket_of (get_or chars k 0)) ∷ [])
+placed_bracket len_of chars source units k =
+    brackets_from (place len_of chars k) (counted_bracket (class_at units (place len_of chars k))
+    (source.bracket_of (get_or chars k 0))
+    ∷ [])
 
 -- those of the characters with these indexes
 abbrev pub placed_brackets : (ℕ → ℕ) → List ℕ → Source → List BidiClass → List ℕ → List Bracket
@@ -40,7 +44,9 @@ placed_brackets len_of chars source units indexes = flat_map (placed_bracket len
 
 -- the bracket that begins at a unit, if one does and it counts
 abbrev pub unit_bracket : (ℕ → ℕ) → List ℕ → Source → List BidiClass → ℕ → List Bracket
-unit_bracket len_of chars source units u = option_map_or (λ e. brackets_from u (counted_bracket (class_at units u) (source.bracket_of e.0) ∷ [])) (char_at len_of chars u) []
+unit_bracket len_of chars source units u =
+    option_map_or (λ e. brackets_from u (counted_bracket (class_at units u) (source.bracket_of e.0) ∷ []))
+    (char_at len_of chars u) []
 
 -- those at the units from `low` up to `high`
 abbrev pub unit_brackets : (ℕ → ℕ) → List ℕ → Source → List BidiClass → ℕ → ℕ → List Bracket
@@ -70,9 +76,11 @@ pub record IsReady (len_of : ℕ → ℕ) (chars : List ℕ) (runs : List (Range
   pub resolved : list_all is_weak_resolved (values_of L len_of chars old (kept_in_place len_of chars old (map bounds runs))) ≡ true
 
 -- N0 is done for these pairs: the classes of the characters, and at the units
-pub record IsPaired (len_of : ℕ → ℕ) (chars : List ℕ) (original old mid : List BidiClass) (runs : List (Range ℕ)) (e sos : BidiClass) (pairs : List (ℕ × ℕ)) : Type 0 where
+pub record IsPaired (len_of : ℕ → ℕ) (chars : List ℕ) (original old mid : List BidiClass) (runs : List (Range ℕ))
+    (e sos : BidiClass) (pairs : List (ℕ × ℕ)) : Type 0 where
   pub paired : let read = kept_in_place len_of chars old (map bounds runs) in
-      values_of L len_of chars mid read ≡ n0 e sos (values_of L len_of chars original read) pairs (values_of L len_of chars old read)
+      values_of L len_of chars mid read
+      ≡ n0 e sos (values_of L len_of chars original read) pairs (values_of L len_of chars old read)
   pub kept : (u : ℕ) → is_kept_in_place (class_at mid u) ≡ is_kept_in_place (class_at old u)
   pub others : (u : ℕ) → is_seen (map bounds runs) old u ≡ false → class_at mid u ≡ class_at old u
   pub per_char : IsPerChar len_of chars mid

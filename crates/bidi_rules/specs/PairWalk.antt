@@ -24,12 +24,19 @@ HasNoDirection runs units from to = (k : ℕ) → from ≤ k → k < to → in_r
 -- the nearest direction at a unit of the ranges below `to`, or else the one given
 abbrev pub IsNearestBefore : BidiClass → List (ℕ × ℕ) → List BidiClass → ℕ → BidiClass → Type 0
 IsNearestBefore before runs units to d =
-    ((u : ℕ) × (u < to) × (in_runs runs u ≡ true) × (as_direction (class_at units u) ≡ Some d) × HasNoDirection runs units (u + 1) to) ⊎ ((d ≡ before) × HasNoDirection runs units 0 to)
+    ((u : ℕ) × (u < to) × (in_runs runs u ≡ true) × (as_direction (class_at units u) ≡ Some d)
+    × HasNoDirection runs units (u + 1) to)
+    ⊎ ((d ≡ before) × HasNoDirection runs units 0 to)
 
--- behind `from` marks by their original classes stand in the ranges up to `end`, and BN: then a character that is neither, or nothing
-pub record IsMarksEnd (len_of : ℕ → ℕ) (chars : List ℕ) (runs : List (ℕ × ℕ)) (original units : List BidiClass) (from end : ℕ) : Type 0 where
-  pub marks : (k : ℕ) → from ≤ place len_of chars k → place len_of chars k < end → is_seen runs units (place len_of chars k) ≡ true → is_nsm (class_at original (place len_of chars k)) ≡ true
-  pub stops : end < length units → (k : ℕ) × (end ≡ place len_of chars k) × (from ≤ end) × (is_seen runs units end ≡ true) × (is_nsm (class_at original end) ≡ false)
+-- behind `from` marks by their original classes stand in the ranges up to `end`, and BN: then a character that
+-- is neither, or nothing
+pub record IsMarksEnd (len_of : ℕ → ℕ) (chars : List ℕ) (runs : List (ℕ × ℕ)) (original units : List BidiClass)
+    (from end : ℕ) : Type 0 where
+  pub marks : (k : ℕ) → from ≤ place len_of chars k → place len_of chars k < end
+      → is_seen runs units (place len_of chars k) ≡ true → is_nsm (class_at original (place len_of chars k)) ≡ true
+  pub stops : end < length units
+      → (k : ℕ) × (end ≡ place len_of chars k) × (from ≤ end) × (is_seen runs units end ≡ true)
+      × (is_nsm (class_at original end) ≡ false)
   pub within : end ≤ length units
 
 -- the unit at which the k-th of some characters begins; numbers past them go on rising
@@ -45,27 +52,37 @@ abbrev pub opposite_of : BidiClass → BidiClass
 opposite_of L = R
 opposite_of _ = L
 
--- whether a direction stands between the brackets of a pair: what was asked, and what is known of the next place where it stands
-pub record IsAsked (direction : BidiClass) (runs : List (ℕ × ℕ)) (units : List BidiClass) (pair : Pair) (known next : ℕ) (answer : Bool) : Type 0 where
-  pub looked : pair.is_marked ≡ true → (next ≡ known) × ((u : ℕ) × IsFirstFor direction runs units pair.inside pair.closing u × (answer ≡ nat_lt u pair.closing))
+-- whether a direction stands between the brackets of a pair: what was asked, and what is known of the next
+-- place where it stands
+pub record IsAsked (direction : BidiClass) (runs : List (ℕ × ℕ)) (units : List BidiClass) (pair : Pair)
+    (known next : ℕ) (answer : Bool) : Type 0 where
+  pub looked : pair.is_marked ≡ true
+      → (next ≡ known)
+      × ((u : ℕ) × IsFirstFor direction runs units pair.inside pair.closing u × (answer ≡ nat_lt u pair.closing))
   pub ahead : pair.is_marked ≡ false → answer ≡ nat_lt next pair.closing
   pub kept : pair.is_marked ≡ false → pair.opening < known → next ≡ known
   pub sought : pair.is_marked ≡ false → known ≤ pair.opening → IsFirstFor direction runs units pair.inside (length units) next
 
 -- what a pair takes, by what was asked of it
-pub record IsTaken (before : BidiClass) (runs : List (ℕ × ℕ)) (units : List BidiClass) (pair : Pair) (walk new : PairWalk) (taken : Option BidiClass) : Type 0 where
+pub record IsTaken (before : BidiClass) (runs : List (ℕ × ℕ)) (units : List BidiClass) (pair : Pair)
+    (walk new : PairWalk) (taken : Option BidiClass) : Type 0 where
   pub embedding : Bool
   pub opposite : Bool
   pub context : BidiClass
   pub asked : IsAsked walk.embedding.direction runs units pair walk.embedding.unit new.embedding.unit embedding
-  pub asked_opposite : embedding ≡ false → IsAsked walk.opposite.direction runs units pair walk.opposite.unit new.opposite.unit opposite
+  pub asked_opposite : embedding ≡ false
+      → IsAsked walk.opposite.direction runs units pair walk.opposite.unit new.opposite.unit opposite
   pub idle : embedding ≡ true → new.opposite.unit ≡ walk.opposite.unit
   pub nearest : embedding ≡ false → opposite ≡ true → IsNearestBefore before runs units pair.opening context
   pub is : taken ≡ (if embedding then Some walk.embedding.direction else (if opposite then Some context else None))
 
--- a bracket and the marks behind it have a direction, where the k-th character comes behind the bracket, and the marks end at `end`
-abbrev pub IsSetUpTo : (ℕ → ℕ) → List ℕ → List (ℕ × ℕ) → List BidiClass → BidiClass → ℕ → ℕ → ℕ → List BidiClass → List BidiClass → Type 0
-IsSetUpTo len_of chars runs original d bracket k end old new = IsMarksEnd len_of chars runs original old (place len_of chars k) end × IsWrittenOver (is_seen runs old) d bracket end old new
+-- a bracket and the marks behind it have a direction, where the k-th character comes behind the bracket, and
+-- the marks end at `end`
+abbrev pub IsSetUpTo : (ℕ → ℕ) → List ℕ → List (ℕ × ℕ) → List BidiClass → BidiClass → ℕ → ℕ → ℕ → List BidiClass
+    → List BidiClass → Type 0
+IsSetUpTo len_of chars runs original d bracket k end old new =
+    IsMarksEnd len_of chars runs original old (place len_of chars k) end
+    × IsWrittenOver (is_seen runs old) d bracket end old new
 
 -- and they end somewhere
 abbrev pub IsSet : (ℕ → ℕ) → List ℕ → List (ℕ × ℕ) → List BidiClass → BidiClass → ℕ → ℕ → List BidiClass → List BidiClass → Type 0
@@ -74,6 +91,9 @@ IsSet len_of chars runs original d bracket k old new = (end : ℕ) × IsSetUpTo 
 -- where a row was written last: all of it has its direction, and behind its first unit only marks stand
 pub record IsRow (len_of : ℕ → ℕ) (chars : List ℕ) (runs : List (ℕ × ℕ)) (original units : List BidiClass) (row : Row) : Type 0 where
   pub written : (u : ℕ) → row.from ≤ u → u < row.end → is_seen runs units u ≡ true → class_at units u ≡ row.direction
-  pub marks : (k : ℕ) → row.from < place len_of chars k → place len_of chars k < row.end → is_seen runs units (place len_of chars k) ≡ true → is_nsm (class_at original (place len_of chars k)) ≡ true
-  pub stops : row.from < row.end → row.end < length units → (k : ℕ) × (row.end ≡ place len_of chars k) × (is_seen runs units row.end ≡ true) × (is_nsm (class_at original row.end) ≡ false)
+  pub marks : (k : ℕ) → row.from < place len_of chars k → place len_of chars k < row.end
+      → is_seen runs units (place len_of chars k) ≡ true → is_nsm (class_at original (place len_of chars k)) ≡ true
+  pub stops : row.from < row.end → row.end < length units
+      → (k : ℕ) × (row.end ≡ place len_of chars k) × (is_seen runs units row.end ≡ true)
+      × (is_nsm (class_at original row.end) ≡ false)
   pub within : row.end ≤ length units

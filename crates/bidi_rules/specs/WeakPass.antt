@@ -1,4 +1,5 @@
--- The weak types in passes from the front: W1, and W2 to W7 in one walk, which holds back what waits for the next character to decide; first over characters, then over units.
+-- The weak types in passes from the front: W1, and W2 to W7 in one walk, which holds back what waits for the
+-- next character to decide; first over characters, then over units.
 use Rattle.std.specs.Prelude.{ℕ, zero, suc, ◌-◌, Bool, true, false, ◌||◌, if◌then◌else◌, List, [], ◌∷◌, ◌++◌, replicate}
 use Rattle.bidi_base.specs.declared.char_data.BidiClass.{BidiClass}
 use Rattle.bidi_base.specs.declared.char_data.BidiClass.TheVariants.{L, R, AL, EN, ES, ET, AN, CS, NSM, ON}
@@ -157,7 +158,8 @@ still_to_come EuropeanSeparator n = n - 1
 still_to_come ArabicSeparator n = n - 1
 still_to_come _ n = 0
 
--- the classes after W7 of units that have these after W1, where n units before them wait, and the first `left` belong to the separator that waits; `len` is the length of the character that begins at a unit
+-- the classes after W7 of units that have these after W1, where n units before them wait, and the first `left`
+-- belong to the separator that waits; `len` is the length of the character that begins at a unit
 abbrev pub walked : (ℕ → BidiClass) → (ℕ → ℕ) → BidiClass → Before → ℕ → ℕ → List ℕ → List BidiClass
 walked class len strong before left n [] = replicate n ON
 walked class len strong before (suc left) n (u ∷ us) = walked class len strong before left (suc n) us

@@ -56,7 +56,9 @@ seen_units runs units = seen_from runs units 0 (length units)
 
 -- W1 is done for the seen units below i, where the next mark takes `mark`
 pub record AreMarked (runs : List (ℕ × ℕ)) (sos : BidiClass) (old now : List BidiClass) (mark : BidiClass) (i : ℕ) : Type 0 where
-  pub answers : at_places L now (seen_from runs old 0 i) ++ after_w1 mark (at_places L old (seen_from runs old i (length old))) ≡ after_w1 sos (at_places L old (seen_units runs old))
+  pub answers : at_places L now (seen_from runs old 0 i)
+      ++ after_w1 mark (at_places L old (seen_from runs old i (length old)))
+      ≡ after_w1 sos (at_places L old (seen_units runs old))
   pub unread : (k : ℕ) → i ≤ k → class_at now k ≡ class_at old k
   pub unseen : (k : ℕ) → is_seen runs old k ≡ false → class_at now k ≡ class_at old k
   pub kept : (k : ℕ) → is_kept_in_place (class_at now k) ≡ is_kept_in_place (class_at old k)
@@ -94,10 +96,12 @@ pub record AreHeld (p : Pass) (w : Walk) (from : ℕ) : Type 0 where
   pub run_fits : w.first_run < length p.runs
   pub run : (get_or p.runs w.first_run (0, 0)).0 ≤ from
 
--- the units below i are read, those from `from` on are not yet written, and the rest of the walk gives what it is to give
+-- the units below i are read, those from `from` on are not yet written, and the rest of the walk gives what it
+-- is to give
 pub record IsUnderWay (p : Pass) (now : List BidiClass) (w : Walk) (i : ℕ) : Type 0 where
   pub from : ℕ
-  pub answers : map left_over (at_places L now (units p 0 from)) ++ walked (class_at p.old) p.len w.strong w.before 0 (length (units p from i)) (units p i (length p.old))
+  pub answers : map left_over (at_places L now (units p 0 from))
+      ++ walked (class_at p.old) p.len w.strong w.before 0 (length (units p from i)) (units p i (length p.old))
       ≡ walked (class_at p.old) p.len p.sos Other 0 0 (units p 0 (length p.old))
   pub unwritten : (k : ℕ) → from ≤ k → class_at now k ≡ class_at p.old k
   pub unseen : (k : ℕ) → seen p k ≡ false → class_at now k ≡ class_at p.old k
@@ -114,21 +118,26 @@ pub record IsStretch (p : Pass) (w : Walk) (runs : List (ℕ × ℕ)) (run from 
   pub inside : to ≤ length p.old
   pub kept : is_kept_in_place (class_at p.old from) ≡ true
   pub alike : (k : ℕ) → from ≤ k → k < to → class_at p.old k ≡ class_at p.old from
-  pub single : let next = next_before (strengthened w.strong (class_at p.old from)) w.before in still_to_come next (p.len from) ≡ still_to_come next (to - from)
+  pub single : let next = next_before (strengthened w.strong (class_at p.old from)) w.before in
+      still_to_come next (p.len from) ≡ still_to_come next (to - from)
   pub run_fits : run < length runs
   pub run_starts : (get_or runs run (0, 0)).0 ≤ from
   pub run_ends : to ≤ (get_or runs run (0, 0)).1
 
 -- the units from `from` up to `to` take each walk on
 abbrev pub Reads : List (ℕ × ℕ) → ℕ → ℕ → ℕ → Walk → Walk → List BidiClass → List BidiClass → Type 0
-Reads runs run from to before after old new = (p : Pass) → IsStretch p before runs run from to → IsUnderWay p old before from → IsUnderWay p new after to
+Reads runs run from to before after old new =
+    (p : Pass) → IsStretch p before runs run from to → IsUnderWay p old before from → IsUnderWay p new after to
 
 -- the units of a run from `from` up to `to` do, where nothing is written
 abbrev pub Passes : ℕ → ℕ → ℕ → Walk → Walk → List BidiClass → Type 0
-Passes from to end before after now = (p : Pass) (run : ℕ) → run < length p.runs → (get_or p.runs run (0, 0)).0 ≤ from → end ≤ (get_or p.runs run (0, 0)).1 → IsUnderWay p now before from → IsUnderWay p now after to
+Passes from to end before after now =
+    (p : Pass) (run : ℕ) → run < length p.runs → (get_or p.runs run (0, 0)).0 ≤ from
+    → end ≤ (get_or p.runs run (0, 0)).1 → IsUnderWay p now before from → IsUnderWay p now after to
 
 abbrev pub ReadsTo : (ℕ → ℕ) → List (ℕ × ℕ) → ℕ → ℕ → Walk → Walk → List BidiClass → List BidiClass → Type 0
-ReadsTo len runs from to before after old new = (p : Pass) → p.runs ≡ runs → p.len ≡ len → IsUnderWay p old before from → IsUnderWay p new after to
+ReadsTo len runs from to before after old new =
+    (p : Pass) → p.runs ≡ runs → p.len ≡ len → IsUnderWay p old before from → IsUnderWay p new after to
 
 -- a character that begins at u ends at `end` or before, and its units have one class
 pub record IsWhole (len : ℕ → ℕ) (classes : List BidiClass) (end u : ℕ) : Type 0 where
@@ -152,6 +161,7 @@ settled_to w u = if waits w.before then w.first else u
 
 -- W2, W4, W5 and W7 are done, but for what W3 and W6 make of what is left
 pub record IsWalked (len : ℕ → ℕ) (runs : List (ℕ × ℕ)) (sos : BidiClass) (old new : List BidiClass) : Type 0 where
-  pub answers : map left_over (at_places L new (seen_units runs old)) ≡ walked (class_at old) len sos Other 0 0 (seen_units runs old)
+  pub answers : map left_over (at_places L new (seen_units runs old))
+      ≡ walked (class_at old) len sos Other 0 0 (seen_units runs old)
   pub unseen : (k : ℕ) → is_seen runs old k ≡ false → class_at new k ≡ class_at old k
   pub long : length new ≡ length old

@@ -22,7 +22,11 @@ runs_before last level start at runs = if differs last level then runs ++ (start
 abbrev pub run_start : Option ℕ → ℕ → ℕ → ℕ → ℕ
 run_start last level start at = if differs last level then at else start
 
--- of the first k characters, with the level of the last kept one: these runs have ended, and the one that is open began at unit `from`
-pub record IsCutTo (len_of : ℕ → ℕ) (chars : List ℕ) (stored : List BidiClass) (levels : List ℕ) (k : ℕ) (runs : List (ℕ × ℕ)) (from : ℕ) (last : Option ℕ) : Type 0 where
+-- of the first k characters, with the level of the last kept one: these runs have ended, and the one that is
+-- open began at unit `from`
+pub record IsCutTo (len_of : ℕ → ℕ) (chars : List ℕ) (stored : List BidiClass) (levels : List ℕ) (k : ℕ)
+    (runs : List (ℕ × ℕ)) (from : ℕ) (last : Option ℕ) : Type 0 where
   pub level : last ≡ option_map (level_at levels) (kept_before stored k)
-  pub cut : (end : ℕ) → runs ++ (from, end) ∷ [] ≡ ranges_between (map (place len_of chars) (0 ∷ filter (begins_run stored levels) (range_with_len 0 k))) end
+  pub cut : (end : ℕ)
+      → runs ++ (from, end) ∷ []
+      ≡ ranges_between (map (place len_of chars) (0 ∷ filter (begins_run stored levels) (range_with_len 0 k))) end

@@ -53,7 +53,8 @@ abbrev pub classes_of : Paragraph → List BidiClass
 classes_of p = processing_classes p.level (stored p)
 
 -- the units below u are read, and u is a boundary
-pub record IsReadTo (p : Paragraph) (u : ℕ) (stack : State) (levels : List ℕ) (classes : List BidiClass) (runs : List (ℕ × ℕ)) (run : OpenRun) : Type 0 where
+pub record IsReadTo (p : Paragraph) (u : ℕ) (stack : State) (levels : List ℕ) (classes : List BidiClass)
+    (runs : List (ℕ × ℕ)) (run : OpenRun) : Type 0 where
   pub has_units : (c : ℕ) → 1 ≤ p.len_of c
   pub per_char : IsPerChar p.len_of p.chars p.original
   pub index : ℕ
@@ -67,7 +68,8 @@ pub record IsReadTo (p : Paragraph) (u : ℕ) (stack : State) (levels : List ℕ
   pub unread : (v : ℕ) → u ≤ v → class_at classes v ≡ class_at p.original v
   pub cut : IsCutTo p.len_of p.chars (stored p) (levels_of p) index runs run.start run.last_level
 
--- the level runs that have ended once the first kept unit of what was read, if there is one, met the run that is open, and that one then
+-- the level runs that have ended once the first kept unit of what was read, if there is one, met the run that
+-- is open, and that one then
 abbrev pub runs_met : Option ℕ → ℕ → OpenRun → List (ℕ × ℕ) → List (ℕ × ℕ)
 runs_met None level run runs = runs
 runs_met (Some unit) level run runs = runs_before run.last_level level run.start unit runs
@@ -79,4 +81,6 @@ run_met (Some unit) level run = record { start = run_start run.last_level level 
 -- from a unit on a stretch or a control is read, whatever runs came before
 abbrev pub ReadsOn : Paragraph → ℕ → State → List ℕ → List BidiClass → Progress → State → List ℕ → List BidiClass → Type 0
 ReadsOn p from stack levels classes read stack_now levels_now classes_now =
-    (runs : List (ℕ × ℕ)) (run : OpenRun) → IsReadTo p from stack levels classes runs run → IsReadTo p read.end stack_now levels_now classes_now (runs_met read.first_kept read.level run runs) (run_met read.first_kept read.level run)
+    (runs : List (ℕ × ℕ)) (run : OpenRun) → IsReadTo p from stack levels classes runs run
+    → IsReadTo p read.end stack_now levels_now classes_now (runs_met read.first_kept read.level run runs)
+    (run_met read.first_kept read.level run)

@@ -26,7 +26,8 @@ no_runs = record { runs = []; sos = L; eos = L }
 -- a run comes to the sequence at s, which now ends with the class `eos`, or begins one
 abbrev pub with_run : Option ℕ → ℕ × ℕ → BidiClass → BidiClass → List JoinedRuns → List JoinedRuns
 with_run None r sos eos out = out ++ record { runs = r ∷ []; sos = sos; eos = eos } ∷ []
-with_run (Some s) r sos eos out = slice_set out s (record (get_or out s no_runs) { runs = (get_or out s no_runs).runs ++ r ∷ []; eos = eos })
+with_run (Some s) r sos eos out =
+    slice_set out s (record (get_or out s no_runs) { runs = (get_or out s no_runs).runs ++ r ∷ []; eos = eos })
 
 -- the end of the last unit from `start` up to `end` whose class X9 keeps, or `start` where there is none
 pub record IsKeptEnd (classes : List BidiClass) (start end kept_end : ℕ) : Type 0 where
@@ -41,13 +42,16 @@ is_isolate_control c = is_initiator c || is_pdi c
 
 -- what waits once the characters from a up to b were read, of which the one before `last` waits for the sequence at s
 abbrev pub read_range : List BidiClass → ℕ → ℕ → ℕ → ℕ → List (Option ℕ) → List (Option ℕ)
-read_range classes last s a b waits = fold (λ ws m. read_class (class_at classes m) (if m + 1 == last then Some s else None) ws) waits (between a b)
+read_range classes last s a b waits =
+    fold (λ ws m. read_class (class_at classes m) (if m + 1 == last then Some s else None) ws) waits (between a b)
 
 -- the same for the characters of a range of units, of which one ends at `kept_end`
 abbrev pub read_units : (ℕ → ℕ) → List ℕ → List BidiClass → ℕ → ℕ → ℕ → ℕ → List (Option ℕ) → List (Option ℕ)
 read_units len_of chars classes kept_end s start end waits =
-    read_range (per_char L len_of chars classes) (char_index len_of chars kept_end) s (char_index len_of chars start) (char_index len_of chars end) waits
+    read_range (per_char L len_of chars classes) (char_index len_of chars kept_end) s (char_index len_of chars start)
+    (char_index len_of chars end) waits
 
 -- the level beyond a run that ends at a unit, by the class of its last kept character
 abbrev pub level_after_run : ℕ → BidiClass → List ℕ → ℕ → ℕ
-level_after_run paragraph class levels end = if is_initiator class then paragraph else (if end == length levels then paragraph else level_at levels end)
+level_after_run paragraph class levels end =
+    if is_initiator class then paragraph else (if end == length levels then paragraph else level_at levels end)

@@ -10,7 +10,8 @@ pub fn end_of<T: TextSource>(text: T, start: usize) -> usize
     requires begins { IsTrue (is_boundary T.units (T.characters text) start) }
     requires inside { start < text_len T.units (T.characters text) }
     requires fits { text_len T.units (T.characters text) ≤ usize.MAX }
-    ensures { (k : ℕ) → k < length (T.characters text) → start ≡ place T.units (T.characters text) k → result ≡ place T.units (T.characters text) (k + 1) }
+    ensures { (k : ℕ) → k < length (T.characters text) → start ≡ place T.units (T.characters text) k
+        → result ≡ place T.units (T.characters text) (k + 1) }
 {
     match text.char_at(start) {
         Some((_, len)) => start + len,

@@ -34,7 +34,9 @@ fn own_level(para_level: Level, class: BidiClass, level: Level) -> Level
 
 // The class of a character under an override (X6), and BN for what X9 removes.
 fn own_class(class: BidiClass, override_class: Option<BidiClass>) -> BidiClass
-    ensures { result ≡ (if is_removed class then BN else if is_paragraph_separator class || is_removed class then class else unwrap_or override_class class) }
+    ensures { result
+        ≡ (if is_removed class then BN
+        else if is_paragraph_separator class || is_removed class then class else unwrap_or override_class class) }
 {
     match class {
         BidiClass::LRE
@@ -107,7 +109,8 @@ fn cut_run(
     last_level: Option<Level>,
     level: Level,
 ) -> Result<usize, AllocError>
-    ensures runs { OnOk result (map bounds runs.new.items ≡ runs_before last_level level run_start start (map bounds runs.old.items)) }
+    ensures runs { OnOk result (map bounds runs.new.items
+        ≡ runs_before last_level level run_start start (map bounds runs.old.items)) }
     ensures start { IfOk result (λ s. s ≡ run_start_after last_level level run_start start) }
 {
     match last_level {
@@ -140,9 +143,14 @@ pub fn compute<T: TextSource>(
     requires levels { length levels.old ≡ length original_classes.now }
     requires processing { processing_classes.old ≡ original_classes.now }
     requires runs { runs.old.items ≡ [] }
-    ensures levels { let stored = per_char L T.units (T.characters text) original_classes.now in OnOk result (levels.new ≡ per_unit T.units (T.characters text) (explicit_levels para_level stored)) }
-    ensures classes { let stored = per_char L T.units (T.characters text) original_classes.now in OnOk result (processing_classes.new ≡ per_unit T.units (T.characters text) (processing_classes_of para_level stored)) }
-    ensures runs { let stored = per_char L T.units (T.characters text) original_classes.now in OnOk result (map bounds runs.new.items ≡ level_run_ranges T.units (T.characters text) stored (explicit_levels para_level stored)) }
+    ensures levels { let stored = per_char L T.units (T.characters text) original_classes.now in
+        OnOk result (levels.new ≡ per_unit T.units (T.characters text) (explicit_levels para_level stored)) }
+    ensures classes { let stored = per_char L T.units (T.characters text) original_classes.now in
+        OnOk result (processing_classes.new
+        ≡ per_unit T.units (T.characters text) (processing_classes_of para_level stored)) }
+    ensures runs { let stored = per_char L T.units (T.characters text) original_classes.now in
+        OnOk result (map bounds runs.new.items
+        ≡ level_run_ranges T.units (T.characters text) stored (explicit_levels para_level stored)) }
 {
     compute_fresh::<T, Brand>(
         alloc,
@@ -175,9 +183,14 @@ fn compute_fresh<T: TextSource, S: Ledger>(
     requires name { blank.name ≡ S.name }
     requires parts { blank.parts ≡ S.parts }
     requires one { blank.parts ≡ 1 }
-    ensures levels { let stored = per_char L T.units (T.characters text) original_classes.now in OnOk result (levels.new ≡ per_unit T.units (T.characters text) (explicit_levels para_level stored)) }
-    ensures classes { let stored = per_char L T.units (T.characters text) original_classes.now in OnOk result (processing_classes.new ≡ per_unit T.units (T.characters text) (processing_classes_of para_level stored)) }
-    ensures runs { let stored = per_char L T.units (T.characters text) original_classes.now in OnOk result (map bounds runs.new.items ≡ level_run_ranges T.units (T.characters text) stored (explicit_levels para_level stored)) }
+    ensures levels { let stored = per_char L T.units (T.characters text) original_classes.now in
+        OnOk result (levels.new ≡ per_unit T.units (T.characters text) (explicit_levels para_level stored)) }
+    ensures classes { let stored = per_char L T.units (T.characters text) original_classes.now in
+        OnOk result (processing_classes.new
+        ≡ per_unit T.units (T.characters text) (processing_classes_of para_level stored)) }
+    ensures runs { let stored = per_char L T.units (T.characters text) original_classes.now in
+        OnOk result (map bounds runs.new.items
+        ≡ level_run_ranges T.units (T.characters text) stored (explicit_levels para_level stored)) }
 {
     let mut steps = Steps::<S>::new(blank);
     compute_counted(
@@ -211,9 +224,14 @@ pub fn compute_counted<T: TextSource, S: Ledger>(
     requires levels { length levels.old ≡ length original_classes.now }
     requires processing { processing_classes.old ≡ original_classes.now }
     requires runs { runs.old.items ≡ [] }
-    ensures levels { let stored = per_char L T.units (T.characters text) original_classes.now in OnOk result (levels.new ≡ per_unit T.units (T.characters text) (explicit_levels para_level stored)) }
-    ensures classes { let stored = per_char L T.units (T.characters text) original_classes.now in OnOk result (processing_classes.new ≡ per_unit T.units (T.characters text) (processing_classes_of para_level stored)) }
-    ensures runs { let stored = per_char L T.units (T.characters text) original_classes.now in OnOk result (map bounds runs.new.items ≡ level_run_ranges T.units (T.characters text) stored (explicit_levels para_level stored)) }
+    ensures levels { let stored = per_char L T.units (T.characters text) original_classes.now in
+        OnOk result (levels.new ≡ per_unit T.units (T.characters text) (explicit_levels para_level stored)) }
+    ensures classes { let stored = per_char L T.units (T.characters text) original_classes.now in
+        OnOk result (processing_classes.new
+        ≡ per_unit T.units (T.characters text) (processing_classes_of para_level stored)) }
+    ensures runs { let stored = per_char L T.units (T.characters text) original_classes.now in
+        OnOk result (map bounds runs.new.items
+        ≡ level_run_ranges T.units (T.characters text) stored (explicit_levels para_level stored)) }
     ensures at_least { OnOk result (steps.old + length (T.characters text) ≤ steps.new) }
     ensures at_most { OnOk result (steps.new ≤ steps.old + 4 * length (T.characters text)) }
 {

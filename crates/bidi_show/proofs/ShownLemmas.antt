@@ -1,6 +1,5 @@
 -- The lines that `show` prints, piece by piece.
-use Rattle.bidi_base.proofs.Common.{◌≡◌, ℕ, ◌+◌, ◌-◌, ◌<◌, ◌≤◌, List, [], ◌∷◌, ◌++◌, Result, OnOk, is_ok, true, false, length, get_or, take, flat_map, decimal, refl, append_assoc, arith, inl, inr, cases_Bool, common_steps, codes, slice_range, len_utf8, chars, IsUtf8, take_all, take_more, flat_map_more, is_paragraph_separator, ends_with_separator, Source, place, text_len, subrange, per_char, IsLine}
-use Rattle.std.specs.Prelude.{if◌then◌else◌}
+use Rattle.bidi_base.proofs.Common.{◌≡◌, ℕ, ◌+◌, ◌-◌, ◌<◌, ◌≤◌, List, [], ◌∷◌, ◌++◌, true, false, length, get_or, take, flat_map, decimal, refl, append_assoc, arith, inl, inr, cases_Bool, common_steps, codes, slice_range, len_utf8, chars, IsUtf8, take_all, take_more, flat_map_more, is_paragraph_separator, ends_with_separator, Source, place, text_len, subrange, per_char, IsLine}
 use Rattle.bidi_base.proofs.PlaceLemmas.{line_places, place-slice_range, IsLine-places}
 use Rattle.bidi_base.proofs.TextLemmas.{is_boundary-le}
 use Rattle.bidi_base.proofs.PerUnit.{length-per_char, get_or-per_char}
@@ -8,10 +7,6 @@ use Rattle.bidi_base.proofs.StrLemmas.{has_units, text_len-chars, subrange-from_
 use Rattle.bidi_base.proofs.OrderLemmas.{length-slice_range}
 use Rattle.bidi_show.specs.Shown.{own_end}
 use Rattle.bidi_show.specs.Texts.{spaced, levels_line, without_separator}
-
--- what holds once a text was appended
-pub if_pushed : {A E : Type 0} (r : Result A E) (old new more : List ℕ) (P : Type 0) → new ≡ (if is_ok r then old ++ more else old) → (new ≡ old ++ more → P) → OnOk r P
-if_pushed r old new more P e f = grind arith
 
 module _ (start cs levels : List ℕ) where
   -- the levels of the first n characters

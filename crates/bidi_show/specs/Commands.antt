@@ -20,7 +20,8 @@ abbrev pub lines_named : List (List ℕ) → Option Command
 lines_named (base ∷ limit ∷ []) = option_and_then (λ b. option_map (λ n. Show b (Lines n)) (number_of limit)) (base_named base)
 lines_named _ = None
 
--- the form that words have, where they have one: `map` and none or more levels, `show` and a base level, or `lines`, a base level and a limit
+-- the form that words have, where they have one: `map` and none or more levels, `show` and a base level, or
+-- `lines`, a base level and a limit
 abbrev pub command_of : List (List ℕ) → Option Command
 command_of [] = None
 command_of (form ∷ words) =

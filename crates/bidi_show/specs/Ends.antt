@@ -24,7 +24,8 @@ ends_met (Err fault) buffer = 0
 abbrev pub CameToEnd : ℕ → ℕ → Option (List ℕ) → Type 0
 CameToEnd before after left = (after ≡ before + 1) × IsAtEnd left
 
--- how far a call with this result reads: an answer to what reads the input, and NotUtf8, which comes there alone, are given at the end; no call reads on past the end
+-- how far a call with this result reads: an answer to what reads the input, and NotUtf8, which comes there
+-- alone, are given at the end; no call reads on past the end
 abbrev pub ReadsToEnd : {A : Type 0} → Bool → Result A ShowFault → ℕ → ℕ → Option (List ℕ) → Type 0
 ReadsToEnd reads (Ok answer) before after left = reads ≡ true → CameToEnd before after left
 ReadsToEnd reads (Err NotUtf8) before after left = (reads ≡ true) × CameToEnd before after left

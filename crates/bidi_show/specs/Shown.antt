@@ -34,7 +34,8 @@ text_in source text level classes levels start end = line_in text level classes 
 
 -- the ranges of its lines
 abbrev pub layout_in : Source → ℕ → List ℕ → ℕ → ℕ → List Run
-layout_in source limit cs start end = one_at_least start (line_ranges len_utf8 cs one_column limit start (own_end source cs start end))
+layout_in source limit cs start end =
+    one_at_least start (line_ranges len_utf8 cs one_column limit start (own_end source cs start end))
 
 -- these lines from left to right
 abbrev pub layout_text : List ℕ → ℕ → List BidiClass → List ℕ → List Run → List ℕ
@@ -43,8 +44,12 @@ layout_text text level classes levels lines = flat_map (λ r. shown_line (line_i
 -- what is printed of it, from where it stands and its level
 abbrev pub printed_at : View → Source → List ℕ → ℕ → ℕ → ℕ → List BidiClass → List ℕ → List ℕ
 printed_at Whole source text start end level classes levels =
-    heading start end level ++ (levels_line (levels_in text levels start end) ++ text_line (text_in source text level classes levels start end))
-printed_at (Lines limit) source text start end level classes levels = layout_text text level classes levels (layout_in source limit (chars text) start end)
+    heading start end level
+    ++ (levels_line (levels_in text levels start end)
+    ++ text_line (text_in source text level classes levels start end))
+printed_at (Lines limit) source text start end level classes levels =
+    layout_text text level classes levels (layout_in source limit (chars text) start end)
 
 abbrev pub printed_in : View → Source → List ℕ → List BidiClass → List ℕ → ParagraphInfo → List ℕ
-printed_in view source text classes levels p = printed_at view source text (range_of p).start (range_of p).end (level_of p) classes levels
+printed_in view source text classes levels p =
+    printed_at view source text (range_of p).start (range_of p).end (level_of p) classes levels

@@ -28,7 +28,9 @@ line_of numbers = join_with_byte (byte " ") (map decimal numbers) ++ codes "\n"
 
 -- where it stands, in bytes of the text, and its level
 abbrev pub heading : ℕ → ℕ → ℕ → List ℕ
-heading start end level = codes "paragraph " ++ (decimal start ++ (codes ".." ++ (decimal end ++ (codes " level " ++ (decimal level ++ codes "\n")))))
+heading start end level =
+    codes "paragraph "
+    ++ (decimal start ++ (codes ".." ++ (decimal end ++ (codes " level " ++ (decimal level ++ codes "\n")))))
 
 -- a space and a number
 abbrev pub spaced : ℕ → List ℕ
@@ -51,7 +53,8 @@ abbrev pub paragraph_lines : Source → ℕ → List ℕ → ℕ → List BidiCl
 paragraph_lines source start piece level classes levels =
     heading start (start + text_len len_utf8 piece) level
     ++ (levels_line levels
-    ++ text_line (line_text len_utf8 encode_utf8 piece (encode_utf8_all piece) level classes levels 0 (text_len len_utf8 (without_separator source piece))))
+    ++ text_line (line_text len_utf8 encode_utf8 piece (encode_utf8_all piece) level classes levels 0
+    (text_len len_utf8 (without_separator source piece))))
 
 -- ---- what `lines` prints of a paragraph
 
@@ -68,7 +71,8 @@ abbrev pub one_at_least : ℕ → List Run → List Run
 one_at_least start [] = (start, start) ∷ []
 one_at_least start (line ∷ lines) = line ∷ lines
 
--- its lines of at most `limit` columns, without the separator that closes it, where the classes and levels are the stored ones
+-- its lines of at most `limit` columns, without the separator that closes it, where the classes and levels are
+-- the stored ones
 abbrev pub layout_lines : Source → ℕ → List ℕ → ℕ → List BidiClass → List ℕ → List ℕ
 layout_lines source limit piece level classes levels =
     flat_map (λ r. shown_line (line_text len_utf8 encode_utf8 piece (encode_utf8_all piece) level classes levels r.0 r.1))
@@ -104,10 +108,13 @@ pub record ReadsAll (old new : Option (List ℕ)) (bytes : List ℕ) : Type 0 wh
   pub consumed : Consumes old new bytes
   pub to_end : IsAtEnd new
 
--- the text answers the command, whose input had `old` and then `new` left: for `map` it is the visual order of the levels, for `show` and `lines` what the bytes that were read show
+-- the text answers the command, whose input had `old` and then `new` left: for `map` it is the visual order of
+-- the levels, for `show` and `lines` what the bytes that were read show
 abbrev pub IsAnswer : Command → Option (List ℕ) → Option (List ℕ) → List ℕ → Type 0
 IsAnswer (Map levels) old new text = text ≡ line_of (visual_order levels)
-IsAnswer (Show base view) old new text = (bytes : List ℕ) × ReadsAll old new bytes × IsUtf8 bytes × (text ≡ shown_text view sample_source (level_of_base base) bytes)
+IsAnswer (Show base view) old new text =
+    (bytes : List ℕ) × ReadsAll old new bytes × IsUtf8 bytes
+    × (text ≡ shown_text view sample_source (level_of_base base) bytes)
 
 -- the output has grown from `before` to `after` by a text that answers the command
 abbrev pub WritesAnswer : Command → Option (List ℕ) → Option (List ℕ) → Option (List ℕ) → Option (List ℕ) → Type 0

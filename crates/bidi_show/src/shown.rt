@@ -84,7 +84,9 @@ fn own_end<D: BidiDataSource>(
 ) -> usize
     requires { IsLine len_utf8 (chars (text_of info.now)) (range_of paragraph.now).start (range_of paragraph.now).end }
     ensures line { IsLine len_utf8 (chars (text_of info.now)) (range_of paragraph.now).start result }
-    ensures end { result ≡ own_end_of (D.source data_source.now) (chars (text_of info.now)) (range_of paragraph.now).start (range_of paragraph.now).end }
+    ensures end { result
+        ≡ own_end_of (D.source data_source.now) (chars (text_of info.now)) (range_of paragraph.now).start
+        (range_of paragraph.now).end }
 {
     let range = paragraph.range();
     let text = text_of_line(info.text(), range.start, range.end);
@@ -109,8 +111,10 @@ fn push_whole<D: BidiDataSource>(
     paragraph: &ParagraphInfo,
 ) -> Result<(), AllocError>
     requires { IsLine len_utf8 (chars (text_of info.now)) (range_of paragraph.now).start (range_of paragraph.now).end }
-    ensures { OnOk result (string_bytes out.new ≡ string_bytes out.old
-        ++ printed_in Whole (D.source data_source.now) (text_of info.now) (original_classes info.now) (levels_of_info info.now) paragraph.now) }
+    ensures { OnOk result (string_bytes out.new
+        ≡ string_bytes out.old
+        ++ printed_in Whole (D.source data_source.now) (text_of info.now) (original_classes info.now)
+        (levels_of_info info.now) paragraph.now) }
 {
     let range = paragraph.range();
     let (start, end) = (range.start, range.end);
@@ -148,7 +152,8 @@ fn layout_of<D: BidiDataSource>(
 ) -> Result<Vec<LevelRun>, AllocError>
     requires { IsLine len_utf8 (chars (text_of info.now)) (range_of paragraph.now).start (range_of paragraph.now).end }
     ensures lines { IfOk result (λ v. map run_of v.items
-        ≡ layout_in (D.source data_source.now) limit (chars (text_of info.now)) (range_of paragraph.now).start (range_of paragraph.now).end) }
+        ≡ layout_in (D.source data_source.now) limit (chars (text_of info.now)) (range_of paragraph.now).start
+        (range_of paragraph.now).end) }
     ensures each_is_line { IfOk result (λ v. All (λ r. IsLine len_utf8 (chars (text_of info.now)) r.start r.end) v.items) }
 {
     let start = paragraph.range().start;
@@ -178,8 +183,10 @@ fn push_lines(
     lines: &[LevelRun],
 ) -> Result<(), AllocError>
     requires { All (λ r. IsLine len_utf8 (chars (text_of info.now)) r.start r.end) lines.now }
-    ensures { OnOk result (string_bytes out.new ≡ string_bytes out.old
-        ++ layout_text (text_of info.now) (level_of paragraph.now) (original_classes info.now) (levels_of_info info.now) (map run_of lines.now)) }
+    ensures { OnOk result (string_bytes out.new
+        ≡ string_bytes out.old
+        ++ layout_text (text_of info.now) (level_of paragraph.now) (original_classes info.now)
+        (levels_of_info info.now) (map run_of lines.now)) }
 {
     for line in lines {
         let shown = info.reorder_line(alloc, paragraph, line.start..line.end)?;
@@ -198,8 +205,10 @@ fn push_paragraph<D: BidiDataSource>(
     view: View,
 ) -> Result<(), AllocError>
     requires { IsLine len_utf8 (chars (text_of info.now)) (range_of paragraph.now).start (range_of paragraph.now).end }
-    ensures { OnOk result (string_bytes out.new ≡ string_bytes out.old
-        ++ printed_in view (D.source data_source.now) (text_of info.now) (original_classes info.now) (levels_of_info info.now) paragraph.now) }
+    ensures { OnOk result (string_bytes out.new
+        ≡ string_bytes out.old
+        ++ printed_in view (D.source data_source.now) (text_of info.now) (original_classes info.now)
+        (levels_of_info info.now) paragraph.now) }
 {
     match view {
         View::Whole => push_whole(alloc, out, data_source, info, paragraph),
@@ -220,8 +229,12 @@ fn push_paragraphs<D: BidiDataSource>(
     view: View,
 ) -> Result<(), AllocError>
     requires { All (λ p. IsLine len_utf8 (chars (text_of info.now)) (range_of p).start (range_of p).end) paragraphs.now }
-    ensures { OnOk result (string_bytes out.new ≡ string_bytes out.old
-        ++ flat_map (printed_in view (D.source data_source.now) (text_of info.now) (original_classes info.now) (levels_of_info info.now)) paragraphs.now) }
+    ensures { OnOk result (string_bytes out.new
+        ≡ string_bytes out.old
+        ++ flat_map
+        (printed_in view (D.source data_source.now) (text_of info.now) (original_classes info.now)
+        (levels_of_info info.now))
+        paragraphs.now) }
 {
     for paragraph in paragraphs {
         push_paragraph(alloc, out, data_source, info, paragraph, view)?;

@@ -45,7 +45,8 @@ is_unseen WS = true
 is_unseen BN = true
 is_unseen _ = false
 
--- a character that is no control and no mark: what is not seen is nothing, and a nonspacing mark stands on a dotted circle
+-- a character that is no control and no mark: what is not seen is nothing, and a nonspacing mark stands on a
+-- dotted circle
 abbrev pub plain_glyph : BidiClass → ℕ → List ℕ
 plain_glyph class c = if is_unseen class then [] else (if is_nsm class then 0xE2 ∷ 0x97 ∷ 0x8C ∷ [] else []) ++ encode_utf8 c
 
@@ -85,4 +86,6 @@ leading_digit worth code = if nat_le worth code then hex_digit (code / worth % 1
 abbrev pub hex : ℕ → List ℕ
 hex c =
     leading_digit 0x100000 c
-    ++ (leading_digit 0x10000 c ++ (hex_digit (c / 0x1000 % 16) ++ (hex_digit (c / 0x100 % 16) ++ (hex_digit (c / 0x10 % 16) ++ hex_digit (c % 16)))))
+    ++ (leading_digit 0x10000 c
+    ++ (hex_digit (c / 0x1000 % 16)
+    ++ (hex_digit (c / 0x100 % 16) ++ (hex_digit (c / 0x10 % 16) ++ hex_digit (c % 16)))))

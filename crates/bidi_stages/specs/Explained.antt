@@ -26,7 +26,8 @@ pub record IsTold (source : Source) (view : StageView) (line old new : List ℕ)
 -- the same of several lines
 abbrev pub AreAppended : Source → StageView → List (List ℕ) → List ℕ → List ℕ → Type 0
 AreAppended source view [] old new = new ≡ old
-AreAppended source view (line ∷ lines) old new = (next : List ℕ) × IsTold source view line old next × AreAppended source view lines next new
+AreAppended source view (line ∷ lines) old new =
+    (next : List ℕ) × IsTold source view line old next × AreAppended source view lines next new
 
 -- the text is what is told of a text's lines
 abbrev pub AreTold : Source → StageView → List ℕ → List ℕ → Type 0

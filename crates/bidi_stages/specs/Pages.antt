@@ -12,7 +12,9 @@ use Rattle.bidi_stages.specs.declared.stages.Stages.{Stages}
 
 -- what stands for a character between tags: what could begin or end one is written as its reference
 abbrev pub escaped : BidiClass → ℕ → List ℕ
-escaped class c = if c == 0x26 then codes "&amp;" else if c == 0x3C then codes "&lt;" else if c == 0x3E then codes "&gt;" else glyph class c
+escaped class c =
+    if c == 0x26 then codes "&amp;"
+    else if c == 0x3C then codes "&lt;" else if c == 0x3E then codes "&gt;" else glyph class c
 
 -- a byte that neither begins nor ends a tag
 abbrev pub is_text_byte : ℕ → Bool
@@ -35,14 +37,17 @@ box_at chars s i = box_text (level_at s.line_levels.items i) (class_at s.classes
 
 -- the boxes in logical order, and in visual order
 abbrev pub boxes_row : List ℕ → Stages → List ℕ
-boxes_row chars s = codes "<tr><th>character</th>" ++ (flat_map (box_at chars s) (range_with_len 0 (length chars)) ++ codes "</tr>\n")
+boxes_row chars s =
+    codes "<tr><th>character</th>" ++ (flat_map (box_at chars s) (range_with_len 0 (length chars)) ++ codes "</tr>\n")
 
 abbrev pub shown_row : List ℕ → Stages → List ℕ
 shown_row chars s = codes "<tr class=\"shown\"><th>as shown</th>" ++ (flat_map (box_at chars s) s.order.items ++ codes "</tr>\n")
 
 -- a line from a logical place to a visual one
 abbrev pub link : ℕ → ℕ → List ℕ
-link logical visual = codes "<line x1=\"" ++ (decimal logical ++ (codes "\" y1=\"0\" x2=\"" ++ (decimal visual ++ codes "\" y2=\"1\"/>")))
+link logical visual =
+    codes "<line x1=\""
+    ++ (decimal logical ++ (codes "\" y1=\"0\" x2=\"" ++ (decimal visual ++ codes "\" y2=\"1\"/>")))
 
 abbrev pub link_from : List ℕ → ℕ → List ℕ
 link_from places i = link i (get_or places i 0)
@@ -50,10 +55,14 @@ link_from places i = link i (get_or places i 0)
 -- the lines between the two rows of boxes
 abbrev pub links_start : ℕ → List ℕ
 links_start columns =
-    codes "<tr><th></th><td colspan=\"" ++ (decimal columns ++ (codes "\"><svg preserveAspectRatio=\"none\" viewBox=\"0 0 " ++ (decimal columns ++ codes " 1\">")))
+    codes "<tr><th></th><td colspan=\""
+    ++ (decimal columns
+    ++ (codes "\"><svg preserveAspectRatio=\"none\" viewBox=\"0 0 " ++ (decimal columns ++ codes " 1\">")))
 
 abbrev pub links_row : List ℕ → List ℕ
-links_row places = links_start (length places) ++ (flat_map (link_from places) (range_with_len 0 (length places)) ++ codes "</svg></td></tr>\n")
+links_row places =
+    links_start (length places)
+    ++ (flat_map (link_from places) (range_with_len 0 (length places)) ++ codes "</svg></td></tr>\n")
 
 -- a row of a stage
 abbrev pub cell_element : List ℕ → List ℕ
@@ -64,10 +73,13 @@ row_element row = codes "<tr><th>" ++ (row.0 ++ (codes "</th>" ++ (flat_map cell
 
 -- the level of a paragraph, and its sequences
 abbrev pub summary_text : ℕ → List RunSequence → List ℕ
-summary_text level sequences = codes "<section>\n<pre>" ++ (level_text level ++ (flat_map sequence_text sequences ++ codes "</pre>\n<table>\n"))
+summary_text level sequences =
+    codes "<section>\n<pre>" ++ (level_text level ++ (flat_map sequence_text sequences ++ codes "</pre>\n<table>\n"))
 
 -- the section of a paragraph, from its characters and their stages
 abbrev pub section_text : List ℕ → Stages → List ℕ
 section_text chars s =
     summary_text s.level s.sequences.items
-    ++ (boxes_row chars s ++ (flat_map row_element (stage_rows chars s) ++ (links_row s.places.items ++ (shown_row chars s ++ codes "</table>\n</section>\n"))))
+    ++ (boxes_row chars s
+    ++ (flat_map row_element (stage_rows chars s)
+    ++ (links_row s.places.items ++ (shown_row chars s ++ codes "</table>\n</section>\n"))))

@@ -23,9 +23,11 @@ unfoldable pub weak_in : List BidiClass → RunSequence → List BidiClass
 weak_in classes s = weak_classes s.sos (at_places L classes s.places)
 
 -- those after N2, from the classes and the brackets of the characters, and their explicit levels and classes
-unfoldable pub neutral_in : List BidiClass → List (Option BidiMatchedOpeningBracket) → List ℕ → List BidiClass → RunSequence → List BidiClass
+unfoldable pub neutral_in : List BidiClass → List (Option BidiMatchedOpeningBracket) → List ℕ → List BidiClass
+    → RunSequence → List BidiClass
 neutral_in source brackets levels classes s =
-    neutral_classes (level_at levels (first_or 0 s.places)) s.sos s.eos (at_places L source s.places) (at_places None brackets s.places) (weak_in classes s)
+    neutral_classes (level_at levels (first_or 0 s.places)) s.sos s.eos (at_places L source s.places)
+    (at_places None brackets s.places) (weak_in classes s)
 
 -- a row in which entries are written to their places
 abbrev pub written : List (Option BidiClass) → List (ℕ × BidiClass) → List (Option BidiClass)
@@ -37,7 +39,8 @@ unfoldable pub row_of : (RunSequence → List BidiClass) → ℕ → List RunSeq
 row_of values n seqs = written (replicate n None) (flat_map (λ s. zip s.places (values s)) seqs)
 
 -- a sequence to which W1 to N2 can be applied
-pub record CanResolve (source : List BidiClass) (brackets : List (Option BidiMatchedOpeningBracket)) (classes : List BidiClass) (levels : List ℕ) (s : RunSequence) : Type 0 where
+pub record CanResolve (source : List BidiClass) (brackets : List (Option BidiMatchedOpeningBracket))
+    (classes : List BidiClass) (levels : List ℕ) (s : RunSequence) : Type 0 where
   pub sources : length source ≡ length classes
   pub bracketed : length brackets ≡ length classes
   pub leveled : length levels ≡ length classes
@@ -76,7 +79,9 @@ module _ (source : Source) (chars : List ℕ) (paragraph : ℕ) where
     pub explicit_classes : s.explicit.classes ≡ own_explicit_classes
     pub sequences : s.sequences.items ≡ own_sequences
     pub weak : s.weak.items ≡ row_of (weak_in own_explicit_classes) (length chars) own_sequences
-    pub neutral : s.neutral.items ≡ row_of (neutral_in own_classes (map source.bracket_of chars) own_explicit_levels own_explicit_classes) (length chars) own_sequences
+    pub neutral : s.neutral.items
+        ≡ row_of (neutral_in own_classes (map source.bracket_of chars) own_explicit_levels own_explicit_classes)
+        (length chars) own_sequences
     pub levels : s.levels.items ≡ stored
     pub line_levels : s.line_levels.items ≡ own_line_levels stored
     pub order : s.order.items ≡ visual_order (own_line_levels stored)
@@ -84,4 +89,5 @@ module _ (source : Source) (chars : List ℕ) (paragraph : ℕ) where
 
 -- from its characters and the base level: the paragraph has its own level (P2, P3), and its stored levels
 abbrev pub AreStages : Source → Option ℕ → List ℕ → Stages → Type 0
-AreStages source base chars s = StagesFrom source chars (paragraph_level base (map source.class_of chars)) (stored_levels source base chars) s
+AreStages source base chars s =
+    StagesFrom source chars (paragraph_level base (map source.class_of chars)) (stored_levels source base chars) s

@@ -103,7 +103,8 @@ fn push_box_at(
 fn push_boxes(out: &mut String, chars: &[char], stages: &Stages) -> Result<(), AllocError>
     requires classes { vec_len stages.now.classes ≡ length chars.now }
     requires levels { vec_len stages.now.line_levels ≡ length chars.now }
-    ensures { OnOk result (string_bytes out.new ≡ string_bytes out.old ++ flat_map (box_at chars.now stages.now) (range_with_len 0 (length chars.now))) }
+    ensures { OnOk result (string_bytes out.new
+        ≡ string_bytes out.old ++ flat_map (box_at chars.now stages.now) (range_with_len 0 (length chars.now))) }
 {
     for at in 0..chars.len() {
         push_box_at(out, chars, stages, at)?;
@@ -116,7 +117,8 @@ fn push_shown_boxes(out: &mut String, chars: &[char], stages: &Stages) -> Result
     requires classes { vec_len stages.now.classes ≡ length chars.now }
     requires levels { vec_len stages.now.line_levels ≡ length chars.now }
     requires order { All (λ p. p < length chars.now) stages.now.order.items }
-    ensures { OnOk result (string_bytes out.new ≡ string_bytes out.old ++ flat_map (box_at chars.now stages.now) stages.now.order.items) }
+    ensures { OnOk result (string_bytes out.new
+        ≡ string_bytes out.old ++ flat_map (box_at chars.now stages.now) stages.now.order.items) }
 {
     for at in stages.order.as_slice() {
         push_box_at(out, chars, stages, *at)?;
@@ -138,7 +140,8 @@ fn push_link(out: &mut String, logical: usize, visual: usize) -> Result<(), Allo
 
 /// Appends a line from each logical place to the visual one.
 fn push_links(out: &mut String, places: &[usize]) -> Result<(), AllocError>
-    ensures { OnOk result (string_bytes out.new ≡ string_bytes out.old ++ flat_map (link_from places.now) (range_with_len 0 (length places.now))) }
+    ensures { OnOk result (string_bytes out.new
+        ≡ string_bytes out.old ++ flat_map (link_from places.now) (range_with_len 0 (length places.now))) }
 {
     for at in 0..places.len() {
         push_link(out, at, places[at])?;

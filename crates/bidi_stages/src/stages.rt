@@ -115,10 +115,12 @@ fn neutral_of(
     sequence: &PlainSequence,
     weak: &[BidiClass],
 ) -> Result<Vec<BidiClass>, AllocError>
-    requires sequence { CanResolve paragraph.source.now paragraph.brackets.now paragraph.classes.now paragraph.levels.now sequence.now }
+    requires sequence { CanResolve paragraph.source.now paragraph.brackets.now paragraph.classes.now
+        paragraph.levels.now sequence.now }
     requires weak { weak.now ≡ weak_in paragraph.classes.now sequence.now }
     ensures classes { IfOk result (λ v. v.items
-        ≡ neutral_in paragraph.entry.source.now paragraph.entry.brackets.now paragraph.entry.levels.now paragraph.entry.classes.now sequence.now) }
+        ≡ neutral_in paragraph.entry.source.now paragraph.entry.brackets.now paragraph.entry.levels.now
+        paragraph.entry.classes.now sequence.now) }
     ensures long { IfOk result (λ v. length v.items ≡ length sequence.now.places) }
 {
     let places = sequence.places();
@@ -162,11 +164,15 @@ fn resolve(
     paragraph: Characters<'_>,
     sequences: &[PlainSequence],
 ) -> Result<Resolved, AllocError>
-    requires { All (CanResolve paragraph.source.now paragraph.brackets.now paragraph.classes.now paragraph.levels.now) sequences.now }
+    requires { All (CanResolve paragraph.source.now paragraph.brackets.now paragraph.classes.now paragraph.levels.now)
+        sequences.now }
     ensures weak { IfOk result (λ r. r.weak.items
         ≡ row_of (weak_in paragraph.entry.classes.now) (length paragraph.entry.classes.now) sequences.now) }
     ensures neutral { IfOk result (λ r. r.neutral.items
-        ≡ row_of (neutral_in paragraph.entry.source.now paragraph.entry.brackets.now paragraph.entry.levels.now paragraph.entry.classes.now) (length paragraph.entry.classes.now) sequences.now) }
+        ≡ row_of
+        (neutral_in paragraph.entry.source.now paragraph.entry.brackets.now paragraph.entry.levels.now
+        paragraph.entry.classes.now)
+        (length paragraph.entry.classes.now) sequences.now) }
 {
     let mut weak_row = vec![in alloc; None; paragraph.classes.len()]?;
     let mut neutral_row = vec![in alloc; None; paragraph.classes.len()]?;

@@ -8,4 +8,10 @@ text_of a = a.text
 
 -- the text, as its characters, with `a.original_classes()` and `a.levels()`
 abbrev pub analysed : {T C I L : Type 0} {t : _} {c : _} {i : _} {l : _} → Analysed T C I L t c i l → AnalysedText
-analysed {t} a = record { len_of = t.units; chars = t.characters a.text; classes = a.original_classes.items; levels = a.levels.items }
+analysed {t} a =
+    record {
+      len_of = t.units;
+      chars = t.characters a.text;
+      classes = a.original_classes.items;
+      levels = a.levels.items;
+    }

@@ -25,7 +25,8 @@ pub struct Analysed<T: TextSource> {
     text: T,
     original_classes: Vec<BidiClass>,
     levels: Vec<Level>,
-    ghost classes_per_char: { IsTrue (is_per_char ⟦<BidiClass as PartialEq>⟧.eq T.units (T.characters text) original_classes.items) },
+    ghost classes_per_char: { IsTrue
+        (is_per_char ⟦<BidiClass as PartialEq>⟧.eq T.units (T.characters text) original_classes.items) },
     ghost levels_per_char: { IsTrue (is_per_char ⟦<Level as PartialEq>⟧.eq T.units (T.characters text) levels.items) },
 }
 
@@ -57,7 +58,8 @@ impl<T: TextSource> Analysed<T> {
     /// The class of each unit.
     pub fn original_classes(&self) -> &[BidiClass]
         ensures classes { result.now ≡ (analysed self.now).classes }
-        ensures per_char { let a = analysed self.now in IsTrue (is_per_char ⟦<BidiClass as PartialEq>⟧.eq a.len_of a.chars result.now) }
+        ensures per_char { let a = analysed self.now in
+            IsTrue (is_per_char ⟦<BidiClass as PartialEq>⟧.eq a.len_of a.chars result.now) }
     {
         self.original_classes.as_slice()
     }

@@ -39,7 +39,9 @@ pub(crate) trait RunWriter<T: TextSource>: Drop {
     // Appends the characters of a run, last first.
     fn write_backwards(&mut self, text: T, run: Range<usize>) -> Result<(), AllocError>
         requires { IsLine T.units (T.characters text) run.start run.end }
-        ensures { OnOk result (written self.new ≡ written self.old ++ flat_map encode (reverse (subrange T.units (T.characters text) run.start run.end))) };
+        ensures { OnOk result (written self.new
+            ≡ written self.old
+            ++ flat_map encode (reverse (subrange T.units (T.characters text) run.start run.end))) };
 }
 
 // Writes the runs of a line that starts at the unit `start` of a text, in the order in which they

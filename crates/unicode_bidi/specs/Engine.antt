@@ -43,11 +43,13 @@ unit_levels source len_of chars p =
 abbrev pub own_flags : Source → (ℕ → ℕ) → List ℕ → ParagraphInfo → ParagraphFlags
 own_flags source len_of chars p = flags_of (map source.class_of (chars_of len_of chars p))
 
--- a paragraph of whole characters, with a level that the rules take, and with its stored classes in its part of the text's
+-- a paragraph of whole characters, with a level that the rules take, and with its stored classes in its part of
+-- the text's
 pub record CanWrite (source : Source) (len_of : ℕ → ℕ) (chars : List ℕ) (units : List BidiClass) (p : ParagraphInfo) : Type 0 where
   pub line : IsLine len_of chars p.range.start p.range.end
   pub level : p.level ≤ 125
-  pub classes : slice_range units p.range.start p.range.end ≡ per_unit len_of (chars_of len_of chars p) (stored_classes (map source.class_of (chars_of len_of chars p)))
+  pub classes : slice_range units p.range.start p.range.end
+      ≡ per_unit len_of (chars_of len_of chars p) (stored_classes (map source.class_of (chars_of len_of chars p)))
 
 -- paragraphs that follow one another from `start` to `end`
 abbrev pub Follow : ℕ → ℕ → List ParagraphInfo → Type 0

@@ -18,11 +18,13 @@ pub fn get_base_direction_with_data_source<D: BidiDataSource, T: TextSource>(
     data_source: &D,
     text: T,
 ) -> Direction
-    ensures direction { let classes = map (map (D.source data_source.now).class_of) (paragraphs_of (each_separator (D.source data_source.now)) (T.characters text)) in
+    ensures direction { let classes = map (map (D.source data_source.now).class_of)
+        (paragraphs_of (each_separator (D.source data_source.now)) (T.characters text)) in
         result ≡ base_direction classes }
 
     // It is right to left exactly where the first paragraph has level 1 by its own characters.
-    ensures level { let classes = map (map (D.source data_source.now).class_of) (paragraphs_of (each_separator (D.source data_source.now)) (T.characters text)) in
+    ensures level { let classes = map (map (D.source data_source.now).class_of)
+        (paragraphs_of (each_separator (D.source data_source.now)) (T.characters text)) in
         (result ≡ Rtl) ↔ (paragraph_level None (first_or [] classes) ≡ 1) }
 {
     find_direction(data_source, text, false)
@@ -33,7 +35,8 @@ pub fn get_base_direction_full_with_data_source<D: BidiDataSource, T: TextSource
     data_source: &D,
     text: T,
 ) -> Direction
-    ensures { let classes = map (map (D.source data_source.now).class_of) (paragraphs_of (each_separator (D.source data_source.now)) (T.characters text)) in
+    ensures { let classes = map (map (D.source data_source.now).class_of)
+        (paragraphs_of (each_separator (D.source data_source.now)) (T.characters text)) in
         result ≡ full_base_direction classes }
 {
     find_direction(data_source, text, true)
@@ -70,7 +73,8 @@ fn find_direction<D: BidiDataSource, T: TextSource>(
     text: T,
     full: bool,
 ) -> Direction
-    ensures { let classes = map (map (D.source data_source.now).class_of) (paragraphs_of (each_separator (D.source data_source.now)) (T.characters text)) in
+    ensures { let classes = map (map (D.source data_source.now).class_of)
+        (paragraphs_of (each_separator (D.source data_source.now)) (T.characters text)) in
         result ≡ (if full then full_base_direction classes else base_direction classes) }
 {
     // A text has no more units than a `usize` counts, so the depth never wraps.

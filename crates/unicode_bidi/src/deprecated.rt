@@ -18,7 +18,8 @@ pub fn visual_runs(
 ) -> Result<Vec<Range<usize>>, AllocError>
     requires not_empty { line.start < line.end }
     requires within { line.end ≤ length levels.now }
-    ensures runs { IfOk result (λ v. map run_of v.items ≡ visual_runs_from line.start (slice_range levels.now line.start line.end)) }
+    ensures runs { IfOk result (λ v. map run_of v.items
+        ≡ visual_runs_from line.start (slice_range levels.now line.start line.end)) }
     ensures visual { IfOk result (λ v. AreVisualRuns line.start (slice_range levels.now line.start line.end) (map run_of v.items)) }
 {
     visual_runs_of(alloc, &levels[line.start..line.end], line.start)

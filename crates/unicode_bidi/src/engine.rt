@@ -78,11 +78,14 @@ fn write_paragraph<D: BidiDataSource, T: TextSource>(
     flags: ParagraphFlags,
     levels: &mut [Level],
 ) -> Result<(), AllocError>
-    requires paragraph { CanWrite (D.source text.now.data_source.now) T.units (T.characters text.now.text) text.now.original_classes.now paragraph.now }
+    requires paragraph { CanWrite (D.source text.now.data_source.now) T.units (T.characters text.now.text)
+        text.now.original_classes.now paragraph.now }
     requires flags { flags ≡ own_flags (D.source text.now.data_source.now) T.units (T.characters text.now.text) paragraph.now }
     requires levels { length levels.old ≡ text_len T.units (T.characters text.now.text) }
-    ensures { OnOk result (levels.new ≡ take paragraph.now.range.start levels.old
-        ++ (unit_levels (D.source text.now.data_source.now) T.units (T.characters text.now.text) paragraph.now ++ drop paragraph.now.range.end levels.old)) }
+    ensures { OnOk result (levels.new
+        ≡ take paragraph.now.range.start levels.old
+        ++ (unit_levels (D.source text.now.data_source.now) T.units (T.characters text.now.text) paragraph.now
+        ++ drop paragraph.now.range.end levels.old)) }
 {
     let units = paragraph.range();
     let (start, end) = (units.start, units.end);
@@ -104,11 +107,17 @@ fn write_paragraphs<D: BidiDataSource, T: TextSource>(
     flags: &[ParagraphFlags],
     levels: &mut [Level],
 ) -> Result<(), AllocError>
-    requires paragraphs { All (CanWrite (D.source text.now.data_source.now) T.units (T.characters text.now.text) text.now.original_classes.now) paragraphs.now }
-    requires flags { flags.now ≡ map (own_flags (D.source text.now.data_source.now) T.units (T.characters text.now.text)) paragraphs.now }
+    requires paragraphs { All
+        (CanWrite (D.source text.now.data_source.now) T.units (T.characters text.now.text)
+        text.now.original_classes.now)
+        paragraphs.now }
+    requires flags { flags.now
+        ≡ map (own_flags (D.source text.now.data_source.now) T.units (T.characters text.now.text)) paragraphs.now }
     requires follow { Follow 0 (text_len T.units (T.characters text.now.text)) paragraphs.now }
     requires levels { length levels.old ≡ text_len T.units (T.characters text.now.text) }
-    ensures { OnOk result (levels.new ≡ flat_map (unit_levels (D.source text.now.data_source.now) T.units (T.characters text.now.text)) paragraphs.now) }
+    ensures { OnOk result (levels.new
+        ≡ flat_map (unit_levels (D.source text.now.data_source.now) T.units (T.characters text.now.text))
+        paragraphs.now) }
 {
     let mut resolver = LevelResolver::new(alloc);
     for (index, paragraph) in paragraphs.iter().enumerate() {
@@ -127,7 +136,9 @@ pub(crate) fn analyse_by<D: BidiDataSource, T: TextSource>(
     split: Option<SplitRule>,
 ) -> Result<Analysis, AllocError>
     requires { IfSome base (λ level. level ≤ 125) }
-    ensures analysis { IfOk result (λ a. IsAnalysisBy (D.source data_source.now) base split (with_analysis T.units (T.characters text) a) (ranges_of (paragraphs_of_analysis a)) (levels_of (paragraphs_of_analysis a))) }
+    ensures analysis { IfOk result (λ a. IsAnalysisBy (D.source data_source.now) base split
+        (with_analysis T.units (T.characters text) a) (ranges_of (paragraphs_of_analysis a))
+        (levels_of (paragraphs_of_analysis a))) }
     ensures per_char { IfOk result (λ a. IsPerCharText (with_analysis T.units (T.characters text) a)) }
     ensures flags { let pieces = pieces_by split (D.source data_source.now) (T.characters text) in
         IfOk result (λ a. flags_of_analysis a ≡ paragraph_flags (D.source data_source.now) pieces) }
@@ -166,7 +177,9 @@ pub fn analyse<D: BidiDataSource, T: TextSource>(
     split: bool,
 ) -> Result<Analysis, AllocError>
     requires { IfSome base (λ level. level ≤ 125) }
-    ensures analysis { IfOk result (λ a. IsAnalysis (D.source data_source.now) base split (with_analysis T.units (T.characters text) a) (ranges_of (paragraphs_of_analysis a)) (levels_of (paragraphs_of_analysis a))) }
+    ensures analysis { IfOk result (λ a. IsAnalysis (D.source data_source.now) base split
+        (with_analysis T.units (T.characters text) a) (ranges_of (paragraphs_of_analysis a))
+        (levels_of (paragraphs_of_analysis a))) }
 
     // All units of a character have one class and one level.
     ensures per_char { IfOk result (λ a. IsPerCharText (with_analysis T.units (T.characters text) a)) }
@@ -174,13 +187,17 @@ pub fn analyse<D: BidiDataSource, T: TextSource>(
     // The classes and the levels, one a character, come of the characters, the source, the base level
     // and the split alone: two texts of the same characters have the same, whatever their encodings.
     ensures by_characters { IfOk result (λ a. HasCharValues (with_analysis T.units (T.characters text) a)
-        (classes_of_chars (D.source data_source.now) split (T.characters text)) (levels_of_chars (D.source data_source.now) base split (T.characters text))) }
+        (classes_of_chars (D.source data_source.now) split (T.characters text))
+        (levels_of_chars (D.source data_source.now) base split (T.characters text))) }
 
     // Split, every unit is in one paragraph, and separators stand at the paragraphs' ends alone.
-    ensures parted { split ≡ true → IfOk result (λ a. AreParagraphRanges (D.source data_source.now) T.units (T.characters text) (ranges_of (paragraphs_of_analysis a))) }
+    ensures parted { split ≡ true
+        → IfOk result (λ a. AreParagraphRanges (D.source data_source.now) T.units (T.characters text)
+        (ranges_of (paragraphs_of_analysis a))) }
 
     // Not split, there is one paragraph, the whole text.
-    ensures whole { split ≡ false → IfOk result (λ a. ranges_of (paragraphs_of_analysis a) ≡ (0, text_len T.units (T.characters text)) ∷ []) }
+    ensures whole { split ≡ false
+        → IfOk result (λ a. ranges_of (paragraphs_of_analysis a) ≡ (0, text_len T.units (T.characters text)) ∷ []) }
 {
     let split = split.then_some(SplitRule::EachSeparator);
     analyse_by(alloc, data_source, text, base, split)
@@ -196,7 +213,9 @@ pub fn analyse_with_rule<D: BidiDataSource, T: TextSource>(
     rule: Option<SplitRule>,
 ) -> Result<Analysis, AllocError>
     requires { IfSome base (λ level. level ≤ 125) }
-    ensures analysis { IfOk result (λ a. IsAnalysisBy (D.source data_source.now) base rule (with_analysis T.units (T.characters text) a) (ranges_of (paragraphs_of_analysis a)) (levels_of (paragraphs_of_analysis a))) }
+    ensures analysis { IfOk result (λ a. IsAnalysisBy (D.source data_source.now) base rule
+        (with_analysis T.units (T.characters text) a) (ranges_of (paragraphs_of_analysis a))
+        (levels_of (paragraphs_of_analysis a))) }
     ensures per_char { IfOk result (λ a. IsPerCharText (with_analysis T.units (T.characters text) a)) }
 {
     analyse_by(alloc, data_source, text, base, rule)
@@ -214,16 +233,20 @@ pub fn line_levels<T: TextSource>(
     line: Range<usize>,
 ) -> Result<Vec<Level>, AllocError>
     requires is_line { IsLine T.units (T.characters text) line.start line.end }
-    requires classes { IsTrue (is_per_char ⟦<BidiClass as PartialEq>⟧.eq T.units (T.characters text) (original_classes_of analysis.now)) }
+    requires classes { IsTrue
+        (is_per_char ⟦<BidiClass as PartialEq>⟧.eq T.units (T.characters text) (original_classes_of analysis.now)) }
     requires levels { IsTrue (is_per_char ⟦<Level as PartialEq>⟧.eq T.units (T.characters text) (stored_levels_of analysis.now)) }
-    ensures levels { IfOk result (λ v. AreLevelsWithLine (with_analysis T.units (T.characters text) analysis.now) level line v.items) }
+    ensures levels { IfOk result (λ v. AreLevelsWithLine (with_analysis T.units (T.characters text) analysis.now)
+        level line v.items) }
 
     // The levels, one a character, come of the analysis's classes and levels, one a character, of the
     // level handed in and of the line counted in characters alone. So corresponding lines of two texts
     // of the same characters have the same levels a character, and the same order.
-    ensures by_characters { let chars = T.characters text in IfOk result (λ v. per_char 0 T.units chars v.items
-        ≡ levels_with_line_of level (per_char L T.units chars (original_classes_of analysis.now)) (per_char 0 T.units chars (stored_levels_of analysis.now))
-        (char_index T.units chars line.start) (char_index T.units chars line.end)) }
+    ensures by_characters { let chars = T.characters text in
+        IfOk result (λ v. per_char 0 T.units chars v.items
+        ≡ levels_with_line_of level (per_char L T.units chars (original_classes_of analysis.now))
+        (per_char 0 T.units chars (stored_levels_of analysis.now)) (char_index T.units chars line.start)
+        (char_index T.units chars line.end)) }
 {
     levels_with_line(
         alloc,

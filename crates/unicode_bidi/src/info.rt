@@ -29,7 +29,8 @@ use std::ops::Range;
 pub struct BidiInfo<T: TextSource> {
     pub(crate) analysed: Analysed<T>,
     paragraphs: Vec<ParagraphInfo>,
-    ghost paragraphs_are_lines: { All (λ p. IsLine T.units (T.characters analysed.text) (range_of p).start (range_of p).end) paragraphs.items },
+    ghost paragraphs_are_lines: { All
+        (λ p. IsLine T.units (T.characters analysed.text) (range_of p).start (range_of p).end) paragraphs.items },
 }
 
 // A line goes from one unit up to another, both of which have to begin a character or be the text's
@@ -48,12 +49,19 @@ impl<T: TextSource> BidiInfo<T> {
     ) -> Result<BidiInfo<T>, AllocError>
         requires { IfSome default_para_level (λ level. level ≤ 125) }
         ensures text { IfOk result (λ i. i.analysed.text ≡ text) }
-        ensures analysis { IfOk result (λ i. IsAnalysisBy (D.source data_source.now) default_para_level (Some rule) (analysed_of i) (ranges_of (paragraphs i)) (levels_of (paragraphs i))) }
-        ensures parted { IfOk result (λ i. let a = analysed_of i in AreParagraphRangesBy rule (D.source data_source.now) a.len_of a.chars (ranges_of (paragraphs i))) }
+        ensures analysis { IfOk result (λ i. IsAnalysisBy (D.source data_source.now) default_para_level (Some rule)
+            (analysed_of i) (ranges_of (paragraphs i)) (levels_of (paragraphs i))) }
+        ensures parted { IfOk result (λ i. let a = analysed_of i in
+            AreParagraphRangesBy rule (D.source data_source.now) a.len_of a.chars (ranges_of (paragraphs i))) }
         ensures per_char { IfOk result (λ i. IsPerCharText (analysed_of i)) }
-        ensures bounded { IfOk result (λ i. All (λ p. AreLevelsFrom (level_of p) (slice_range (analysed_of i).levels (range_of p).start (range_of p).end)) (paragraphs i)) }
+        ensures bounded { IfOk result (λ i. All
+            (λ p. AreLevelsFrom (level_of p)
+            (slice_range (analysed_of i).levels (range_of p).start (range_of p).end))
+            (paragraphs i)) }
         ensures each_by_itself { IfOk result (λ i. let a = analysed_of i in
-            All (HasOwnUnits a.len_of (stored_levels (D.source data_source.now) default_para_level) a.chars a.levels) (ranges_of (paragraphs i))) }
+            All
+            (HasOwnUnits a.len_of (stored_levels (D.source data_source.now) default_para_level) a.chars a.levels)
+            (ranges_of (paragraphs i))) }
         ensures boundary_neutrals_alike { BoundaryNeutralsAreAlike (D.source data_source.now) default_para_level }
         ensures stays_left_to_right { StaysLeftToRight (D.source data_source.now) default_para_level }
     {
@@ -68,7 +76,8 @@ impl<T: TextSource> BidiInfo<T> {
     /// here as RLI or LRI.
     pub fn original_classes(&self) -> &[BidiClass]
         ensures classes { result.now ≡ original_classes self.now }
-        ensures per_char { let a = analysed_of self.now in IsTrue (is_per_char ⟦<BidiClass as PartialEq>⟧.eq a.len_of a.chars result.now) }
+        ensures per_char { let a = analysed_of self.now in
+            IsTrue (is_per_char ⟦<BidiClass as PartialEq>⟧.eq a.len_of a.chars result.now) }
     {
         self.analysed.original_classes()
     }
@@ -77,7 +86,8 @@ impl<T: TextSource> BidiInfo<T> {
     /// the character before it, the paragraph's first one the paragraph level.
     pub fn levels(&self) -> &[Level]
         ensures levels { result.now ≡ levels_of_info self.now }
-        ensures per_char { let a = analysed_of self.now in IsTrue (is_per_char ⟦<Level as PartialEq>⟧.eq a.len_of a.chars result.now) }
+        ensures per_char { let a = analysed_of self.now in
+            IsTrue (is_per_char ⟦<Level as PartialEq>⟧.eq a.len_of a.chars result.now) }
     {
         self.analysed.levels()
     }

@@ -21,7 +21,8 @@ pub struct InitialInfo<T: TextSource> {
     pub(crate) text: T,
     original_classes: Vec<BidiClass>,
     paragraphs: Vec<ParagraphInfo>,
-    ghost classes_per_char: { IsTrue (is_per_char ⟦<BidiClass as PartialEq>⟧.eq T.units (T.characters text) original_classes.items) },
+    ghost classes_per_char: { IsTrue
+        (is_per_char ⟦<BidiClass as PartialEq>⟧.eq T.units (T.characters text) original_classes.items) },
 }
 
 impl<T: TextSource> InitialInfo<T> {
@@ -41,8 +42,10 @@ impl<T: TextSource> InitialInfo<T> {
             ranges_of (paragraphs i) ≡ ranges_from (len_of i) 0 pieces) }
         ensures levels { IfOk result (λ i. let pieces = pieces_of true (D.source data_source.now) (chars_of i) in
             levels_of (paragraphs i) ≡ paragraph_levels (D.source data_source.now) default_para_level pieces) }
-        ensures parted { IfOk result (λ i. AreParagraphRanges (D.source data_source.now) (len_of i) (chars_of i) (ranges_of (paragraphs i))) }
-        ensures per_char { IfOk result (λ i. IsTrue (is_per_char ⟦<BidiClass as PartialEq>⟧.eq (len_of i) (chars_of i) (original_classes i))) }
+        ensures parted { IfOk result (λ i. AreParagraphRanges (D.source data_source.now) (len_of i) (chars_of i)
+            (ranges_of (paragraphs i))) }
+        ensures per_char { IfOk result (λ i. IsTrue
+            (is_per_char ⟦<BidiClass as PartialEq>⟧.eq (len_of i) (chars_of i) (original_classes i))) }
     {
         let split = Some(SplitRule::EachSeparator);
         let found = first_walk::walk(alloc, data_source, text, default_para_level, split)?;

@@ -137,8 +137,10 @@ impl LineMap {
         line: Range<usize>,
     ) -> Result<LineMap, AllocError>
         requires { IsLineOf (analysed_of info.now) line }
-        ensures order { IfOk result (λ m. order_of m ≡ visual_order (line_levels_per_char (analysed_of info.now) (level_of para.now) line)) }
-        ensures places { IfOk result (λ m. places_of m ≡ visual_places (line_levels_per_char (analysed_of info.now) (level_of para.now) line)) }
+        ensures order { IfOk result (λ m. order_of m
+            ≡ visual_order (line_levels_per_char (analysed_of info.now) (level_of para.now) line)) }
+        ensures places { IfOk result (λ m. places_of m
+            ≡ visual_places (line_levels_per_char (analysed_of info.now) (level_of para.now) line)) }
     {
         let levels = char_levels(alloc, info, para, line)?;
         let order = BidiInfo::reorder_visual(alloc, levels.as_slice())?;

@@ -42,7 +42,8 @@ impl<T: TextSource> ParagraphBidiInfo<T> {
     ) -> Result<ParagraphBidiInfo<T>, AllocError>
         requires { IfSome default_para_level (λ level. level ≤ 125) }
         ensures text { IfOk result (λ i. i.paragraph.text ≡ text) }
-        ensures analysis { IfOk result (λ i. IsParagraphAnalysis (D.source data_source.now) default_para_level (analysed_of i) (paragraph_level i) (is_pure_ltr i)) }
+        ensures analysis { IfOk result (λ i. IsParagraphAnalysis (D.source data_source.now) default_para_level
+            (analysed_of i) (paragraph_level i) (is_pure_ltr i)) }
         ensures per_char { IfOk result (λ i. IsPerCharText (analysed_of i)) }
         ensures bounded { IfOk result (λ i. AreLevelsFrom (paragraph_level i) (levels_of_info i)) }
         ensures boundary_neutrals_alike { BoundaryNeutralsAreAlike (D.source data_source.now) default_para_level }
@@ -60,7 +61,8 @@ impl<T: TextSource> ParagraphBidiInfo<T> {
     /// here as RLI or LRI.
     pub fn original_classes(&self) -> &[BidiClass]
         ensures classes { result.now ≡ original_classes self.now }
-        ensures per_char { let a = analysed_of self.now in IsTrue (is_per_char ⟦<BidiClass as PartialEq>⟧.eq a.len_of a.chars result.now) }
+        ensures per_char { let a = analysed_of self.now in
+            IsTrue (is_per_char ⟦<BidiClass as PartialEq>⟧.eq a.len_of a.chars result.now) }
     {
         self.paragraph.original_classes()
     }
@@ -69,7 +71,8 @@ impl<T: TextSource> ParagraphBidiInfo<T> {
     /// the character before it, the text's first one the paragraph level.
     pub fn levels(&self) -> &[Level]
         ensures levels { result.now ≡ levels_of_info self.now }
-        ensures per_char { let a = analysed_of self.now in IsTrue (is_per_char ⟦<Level as PartialEq>⟧.eq a.len_of a.chars result.now) }
+        ensures per_char { let a = analysed_of self.now in
+            IsTrue (is_per_char ⟦<Level as PartialEq>⟧.eq a.len_of a.chars result.now) }
     {
         self.paragraph.levels()
     }
@@ -141,7 +144,8 @@ impl<T: TextSource> ParagraphBidiInfo<T> {
         requires is_line { IsLineOf (analysed_of self.now) line }
         requires not_empty { line.start < line.end }
         ensures levels { IfOk result (λ r. AreLevelsWithLine (analysed_of self.now) (paragraph_level self.now) line r.0.items) }
-        ensures runs { IfOk result (λ r. AreRunsOfLine (analysed_of self.now) (paragraph_level self.now) line (map run_of r.1.items)) }
+        ensures runs { IfOk result (λ r. AreRunsOfLine (analysed_of self.now) (paragraph_level self.now) line
+            (map run_of r.1.items)) }
     {
         self.paragraph
             .visual_runs(alloc, self.paragraph_level, line)

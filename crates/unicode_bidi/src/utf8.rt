@@ -47,20 +47,27 @@ impl<'t> info::BidiInfo<StrText<'t>> {
     ) -> Result<BidiInfo<'t>, AllocError>
         requires { IfSome default_para_level (λ level. level ≤ 125) }
         ensures text { IfOk result (λ i. text_of i ≡ text.now) }
-        ensures analysis { IfOk result (λ i. IsAnalysis (D.source data_source.now) default_para_level true (analysed_of i) (ranges_of (paragraphs i)) (levels_of (paragraphs i))) }
+        ensures analysis { IfOk result (λ i. IsAnalysis (D.source data_source.now) default_para_level true
+            (analysed_of i) (ranges_of (paragraphs i)) (levels_of (paragraphs i))) }
 
         // Every unit is in one paragraph, and separators stand at the paragraphs' ends alone.
-        ensures parted { IfOk result (λ i. let a = analysed_of i in AreParagraphRanges (D.source data_source.now) a.len_of a.chars (ranges_of (paragraphs i))) }
+        ensures parted { IfOk result (λ i. let a = analysed_of i in
+            AreParagraphRanges (D.source data_source.now) a.len_of a.chars (ranges_of (paragraphs i))) }
 
         // All units of a character have one class and one level.
         ensures per_char { IfOk result (λ i. IsPerCharText (analysed_of i)) }
 
         // No level is below that of its paragraph or above the greatest.
-        ensures bounded { IfOk result (λ i. All (λ p. AreLevelsFrom (level_of p) (slice_range (analysed_of i).levels (range_of p).start (range_of p).end)) (paragraphs i)) }
+        ensures bounded { IfOk result (λ i. All
+            (λ p. AreLevelsFrom (level_of p)
+            (slice_range (analysed_of i).levels (range_of p).start (range_of p).end))
+            (paragraphs i)) }
 
         // Each paragraph has the levels that its characters would have as the whole text.
         ensures each_by_itself { IfOk result (λ i. let a = analysed_of i in
-            All (HasOwnUnits a.len_of (stored_levels (D.source data_source.now) default_para_level) a.chars a.levels) (ranges_of (paragraphs i))) }
+            All
+            (HasOwnUnits a.len_of (stored_levels (D.source data_source.now) default_para_level) a.chars a.levels)
+            (ranges_of (paragraphs i))) }
 
         // Which character of class BN stands at a place changes no level of its paragraph.
         ensures boundary_neutrals_alike { BoundaryNeutralsAreAlike (D.source data_source.now) default_para_level }
@@ -84,21 +91,28 @@ impl<'t> info::BidiInfo<StrText<'t>> {
     ) -> Result<BidiInfo<'t>, AllocError>
         requires { IfSome default_para_level (λ level. level ≤ 125) }
         ensures text { IfOk result (λ i. text_of i ≡ text.now) }
-        ensures analysis { IfOk result (λ i. IsAnalysisBy (D.source data_source.now) default_para_level (Some rule) (analysed_of i) (ranges_of (paragraphs i)) (levels_of (paragraphs i))) }
+        ensures analysis { IfOk result (λ i. IsAnalysisBy (D.source data_source.now) default_para_level (Some rule)
+            (analysed_of i) (ranges_of (paragraphs i)) (levels_of (paragraphs i))) }
 
         // Every unit is in one paragraph, and separators stand at the paragraphs' ends alone. With
         // `CrLfTogether` one also stands directly before a U+000A that ends its paragraph: a U+000D.
-        ensures parted { IfOk result (λ i. let a = analysed_of i in AreParagraphRangesBy rule (D.source data_source.now) a.len_of a.chars (ranges_of (paragraphs i))) }
+        ensures parted { IfOk result (λ i. let a = analysed_of i in
+            AreParagraphRangesBy rule (D.source data_source.now) a.len_of a.chars (ranges_of (paragraphs i))) }
 
         // All units of a character have one class and one level.
         ensures per_char { IfOk result (λ i. IsPerCharText (analysed_of i)) }
 
         // No level is below that of its paragraph or above the greatest.
-        ensures bounded { IfOk result (λ i. All (λ p. AreLevelsFrom (level_of p) (slice_range (analysed_of i).levels (range_of p).start (range_of p).end)) (paragraphs i)) }
+        ensures bounded { IfOk result (λ i. All
+            (λ p. AreLevelsFrom (level_of p)
+            (slice_range (analysed_of i).levels (range_of p).start (range_of p).end))
+            (paragraphs i)) }
 
         // Each paragraph has the levels that its characters would have as the whole text.
         ensures each_by_itself { IfOk result (λ i. let a = analysed_of i in
-            All (HasOwnUnits a.len_of (stored_levels (D.source data_source.now) default_para_level) a.chars a.levels) (ranges_of (paragraphs i))) }
+            All
+            (HasOwnUnits a.len_of (stored_levels (D.source data_source.now) default_para_level) a.chars a.levels)
+            (ranges_of (paragraphs i))) }
 
         // Which character of class BN stands at a place changes no level of its paragraph.
         ensures boundary_neutrals_alike { BoundaryNeutralsAreAlike (D.source data_source.now) default_para_level }
@@ -127,7 +141,8 @@ impl<'t> info::BidiInfo<StrText<'t>> {
         line: Range<usize>,
     ) -> Result<CowStr<'t>, AllocError>
         requires { IsLineOf (analysed_of self.now) line }
-        ensures text { IfOk result (λ c. IsTextOfLine encode_utf8 (text_of self.now) (analysed_of self.now) (level_of para.now) line (cow_str_bytes c)) }
+        ensures text { IfOk result (λ c. IsTextOfLine encode_utf8 (text_of self.now) (analysed_of self.now)
+            (level_of para.now) line (cow_str_bytes c)) }
         ensures borrowed { IfOk result (λ c. IsBorrowedStr c ↔ StaysInOrder (analysed_of self.now) (level_of para.now) line) }
     {
         self.analysed.reorder_line(alloc, para.level(), line)
@@ -148,7 +163,8 @@ impl<'t> paragraph_bidi_info::ParagraphBidiInfo<StrText<'t>> {
     ) -> Result<ParagraphBidiInfo<'t>, AllocError>
         requires { IfSome default_para_level (λ level. level ≤ 125) }
         ensures text { IfOk result (λ i. text_of i ≡ text.now) }
-        ensures analysis { IfOk result (λ i. IsParagraphAnalysis (D.source data_source.now) default_para_level (analysed_of i) (paragraph_level i) (is_pure_ltr i)) }
+        ensures analysis { IfOk result (λ i. IsParagraphAnalysis (D.source data_source.now) default_para_level
+            (analysed_of i) (paragraph_level i) (is_pure_ltr i)) }
 
         // All units of a character have one class and one level.
         ensures per_char { IfOk result (λ i. IsPerCharText (analysed_of i)) }
@@ -182,8 +198,10 @@ impl<'t> paragraph_bidi_info::ParagraphBidiInfo<StrText<'t>> {
     /// borrowed, and takes no memory, exactly where no level of the line is odd after L1.
     pub fn reorder_line(&self, alloc: Global, line: Range<usize>) -> Result<CowStr<'t>, AllocError>
         requires { IsLineOf (analysed_of self.now) line }
-        ensures text { IfOk result (λ c. IsTextOfLine encode_utf8 (text_of self.now) (analysed_of self.now) (paragraph_level self.now) line (cow_str_bytes c)) }
-        ensures borrowed { IfOk result (λ c. IsBorrowedStr c ↔ StaysInOrder (analysed_of self.now) (paragraph_level self.now) line) }
+        ensures text { IfOk result (λ c. IsTextOfLine encode_utf8 (text_of self.now) (analysed_of self.now)
+            (paragraph_level self.now) line (cow_str_bytes c)) }
+        ensures borrowed { IfOk result (λ c. IsBorrowedStr c
+            ↔ StaysInOrder (analysed_of self.now) (paragraph_level self.now) line) }
     {
         self.paragraph
             .reorder_line(alloc, self.paragraph_level(), line)
@@ -211,8 +229,10 @@ impl<'t> initial_info::InitialInfo<StrText<'t>> {
             levels_of (paragraphs i) ≡ paragraph_levels (D.source data_source.now) default_para_level pieces) }
 
         // Every unit is in one paragraph, and separators stand at the paragraphs' ends alone.
-        ensures parted { IfOk result (λ i. AreParagraphRanges (D.source data_source.now) (len_of i) (chars_of i) (ranges_of (paragraphs i))) }
-        ensures per_char { IfOk result (λ i. IsTrue (is_per_char ⟦<BidiClass as PartialEq>⟧.eq (len_of i) (chars_of i) (original_classes i))) }
+        ensures parted { IfOk result (λ i. AreParagraphRanges (D.source data_source.now) (len_of i) (chars_of i)
+            (ranges_of (paragraphs i))) }
+        ensures per_char { IfOk result (λ i. IsTrue
+            (is_per_char ⟦<BidiClass as PartialEq>⟧.eq (len_of i) (chars_of i) (original_classes i))) }
     {
         initial_info::InitialInfo::of_text(
             alloc,

@@ -54,11 +54,14 @@ impl<'t> Utf8IndexLenIter<'t> {
 impl<'t> Iterator for Utf8IndexLenIter<'t> {
     type Item = (usize, usize);
 
-    ghost can_next = { λ s. IsUtf8 (char_indices_rest s.iter) × (char_indices_offset s.iter + length (char_indices_rest s.iter) < 2 ^ 64) };
+    ghost can_next = { λ s. IsUtf8 (char_indices_rest s.iter)
+        × (char_indices_offset s.iter + length (char_indices_rest s.iter) < 2 ^ 64) };
 
-    ghost next_gives = { YieldsFirst (λ s. indices_lengths_from len_utf8 (char_indices_offset s.iter) (chars (char_indices_rest s.iter))) };
+    ghost next_gives = { YieldsFirst (λ s. indices_lengths_from len_utf8 (char_indices_offset s.iter)
+        (chars (char_indices_rest s.iter))) };
 
-    ghost remaining = { item_count (λ s. indices_lengths_from len_utf8 (char_indices_offset s.iter) (chars (char_indices_rest s.iter))) };
+    ghost remaining = { item_count (λ s. indices_lengths_from len_utf8 (char_indices_offset s.iter)
+        (chars (char_indices_rest s.iter))) };
 
     fn next(&mut self) -> Option<(usize, usize)> {
         match self.iter.next() {

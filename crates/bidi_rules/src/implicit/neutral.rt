@@ -72,12 +72,21 @@ impl NeutralResolver {
         requires fits { AreLines T.units (T.characters text) (map bounds (runs_of sequence.now)) }
         requires levels { length levels.now ≡ length processing_classes.old }
         requires original { length original_classes.now ≡ length processing_classes.old }
-        requires resolved { let places = map (place T.units (T.characters text)) (kept_in_place T.units (T.characters text) processing_classes.old (map bounds (runs_of sequence.now))) in IsTrue (list_all is_weak_resolved (at_places L processing_classes.old places)) }
-        ensures kept { let indexes = kept_in_place T.units (T.characters text) processing_classes.old (map bounds (runs_of sequence.now)) in let places = map (place T.units (T.characters text)) indexes in
-            OnOk result (at_places L processing_classes.new places ≡ neutral_classes (level_at levels.now (first_or 0 places)) (sos_of sequence.now) (eos_of sequence.now)
-            (at_places L original_classes.now places) (map (D.source data_source.now).bracket_of (at_places 0 (T.characters text) indexes)) (at_places L processing_classes.old places)) }
+        requires resolved { let places = map (place T.units (T.characters text))
+            (kept_in_place T.units (T.characters text) processing_classes.old
+            (map bounds (runs_of sequence.now))) in
+            IsTrue (list_all is_weak_resolved (at_places L processing_classes.old places)) }
+        ensures kept { let indexes = kept_in_place T.units (T.characters text) processing_classes.old
+            (map bounds (runs_of sequence.now)) in
+            let places = map (place T.units (T.characters text)) indexes in
+            OnOk result (at_places L processing_classes.new places
+            ≡ neutral_classes (level_at levels.now (first_or 0 places)) (sos_of sequence.now)
+            (eos_of sequence.now) (at_places L original_classes.now places)
+            (map (D.source data_source.now).bracket_of (at_places 0 (T.characters text) indexes))
+            (at_places L processing_classes.old places)) }
         ensures removed { (u : ℕ) → class_at processing_classes.old u ≡ BN → class_at processing_classes.new u ≡ BN }
-        ensures outside { (u : ℕ) → in_runs (map bounds (runs_of sequence.now)) u ≡ false → class_at processing_classes.new u ≡ class_at processing_classes.old u }
+        ensures outside { (u : ℕ) → in_runs (map bounds (runs_of sequence.now)) u ≡ false
+            → class_at processing_classes.new u ≡ class_at processing_classes.old u }
         ensures per_char { IsTrue (is_per_char ⟦<BidiClass as PartialEq>⟧.eq T.units (T.characters text) processing_classes.new) }
         ensures refused { OnErr result (processing_classes.new ≡ processing_classes.old) }
     {
@@ -105,12 +114,21 @@ impl NeutralResolver {
         requires fits { AreLines T.units (T.characters text) (map bounds (lent_runs sequence)) }
         requires levels { length levels.now ≡ length processing_classes.old }
         requires original { length original_classes.now ≡ length processing_classes.old }
-        requires resolved { let places = map (place T.units (T.characters text)) (kept_in_place T.units (T.characters text) processing_classes.old (map bounds (lent_runs sequence))) in IsTrue (list_all is_weak_resolved (at_places L processing_classes.old places)) }
-        ensures kept { let indexes = kept_in_place T.units (T.characters text) processing_classes.old (map bounds (lent_runs sequence.entry)) in let places = map (place T.units (T.characters text)) indexes in
-            OnOk result (at_places L processing_classes.new places ≡ neutral_classes (level_at levels.now (first_or 0 places)) (lent_sos sequence.entry) (lent_eos sequence.entry)
-            (at_places L original_classes.now places) (map (D.source data_source.now).bracket_of (at_places 0 (T.characters text) indexes)) (at_places L processing_classes.old places)) }
+        requires resolved { let places = map (place T.units (T.characters text))
+            (kept_in_place T.units (T.characters text) processing_classes.old
+            (map bounds (lent_runs sequence))) in
+            IsTrue (list_all is_weak_resolved (at_places L processing_classes.old places)) }
+        ensures kept { let indexes = kept_in_place T.units (T.characters text) processing_classes.old
+            (map bounds (lent_runs sequence.entry)) in
+            let places = map (place T.units (T.characters text)) indexes in
+            OnOk result (at_places L processing_classes.new places
+            ≡ neutral_classes (level_at levels.now (first_or 0 places)) (lent_sos sequence.entry)
+            (lent_eos sequence.entry) (at_places L original_classes.now places)
+            (map (D.source data_source.now).bracket_of (at_places 0 (T.characters text) indexes))
+            (at_places L processing_classes.old places)) }
         ensures removed { (u : ℕ) → class_at processing_classes.old u ≡ BN → class_at processing_classes.new u ≡ BN }
-        ensures outside { (u : ℕ) → in_runs (map bounds (lent_runs sequence.entry)) u ≡ false → class_at processing_classes.new u ≡ class_at processing_classes.old u }
+        ensures outside { (u : ℕ) → in_runs (map bounds (lent_runs sequence.entry)) u ≡ false
+            → class_at processing_classes.new u ≡ class_at processing_classes.old u }
         ensures per_char { IsTrue (is_per_char ⟦<BidiClass as PartialEq>⟧.eq T.units (T.characters text) processing_classes.new) }
         ensures refused { OnErr result (processing_classes.new ≡ processing_classes.old) }
     {
@@ -146,12 +164,22 @@ impl NeutralResolver {
         requires fits { AreLines T.units (T.characters text) (map bounds (lent_runs sequence)) }
         requires levels { length levels.now ≡ length processing_classes.old }
         requires original { length original_classes.now ≡ length processing_classes.old }
-        requires resolved { let places = map (place T.units (T.characters text)) (kept_in_place T.units (T.characters text) processing_classes.old (map bounds (lent_runs sequence))) in IsTrue (list_all is_weak_resolved (at_places L processing_classes.old places)) }
-        ensures kept { let indexes = kept_in_place T.units (T.characters text) processing_classes.old (map bounds (lent_runs sequence.entry)) in let places = map (place T.units (T.characters text)) indexes in let level = level_at levels.now (first_or 0 places) in
-            OnOk result (map (n2_rule (direction_of level)) (at_places L processing_classes.new places) ≡ neutral_classes level (lent_sos sequence.entry) (lent_eos sequence.entry)
-            (at_places L original_classes.now places) (map (D.source data_source.now).bracket_of (at_places 0 (T.characters text) indexes)) (at_places L processing_classes.old places)) }
+        requires resolved { let places = map (place T.units (T.characters text))
+            (kept_in_place T.units (T.characters text) processing_classes.old
+            (map bounds (lent_runs sequence))) in
+            IsTrue (list_all is_weak_resolved (at_places L processing_classes.old places)) }
+        ensures kept { let indexes = kept_in_place T.units (T.characters text) processing_classes.old
+            (map bounds (lent_runs sequence.entry)) in
+            let places = map (place T.units (T.characters text)) indexes in
+            let level = level_at levels.now (first_or 0 places) in
+            OnOk result (map (n2_rule (direction_of level)) (at_places L processing_classes.new places)
+            ≡ neutral_classes level (lent_sos sequence.entry) (lent_eos sequence.entry)
+            (at_places L original_classes.now places)
+            (map (D.source data_source.now).bracket_of (at_places 0 (T.characters text) indexes))
+            (at_places L processing_classes.old places)) }
         ensures removed { (u : ℕ) → class_at processing_classes.old u ≡ BN → class_at processing_classes.new u ≡ BN }
-        ensures outside { (u : ℕ) → in_runs (map bounds (lent_runs sequence.entry)) u ≡ false → class_at processing_classes.new u ≡ class_at processing_classes.old u }
+        ensures outside { (u : ℕ) → in_runs (map bounds (lent_runs sequence.entry)) u ≡ false
+            → class_at processing_classes.new u ≡ class_at processing_classes.old u }
         ensures per_char { IsTrue (is_per_char ⟦<BidiClass as PartialEq>⟧.eq T.units (T.characters text) processing_classes.new) }
         ensures refused { OnErr result (processing_classes.new ≡ processing_classes.old) }
     {
@@ -195,7 +223,8 @@ impl NeutralResolver {
         requires ready { IsReady T.units (T.characters text) runs.now directions.sos classes.old }
         requires side { IsTrue (is_l_or_r directions.embedding) }
         requires original { length original_classes.now ≡ length classes.old }
-        ensures paired { OnOk result (IsPaired T.units (T.characters text) original_classes.now classes.old classes.new runs.now directions.embedding directions.sos
+        ensures paired { OnOk result (IsPaired T.units (T.characters text) original_classes.now classes.old
+            classes.new runs.now directions.embedding directions.sos
             (pairs_in T.units (T.characters text) (D.source data_source.now) classes.old runs.now)) }
         ensures refused { OnErr result (classes.new ≡ classes.old) }
     {
@@ -215,7 +244,8 @@ impl NeutralResolver {
     ) -> Result<(), AllocError>
         requires lines { AreLines T.units (T.characters text) (map bounds runs.now) }
         requires long { length classes.now ≡ text_len T.units (T.characters text) }
-        ensures { OnOk result (HasRead self.new.search (placed_brackets T.units (T.characters text) (D.source data_source.now) classes.now
+        ensures { OnOk result (HasRead self.new.search (placed_brackets T.units (T.characters text)
+            (D.source data_source.now) classes.now
             (kept_in_place T.units (T.characters text) classes.now (map bounds runs.now)))) }
     {
         self.search.clear();
@@ -236,7 +266,9 @@ impl NeutralResolver {
         requires line { IsLine T.units (T.characters text) run.now.start run.now.end }
         requires long { length classes.now ≡ text_len T.units (T.characters text) }
         requires read { (before : List Bracket) × HasRead self.old.search before }
-        ensures { (before : List Bracket) → HasRead self.old.search before → OnOk result (HasRead self.new.search (before ++ placed_brackets T.units (T.characters text) (D.source data_source.now) classes.now
+        ensures { (before : List Bracket) → HasRead self.old.search before
+            → OnOk result (HasRead self.new.search (before
+            ++ placed_brackets T.units (T.characters text) (D.source data_source.now) classes.now
             (kept_in_place T.units (T.characters text) classes.now (bounds run.now ∷ [])))) }
     {
         let end = run.end;
@@ -298,12 +330,20 @@ pub fn resolve_neutral<D: BidiDataSource, T: TextSource>(
     requires fits { AreLines T.units (T.characters text) (map bounds (runs_of sequence.now)) }
     requires levels { length levels.now ≡ length processing_classes.old }
     requires original { length original_classes.now ≡ length processing_classes.old }
-    requires resolved { let places = map (place T.units (T.characters text)) (kept_in_place T.units (T.characters text) processing_classes.old (map bounds (runs_of sequence.now))) in IsTrue (list_all is_weak_resolved (at_places L processing_classes.old places)) }
-    ensures kept { let indexes = kept_in_place T.units (T.characters text) processing_classes.old (map bounds (runs_of sequence.now)) in let places = map (place T.units (T.characters text)) indexes in
-        OnOk result (at_places L processing_classes.new places ≡ neutral_classes (level_at levels.now (first_or 0 places)) (sos_of sequence.now) (eos_of sequence.now)
-        (at_places L original_classes.now places) (map (D.source data_source.now).bracket_of (at_places 0 (T.characters text) indexes)) (at_places L processing_classes.old places)) }
+    requires resolved { let places = map (place T.units (T.characters text))
+        (kept_in_place T.units (T.characters text) processing_classes.old (map bounds (runs_of sequence.now))) in
+        IsTrue (list_all is_weak_resolved (at_places L processing_classes.old places)) }
+    ensures kept { let indexes = kept_in_place T.units (T.characters text) processing_classes.old
+        (map bounds (runs_of sequence.now)) in
+        let places = map (place T.units (T.characters text)) indexes in
+        OnOk result (at_places L processing_classes.new places
+        ≡ neutral_classes (level_at levels.now (first_or 0 places)) (sos_of sequence.now) (eos_of sequence.now)
+        (at_places L original_classes.now places)
+        (map (D.source data_source.now).bracket_of (at_places 0 (T.characters text) indexes))
+        (at_places L processing_classes.old places)) }
     ensures removed { (u : ℕ) → class_at processing_classes.old u ≡ BN → class_at processing_classes.new u ≡ BN }
-    ensures outside { (u : ℕ) → in_runs (map bounds (runs_of sequence.now)) u ≡ false → class_at processing_classes.new u ≡ class_at processing_classes.old u }
+    ensures outside { (u : ℕ) → in_runs (map bounds (runs_of sequence.now)) u ≡ false
+        → class_at processing_classes.new u ≡ class_at processing_classes.old u }
     ensures per_char { IsTrue (is_per_char ⟦<BidiClass as PartialEq>⟧.eq T.units (T.characters text) processing_classes.new) }
     ensures refused { OnErr result (processing_classes.new ≡ processing_classes.old) }
 {

@@ -113,7 +113,9 @@ fn write_over_runs_counted<S: Ledger>(
     requires inside { to ≤ length classes.old }
     ensures written { IsWrittenOver (is_seen (map bounds runs.now) classes.old) class from to classes.old classes.new }
     ensures at_least { steps.old ≤ steps.new }
-    ensures at_most { from < to → from < (get_or (map bounds runs.now) 0 (0, 0)).1 → steps.new + 2 * count_below (map bounds runs.now) from ≤ steps.old + 2 * count_below (map bounds runs.now) to }
+    ensures at_most { from < to → from < (get_or (map bounds runs.now) 0 (0, 0)).1
+        → steps.new + 2 * count_below (map bounds runs.now) from
+        ≤ steps.old + 2 * count_below (map bounds runs.now) to }
 {
     let mut index = 0;
     while begins_below(runs, index, to) {
@@ -144,9 +146,13 @@ pub fn resolve_weak<T: TextSource>(
 )
     requires per_char { IsTrue (is_per_char ⟦<BidiClass as PartialEq>⟧.eq T.units (T.characters text) processing_classes.old) }
     requires fits { AreLines T.units (T.characters text) (map bounds (runs_of sequence.now)) }
-    ensures kept { let places = map (place T.units (T.characters text)) (kept_in_place T.units (T.characters text) processing_classes.old (map bounds (runs_of sequence.now))) in at_places L processing_classes.new places ≡ weak_classes (sos_of sequence.now) (at_places L processing_classes.old places) }
+    ensures kept { let places = map (place T.units (T.characters text))
+        (kept_in_place T.units (T.characters text) processing_classes.old (map bounds (runs_of sequence.now))) in
+        at_places L processing_classes.new places
+        ≡ weak_classes (sos_of sequence.now) (at_places L processing_classes.old places) }
     ensures removed { (u : ℕ) → class_at processing_classes.old u ≡ BN → class_at processing_classes.new u ≡ BN }
-    ensures outside { (u : ℕ) → in_runs (map bounds (runs_of sequence.now)) u ≡ false → class_at processing_classes.new u ≡ class_at processing_classes.old u }
+    ensures outside { (u : ℕ) → in_runs (map bounds (runs_of sequence.now)) u ≡ false
+        → class_at processing_classes.new u ≡ class_at processing_classes.old u }
     ensures per_char { IsTrue (is_per_char ⟦<BidiClass as PartialEq>⟧.eq T.units (T.characters text) processing_classes.new) }
 {
     resolve_weak_lent(text, sequence.lend(), processing_classes)
@@ -164,11 +170,17 @@ pub fn resolve_weak_counted<T: TextSource, S: Ledger>(
 )
     requires per_char { IsTrue (is_per_char ⟦<BidiClass as PartialEq>⟧.eq T.units (T.characters text) processing_classes.old) }
     requires fits { AreLines T.units (T.characters text) (map bounds (runs_of sequence.now)) }
-    ensures kept { let places = map (place T.units (T.characters text)) (kept_in_place T.units (T.characters text) processing_classes.old (map bounds (runs_of sequence.now))) in at_places L processing_classes.new places ≡ weak_classes (sos_of sequence.now) (at_places L processing_classes.old places) }
+    ensures kept { let places = map (place T.units (T.characters text))
+        (kept_in_place T.units (T.characters text) processing_classes.old (map bounds (runs_of sequence.now))) in
+        at_places L processing_classes.new places
+        ≡ weak_classes (sos_of sequence.now) (at_places L processing_classes.old places) }
     ensures removed { (u : ℕ) → class_at processing_classes.old u ≡ BN → class_at processing_classes.new u ≡ BN }
-    ensures outside { (u : ℕ) → in_runs (map bounds (runs_of sequence.now)) u ≡ false → class_at processing_classes.new u ≡ class_at processing_classes.old u }
+    ensures outside { (u : ℕ) → in_runs (map bounds (runs_of sequence.now)) u ≡ false
+        → class_at processing_classes.new u ≡ class_at processing_classes.old u }
     ensures per_char { IsTrue (is_per_char ⟦<BidiClass as PartialEq>⟧.eq T.units (T.characters text) processing_classes.new) }
-    ensures at_least { steps.old + length (chars_in_runs T.units (T.characters text) (map bounds (runs_of sequence.now))) ≤ steps.new }
+    ensures at_least { steps.old
+        + length (chars_in_runs T.units (T.characters text) (map bounds (runs_of sequence.now)))
+        ≤ steps.new }
     ensures at_most { steps.new ≤ steps.old + 8 * length (units_in_runs (map bounds (runs_of sequence.now))) }
 {
     resolve_weak_lent_counted(text, sequence.lend(), processing_classes, steps)
@@ -182,9 +194,13 @@ pub fn resolve_weak_lent<T: TextSource>(
 )
     requires per_char { IsTrue (is_per_char ⟦<BidiClass as PartialEq>⟧.eq T.units (T.characters text) processing_classes.old) }
     requires fits { AreLines T.units (T.characters text) (map bounds (lent_runs sequence)) }
-    ensures kept { let places = map (place T.units (T.characters text)) (kept_in_place T.units (T.characters text) processing_classes.old (map bounds (lent_runs sequence.entry))) in at_places L processing_classes.new places ≡ weak_classes (lent_sos sequence.entry) (at_places L processing_classes.old places) }
+    ensures kept { let places = map (place T.units (T.characters text)) (kept_in_place T.units (T.characters text)
+        processing_classes.old (map bounds (lent_runs sequence.entry))) in
+        at_places L processing_classes.new places
+        ≡ weak_classes (lent_sos sequence.entry) (at_places L processing_classes.old places) }
     ensures removed { (u : ℕ) → class_at processing_classes.old u ≡ BN → class_at processing_classes.new u ≡ BN }
-    ensures outside { (u : ℕ) → in_runs (map bounds (lent_runs sequence.entry)) u ≡ false → class_at processing_classes.new u ≡ class_at processing_classes.old u }
+    ensures outside { (u : ℕ) → in_runs (map bounds (lent_runs sequence.entry)) u ≡ false
+        → class_at processing_classes.new u ≡ class_at processing_classes.old u }
     ensures per_char { IsTrue (is_per_char ⟦<BidiClass as PartialEq>⟧.eq T.units (T.characters text) processing_classes.new) }
 {
     resolve_weak_fresh::<T, Brand>(text, sequence, processing_classes, Blank::new(1))
@@ -202,9 +218,13 @@ fn resolve_weak_fresh<T: TextSource, S: Ledger>(
     requires name { blank.name ≡ S.name }
     requires parts { blank.parts ≡ S.parts }
     requires one { blank.parts ≡ 1 }
-    ensures kept { let places = map (place T.units (T.characters text)) (kept_in_place T.units (T.characters text) processing_classes.old (map bounds (lent_runs sequence.entry))) in at_places L processing_classes.new places ≡ weak_classes (lent_sos sequence.entry) (at_places L processing_classes.old places) }
+    ensures kept { let places = map (place T.units (T.characters text)) (kept_in_place T.units (T.characters text)
+        processing_classes.old (map bounds (lent_runs sequence.entry))) in
+        at_places L processing_classes.new places
+        ≡ weak_classes (lent_sos sequence.entry) (at_places L processing_classes.old places) }
     ensures removed { (u : ℕ) → class_at processing_classes.old u ≡ BN → class_at processing_classes.new u ≡ BN }
-    ensures outside { (u : ℕ) → in_runs (map bounds (lent_runs sequence.entry)) u ≡ false → class_at processing_classes.new u ≡ class_at processing_classes.old u }
+    ensures outside { (u : ℕ) → in_runs (map bounds (lent_runs sequence.entry)) u ≡ false
+        → class_at processing_classes.new u ≡ class_at processing_classes.old u }
     ensures per_char { IsTrue (is_per_char ⟦<BidiClass as PartialEq>⟧.eq T.units (T.characters text) processing_classes.new) }
 {
     let mut steps = Steps::<S>::new(blank);
@@ -220,11 +240,17 @@ fn resolve_weak_lent_counted<T: TextSource, S: Ledger>(
 )
     requires per_char { IsTrue (is_per_char ⟦<BidiClass as PartialEq>⟧.eq T.units (T.characters text) processing_classes.old) }
     requires fits { AreLines T.units (T.characters text) (map bounds (lent_runs sequence)) }
-    ensures kept { let places = map (place T.units (T.characters text)) (kept_in_place T.units (T.characters text) processing_classes.old (map bounds (lent_runs sequence.entry))) in at_places L processing_classes.new places ≡ weak_classes (lent_sos sequence.entry) (at_places L processing_classes.old places) }
+    ensures kept { let places = map (place T.units (T.characters text)) (kept_in_place T.units (T.characters text)
+        processing_classes.old (map bounds (lent_runs sequence.entry))) in
+        at_places L processing_classes.new places
+        ≡ weak_classes (lent_sos sequence.entry) (at_places L processing_classes.old places) }
     ensures removed { (u : ℕ) → class_at processing_classes.old u ≡ BN → class_at processing_classes.new u ≡ BN }
-    ensures outside { (u : ℕ) → in_runs (map bounds (lent_runs sequence.entry)) u ≡ false → class_at processing_classes.new u ≡ class_at processing_classes.old u }
+    ensures outside { (u : ℕ) → in_runs (map bounds (lent_runs sequence.entry)) u ≡ false
+        → class_at processing_classes.new u ≡ class_at processing_classes.old u }
     ensures per_char { IsTrue (is_per_char ⟦<BidiClass as PartialEq>⟧.eq T.units (T.characters text) processing_classes.new) }
-    ensures at_least { steps.old + length (chars_in_runs T.units (T.characters text) (map bounds (lent_runs sequence.entry))) ≤ steps.new }
+    ensures at_least { steps.old
+        + length (chars_in_runs T.units (T.characters text) (map bounds (lent_runs sequence.entry)))
+        ≤ steps.new }
     ensures at_most { steps.new ≤ steps.old + 8 * length (units_in_runs (map bounds (lent_runs sequence.entry))) }
 {
     let runs = sequence.runs();
@@ -245,7 +271,8 @@ fn resolve_marks_and_numbers<T: TextSource, S: Ledger>(
     requires lines { AreLines T.units (T.characters text) (map bounds runs.now) }
     requires per_char { IsPerChar T.units (T.characters text) classes.old }
     requires sos { IsTrue (is_l_or_r sos) }
-    ensures walked { (marked : List BidiClass) × IsMarked (map bounds runs.now) (carried sos) classes.old marked × IsWalked (len_at T.units (T.characters text)) (map bounds runs.now) sos marked classes.new }
+    ensures walked { (marked : List BidiClass) × IsMarked (map bounds runs.now) (carried sos) classes.old marked
+        × IsWalked (len_at T.units (T.characters text)) (map bounds runs.now) sos marked classes.new }
     ensures at_least { steps.old ≤ steps.new }
     ensures at_most { steps.new ≤ steps.old + 6 * length (units_in_runs (map bounds runs.now)) }
 {

@@ -88,7 +88,8 @@ impl OpenRun {
 
     /// Goes on with what was read, or ends before the first kept character in it.
     pub fn meet(&mut self, runs: &mut LevelRunVec, progress: &Progress) -> Result<(), AllocError>
-        ensures runs { OnOk result (map bounds runs.new.items ≡ runs_met progress.now.first_kept progress.now.level self.old (map bounds runs.old.items)) }
+        ensures runs { OnOk result (map bounds runs.new.items
+            ≡ runs_met progress.now.first_kept progress.now.level self.old (map bounds runs.old.items)) }
         ensures run { OnOk result (self.new ≡ run_met progress.now.first_kept progress.now.level self.old) }
     {
         if let Some(unit) = progress.first_kept {
@@ -104,7 +105,8 @@ fn step_over<T: TextSource, S: Ledger>(text: T, start: usize, steps: &mut Steps<
     requires begins { IsTrue (is_boundary T.units (T.characters text) start) }
     requires inside { start < text_len T.units (T.characters text) }
     requires fits { text_len T.units (T.characters text) ≤ usize.MAX }
-    ensures end { (k : ℕ) → k < length (T.characters text) → start ≡ place T.units (T.characters text) k → result ≡ place T.units (T.characters text) (k + 1) }
+    ensures end { (k : ℕ) → k < length (T.characters text) → start ≡ place T.units (T.characters text) k
+        → result ≡ place T.units (T.characters text) (k + 1) }
     ensures steps { steps.new ≡ steps.old + 1 }
 {
     steps.tick();
@@ -139,7 +141,8 @@ impl<T: TextSource> Paragraph<'_, T> {
         requires within { to ≤ length self.now.original_classes.now }
         ensures first { IsFirst (C.test test) self.now.original_classes.now from to result }
         ensures begins { IsTrue (is_boundary T.units (T.characters self.now.text) result) }
-        ensures steps { steps.new + char_index T.units (T.characters self.now.text) from ≡ steps.old + char_index T.units (T.characters self.now.text) result }
+        ensures steps { steps.new + char_index T.units (T.characters self.now.text) from
+            ≡ steps.old + char_index T.units (T.characters self.now.text) result }
     {
         let mut at = from;
         while at < to && !test.passes(self.original_classes[at]) {
@@ -165,7 +168,8 @@ impl<T: TextSource> Paragraph<'_, T> {
         requires within { to ≤ length self.now.original_classes.now }
         requires unread { (u : ℕ) → from ≤ u → class_at classes.old u ≡ class_at self.now.original_classes.now u }
         ensures put { IsOverridden (Some put) from to classes.old classes.new }
-        ensures steps { steps.new + char_index T.units (T.characters self.now.text) from ≡ steps.old + char_index T.units (T.characters self.now.text) to }
+        ensures steps { steps.new + char_index T.units (T.characters self.now.text) from
+            ≡ steps.old + char_index T.units (T.characters self.now.text) to }
     {
         let mut at = from;
         while at < to {
@@ -194,7 +198,10 @@ impl<T: TextSource> Paragraph<'_, T> {
         requires unread { (u : ℕ) → from ≤ u → class_at classes.old u ≡ class_at self.now.original_classes.now u }
         ensures put { IsOverridden override_class from to classes.old classes.new }
         ensures at_least { steps.old ≤ steps.new }
-        ensures at_most { steps.new ≤ steps.old + (char_index T.units (T.characters self.now.text) to - char_index T.units (T.characters self.now.text) from) }
+        ensures at_most { steps.new
+            ≤ steps.old
+            + (char_index T.units (T.characters self.now.text) to
+            - char_index T.units (T.characters self.now.text) from) }
     {
         if let Some(put) = override_class {
             self.put_override(classes, from, to, put, steps);
@@ -216,11 +223,16 @@ impl<T: TextSource> Paragraph<'_, T> {
         requires levels { length levels.old ≡ length self.now.original_classes.now }
         requires classes { length classes.old ≡ length self.now.original_classes.now }
         requires unread { (u : ℕ) → from ≤ u → class_at classes.old u ≡ class_at self.now.original_classes.now u }
-        ensures read { (stack : State) → seen status ≡ stack.top → ReadsOn (paragraph_of T.units (T.characters self.now.text) self.now.level self.now.original_classes.now) from stack levels.old classes.old result stack levels.new classes.new }
+        ensures read { (stack : State) → seen status ≡ stack.top
+            → ReadsOn (paragraph_of T.units (T.characters self.now.text) self.now.level self.now.original_classes.now)
+            from stack levels.old classes.old result stack levels.new classes.new }
         ensures some { from < result.end }
-        ensures more { char_index T.units (T.characters self.now.text) from < char_index T.units (T.characters self.now.text) result.end }
-        ensures at_least { steps.old + char_index T.units (T.characters self.now.text) result.end ≤ steps.new + char_index T.units (T.characters self.now.text) from }
-        ensures at_most { steps.new + 3 * char_index T.units (T.characters self.now.text) from ≤ steps.old + 3 * char_index T.units (T.characters self.now.text) result.end }
+        ensures more { char_index T.units (T.characters self.now.text) from
+            < char_index T.units (T.characters self.now.text) result.end }
+        ensures at_least { steps.old + char_index T.units (T.characters self.now.text) result.end
+            ≤ steps.new + char_index T.units (T.characters self.now.text) from }
+        ensures at_most { steps.new + 3 * char_index T.units (T.characters self.now.text) from
+            ≤ steps.old + 3 * char_index T.units (T.characters self.now.text) result.end }
     {
         let end = self.next_passing(Control, from, self.original_classes.len(), steps);
         write_level(levels, from, end, status.level);
@@ -243,10 +255,16 @@ impl<T: TextSource> Paragraph<'_, T> {
         steps: &mut Steps<S>,
     ) -> Progress
         requires inside { start < length self.now.original_classes.now }
-        requires read { (runs : List (ℕ × ℕ)) × (run : OpenRun) × IsReadTo (paragraph_of T.units (T.characters self.now.text) self.now.level self.now.original_classes.now) start stack.old levels.old classes.old runs run }
-        ensures read { ReadsOn (paragraph_of T.units (T.characters self.now.text) self.now.level self.now.original_classes.now) start stack.old levels.old classes.old result stack.new levels.new classes.new }
+        requires read { (runs : List (ℕ × ℕ)) × (run : OpenRun)
+            × IsReadTo
+            (paragraph_of T.units (T.characters self.now.text) self.now.level self.now.original_classes.now) start
+            stack.old levels.old classes.old runs run }
+        ensures read { ReadsOn
+            (paragraph_of T.units (T.characters self.now.text) self.now.level self.now.original_classes.now) start
+            stack.old levels.old classes.old result stack.new levels.new classes.new }
         ensures some { start < result.end }
-        ensures one { char_index T.units (T.characters self.now.text) result.end ≡ char_index T.units (T.characters self.now.text) start + 1 }
+        ensures one { char_index T.units (T.characters self.now.text) result.end
+            ≡ char_index T.units (T.characters self.now.text) start + 1 }
         ensures at_least { steps.old ≤ steps.new }
         ensures at_most { steps.new + entry_count stack.new ≤ steps.old + entry_count stack.old + 1 }
     {

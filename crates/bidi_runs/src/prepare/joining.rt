@@ -58,8 +58,9 @@ fn level_after(para_level: Level, class: BidiClass, levels: &[Level], end: usize
     }
 }
 
-// Reads the characters of a run for what is open, those alone that open or close. The one that ends at `kept_end` is the last that
-// X9 keeps; if it opens an isolate, the sequence at `s` waits for the PDI.
+// Reads the characters of a run for what is open, those alone that open or close. The one that ends
+// at `kept_end` is the last that X9 keeps; if it opens an isolate, the sequence at `s` waits for the
+// PDI.
 fn read_run<T: TextSource>(
     waiting: &mut WaitingSequences,
     text: T,
@@ -71,7 +72,9 @@ fn read_run<T: TextSource>(
     requires per_char { IsTrue (is_per_char ⟦<BidiClass as PartialEq>⟧.eq T.units (T.characters text) classes.now) }
     requires line { IsLine T.units (T.characters text) run.now.start run.now.end }
     requires kept_end { IsTrue (is_boundary T.units (T.characters text) kept_end) }
-    ensures { OnOk result (waiting.new.items ≡ read_units T.units (T.characters text) classes.now kept_end s run.now.start run.now.end waiting.old.items) }
+    ensures { OnOk result (waiting.new.items
+        ≡ read_units T.units (T.characters text) classes.now kept_end s run.now.start run.now.end
+        waiting.old.items) }
 {
     let end = run.end;
     let mut at = first_passing(IsolateControl, classes, run.start, end);
@@ -147,12 +150,19 @@ pub fn isolating_run_sequences<T: TextSource>(
 ) -> Result<(), AllocError>
     requires original { IsTrue (is_per_char ⟦<BidiClass as PartialEq>⟧.eq T.units (T.characters text) original_classes.now) }
     requires levels { IsTrue (is_per_char ⟦<Level as PartialEq>⟧.eq T.units (T.characters text) levels.now) }
-    requires runs { let stored = per_char L T.units (T.characters text) original_classes.now in map bounds runs.items ≡ level_run_ranges T.units (T.characters text) stored (per_char 0 T.units (T.characters text) levels.now) }
+    requires runs { let stored = per_char L T.units (T.characters text) original_classes.now in
+        map bounds runs.items
+        ≡ level_run_ranges T.units (T.characters text) stored (per_char 0 T.units (T.characters text) levels.now) }
     requires isolates { IsTrue (list_any is_initiator original_classes.now) → IsTrue has_isolate_controls }
     requires out { out.old.items ≡ [] }
-    ensures sequences { let stored = per_char L T.units (T.characters text) original_classes.now in OnOk result (sequences_in T.units (T.characters text) stored out.new.items ≡ sequences para_level stored (per_char 0 T.units (T.characters text) levels.now)) }
+    ensures sequences { let stored = per_char L T.units (T.characters text) original_classes.now in
+        OnOk result (sequences_in T.units (T.characters text) stored out.new.items
+        ≡ sequences para_level stored (per_char 0 T.units (T.characters text) levels.now)) }
     // Levels that are explicit ones where X9 keeps characters stand for all explicit levels.
-    ensures explicit { let stored = per_char L T.units (T.characters text) original_classes.now in OnOk result (HasExplicitLevels para_level stored (per_char 0 T.units (T.characters text) levels.now) → sequences_in T.units (T.characters text) stored out.new.items ≡ sequences para_level stored (explicit_levels para_level stored)) }
+    ensures explicit { let stored = per_char L T.units (T.characters text) original_classes.now in
+        OnOk result (HasExplicitLevels para_level stored (per_char 0 T.units (T.characters text) levels.now)
+        → sequences_in T.units (T.characters text) stored out.new.items
+        ≡ sequences para_level stored (explicit_levels para_level stored)) }
     ensures runs { OnOk result (IsPermutation (map bounds runs.items) (flat_map run_bounds out.new.items)) }
     ensures fits { OnOk result (All (λ s. AreLines T.units (T.characters text) (run_bounds s)) out.new.items) }
 {
@@ -181,12 +191,19 @@ pub fn join_level_runs<T: TextSource>(
 ) -> Result<(), AllocError>
     requires original { IsTrue (is_per_char ⟦<BidiClass as PartialEq>⟧.eq T.units (T.characters text) original_classes.now) }
     requires levels { IsTrue (is_per_char ⟦<Level as PartialEq>⟧.eq T.units (T.characters text) levels.now) }
-    requires runs { let stored = per_char L T.units (T.characters text) original_classes.now in map bounds runs.now ≡ level_run_ranges T.units (T.characters text) stored (per_char 0 T.units (T.characters text) levels.now) }
+    requires runs { let stored = per_char L T.units (T.characters text) original_classes.now in
+        map bounds runs.now
+        ≡ level_run_ranges T.units (T.characters text) stored (per_char 0 T.units (T.characters text) levels.now) }
     requires isolates { IsTrue (list_any is_initiator original_classes.now) → IsTrue has_isolate_controls }
     requires out { out.old.items ≡ [] }
-    ensures sequences { let stored = per_char L T.units (T.characters text) original_classes.now in OnOk result (sequences_in T.units (T.characters text) stored out.new.items ≡ sequences para_level stored (per_char 0 T.units (T.characters text) levels.now)) }
+    ensures sequences { let stored = per_char L T.units (T.characters text) original_classes.now in
+        OnOk result (sequences_in T.units (T.characters text) stored out.new.items
+        ≡ sequences para_level stored (per_char 0 T.units (T.characters text) levels.now)) }
     // Levels that are explicit ones where X9 keeps characters stand for all explicit levels.
-    ensures explicit { let stored = per_char L T.units (T.characters text) original_classes.now in OnOk result (HasExplicitLevels para_level stored (per_char 0 T.units (T.characters text) levels.now) → sequences_in T.units (T.characters text) stored out.new.items ≡ sequences para_level stored (explicit_levels para_level stored)) }
+    ensures explicit { let stored = per_char L T.units (T.characters text) original_classes.now in
+        OnOk result (HasExplicitLevels para_level stored (per_char 0 T.units (T.characters text) levels.now)
+        → sequences_in T.units (T.characters text) stored out.new.items
+        ≡ sequences para_level stored (explicit_levels para_level stored)) }
     ensures runs { OnOk result (IsPermutation (map bounds runs.now) (flat_map run_bounds out.new.items)) }
     ensures fits { OnOk result (All (λ s. AreLines T.units (T.characters text) (run_bounds s)) out.new.items) }
 {

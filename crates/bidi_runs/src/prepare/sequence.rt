@@ -65,7 +65,8 @@ impl IsolatingRunSequence {
         requires run { run.start < run.end }
         requires later { All (λ r. r.1 ≤ run.start) (run_bounds self.old) }
         requires eos { IsTrue (is_l_or_r eos) }
-        ensures { OnOk result (joined self.new ≡ record (joined self.old) { runs = (joined self.old).runs ++ bounds run ∷ []; eos = eos }) }
+        ensures { OnOk result (joined self.new
+            ≡ record (joined self.old) { runs = (joined self.old).runs ++ bounds run ∷ []; eos = eos }) }
     {
         self.runs.push(run)?;
         self.eos = eos;

@@ -63,7 +63,8 @@ impl<'t> Analysed<Utf16Text<'t>> {
         line: Range<usize>,
     ) -> Result<CowSlice<'t, u16>, AllocError>
         requires { IsLineOf (analysed self.now) line }
-        ensures text { IfOk result (λ c. IsTextOfLine encode_utf16 (text_of self.now).units.now (analysed self.now) level line (cow_slice_items c)) }
+        ensures text { IfOk result (λ c. IsTextOfLine encode_utf16 (text_of self.now).units.now (analysed self.now)
+            level line (cow_slice_items c)) }
         ensures borrowed { IfOk result (λ c. IsBorrowedSlice c ↔ StaysInOrder (analysed self.now) level line) }
     {
         let text = self.text().units();

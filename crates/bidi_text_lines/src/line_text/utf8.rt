@@ -57,7 +57,8 @@ impl<'t> Analysed<StrText<'t>> {
         line: Range<usize>,
     ) -> Result<CowStr<'t>, AllocError>
         requires { IsLineOf (analysed self.now) line }
-        ensures text { IfOk result (λ c. IsTextOfLine encode_utf8 (text_of self.now).text.now (analysed self.now) level line (cow_str_bytes c)) }
+        ensures text { IfOk result (λ c. IsTextOfLine encode_utf8 (text_of self.now).text.now (analysed self.now)
+            level line (cow_str_bytes c)) }
         ensures borrowed { IfOk result (λ c. IsBorrowedStr c ↔ StaysInOrder (analysed self.now) level line) }
     {
         let text = self.text().as_str();

@@ -48,10 +48,16 @@ pub fn resolve_opposite(directions: Directions, runs: &[LevelRun], classes: &mut
     requires eos { IsTrue (is_l_or_r directions.eos) }
     requires ordered { IsTrue (are_ordered (map bounds runs.now)) }
     requires inside { All (λ r. r.1 ≤ length classes.old) (map bounds runs.now) }
-    requires resolved { (u : ℕ) → is_seen (map bounds runs.now) classes.old u ≡ true → is_weak_resolved (class_at classes.old u) ≡ true }
-    ensures kept { let units = seen_units (map bounds runs.now) classes.old in map (n2_rule directions.embedding) (at_places L classes.new units) ≡ n1_n2 directions.embedding directions.sos directions.eos (at_places L classes.old units) }
-    ensures others { (u : ℕ) → is_seen (map bounds runs.now) classes.old u ≡ false → class_at classes.new u ≡ class_at classes.old u }
-    ensures own { (u : ℕ) → (class_at classes.new u ≡ class_at classes.old u) ⊎ (class_at classes.new u ≡ opposite_of directions.embedding) }
+    requires resolved { (u : ℕ) → is_seen (map bounds runs.now) classes.old u ≡ true
+        → is_weak_resolved (class_at classes.old u) ≡ true }
+    ensures kept { let units = seen_units (map bounds runs.now) classes.old in
+        map (n2_rule directions.embedding) (at_places L classes.new units)
+        ≡ n1_n2 directions.embedding directions.sos directions.eos (at_places L classes.old units) }
+    ensures others { (u : ℕ) → is_seen (map bounds runs.now) classes.old u ≡ false
+        → class_at classes.new u ≡ class_at classes.old u }
+    ensures own { (u : ℕ)
+        → (class_at classes.new u ≡ class_at classes.old u)
+        ⊎ (class_at classes.new u ≡ opposite_of directions.embedding) }
 {
     let opposite = opposite_of(directions.embedding);
     let mut join = Join {
@@ -91,7 +97,8 @@ impl Join {
         requires inside { (get_or (map bounds runs.now) run (0, 0)).1 ≤ length classes.old }
         ensures first_run { self.new.first_run ≤ length runs.now }
         ensures opposite { self.new.opposite ≡ self.old.opposite }
-        ensures reads { let r = get_or (map bounds runs.now) run (0, 0) in (s : Unjoined) → s.runs ≡ map bounds runs.now → opposite_of s.e ≡ self.old.opposite
+        ensures reads { let r = get_or (map bounds runs.now) run (0, 0) in
+            (s : Unjoined) → s.runs ≡ map bounds runs.now → opposite_of s.e ≡ self.old.opposite
             → IsUnderWay s classes.old self.old r.0 → IsUnderWay s classes.new self.new r.1 }
     {
         let end = runs[run].end;
@@ -122,8 +129,9 @@ impl Join {
         ensures first_run { self.new.first_run ≤ length runs.now }
         ensures opposite { self.new.opposite ≡ self.old.opposite }
         ensures there { result < end → stands_for self.old.opposite (class_at classes.new result) ≡ true }
-        ensures reads { (s : Unjoined) → s.runs ≡ map bounds runs.now → opposite_of s.e ≡ self.old.opposite → ((k : ℕ) → at ≤ k → k < end → in_runs s.runs k ≡ true)
-            → IsUnderWay s classes.old self.old at → IsAtOpposite s classes.new self.new result end }
+        ensures reads { (s : Unjoined) → s.runs ≡ map bounds runs.now → opposite_of s.e ≡ self.old.opposite
+            → ((k : ℕ) → at ≤ k → k < end → in_runs s.runs k ≡ true) → IsUnderWay s classes.old self.old at
+            → IsAtOpposite s classes.new self.new result end }
     {
         let mut from = at;
         if self.waits {
@@ -151,7 +159,8 @@ impl Join {
         ensures ends { result ≤ end }
         ensures first_run { self.new.first_run ≡ run }
         ensures opposite { self.new.opposite ≡ self.old.opposite }
-        ensures reads { (s : Unjoined) → opposite_of s.e ≡ self.old.opposite → run < length s.runs → (get_or s.runs run (0, 0)).0 ≤ at → end ≤ (get_or s.runs run (0, 0)).1
+        ensures reads { (s : Unjoined) → opposite_of s.e ≡ self.old.opposite → run < length s.runs
+            → (get_or s.runs run (0, 0)).0 ≤ at → end ≤ (get_or s.runs run (0, 0)).1
             → IsJoined s classes.now self.old.waits at at → IsUnderWay s classes.now self.new result }
     {
         let next = first_passing(NotFor(self.opposite), classes, at, end);
@@ -166,7 +175,9 @@ impl Join {
         requires ordered { IsTrue (are_ordered (map bounds runs.now)) }
         requires first_run { self.now.first_run ≤ length runs.now }
         requires inside { to ≤ length classes.old }
-        ensures held { self.now.waits ≡ true → IsWrittenOver (is_seen (drop self.now.first_run (map bounds runs.now)) classes.old) self.now.opposite self.now.first to classes.old classes.new }
+        ensures held { self.now.waits ≡ true
+            → IsWrittenOver (is_seen (drop self.now.first_run (map bounds runs.now)) classes.old) self.now.opposite
+            self.now.first to classes.old classes.new }
         ensures idle { self.now.waits ≡ false → classes.new ≡ classes.old }
     {
         if self.waits && self.first < to {
@@ -184,7 +195,8 @@ impl Join {
 /// N2: the neutrals of some runs take the embedding direction.
 pub fn settle_rest(embedding: BidiClass, runs: &[LevelRun], classes: &mut [BidiClass])
     requires { All (λ r. r.1 ≤ length classes.old) (map bounds runs.now) }
-    ensures changed { (u : ℕ) → in_runs (map bounds runs.now) u ≡ true → class_at classes.new u ≡ n2_rule embedding (class_at classes.old u) }
+    ensures changed { (u : ℕ) → in_runs (map bounds runs.now) u ≡ true
+        → class_at classes.new u ≡ n2_rule embedding (class_at classes.old u) }
     ensures same { (u : ℕ) → in_runs (map bounds runs.now) u ≡ false → class_at classes.new u ≡ class_at classes.old u }
     ensures long { length classes.new ≡ length classes.old }
 {
@@ -196,7 +208,8 @@ pub fn settle_rest(embedding: BidiClass, runs: &[LevelRun], classes: &mut [BidiC
 /// The same of one run.
 fn settle_run(embedding: BidiClass, run: &LevelRun, classes: &mut [BidiClass])
     requires { run.now.end ≤ length classes.old }
-    ensures changed { (u : ℕ) → run.now.start ≤ u → u < run.now.end → class_at classes.new u ≡ n2_rule embedding (class_at classes.old u) }
+    ensures changed { (u : ℕ) → run.now.start ≤ u → u < run.now.end
+        → class_at classes.new u ≡ n2_rule embedding (class_at classes.old u) }
     ensures below { (u : ℕ) → u < run.now.start → class_at classes.new u ≡ class_at classes.old u }
     ensures above { (u : ℕ) → run.now.end ≤ u → class_at classes.new u ≡ class_at classes.old u }
 {

@@ -16,7 +16,8 @@ pub fn stands_alone(directions: Directions, runs: &[LevelRun], classes: &[BidiCl
     requires { All (λ r. r.1 ≤ length classes.now) (map bounds runs.now) }
     ensures sos { IsTrue result → directions.sos ≡ directions.embedding }
     ensures eos { IsTrue result → directions.eos ≡ directions.embedding }
-    ensures classes { IsTrue result → (u : ℕ) → in_runs (map bounds runs.now) u ≡ true → turns_from directions.embedding (class_at classes.now u) ≡ false }
+    ensures classes { IsTrue result → (u : ℕ) → in_runs (map bounds runs.now) u ≡ true
+        → turns_from directions.embedding (class_at classes.now u) ≡ false }
 {
     let Directions {
         embedding,
@@ -29,7 +30,8 @@ pub fn stands_alone(directions: Directions, runs: &[LevelRun], classes: &[BidiCl
 /// Whether no class in the runs turns from a direction.
 fn keep_to(direction: BidiClass, runs: &[LevelRun], classes: &[BidiClass]) -> bool
     requires { All (λ r. r.1 ≤ length classes.now) (map bounds runs.now) }
-    ensures { IsTrue result → (u : ℕ) → in_runs (map bounds runs.now) u ≡ true → turns_from direction (class_at classes.now u) ≡ false }
+    ensures { IsTrue result → (u : ℕ) → in_runs (map bounds runs.now) u ≡ true
+        → turns_from direction (class_at classes.now u) ≡ false }
 {
     for run in runs {
         if has_turn(direction, run, classes) {
@@ -42,7 +44,8 @@ fn keep_to(direction: BidiClass, runs: &[LevelRun], classes: &[BidiClass]) -> bo
 /// Whether a class in the run turns from a direction.
 fn has_turn(direction: BidiClass, run: &LevelRun, classes: &[BidiClass]) -> bool
     requires { run.now.end ≤ length classes.now }
-    ensures { result ≡ false → (u : ℕ) → run.now.start ≤ u → u < run.now.end → turns_from direction (class_at classes.now u) ≡ false }
+    ensures { result ≡ false → (u : ℕ) → run.now.start ≤ u → u < run.now.end
+        → turns_from direction (class_at classes.now u) ≡ false }
 {
     let end = run.end;
     let start = run.start.min(end);

@@ -38,11 +38,18 @@ pub fn resolve_pairs<T: TextSource>(
     requires side { IsTrue (is_l_or_r directions.embedding) }
     requires long { length classes.old ≡ text_len T.units (T.characters text) }
     requires original { length original_classes.now ≡ length classes.old }
-    requires pairs { (found : List (ℕ × ℕ)) × AreNestedPairs (length (kept_in_place T.units (T.characters text) classes.old (map bounds runs.now))) found
-        × (pairs.now ≡ at_spots T.units (T.characters text) (kept_in_place T.units (T.characters text) classes.old (map bounds runs.now)) found) }
-    ensures { (found : List (ℕ × ℕ)) → AreNestedPairs (length (kept_in_place T.units (T.characters text) classes.old (map bounds runs.now))) found
-        → pairs.now ≡ at_spots T.units (T.characters text) (kept_in_place T.units (T.characters text) classes.old (map bounds runs.now)) found
-        → IsPaired T.units (T.characters text) original_classes.now classes.old classes.new runs.now directions.embedding directions.sos found }
+    requires pairs { (found : List (ℕ × ℕ))
+        × AreNestedPairs (length (kept_in_place T.units (T.characters text) classes.old (map bounds runs.now))) found
+        × (pairs.now
+        ≡ at_spots T.units (T.characters text)
+        (kept_in_place T.units (T.characters text) classes.old (map bounds runs.now)) found) }
+    ensures { (found : List (ℕ × ℕ))
+        → AreNestedPairs (length (kept_in_place T.units (T.characters text) classes.old (map bounds runs.now))) found
+        → pairs.now
+        ≡ at_spots T.units (T.characters text)
+        (kept_in_place T.units (T.characters text) classes.old (map bounds runs.now)) found
+        → IsPaired T.units (T.characters text) original_classes.now classes.old classes.new runs.now
+        directions.embedding directions.sos found }
 {
     let mut walk = PairWalk::new(directions.embedding);
     let mut row = Row::new(directions.embedding);
@@ -119,7 +126,11 @@ struct PairWalk {
 impl PairWalk {
     /// Before the first pair.
     fn new(embedding: BidiClass) -> PairWalk
-        ensures { result ≡ record { embedding = record { direction = embedding; unit = 0 }; opposite = record { direction = opposite_of embedding; unit = 0 } } }
+        ensures { result
+            ≡ record {
+              embedding = record { direction = embedding; unit = 0 };
+              opposite = record { direction = opposite_of embedding; unit = 0 };
+            } }
     {
         PairWalk {
             embedding: Next {
@@ -203,7 +214,8 @@ impl Row {
         requires inside { bracket < text_len T.units (T.characters text) }
         requires row { IsRow T.units (T.characters text) (map bounds runs.now) original_classes.now classes.old self.old }
         ensures set { (k : ℕ) → k < length (T.characters text) → bracket ≡ place T.units (T.characters text) k
-            → IsSet T.units (T.characters text) (map bounds runs.now) original_classes.now direction bracket (k + 1) classes.old classes.new }
+            → IsSet T.units (T.characters text) (map bounds runs.now) original_classes.now direction bracket (k + 1)
+            classes.old classes.new }
         ensures row { IsRow T.units (T.characters text) (map bounds runs.now) original_classes.now classes.new self.new }
     {
         if self.from <= bracket && bracket < self.end && self.direction == direction {
@@ -235,7 +247,8 @@ fn set_direction<T: TextSource>(
     requires begins { IsTrue (is_boundary T.units (T.characters text) bracket) }
     requires inside { bracket < text_len T.units (T.characters text) }
     ensures { (k : ℕ) → k < length (T.characters text) → bracket ≡ place T.units (T.characters text) k
-        → IsSetUpTo T.units (T.characters text) (map bounds runs.now) original_classes.now direction bracket (k + 1) result classes.old classes.new }
+        → IsSetUpTo T.units (T.characters text) (map bounds runs.now) original_classes.now direction bracket (k + 1)
+        result classes.old classes.new }
 {
     let inside = end_of(text, bracket);
     let later = &runs[run_of(runs, bracket)..];

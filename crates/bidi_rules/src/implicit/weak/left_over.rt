@@ -14,7 +14,8 @@ use std::sync::ledger::Ledger;
 pub fn change<S: Ledger>(runs: &[LevelRun], classes: &mut [BidiClass], steps: &mut Steps<S>)
     requires ordered { IsTrue (are_ordered (map bounds runs.now)) }
     requires within { All (λ r. r.1 ≤ length classes.old) (map bounds runs.now) }
-    ensures changed { (u : ℕ) → in_runs (map bounds runs.now) u ≡ true → class_at classes.new u ≡ left_over (class_at classes.old u) }
+    ensures changed { (u : ℕ) → in_runs (map bounds runs.now) u ≡ true
+        → class_at classes.new u ≡ left_over (class_at classes.old u) }
     ensures same { (u : ℕ) → in_runs (map bounds runs.now) u ≡ false → class_at classes.new u ≡ class_at classes.old u }
     ensures long { length classes.new ≡ length classes.old }
     ensures at_least { steps.old + length (units_in_runs (map bounds runs.now)) ≤ steps.new }

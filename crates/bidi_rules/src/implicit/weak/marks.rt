@@ -71,8 +71,10 @@ fn resolve_marks_in<S: Ledger>(
 ) -> BidiClass
     requires ordered { run.now.start ≤ run.now.end }
     requires within { run.now.end ≤ length classes.old }
-    ensures marked { (runs : List (ℕ × ℕ)) (sos : BidiClass) (old : List BidiClass) → ((k : ℕ) → run.now.start ≤ k → k < run.now.end → in_runs runs k ≡ true)
-        → AreMarked runs sos old classes.old mark run.now.start → AreMarked runs sos old classes.new result run.now.end }
+    ensures marked { (runs : List (ℕ × ℕ)) (sos : BidiClass) (old : List BidiClass)
+        → ((k : ℕ) → run.now.start ≤ k → k < run.now.end → in_runs runs k ≡ true)
+        → AreMarked runs sos old classes.old mark run.now.start
+        → AreMarked runs sos old classes.new result run.now.end }
     ensures steps { steps.new ≡ steps.old + (run.now.end - run.now.start) }
 {
     let mut next = mark;

@@ -107,11 +107,16 @@ impl Walk {
         requires waiting { WaitsBelow (map bounds runs.now) self.old (get_or (map bounds runs.now) run (0, 0)).0 }
         requires run { run < length runs.now }
         requires inside { (get_or (map bounds runs.now) run (0, 0)).1 ≤ length classes.old }
-        requires whole { let r = get_or (map bounds runs.now) run (0, 0) in (u : ℕ) → r.0 ≤ u → u < r.1 → IsWhole (len_at T.units (T.characters text)) classes.old r.1 u }
+        requires whole { let r = get_or (map bounds runs.now) run (0, 0) in
+            (u : ℕ) → r.0 ≤ u → u < r.1 → IsWhole (len_at T.units (T.characters text)) classes.old r.1 u }
         ensures waiting { WaitsBelow (map bounds runs.now) self.new (get_or (map bounds runs.now) run (0, 0)).1 }
-        ensures reads { let r = get_or (map bounds runs.now) run (0, 0) in ReadsTo (len_at T.units (T.characters text)) (map bounds runs.now) r.0 r.1 self.old self.new classes.old classes.new }
+        ensures reads { let r = get_or (map bounds runs.now) run (0, 0) in
+            ReadsTo (len_at T.units (T.characters text)) (map bounds runs.now) r.0 r.1 self.old self.new classes.old
+            classes.new }
         ensures at_least { steps.old ≤ steps.new }
-        ensures at_most { let r = get_or (map bounds runs.now) run (0, 0) in steps.new + 1 + 2 * count_below (map bounds runs.now) (settled_to self.old r.0) ≤ steps.old + 2 * (r.1 - r.0) + 2 * count_below (map bounds runs.now) (settled_to self.new r.1) }
+        ensures at_most { let r = get_or (map bounds runs.now) run (0, 0) in
+            steps.new + 1 + 2 * count_below (map bounds runs.now) (settled_to self.old r.0)
+            ≤ steps.old + 2 * (r.1 - r.0) + 2 * count_below (map bounds runs.now) (settled_to self.new r.1) }
     {
         let end = runs[run].end;
         let mut at = runs[run].start;
@@ -171,7 +176,9 @@ impl Walk {
         ensures some { at < result }
         ensures within { result ≤ end }
         ensures alike { (k : ℕ) → at ≤ k → k < result → class_at classes.now k ≡ class_at classes.now at }
-        ensures single { let next = next_before (strengthened self.now.strong (class_at classes.now at)) self.now.before in still_to_come next (len_at T.units (T.characters text) at) ≡ still_to_come next (result - at) }
+        ensures single { let next = next_before (strengthened self.now.strong (class_at classes.now at))
+            self.now.before in
+            still_to_come next (len_at T.units (T.characters text) at) ≡ still_to_come next (result - at) }
         ensures at_least { steps.old ≤ steps.new }
         ensures at_most { steps.new ≤ steps.old + min (result - at) (end - (at + 1)) }
     {
@@ -203,7 +210,8 @@ impl Walk {
         ensures long { length classes.new ≡ length classes.old }
         ensures reads { Reads (map bounds runs.now) run start end self.old self.new classes.old classes.new }
         ensures at_least { steps.old ≤ steps.new }
-        ensures at_most { steps.new + 2 * count_below (map bounds runs.now) (settled_to self.old start) ≤ steps.old + 2 * count_below (map bounds runs.now) (settled_to self.new end) }
+        ensures at_most { steps.new + 2 * count_below (map bounds runs.now) (settled_to self.old start)
+            ≤ steps.old + 2 * count_below (map bounds runs.now) (settled_to self.new end) }
     {
         let class = classes[start];
         let strong = strengthened(self.strong, class);
@@ -237,10 +245,13 @@ impl Walk {
         requires ordered { IsTrue (are_ordered (map bounds runs.now)) }
         requires waiting { WaitsBelow (map bounds runs.now) self.now to }
         requires inside { to ≤ length classes.old }
-        ensures held { waits self.now.before ≡ true → IsWrittenOver (is_seen (drop self.now.first_run (map bounds runs.now)) classes.old) class self.now.first to classes.old classes.new }
+        ensures held { waits self.now.before ≡ true
+            → IsWrittenOver (is_seen (drop self.now.first_run (map bounds runs.now)) classes.old) class self.now.first
+            to classes.old classes.new }
         ensures idle { waits self.now.before ≡ false → classes.new ≡ classes.old }
         ensures at_least { steps.old ≤ steps.new }
-        ensures at_most { steps.new + 2 * count_below (map bounds runs.now) (settled_to self.now to) ≤ steps.old + 2 * count_below (map bounds runs.now) to }
+        ensures at_most { steps.new + 2 * count_below (map bounds runs.now) (settled_to self.now to)
+            ≤ steps.old + 2 * count_below (map bounds runs.now) to }
     {
         if self.before.waits() {
             write_over_runs_counted(
