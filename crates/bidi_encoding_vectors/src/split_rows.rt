@@ -1,12 +1,12 @@
 //! Where the paragraphs of a text end by each rule, in both encodings.
 
-use crate::utf16_rows::{are_numbered, units_of};
+use crate::utf16_rows::are_numbered;
 use bidi_base::char_data::BidiClass::{self, B, ON, WS};
 use bidi_base::data_source::TableBidiData;
 use bidi_base::level::Level;
 use bidi_base::sample::{BRACKETS, RANGES};
 use bidi_base::text::{StrText, TextSource, Utf16Text};
-use bidi_rows::{base_of, per_char};
+use bidi_rows::{base_of, per_char, units_of};
 use std::process::Abort;
 use std::test::Fail;
 use unicode_bidi::SplitRule::{self, CrLfTogether, EachSeparator};

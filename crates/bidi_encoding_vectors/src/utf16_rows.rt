@@ -4,7 +4,7 @@ use bidi_base::char_data::BidiClass::{L, R};
 use bidi_base::char_data::Direction;
 use bidi_base::level::Level;
 use bidi_base::text::{CharsText, StrText, TextSource, Utf16Text, is_line, is_per_char};
-use bidi_rows::{LineRow, TextRow, base_of, per_char, sample};
+use bidi_rows::{LineRow, TextRow, base_of, per_char, sample, units_of};
 use std::alloc::Global;
 use std::borrow::CowSlice;
 use std::ops::Range;
@@ -202,15 +202,6 @@ fn levels_of_one_paragraph(rt: HostRuntime) -> Result<(), Fail> {
     let order = ParagraphBidiInfo::reorder_visual(alloc, characters.as_slice())?;
     assert_eq!(rt; order.as_slice(), [1, 0].as_slice());
     Ok(())
-}
-
-// A text of characters in UTF-16.
-pub fn units_of(alloc: Global, text: &str) -> Result<Vec<u16>, Fail> {
-    let mut units = Vec::new(alloc);
-    for c in text.chars() {
-        units.extend_from_slice(c.encode_utf16(&mut [0; 2]))?;
-    }
-    Ok(units)
 }
 
 // The levels of a text's characters where the whole text is a line of its first paragraph.

@@ -1,9 +1,8 @@
 //! Lines of the greatest level, and lines that are empty, in both encodings.
 
-use crate::hostile::units_of;
 use bidi_base::level::Level;
 use bidi_base::text::{StrText, Utf16Text, is_line};
-use bidi_rows::{base_of, per_char, same, sample};
+use bidi_rows::{base_of, per_char, same, sample, units_of};
 use std::alloc::Global;
 use std::borrow::{CowSlice, CowStr};
 use std::test::Fail;

@@ -8,7 +8,7 @@ use bidi_base::data_source::TableBidiData;
 use bidi_base::level::Level;
 use bidi_base::sample::{BRACKETS, RANGES};
 use bidi_base::text::{CharsText, StrText, TextSource, Utf16Text};
-use bidi_rows::{base_of, per_char, same, sample};
+use bidi_rows::{base_of, per_char, same, sample, units_of};
 use std::alloc::Global;
 use std::test::Fail;
 use unicode_bidi::engine::analyse;
@@ -102,15 +102,6 @@ fn whole() -> &'static [SourceRow] {
 
 fn deep() -> &'static [DeepRow] {
     &DEEP
-}
-
-/// The units of a text in UTF-16.
-pub fn units_of(alloc: Global, text: &str) -> Result<Vec<u16>, Fail> {
-    let mut units = Vec::new(alloc);
-    for c in text.chars() {
-        units.extend_from_slice(c.encode_utf16(&mut [0; 2]))?;
-    }
-    Ok(units)
 }
 
 // What is found in a text, one entry a character. Paragraphs are ranges of characters.

@@ -22,6 +22,40 @@ struct Shown {
     is_borrowed: bool,
 }
 
+// What each call on a line answers. `visual_runs` takes no empty line.
+#[derive(Drop)]
+struct Answers<'t> {
+    units: Vec<Level>,
+    characters: Vec<Level>,
+    line_levels: Vec<Level>,
+    line_runs: Vec<Range<usize>>,
+    visual_runs: Option<(Vec<Level>, Vec<Range<usize>>)>,
+    text: CowStr<'t>,
+}
+
+impl Answers<'_> {
+    // What the line shows, where calls that answer the same agree.
+    fn agreed(self, alloc: Global, line: (usize, usize)) -> Result<Shown, Fail> {
+        if self.units.get(line.0..line.1) != Some(self.line_levels.as_slice()) {
+            return Err(Fail::from("other levels of the line"));
+        }
+        if let Some((levels, runs)) = &self.visual_runs {
+            if levels.as_slice() != self.units.as_slice()
+                || runs.as_slice() != self.line_runs.as_slice()
+            {
+                return Err(Fail::from("other levels or runs"));
+            }
+        }
+        Ok(Shown {
+            units: self.units,
+            characters: self.characters,
+            runs: self.line_runs,
+            is_borrowed: matches!(&self.text, CowStr::Borrowed(_)),
+            text: self.text.into_owned(alloc)?,
+        })
+    }
+}
+
 // A line from left to right, from its text, and the classes and levels of its bytes.
 fn kept_line<'t>(
     alloc: Global,
@@ -73,24 +107,24 @@ impl Shown {
         if !is_line(StrText::new(info.text()), &(start..end)) {
             return Err(Fail::from("no line"));
         }
-        let units = info.reordered_levels(alloc, para, start..end)?;
-        let characters = info.reordered_levels_per_char(alloc, para, start..end)?;
         let text = info.reorder_line(alloc, para, start..end)?;
         if !is_kept_line(alloc, info, para, line, &text)? {
             return Err(Fail::from("another text of a kept line"));
         }
-        let runs = info.line_runs(alloc, para, start..end)?;
-        if start < end {
-            let (levels, of_line) = info.visual_runs(alloc, para, start..end)?;
-            if levels.as_slice() != units.as_slice() || of_line.as_slice() != runs.as_slice() {
-                return Err(Fail::from("other levels or runs"));
-            }
-        }
-        let levels = info.line_levels(alloc, para, start..end)?;
-        if units.get(start..end) != Some(levels.as_slice()) {
-            return Err(Fail::from("other levels of the line"));
-        }
-        Shown::new(alloc, units, characters, runs, text)
+        let visual_runs = if start < end {
+            Some(info.visual_runs(alloc, para, start..end)?)
+        } else {
+            None
+        };
+        let answers = Answers {
+            units: info.reordered_levels(alloc, para, start..end)?,
+            characters: info.reordered_levels_per_char(alloc, para, start..end)?,
+            line_levels: info.line_levels(alloc, para, start..end)?,
+            line_runs: info.line_runs(alloc, para, start..end)?,
+            visual_runs,
+            text,
+        };
+        answers.agreed(alloc, line)
     }
 
     // The same of a text that is one paragraph.
@@ -103,37 +137,20 @@ impl Shown {
         if !is_line(StrText::new(info.text()), &(start..end)) {
             return Err(Fail::from("no line"));
         }
-        let units = info.reordered_levels(alloc, start..end)?;
-        let characters = info.reordered_levels_per_char(alloc, start..end)?;
-        let text = info.reorder_line(alloc, start..end)?;
-        let runs = info.line_runs(alloc, start..end)?;
-        if start < end {
-            let (levels, of_line) = info.visual_runs(alloc, start..end)?;
-            if levels.as_slice() != units.as_slice() || of_line.as_slice() != runs.as_slice() {
-                return Err(Fail::from("other levels or runs"));
-            }
-        }
-        let levels = info.line_levels(alloc, start..end)?;
-        if units.get(start..end) != Some(levels.as_slice()) {
-            return Err(Fail::from("other levels of the line"));
-        }
-        Shown::new(alloc, units, characters, runs, text)
-    }
-
-    fn new(
-        alloc: Global,
-        units: Vec<Level>,
-        characters: Vec<Level>,
-        runs: Vec<Range<usize>>,
-        text: CowStr<'_>,
-    ) -> Result<Shown, Fail> {
-        Ok(Shown {
-            units,
-            characters,
-            runs,
-            is_borrowed: matches!(&text, CowStr::Borrowed(_)),
-            text: text.into_owned(alloc)?,
-        })
+        let visual_runs = if start < end {
+            Some(info.visual_runs(alloc, start..end)?)
+        } else {
+            None
+        };
+        let answers = Answers {
+            units: info.reordered_levels(alloc, start..end)?,
+            characters: info.reordered_levels_per_char(alloc, start..end)?,
+            line_levels: info.line_levels(alloc, start..end)?,
+            line_runs: info.line_runs(alloc, start..end)?,
+            visual_runs,
+            text: info.reorder_line(alloc, start..end)?,
+        };
+        answers.agreed(alloc, line)
     }
 
     // Compares it with what a row says.

@@ -11,8 +11,8 @@ use bidi_base::text::{StrText, is_per_char};
 use bidi_plain::plain::{implicit, neutral, pairs, weak};
 use bidi_rows::{same, sample};
 use bidi_rule_rows::conditions::{are_directed, are_kept, are_left, are_left_or_removed, is_side};
-use bidi_rule_rows::units::{Sequence, per_unit, sequence_of};
-use bidi_rules::implicit::{NeutralResolver, resolve_levels, resolve_neutral, resolve_weak};
+use bidi_rule_rows::units::{Sequence, per_unit, resolve_weak_units, sequence_of};
+use bidi_rules::implicit::{NeutralResolver, resolve_levels, resolve_neutral};
 use bidi_rules::prepare::IsolatingRunSequence;
 use std::alloc::{AllocError, Global};
 use std::process::Abort;
@@ -333,18 +333,6 @@ fn check_in_place(
     Ok(())
 }
 
-// Resolves the weak types of a text that is one sequence, in place.
-fn resolve_weak_units(
-    rt: &impl Abort,
-    text: StrText,
-    sequence: &IsolatingRunSequence,
-    classes: &mut [BidiClass],
-) {
-    assert!(rt; sequence.fits(text));
-    assert!(rt; is_per_char(text, classes));
-    resolve_weak(text, sequence, classes);
-}
-
 #[test]
 fn pairs_of_lists(rt: HostRuntime) -> Result<(), Fail> {
     let source = sample()?;
@@ -480,7 +468,7 @@ fn number_behind_a_left_to_right_letter(rt: HostRuntime) -> Result<(), Fail> {
     let source = sample()?;
     for level in [0, 2] {
         let mut weak = [L, EN, CS];
-        resolve_weak_units(&rt, StrText::new("a1."), &sequence, &mut weak);
+        resolve_weak_units(StrText::new("a1."), &sequence, &mut weak)?;
         let levels = [level; 3];
         let sequences: [Sequence; 1] = [(&[(0, 3)], L, L)];
         let row = (

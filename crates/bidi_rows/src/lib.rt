@@ -268,6 +268,15 @@ pub fn base_of(base: Option<u8>) -> Result<Option<Level>, Fail>
     }
 }
 
+/// A text in UTF-16.
+pub fn units_of(alloc: Global, text: &str) -> Result<Vec<u16>, Fail> {
+    let mut units = Vec::new(alloc);
+    for c in text.chars() {
+        units.extend_from_slice(c.encode_utf16(&mut [0; 2]))?;
+    }
+    Ok(units)
+}
+
 /// One entry a character, from entries one a unit that are alike on each character.
 pub fn per_char<T: TextSource, X: Copy + Eq>(
     alloc: Global,

@@ -1,7 +1,8 @@
 //! Lists over the units of a text, and sequences of runs.
 
 use bidi_base::char_data::BidiClass;
-use bidi_base::text::TextSource;
+use bidi_base::text::{StrText, TextSource, is_per_char};
+use bidi_rules::implicit::resolve_weak;
 use bidi_rules::prepare::{IsolatingRunSequence, LevelRun};
 use std::alloc::Global;
 use std::test::Fail;
@@ -46,4 +47,17 @@ pub fn ends_of(alloc: Global, runs: &[LevelRun]) -> Result<Vec<(usize, usize)>, 
         ends.push((run.start, run.end))?;
     }
     Ok(ends)
+}
+
+/// Resolves the weak types of a sequence in place, one class a unit of the text.
+pub fn resolve_weak_units(
+    text: StrText,
+    sequence: &IsolatingRunSequence,
+    classes: &mut [BidiClass],
+) -> Result<(), Fail> {
+    if !sequence.fits(text) || !is_per_char(text, classes) {
+        return Err(Fail::from("a sequence or classes of another text"));
+    }
+    resolve_weak(text, sequence, classes);
+    Ok(())
 }

@@ -4,13 +4,13 @@ ghost use Rattle.std.specs.Prelude.{◌≡◌, ◌≤◌, length};
 
 use crate::equality::same;
 use crate::explicit_levels::{Prepared, letters, level_rows, unit_rows};
-use crate::weak_types::{resolve_units, unit_rows as weak_rows};
+use crate::weak_types::unit_rows as weak_rows;
 use bidi_base::char_data::BidiClass::{
     self, BN, CS, EN, ES, ET, L, LRE, LRI, ON, PDF, PDI, R, RLE,
 };
 use bidi_base::level::Level;
 use bidi_base::text::{StrText, is_per_char};
-use bidi_rule_rows::units::{ends_of, per_unit, sequence_of};
+use bidi_rule_rows::units::{ends_of, per_unit, resolve_weak_units, sequence_of};
 use bidi_rules::explicit::compute_counted;
 use bidi_rules::implicit::resolve_weak_counted;
 use bidi_rules::prepare::{IsolatingRunSequence, LevelRunVec, Steps};
@@ -136,7 +136,7 @@ fn agree_weak(
     let text = StrText::new(text);
     let mut plain = Vec::from_slice(rt.alloc(), classes)?;
     let mut counted = Vec::from_slice(rt.alloc(), classes)?;
-    resolve_units(rt, text, sequence, plain.as_mut_slice());
+    resolve_weak_units(text, sequence, plain.as_mut_slice())?;
     resolve_by::<Brand>(rt, text, sequence, counted.as_mut_slice(), Blank::new(1));
     same(rt, name, counted.as_slice(), plain.as_slice());
     Ok(counted)

@@ -2,14 +2,11 @@
 
 use crate::equality::same;
 use bidi_base::char_data::BidiClass::{self, AL, AN, BN, CS, EN, ES, ET, L, LRI, NSM, ON, PDI, R};
-use bidi_base::text::{StrText, is_per_char};
+use bidi_base::text::StrText;
 use bidi_plain::plain::weak;
 use bidi_rule_rows::conditions::{are_kept, is_side};
-use bidi_rule_rows::units::{per_unit, sequence_of};
-use bidi_rules::implicit::resolve_weak;
-use bidi_rules::prepare::IsolatingRunSequence;
+use bidi_rule_rows::units::{per_unit, resolve_weak_units, sequence_of};
 use std::alloc::Global;
-use std::process::Abort;
 use std::test::Fail;
 
 /// A name, sos, the classes of a sequence, and what they become.
@@ -62,21 +59,9 @@ pub fn unit_rows() -> &'static [UnitRow] {
     UNITS.as_slice()
 }
 
-/// Resolves a sequence in place.
-pub fn resolve_units(
-    rt: &impl Abort,
-    text: StrText,
-    sequence: &IsolatingRunSequence,
-    classes: &mut [BidiClass],
-) {
-    assert!(rt; sequence.fits(text));
-    assert!(rt; is_per_char(text, classes));
-    resolve_weak(text, sequence, classes);
-}
-
 // Resolves a sequence of these runs in place, from classes one a character to classes one a unit.
 fn resolve(
-    rt: &(impl AllocGlobal + Abort),
+    rt: &impl AllocGlobal,
     text: &str,
     runs: &[(usize, usize)],
     sos: BidiClass,
@@ -85,7 +70,7 @@ fn resolve(
     let text = StrText::new(text);
     let mut units = per_unit(rt.alloc(), text, classes)?;
     let sequence = sequence_of(rt.alloc(), runs, sos, L)?.ok_or("a sequence")?;
-    resolve_units(rt, text, &sequence, units.as_mut_slice());
+    resolve_weak_units(text, &sequence, units.as_mut_slice())?;
     Ok(units)
 }
 
