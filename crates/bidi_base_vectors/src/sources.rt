@@ -152,6 +152,17 @@ fn no_ranges(rt: HostRuntime) -> Result<(), Fail> {
     Ok(())
 }
 
+// The first triple that names a character counts, and its first member opens.
+#[test]
+fn bracket_that_only_opens(rt: HostRuntime) -> Result<(), Fail> {
+    let Ok(source) = TableBidiData::new(&[], &[('|', '|', None)]) else {
+        return Err(Fail::from("no range is faultless"));
+    };
+    let bracket = source.bidi_matched_opening_bracket('|').ok_or("a bracket")?;
+    assert_eq!(rt; (bracket.opening, bracket.is_open), ('|', true));
+    Ok(())
+}
+
 #[test]
 fn classes_of_the_sample(rt: HostRuntime) -> Result<(), Fail> {
     let source = sample()?;

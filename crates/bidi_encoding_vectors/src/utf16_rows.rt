@@ -13,12 +13,13 @@ use std::test::Fail;
 use unicode_bidi::engine::{self, Analysis};
 use unicode_bidi::utf16::{BidiInfo, InitialInfo, Paragraph, ParagraphBidiInfo};
 
-/// A name, the units of a text, its base level, its stored levels, one a unit; the visual runs of the
-/// whole text, its text from left to right, and whether that is borrowed.
+/// A name, the units of a text, its base level, its paragraph's level, its stored levels, one a unit; the
+/// visual runs of the whole text, its text from left to right, and whether that is borrowed.
 type UnitsRow = (
     &'static str,
     &'static [u16],
     Option<u8>,
+    u8,
     &'static [u8],
     &'static [(usize, usize)],
     &'static [u16],
@@ -26,13 +27,15 @@ type UnitsRow = (
 );
 
 #[rattlefmt::skip]
-const UNITS: [UnitsRow; 6] = [
-    ("a surrogate in no pair, at an odd level", &[0x5D0, 0xD800], None, &[1, 1], &[(0, 2)], &[0xFFFD, 0x5D0], false),
-    ("a surrogate in no pair, at an even level", &[0xD800], Some(0), &[0], &[(0, 1)], &[0xD800], true),
-    ("a pair behind a letter", &[0x5D0, 0xD800, 0xDC00], None, &[1, 2, 2], &[(1, 3), (0, 1)], &[0xD800, 0xDC00, 0x5D0], false),
-    ("N2: a surrogate in no pair behind a letter", &[0x61, 0xD800], Some(1), &[2, 1], &[(1, 2), (0, 1)], &[0xFFFD, 0x61], false),
-    ("N1: a surrogate in no pair between letters", &[0x61, 0xD800, 0x62], Some(1), &[2, 2, 2], &[(0, 3)], &[0x61, 0xD800, 0x62], true),
-    ("X5a: an initiator of one unit", &[0x2067, 0x61], None, &[0, 2], &[(0, 1), (1, 2)], &[0x2067, 0x61], true),
+const UNITS: [UnitsRow; 8] = [
+    ("a surrogate in no pair, at an odd level", &[0x5D0, 0xD800], None, 1, &[1, 1], &[(0, 2)], &[0xFFFD, 0x5D0], false),
+    ("a surrogate in no pair, at an even level", &[0xD800], Some(0), 0, &[0], &[(0, 1)], &[0xD800], true),
+    ("a pair behind a letter", &[0x5D0, 0xD800, 0xDC00], None, 1, &[1, 2, 2], &[(1, 3), (0, 1)], &[0xD800, 0xDC00, 0x5D0], false),
+    ("N2: a surrogate in no pair behind a letter", &[0x61, 0xD800], Some(1), 1, &[2, 1], &[(1, 2), (0, 1)], &[0xFFFD, 0x61], false),
+    ("N1: a surrogate in no pair between letters", &[0x61, 0xD800, 0x62], Some(1), 1, &[2, 2, 2], &[(0, 3)], &[0x61, 0xD800, 0x62], true),
+    ("X5a: an initiator of one unit", &[0x2067, 0x61], None, 0, &[0, 2], &[(0, 1), (1, 2)], &[0x2067, 0x61], true),
+    ("I2: neutrals alone", &[0x2E, 0x2E, 0x2E], Some(1), 1, &[1, 1, 1], &[(0, 3)], &[0x2E, 0x2E, 0x2E], false),
+    ("X5b: an isolate alone", &[0x2066, 0x61, 0x2069], Some(0), 0, &[0, 2, 0], &[(0, 1), (1, 2), (2, 3)], &[0x2066, 0x61, 0x2069], true),
 ];
 
 // Whether levels have these numbers.
@@ -70,12 +73,13 @@ fn check_shown(
 }
 
 fn check_units(rt: &(impl AllocGlobal + Abort), row: UnitsRow) -> Result<(), Fail> {
-    let (name, units, base, levels, runs, shown, is_borrowed) = row;
+    let (name, units, base, level, levels, runs, shown, is_borrowed) = row;
     let info = BidiInfo::new_with_data_source(rt.alloc(), &sample()?, units, base_of(base)?)?;
     assert!(rt; are_numbered(info.levels(), levels), "{name}");
     let [paragraph] = info.paragraphs() else {
         return Err(Fail::from("no paragraph, or more than one"));
     };
+    assert_eq!(rt; paragraph.level().number(), level, "{name}");
     let end = units.len();
     if end == 0 || !is_line(Utf16Text::new(info.text()), &(0..end)) {
         return Err(Fail::from("no line"));
@@ -90,10 +94,11 @@ fn check_units(rt: &(impl AllocGlobal + Abort), row: UnitsRow) -> Result<(), Fai
 
 // The same of the text as one paragraph.
 fn check_one(rt: &(impl AllocGlobal + Abort), row: UnitsRow) -> Result<(), Fail> {
-    let (name, units, base, levels, runs, shown, is_borrowed) = row;
+    let (name, units, base, level, levels, runs, shown, is_borrowed) = row;
     let source = sample()?;
     let info = ParagraphBidiInfo::new_with_data_source(rt.alloc(), &source, units, base_of(base)?)?;
     assert!(rt; are_numbered(info.levels(), levels), "{name}");
+    assert_eq!(rt; info.paragraph_level().number(), level, "{name}");
     assert_eq!(rt;
         info.has_rtl(),
         levels.iter().any(|level| level % 2 == 1),

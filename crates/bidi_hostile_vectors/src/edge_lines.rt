@@ -89,6 +89,8 @@ fn greatest_level(rt: HostRuntime) -> Result<(), Fail> {
     let base = base_of(Some(125))?;
     let info = BidiInfo::new_with_data_source(rt.alloc(), &sample()?, "ab", base)?;
     let para = info.paragraphs().first().ok_or("a paragraph")?;
+    let levels = Level::vec(rt.alloc(), &[126, 126])?;
+    same("I2: the greatest level", info.levels(), levels.as_slice())?;
     if !is_line(StrText::new(info.text()), &(0..2)) {
         return Err(Fail::from("no line"));
     }

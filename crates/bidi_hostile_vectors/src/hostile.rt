@@ -8,7 +8,7 @@ use bidi_base::data_source::TableBidiData;
 use bidi_base::level::Level;
 use bidi_base::sample::{BRACKETS, RANGES};
 use bidi_base::text::{CharsText, StrText, TextSource, Utf16Text};
-use bidi_rows::{base_of, per_char, same, sample, units_of};
+use bidi_rows::{REMOVED_BRACKET, base_of, per_char, same, sample, units_of};
 use std::alloc::Global;
 use std::test::Fail;
 use unicode_bidi::engine::analyse;
@@ -34,7 +34,7 @@ type SourceRow = (
 
 /// Texts that are split into paragraphs.
 #[rattlefmt::skip]
-static SOURCES: [SourceRow; 6] = [
+static SOURCES: [SourceRow; 7] = [
     (Some(&[('f', 'f', FSI), ('\u{5D0}', '\u{5D0}', R)]), Some(&[]),
         ("X5c: an initiator of another length", "f\u{5D0}", None, &[RLI, R], &[(0, 2, 0)], &[0, 1])),
     (Some(&[('a', 'a', R), ('\u{5D0}', '\u{5D0}', FSI)]), Some(&[]),
@@ -47,6 +47,8 @@ static SOURCES: [SourceRow; 6] = [
         ("BD14: a bracket that only opens", "\u{5D0}|\u{5D1}|", Some(0), &[R, ON, R, ON], &[(0, 4, 0)], &[1, 1, 1, 0])),
     (None, None,
         ("X5a, X6a: an override stops at an isolate", "\u{202E}a\u{2066}b\u{2069}c\u{202C}", Some(0), &[RLO, L, LRI, L, PDI, L, PDF], &[(0, 7, 0)], &[0, 1, 1, 2, 1, 1, 1])),
+    (None, None,
+        ("X7: a PDF inside an isolate", "\u{202B}\u{2066}\u{202C}\u{2069}a\u{202C}", Some(0), &[RLE, LRI, PDF, PDI, L, PDF], &[(0, 6, 0)], &[0, 1, 1, 1, 2, 2])),
 ];
 
 /// Texts that are taken as one paragraph, whatever separators they have.
@@ -248,6 +250,20 @@ fn odd_sources(rt: HostRuntime) -> Result<(), Fail> {
         for found in of_text(rt.alloc(), &table(*ranges, *brackets)?, row.1, row.2)? {
             found.check(rt.alloc(), *row)?;
         }
+    }
+    Ok(())
+}
+
+#[test]
+fn removed_bracket(rt: HostRuntime) -> Result<(), Fail> {
+    let (ranges, brackets) = bidi_rows::removed_bracket(rt.alloc())?;
+    let Ok(source) = TableBidiData::new(ranges.as_slice(), brackets.as_slice()) else {
+        return Err(Fail::from("the ranges ascend"));
+    };
+    let (name, text, base, classes, _, levels) = REMOVED_BRACKET;
+    let row = (name, text, base, classes, [(0, 5, 0)].as_slice(), levels);
+    for found in of_text(rt.alloc(), &source, text, base)? {
+        found.check(rt.alloc(), row)?;
     }
     Ok(())
 }

@@ -457,6 +457,9 @@ fn units(rt: HostRuntime) -> Result<(), Fail> {
             return Err(Fail::from("the sample is faultless"));
         };
         check_in_place(&rt, row, &source)?;
+        if row.2 == ')' {
+            check_in_place(&rt, row, &sample()?)?;
+        }
     }
     Ok(())
 }

@@ -28,9 +28,10 @@ pub type TextRow = (
 
 /// Paragraphs and their levels (P1 to P3).
 #[rattlefmt::skip]
-static PARAGRAPHS: [TextRow; 7] = [
+static PARAGRAPHS: [TextRow; 8] = [
     ("P3: right to left, then left to right", "\u{5D0}\u{5D1}\u{5D2}abc", None, &[R, R, R, L, L, L], &[(0, 9, 1)], &[1, 1, 1, 2, 2, 2]),
     ("P1: two paragraphs", "a\n\u{5D0}", None, &[L, B, R], &[(0, 2, 0), (2, 4, 1)], &[0, 0, 1]),
+    ("P2: a separator decides nothing", "\n\u{5D0}", None, &[B, R], &[(0, 1, 0), (1, 3, 1)], &[0, 1]),
     ("P1: CR and LF are two", "\r\n", None, &[B, B], &[(0, 1, 0), (1, 2, 0)], &[0, 0]),
     ("P1: a separator of three bytes", "a\u{2029}b", Some(1), &[L, B, L], &[(0, 4, 1), (4, 5, 1)], &[2, 1, 2]),
     ("P1: no character", "", None, &[], &[], &[]),
@@ -174,6 +175,34 @@ static SOURCES: [SourceRow; 3] = [
     (&[('(', ')', ON), (',', ',', CS), ('z', 'z', BN), ('\u{5D0}', '\u{5EA}', R)], &[('z', ')', None), ('(', ')', None)],
         ("BD14: a removed character is no bracket", "\u{5D0},z\u{5D1})", Some(0), &[R, CS, BN, R, ON], &[(0, 7, 0)], &[1, 1, 1, 1, 0])),
 ];
+
+/// A text in which a character of class BN is called a bracket, over the source of `removed_bracket`.
+#[rattlefmt::skip]
+pub const REMOVED_BRACKET: TextRow =
+    ("BD14: a removed character of the sample is no bracket", "\u{5D0},z\u{5D1})", Some(0), &[R, CS, BN, R, ON], &[(0, 7, 0)], &[1, 1, 1, 1, 0]);
+
+/// The ranges of the sample with z of class BN, and its brackets behind a pair of z and `)`.
+pub fn removed_bracket(
+    alloc: Global,
+) -> Result<
+    (
+        Vec<(char, char, BidiClass)>,
+        Vec<(char, char, Option<char>)>,
+    ),
+    Fail,
+> {
+    let mut ranges = Vec::new(alloc);
+    for range in &sample::RANGES {
+        if range.0 == '{' {
+            ranges.push(('z', 'z', BN))?;
+        }
+        ranges.push(*range)?;
+    }
+    let mut brackets = Vec::new(alloc);
+    brackets.push(('z', ')', None))?;
+    brackets.extend_from_slice(&sample::BRACKETS)?;
+    Ok((ranges, brackets))
+}
 
 /// The rows of `SOURCES`.
 pub fn sources() -> &'static [SourceRow] {

@@ -6,7 +6,7 @@ use crate::equality::same;
 use crate::explicit_levels::{Prepared, letters, level_rows, unit_rows};
 use crate::weak_types::unit_rows as weak_rows;
 use bidi_base::char_data::BidiClass::{
-    self, BN, CS, EN, ES, ET, L, LRE, LRI, ON, PDF, PDI, R, RLE,
+    self, BN, CS, EN, ES, ET, L, LRE, LRI, ON, PDF, PDI, R, RLE, RLO,
 };
 use bidi_base::level::Level;
 use bidi_base::text::{StrText, is_per_char};
@@ -24,10 +24,12 @@ type Row = (&'static str, u8, &'static str, &'static [BidiClass]);
 
 /// Rows that no other table has.
 #[rattlefmt::skip]
-static TEXTS: [Row; 3] = [
+static TEXTS: [Row; 5] = [
     ("W6: separators alone", 1, "...", &[CS, CS, CS]),
     ("X5b, X6a: an isolate from end to end", 0, "\u{2066}a\u{2069}", &[LRI, L, PDI]),
     ("W4, W5: separators and terminators", 1, "\u{5D0}$1+2%,3", &[R, ET, EN, ES, EN, ET, CS, EN]),
+    ("X5a, X6a: an override stops at an isolate", 0, "\u{202E}a\u{2066}b\u{2069}c\u{202C}", &[RLO, L, LRI, L, PDI, L, PDF]),
+    ("X7: a PDF inside an isolate", 0, "\u{202B}\u{2066}\u{202C}\u{2069}a\u{202C}", &[RLE, LRI, PDF, PDI, L, PDF]),
 ];
 
 fn text_rows() -> &'static [Row] {

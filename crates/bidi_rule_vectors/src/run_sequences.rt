@@ -24,19 +24,30 @@ fn sequence_rows() -> &'static [(&'static str, Sequence<'static>, bool)] {
     SEQUENCES.as_slice()
 }
 
-/// In the runs 0..2, 5..7, 9..10: a unit, the index of its run, the units upwards from there, and
-/// those below it downwards.
+/// The starts and ends of runs, a unit, the index of its run, the units upwards from there, and those
+/// below it downwards.
+type WalkRow = (
+    &'static [(usize, usize)],
+    usize,
+    usize,
+    &'static [usize],
+    &'static [usize],
+);
+
 #[rattlefmt::skip]
-static WALKS: [(usize, usize, &[usize], &[usize]); 6] = [
-    (0, 0, &[0, 1, 5, 6, 9], &[]),
-    (1, 0, &[1, 5, 6, 9], &[0]),
-    (2, 0, &[5, 6, 9], &[1, 0]),
-    (6, 1, &[6, 9], &[5, 1, 0]),
-    (7, 1, &[9], &[6, 5, 1, 0]),
-    (10, 2, &[], &[9, 6, 5, 1, 0]),
+static WALKS: [WalkRow; 9] = [
+    (&[(0, 2), (5, 7)], 1, 0, &[1, 5, 6], &[0]),
+    (&[(0, 2), (5, 7)], 6, 1, &[6], &[5, 1, 0]),
+    (&[(0, 2), (5, 7)], 7, 1, &[], &[6, 5, 1, 0]),
+    (&[(0, 2), (5, 7), (9, 10)], 0, 0, &[0, 1, 5, 6, 9], &[]),
+    (&[(0, 2), (5, 7), (9, 10)], 1, 0, &[1, 5, 6, 9], &[0]),
+    (&[(0, 2), (5, 7), (9, 10)], 2, 0, &[5, 6, 9], &[1, 0]),
+    (&[(0, 2), (5, 7), (9, 10)], 6, 1, &[6, 9], &[5, 1, 0]),
+    (&[(0, 2), (5, 7), (9, 10)], 7, 1, &[9], &[6, 5, 1, 0]),
+    (&[(0, 2), (5, 7), (9, 10)], 10, 2, &[], &[9, 6, 5, 1, 0]),
 ];
 
-fn walk_rows() -> &'static [(usize, usize, &'static [usize], &'static [usize])] {
+fn walk_rows() -> &'static [WalkRow] {
     WALKS.as_slice()
 }
 
@@ -89,8 +100,8 @@ fn what_makes_a_sequence(rt: HostRuntime) -> Result<(), Fail> {
 #[test]
 fn units_of_a_sequence(rt: HostRuntime) -> Result<(), Fail> {
     let alloc = rt.alloc();
-    let sequence = sequence_of(alloc, &[(0, 2), (5, 7), (9, 10)], R, L)?.ok_or("a sequence")?;
-    for &(pos, run, upwards, downwards) in walk_rows() {
+    for &(runs, pos, run, upwards, downwards) in walk_rows() {
+        let sequence = sequence_of(alloc, runs, R, L)?.ok_or("a sequence")?;
         let (forwards, backwards) = walks(alloc, &sequence, pos, run)?;
         assert_eq!(rt; forwards.as_slice(), upwards, "{pos} in run {run}");
         assert_eq!(rt; backwards.as_slice(), downwards, "{pos} in run {run}");

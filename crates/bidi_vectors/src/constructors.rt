@@ -6,7 +6,8 @@ use bidi_base::data_source::{BidiDataSource, TableBidiData};
 use bidi_base::level::{Level, has_rtl};
 use bidi_base::text::StrText;
 use bidi_rows::{
-    OPENINGS, TextRow, base_of, deepest_embeddings, per_char, same, sample, with_openings,
+    OPENINGS, REMOVED_BRACKET, TextRow, base_of, deepest_embeddings, per_char, same, sample,
+    with_openings,
 };
 use std::alloc::Global;
 use std::test::Fail;
@@ -135,6 +136,15 @@ fn sources(rt: HostRuntime) -> Result<(), Fail> {
         check_all(rt.alloc(), &source, *row)?;
     }
     Ok(())
+}
+
+#[test]
+fn removed_bracket(rt: HostRuntime) -> Result<(), Fail> {
+    let (ranges, brackets) = bidi_rows::removed_bracket(rt.alloc())?;
+    let Ok(source) = TableBidiData::new(ranges.as_slice(), brackets.as_slice()) else {
+        return Err(Fail::from("the ranges ascend"));
+    };
+    check_all(rt.alloc(), &source, REMOVED_BRACKET)
 }
 
 #[test]
