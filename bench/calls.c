@@ -1,5 +1,5 @@
-/* Times the calls of the static library with a file of UTF-8, in nanoseconds a character; calls.rt.in
- * times the same calls of unicode_bidi. Lines have 60 characters, and fewer where a paragraph ends. */
+/* Times the calls of the static library with a file of UTF-8, in nanoseconds a character; main.rt.in
+ * times such calls of unicode_bidi. Lines have 60 characters, and fewer where a paragraph ends. */
 #include "unicode_bidi.h"
 #include <stdio.h>
 #include <stdlib.h>

@@ -8,6 +8,7 @@
  *   - A pointer that is followed by a length points to that many elements, aligned as their type asks.
  *     Where the length is 0 it may be any pointer that is aligned and not null; with a null pointer the
  *     behaviour is undefined, as with memcpy.
+ *   - `paragraph` points to one paragraph, aligned and not null.
  *   - A buffer for an answer overlaps no other argument.
  *   - The text and the tables stay as they are during the call.
  *
@@ -124,8 +125,8 @@ int64_t unicode_bidi_analyse_utf32(const uint32_t *text, size_t text_len, uint8_
                                    unicode_bidi_paragraph *paragraphs, size_t paragraphs_len);
 
 /* The base direction: UNICODE_BIDI_LTR, _RTL or _MIXED. That of the first paragraph, or with full not 0
- * that of the first paragraph that has one. The whole text is tested, also where its first character
- * decides; utf32 takes memory for a copy.
+ * that of the first paragraph that has one. utf8 and utf32 test the whole text, also where its first
+ * character decides; utf32 takes memory for a copy.
  * Faults   NOT_UTF8, NOT_SCALAR (by the encoding)
  * Proved   the direction (base_direction, full_base_direction). */
 int64_t unicode_bidi_base_direction_utf8(const uint8_t *text, size_t text_len, uint8_t full);

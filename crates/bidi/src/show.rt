@@ -1,11 +1,10 @@
 //! A line as a terminal that does not know the algorithm has to be given it.
 ghost use Rattle.std.specs.Prelude.{◌≡◌, ◌++◌, flat_map, reverse, encode_utf8, length, All, OnOk, string_bytes};
 ghost use Rattle.bidi.specs.Shown.{mirror as mirror_of, turned, shown_run, run_at, shown_line};
-ghost use Rattle.bidi_base.specs.Classes.{is_nsm};
 ghost use Rattle.bidi_base.specs.Display.{IsLevelRun, run_of};
 
 use crate::characters::push_chars;
-use bidi_base::char_data::BidiClass;
+use bidi_base::classes::is_nsm;
 use bidi_base::data_source::BidiDataSource;
 use bidi_base::level::Level;
 use bidi_lines::visual_runs::visual_runs_of;
@@ -44,13 +43,6 @@ fn push_reversed(out: &mut String, chars: &[char]) -> Result<(), AllocError>
     Ok(())
 }
 
-/// Whether a character is a nonspacing mark.
-fn is_mark<D: BidiDataSource>(data_source: &D, c: char) -> bool
-    ensures { result ≡ is_nsm ((D.source data_source.now).class_of c) }
-{
-    matches!(data_source.bidi_class(c), BidiClass::NSM)
-}
-
 /// Appends the characters of a run of an odd level: last first, each with the marks behind it (L3),
 /// and mirrored (L4).
 fn push_turned<D: BidiDataSource>(
@@ -65,7 +57,7 @@ fn push_turned<D: BidiDataSource>(
     let mut end = start;
     while start > 0 {
         start -= 1;
-        if !is_mark(data_source, chars[start]) {
+        if !is_nsm(data_source.bidi_class(chars[start])) {
             push_mirrored(out, &chars[start..end])?;
             end = start;
         }

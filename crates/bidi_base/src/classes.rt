@@ -1,7 +1,7 @@
 //! The groups of classes that the rules name, one function a group.
 
 ghost use Rattle.std.specs.Prelude.{◌≡◌};
-ghost use Rattle.bidi_base.specs.Classes.{is_strong, is_initiator, is_embedding, is_pdi, is_paragraph_separator, is_separator, is_removed, is_neutral, as_direction, stands_for};
+ghost use Rattle.bidi_base.specs.Classes.{is_strong, is_initiator, is_embedding, is_pdi, is_nsm, is_paragraph_separator, is_separator, is_removed, is_neutral, as_direction, stands_for};
 ghost use Rattle.bidi_base.specs.Direction.{may_turn};
 ghost use Rattle.bidi_base.specs.Line.{is_blank};
 
@@ -36,6 +36,13 @@ pub fn is_pdi(class: BidiClass) -> bool
     ensures { result ≡ is_pdi class }
 {
     matches!(class, BidiClass::PDI)
+}
+
+/// A nonspacing mark.
+pub fn is_nsm(class: BidiClass) -> bool
+    ensures { result ≡ is_nsm class }
+{
+    matches!(class, BidiClass::NSM)
 }
 
 /// A paragraph separator.

@@ -10,7 +10,8 @@ use std::alloc::AllocError;
 /// its initiator, or none where the level run goes on after the initiator.
 pub type WaitingSequences = Vec<Option<usize>>;
 
-/// Reads a character for what is open. If it is an initiator, `wait` waits for its PDI.
+/// Reads a character for what is open. If it is an initiator, `wait` waits for its PDI. Refused only for
+/// want of memory.
 pub fn read_class(
     waiting: &mut WaitingSequences,
     class: BidiClass,

@@ -1,6 +1,6 @@
 //! The words that every layer of the bidirectional algorithm speaks: classes, levels, data sources
 //! and texts, and the steps that the rules over lists and the passes in place share. Its folder
-//! `specs` has every definition that a contract cites, one module a topic.
+//! `specs` has the definitions that contracts of the public surface cite, one module a topic.
 #![tactic(auto)]
 
 pub mod brackets;

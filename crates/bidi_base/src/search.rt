@@ -56,7 +56,8 @@ fn first_of_sixteen<T: ClassTest>(test: T, classes: &[BidiClass], at: usize) -> 
     }
 }
 
-/// The first unit from `from` on and below `to` whose class passes a test, or else `to`.
+/// The first unit from `from` on and below `to` whose class passes a test, or else `to`. `from` is at
+/// most `to`, and `to` at most the number of classes.
 pub fn first_passing<T: ClassTest>(test: T, classes: &[BidiClass], from: usize, to: usize) -> usize
     requires ordered { from ≤ to }
     requires inside { to ≤ length classes.now }

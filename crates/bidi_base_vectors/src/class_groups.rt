@@ -6,8 +6,8 @@ use bidi_base::char_data::BidiClass::{
 };
 use bidi_base::char_data::is_rtl;
 use bidi_base::classes::{
-    as_direction, is_blank, is_embedding, is_initiator, is_neutral, is_paragraph_separator, is_pdi,
-    is_removed, is_separator, is_strong, may_turn, stands_for,
+    as_direction, is_blank, is_embedding, is_initiator, is_neutral, is_nsm, is_paragraph_separator,
+    is_pdi, is_removed, is_separator, is_strong, may_turn, stands_for,
 };
 
 /// Every class.
@@ -18,11 +18,12 @@ const CLASSES: [BidiClass; 23] = [
 
 /// The groups, in the order of `groups_of`.
 #[rattlefmt::skip]
-const GROUPS: [(&str, &[BidiClass]); 14] = [
+const GROUPS: [(&str, &[BidiClass]); 15] = [
     ("strong", &[L, R, AL]),
     ("isolate initiators (BD8)", &[LRI, RLI, FSI]),
     ("embedding initiators (BD10)", &[RLE, LRE, RLO, LRO]),
     ("what closes an isolate", &[PDI]),
+    ("nonspacing marks (W1)", &[NSM]),
     ("paragraph separators (P1)", &[B]),
     ("separators (L1)", &[S, B]),
     ("what X9 removes", &[RLE, LRE, RLO, LRO, PDF, BN]),
@@ -35,12 +36,13 @@ const GROUPS: [(&str, &[BidiClass]); 14] = [
     ("a direction in N0 and N1", &[L, R, EN, AN]),
 ];
 
-fn groups_of(class: BidiClass) -> [bool; 14] {
+fn groups_of(class: BidiClass) -> [bool; 15] {
     [
         is_strong(class),
         is_initiator(class),
         is_embedding(class),
         is_pdi(class),
+        is_nsm(class),
         is_paragraph_separator(class),
         is_separator(class),
         is_removed(class),

@@ -5,14 +5,14 @@ ghost use Rattle.bidi_base.specs.Paragraphs.{begins_with_line_feed, cr_lf_togeth
 ghost use Rattle.bidi_controls.specs.Lines.{lines_of};
 ghost use Rattle.bidi_controls.specs.Lines.{own_chars as own_chars_of};
 
-use bidi_base::char_data::BidiClass;
+use bidi_base::classes::is_paragraph_separator;
 use bidi_base::data_source::BidiDataSource;
 
 /// Whether a character separates paragraphs.
-fn is_separator<D: BidiDataSource>(data_source: &D, c: char) -> bool
+fn separates_paragraphs<D: BidiDataSource>(data_source: &D, c: char) -> bool
     ensures { result ≡ is_paragraph_separator ((D.source data_source.now).class_of c) }
 {
-    matches!(data_source.bidi_class(c), BidiClass::B)
+    is_paragraph_separator(data_source.bidi_class(c))
 }
 
 /// Whether a text begins with a line feed that separates paragraphs.
@@ -20,7 +20,7 @@ fn begins_with_line_feed<D: BidiDataSource>(data_source: &D, chars: &[char]) -> 
     ensures { result ≡ begins_with_line_feed (D.source data_source.now) chars.now }
 {
     match chars {
-        [first, ..] => *first == '\n' && is_separator(data_source, *first),
+        [first, ..] => *first == '\n' && separates_paragraphs(data_source, *first),
         [] => false,
     }
 }
@@ -29,10 +29,12 @@ fn begins_with_line_feed<D: BidiDataSource>(data_source: &D, chars: &[char]) -> 
 fn ends_line<D: BidiDataSource>(data_source: &D, c: char, after: &[char]) -> bool
     ensures { result ≡ cr_lf_together (D.source data_source.now) c after.now }
 {
-    is_separator(data_source, c) && !(c == '\r' && begins_with_line_feed(data_source, after))
+    separates_paragraphs(data_source, c)
+        && !(c == '\r' && begins_with_line_feed(data_source, after))
 }
 
-/// How many characters the first line of a text has, with the separator that ends it, CR LF as one.
+/// How many characters the first line of a text has, with the separator that ends it, CR LF as one. The
+/// text is not empty.
 pub fn first_line_len<D: BidiDataSource>(data_source: &D, chars: &[char]) -> usize
     requires { 0 < length chars.now }
     ensures some { 0 < result }
@@ -53,7 +55,7 @@ pub fn own_chars<'t, D: BidiDataSource>(data_source: &D, line: &'t [char]) -> &'
     ensures { result.now ≡ own_chars_of (D.source data_source.now) line.now }
 {
     for (at, c) in line.iter().enumerate() {
-        if is_separator(data_source, *c) {
+        if separates_paragraphs(data_source, *c) {
             return &line[..at];
         }
     }

@@ -1,5 +1,5 @@
-// One walk over a text: the class of each character, with each FSI resolved (X5c), and the
-// paragraphs (P1) with their levels (P2, P3).
+//! One walk over a text: the class of each character, with each FSI resolved (X5c), and the
+//! paragraphs (P1) with their levels (P2, P3).
 ghost use Rattle.std.specs.Prelude.{◌≡◌, ℕ, ◌+◌, ◌<◌, ◌≤◌, ◌&&◌, if◌then◌else◌, true, false, ◌++◌, length, take, drop, replicate, OnOk, IfOk, MatchOption, IsTrue, All, Some};
 ghost use Rattle.std.specs.Option.{is_some};
 ghost use Rattle.bidi_base.specs.declared.char_data.BidiClass.{BidiClass};

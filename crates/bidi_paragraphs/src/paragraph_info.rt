@@ -1,4 +1,4 @@
-// A paragraph of a text.
+//! A paragraph of a text.
 ghost use Rattle.std.specs.Prelude.{◌≡◌, ◌-◌, ◌≤◌, ◌↔◌, IsSome, IfSome};
 
 use bidi_base::level::Level;
@@ -30,7 +30,7 @@ impl ParagraphInfo {
         }
     }
 
-    // The same of a range that is known to be in order.
+    /// The paragraph of a range that is known to be in order.
     pub fn from_range(range: Range<usize>, level: Level) -> ParagraphInfo
         requires { range.start ≤ range.end }
         ensures range { range_of result ≡ range }

@@ -1,5 +1,5 @@
-// The levels of one paragraph after another (X1 to I2), by passes in place over its units, and those
-// of the characters that X9 removes.
+//! The levels of one paragraph after another (X1 to I2), by passes in place over its units, and those
+//! of the characters that X9 removes.
 ghost use Rattle.std.specs.Prelude.{◌≡◌, ℕ, ◌+◌, ◌<◌, ◌≤◌, true, false, length, map, slice_index, All, IsTrue, OnOk};
 ghost use Rattle.bidi_base.specs.declared.char_data.BidiClass.TheVariants.{L};
 ghost use Rattle.bidi_base.specs.Explicit.{explicit_levels, explicit_classes, processing_classes};
@@ -27,12 +27,15 @@ use std::alloc::{AllocError, Global};
 /// A paragraph whose stored classes are known, and whose levels are sought.
 #[derive(Drop)]
 pub struct ClassifiedParagraph<'a, D: BidiDataSource, T: TextSource> {
+    /// Where its classes and brackets come from.
     pub data_source: &'a D,
     /// Its own text.
     pub text: T,
+    /// Its level, at most 125.
     pub level: Level,
+    /// Those of its own characters.
     pub flags: ParagraphFlags,
-    /// Its stored classes, one a unit.
+    /// The stored classes (X5c) of its own text, one a unit.
     pub original_classes: &'a [BidiClass],
     ghost low: { level ≤ 125 },
     ghost own_flags: { flags ≡ flags_of (map (D.source data_source.now).class_of (T.characters text)) },
@@ -41,15 +44,15 @@ pub struct ClassifiedParagraph<'a, D: BidiDataSource, T: TextSource> {
         (stored_classes (map (D.source data_source.now).class_of (T.characters text))) },
 }
 
-/// Finds the levels (X1 to I2) of one paragraph after another, and keeps the memory of these lists from each to
-/// the next.
+/// Finds the levels (X1 to I2) of one paragraph after another, and keeps the memory of its lists from
+/// each to the next.
 #[derive(Drop)]
 pub struct LevelResolver {
     /// The class of each unit, as far as the passes have resolved it.
     classes: Vec<BidiClass>,
     /// The level runs.
     runs: LevelRunVec,
-    /// The isolating run sequences. The runs of each that has several take memory anew.
+    /// The isolating run sequences. The runs of each that has three or more take memory anew.
     sequences: IsolatingRunSequenceVec,
     neutrals: NeutralResolver,
 }

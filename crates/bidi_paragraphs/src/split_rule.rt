@@ -1,4 +1,4 @@
-// Where a text is cut into paragraphs.
+//! Where a text is cut into paragraphs.
 
 /// Where the paragraphs of a text end (P1).
 #[derive(Clone, Copy, PartialEq, Eq, Debug)]

@@ -5,7 +5,7 @@ ghost use Rattle.bidi_base.specs.Text.{is_boundary, place, text_len};
 
 use bidi_base::text::TextSource;
 
-/// The unit behind the character that begins at a unit.
+/// The unit behind the character that begins at `start`, which is the place of a character.
 pub fn end_of<T: TextSource>(text: T, start: usize) -> usize
     requires begins { IsTrue (is_boundary T.units (T.characters text) start) }
     requires inside { start < text_len T.units (T.characters text) }

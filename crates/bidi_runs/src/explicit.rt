@@ -14,6 +14,7 @@ mod stretches;
 
 use crate::prepare::{LevelRunVec, Steps, not_removed_by_x9};
 use bidi_base::char_data::BidiClass;
+use bidi_base::classes::is_removed;
 use bidi_base::level::Level;
 use bidi_base::text::TextSource;
 use status::StatusStack;
@@ -39,17 +40,9 @@ fn own_class(class: BidiClass, override_class: Option<BidiClass>) -> BidiClass
         else if is_paragraph_separator class || is_removed class then class else unwrap_or override_class class) }
 {
     match class {
-        BidiClass::LRE
-        | BidiClass::LRO
-        | BidiClass::RLE
-        | BidiClass::RLO
-        | BidiClass::PDF
-        | BidiClass::BN => BidiClass::BN,
         BidiClass::B => class,
-        _ => match override_class {
-            Some(put) => put,
-            None => class,
-        },
+        _ if is_removed(class) => BidiClass::BN,
+        _ => override_class.unwrap_or(class),
     }
 }
 
@@ -127,8 +120,12 @@ fn cut_run(
 /// `original_classes` has the stored classes. Each unit of `levels` gets the explicit level of its
 /// character, whatever it held, and each unit of `processing_classes` the class, which is BN for
 /// what X9 removes. A new run begins exactly at a character that X9 keeps and whose level differs
-/// from that of the kept character before it; the runs cover the text. After a refusal the slices
-/// and the runs hold any values.
+/// from that of the kept character before it; the runs cover the text.
+///
+/// `para_level` is at most 125, and there is one entry a unit in each list, in `original_classes` the
+/// same for all units of a character. `processing_classes` comes as a copy of them, and `runs` empty.
+/// Refused only where `runs`, which brings its own memory, cannot grow; the slices and the runs hold
+/// any values then. Nothing else takes memory: `alloc` is there as in all passes.
 pub fn compute<T: TextSource>(
     alloc: Global,
     text: T,

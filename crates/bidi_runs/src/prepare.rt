@@ -20,8 +20,10 @@ pub use steps::Steps;
 /// A level run (BD7), as the units from its start to its end.
 pub type LevelRun = Range<usize>;
 
+/// The level runs of a paragraph, in text order.
 pub type LevelRunVec = Vec<LevelRun>;
 
+/// The isolating run sequences of a paragraph.
 pub type IsolatingRunSequenceVec = Vec<IsolatingRunSequence>;
 
 /// Whether X9 removes characters of this class.

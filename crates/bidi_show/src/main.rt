@@ -1,5 +1,5 @@
 //! Shows what the bidirectional algorithm makes of levels, `bidi_show map <level>..`, and of a text,
-//! `bidi_show show auto`, `ltr` or `rtl`.
+//! `bidi_show show auto`, `ltr` or `rtl`, or in lines, `bidi_show lines auto 40`.
 #![tactic(auto)]
 
 ghost use Rattle.std.specs.Prelude.{◌≡◌, IfErr};

@@ -141,6 +141,8 @@ pub fn run<R: ShowIn, W: ShowOut>(
         IfSome (command_of (map string_bytes words.now)) (λ command.
         WritesAnswer command (R.left input.old) (R.left input.new) (W.written output.old) (W.written output.new))) }
     ensures unwritten { IfErr result (λ fault. fault ≢ Device → output.new ≡ output.old) }
+    // A read that failed leaves the output too.
+    ensures untouched { R.failed_reads input.old < R.failed_reads input.new → output.new ≡ output.old }
     ensures unread { reads_input (command_of (map string_bytes words.now)) ≡ false → input.new ≡ input.old }
 {
     let Some(command) = Command::parse(words) else {

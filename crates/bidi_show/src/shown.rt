@@ -2,7 +2,6 @@
 ghost use Rattle.std.specs.Prelude.{◌≡◌, ◌+◌, ◌≤◌, ◌++◌, length, slice_range, flat_map, map, All, IfOk, OnOk, IfSome, string_bytes};
 ghost use Rattle.std.specs.Char.{len_utf8};
 ghost use Rattle.std.specs.Str.{chars};
-ghost use Rattle.bidi_base.specs.Classes.{is_paragraph_separator};
 ghost use Rattle.bidi_base.specs.Text.{per_char, IsLine};
 ghost use Rattle.bidi_base.specs.Display.{run_of};
 ghost use Rattle.bidi_show.specs.Shown.{layout_in, layout_text, printed_in, own_end as own_end_of};
@@ -12,6 +11,7 @@ ghost use Rattle.unicode_bidi.specs.BidiInfo.{text as text_of, original_classes,
 ghost use Rattle.unicode_bidi.specs.ParagraphInfo.{level_of, range_of};
 
 use crate::command::View;
+use bidi_base::classes::is_paragraph_separator;
 use bidi_base::text::{StrText, TextSource};
 use bidi_terminal::push_number;
 use std::alloc::{AllocError, Global};
@@ -47,13 +47,6 @@ fn push_levels(out: &mut String, text: &str, levels: &[Level]) -> Result<(), All
     out.push_str("\n")
 }
 
-// Whether a character is a paragraph separator.
-fn is_separator<D: BidiDataSource>(data_source: &D, c: char) -> bool
-    ensures { result ≡ is_paragraph_separator ((D.source data_source.now).class_of c) }
-{
-    matches!(data_source.bidi_class(c), BidiClass::B)
-}
-
 // The text of a paragraph without the separator that closes it.
 fn without_separator<'t, D: BidiDataSource>(data_source: &D, text: &'t str) -> &'t str
     ensures { chars result.now ≡ without_separator_of (D.source data_source.now) (chars text.now) }
@@ -62,7 +55,7 @@ fn without_separator<'t, D: BidiDataSource>(data_source: &D, text: &'t str) -> &
     let last = rest.next_back();
     let front = rest.as_str();
     match last {
-        Some(c) if is_separator(data_source, c) => front,
+        Some(c) if is_paragraph_separator(data_source.bidi_class(c)) => front,
         _ => text,
     }
 }

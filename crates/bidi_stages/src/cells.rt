@@ -4,6 +4,7 @@ ghost use Rattle.std.specs.List.{range_with_len};
 ghost use Rattle.bidi_stages.specs.Cells.{class_name, option_name, is_unseen, plain_glyph, glyph, hex_digit, leading_digit, hex};
 
 use bidi_base::char_data::BidiClass;
+use bidi_base::classes::is_nsm;
 use bidi_base::level::Level;
 use bidi_controls::control::Control;
 use bidi_terminal::push_number;
@@ -67,7 +68,7 @@ fn push_plain_glyph(out: &mut String, class: BidiClass, c: char) -> Result<(), A
     if is_unseen(class) {
         return Ok(());
     }
-    if matches!(class, BidiClass::NSM) {
+    if is_nsm(class) {
         out.push_str("\u{25CC}")?;
     }
     out.push(c)?;

@@ -269,8 +269,8 @@ fn stages_of<D: BidiDataSource>(
     })
 }
 
-/// What each stage of the rules makes of a paragraph, taken by itself, at a base level or at the level
-/// that its characters give it (P2, P3).
+/// What each stage of the rules makes of a paragraph, taken by itself, at a base level, which is at most
+/// 125, or at the level that its characters give it (P2, P3).
 pub fn find_stages<D: BidiDataSource>(
     alloc: Global,
     data_source: &D,

@@ -1,4 +1,4 @@
-// A text with its stored classes and levels, and what its lines show, whatever its encoding.
+//! A text with its stored classes and levels, and what its lines show, whatever its encoding.
 ghost use Rattle.std.specs.Prelude.{◌≡◌, ◌<◌, IsTrue, IfOk, map};
 ghost use Rattle.bidi_base.specs.Analysed.{IsLineOf, AreLevelsWithLine, AreLevelsOfLine, AreRunsOfLine, levels_with_line_per_char};
 ghost use Rattle.bidi_base.specs.Direction.{direction_of_levels};

@@ -30,7 +30,8 @@ pub fn get_base_direction_with_data_source<D: BidiDataSource, T: TextSource>(
     find_direction(data_source, text, false)
 }
 
-/// The same of the first paragraph that has such a character.
+/// The direction of a text by its first paragraph that has a strong character outside isolates (P2, P3):
+/// that of the first such character there, or mixed where no paragraph has one. It takes no memory.
 pub fn get_base_direction_full_with_data_source<D: BidiDataSource, T: TextSource>(
     data_source: &D,
     text: T,

@@ -1,14 +1,15 @@
 //! The classes, the paragraphs and the levels of a whole text, whatever its encoding.
 
-ghost use Rattle.std.specs.Prelude.{◌≡◌, [], ◌∷◌, true, false, IsTrue, ◌≤◌, ◌++◌, length, map, take, drop, flat_map, All, OnOk, IfOk, IfSome};
+ghost use Rattle.std.specs.Prelude.{◌≡◌, [], ◌∷◌, true, false, IsTrue, ◌≤◌, ◌++◌, length, map, take, drop, flat_map, slice_range, All, OnOk, IfOk, IfSome};
 ghost use Rattle.bidi_base.specs.Analysed.{IsAnalysis, IsPerCharText, HasCharValues, AreLevelsWithLine, classes_of_chars, levels_of_chars};
+ghost use Rattle.bidi_base.specs.Laws.{AreLevelsFrom};
 ghost use Rattle.bidi_base.specs.Line.{levels_with_line as levels_with_line_of};
 ghost use Rattle.bidi_base.specs.declared.char_data.BidiClass.TheVariants.{L};
 ghost use Rattle.bidi_base.specs.Paragraphs.{AreParagraphRanges};
 ghost use Rattle.bidi_base.specs.Text.{text_len, is_per_char, per_char, char_index, IsLine};
 ghost use Rattle.unicode_bidi.specs.Engine.{with_analysis, original_classes as original_classes_of, levels as stored_levels_of, paragraphs as paragraphs_of_analysis, flags as flags_of_analysis, unit_levels, own_flags, CanWrite, Follow};
 ghost use Rattle.bidi_paragraphs.specs.ParagraphFlags.{paragraph_flags};
-ghost use Rattle.bidi_paragraphs.specs.ParagraphInfo.{ranges_of, levels_of};
+ghost use Rattle.bidi_paragraphs.specs.ParagraphInfo.{level_of, range_of, ranges_of, levels_of};
 ghost use Rattle.bidi_paragraphs.specs.SplitRule.{pieces_by, IsAnalysisBy};
 
 use bidi_base::char_data::BidiClass;
@@ -140,6 +141,8 @@ pub(crate) fn analyse_by<D: BidiDataSource, T: TextSource>(
         (with_analysis T.units (T.characters text) a) (ranges_of (paragraphs_of_analysis a))
         (levels_of (paragraphs_of_analysis a))) }
     ensures per_char { IfOk result (λ a. IsPerCharText (with_analysis T.units (T.characters text) a)) }
+    ensures bounded { IfOk result (λ a. All (λ p. AreLevelsFrom (level_of p)
+        (slice_range (stored_levels_of a) (range_of p).start (range_of p).end)) (paragraphs_of_analysis a)) }
     ensures flags { let pieces = pieces_by split (D.source data_source.now) (T.characters text) in
         IfOk result (λ a. flags_of_analysis a ≡ paragraph_flags (D.source data_source.now) pieces) }
 {
@@ -190,6 +193,10 @@ pub fn analyse<D: BidiDataSource, T: TextSource>(
         (classes_of_chars (D.source data_source.now) split (T.characters text))
         (levels_of_chars (D.source data_source.now) base split (T.characters text))) }
 
+    // No level is below that of its paragraph or above the greatest.
+    ensures bounded { IfOk result (λ a. All (λ p. AreLevelsFrom (level_of p)
+        (slice_range (stored_levels_of a) (range_of p).start (range_of p).end)) (paragraphs_of_analysis a)) }
+
     // Split, every unit is in one paragraph, and separators stand at the paragraphs' ends alone.
     ensures parted { split ≡ true
         → IfOk result (λ a. AreParagraphRanges (D.source data_source.now) T.units (T.characters text)
@@ -203,7 +210,7 @@ pub fn analyse<D: BidiDataSource, T: TextSource>(
     analyse_by(alloc, data_source, text, base, split)
 }
 
-/// The same of a text whose paragraphs end where a rule says. Without a rule the whole text is one
+/// As [`analyse`], of a text whose paragraphs end where a rule says. Without a rule the whole text is one
 /// paragraph, even an empty one.
 pub fn analyse_with_rule<D: BidiDataSource, T: TextSource>(
     alloc: Global,
@@ -217,6 +224,8 @@ pub fn analyse_with_rule<D: BidiDataSource, T: TextSource>(
         (with_analysis T.units (T.characters text) a) (ranges_of (paragraphs_of_analysis a))
         (levels_of (paragraphs_of_analysis a))) }
     ensures per_char { IfOk result (λ a. IsPerCharText (with_analysis T.units (T.characters text) a)) }
+    ensures bounded { IfOk result (λ a. All (λ p. AreLevelsFrom (level_of p)
+        (slice_range (stored_levels_of a) (range_of p).start (range_of p).end)) (paragraphs_of_analysis a)) }
 {
     analyse_by(alloc, data_source, text, base, rule)
 }

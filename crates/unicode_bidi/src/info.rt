@@ -25,6 +25,10 @@ use std::ops::Range;
 
 /// What the algorithm finds out about a text: its paragraphs, and the class and the level of each
 /// character.
+///
+/// A line is a range of units of the text, each end of which begins a character or is the text's length
+/// (see `is_line`). Its levels after L1 take that of the paragraph that is handed in with it,
+/// whichever that is.
 #[derive(PartialEq, Debug, Drop)]
 pub struct BidiInfo<T: TextSource> {
     pub(crate) analysed: Analysed<T>,
@@ -33,9 +37,6 @@ pub struct BidiInfo<T: TextSource> {
         (λ p. IsLine T.units (T.characters analysed.text) (range_of p).start (range_of p).end) paragraphs.items },
 }
 
-// A line goes from one unit up to another, both of which have to begin a character or be the text's
-// length (see `is_line`). It takes its paragraph's level from the paragraph that is handed in,
-// whichever that is.
 impl<T: TextSource> BidiInfo<T> {
     ghost use Rattle.unicode_bidi.specs.BidiInfo.{analysed as analysed_of, paragraphs, original_classes, levels as levels_of_info};
 
@@ -121,7 +122,7 @@ impl<T: TextSource> BidiInfo<T> {
         self.analysed.reordered_levels(alloc, para.level(), line)
     }
 
-    /// The same with one level for each character of the whole text.
+    /// As `reordered_levels`, with one level for each character of the whole text.
     pub fn reordered_levels_per_char(
         &self,
         alloc: Global,

@@ -1,11 +1,11 @@
 //! The text of a line whose classes and levels the caller has kept, so that it costs the line alone.
 
-ghost use Rattle.std.specs.Prelude.{◌≡◌, IsTrue, IfOk, length, encode_utf8};
+ghost use Rattle.std.specs.Prelude.{◌≡◌, ◌↔◌, IsTrue, IfOk, length, encode_utf8};
 ghost use Rattle.std.specs.Char.{len_utf8};
 ghost use Rattle.std.specs.Char.Escape.{encode_utf16};
-ghost use Rattle.std.specs.Cow.{cow_slice_items, cow_str_bytes};
+ghost use Rattle.std.specs.Cow.{cow_slice_items, cow_str_bytes, IsBorrowedSlice, IsBorrowedStr};
 ghost use Rattle.std.specs.Str.{chars};
-ghost use Rattle.bidi_base.specs.Analysed.{IsTextOfLine};
+ghost use Rattle.bidi_base.specs.Analysed.{IsTextOfLine, StaysInOrder};
 ghost use Rattle.bidi_base.specs.Text.{is_per_char};
 ghost use Rattle.bidi_base.specs.Utf16.{utf16_text, utf16_len};
 
@@ -18,7 +18,8 @@ use std::borrow::{CowSlice, CowStr};
 
 /// The text of a line of UTF-8 from left to right (L2). `text` is the line, `classes` and `levels` are
 /// those stored for its bytes, one a byte and equal within each character (see `is_per_char`), and
-/// `level` is that of its paragraph. It is borrowed where no level of the line is odd after L1.
+/// `level` is that of its paragraph. The answer is borrowed exactly where no level of the line is odd
+/// after L1.
 pub fn reorder_utf8<'t>(
     alloc: Global,
     text: &'t str,
@@ -28,16 +29,19 @@ pub fn reorder_utf8<'t>(
 ) -> Result<CowStr<'t>, AllocError>
     requires classes { IsTrue (is_per_char ⟦<BidiClass as PartialEq>⟧.eq len_utf8 (chars text.now) classes.items) }
     requires levels { IsTrue (is_per_char ⟦<Level as PartialEq>⟧.eq len_utf8 (chars text.now) levels.items) }
-    ensures { IfOk result (λ c. IsTextOfLine encode_utf8 text.now
+    ensures text { IfOk result (λ c. IsTextOfLine encode_utf8 text.now
         (record { len_of = len_utf8; chars = chars text.now; classes = classes.items; levels = levels.items })
         level (record { start = 0; end = length text.now }) (cow_str_bytes c)) }
+    ensures borrowed { IfOk result (λ c. IsBorrowedStr c ↔ StaysInOrder
+        (record { len_of = len_utf8; chars = chars text.now; classes = classes.items; levels = levels.items })
+        level (record { start = 0; end = length text.now })) }
 {
     let analysed = Analysed::new(StrText::new(text), classes, levels);
     analysed.reorder_line(alloc, level, 0..text.len())
 }
 
-/// The same of a line of UTF-16. A surrogate in no pair stays as it is at an even level, and is 0xFFFD
-/// at an odd one.
+/// As [`reorder_utf8`], of a line of UTF-16, one class and one level a code unit. A surrogate in no pair
+/// stays as it is at an even level, and is 0xFFFD at an odd one.
 pub fn reorder_utf16<'t>(
     alloc: Global,
     text: &'t [u16],
@@ -47,9 +51,12 @@ pub fn reorder_utf16<'t>(
 ) -> Result<CowSlice<'t, u16>, AllocError>
     requires classes { IsTrue (is_per_char ⟦<BidiClass as PartialEq>⟧.eq utf16_len (utf16_text text.now) classes.items) }
     requires levels { IsTrue (is_per_char ⟦<Level as PartialEq>⟧.eq utf16_len (utf16_text text.now) levels.items) }
-    ensures { IfOk result (λ c. IsTextOfLine encode_utf16 text.now
+    ensures text { IfOk result (λ c. IsTextOfLine encode_utf16 text.now
         (record { len_of = utf16_len; chars = utf16_text text.now; classes = classes.items; levels = levels.items })
         level (record { start = 0; end = length text.now }) (cow_slice_items c)) }
+    ensures borrowed { IfOk result (λ c. IsBorrowedSlice c ↔ StaysInOrder
+        (record { len_of = utf16_len; chars = utf16_text text.now; classes = classes.items; levels = levels.items })
+        level (record { start = 0; end = length text.now })) }
 {
     let analysed = Analysed::new(Utf16Text::new(text), classes, levels);
     analysed.reorder_line(alloc, level, 0..text.len())

@@ -148,9 +148,10 @@ impl LineMap {
         Ok(LineMap { order, places })
     }
 
-    /// The number of characters.
+    /// The number of characters, which is that of visual places.
     pub fn len(&self) -> usize
-        ensures { result ≡ length (order_of self.now) }
+        ensures order { result ≡ length (order_of self.now) }
+        ensures places { result ≡ length (places_of self.now) }
     {
         self.order.len()
     }

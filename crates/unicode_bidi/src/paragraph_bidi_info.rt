@@ -21,6 +21,9 @@ use std::ops::Range;
 
 /// What the algorithm finds out about a text that is taken as one paragraph, whatever separators
 /// stand in it.
+///
+/// A line is a range of units of the text, each end of which begins a character or is the text's length
+/// (see `is_line`).
 #[derive(PartialEq, Debug, Drop)]
 pub struct ParagraphBidiInfo<T: TextSource> {
     pub(crate) paragraph: Analysed<T>,
@@ -28,8 +31,6 @@ pub struct ParagraphBidiInfo<T: TextSource> {
     is_pure_ltr: bool,
 }
 
-// A line goes from one unit up to another, both of which have to begin a character or be the text's
-// length (see `is_line`).
 impl<T: TextSource> ParagraphBidiInfo<T> {
     ghost use Rattle.unicode_bidi.specs.ParagraphBidiInfo.{analysed as analysed_of, original_classes, levels as levels_of_info, paragraph_level, is_pure_ltr};
 
@@ -121,7 +122,7 @@ impl<T: TextSource> ParagraphBidiInfo<T> {
             .reordered_levels(alloc, self.paragraph_level, line)
     }
 
-    /// The same with one level for each character of the whole text.
+    /// As `reordered_levels`, with one level for each character of the whole text.
     pub fn reordered_levels_per_char(
         &self,
         alloc: Global,

@@ -26,10 +26,13 @@ use std::alloc::{AllocError, Global};
 use std::borrow::CowSlice;
 use std::ops::Range;
 
-/// What the algorithm finds out about a text.
+/// What the algorithm finds out about a text: its paragraphs, and the class and the level of each
+/// character. Units are code units. A line is a range of them that cuts no character (see `is_line`), and
+/// takes its level after L1 from the paragraph that is handed in with it.
 pub type BidiInfo<'t> = info::BidiInfo<Utf16Text<'t>>;
 
-/// The same of a text that is taken as one paragraph, whatever separators stand in it.
+/// What the algorithm finds out about a text that is taken as one paragraph, whatever separators stand in
+/// it. Units are code units, and a line is a range of them that cuts no character (see `is_line`).
 pub type ParagraphBidiInfo<'t> = paragraph_bidi_info::ParagraphBidiInfo<Utf16Text<'t>>;
 
 /// The paragraphs of a text and the classes of its characters.

@@ -21,10 +21,13 @@ use std::alloc::{AllocError, Global};
 use std::borrow::CowStr;
 use std::ops::Range;
 
-/// What the algorithm finds out about a text.
+/// What the algorithm finds out about a text: its paragraphs, and the class and the level of each
+/// character. Units are bytes. A line is a range of them that cuts no character (see `is_line`), and
+/// takes its level after L1 from the paragraph that is handed in with it.
 pub type BidiInfo<'t> = info::BidiInfo<StrText<'t>>;
 
-/// The same of a text that is taken as one paragraph, whatever separators stand in it.
+/// What the algorithm finds out about a text that is taken as one paragraph, whatever separators stand in
+/// it. Units are bytes, and a line is a range of them that cuts no character (see `is_line`).
 pub type ParagraphBidiInfo<'t> = paragraph_bidi_info::ParagraphBidiInfo<StrText<'t>>;
 
 /// The paragraphs of a text and the classes of its characters.

@@ -100,7 +100,7 @@ impl NeutralResolver {
         )
     }
 
-    /// The same of a sequence whose runs are lent.
+    /// As [`NeutralResolver::resolve`], of a sequence whose runs are lent.
     pub fn resolve_lent<D: BidiDataSource, T: TextSource>(
         &mut self,
         text: T,
@@ -149,8 +149,8 @@ impl NeutralResolver {
         Ok(())
     }
 
-    /// The same but for N2: what it would give the embedding direction stays a neutral. The levels are
-    /// the same, since neither adds to them (I1, I2).
+    /// As [`NeutralResolver::resolve_lent`], but for N2: what it would give the embedding direction stays
+    /// a neutral. The levels are the same, since neither adds to them (I1, I2).
     pub fn resolve_up_to_n1<D: BidiDataSource, T: TextSource>(
         &mut self,
         text: T,

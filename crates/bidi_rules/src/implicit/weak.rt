@@ -136,9 +136,10 @@ fn begins_below(runs: &[LevelRun], index: usize, unit: usize) -> bool
 /// The weak types of a sequence, in place: W1 to W7 over its characters that are not BN.
 ///
 /// Each unit of `processing_classes` has the class of its character, and the sequence fits the
-/// text. BN stays, and so do the units outside the sequence. No memory is taken. It goes over the units
-/// at most once for nonspacing marks, once for numbers, and once for what is left; the units of
-/// terminators and separators that wait for the character behind them are gone over once more.
+/// text. BN stays, and so do the units outside the sequence. No memory is taken. Beside the looks that find
+/// out whether there are any, it goes over the units at most once for nonspacing marks, once for numbers,
+/// and once for what is left; the units of terminators and separators that wait for the character behind
+/// them are gone over once more.
 pub fn resolve_weak<T: TextSource>(
     text: T,
     sequence: &IsolatingRunSequence,
@@ -186,7 +187,7 @@ pub fn resolve_weak_counted<T: TextSource, S: Ledger>(
     resolve_weak_lent_counted(text, sequence.lend(), processing_classes, steps)
 }
 
-/// The same of a sequence whose runs are lent.
+/// As [`resolve_weak`], of a sequence whose runs are lent.
 pub fn resolve_weak_lent<T: TextSource>(
     text: T,
     sequence: LentSequence<'_>,

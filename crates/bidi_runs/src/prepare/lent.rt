@@ -20,7 +20,7 @@ impl<'s> LentSequence<'s> {
     ghost use Rattle.bidi_runs.specs.RunSequence.{lent_runs, lent_sos, lent_eos};
 
     /// A sequence of these runs: one or more, each non-empty and ending at or before the start of the
-    /// next.
+    /// next. `sos` and `eos` are each L or R.
     pub fn new(runs: &'s [LevelRun], sos: BidiClass, eos: BidiClass) -> LentSequence<'s>
         requires { IsTrue (is_run_sequence (map bounds runs.now) sos eos) }
         ensures runs { lent_runs result ≡ runs.now }

@@ -106,7 +106,8 @@ impl IsolatingRunSequence {
         true
     }
 
-    /// The units from `pos` to the end of the run at that index, then those of each later run, upwards.
+    /// The units from `pos` to the end of the run at the index `run`, then those of each later run,
+    /// upwards. `pos` lies in that run or at its end.
     pub fn iter_forwards_from(&self, pos: usize, run: usize) -> ForwardsFrom<'_>
         requires run { run < length (runs_of self.now) }
         requires from { (get_or (map bounds (runs_of self.now)) run (0, 0)).0 ≤ pos }
@@ -121,8 +122,8 @@ impl IsolatingRunSequence {
         }
     }
 
-    /// The units below `pos` down to the start of the run at that index, then those of each earlier
-    /// run, nearest run first, each downwards.
+    /// The units below `pos` down to the start of the run at the index `run`, then those of each earlier
+    /// run, nearest run first, each downwards. `pos` lies in that run or at its end.
     pub fn iter_backwards_from(&self, pos: usize, run: usize) -> BackwardsFrom<'_>
         requires run { run < length (runs_of self.now) }
         requires from { (get_or (map bounds (runs_of self.now)) run (0, 0)).0 ≤ pos }

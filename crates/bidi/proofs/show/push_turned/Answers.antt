@@ -3,8 +3,8 @@ use Rattle.std.proofs.lemmas.List.Concat.{flat_map-append}
 use Rattle.bidi.proofs.TurnedLemmas.{turned_step-mark, turned_step-letter}
 use Rattle.bidi.proofs.show.push_turned.Goals as goal
 
-pub loop-start-preserved-then-not-is_mark : goal.loop-start-preserved-then-not-is_mark
-loop-start-preserved-then-not-is_mark g c = grind (arith, turned_step-letter, append_assoc, flat_map-append)
+pub loop-start-preserved-then-not-is_nsm : goal.loop-start-preserved-then-not-is_nsm
+loop-start-preserved-then-not-is_nsm g c = grind (arith, turned_step-letter, append_assoc, flat_map-append)
 
 pub loop-start-preserved : goal.loop-start-preserved
 loop-start-preserved g c = grind (arith, turned_step-mark)

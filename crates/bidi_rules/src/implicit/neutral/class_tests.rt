@@ -33,7 +33,7 @@ impl ClassTest for AnyDirection {
 }
 
 /// Whether a class stands for a direction.
-fn stands_for(direction: BidiClass, class: BidiClass) -> bool
+fn is_for(direction: BidiClass, class: BidiClass) -> bool
     ensures { result ≡ stands_for direction class }
 {
     let is_l = class == L;
@@ -49,7 +49,7 @@ impl ClassTest for For {
     ghost test = { λ d. stands_for d.0 };
 
     fn passes(self, class: BidiClass) -> bool {
-        stands_for(self.0, class)
+        is_for(self.0, class)
     }
 }
 
@@ -61,6 +61,6 @@ impl ClassTest for NotFor {
     ghost test = { λ d c. not (stands_for d.0 c) };
 
     fn passes(self, class: BidiClass) -> bool {
-        !stands_for(self.0, class)
+        !is_for(self.0, class)
     }
 }

@@ -2,7 +2,7 @@
 
 ghost use Rattle.std.specs.Prelude.{◌≡◌, ℕ, ◌+◌, ◌<◌, ◌≤◌, List, length, map, All, IsTrue};
 ghost use Rattle.bidi_base.specs.Brackets.{AreNestedPairs};
-ghost use Rattle.bidi_base.specs.Classes.{is_l_or_r, is_nsm};
+ghost use Rattle.bidi_base.specs.Classes.{is_l_or_r};
 ghost use Rattle.bidi_base.specs.Text.{is_boundary, place, text_len};
 ghost use Rattle.bidi_base.specs.Units.{bounds, are_ordered, kept_in_place, AreLines};
 ghost use Rattle.bidi_rules.specs.NeutralPass.{IsPaired, IsReady};
@@ -12,7 +12,8 @@ use super::directions::{Directions, opposite_of};
 use super::marks::marks_end;
 use super::nearest::{direction_before, first_for, run_of};
 use crate::implicit::weak::write_over_runs;
-use bidi_base::char_data::BidiClass::{self, NSM};
+use bidi_base::char_data::BidiClass;
+use bidi_base::classes::is_nsm;
 use bidi_base::text::TextSource;
 use bidi_runs::characters::end_of;
 use bidi_runs::prepare::LevelRun;
@@ -59,7 +60,7 @@ pub fn resolve_pairs<T: TextSource>(
             opening,
             inside: end_of(text, opening),
             closing,
-            is_marked: is_mark(original_classes[opening]),
+            is_marked: is_nsm(original_classes[opening]),
         };
         let taken = walk.pair_direction(directions.sos, runs, classes, pair);
         if let Some(direction) = taken {
@@ -67,13 +68,6 @@ pub fn resolve_pairs<T: TextSource>(
             row.set_direction(text, runs, original_classes, classes, closing, direction);
         }
     }
-}
-
-/// Whether a class is that of a nonspacing mark.
-fn is_mark(class: BidiClass) -> bool
-    ensures { result ≡ is_nsm class }
-{
-    matches!(class, NSM)
 }
 
 /// A pair of brackets, by the units at which they begin.

@@ -12,6 +12,7 @@ ghost use Rattle.bidi_rules.specs.WeakWalk.{is_seen, is_any, is_any_of, AreMarke
 use super::part_of;
 use crate::implicit::is_kept_in_place;
 use bidi_base::char_data::BidiClass::{self, FSI, LRI, NSM, ON, PDI, RLI};
+use bidi_base::classes::is_nsm;
 use bidi_runs::prepare::{LevelRun, Steps};
 use std::sync::ledger::Ledger;
 
@@ -52,14 +53,7 @@ fn is_mark_in(classes: &[BidiClass]) -> bool
 {
     classes
         .iter()
-        .fold(false, |found, class| found | is_mark(*class))
-}
-
-/// Whether a class is NSM.
-fn is_mark(class: BidiClass) -> bool
-    ensures { result ≡ is_nsm class }
-{
-    matches!(class, NSM)
+        .fold(false, |found, class| found | is_nsm(*class))
 }
 
 /// The same over one run, where a mark at its front takes `mark`. Answers what a mark behind it takes.

@@ -14,7 +14,7 @@ ghost use Rattle.bidi_rules.specs.WeakWalk.{count_below, is_any, is_any_of, is_s
 
 use super::left_over::left_over;
 use super::steps::{Before, numbered, strengthened, strong_up_to};
-use super::{part_of, write_over_runs_counted};
+use super::{WIDE, part_of, write_over_runs_counted};
 use crate::implicit::is_kept_in_place;
 use bidi_base::char_data::BidiClass::{self, AN, EN, ET, ON};
 use bidi_base::classes::is_strong;
@@ -301,9 +301,6 @@ fn before_near(classes: &[BidiClass]) -> usize
         .take_while(|class| !is_asked(**class))
         .count()
 }
-
-/// How many units are tested at once.
-const WIDE: usize = 32;
 
 /// How many pieces of that many classes come before the first in which one asks.
 fn idle_pieces(classes: &[BidiClass]) -> usize

@@ -1,7 +1,7 @@
 use Rattle.bidi_base.proofs.Common.{◌∙◌, List, ℕ, arith, take-append_seam}
 use Rattle.bidi_base.proofs.ParagraphsLemmas.{length-text_classes}
 use Rattle.bidi_base.proofs.PerUnit.{length-per_unit}
-use Rattle.unicode_bidi.proofs.FoundLaws.{analysis-IsPerCharText, pieces_by-joined}
+use Rattle.unicode_bidi.proofs.FoundLaws.{analysis-IsPerCharText, bounded-found, pieces_by-joined}
 use Rattle.unicode_bidi.proofs.ParagraphUnits.{paragraphs-Follow, paragraphs-flags, paragraphs-CanWrite, paragraphs-levels}
 use Rattle.unicode_bidi.proofs.engine.analyse_by.Goals as goal
 
@@ -35,3 +35,10 @@ returns-clause-per_char g c =
     let source = g.D.BidiDataSource.source c.args.data_source.now in
     let cs : List ℕ = g.T.TextSource.characters c.args.text in
     analysis-IsPerCharText _ c.args.base _ _ (pieces_by-joined c.args.split source cs) _ _ (returns-clause-analysis g c)
+
+pub returns-clause-bounded : goal.returns-clause-bounded
+returns-clause-bounded g c =
+    let source = g.D.BidiDataSource.source c.args.data_source.now in
+    let cs : List ℕ = g.T.TextSource.characters c.args.text in
+    bounded-found source c.args.base _ _ (pieces_by-joined c.args.split source cs) g.met.T.TextSource.has_units
+    c.in_ok-found.found.paragraphs.items (returns-clause-analysis g c) c.requires

@@ -86,7 +86,7 @@ loop-pair-preserved g c = (
       let w = s.invariant.0 h ready side long found nested is in
       let inside : c.end_of.result ≡ place len_of chars (get_or ks i 0 + 1) = c.end_of.ensures (get_or ks i 0) st.first_within st.first_place in
       let answer = IsAnswered-taken len_of h chars original runs sos old ready e side long found nested s.classes k st.fits s.walk c.pair_direction-taken.new.self w c.pair_direction-taken.result
-      (rw (sym st.first, sym st.last, sym inside, sym (c.is_mark.ensures ∙ ap is_nsm (sym st.class_is))) c.pair_direction-taken.ensures.taken) in
+      (rw (sym st.first, sym st.last, sym inside, sym (c.is_nsm.ensures ∙ ap is_nsm (sym st.class_is))) c.pair_direction-taken.ensures.taken) in
       elim c.match-taken.branch [
         | in-Some b ↦
             rw b.classes-is
