@@ -1,7 +1,7 @@
 -- The pass from the front gives W1 to W7.
-use Rattle.bidi_base.proofs.Common.{◌≡◌, ℕ, zero, suc, Bool, false, not, if◌then◌else◌, List, [], ◌∷◌, ◌++◌, replicate, refl, ◌∙◌, append-nil, arith, rules, is_strong, is_nsm, is_et, is_en, is_l, is_l_or_r, nearest, nearest_is, in_context, carried, w1_rule, w2_rule, w3_rule, w4_rule, w5_rule, w6_rule, w7_rule, w1, w3, w6, weak_classes}
+use Rattle.bidi_base.proofs.Common.{◌≡◌, ℕ, zero, suc, Bool, false, not, if◌then◌else◌, List, [], ◌∷◌, ◌++◌, replicate, refl, ap, ◌∙◌, append-nil, arith, rules, is_strong, is_nsm, is_et, is_en, is_l, is_l_or_r, nearest, nearest_is, in_context, carried, w1_rule, w2_rule, w3_rule, w4_rule, w5_rule, w6_rule, w7_rule, w1, w3, w6, weak_classes}
 use Rattle.bidi_base.specs.declared.char_data.BidiClass.{BidiClass}
-use Rattle.bidi_base.specs.declared.char_data.BidiClass.TheVariants.{EN, ES, ET, AN, CS, ON}
+use Rattle.bidi_base.specs.declared.char_data.BidiClass.TheVariants.{L, R, EN, ES, ET, AN, CS, ON}
 use Rattle.bidi_rules.specs.declared.implicit.weak.steps.Before.{Before}
 use Rattle.bidi_rules.specs.declared.implicit.weak.steps.Before.TheVariants.{Other, European, Arabic, Terminators, EuropeanSeparator, ArabicSeparator}
 use Rattle.bidi_base.proofs.PlacesLemmas.{nearest-more}
@@ -85,11 +85,29 @@ pub replicate-onto : (c : BidiClass) (n : ℕ) (zs : List BidiClass) → replica
 replicate-onto c zero zs = refl
 replicate-onto c (suc n) zs = simp (replicate-onto c n zs)
 
+-- a class that W4 to W6 leave alone
+w4-plain : (before : List BidiClass) (c : BidiClass) (after : List BidiClass) → (c ≡ ES → ⊥) → (c ≡ CS → ⊥) → w4_rule before c after ≡ c
+w4-plain [] c after a b = refl
+w4-plain (EN ∷ before) ES after a b = absurd (a refl)
+w4-plain (EN ∷ before) CS after a b = absurd (b refl)
+w4-plain (EN ∷ before) _ after a b = refl
+w4-plain (AN ∷ before) CS after a b = absurd (b refl)
+w4-plain (AN ∷ before) _ after a b = refl
+w4-plain (_ ∷ before) c after a b = refl
+
 module _ (sos : BidiClass) (zs : List BidiClass) (next : IsRight sos zs) where
   ready-more : (z : BidiClass) (before : Before) (b4 b5 b7 : List BidiClass) (after_l : Bool) → waits before ≡ false → IsPassed sos b4 b5 b7 after_l before
       → after_all sos b4 b5 b7 (z ∷ zs) ≡ after_w7 after_l before 0 (z ∷ zs)
   ready-more ET before b4 b5 b7 after_l free h = grind (arith, next.terminators 0)
-  ready-more z before b4 b5 b7 after_l free h = grind arith
+  ready-more EN before b4 b5 b7 after_l free h = grind arith
+  ready-more AN before b4 b5 b7 after_l free h = grind arith
+  ready-more ES before b4 b5 b7 after_l free h = grind arith
+  ready-more CS before b4 b5 b7 after_l free h = grind arith
+  ready-more L before b4 b5 b7 after_l free h = grind arith
+  ready-more R before b4 b5 b7 after_l free h = grind arith
+  ready-more z before b4 b5 b7 after_l free h =
+      ap (λ (c : BidiClass). in_context (w7_rule sos) b7 (w6 (in_context w5_rule b5 (c ∷ in_context w4_rule (z ∷ b4) zs)))) (w4-plain b4 z zs (λ e. cc e) (λ e. cc e))
+      ∙ ap (λ (cs : List BidiClass). z ∷ cs) (next.ready Other (z ∷ b4) (z ∷ b5) (z ∷ b7) after_l refl (record { number = refl; beside = refl; left = h.left }))
 
   -- behind what waited, where it is not joined
   settled-terminators : (n : ℕ) (after_l : Bool) (z : BidiClass) → is_et z ≡ false
