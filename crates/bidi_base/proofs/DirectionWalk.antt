@@ -90,8 +90,7 @@ separator_weak B e = refl
 separator_weak _ e = absurd (cc e)
 
 depth_by-counted : (c : BidiClass) (d : ℕ) → (if is_initiator c then d + 1 else if is_pdi c then d - 1 else d) ≡ depth_by (kind_of c) d
-depth_by-counted c zero = grind arith
-depth_by-counted c (suc d) = grind arith
+depth_by-counted c d = grind arith
 
 module _ (f : ℕ → BidiClass) (chars : List ℕ) (n c : ℕ) (class : BidiClass) (next : drop n chars ≡ c ∷ drop (n + 1) chars) (is : class ≡ f c) (d : ℕ) where
   step : (full : Bool) → direction_from full d (map f (drop n chars))
@@ -120,7 +119,4 @@ module _ (f : ℕ → BidiClass) (chars : List ℕ) (n c : ℕ) (class : BidiCla
       open_or_weak (inr deep) = grind arith
 
 pub depth-le : (class : BidiClass) (d n : ℕ) → d ≤ n → (if is_initiator class then d + 1 else if is_pdi class then d - 1 else d) ≤ n + 1
-depth-le class d n order = by_tests (is_initiator class) (is_pdi class)
-  where
-    by_tests : (b p : Bool) → cond b (d + 1) (cond p (d - 1) d) ≤ n + 1
-    by_tests b p = grind arith
+depth-le class d n order = grind (arith, cases_Bool (is_initiator class), cases_Bool (is_pdi class))

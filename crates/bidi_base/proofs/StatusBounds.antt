@@ -2,8 +2,7 @@
 use Rattle.bidi_base.proofs.Common.{◌≡◌, ℕ, ◌+◌, ◌<◌, ◌≤◌, List, [], ◌∷◌, length, arith, BidiClass, class_at, asked_level, Entry, State, drop_isolate, closed, step, state_at, IsWithinDepth, counted, IsPoppable}
 use Rattle.bidi_base.proofs.OpenersStack.{left_at, IsPushed, left_at-IsPushed}
 use Rattle.bidi_base.specs.StatusMachine.{AreBelow}
-use Rattle.bidi_base.proofs.StatusMachine.{state_of, EnteredAs, state_of-EnteredAs}
-use Rattle.bidi_base.proofs.StatusMachine.{IsInsideOf, overflowed, inside, split_state, state_at-state_of, closed-state_at}
+use Rattle.bidi_base.proofs.StatusMachine.{state_of, EnteredAs, state_of-EnteredAs, IsInsideOf, overflowed, inside, split_state, state_at-state_of, closed-state_at}
 
 length_below : (paragraph level : ℕ) (es : List Entry) → paragraph ≤ level → AreBelow paragraph level es → length es + paragraph ≤ level
 length_below paragraph level [] order h = omega arith

@@ -6,8 +6,7 @@ use Rattle.bidi_base.proofs.OpenMatches.{IsReadStack-match, IsReadStack-matched,
 use Rattle.bidi_base.proofs.IsolatesLemmas.{initiators_apart, pdis_apart, matching_pdi-is_pdi}
 use Rattle.bidi_base.proofs.PermutationLemmas.{count_of, count_of-cons, count_of-IsPermutation, Ascends, Ascends-push, Ascends-higher, Ascends-filter, Ascends-range}
 use Rattle.bidi_base.proofs.SuccessorLemmas.{have_one_level-from, is_kept-initiator, is_kept-pdi}
-use Rattle.bidi_base.proofs.PassLemmas.{AreSuccessors, IsBegunList, AllBegun, all_of, firsts, firsts-push, firsts-join, AllBegun-push, AllBegun-join}
-use Rattle.bidi_base.proofs.PassLemmas.{kept_below, kept_more, shares-push, shares-join, sequence_of, sequences-from_pass_in_order}
+use Rattle.bidi_base.proofs.PassLemmas.{AreSuccessors, IsBegunList, AllBegun, all_of, firsts, firsts-push, firsts-join, AllBegun-push, AllBegun-join, kept_below, kept_more, shares-push, shares-join, sequence_of, sequences-from_pass_in_order}
 use Rattle.bidi_base.proofs.RunsLemmas.{BeginsRun, EndsRun, AreRunSteps, IsFront, front_of, successor-at_match, is_first-run}
 
 -- what a list holds its longer lists hold

@@ -15,14 +15,11 @@ other-embedding : (e c : BidiClass) → is_l_or_r e ≡ true → has_direction c
 other-embedding e c side h n = grind arith
 
 module _ (s : Unjoined) (now : List BidiClass) (w : Join) where
-  abbrev against : BidiClass
-  against = opposite_of s.e
-
   -- what is written to what waits
-  over-old : (at : ℕ) (new : List BidiClass) (u : IsUnderWay s now w at) → w.waits ≡ true → IsWrittenOver (is_seen (drop w.first_run s.runs) now) against w.first at now new → IsWrittenOver (is_seen s.runs s.old) against u.done at now new
+  over-old : (at : ℕ) (new : List BidiClass) (u : IsUnderWay s now w at) → w.waits ≡ true → IsWrittenOver (is_seen (drop w.first_run s.runs) now) (opposite_of s.e) w.first at now new → IsWrittenOver (is_seen s.runs s.old) (opposite_of s.e) u.done at now new
   over-old at new u waiting over =
       let n = u.named waiting in
-      IsWrittenOver-same_test (is_seen (drop w.first_run s.runs) now) (is_seen s.runs s.old) against u.done at now new (λ k a b. cc (n.reached k a, u.joined.unwritten k a)) (simp n.first at over)
+      IsWrittenOver-same_test (is_seen (drop w.first_run s.runs) now) (is_seen s.runs s.old) (opposite_of s.e) u.done at now new (λ k a b. cc (n.reached k a, u.joined.unwritten k a)) (simp n.first at over)
 
   module _ (at end : ℕ) (inside : (k : ℕ) → at ≤ k → k < end → in_runs s.runs k ≡ true) (fits : end ≤ length s.old) (u : IsUnderWay s now w at) where
     -- more neutrals wait
@@ -30,8 +27,8 @@ module _ (s : Unjoined) (now : List BidiClass) (w : Join) where
     IsUnderWay-more next from upto none = grind arith
 
     -- it comes, and is written to what waits
-    pub IsAtOpposite-settled : (new : List BidiClass) (next : ℕ) → at ≤ next → next < end → ((k : ℕ) → at ≤ k → k < next → has_direction (class_at now k) ≡ false) → stands_for against (class_at now next) ≡ true → w.waits ≡ true
-        → IsWrittenOver (is_seen (drop w.first_run s.runs) now) against w.first next now new → IsAtOpposite s new w next end
+    pub IsAtOpposite-settled : (new : List BidiClass) (next : ℕ) → at ≤ next → next < end → ((k : ℕ) → at ≤ k → k < next → has_direction (class_at now k) ≡ false) → stands_for (opposite_of s.e) (class_at now next) ≡ true → w.waits ≡ true
+        → IsWrittenOver (is_seen (drop w.first_run s.runs) now) (opposite_of s.e) w.first next now new → IsAtOpposite s new w next end
     IsAtOpposite-settled new next from below none is waiting over =
         let more = IsUnderWay-more next from (omega arith) none in
         let j : IsJoined s now true more.done next = simp waiting at more.joined in
@@ -44,7 +41,7 @@ module _ (s : Unjoined) (now : List BidiClass) (w : Join) where
         )
 
     -- the embedding direction comes
-    pub IsUnderWay-turned : (next : ℕ) → at ≤ next → next < end → ((k : ℕ) → at ≤ k → k < next → has_direction (class_at now k) ≡ false) → has_direction (class_at now next) ≡ true → stands_for against (class_at now next) ≡ false → w.waits ≡ true
+    pub IsUnderWay-turned : (next : ℕ) → at ≤ next → next < end → ((k : ℕ) → at ≤ k → k < next → has_direction (class_at now k) ≡ false) → has_direction (class_at now next) ≡ true → stands_for (opposite_of s.e) (class_at now next) ≡ false → w.waits ≡ true
         → IsJoined s now false next next
     IsUnderWay-turned next from below none is other waiting =
         let more = IsUnderWay-more next from (omega arith) none in

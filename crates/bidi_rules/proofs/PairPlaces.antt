@@ -10,8 +10,7 @@ use Rattle.bidi_base.proofs.PlacesLemmas.{reverse-take_more}
 use Rattle.bidi_base.proofs.TextLemmas.{HasUnits}
 use Rattle.bidi_rules.specs.NeutralPass.{values_of, IsReady}
 use Rattle.bidi_rules.specs.PairWalk.{spot, IsFirstFor, IsNearestBefore}
-use Rattle.bidi_rules.proofs.Spots.{length-values_of}
-use Rattle.bidi_rules.proofs.Spots.{behind, Owner, owner, spot-behind, behind-spot, spot-rises, spot-lower, spot-seen, class-at}
+use Rattle.bidi_rules.proofs.Spots.{length-values_of, behind, Owner, owner, spot-behind, behind-spot, spot-rises, spot-lower, spot-seen, class-at}
 
 -- a class that stands for a direction is kept
 stands-kept : (d c : BidiClass) → stands_for d c ≡ true → is_kept_in_place c ≡ true
@@ -85,9 +84,6 @@ module _ (len_of : ℕ → ℕ) (h : HasUnits len_of) (chars : List ℕ) (runs :
   rising : (i j : ℕ) → i < j → at i < at j
   rising = spot-rises len_of h chars old rs ready.lines ready.ordered
 
-  starts : (k : ℕ) → k < length ks → at k < ends k
-  starts = spot-behind len_of h chars old rs ready.lines ready.ordered
-
   -- ---- what a search forwards finds
 
   -- the first place behind the i-th character that stands for a direction is one at which a character begins
@@ -96,7 +92,7 @@ module _ (len_of : ℕ → ℕ) (h : HasUnits len_of) (chars : List ℕ) (runs :
       let found = f.at less in
       let w = own r found.1 (stands-kept d (class_at now r) found.2) in
       let x = w.number in
-      let behind_i : i < x = grind (arith, found.0, w.from, w.below, order x i, starts i fits) in (
+      let behind_i : i < x = grind (arith, found.0, w.from, w.below, order x i, spot-behind len_of h chars old rs ready.lines ready.ordered i fits) in (
         x,
         w.fits,
         behind_i,

@@ -14,11 +14,10 @@ use Rattle.bidi_rules.specs.PairWalk.{at_spots, opposite_of, spot, IsAsked, IsFi
 use Rattle.bidi_rules.specs.declared.implicit.neutral.pairs.Pair.{Pair}
 use Rattle.bidi_rules.specs.declared.implicit.neutral.pairs.PairWalk.{PairWalk}
 use Rattle.bidi_rules.specs.WeakWalk.{is_seen, IsWrittenOver}
-use Rattle.bidi_rules.proofs.Spots.{length-values_of}
+use Rattle.bidi_rules.proofs.Spots.{length-values_of, behind, index-within, owner, spot-in, spot-behind, behind-spot, spot-rises, spot-upto, spot-lower, spot-seen, class-at}
 use Rattle.bidi_rules.proofs.PairPlaces.{pair_at, opens_upto, first-spot, between, looked-between, context-is}
 use Rattle.bidi_runs.proofs.PassOverText.{IsPerChar-alike, alike_class, in_runs-alike}
 use Rattle.bidi_rules.proofs.WrittenOver.{by_range}
-use Rattle.bidi_rules.proofs.Spots.{behind, index-within, owner, spot-in, spot-behind, behind-spot, spot-rises, spot-upto, spot-lower, spot-seen, class-at}
 
 every : (p : BidiClass → Bool) (xs : List BidiClass) → ((i : ℕ) → i < length xs → p (get_or xs i L) ≡ true) → list_all p xs ≡ true
 every p [] h = refl

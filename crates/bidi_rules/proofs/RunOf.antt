@@ -1,11 +1,10 @@
 -- The run of a unit, and what is found in the runs from it on, or up to it.
 use Rattle.bidi_base.proofs.Common.{◌≡◌, ℕ, zero, suc, ◌+◌, ◌<◌, ◌≤◌, ◌&&◌, ◌||◌, true, false, List, [], ◌∷◌, length, map, get_or, take, drop, refl, sym, ap, ◌∙◌, arith, take_all, get_or-map, length-map, is_kept_in_place, class_at, All, All-take, are_ordered, are_ordered_from, bounds, in_runs, Range, cases_Bool}
 use Rattle.bidi_base.specs.declared.char_data.BidiClass.{BidiClass}
-use Rattle.bidi_runs.proofs.WalkLemmas.{no_range}
+use Rattle.bidi_runs.proofs.WalkLemmas.{no_range, are_ordered-front}
 use Rattle.bidi_rules.specs.PairWalk.{IsMarksEnd}
 use Rattle.bidi_rules.specs.WeakWalk.{is_seen, IsWrittenOver}
 use Rattle.bidi_runs.proofs.InRuns.{in_run, in_run-true, in_runs-more, in_run-above, in_runs-take, next_start, start_or-at}
-use Rattle.bidi_runs.proofs.WalkLemmas.{are_ordered-front}
 use Rattle.bidi_rules.proofs.WrittenOver.{IsWrittenOver-same_test}
 
 low_end : (low : ℕ) (runs : List (ℕ × ℕ)) (j : ℕ) → are_ordered_from low runs ≡ true → j < length runs → low ≤ (get_or runs j (0, 0)).1

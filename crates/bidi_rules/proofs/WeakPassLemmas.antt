@@ -87,13 +87,7 @@ replicate-onto c (suc n) zs = simp (replicate-onto c n zs)
 
 -- a class that W4 to W6 leave alone
 w4-plain : (before : List BidiClass) (c : BidiClass) (after : List BidiClass) → (c ≡ ES → ⊥) → (c ≡ CS → ⊥) → w4_rule before c after ≡ c
-w4-plain [] c after a b = refl
-w4-plain (EN ∷ before) ES after a b = absurd (a refl)
-w4-plain (EN ∷ before) CS after a b = absurd (b refl)
-w4-plain (EN ∷ before) _ after a b = refl
-w4-plain (AN ∷ before) CS after a b = absurd (b refl)
-w4-plain (AN ∷ before) _ after a b = refl
-w4-plain (_ ∷ before) c after a b = refl
+w4-plain before c after a b = grind arith
 
 module _ (sos : BidiClass) (zs : List BidiClass) (next : IsRight sos zs) where
   ready-more : (z : BidiClass) (before : Before) (b4 b5 b7 : List BidiClass) (after_l : Bool) → waits before ≡ false → IsPassed sos b4 b5 b7 after_l before

@@ -31,17 +31,6 @@ module _ (class : ℕ → BidiClass) (len : ℕ → ℕ) where
       → walked class len strong next (still_to_come next (suc m)) 1 (range_with_len a m ++ us) ≡ walked class len strong next 0 (suc m) us
   held_rest strong next m a us h each = grind (arith, joined, skipped)
 
-  -- one unit, by what its class does
-  first : (strong c : BidiClass) (before : Before) (n a : ℕ) (us : List ℕ) → class a ≡ c → walked class len strong before 0 n (a ∷ us)
-      ≡ (let z = strengthened strong c in
-      let next = next_before z before in
-      let now = strong_up_to strong c in
-      if joins z before then walked class len now next 0 (suc n) us
-      else replicate n (w7_by (is_l strong) (settled z before))
-      ++ (if waits next then walked class len now next (still_to_come next (len a)) 1 us
-      else w7_by (is_l strong) (resolved z before) ∷ walked class len now next 0 0 us))
-  first strong c before n a us here = rw here refl
-
   -- units of one class, one after another
   module _ (strong c : BidiClass) (before : Before) where
     abbrev z : BidiClass

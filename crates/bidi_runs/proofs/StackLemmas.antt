@@ -74,17 +74,6 @@ pub entered_inside : (c : BidiClass) (s : State) (xs : List StatusEntry) (i e v 
 entered_inside c s xs i e v is fails other some = grind (arith, entered_refused)
 
 -- how many entries there are
-entry_count-with_stack : (s : State) (es : List Entry) (n : ℕ) → entry_count s ≤ n → length es ≤ n → entry_count (with_stack s es) ≤ n
-entry_count-with_stack s es n h k = grind arith
-
-length-drop_isolate : (es : List Entry) → length (drop_isolate es) ≤ length es
-length-drop_isolate [] = omega arith
-length-drop_isolate (e ∷ es) = grind (arith, length-drop_isolate es)
-
-pub entry_count-close_isolate : (s : State) → entry_count (close_isolate s) ≤ entry_count s
-unfolding close_isolate
-entry_count-close_isolate s = grind (arith, entry_count-with_stack, length-drop_isolate)
-
 pub entry_count-close_embedding : (s : State) → entry_count (close_embedding s) ≤ entry_count s
 unfolding close_embedding
 entry_count-close_embedding s = grind arith
@@ -92,9 +81,6 @@ entry_count-close_embedding s = grind arith
 pub entry_count-opened : (c : BidiClass) (s : State) → entry_count (opened c s) ≤ entry_count s + 1
 unfolding opened entered
 entry_count-opened c s = grind arith
-
-pub entry_count-state_by : (xs : List StatusEntry) (i e v : ℕ) → 0 < length xs → entry_count (state_by xs i e v) ≡ length xs
-entry_count-state_by xs i e v some = omega (arith, state_by-length xs i e v some)
 
 pub ruleset entry_counts = (entry_count-close_embedding, entry_count-opened)
 

@@ -4,8 +4,7 @@ use Rattle.bidi_base.proofs.ExplicitLemmas.{length-explicit_levels}
 use Rattle.bidi_base.proofs.PerUnit.{length-per_char, per_char-per_unit}
 use Rattle.bidi_base.proofs.UnitsLemmas.{is_per_char-per_unit}
 use Rattle.bidi_paragraphs.proofs.FlagsLemmas.{has_isolates-flags}
-use Rattle.bidi_paragraphs.proofs.FilledUnits.{initiators-stored}
-use Rattle.bidi_paragraphs.proofs.FilledUnits.{stored-is_per_char}
+use Rattle.bidi_paragraphs.proofs.FilledUnits.{initiators-stored, stored-is_per_char}
 use Rattle.bidi_paragraphs.proofs.paragraph_levels.LevelResolver.prepare.Given.{Over}
 use Rattle.bidi_paragraphs.proofs.paragraph_levels.LevelResolver.prepare.Goals as goal
 use Rattle.bidi_paragraphs.proofs.paragraph_levels.LevelResolver.prepare.Goals.{In_ok-compute}

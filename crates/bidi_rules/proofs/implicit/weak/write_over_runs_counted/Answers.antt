@@ -2,8 +2,7 @@ use Rattle.bidi_base.proofs.Common.{◌≡◌, ℕ, ◌<◌, ◌&&◌, true, fal
 use Rattle.std.specs.Prelude.{max, min}
 use Rattle.bidi_rules.proofs.CountBelow.{count_below-none, count_below-more, count_below-parts, count_below-monotone, ends_ascend}
 use Rattle.bidi_runs.proofs.InRuns.{run_some}
-use Rattle.bidi_runs.proofs.WalkLemmas.{no_range}
-use Rattle.bidi_runs.proofs.WalkLemmas.{are_ordered-drop}
+use Rattle.bidi_runs.proofs.WalkLemmas.{no_range, are_ordered-drop}
 use Rattle.bidi_rules.proofs.WrittenOver.{runs-more, runs-stop}
 use Rattle.bidi_rules.proofs.implicit.weak.write_over_runs_counted.Goals as goal
 
