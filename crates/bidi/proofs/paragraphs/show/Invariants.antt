@@ -1,5 +1,6 @@
 use Rattle.bidi_base.proofs.Common.{◌≡◌, ◌++◌, length, flat_map, string_bytes}
-use Rattle.bidi_controls.specs.Lines.{lines_of, own_chars}
+use Rattle.bidi_controls.specs.Lines.{lines_of}
+use Rattle.bidi_controls.specs.Lines.{own_chars}
 use Rattle.bidi.specs.Shown.{shown_paragraph, shown_text}
 use Rattle.bidi.proofs.paragraphs.show.Given as goal
 
