@@ -1,5 +1,5 @@
 -- The base direction of a text in one walk, which counts the isolates that are open.
-use Rattle.bidi_base.proofs.Common.{◌≡◌, ◌↔◌, ℕ, zero, suc, ◌+◌, ◌-◌, ◌≤◌, Bool, true, false, ◌&&◌, cond, if◌then◌else◌, List, [], ◌∷◌, drop, map, find, Option, Some, None, is_some, refl, ap, ◌⊎◌, inl, inr, arith, onto_first, option_or, cases_Bool, BidiClass, Direction, Rtl, Mixed, is_strong, is_initiator, is_pdi, is_paragraph_separator, direction_by, base_direction, deciding_class, paragraph_level, paragraphs_of, each_separator, first_or, Source}
+use Rattle.bidi_base.proofs.Common.{◌≡◌, ◌↔◌, ℕ, ◌+◌, ◌-◌, ◌≤◌, Bool, true, false, ◌&&◌, cond, if◌then◌else◌, List, [], ◌∷◌, drop, map, find, Option, Some, None, is_some, refl, ap, ◌⊎◌, inl, inr, arith, onto_first, option_or, cases_Bool, BidiClass, Direction, Rtl, Mixed, is_strong, is_initiator, is_pdi, is_paragraph_separator, direction_by, base_direction, deciding_class, paragraph_level, paragraphs_of, each_separator, first_or, Source}
 use Rattle.std.specs.Prelude.{option_and_then}
 use Rattle.bidi_base.specs.declared.char_data.BidiClass.TheVariants.{B}
 use Rattle.bidi_base.specs.Direction.{full_base_direction}

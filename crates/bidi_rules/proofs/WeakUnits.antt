@@ -1,5 +1,5 @@
 -- The walk over units gives what W2 to W7 give the characters, repeated.
-use Rattle.bidi_base.proofs.Common.{◌≡◌, ℕ, zero, suc, ◌+◌, ◌-◌, ◌<◌, ◌≤◌, Bool, true, false, if◌then◌else◌, List, [], ◌∷◌, ◌++◌, length, map, get_or, replicate, refl, sym, ap, ◌∙◌, arith, inl, inr, append-nil, append_assoc, length-append, All, range_with_len, cases_Bool, replicate-append-replicate, sum_by-append, sum_by-cons, All-head, All-tail, is_l, at_places, class_at, place, per_unit, text_len}
+use Rattle.bidi_base.proofs.Common.{◌≡◌, ℕ, zero, suc, ◌+◌, ◌-◌, ◌<◌, ◌≤◌, Bool, true, false, List, [], ◌∷◌, ◌++◌, length, map, get_or, replicate, refl, sym, ap, ◌∙◌, arith, inl, inr, append-nil, append_assoc, length-append, All, range_with_len, cases_Bool, replicate-append-replicate, sum_by-append, sum_by-cons, All-head, All-tail, is_l, at_places, class_at, place, per_unit, text_len}
 use Rattle.bidi_base.specs.declared.char_data.BidiClass.{BidiClass}
 use Rattle.bidi_base.specs.declared.char_data.BidiClass.TheVariants.{L, ET, ON}
 use Rattle.bidi_base.proofs.RepeatedPlaces.{AreIndexes, units_of_chars}

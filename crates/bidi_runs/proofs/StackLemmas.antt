@@ -1,8 +1,7 @@
 -- What the operations of the machine do to a stack of entries.
-use Rattle.bidi_base.proofs.Common.{◌≡◌, ℕ, ◌+◌, ◌-◌, ◌<◌, ◌≤◌, true, false, cond, List, [], ◌∷◌, ◌++◌, length, map, reverse, ◌∙◌, arith, Option, common_steps, option_to_list, cond-true, cond-false, reverse-append, length-reverse, length-map, is_initiator, is_opener, is_pdi, is_pdf, Entry, State, entry_of, taken, refused, entered, fits_in, drop_isolate, close_isolate, close_embedding, closed, opened, IsPoppable, IsWithinDepth}
+use Rattle.bidi_base.proofs.Common.{◌≡◌, ℕ, ◌+◌, ◌-◌, ◌<◌, ◌≤◌, true, false, cond, List, [], ◌∷◌, ◌++◌, length, map, reverse, ◌∙◌, arith, Option, common_steps, option_to_list, cond-true, cond-false, reverse-append, length-reverse, length-map, is_initiator, is_opener, is_pdi, is_pdf, State, entry_of, taken, refused, entered, fits_in, drop_isolate, close_isolate, close_embedding, closed, opened, IsPoppable, IsWithinDepth}
 use Rattle.std.specs.Prelude.{IsSome}
 use Rattle.bidi_base.specs.declared.char_data.BidiClass.{BidiClass}
-use Rattle.bidi_base.specs.StatusMachine.{with_stack}
 use Rattle.bidi_base.proofs.StatusBounds.{IsTaken-room}
 use Rattle.bidi_runs.specs.declared.explicit.status.StatusEntry.{StatusEntry}
 use Rattle.bidi_runs.specs.Status.{entry_count, seen, state_by}
