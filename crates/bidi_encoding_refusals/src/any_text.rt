@@ -1,10 +1,11 @@
 //! The calls over any text, and those over levels of one's own.
 
-use crate::texts::{CHARACTERS, LONG_TEXT, UNITS};
-use crate::trial::{Fault, tried};
 use bidi_base::data_source::TableBidiData;
 use bidi_base::level::Level;
 use bidi_base::text::{CharsText, StrText, TextSource, Utf16Text, is_line, is_per_char};
+use bidi_trials::texts::{CHARACTERS, LONG_TEXT, UNITS};
+use bidi_trials::trial::Fault;
+use bidi_trials::tried;
 use unicode_bidi::deprecated::visual_runs;
 use unicode_bidi::engine::{analyse, line_levels};
 

@@ -5,10 +5,11 @@ ghost use Rattle.bidi_base.specs.Analysed.{IsLineOf};
 ghost use Rattle.unicode_bidi.specs.BidiInfo.{analysed as analysed_of};
 ghost use Rattle.unicode_bidi.specs.ParagraphBidiInfo.{analysed as whole_of};
 
-use crate::texts::UNITS;
-use crate::trial::{Fault, tried};
 use bidi_base::data_source::TableBidiData;
 use bidi_base::text::{Utf16Text, is_line};
+use bidi_trials::texts::UNITS;
+use bidi_trials::trial::Fault;
+use bidi_trials::tried;
 use std::ops::Range;
 use unicode_bidi::utf16::{BidiInfo, InitialInfo, ParagraphBidiInfo};
 use unicode_bidi::{ParagraphInfo, SplitRule};

@@ -1,7 +1,5 @@
 //! The rules over lists of characters.
 
-use crate::texts::{CHARACTERS, LENGTH};
-use crate::trial::{Fault, tried};
 use bidi_base::char_data::BidiClass::{self, L};
 use bidi_base::data_source::{BidiDataSource, BidiMatchedOpeningBracket, TableBidiData};
 use bidi_base::level::{LTR_LEVEL, Level};
@@ -9,6 +7,9 @@ use bidi_plain::plain::{
     Explicit, PlainSequence, explicit_levels, implicit, neutral, pairs, sequences, weak,
 };
 use bidi_rule_rows::conditions::{are_directed, are_kept, are_left, is_side};
+use bidi_trials::texts::{CHARACTERS, LENGTH};
+use bidi_trials::trial::Fault;
+use bidi_trials::tried;
 
 // The classes of characters, their classes under overrides, and their brackets.
 #[derive(Clone, Copy)]

@@ -3,7 +3,7 @@ use Rattle.bidi_base.proofs.Common.{◌≡◌, ℕ, ◌<◌, ◌≤◌, Bool, tr
 use Rattle.bidi_base.specs.declared.char_data.BidiClass.{BidiClass}
 use Rattle.bidi_base.specs.declared.char_data.BidiClass.TheVariants.{L, BN}
 use Rattle.bidi_base.proofs.ContextLemmas.{list_all-get_or}
-use Rattle.bidi_refusals.proofs.passes.resolve.Goals as goal
+use Rattle.bidi_pass_refusals.proofs.passes.resolve.Goals as goal
 
 abbrev taken : BidiClass → Bool
 taken c = is_weak_resolved c || not (is_kept_in_place c)

@@ -1,0 +1,25 @@
+//! Makes each call over UTF-16, over any text and of lines kept by the caller that takes memory three times, and
+//! sees that a refusal changes no other answer.
+#![tactic(auto)]
+
+mod any_text;
+mod kept;
+mod utf16;
+
+use bidi_trials::program::{end, request_before, request_behind, sample};
+use bidi_trials::trial::Fault;
+use std::process::ExitCode;
+use std::rt::Env;
+
+fn run(rt: &(impl Env + Print + AllocGlobal)) -> Result<(), Fault> {
+    request_before(rt)?;
+    let source = sample()?;
+    utf16::run(rt, &source)?;
+    any_text::run(rt, &source)?;
+    kept::run(rt, &source)?;
+    request_behind(rt)
+}
+
+fn main(rt: HostRuntime) -> ExitCode {
+    end(&rt, "bidi_encoding_refusals", run(&rt))
+}

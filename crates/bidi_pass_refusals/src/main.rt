@@ -1,0 +1,23 @@
+//! Makes each call of the rules over lists and of the passes in place that takes memory three times, and
+//! sees that a refusal changes no other answer.
+#![tactic(auto)]
+
+mod lists;
+mod passes;
+
+use bidi_trials::program::{end, request_before, request_behind, sample};
+use bidi_trials::trial::Fault;
+use std::process::ExitCode;
+use std::rt::Env;
+
+fn run(rt: &(impl Env + Print + AllocGlobal)) -> Result<(), Fault> {
+    request_before(rt)?;
+    let source = sample()?;
+    lists::run(rt, &source)?;
+    passes::run(rt, &source)?;
+    request_behind(rt)
+}
+
+fn main(rt: HostRuntime) -> ExitCode {
+    end(&rt, "bidi_pass_refusals", run(&rt))
+}

@@ -1,0 +1,35 @@
+//! What the programs share that make calls while memory is refused: a call that is made three times, the
+//! requests before and behind all calls, and texts for them.
+#![tactic(auto)]
+
+pub mod program;
+pub mod texts;
+pub mod trial;
+
+/// Makes a call three times, prints its name and how many of the three were refused, and hands back
+/// the answer. All answers must be equal, or alike by a test of one's own, and one call at most be
+/// refused.
+#[macro_export]
+macro_rules! tried {
+    ($rt:expr, $name:expr, $call:expr) => {
+        $crate::tried!($rt, $name, $call, before, answer => *before == answer)
+    };
+    ($rt:expr, $name:expr, $call:expr, $before:ident, $answer:ident => $are_alike:expr) => {{
+        let mut first = None;
+        let mut outcomes = $crate::trial::Outcomes::new();
+        for _ in 0..$crate::trial::CALLS {
+            match $call {
+                Ok($answer) => match &first {
+                    Some($before) => outcomes.compare($are_alike),
+                    None => first = Some($answer),
+                },
+                Err(reason) => outcomes.miss($crate::trial::NoAnswer::from(reason)),
+            }
+        }
+        outcomes.tell($rt, $name)?;
+        match first {
+            Some(answer) => answer,
+            None => return Err($crate::trial::Fault::Answers($name)),
+        }
+    }};
+}
