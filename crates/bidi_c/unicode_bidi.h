@@ -38,6 +38,21 @@
 extern "C" {
 #endif
 
+/* The version of the library, and that of the Unicode data that it answers by. */
+#define UNICODE_BIDI_VERSION_MAJOR 0
+#define UNICODE_BIDI_VERSION_MINOR 1
+#define UNICODE_BIDI_VERSION_PATCH 0
+#define UNICODE_BIDI_UNICODE_VERSION_MAJOR 18
+#define UNICODE_BIDI_UNICODE_VERSION_MINOR 0
+#define UNICODE_BIDI_UNICODE_VERSION_PATCH 0
+
+/* The same as one number each, as the calls of versions answer them: 10000 * major + 100 * minor + patch. */
+#define UNICODE_BIDI_VERSION \
+  (10000 * UNICODE_BIDI_VERSION_MAJOR + 100 * UNICODE_BIDI_VERSION_MINOR + UNICODE_BIDI_VERSION_PATCH)
+#define UNICODE_BIDI_UNICODE_VERSION \
+  (10000 * UNICODE_BIDI_UNICODE_VERSION_MAJOR + 100 * UNICODE_BIDI_UNICODE_VERSION_MINOR \
+   + UNICODE_BIDI_UNICODE_VERSION_PATCH)
+
 /* Faults. */
 #define UNICODE_BIDI_NO_MEMORY        (-1)  /* malloc answered no memory */
 #define UNICODE_BIDI_NOT_UTF8         (-2)  /* the text, or the line of it that is asked for, is not UTF-8 */
@@ -99,6 +114,18 @@ typedef struct {
 typedef struct {
   uint32_t opening, closing, normal_form;
 } unicode_bidi_bracket_pair;
+
+/* -------- Versions --------
+ *
+ * Those of the library that is linked, which the macros above need not be: a shared library may be another
+ * one. The calls take no memory and have no fault.
+ * Proved   the numbers (version_number of VERSION and of UNICODE_VERSION). */
+
+/* The version of the library, as UNICODE_BIDI_VERSION has it: 100 is 0.1.0. */
+int64_t unicode_bidi_version(void);
+
+/* The version of Unicode's data, as UNICODE_BIDI_UNICODE_VERSION has it: 180000 is 18.0.0. */
+int64_t unicode_bidi_unicode_version(void);
 
 /* -------- The whole text, by Unicode's own data --------
  *

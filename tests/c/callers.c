@@ -1,6 +1,7 @@
 /* The library as a caller in C has it: the worked rows in three encodings, each fault, want of memory at each
  * request, and random calls.
- *   callers CALLS SEED
+ *   callers FOLDER CALLS SEED
+ * FOLDER is that of the rows.
  * Each buffer ends where a page without leave to read or write begins, and the units before it are
  * watched, so that a call that leaves its buffers is seen. */
 #define _DEFAULT_SOURCE
@@ -15,7 +16,10 @@
 #include "rows.h"
 
 #define COUNT(a) (sizeof(a) / sizeof *(a))
-#define FAIL(...) (fprintf(stderr, "failed: "), fprintf(stderr, __VA_ARGS__), fputc('\n', stderr), exit(1))
+#define AUTO UNICODE_BIDI_AUTO
+#define WHOLE UNICODE_BIDI_ONE_PARAGRAPH
+#define SPLIT UNICODE_BIDI_EACH_SEPARATOR
+#define TOGETHER UNICODE_BIDI_CR_LF_TOGETHER
 
 /* ---- the library's heap, as the kit's liblibc_c.a has it, with one request to be refused ---- */
 
@@ -48,7 +52,7 @@ void rattle_dealloc(void *p) { free(p); }
 
 /* ---- buffers at a page's end ---- */
 
-enum { PAGE = 4096, ROOM = 4 * PAGE, WATCHED = 64 };
+enum { PAGE = 4096, ROOM = 64 * PAGE, WATCHED = 64 };
 
 typedef struct {
     unsigned char *end;
@@ -79,6 +83,62 @@ static void watch(arena a, size_t bytes, const char *what) {
         if (a.end[-(ptrdiff_t)(bytes + i)] != 0xA5) FAIL("%s: written before a buffer", what);
 }
 
+/* ---- the tables of classes and brackets that rows name ---- */
+
+static const char *const CLASSES[] = {"L", "R", "AL", "EN", "ES", "ET", "AN", "CS", "NSM", "BN", "B", "S",
+                                      "WS", "ON", "LRE", "LRO", "RLE", "RLO", "PDF", "LRI", "RLI", "FSI", "PDI"};
+
+typedef struct {
+    char name[80];
+    size_t ranges, brackets;
+    unicode_bidi_class_range range[FIELDS];
+    unicode_bidi_bracket_pair bracket[FIELDS];
+} source;
+
+static source sources[32];
+static size_t source_count;
+static const source *now; /* the source that calls by tables use */
+
+static const source *source_of(const row *r) {
+    const char *name = get(r, "source");
+    for (size_t i = 0; i < source_count; i++)
+        if (!strcmp(sources[i].name, name ? name : "sample")) return &sources[i];
+    BAD_ROW(r, "no source of this name stands before it");
+}
+
+static uint8_t class_of(const row *r, const char *word) {
+    for (uint8_t i = 0; i < COUNT(CLASSES); i++)
+        if (!strcmp(CLASSES[i], word)) return i;
+    BAD_ROW(r, "%s is no class", word);
+}
+
+static uint32_t code_of(const row *r, const char *word) {
+    if (word[0] && !word[1]) return (unsigned char)word[0];
+    if (strncmp(word, "U+", 2)) BAD_ROW(r, "%s is no character", word);
+    return strtoul(word + 2, NULL, 16);
+}
+
+static void read_source(const row *r) {
+    if (strcmp(r->kind, "source") || strcmp(get(r, "fault") ? get(r, "fault") : "none", "none")) return;
+    if (source_count == COUNT(sources)) BAD_ROW(r, "too many sources");
+    source *s = &sources[source_count++];
+    snprintf(s->name, sizeof s->name, "%s", r->name);
+    for (size_t i = 0; i < r->count; i++) {
+        static list l;
+        expand(r, r->fields[i].value, &l);
+        unsigned first, last;
+        if (!strcmp(r->fields[i].key, "range")) {
+            if (l.count != 2 || sscanf(l.items[0], "U+%x..U+%x", &first, &last) != 2) BAD_ROW(r, "a range");
+            s->range[s->ranges++] = (unicode_bidi_class_range){first, last, class_of(r, l.items[1])};
+        } else if (!strcmp(r->fields[i].key, "bracket")) {
+            if (l.count < 2) BAD_ROW(r, "a pair of brackets");
+            uint32_t opening = code_of(r, l.items[0]);
+            s->bracket[s->brackets++] =
+                (unicode_bidi_bracket_pair){opening, code_of(r, l.items[1]), l.count > 2 ? code_of(r, l.items[2]) : opening};
+        }
+    }
+}
+
 /* ---- the three encodings as one ---- */
 
 enum { UTF8, UTF16, UTF32 };
@@ -93,20 +153,24 @@ static const size_t SIZES[] = {1, 2, 4};
 static int64_t analyse(int e, bool tables, const void *text, size_t n, uint8_t base, uint8_t split,
                        uint8_t *classes, size_t nc, uint8_t *levels, size_t nl, unicode_bidi_paragraph *p, size_t np) {
     if (!tables) return BY_ENCODING(e, analyse, text, n, base, split, classes, nc, levels, nl, p, np);
-    size_t nr = COUNT(RANGES), nb = COUNT(BRACKETS);
+    const unicode_bidi_class_range *ranges = now->range;
+    const unicode_bidi_bracket_pair *brackets = now->bracket;
+    size_t nr = now->ranges, nb = now->brackets;
     if (e == UTF8)
-        return unicode_bidi_analyse_by_tables_utf8(RANGES, nr, BRACKETS, nb, text, n, base, split, classes, nc, levels, nl, p, np);
+        return unicode_bidi_analyse_by_tables_utf8(ranges, nr, brackets, nb, text, n, base, split, classes, nc, levels, nl, p, np);
     if (e == UTF16)
-        return unicode_bidi_analyse_by_tables_utf16(RANGES, nr, BRACKETS, nb, text, n, base, split, classes, nc, levels, nl, p, np);
-    return unicode_bidi_analyse_by_tables_utf32(RANGES, nr, BRACKETS, nb, text, n, base, split, classes, nc, levels, nl, p, np);
+        return unicode_bidi_analyse_by_tables_utf16(ranges, nr, brackets, nb, text, n, base, split, classes, nc, levels, nl, p, np);
+    return unicode_bidi_analyse_by_tables_utf32(ranges, nr, brackets, nb, text, n, base, split, classes, nc, levels, nl, p, np);
 }
 
 static int64_t direction(int e, bool tables, const void *text, size_t n, uint8_t full) {
     if (!tables) return BY_ENCODING(e, base_direction, text, n, full);
-    size_t nr = COUNT(RANGES), nb = COUNT(BRACKETS);
-    if (e == UTF8) return unicode_bidi_base_direction_by_tables_utf8(RANGES, nr, BRACKETS, nb, text, n, full);
-    if (e == UTF16) return unicode_bidi_base_direction_by_tables_utf16(RANGES, nr, BRACKETS, nb, text, n, full);
-    return unicode_bidi_base_direction_by_tables_utf32(RANGES, nr, BRACKETS, nb, text, n, full);
+    const unicode_bidi_class_range *ranges = now->range;
+    const unicode_bidi_bracket_pair *brackets = now->bracket;
+    size_t nr = now->ranges, nb = now->brackets;
+    if (e == UTF8) return unicode_bidi_base_direction_by_tables_utf8(ranges, nr, brackets, nb, text, n, full);
+    if (e == UTF16) return unicode_bidi_base_direction_by_tables_utf16(ranges, nr, brackets, nb, text, n, full);
+    return unicode_bidi_base_direction_by_tables_utf32(ranges, nr, brackets, nb, text, n, full);
 }
 
 static int64_t line_map(int e, const void *text, size_t n, const uint8_t *c, size_t nc, const uint8_t *l, size_t nl,
@@ -123,10 +187,11 @@ static int64_t reorder_line(int e, const void *text, size_t n, const uint8_t *c,
 
 /* ---- texts: characters, and in each encoding their units and places ---- */
 
-enum { MOST = 256 };
+enum { MOST = 512 };
 
 typedef struct {
     size_t len;
+    bool is_utf16_alone;          /* a surrogate stands in no pair */
     uint32_t chars[MOST];
     size_t units[3];              /* the length in units */
     size_t at[3][MOST + 1];       /* the place of each character */
@@ -164,150 +229,220 @@ static void read_utf8(text *t, const char *from) {
     }
 }
 
-/* The index of the character at a place of UTF-8. */
-static size_t index_at(const text *t, size_t place) {
-    for (size_t k = 0; k <= t->len; k++)
-        if (t->at[UTF8][k] == place) return k;
-    FAIL("no character begins at %zu", place);
-}
-
-static const char *const CLASSES[] = {"L", "R", "AL", "EN", "ES", "ET", "AN", "CS", "NSM", "BN", "B", "S",
-                                      "WS", "ON", "LRE", "LRO", "RLE", "RLO", "PDF", "LRI", "RLI", "FSI", "PDI"};
-
 static arena texts, classes_at, levels_at, rows_at, out_at, order_at;
 
-/* Whether a list of words is one entry a character, on each of its units. */
-static void see(const char *name, int e, const text *t, const char *wanted, const uint8_t *found, const char *const *words) {
-    const char *s = wanted;
-    for (size_t k = 0; k < t->len; k++) {
-        char word[8];
-        int n = 0;
-        if (sscanf(s, "%7s%n", word, &n) != 1) FAIL("%s: a short row", name);
-        s += n;
+/* Whether a list is one entry a character, on each of its units. A dash fits any entry. */
+static void see_list(const char *name, int e, const text *t, const list *wanted, const uint8_t *found, const char *const *names) {
+    if (wanted->count != t->len) FAIL("%s: %zu entries for %zu characters", name, wanted->count, t->len);
+    for (size_t k = 0; k < t->len; k++)
         for (size_t u = t->at[e][k]; u < t->at[e][k + 1]; u++) {
             char number[8];
             snprintf(number, sizeof number, "%d", found[u]);
-            if (words && found[u] > 22) FAIL("%s in %s: class %d", name, NAMES[e], found[u]);
-            if (strcmp(word, words ? words[found[u]] : number))
-                FAIL("%s in %s: character %zu has %s and not %s", name, NAMES[e], k, words ? words[found[u]] : number, word);
+            if (names && found[u] > 22) FAIL("%s in %s: class %d", name, NAMES[e], found[u]);
+            const char *word = names ? names[found[u]] : number;
+            if (strcmp(wanted->items[k], "-") && strcmp(wanted->items[k], word))
+                FAIL("%s in %s: character %zu has %s and not %s", name, NAMES[e], k, word, wanted->items[k]);
         }
+}
+
+static void see(const char *name, int e, const text *t, const char *wanted, const uint8_t *found, const char *const *names) {
+    static const row of_code = {.file = "callers.c", .name = "a list of words"};
+    static list l;
+    expand(&of_code, wanted, &l);
+    see_list(name, e, t, &l, found, names);
+}
+
+/* The same of a row's field, where it has it. */
+static void see_field(const row *r, const char *key, int e, const text *t, const uint8_t *found, const char *const *names) {
+    static list l;
+    if (words(r, key, &l)) see_list(r->name, e, t, &l, found, names);
+}
+
+/* The text of a row. Whether there is room for it. */
+static bool read_text(const row *r, const char *key, text *t) {
+    static list l;
+    bool by_class = !get(r, key) && get(r, "types");
+    memset(t, 0, sizeof *t);
+    if (!words(r, by_class ? "types" : key, &l) || l.count > MOST) return false;
+    static const uint32_t of_class[] = {'a', 0x5D0, 0x627, '1', '+', '$', 0x660, ',', 0x301, 0xAD, 0x2029, '\t',
+                                        ' ', '!', 0x202A, 0x202D, 0x202B, 0x202E, 0x202C, 0x2066, 0x2067, 0x2068, 0x2069};
+    for (size_t i = 0; i < l.count; i++) {
+        uint32_t c = by_class ? of_class[class_of(r, l.items[i])] : code_of(r, l.items[i]);
+        if (c - 0xD800 < 0x800) t->is_utf16_alone = true;
+        push(t, c);
+    }
+    return true;
+}
+
+static uint8_t base_of(const row *r) {
+    const char *base = get(r, "base");
+    return !base || !strcmp(base, "auto") ? AUTO : (uint8_t)atoi(base);
+}
+
+/* Where a character of a row begins in an encoding. */
+static size_t place_of(const row *r, const text *t, int e, size_t k) {
+    if (k > t->len) BAD_ROW(r, "no character %zu", k);
+    return t->at[e][k];
+}
+
+static long texts_seen, lines_seen, orders_seen, left_out;
+
+static void try_text(const row *r) {
+    if (strcmp(r->kind, "text")) return;
+    static text t;
+    if (!read_text(r, "text", &t)) { left_out++; return; }
+    now = source_of(r);
+    texts_seen++;
+    const char *s = get(r, "split");
+    uint8_t split = !s || !strcmp(s, "each-separator") ? SPLIT : !strcmp(s, "whole") ? WHOLE : TOGETHER;
+    for (int e = UTF8; e <= UTF32; e++) {
+        size_t n = t.units[e], room = n + 1;
+        const void *in = copied(texts, t.in[e], n * SIZES[e]);
+        uint8_t *c = buffer(classes_at, n, 99), *l = buffer(levels_at, n, 99);
+        unicode_bidi_paragraph *p = buffer(rows_at, room * sizeof *p, 0);
+        int64_t count = analyse(e, true, in, n, base_of(r), split, c, n, l, n, p, room), k = 0;
+        see_field(r, "classes", e, &t, c, CLASSES);
+        see_field(r, "levels", e, &t, l, NULL);
+        static list ps;
+        if (words(r, "paragraphs", &ps)) {
+            for (; k < (int64_t)ps.count; k++) {
+                size_t from, to;
+                int level;
+                if (sscanf(ps.items[k], "%zu..%zu:%d", &from, &to, &level) != 3) BAD_ROW(r, "a paragraph");
+                if (k >= count || p[k].start != place_of(r, &t, e, from) || p[k].end != place_of(r, &t, e, to) || p[k].level != level)
+                    BAD_ROW(r, "%s: paragraph %s", NAMES[e], ps.items[k]);
+            }
+            if (k != count) BAD_ROW(r, "%s: %lld paragraphs", NAMES[e], (long long)count);
+        }
+        if (analyse(e, true, in, n, base_of(r), split, c, n, l, n, p, 0) != count) BAD_ROW(r, "%s: counted", NAMES[e]);
+        watch(classes_at, n, r->name), watch(levels_at, n, r->name);
     }
 }
 
-static void try_texts(void) {
-    for (size_t i = 0; i < COUNT(TEXTS); i++)
-        for (int e = UTF8; e <= UTF32; e++) {
-            const text_row *row = &TEXTS[i];
-            text t;
-            read_utf8(&t, row->text);
-            size_t n = t.units[e], room = n + 1;
-            const void *in = copied(texts, t.in[e], n * SIZES[e]);
-            uint8_t *c = buffer(classes_at, n, 99), *l = buffer(levels_at, n, 99);
-            unicode_bidi_paragraph *p = buffer(rows_at, room * sizeof *p, 0);
-            int64_t count = analyse(e, true, in, n, row->base, row->split, c, n, l, n, p, room);
-            see(row->name, e, &t, row->classes, c, CLASSES);
-            see(row->name, e, &t, row->levels, l, NULL);
-            const char *s = row->paragraphs;
-            int64_t wanted = 0;
-            size_t from, to;
-            int level, used;
-            while (sscanf(s, "%zu-%zu:%d%n", &from, &to, &level, &used) == 3) {
-                s += used;
-                const unicode_bidi_paragraph *q = &p[wanted++];
-                if (wanted > count || q->start != t.at[e][index_at(&t, from)] || q->end != t.at[e][index_at(&t, to)] || q->level != level)
-                    FAIL("%s in %s: paragraph %zu-%zu", row->name, NAMES[e], from, to);
-            }
-            if (row->split == WHOLE ? count != 1 : count != wanted) FAIL("%s in %s: %lld paragraphs", row->name, NAMES[e], (long long)count);
-            if (analyse(e, true, in, n, row->base, row->split, c, n, l, n, p, 0) != count) FAIL("%s: counted", row->name);
-            watch(classes_at, n, row->name), watch(levels_at, n, row->name);
-        }
-}
-
-static void try_lines(void) {
-    for (size_t i = 0; i < COUNT(LINES); i++)
-        for (int e = UTF8; e <= UTF32; e++) {
-            const line_row *row = &LINES[i];
-            text t, shown;
-            read_utf8(&t, row->text), read_utf8(&shown, row->shown);
-            size_t n = t.units[e], a = index_at(&t, row->start), b = index_at(&t, row->end);
-            size_t start = t.at[e][a], end = t.at[e][b], len = end - start;
-            uint8_t c[4 * MOST], l[4 * MOST], all[4 * MOST];
-            unicode_bidi_paragraph p[MOST];
-            if (analyse(e, true, t.in[e], n, row->base, SPLIT, c, n, l, n, p, MOST) < 1) FAIL("%s: no paragraph", row->name);
-            memcpy(all, l, n);
-            uint8_t *after = buffer(levels_at, len, 99);
-            if (unicode_bidi_line_levels(c, n, l, n, p, start, end, after, len) != (int64_t)len) FAIL("%s: its levels", row->name);
-            memcpy(all + start, after, len);
-            see(row->name, e, &t, row->levels, all, NULL);
-            unicode_bidi_run *r = buffer(rows_at, len * sizeof *r, 0);
-            int64_t count = unicode_bidi_line_runs(c, n, l, n, p, start, end, r, len), k = 0;
-            if (unicode_bidi_line_runs(c, n, l, n, p, start, end, r, 0) != count) FAIL("%s: its runs counted", row->name);
-            const char *s = row->runs;
-            size_t from, to;
-            int used;
-            for (; sscanf(s, "%zu-%zu%n", &from, &to, &used) == 2; s += used, k++)
-                if (k >= count || r[k].start != t.at[e][index_at(&t, from)] || r[k].end != t.at[e][index_at(&t, to)]
-                    || r[k].level != all[r[k].start])
-                    FAIL("%s in %s: run %zu-%zu", row->name, NAMES[e], from, to);
-            if (k != count) FAIL("%s in %s: %lld runs", row->name, NAMES[e], (long long)count);
-            void *out = buffer(out_at, len * SIZES[e], 0);
-            int64_t written = reorder_line(e, t.in[e], n, c, n, l, n, p, start, end, out, len);
-            if (written != (int64_t)shown.units[e] || memcmp(out, shown.in[e], written * SIZES[e])) FAIL("%s in %s: its text", row->name, NAMES[e]);
-            size_t *order = buffer(order_at, (b - a) * sizeof *order, 0);
-            if (line_map(e, t.in[e], n, c, n, l, n, p, start, end, order, b - a) != (int64_t)(b - a)) FAIL("%s: its map", row->name);
-            for (size_t v = 0; v < b - a; v++)
-                if (order[v] >= b - a || t.chars[a + order[v]] != shown.chars[v]) FAIL("%s in %s: place %zu", row->name, NAMES[e], v);
-        }
-}
-
-static void try_orders(void) {
-    static const struct { size_t n; uint8_t levels[8]; size_t order[8]; } rows[] = {
-        {8, {0, 0, 0, 1, 1, 1, 2, 2}, {0, 1, 2, 6, 7, 5, 4, 3}},
-        {5, {1, 3, 3, 2, 1}, {4, 2, 1, 3, 0}},
-        {3, {126, 125, 126}, {2, 1, 0}},
-        {0, {0}, {0}},
-    };
-    for (size_t i = 0; i < COUNT(rows); i++) {
-        size_t order[8];
-        if (unicode_bidi_reorder_visual(rows[i].levels, rows[i].n, order, rows[i].n) != (int64_t)rows[i].n
-            || memcmp(order, rows[i].order, rows[i].n * sizeof *order))
-            FAIL("order %zu", i);
+/* Runs of a line, against those of a row. */
+static void see_runs(const row *r, int e, const text *t, const unicode_bidi_run *runs, int64_t count, const uint8_t *levels) {
+    static list l;
+    if (!words(r, "runs", &l)) return;
+    if ((int64_t)l.count != count) BAD_ROW(r, "%s: %lld runs", NAMES[e], (long long)count);
+    for (size_t k = 0; k < l.count; k++) {
+        size_t from, to;
+        if (sscanf(l.items[k], "%zu..%zu", &from, &to) != 2) BAD_ROW(r, "a run");
+        if (runs[k].start != place_of(r, t, e, from) || runs[k].end != place_of(r, t, e, to) || runs[k].level != levels[runs[k].start])
+            BAD_ROW(r, "%s: run %s", NAMES[e], l.items[k]);
     }
 }
 
-static void try_surrogates(void) {
-    const uint16_t units[] = {0x61, 0xD800, 0x62};
-    uint8_t c[3], l[3];
-    uint16_t out[3];
-    unicode_bidi_paragraph p;
-    if (unicode_bidi_analyse_by_tables_utf16(RANGES, COUNT(RANGES), BRACKETS, COUNT(BRACKETS), units, 2, 1, WHOLE, c, 2, l, 2, &p, 1) != 1
-        || l[0] != 2 || l[1] != 1 || unicode_bidi_reorder_line_utf16(units, 2, c, 2, l, 2, &p, 0, 2, out, 2) != 2
-        || out[0] != 0xFFFD || out[1] != 0x61)
-        FAIL("a surrogate in no pair at an odd level");
-    if (unicode_bidi_analyse_by_tables_utf16(RANGES, COUNT(RANGES), BRACKETS, COUNT(BRACKETS), units, 3, 1, WHOLE, c, 3, l, 3, &p, 1) != 1
-        || l[0] != 2 || l[1] != 2 || l[2] != 2 || unicode_bidi_reorder_line_utf16(units, 3, c, 3, l, 3, &p, 0, 3, out, 3) != 3
-        || memcmp(out, units, sizeof units))
-        FAIL("a surrogate in no pair at an even level");
+static void try_line(const row *r) {
+    if (strcmp(r->kind, "line")) return;
+    static text t, shown;
+    if (!read_text(r, "text", &t)) { left_out++; return; }
+    now = source_of(r);
+    lines_seen++;
+    size_t a = 0, b = t.len;
+    if (get(r, "line") && sscanf(get(r, "line"), "%zu..%zu", &a, &b) != 2) BAD_ROW(r, "a line");
+    for (int e = UTF8; e <= UTF32; e++) {
+        if (t.is_utf16_alone && e != UTF16) continue;
+        size_t n = t.units[e], start = place_of(r, &t, e, a), end = place_of(r, &t, e, b), len = end - start;
+        static uint8_t c[4 * MOST], l[4 * MOST], all[4 * MOST];
+        static unicode_bidi_paragraph p[MOST];
+        if (analyse(e, true, t.in[e], n, base_of(r), SPLIT, c, n, l, n, p, MOST) < 1) BAD_ROW(r, "no paragraph");
+        if (get(r, "paragraph")) p->level = atoi(get(r, "paragraph"));
+        see_field(r, "levels", e, &t, l, NULL);
+        memcpy(all, l, n);
+        uint8_t *after = buffer(levels_at, len, 99);
+        if (unicode_bidi_line_levels(c, n, l, n, p, start, end, after, len) != (int64_t)len) BAD_ROW(r, "its levels");
+        memcpy(all + start, after, len);
+        see_field(r, "after", e, &t, all, NULL);
+        unicode_bidi_run *runs = buffer(rows_at, len * sizeof *runs, 0);
+        int64_t count = unicode_bidi_line_runs(c, n, l, n, p, start, end, runs, len);
+        if (unicode_bidi_line_runs(c, n, l, n, p, start, end, runs, 0) != count) BAD_ROW(r, "its runs counted");
+        see_runs(r, e, &t, runs, count, all);
+        if (!read_text(r, "shown", &shown)) continue;
+        void *out = buffer(out_at, len * SIZES[e], 0);
+        int64_t written = reorder_line(e, t.in[e], n, c, n, l, n, p, start, end, out, len);
+        if (written != (int64_t)shown.units[e] || memcmp(out, shown.in[e], written * SIZES[e])) BAD_ROW(r, "%s: its text", NAMES[e]);
+        size_t *order = buffer(order_at, (b - a) * sizeof *order, 0);
+        if (line_map(e, t.in[e], n, c, n, l, n, p, start, end, order, b - a) != (int64_t)(b - a)) BAD_ROW(r, "its map");
+        for (size_t v = 0; v < b - a && !t.is_utf16_alone; v++)
+            if (order[v] >= b - a || t.chars[a + order[v]] != shown.chars[v]) BAD_ROW(r, "%s: place %zu", NAMES[e], v);
+    }
 }
 
-static void try_directions(void) {
-    static const struct { const char *text; int first, full; } rows[] = {
-        {u8"abc\u05D0", UNICODE_BIDI_LTR, UNICODE_BIDI_LTR}, {u8"\u05D0bc", UNICODE_BIDI_RTL, UNICODE_BIDI_RTL},
-        {u8"", UNICODE_BIDI_MIXED, UNICODE_BIDI_MIXED}, {u8"12\n\u0627", UNICODE_BIDI_MIXED, UNICODE_BIDI_RTL},
-        {u8"\u2067\u05D0\u2069a", UNICODE_BIDI_LTR, UNICODE_BIDI_LTR},
-    };
-    for (size_t i = 0; i < COUNT(rows); i++)
-        for (int e = UTF8; e <= UTF32; e++)
-            for (int tables = 0; tables < 2; tables++) {
-                text t;
-                read_utf8(&t, rows[i].text);
-                if (direction(e, tables, t.in[e], t.units[e], 0) != rows[i].first || direction(e, tables, t.in[e], t.units[e], 1) != rows[i].full)
-                    FAIL("direction %zu in %s", i, NAMES[e]);
-            }
+static void try_order(const row *r) {
+    if (strcmp(r->kind, "order")) return;
+    static list levels, wanted;
+    if (!words(r, "levels", &levels) || !words(r, "order", &wanted) || wanted.count != levels.count) BAD_ROW(r, "an order");
+    orders_seen++;
+    uint8_t l[ITEMS];
+    size_t order[ITEMS];
+    for (size_t i = 0; i < levels.count; i++) l[i] = atoi(levels.items[i]);
+    if (unicode_bidi_reorder_visual(l, levels.count, order, levels.count) != (int64_t)levels.count) BAD_ROW(r, "its length");
+    for (size_t i = 0; i < levels.count; i++)
+        if (order[i] != strtoul(wanted.items[i], NULL, 10)) BAD_ROW(r, "place %zu", i);
+}
+
+static int direction_of(const row *r, const char *key) {
+    const char *word = get(r, key);
+    if (word && !strcmp(word, "ltr")) return UNICODE_BIDI_LTR;
+    if (word && !strcmp(word, "rtl")) return UNICODE_BIDI_RTL;
+    if (word && !strcmp(word, "mixed")) return UNICODE_BIDI_MIXED;
+    BAD_ROW(r, "no direction");
+}
+
+/* The characters of these rows have the same classes in the sample as in Unicode's data. */
+static void try_direction(const row *r) {
+    if (strcmp(r->kind, "base direction")) return;
+    static text t;
+    if (!read_text(r, "text", &t)) { left_out++; return; }
+    now = source_of(r);
+    for (int e = UTF8; e <= UTF32; e++)
+        for (int tables = 0; tables < 2; tables++)
+            if (direction(e, tables, t.in[e], t.units[e], 0) != direction_of(r, "first") || direction(e, tables, t.in[e], t.units[e], 1) != direction_of(r, "full"))
+                BAD_ROW(r, "%s, %s", NAMES[e], tables ? "by tables" : "by Unicode's data");
+}
+
+/* Each call once, by Unicode's own data, and by a table of one range and no brackets. */
+static void try_each_call(void) {
+    static const uint8_t levels[] = {0, 0, 1, 1, 0};
+    static const size_t order[] = {0, 1, 3, 2, 4};
+    static const unicode_bidi_class_range hebrew[] = {{0x5D0, 0x5EA, UNICODE_BIDI_R}};
+    text t, shown;
+    read_utf8(&t, u8"a \u05D0\u05D1 "), read_utf8(&shown, u8"a \u05D1\u05D0 ");
+    uint8_t c[8], l[8], after[8];
+    unicode_bidi_paragraph p[1];
+    for (int e = UTF8; e <= UTF32; e++) {
+        size_t n = t.units[e], found[5];
+        if (analyse(e, false, t.in[e], n, AUTO, SPLIT, c, n, l, n, p, 1) != 1) FAIL("one paragraph in %s", NAMES[e]);
+        see("Unicode's classes", e, &t, "L WS R R WS", c, CLASSES);
+        see("levels by Unicode's classes", e, &t, "0 0 1 1 0", l, NULL);
+        if (p->start != 0 || p->end != n || p->level != 0) FAIL("the paragraph in %s", NAMES[e]);
+        memset(after, 9, sizeof after);
+        if (unicode_bidi_line_levels(c, n, l, n, p, 0, n, after, n + 1) != (int64_t)n || memcmp(after, l, n) || after[n] != 9)
+            FAIL("levels of a line in %s", NAMES[e]);
+        unicode_bidi_run r[3];
+        if (unicode_bidi_line_runs(c, n, l, n, p, 0, n, r, 3) != 3 || r[1].start != t.at[e][2] || r[1].end != t.at[e][4] || r[1].level != 1)
+            FAIL("runs of a line in %s", NAMES[e]);
+        uint32_t out[8];
+        if (reorder_line(e, t.in[e], n, c, n, l, n, p, 0, n, out, n) != (int64_t)n || memcmp(out, shown.in[e], n * SIZES[e]))
+            FAIL("text of a line in %s", NAMES[e]);
+        if (line_map(e, t.in[e], n, c, n, l, n, p, 0, n, found, 5) != 5 || memcmp(found, order, sizeof order)) FAIL("map of a line in %s", NAMES[e]);
+    }
+    size_t found[5];
+    if (unicode_bidi_reorder_visual(levels, 5, found, 5) != 5 || memcmp(found, order, sizeof order)) FAIL("order of levels");
+    if (unicode_bidi_analyse_by_tables_utf32(hebrew, 1, NULL, 0, (const uint32_t *)t.in[UTF32], 5, AUTO, WHOLE, c, 5, l, 5, p, 0) != 1)
+        FAIL("a table of one range");
+    see("classes by a table of one range", UTF32, &t, "L L R R L", c, CLASSES);
+    see("levels by a table of one range", UTF32, &t, "0 0 1 1 0", l, NULL);
 }
 
 static void expect(const char *what, int64_t found, int64_t wanted) {
     if (found != wanted) FAIL("%s: %lld and not %lld", what, (long long)found, (long long)wanted);
+}
+
+/* The versions that the header names are those of the library. */
+static void try_versions(void) {
+    expect("version", unicode_bidi_version(), UNICODE_BIDI_VERSION);
+    expect("version of Unicode", unicode_bidi_unicode_version(), UNICODE_BIDI_UNICODE_VERSION);
 }
 
 /* Each fault, by a call in which nothing else is wrong. */
@@ -569,21 +704,28 @@ static void compare_at_random(void) {
 }
 
 int main(int argc, char **argv) {
-    long calls = argc > 1 ? atol(argv[1]) : 20000;
-    state = argc > 2 ? strtoull(argv[2], NULL, 10) | 1 : 88172645463325252u;
+    if (argc < 2) FAIL("usage: callers FOLDER [CALLS [SEED]]");
+    const char *folder = argv[1];
+    long calls = argc > 2 ? atol(argv[2]) : 20000;
+    state = argc > 3 ? strtoull(argv[3], NULL, 10) | 1 : 88172645463325252u;
     texts = new_arena(), classes_at = new_arena(), levels_at = new_arena();
     rows_at = new_arena(), out_at = new_arena(), order_at = new_arena();
-    try_texts();
-    try_lines();
-    try_orders();
-    try_surrogates();
-    try_directions();
+    each_row(folder, "sources.rows", read_source);
+    each_row(folder, "texts.rows", try_text);
+    each_row(folder, "limits.rows", try_text);
+    each_row(folder, "lines.rows", try_line);
+    each_row(folder, "orders.rows", try_order);
+    each_row(folder, "directions.rows", try_direction);
+    now = &sources[0];
+    try_each_call();
+    try_versions();
     try_faults();
     try_refusals();
     for (long i = 0; i < calls; i++) {
         if (i % 4) call_at_random();
         else compare_at_random();
     }
-    printf("ok callers: %zu texts, %zu lines, each fault, %ld refusals of memory, and %ld random calls\n", COUNT(TEXTS), COUNT(LINES), refusals, calls);
+    printf("ok callers: %ld rows of texts, %ld of lines, %ld of orders, %ld left out as too long, each fault, %ld refusals of memory, and %ld random calls\n",
+           texts_seen, lines_seen, orders_seen, left_out, refusals, calls);
     return 0;
 }

@@ -2,13 +2,13 @@
 use Rattle.bidi_base.proofs.Common.{◌≡◌, ℕ, suc, ◌+◌, ◌<◌, ◌≤◌, Bool, true, not, List, [], ◌∷◌, ◌++◌, Option, Some, None, length, get_or, map, flat_map, refl, sym, ap, ◌∙◌, arith, append_assoc, append-nil, length-append, zero-add, inl, inr, common_steps, codes, list_all, prefix_len, len_utf8, Range, cases_Bool, length-map, sum_by-append, AnalysedText, IsAnalysis, is_paragraph_separator, visual_runs, run_of, paragraph_level, stored_classes, lines_of, line_levels, line_levels_after, visual_order, paragraphs_of, each_separator, ranges_from, Source, stored_levels, text_classes, text_levels, paragraph_levels, text_len, char_index, subrange, per_unit, per_char, one_unit, flat_map-map}
 use Rattle.bidi_base.specs.declared.char_data.BidiClass.{BidiClass}
 use Rattle.bidi_base.specs.declared.char_data.BidiClass.TheVariants.{L}
-use Rattle.bidi_base.proofs.LayoutLemmas.{lines_of-joined}
-use Rattle.bidi_base.proofs.LevelLaws.{length-stored_levels}
-use Rattle.bidi_base.proofs.ParagraphsLemmas.{joined}
+use Rattle.bidi_laws.proofs.LayoutLemmas.{lines_of-joined}
+use Rattle.bidi_laws.proofs.LevelLaws.{length-stored_levels}
+use Rattle.bidi_laws.proofs.ParagraphsLemmas.{joined}
 use Rattle.bidi_base.proofs.PerUnit.{per_char-per_unit}
 use Rattle.bidi_base.proofs.PlaceLemmas.{text_len-one_unit}
-use Rattle.bidi_base.proofs.StoredSteps.{length-stored_classes}
-use Rattle.bidi_base.proofs.StrLemmas.{has_units}
+use Rattle.bidi_laws.proofs.StoredSteps.{length-stored_classes}
+use Rattle.bidi_text.proofs.StrLemmas.{has_units}
 use Rattle.bidi_base.proofs.TextLemmas.{char_index-append, subrange-middle}
 use Rattle.bidi_terminal.specs.Bases.{level_of_base}
 use Rattle.bidi_terminal.specs.Columns.{columns}
@@ -16,7 +16,7 @@ use Rattle.bidi_controls.specs.Lines.{own_chars}
 use Rattle.bidi.specs.Shown.{shown_line, shown_levels, shown_ranges, shown_range, shown_paragraph, line_ranges_of, shown_in}
 use Rattle.bidi.specs.declared.view.View.{View}
 use Rattle.unicode_bidi.specs.ParagraphInfo.{level_of, range_of, ranges_of, levels_of}
-use Rattle.bidi_paragraphs.specs.declared.paragraph_info.ParagraphInfo.{ParagraphInfo}
+use Rattle.bidi_walk.specs.declared.paragraph_info.ParagraphInfo.{ParagraphInfo}
 
 -- ---- one paragraph
 

@@ -1,14 +1,14 @@
 //! What the words of a call ask for.
-ghost use Rattle.std.specs.Prelude.{◌≡◌, map, string_bytes};
-ghost use Rattle.std.specs.List.{list_any};
+ghost use Rattle.std.specs.Prelude.{◌≡◌, find, map, string_bytes};
 ghost use Rattle.bidi.specs.Commands.{is_option};
 
+use crate::refusal::{Refusal, Subcommand, Word};
 use crate::view::View;
 use bidi_stages::view::{Form, StageView};
 use bidi_terminal::{Base, parse_number};
 use std::marker::Model;
 
-/// Words that name files, or texts, none of them an option. In clauses they are their bytes.
+/// Words that name files, or texts. In clauses they are their bytes.
 #[derive(Drop)]
 pub struct FileWords<'w> {
     words: &'w [String],
@@ -29,24 +29,38 @@ fn is_option(word: &str) -> bool
     word.as_bytes().starts_with(b"--")
 }
 
-/// Whether one of the words begins as an option does.
-fn has_option(words: &[String]) -> bool
-    ensures { result ≡ list_any (λ word. is_option (string_bytes word)) words.now }
+/// The first of the words that begins as an option does.
+fn first_option<'w>(words: &'w [String]) -> Option<Word<'w>>
+    ensures { result ≡ find is_option (map string_bytes words.now) }
 {
-    words.iter().any(|word| is_option(word.as_str()))
+    for word in words {
+        if is_option(word.as_str()) {
+            return Some(Word::new(word.as_str()));
+        }
+    }
+    None
 }
 
 impl<'w> FileWords<'w> {
     ghost use Rattle.bidi.specs.Commands.{file_words};
 
-    /// These words, if none of them is an option.
-    fn parse(words: &'w [String]) -> Option<FileWords<'w>>
-        ensures { result ≡ file_words (map string_bytes words.now) }
+    /// What stands behind the options of a subcommand. Refused where there is an option among the
+    /// words, unless `--` is the first of them.
+    fn parse(subcommand: Subcommand, words: &'w [String]) -> Result<FileWords<'w>, Refusal<'w>>
+        ensures { result ≡ file_words subcommand (map string_bytes words.now) }
     {
-        if has_option(words) {
-            return None;
+        match words {
+            [] => Ok(FileWords { words }),
+            [word, rest @ ..] if word.as_str() == "--" => Ok(FileWords { words: rest }),
+            [word, ..] if is_option(word.as_str()) => Err(Refusal::NotAnOption(
+                subcommand,
+                Word::new(word.as_str()),
+            )),
+            [_, rest @ ..] => match first_option(rest) {
+                Some(late) => Err(Refusal::LateOption(subcommand, late)),
+                None => Ok(FileWords { words }),
+            },
         }
-        Some(FileWords { words })
     }
 
     /// The words, in order.
@@ -70,30 +84,38 @@ pub enum Command<'w> {
         view: StageView,
         texts: FileWords<'w>,
     },
+    /// `--help`, by itself or behind a subcommand: what words there are.
+    Help(Option<Subcommand>),
     /// `show [--base auto|ltr|rtl] [--width N] [--plain] [FILE..]`: the lines from left to right.
     Show {
         view: View,
         files: FileWords<'w>,
     },
+    /// `--version`: the versions of the program and of Unicode's data.
+    Version,
 }
 
 impl<'w> Command<'w> {
     ghost use Rattle.bidi.specs.Commands.{command_of, check_of, explain_of, show_of};
 
-    /// What the words behind `check` ask for.
-    fn parse_check(words: &'w [String]) -> Option<Command<'w>>
-        ensures { result ≡ check_of (map string_bytes words.now) }
+    /// What words behind `check` ask for, where there was `--any` before them, or not.
+    fn parse_check(any: bool, words: &'w [String]) -> Result<Command<'w>, Refusal<'w>>
+        ensures { result ≡ check_of any (map string_bytes words.now) }
     {
-        let (any, words) = match words {
-            [option, rest @ ..] if option.as_str() == "--any" => (true, rest),
-            _ => (false, words),
-        };
-        let files = FileWords::parse(words)?;
-        Some(Command::Check { any, files })
+        match words {
+            [option, rest @ ..] if option.as_str() == "--any" => Command::parse_check(true, rest),
+            [option, ..] if option.as_str() == "--help" => {
+                Ok(Command::Help(Some(Subcommand::Checking)))
+            }
+            _ => match FileWords::parse(Subcommand::Checking, words) {
+                Ok(files) => Ok(Command::Check { any, files }),
+                Err(refusal) => Err(refusal),
+            },
+        }
     }
 
     /// What words behind `show` ask for, where the options before them ask for this view.
-    fn parse_show(view: View, words: &'w [String]) -> Option<Command<'w>>
+    fn parse_show(view: View, words: &'w [String]) -> Result<Command<'w>, Refusal<'w>>
         ensures { result ≡ show_of view (map string_bytes words.now) }
     {
         match words {
@@ -104,27 +126,39 @@ impl<'w> Command<'w> {
                 };
                 Command::parse_show(view, rest)
             }
-            [option, base, rest @ ..] if option.as_str() == "--base" => {
-                let base = Base::parse(base.as_str())?;
-                Command::parse_show(View { base, ..view }, rest)
+            [option, ..] if option.as_str() == "--help" => {
+                Ok(Command::Help(Some(Subcommand::Showing)))
             }
-            [option, width, rest @ ..] if option.as_str() == "--width" => {
-                let width = Some(parse_number(width.as_str())?);
-                Command::parse_show(View { width, ..view }, rest)
+            [option, value, rest @ ..] if option.as_str() == "--base" => {
+                match Base::parse(value.as_str()) {
+                    Some(base) => Command::parse_show(View { base, ..view }, rest),
+                    None => Err(Refusal::NotABase(Subcommand::Showing, Word::new(value.as_str()))),
+                }
             }
-            _ => {
-                let files = FileWords::parse(words)?;
-                Some(Command::Show { view, files })
+            [option, value, rest @ ..] if option.as_str() == "--width" => {
+                match parse_number(value.as_str()) {
+                    Some(width) => {
+                        let width = Some(width);
+                        Command::parse_show(View { width, ..view }, rest)
+                    }
+                    None => Err(Refusal::NotAWidth(Word::new(value.as_str()))),
+                }
             }
+            [option] if option.as_str() == "--base" || option.as_str() == "--width" => {
+                Err(Refusal::NoValue(Subcommand::Showing, Word::new(option.as_str())))
+            }
+            _ => match FileWords::parse(Subcommand::Showing, words) {
+                Ok(files) => Ok(Command::Show { view, files }),
+                Err(refusal) => Err(refusal),
+            },
         }
     }
 
     /// What words behind `explain` ask for, where the options before them ask for this view.
-    fn parse_explain(view: StageView, words: &'w [String]) -> Option<Command<'w>>
+    fn parse_explain(view: StageView, words: &'w [String]) -> Result<Command<'w>, Refusal<'w>>
         ensures { result ≡ explain_of view (map string_bytes words.now) }
     {
         match words {
-            [] => None,
             [option, rest @ ..] if option.as_str() == "--html" => {
                 let view = StageView {
                     form: Form::Page,
@@ -132,31 +166,47 @@ impl<'w> Command<'w> {
                 };
                 Command::parse_explain(view, rest)
             }
-            [option, base, rest @ ..] if option.as_str() == "--base" => {
-                let base = Base::parse(base.as_str())?;
-                Command::parse_explain(StageView { base, ..view }, rest)
+            [option, ..] if option.as_str() == "--help" => {
+                Ok(Command::Help(Some(Subcommand::Explaining)))
             }
-            _ => {
-                let texts = FileWords::parse(words)?;
-                Some(Command::Explain { view, texts })
+            [option, value, rest @ ..] if option.as_str() == "--base" => {
+                match Base::parse(value.as_str()) {
+                    Some(base) => Command::parse_explain(StageView { base, ..view }, rest),
+                    None => Err(Refusal::NotABase(
+                        Subcommand::Explaining,
+                        Word::new(value.as_str()),
+                    )),
+                }
             }
+            [option] if option.as_str() == "--base" => Err(Refusal::NoValue(
+                Subcommand::Explaining,
+                Word::new(option.as_str()),
+            )),
+            _ => match FileWords::parse(Subcommand::Explaining, words) {
+                Ok(texts) if texts.words().is_empty() => Err(Refusal::NoText),
+                Ok(texts) => Ok(Command::Explain { view, texts }),
+                Err(refusal) => Err(refusal),
+            },
         }
     }
 
-    /// The form that the words have, where they have one. Options stand before the files, in any
-    /// order, and of one that is repeated the last counts. It takes no memory.
-    pub fn parse(words: &'w [String]) -> Option<Command<'w>>
+    /// What the words ask for, or which of them is wrong and why. Options stand before the files, in
+    /// any order, and of one that is repeated the last counts; `--` ends them. It takes no memory.
+    pub fn parse(words: &'w [String]) -> Result<Command<'w>, Refusal<'w>>
         ensures { result ≡ command_of (map string_bytes words.now) }
     {
         match words {
-            [form, rest @ ..] if form.as_str() == "check" => Command::parse_check(rest),
-            [form, rest @ ..] if form.as_str() == "show" => {
+            [] => Err(Refusal::NoSubcommand),
+            [name, rest @ ..] if name.as_str() == "check" => Command::parse_check(false, rest),
+            [name, rest @ ..] if name.as_str() == "show" => {
                 Command::parse_show(View::default(), rest)
             }
-            [form, rest @ ..] if form.as_str() == "explain" => {
+            [name, rest @ ..] if name.as_str() == "explain" => {
                 Command::parse_explain(StageView::default(), rest)
             }
-            _ => None,
+            [name, ..] if name.as_str() == "--help" => Ok(Command::Help(None)),
+            [name, ..] if name.as_str() == "--version" => Ok(Command::Version),
+            [name, ..] => Err(Refusal::NotASubcommand(Word::new(name.as_str()))),
         }
     }
 }

@@ -1,20 +1,26 @@
 //! The files of a call: they are read and answered one after the other.
+use crate::help::help;
 use crate::input::{InputFault, check_input, explain_text, show_input};
+use crate::refusal::Subcommand;
 use crate::status::Status;
 use crate::view::View;
 use bidi_stages::page;
 use bidi_stages::view::{Form, StageView};
+use bidi_unicode::UNICODE_VERSION;
 use std::fs;
 use std::io::{self, ErrorKind, Read, Write};
 use std::rt::Files;
+use unicode_bidi::VERSION;
 
 // What standard input is called in a report.
 const STANDARD_INPUT: &str = "<stdin>";
 
-// Writes a text to standard output. What fails ends the run, quietly where nobody reads on.
-fn write_out(rt: &(impl Print + Eprint), text: &str) -> Result<(), Status> {
-    let mut out = io::writer(rt);
-    let Err(error) = out.write_all(text.as_bytes()) else {
+// The name of a file that stands for standard input.
+const STANDARD_INPUT_NAME: &str = "-";
+
+// What a write to standard output means for the run. What fails ends it, quietly where nobody reads on.
+fn after_write(rt: &impl Eprint, written: io::Result<()>) -> Result<(), Status> {
+    let Err(error) = written else {
         return Ok(());
     };
     if error.kind() == ErrorKind::BrokenPipe {
@@ -22,6 +28,11 @@ fn write_out(rt: &(impl Print + Eprint), text: &str) -> Result<(), Status> {
     }
     let _ = eprintln!(rt; "bidi: output failed");
     Err(Status::Device)
+}
+
+// Writes a text to standard output.
+fn write_out(rt: &(impl Print + Eprint), text: &str) -> Result<(), Status> {
+    after_write(rt, io::writer(rt).write_all(text.as_bytes()))
 }
 
 // Tells that an input was not read, and goes on to the next; for want of memory the run ends.
@@ -104,17 +115,20 @@ fn answer_standard_input(
 }
 
 fn answer_file(
-    rt: &(impl Files + Print + Eprint + AllocGlobal),
+    rt: &(impl Files + Input + Print + Eprint + AllocGlobal),
     task: Task,
     name: &str,
 ) -> Result<Status, Status> {
+    if name == STANDARD_INPUT_NAME {
+        return answer_standard_input(rt, task);
+    }
     match fs::read(rt, name) {
         Ok(bytes) => answer_bytes(rt, task, name, bytes.as_slice()),
         Err(error) => refuse(rt, name, &error),
     }
 }
 
-/// Answers the files of these names, or standard input where there are none. A
+/// Answers the files of these names, or standard input where there are none and for the name `-`. A
 /// file that cannot be read or is not UTF-8 is told on standard error, and the next one is read.
 pub fn answer_files(
     rt: &(impl Files + Input + Print + Eprint + AllocGlobal),
@@ -170,8 +184,28 @@ pub fn answer_texts(
         Form::Table => write_texts(rt, view, texts),
         Form::Page => write_page(rt, view, texts),
     };
+    status_of(written)
+}
+
+// How a run ends that only writes.
+fn status_of(written: Result<(), Status>) -> Status {
     match written {
         Ok(()) => Status::Clean,
         Err(ended) => ended,
     }
+}
+
+/// Writes what words there are behind a subcommand, or for the program.
+pub fn write_help(rt: &(impl Print + Eprint), subcommand: Option<Subcommand>) -> Status {
+    status_of(write_out(rt, help(subcommand)))
+}
+
+/// Writes the versions of the library and of Unicode's data.
+pub fn write_versions(rt: &(impl Print + Eprint)) -> Status {
+    let (major, minor, patch) = VERSION;
+    let (unicode_major, unicode_minor, unicode_update) = UNICODE_VERSION;
+    let written = println!(rt;
+        "bidi {major}.{minor}.{patch}, Unicode {unicode_major}.{unicode_minor}.{unicode_update}"
+    );
+    status_of(after_write(rt, written))
 }

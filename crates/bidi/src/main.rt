@@ -7,23 +7,21 @@
 mod characters;
 mod command;
 mod files;
+mod help;
 mod input;
 mod paragraphs;
+mod refusal;
 mod show;
 mod status;
-#[cfg(test)]
-mod tests;
 mod view;
 
 use command::Command;
-use files::{Task, answer_files, answer_texts};
+use files::{Task, answer_files, answer_texts, write_help, write_versions};
 use status::Status;
+use std::env;
+use std::io::{self, ErrorKind};
 use std::process::ExitCode;
 use std::rt::{Env, Files};
-use std::{env, io};
-
-const USAGE: &str =
-    "usage: bidi check [--any] [FILE..]\n       bidi show [--base auto|ltr|rtl] [--width N] [--plain] [FILE..]\n       bidi explain [--base auto|ltr|rtl] [--html] TEXT..";
 
 // The words after the program's name.
 fn arguments(rt: &(impl Env + AllocGlobal)) -> io::Result<Vec<String>> {
@@ -31,16 +29,37 @@ fn arguments(rt: &(impl Env + AllocGlobal)) -> io::Result<Vec<String>> {
     Ok(words)
 }
 
+// Tells why there are no words.
+fn refuse_words(rt: &impl Eprint, error: &io::Error) -> Status {
+    let _ = match error.kind() {
+        ErrorKind::InvalidData => eprintln!(rt; "bidi: a word is not UTF-8"),
+        _ => eprintln!(rt; "bidi: no words could be had: {error}"),
+    };
+    Status::Device
+}
+
+fn answer(
+    rt: &(impl Files + Input + Print + Eprint + AllocGlobal),
+    command: Command<'_>,
+) -> Status {
+    match command {
+        Command::Check { any, files } => answer_files(rt, Task::Check { any }, files.words()),
+        Command::Explain { view, texts } => answer_texts(rt, view, texts.words()),
+        Command::Help(subcommand) => write_help(rt, subcommand),
+        Command::Show { view, files } => answer_files(rt, Task::Show(view), files.words()),
+        Command::Version => write_versions(rt),
+    }
+}
+
 fn serve(rt: &(impl Env + Files + Input + Print + Eprint + AllocGlobal)) -> Status {
-    let Ok(words) = arguments(rt) else {
-        return Status::Device;
+    let words = match arguments(rt) {
+        Ok(words) => words,
+        Err(error) => return refuse_words(rt, &error),
     };
     match Command::parse(words.as_slice()) {
-        Some(Command::Check { any, files }) => answer_files(rt, Task::Check { any }, files.words()),
-        Some(Command::Explain { view, texts }) => answer_texts(rt, view, texts.words()),
-        Some(Command::Show { view, files }) => answer_files(rt, Task::Show(view), files.words()),
-        None => {
-            let _ = eprintln!(rt; "bidi: {USAGE}");
+        Ok(command) => answer(rt, command),
+        Err(refusal) => {
+            let _ = eprintln!(rt; "bidi: {refusal}");
             Status::Refused
         }
     }

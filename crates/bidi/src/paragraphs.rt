@@ -11,10 +11,10 @@ use crate::characters::{chars_of, text_of, text_of_line};
 use crate::show::push_line;
 use crate::view::View;
 use bidi_base::data_source::BidiDataSource;
-use bidi_base::text::StrText;
 use bidi_controls::lines::{first_line_len, own_chars};
 use bidi_lines::line_levels::first_units;
 use bidi_terminal::Columns;
+use bidi_text::text::StrText;
 use std::alloc::{AllocError, Global};
 use unicode_bidi::{BidiInfo, LevelRun, ParagraphInfo, layout};
 

@@ -92,4 +92,3 @@ pub use Rattle.bidi_base.specs.declared.char_data.BidiClass.TheVariants.{AL, AN,
 pub use Rattle.bidi_base.specs.declared.char_data.Direction.{Direction}
 pub use Rattle.bidi_base.specs.declared.char_data.Direction.TheVariants.{Ltr, Mixed, Rtl}
 pub use Rattle.bidi_base.specs.declared.data_source.BidiMatchedOpeningBracket.{BidiMatchedOpeningBracket}
-pub use Rattle.bidi_base.specs.declared.text.str_text.Utf8IndexLenIter.{Utf8IndexLenIter}

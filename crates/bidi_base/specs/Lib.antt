@@ -5,6 +5,7 @@ pub mod CrLf
 pub mod Direction
 pub mod Display
 pub mod Embeddings
+pub mod Errors
 pub mod Explicit
 pub mod Flat
 pub mod FoundBrackets

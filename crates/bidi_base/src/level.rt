@@ -9,6 +9,7 @@ use itoa::Buffer;
 use std::alloc::{AllocError, AllocFailed, Global};
 use std::marker::Model;
 use std::mem::size_of;
+use std::{error, fmt};
 
 /// The greatest explicit level (BD2).
 pub const MAX_EXPLICIT_DEPTH: u8 = 125;
@@ -48,6 +49,21 @@ pub enum Error {
     OutOfRangeNumber,
 }
 
+impl fmt::Display for Error {
+    ghost use Rattle.std.specs.Prelude.{Some};
+    ghost use Rattle.bidi_base.specs.Errors.{level_error_text};
+
+    ghost output = { λ error. Some (level_error_text error) };
+
+    fn fmt<W: fmt::Write>(&self, f: &mut fmt::Formatter<W>) -> fmt::Result {
+        match self {
+            Error::OutOfRangeNumber => f.write_str("level out of range"),
+        }
+    }
+}
+
+impl error::Error for Error {}
+
 /// Why a list of levels was refused.
 #[derive(Debug, PartialEq, Drop)]
 pub enum VecError {
@@ -56,6 +72,22 @@ pub enum VecError {
     /// Memory was refused.
     Memory,
 }
+
+impl fmt::Display for VecError {
+    ghost use Rattle.std.specs.Prelude.{Some};
+    ghost use Rattle.bidi_base.specs.Errors.{levels_error_text};
+
+    ghost output = { λ error. Some (levels_error_text error) };
+
+    fn fmt<W: fmt::Write>(&self, f: &mut fmt::Formatter<W>) -> fmt::Result {
+        f.write_str(match self {
+            VecError::OutOfRangeNumber => "level out of range",
+            VecError::Memory => "out of memory",
+        })
+    }
+}
+
+impl error::Error for VecError {}
 
 impl From<AllocError> for VecError {
     ghost from_gives = { λ _ r. r ≡ Memory };

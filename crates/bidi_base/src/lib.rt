@@ -1,5 +1,5 @@
-//! The words that every layer of the bidirectional algorithm speaks: classes, levels, data sources
-//! and texts, and the steps that the rules over lists and the passes in place share. Its folder
+//! The words that every layer of the bidirectional algorithm speaks: classes, levels and data
+//! sources, and the steps that the rules over lists and the passes in place share. Its folder
 //! `specs` has the definitions that contracts of the public surface cite, one module a topic.
 #![tactic(auto)]
 
@@ -13,4 +13,3 @@ pub mod level;
 pub mod neutrals;
 pub mod sample;
 pub mod search;
-pub mod text;

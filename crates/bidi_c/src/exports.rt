@@ -1,7 +1,7 @@
 //! The exports over a line.
-use crate::fault::answer;
-use crate::line::{KeptLine, line_levels, line_runs, visual_order};
-use crate::rows::{Paragraph, Run};
+use bidi_calls::line::{KeptLine, line_levels, line_runs, visual_order};
+use bidi_numbers::fault::answer;
+use bidi_numbers::rows::{Paragraph, Run};
 use std::alloc::Global;
 
 #[unsafe(no_mangle)]

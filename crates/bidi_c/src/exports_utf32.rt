@@ -1,9 +1,9 @@
 //! The exports over lists of numbers of characters.
-use crate::by_tables::{analyse_utf32, base_direction_utf32};
-use crate::fault::answer;
-use crate::line::KeptLine;
-use crate::rows::{BracketPair, ClassRange, Paragraph};
-use crate::utf32::{analyse, base_direction, line_map, reorder_line};
+use bidi_calls::by_tables::{analyse_utf32, base_direction_utf32};
+use bidi_calls::line::KeptLine;
+use bidi_calls::utf32::{analyse, base_direction, line_map, reorder_line};
+use bidi_numbers::fault::answer;
+use bidi_numbers::rows::{BracketPair, ClassRange, Paragraph};
 use bidi_unicode::UnicodeData;
 use std::alloc::Global;
 

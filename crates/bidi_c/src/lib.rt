@@ -5,20 +5,9 @@
 //! are right is what no call can test.
 #![tactic(auto)]
 
-mod by_tables;
-mod checked;
 mod exports;
 mod exports_utf16;
 mod exports_utf32;
 mod exports_utf8;
-mod fault;
-mod line;
-mod numbers;
-mod rows;
-mod tables;
-#[cfg(test)]
-mod tests;
-mod texts;
-mod utf16;
-mod utf32;
-mod utf8;
+mod exports_version;
+mod version;

@@ -2,12 +2,12 @@
 use Rattle.bidi_base.proofs.Common.{◌≡◌, ℕ, suc, ◌+◌, ◌-◌, ◌<◌, Bool, true, false, cond, List, [], ◌∷◌, length, drop, find, Option, Some, None, refl, sym, ap, subst, ◌∙◌, arith, filter, and_parts, and_from, false_from_ne_true, is_embedding, is_opener, is_pdf, class_at, is_initiator_at, is_pdi_at, matching_pdi, is_inside, is_level_with, is_embedding_level_with, is_pdf_level_with, closing_pdf}
 use Rattle.bidi_base.specs.declared.char_data.BidiClass.{BidiClass}
 use Rattle.bidi_base.proofs.PlacesLemmas.{IsLeast}
-use Rattle.bidi_base.proofs.MatchingLemmas.{match_of-IsLeast, match_of-closes}
-use Rattle.bidi_base.proofs.IsolatesLemmas.{initiators_apart, matching_pdi-IsLeast}
-use Rattle.bidi_base.proofs.EmbeddingsLemmas.{is_level_with-each, is_level_with-same, is_level_with-refl}
-use Rattle.bidi_base.proofs.ReadStack.{read_closed, IsReadStack}
-use Rattle.bidi_base.proofs.OpenMatches.{IsReadStack-match, IsReadStack-matched}
-use Rattle.bidi_base.proofs.OpenersStack.{Leaves, leaves_at, IsPushed, openers_read-IsPushed, pdf_apart, initiators-IsReadStack, is_inside-parts, is_inside-sooner, same_inside, level-Leaves, level-IsReadStack, openers_read, closed_by, left_at}
+use Rattle.bidi_laws.proofs.MatchingLemmas.{match_of-IsLeast, match_of-closes}
+use Rattle.bidi_laws.proofs.IsolatesLemmas.{initiators_apart, matching_pdi-IsLeast}
+use Rattle.bidi_laws.proofs.EmbeddingsLemmas.{is_level_with-each, is_level_with-same, is_level_with-refl}
+use Rattle.bidi_laws.proofs.ReadStack.{read_closed, IsReadStack}
+use Rattle.bidi_laws.proofs.OpenMatches.{IsReadStack-match, IsReadStack-matched}
+use Rattle.bidi_laws.proofs.OpenersStack.{Leaves, leaves_at, IsPushed, openers_read-IsPushed, pdf_apart, initiators-IsReadStack, is_inside-parts, is_inside-sooner, same_inside, level-Leaves, level-IsReadStack, openers_read, closed_by, left_at}
 use Rattle.bidi_controls.specs.Matches.{closer_of}
 
 -- the innermost opener, if that is an embedding or an override

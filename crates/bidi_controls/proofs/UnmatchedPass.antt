@@ -4,7 +4,7 @@ use Rattle.std.specs.Prelude.{is_some, is_none}
 use Rattle.std.proofs.lemmas.List.{get_or-set_same, get_or-set_other}
 use Rattle.bidi_base.specs.declared.char_data.BidiClass.{BidiClass}
 use Rattle.bidi_base.proofs.ChainLemmas.{holds_number-true}
-use Rattle.bidi_base.proofs.OpenersStack.{openers_read, closed_by, opened_by, left_at, below_isolate}
+use Rattle.bidi_laws.proofs.OpenersStack.{openers_read, closed_by, opened_by, left_at, below_isolate}
 use Rattle.bidi_controls.specs.declared.openers.Opener.{Opener}
 use Rattle.bidi_controls.specs.OpenOpeners.{innermost_isolate, outside_isolate, closed_place, left_open, then_open, with_closed}
 use Rattle.bidi_controls.specs.Matches.{is_control, closer_of, is_closed_by, closes_nothing, is_unmatched}

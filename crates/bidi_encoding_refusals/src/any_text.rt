@@ -2,7 +2,7 @@
 
 use bidi_base::data_source::TableBidiData;
 use bidi_base::level::Level;
-use bidi_base::text::{CharsText, StrText, TextSource, Utf16Text, is_line, is_per_char};
+use bidi_text::text::{CharsText, StrText, TextSource, Utf16Text, is_line, is_per_char};
 use bidi_trials::texts::{CHARACTERS, LONG_TEXT, UNITS};
 use bidi_trials::trial::Fault;
 use bidi_trials::tried;

@@ -9,7 +9,7 @@ ghost use Rattle.bidi_base.specs.Utf16.{utf16_text, utf16_len};
 use bidi_base::char_data::BidiClass;
 use bidi_base::data_source::TableBidiData;
 use bidi_base::level::Level;
-use bidi_base::text::{StrText, Utf16Text, is_per_char};
+use bidi_text::text::{StrText, Utf16Text, is_per_char};
 use bidi_trials::texts::{LONG_TEXT, UNITS};
 use bidi_trials::trial::Fault;
 use bidi_trials::tried;

@@ -6,7 +6,7 @@ ghost use Rattle.unicode_bidi.specs.BidiInfo.{analysed as analysed_of};
 ghost use Rattle.unicode_bidi.specs.ParagraphBidiInfo.{analysed as whole_of};
 
 use bidi_base::data_source::TableBidiData;
-use bidi_base::text::{Utf16Text, is_line};
+use bidi_text::text::{Utf16Text, is_line};
 use bidi_trials::texts::UNITS;
 use bidi_trials::trial::Fault;
 use bidi_trials::tried;

@@ -52,5 +52,8 @@ fn main(rt: HostRuntime) -> io::Result<()> {
     let text = "car (מכונית) 12\nאבג abc";
     let info = BidiInfo::new_with_data_source(rt.alloc(), &source, text, None)?;
     print_lines(&rt, &info, &[0..4, 4..21, 22..32])?;
-    real::print_shown(&rt, "car (מכונית) 12")
+    real::print_shown(&rt, "car (מכונית) 12")?;
+    let text = "car (מכונית) 12 אבג";
+    let info = BidiInfo::new_with_data_source(rt.alloc(), &source, text, None)?;
+    wrapped::write_wrapped(rt.alloc(), &mut io::writer(&rt), &info, 8)
 }

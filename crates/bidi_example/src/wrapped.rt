@@ -35,23 +35,3 @@ pub fn write_wrapped<W: Write>(
     }
     Ok(())
 }
-
-#[cfg(test)]
-mod tests {
-    use super::write_wrapped;
-    use crate::{BRACKETS, RANGES};
-    use std::test::Fail;
-    use unicode_bidi::BidiInfo;
-    use unicode_bidi::data_source::TableBidiData;
-
-    #[test]
-    fn lines_of_eight_columns(rt: HostRuntime) -> Result<(), Fail> {
-        let source = TableBidiData::new(&RANGES, &BRACKETS)?;
-        let text = "car (מכונית) 12 אבג";
-        let info = BidiInfo::new_with_data_source(rt.alloc(), &source, text, None)?;
-        let mut shown = Vec::new(rt.alloc());
-        write_wrapped(rt.alloc(), &mut shown, &info, 8)?;
-        assert_eq!(rt; shown.as_slice(), "car (וכמ\nתינ) 12 \nגבא\n".as_bytes());
-        Ok(())
-    }
-}

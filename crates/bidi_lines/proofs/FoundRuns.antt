@@ -2,8 +2,8 @@
 use Rattle.bidi_base.proofs.Common.{◌≡◌, ℕ, ◌+◌, ◌<◌, ◌≤◌, ◌++◌, false, List, [], ◌∷◌, map, length, get_or, take, sym, subst, arith, rules, common_steps, Range, get_or-map, length-map, length-range_with_len, IsPermutation-refl, has_rtl, indexes, at_places, visual_order, IsVisualOrder, Run, run_of, level_runs, run_level, visual_runs, AreVisualRuns}
 use Rattle.std.proofs.Common.{All}
 use Rattle.bidi_lines.proofs.Ordered.{visual_order-still, none_odd}
-use Rattle.bidi_base.proofs.VisualOrderLemmas.{visual_order-unique}
-use Rattle.bidi_base.proofs.StoredLemmas.{at_places-append}
+use Rattle.bidi_laws.proofs.VisualOrderLemmas.{visual_order-unique}
+use Rattle.bidi_laws.proofs.StoredLemmas.{at_places-append}
 use Rattle.bidi_lines.proofs.Pieces.{at_places-map}
 use Rattle.bidi_lines.proofs.RunsLemmas.{level_runs-each}
 use Rattle.bidi_lines.proofs.VisualRuns.{all-runs, visual_runs-are}

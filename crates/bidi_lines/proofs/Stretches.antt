@@ -1,6 +1,6 @@
 -- Parts of a line that stand arranged: seen from a lower level, turned round, and joined.
 use Rattle.bidi_base.proofs.Common.{◌≡◌, ℕ, ◌+◌, ◌-◌, ◌<◌, ◌≤◌, List, length, slice_index, arith, inl, inr, ◌∙◌, rules, IsPermutation, cases_lt, IsPermutation-trans, least_between}
-use Rattle.bidi_base.proofs.OrderLemmas.{least_between-le}
+use Rattle.bidi_laws.proofs.OrderLemmas.{least_between-le}
 use Rattle.bidi_lines.specs.Arranged.{IsEven, IsOdd, IsArranged, AtLeast}
 use Rattle.bidi_lines.proofs.Least.{least_between-is}
 

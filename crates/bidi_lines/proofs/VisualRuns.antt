@@ -2,8 +2,8 @@
 use Rattle.bidi_base.proofs.Common.{◌≡◌, ℕ, zero, suc, ◌+◌, ◌-◌, ◌<◌, ◌≤◌, max, true, List, [], ◌∷◌, map, flat_map, length, get_or, AllPairs, refl, ap, subst, arith, inl, inr, range_with_len, IsPermutation, cases_lt, cases_order, both_ways, cases_Bool, get_or-map, length-map, same_lists, get_or_default, flat_map-map, length-range_with_len, get_or-range_with_len, length-map-range_with_len, get_or-map-range_with_len, All-tail, All-map, All-permutation, IsPermutation-refl, IsPermutation-sym, IsPermutation-trans, IsPermutation-reverse, is_odd, between, indexes, at_places, least_between, stands_left, visual_order, IsVisualOrder, Run, level_runs, run_level, visual_runs, written_run, written_runs, IsLevelRun, AreVisualRuns}
 use Rattle.std.proofs.Common.{All}
 use Rattle.std.proofs.lemmas.List.Sorted.{IsPermutation-map}
-use Rattle.bidi_base.proofs.OrderLemmas.{least_between-le, stands_left-before, stands_left-after}
-use Rattle.bidi_base.proofs.VisualOrderLemmas.{stands_left-same, visual_order-unique, all_below}
+use Rattle.bidi_laws.proofs.OrderLemmas.{least_between-le, stands_left-before, stands_left-after}
+use Rattle.bidi_laws.proofs.VisualOrderLemmas.{stands_left-same, visual_order-unique, all_below}
 use Rattle.bidi_lines.proofs.Least.{least_between-is, least_between-at}
 use Rattle.bidi_lines.proofs.Ordered.{visual_order-is}
 use Rattle.bidi_lines.proofs.Pieces.{AllPairs-map, AllPairs-reverse, AllPairs-between, All-between, AllPairs-flat_map, between-append, at_places-map, IsPermutation-flat_map, IsPermutation-flat_map_each}

@@ -10,7 +10,7 @@ ghost use Rattle.bidi_base.specs.Text.{text_len, per_char};
 use bidi_base::char_data::BidiClass;
 use bidi_base::classes::{is_blank, is_removed, is_separator};
 use bidi_base::level::{Level, has_rtl};
-use bidi_base::text::TextSource;
+use bidi_text::text::TextSource;
 use std::alloc::{AllocError, Global};
 use std::ops::Range;
 

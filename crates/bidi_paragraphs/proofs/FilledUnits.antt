@@ -6,16 +6,16 @@ use Rattle.bidi_base.specs.declared.char_data.BidiClass.{BidiClass}
 use Rattle.bidi_base.specs.declared.char_data.BidiClass.TheVariants.{L, FSI}
 use Rattle.bidi_base.specs.declared.data_source.BidiMatchedOpeningBracket.{BidiMatchedOpeningBracket}
 use Rattle.bidi_base.specs.Flat.{keeps_to}
-use Rattle.bidi_base.proofs.LevelLaws.{All-per_unit}
-use Rattle.bidi_base.proofs.PerCharTests.{class_eq, class_test, level_eq, level_test}
+use Rattle.bidi_laws.proofs.LevelLaws.{All-per_unit}
+use Rattle.bidi_text.proofs.PerCharTests.{class_eq, class_test, level_eq, level_test}
 use Rattle.bidi_base.proofs.PerUnit.{length-per_char, length-per_unit, get_or-per_char, get_or-per_unit}
 use Rattle.bidi_base.proofs.PlaceLemmas.{place-zero, place-more, place-more-le, unit_of}
-use Rattle.bidi_base.proofs.StoredSteps.{length-stored_classes}
+use Rattle.bidi_laws.proofs.StoredSteps.{length-stored_classes}
 use Rattle.bidi_base.proofs.TextLemmas.{HasUnits}
 use Rattle.bidi_base.proofs.UnitsLemmas.{is_per_char-per_unit, per_unit-from_is_per_char}
-use Rattle.bidi_base.proofs.LevelsInLemmas.{levels_in-written}
-use Rattle.bidi_base.proofs.KeepsToLemmas.{levels_in-keeps_to}
-use Rattle.bidi_base.proofs.StoredLemmas.{class_at-stored_classes}
+use Rattle.bidi_laws.proofs.LevelsInLemmas.{levels_in-written}
+use Rattle.bidi_laws.proofs.KeepsToLemmas.{levels_in-keeps_to}
+use Rattle.bidi_laws.proofs.StoredLemmas.{class_at-stored_classes}
 
 -- the stored classes of one paragraph are equal within each character
 pub stored-is_per_char : (len_of : ℕ → ℕ) (chars : List ℕ) (class_of : ℕ → BidiClass) (classes : List BidiClass) → classes ≡ per_unit len_of chars (stored_classes (map class_of chars))

@@ -5,15 +5,15 @@ use Rattle.std.specs.List.{All}
 use Rattle.bidi_base.specs.declared.char_data.BidiClass.{BidiClass}
 use Rattle.bidi_base.specs.declared.char_data.BidiClass.TheVariants.{L, BN}
 use Rattle.bidi_base.specs.declared.data_source.BidiMatchedOpeningBracket.{BidiMatchedOpeningBracket}
-use Rattle.bidi_base.proofs.ExplicitLemmas.{length-explicit_levels}
-use Rattle.bidi_base.proofs.LevelLaws.{All-per_unit}
-use Rattle.bidi_base.proofs.PerCharTests.{class_eq, class_test, level_eq, level_test}
+use Rattle.bidi_laws.proofs.ExplicitLemmas.{length-explicit_levels}
+use Rattle.bidi_laws.proofs.LevelLaws.{All-per_unit}
+use Rattle.bidi_text.proofs.PerCharTests.{class_eq, class_test, level_eq, level_test}
 use Rattle.bidi_base.proofs.PerUnit.{length-per_char, length-per_unit, map-per_unit, per_char-per_unit}
-use Rattle.bidi_base.proofs.StoredSteps.{length-stored_classes}
+use Rattle.bidi_laws.proofs.StoredSteps.{length-stored_classes}
 use Rattle.bidi_base.proofs.TextLemmas.{HasUnits}
 use Rattle.bidi_base.proofs.UnitsLemmas.{per_unit-from_is_per_char, is_per_char-per_unit}
-use Rattle.bidi_base.proofs.NeutralSource.{neutral_classes-source, marks-stored_classes}
-use Rattle.bidi_base.proofs.StoredLemmas.{explicit_levels-IsExplicitIn}
+use Rattle.bidi_laws.proofs.NeutralSource.{neutral_classes-source, marks-stored_classes}
+use Rattle.bidi_laws.proofs.StoredLemmas.{explicit_levels-IsExplicitIn}
 use Rattle.bidi_runs.specs.Joining.{JoinedRuns, characters_of}
 use Rattle.bidi_runs.specs.RunSequence.{run_bounds, sequence_in, sequences_in}
 use Rattle.bidi_runs.specs.declared.prepare.sequence.IsolatingRunSequence.{IsolatingRunSequence}

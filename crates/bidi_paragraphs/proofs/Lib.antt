@@ -1,14 +1,5 @@
-pub mod ClassSets
 pub mod FilledUnits
-pub mod FlagsLemmas
 pub mod FlatPasses
-pub mod IdleClasses
-pub mod KnownClasses
 pub mod LevelPasses
-pub mod PutUnits
 pub mod SequenceUnits
 pub mod SequencesInPlace
-pub mod Skimmed
-pub mod TextRead
-pub mod Undecided
-pub mod WalkSteps

@@ -3,12 +3,12 @@ use Rattle.bidi_base.proofs.Common.{◌≡◌, ℕ, ◌+◌, ◌-◌, ◌<◌, t
 use Rattle.bidi_base.specs.declared.char_data.BidiClass.{BidiClass}
 use Rattle.bidi_base.specs.declared.char_data.BidiClass.TheVariants.{L, BN}
 use Rattle.bidi_base.proofs.ChainLemmas.{filter_range-agree}
-use Rattle.bidi_base.proofs.LevelTableLemmas.{count_at-in}
+use Rattle.bidi_laws.proofs.LevelTableLemmas.{count_at-in}
 use Rattle.bidi_base.proofs.PerUnit.{length-per_unit, get_or-per_unit-place}
 use Rattle.bidi_base.proofs.PlaceLemmas.{place-lt, place-mono, char_index-le, line_places}
-use Rattle.bidi_base.proofs.StoredLemmas.{times_in-first, times_in-later}
+use Rattle.bidi_laws.proofs.StoredLemmas.{times_in-first, times_in-later}
 use Rattle.bidi_base.proofs.TextLemmas.{HasUnits}
-use Rattle.bidi_base.proofs.SequencePlaces.{times_in-kept, times_in}
+use Rattle.bidi_laws.proofs.SequencePlaces.{times_in-kept, times_in}
 
 -- all of some places are indexes of a text
 abbrev pub AreWithin : List ℕ → List ℕ → Type 0

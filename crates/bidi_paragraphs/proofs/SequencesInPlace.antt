@@ -3,12 +3,12 @@ use Rattle.bidi_base.proofs.Common.{◌≡◌, ℕ, zero, suc, ◌<◌, Bool, tr
 use Rattle.bidi_base.specs.declared.char_data.BidiClass.{BidiClass}
 use Rattle.bidi_base.specs.declared.char_data.BidiClass.TheVariants.{L}
 use Rattle.bidi_base.specs.declared.data_source.BidiMatchedOpeningBracket.{BidiMatchedOpeningBracket}
-use Rattle.bidi_base.proofs.WeakLemmas.{weak_classes-resolved}
-use Rattle.bidi_base.proofs.ExplicitLemmas.{class_at-explicit_classes, class_at-processing_classes, length-processing_classes}
-use Rattle.bidi_base.proofs.MatchLevelsLemmas.{sequence-one_level}
-use Rattle.bidi_base.proofs.NeutralLemmas.{neutral_classes-directed}
-use Rattle.bidi_base.proofs.SequencePlaces.{times_in-parts, places_of, sequences-once, sequences-kept, times_in}
-use Rattle.bidi_base.proofs.StoredLemmas.{explicit_class-kept, at_places-agree, list_all-at_places_back, explicit_classes-kept, times_in-first, times_in-later, list_all-at_places}
+use Rattle.bidi_laws.proofs.WeakLemmas.{weak_classes-resolved}
+use Rattle.bidi_laws.proofs.ExplicitLemmas.{class_at-explicit_classes, class_at-processing_classes, length-processing_classes}
+use Rattle.bidi_laws.proofs.MatchLevelsLemmas.{sequence-one_level}
+use Rattle.bidi_laws.proofs.NeutralLemmas.{neutral_classes-directed}
+use Rattle.bidi_laws.proofs.SequencePlaces.{times_in-parts, places_of, sequences-once, sequences-kept, times_in}
+use Rattle.bidi_laws.proofs.StoredLemmas.{explicit_class-kept, at_places-agree, list_all-at_places_back, explicit_classes-kept, times_in-first, times_in-later, list_all-at_places}
 
 is_kept_in_place-kept : (c : BidiClass) → is_kept c ≡ true → is_kept_in_place c ≡ true
 is_kept_in_place-kept c h = grind arith

@@ -2,9 +2,6 @@
 //! levels of the units of each.
 #![tactic(auto)]
 
-mod class_set;
-pub mod first_walk;
-pub mod paragraph_flags;
-pub mod paragraph_info;
 pub mod paragraph_levels;
-pub mod split_rule;
+
+pub use bidi_walk::{first_walk, paragraph_flags, paragraph_info, split_rule};

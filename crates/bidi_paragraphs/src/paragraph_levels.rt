@@ -10,18 +10,18 @@ ghost use Rattle.bidi_base.specs.Stored.{AreResolved, levels_in};
 ghost use Rattle.bidi_base.specs.Text.{text_len, is_per_char, per_unit, per_char};
 ghost use Rattle.bidi_base.specs.Units.{AreLines};
 ghost use Rattle.bidi_runs.specs.RunSequence.{run_bounds, sequences_in};
-ghost use Rattle.bidi_paragraphs.specs.ParagraphFlags.{flags_of};
+ghost use Rattle.bidi_walk.specs.ParagraphFlags.{flags_of};
 
-use crate::paragraph_flags::ParagraphFlags;
 use bidi_base::char_data::BidiClass;
 use bidi_base::classes::is_removed;
 use bidi_base::data_source::BidiDataSource;
 use bidi_base::level::Level;
 use bidi_base::search::{ClassTest, first_passing};
-use bidi_base::text::TextSource;
 use bidi_rules::explicit;
 use bidi_rules::implicit::{NeutralResolver, resolve_levels, resolve_weak, resolve_weak_lent};
 use bidi_rules::prepare::{IsolatingRunSequenceVec, LentSequence, LevelRunVec, join_level_runs};
+use bidi_text::text::TextSource;
+use bidi_walk::paragraph_flags::ParagraphFlags;
 use std::alloc::{AllocError, Global};
 
 /// A paragraph whose stored classes are known, and whose levels are sought.

@@ -6,10 +6,10 @@ use bidi_base::level::{LTR_LEVEL, Level};
 use bidi_plain::plain::{
     Explicit, PlainSequence, explicit_levels, implicit, neutral, pairs, sequences, weak,
 };
-use bidi_rule_rows::conditions::{are_directed, are_kept, are_left, is_side};
 use bidi_trials::texts::{CHARACTERS, LENGTH};
 use bidi_trials::trial::Fault;
 use bidi_trials::tried;
+use bidi_vectors_rules::conditions::{are_directed, are_kept, are_left, is_side};
 
 // The classes of characters, their classes under overrides, and their brackets.
 #[derive(Clone, Copy)]

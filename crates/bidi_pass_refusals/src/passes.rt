@@ -5,14 +5,14 @@ ghost use Rattle.std.specs.Prelude.{◌≡◌, ◌≤◌, not, ◌||◌, length}
 use bidi_base::char_data::BidiClass::{self, L};
 use bidi_base::data_source::TableBidiData;
 use bidi_base::level::{LTR_LEVEL, Level, RTL_LEVEL};
-use bidi_base::text::{StrText, is_per_char};
-use bidi_rule_rows::conditions::{are_left_or_removed, has_initiator};
 use bidi_rules::explicit::{compute, compute_counted};
 use bidi_rules::implicit::{NeutralResolver, resolve_levels, resolve_neutral, resolve_weak};
 use bidi_rules::prepare::{IsolatingRunSequence, LevelRunVec, Steps, isolating_run_sequences};
+use bidi_text::text::{StrText, is_per_char};
 use bidi_trials::texts::{TEXT, WITHOUT_ISOLATES};
 use bidi_trials::trial::{Fault, NoAnswer};
 use bidi_trials::tried;
+use bidi_vectors_rules::conditions::{are_left_or_removed, has_initiator};
 use std::alloc::Global;
 use std::marker::Brand;
 use std::sync::ledger::{Blank, Ledger};

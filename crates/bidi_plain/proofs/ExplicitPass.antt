@@ -5,7 +5,7 @@ use Rattle.std.proofs.Math.Nat.{zero-add}
 use Rattle.bidi_base.specs.declared.char_data.BidiClass.{BidiClass}
 use Rattle.bidi_base.specs.Openers.{then_open}
 use Rattle.bidi_base.proofs.Lists.{map-reverse}
-use Rattle.bidi_base.proofs.OpenersStack.{open_at-closed_by, below_isolate, closed_by, opened_by, openers_read}
+use Rattle.bidi_laws.proofs.OpenersStack.{open_at-closed_by, below_isolate, closed_by, opened_by, openers_read}
 
 module _ (classes : List BidiClass) where
   abbrev pub classes_of : List ℕ → List BidiClass

@@ -3,14 +3,14 @@ use Rattle.bidi_base.proofs.Common.{rules, ◌≡◌, ℕ, ◌+◌, ◌-◌, ◌
 use Rattle.std.proofs.lemmas.List.{get_or-set_same}
 use Rattle.bidi_base.specs.declared.char_data.BidiClass.{BidiClass}
 use Rattle.bidi_base.specs.SequencePass.{wait_of, choice, waits_before, choice_at, ArePlaces}
-use Rattle.bidi_base.proofs.ReadStack.{Member}
-use Rattle.bidi_base.proofs.OpenPass.{IsAt, IsAt-read, goes_on}
+use Rattle.bidi_laws.proofs.ReadStack.{Member}
+use Rattle.bidi_laws.proofs.OpenPass.{IsAt, IsAt-read, goes_on}
 use Rattle.bidi_base.proofs.ChainLemmas.{filter_range-none}
-use Rattle.bidi_base.proofs.SuccessorLemmas.{successor-IsLaterKept, have_one_level-from, successor-run_step, next_kept-is, kept_before-is, kept_before-is_None}
-use Rattle.bidi_base.proofs.PassLemmas.{AreSuccessors, IsBegunList, AllBegun}
-use Rattle.bidi_base.proofs.RunsLemmas.{BeginsRun}
+use Rattle.bidi_laws.proofs.SuccessorLemmas.{successor-IsLaterKept, have_one_level-from, successor-run_step, next_kept-is, kept_before-is, kept_before-is_None}
+use Rattle.bidi_laws.proofs.PassLemmas.{AreSuccessors, IsBegunList, AllBegun}
+use Rattle.bidi_laws.proofs.RunsLemmas.{BeginsRun}
 use Rattle.bidi_base.proofs.Lists.{last_or-append}
-use Rattle.bidi_base.proofs.WaitingLemmas.{IsPass-end, IsPass-removed, is_first-none_open, Member-append_right, IsWaiting, IsPass, IsPass-begin, IsPass-join, IsPass-skip}
+use Rattle.bidi_laws.proofs.WaitingLemmas.{IsPass-end, IsPass-removed, is_first-none_open, Member-append_right, IsWaiting, IsPass, IsPass-begin, IsPass-join, IsPass-skip}
 
 module _ (classes : List BidiClass) (levels : List ℕ) where
   -- all before p came, l was the last of them that X9 keeps, and came to the sequence at s; what is open was read up to l

@@ -3,7 +3,7 @@ use Rattle.bidi_base.proofs.Common.{◌≡◌, ℕ, ◌+◌, ◌<◌, Bool, cond
 use Rattle.bidi_base.specs.declared.char_data.BidiClass.{BidiClass}
 use Rattle.bidi_base.specs.declared.char_data.BidiClass.TheVariants.{L}
 use Rattle.bidi_base.proofs.PlacesLemmas.{reverse-take_more, nearest-more}
-use Rattle.bidi_base.proofs.InPlace.{IsRewritten, IsRewritten-read, IsRewritten-write}
+use Rattle.bidi_laws.proofs.InPlace.{IsRewritten, IsRewritten-read, IsRewritten-write}
 
 module _ (rule : List BidiClass → BidiClass → List BidiClass → BidiClass) (test : BidiClass → Bool) (start : BidiClass) where
   -- the first i classes are rewritten, and `nearest_one` is the nearest class before i that passes the test

@@ -4,8 +4,8 @@ use Rattle.std.proofs.lemmas.List.{get_or-take}
 use Rattle.bidi_base.specs.declared.char_data.BidiClass.{BidiClass}
 use Rattle.bidi_base.specs.declared.char_data.BidiClass.TheVariants.{L}
 use Rattle.bidi_base.proofs.PlacesLemmas.{reverse-take_more}
-use Rattle.bidi_base.proofs.InPlace.{IsRewritten, IsRewritten-read, IsRewritten-write, IsRewritten-keep, IsRewritten-end}
-use Rattle.bidi_base.proofs.Blocks.{answer_is, read_later}
+use Rattle.bidi_laws.proofs.InPlace.{IsRewritten, IsRewritten-read, IsRewritten-write, IsRewritten-keep, IsRewritten-end}
+use Rattle.bidi_laws.proofs.Blocks.{answer_is, read_later}
 
 -- the rule reads one class on each side, and that before as it was or as it is
 read_before : (bs : List BidiClass) (b c : BidiClass) (cs : List BidiClass) (a : BidiClass) (as' : List BidiClass) → w4_rule (w4_rule bs b (c ∷ cs) ∷ []) c (a ∷ []) ≡ w4_rule (b ∷ bs) c (a ∷ as')

@@ -2,7 +2,7 @@
 use Rattle.bidi_base.proofs.Common.{◌≡◌, ℕ, ◌-◌, ◌<◌, ◌≤◌, List, length, get_or, take, drop, Option, arith, common_steps, Status, override_of, asked_level, status_inside}
 use Rattle.bidi_base.specs.declared.char_data.BidiClass.{BidiClass}
 use Rattle.bidi_base.specs.declared.char_data.BidiClass.TheVariants.{L}
-use Rattle.bidi_base.proofs.ExplicitLemmas.{status_inside-taken, status_inside-refused}
+use Rattle.bidi_laws.proofs.ExplicitLemmas.{status_inside-taken, status_inside-refused}
 
 pub status_inside-none : (status : Status) (openers : List BidiClass) → length openers < 1 → status ≡ status_inside status openers
 unfolding status_inside

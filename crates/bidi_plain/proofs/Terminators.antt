@@ -4,8 +4,8 @@ use borrow.Rule.Slice.PartMut.{put_mid}
 use Rattle.bidi_base.specs.declared.char_data.BidiClass.{BidiClass}
 use Rattle.bidi_base.specs.declared.char_data.BidiClass.TheVariants.{L, EN, ET}
 use Rattle.bidi_base.proofs.PlacesLemmas.{reverse-take_more}
-use Rattle.bidi_base.proofs.InPlace.{IsRewritten, IsRewritten-keep}
-use Rattle.bidi_base.proofs.Blocks.{IsBlock, look-drop, look-take, answer, IsRewritten-filled, IsRewritten-unchanged, IsRewritten-past, IsBlock-counted, length-part, read_later}
+use Rattle.bidi_laws.proofs.InPlace.{IsRewritten, IsRewritten-keep}
+use Rattle.bidi_laws.proofs.Blocks.{IsBlock, look-drop, look-take, answer, IsRewritten-filled, IsRewritten-unchanged, IsRewritten-past, IsBlock-counted, length-part, read_later}
 
 -- past the terminators a European number is next
 abbrev pub is_number_next : List BidiClass → Bool

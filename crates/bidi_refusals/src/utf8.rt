@@ -6,7 +6,7 @@ ghost use Rattle.unicode_bidi.specs.BidiInfo.{analysed as analysed_of};
 ghost use Rattle.unicode_bidi.specs.ParagraphBidiInfo.{analysed as whole_of};
 
 use bidi_base::data_source::TableBidiData;
-use bidi_base::text::{StrText, is_line};
+use bidi_text::text::{StrText, is_line};
 use bidi_trials::texts::TEXT;
 use bidi_trials::trial::Fault;
 use bidi_trials::tried;

@@ -4,4 +4,5 @@
 
 pub mod implicit;
 
-pub use bidi_runs::{explicit, prepare};
+pub use bidi_explicit::explicit;
+pub use bidi_runs::prepare;

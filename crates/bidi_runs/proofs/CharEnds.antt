@@ -2,7 +2,7 @@
 use Rattle.bidi_base.proofs.Common.{◌≡◌, ℕ, ◌+◌, ◌<◌, ◌≤◌, true, List, length, get_or, Some, None, sym, ap, ◌∙◌, arith, common_steps, class_at, char_at, char_index, is_boundary, place, text_len, is_per_char}
 use Rattle.bidi_base.specs.declared.char_data.BidiClass.{BidiClass}
 use Rattle.bidi_base.proofs.PlaceLemmas.{char_at-place, char_index-place, is_boundary-place, place-char_index, place-end, place-le-back, place-mono, place-more, place-more-le, place-zero}
-use Rattle.bidi_base.proofs.PerCharTests.{class_eq, class_test}
+use Rattle.bidi_text.proofs.PerCharTests.{class_eq, class_test}
 use Rattle.bidi_base.proofs.TextLemmas.{HasUnits}
 use Rattle.bidi_base.proofs.UnitsLemmas.{IsPerChar-from_is_per_char}
 use Rattle.bidi_runs.proofs.PassOverText.{alike_class}

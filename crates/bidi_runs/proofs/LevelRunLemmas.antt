@@ -3,8 +3,8 @@ use Rattle.bidi_base.proofs.Common.{◌≡◌, ℕ, zero, suc, ◌+◌, ◌-◌,
 use Rattle.bidi_base.specs.declared.char_data.BidiClass.{BidiClass}
 use Rattle.bidi_base.proofs.TextLemmas.{HasUnits}
 use Rattle.bidi_base.proofs.PlaceLemmas.{place-end, char_index-place}
-use Rattle.bidi_base.proofs.SuccessorLemmas.{kept_before-is_None}
-use Rattle.bidi_base.proofs.RunsLemmas.{IsLevelRun}
+use Rattle.bidi_laws.proofs.SuccessorLemmas.{kept_before-is_None}
+use Rattle.bidi_laws.proofs.RunsLemmas.{IsLevelRun}
 
 -- the ranges between starts and an end, one by one
 pub ranges_between-at : (starts : List ℕ) (end k : ℕ) (d : ℕ × ℕ) → k < length starts → get_or (ranges_between starts end) k d ≡ (get_or (starts ++ end ∷ []) k 0, get_or (starts ++ end ∷ []) (suc k) 0)

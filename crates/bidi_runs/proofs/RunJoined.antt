@@ -7,14 +7,14 @@ use Rattle.bidi_base.specs.declared.char_data.BidiClass.{BidiClass}
 use Rattle.bidi_base.proofs.ChainLemmas.{filter_range-none}
 use Rattle.bidi_base.proofs.TextLemmas.{HasUnits}
 use Rattle.bidi_base.proofs.PlaceLemmas.{place-mono, IsLine-places}
-use Rattle.bidi_base.proofs.SuccessorLemmas.{kept_before-is_None}
-use Rattle.bidi_base.proofs.PassLemmas.{AllBegun}
-use Rattle.bidi_base.proofs.RunsLemmas.{IsLevelRun}
+use Rattle.bidi_laws.proofs.SuccessorLemmas.{kept_before-is_None}
+use Rattle.bidi_laws.proofs.PassLemmas.{AllBegun}
+use Rattle.bidi_laws.proofs.RunsLemmas.{IsLevelRun}
 use Rattle.bidi_runs.specs.Joining.{JoinedRuns, no_runs, with_run, characters_of, read_range}
 use Rattle.bidi_runs.proofs.RunCutting.{run_starts-some}
 use Rattle.bidi_runs.proofs.LevelRunLemmas.{kept_in_run, kept_in_runs-push}
 use Rattle.bidi_runs.proofs.RunUnits.{NoneKept, IsLast}
-use Rattle.bidi_base.proofs.OpenPass.{IsAt-end, IsAt}
+use Rattle.bidi_laws.proofs.OpenPass.{IsAt-end, IsAt}
 use Rattle.bidi_runs.proofs.RunPass.{with_places, HasCome, HasCome-run}
 use Rattle.bidi_runs.proofs.RunJoining.{IsFirst, first_at, kept_before-first, rest_of, front_is, last_is, one_level, kept_before-next_run, level_beyond, end_is, came, begins_kept, begins_after}
 

@@ -4,10 +4,10 @@ use Rattle.std.specs.Prelude.{find, if◌then◌else◌, is_some}
 use Rattle.std.specs.List.{fold}
 use Rattle.bidi_base.specs.declared.char_data.BidiClass.{BidiClass}
 use Rattle.bidi_base.proofs.PlacesLemmas.{find-between, find-between-None}
-use Rattle.bidi_base.proofs.WaitingLemmas.{IsWaiting}
-use Rattle.bidi_base.proofs.OpenPass.{IsAt, IsAt-read}
-use Rattle.bidi_base.proofs.SuccessorLemmas.{is_kept-initiator, next_kept-is, next_kept-is_None, kept_before-is, kept_before-is_None}
-use Rattle.bidi_base.proofs.RunsLemmas.{AllOfLevel, AllOfLevel-run, IsLevelRun, IsRun-IsLevelRun}
+use Rattle.bidi_laws.proofs.WaitingLemmas.{IsWaiting}
+use Rattle.bidi_laws.proofs.OpenPass.{IsAt, IsAt-read}
+use Rattle.bidi_laws.proofs.SuccessorLemmas.{is_kept-initiator, next_kept-is, next_kept-is_None, kept_before-is, kept_before-is_None}
+use Rattle.bidi_laws.proofs.RunsLemmas.{AllOfLevel, AllOfLevel-run, IsLevelRun, IsRun-IsLevelRun}
 use Rattle.bidi_runs.specs.Joining.{read_range}
 use Rattle.bidi_runs.proofs.KeptRangeLemmas.{filter_range-first, last_or-range}
 use Rattle.bidi_runs.proofs.RunUnits.{NoneKept, IsLast}

@@ -2,10 +2,10 @@
 use Rattle.bidi_base.proofs.Common.{◌≡◌, ℕ, zero, suc, ◌+◌, ◌-◌, ◌<◌, ◌≤◌, Bool, true, cond, eqb, List, [], ◌∷◌, ◌++◌, length, get_or, set, reverse, length-append, Option, Some, None, subst, arith, inl, inr, filter, IfSome, range_with_len, cases_Bool, cases_eq, get_or_push, length-set, class_at, last_or, is_kept_at, successor, is_first, waiting_for}
 use Rattle.std.proofs.lemmas.List.{get_or-set_same}
 use Rattle.bidi_base.specs.declared.char_data.BidiClass.{BidiClass}
-use Rattle.bidi_base.proofs.ReadStack.{Member}
-use Rattle.bidi_base.proofs.OpenPass.{IsAt, goes_on}
-use Rattle.bidi_base.proofs.RunsLemmas.{IsRun, AreRunSteps-successors, IsFront, front_of, IsLevelRun, IsRun-IsLevelRun}
-use Rattle.bidi_base.proofs.WaitingLemmas.{inside_run, Member-append_right, IsWaiting, IsPass, IsPass-begin, IsPass-join, IsPass-skip}
+use Rattle.bidi_laws.proofs.ReadStack.{Member}
+use Rattle.bidi_laws.proofs.OpenPass.{IsAt, goes_on}
+use Rattle.bidi_laws.proofs.RunsLemmas.{IsRun, AreRunSteps-successors, IsFront, front_of, IsLevelRun, IsRun-IsLevelRun}
+use Rattle.bidi_laws.proofs.WaitingLemmas.{inside_run, Member-append_right, IsWaiting, IsPass, IsPass-begin, IsPass-join, IsPass-skip}
 
 -- the characters of a run come to the sequence at s, or to a new one
 abbrev pub with_places : Option ℕ → List ℕ → List (List ℕ) → List (List ℕ)

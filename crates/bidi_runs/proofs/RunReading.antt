@@ -8,7 +8,7 @@ use Rattle.bidi_base.proofs.PlaceLemmas.{is_boundary-place, line_places, place-c
 use Rattle.bidi_base.proofs.PlacesLemmas.{range_with_len-more}
 use Rattle.bidi_base.proofs.PerUnit.{length-per_char, get_or-per_unit-place}
 use Rattle.bidi_base.proofs.UnitsLemmas.{per_unit-from_is_per_char, IsPerChar-from_is_per_char}
-use Rattle.bidi_base.proofs.PerCharTests.{class_eq, class_test}
+use Rattle.bidi_text.proofs.PerCharTests.{class_eq, class_test}
 use Rattle.bidi_runs.specs.Joining.{is_isolate_control, read_range, read_units}
 use Rattle.bidi_runs.proofs.PassOverText.{alike_class}
 

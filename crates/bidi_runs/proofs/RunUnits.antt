@@ -6,7 +6,7 @@ use Rattle.bidi_base.specs.declared.char_data.BidiClass.TheVariants.{L}
 use Rattle.bidi_base.proofs.TextLemmas.{HasUnits}
 use Rattle.bidi_base.proofs.PlaceLemmas.{place-more, place-mono, place-lt, place-le, UnitOf, unit_of}
 use Rattle.bidi_base.proofs.PerUnit.{get_or-per_unit, get_or-per_unit-place}
-use Rattle.bidi_base.proofs.RunsLemmas.{IsLevelRun}
+use Rattle.bidi_laws.proofs.RunsLemmas.{IsLevelRun}
 use Rattle.bidi_runs.specs.Joining.{IsKeptEnd}
 use Rattle.bidi_runs.proofs.LevelRunLemmas.{IsLevelRun-at, level_run_ranges-at, length-level_run_ranges}
 

@@ -1,5 +1,4 @@
 pub mod ExplicitPass
-pub mod ExplicitStretches
 pub mod Joining
 pub mod RunSequence
-pub mod Status
+pub mod Written

@@ -3,7 +3,7 @@
 ghost use Rattle.std.specs.Prelude.{◌≡◌, ℕ, ◌<◌, ◌≤◌, ◌+◌, length, IsTrue};
 ghost use Rattle.bidi_base.specs.Text.{is_boundary, place, text_len};
 
-use bidi_base::text::TextSource;
+use bidi_text::text::TextSource;
 
 /// The unit behind the character that begins at `start`, which is the place of a character.
 pub fn end_of<T: TextSource>(text: T, start: usize) -> usize

@@ -1,7 +1,7 @@
-//! The explicit levels of one paragraph, its level runs and its isolating run sequences, as passes
-//! over its code units.
+//! The isolating run sequences of one paragraph, as passes over its code units, and what passes over
+//! level runs share.
 #![tactic(auto)]
 
 pub mod characters;
-pub mod explicit;
 pub mod prepare;
+pub mod written;

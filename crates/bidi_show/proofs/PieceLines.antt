@@ -6,22 +6,22 @@ use Rattle.std.proofs.lemmas.List.{length-drop}
 use Rattle.std.proofs.lemmas.Str.{IsUtf8-between}
 use Rattle.bidi_base.specs.declared.char_data.BidiClass.{BidiClass}
 use Rattle.bidi_base.specs.declared.char_data.BidiClass.TheVariants.{L}
-use Rattle.bidi_base.proofs.LayoutLemmas.{lines_of-joined}
-use Rattle.bidi_base.proofs.LevelLaws.{length-stored_levels}
+use Rattle.bidi_laws.proofs.LayoutLemmas.{lines_of-joined}
+use Rattle.bidi_laws.proofs.LevelLaws.{length-stored_levels}
 use Rattle.bidi_base.proofs.PerUnit.{length-per_unit, per_unit-append, per_char-per_unit}
-use Rattle.bidi_base.proofs.StoredSteps.{length-stored_classes}
+use Rattle.bidi_laws.proofs.StoredSteps.{length-stored_classes}
 use Rattle.bidi_base.proofs.TextLemmas.{subrange-middle}
-use Rattle.bidi_base.proofs.ParagraphsLemmas.{paragraphs-joined, joined}
-use Rattle.bidi_base.proofs.PieceUnits.{length-values}
+use Rattle.bidi_laws.proofs.ParagraphsLemmas.{paragraphs-joined, joined}
+use Rattle.bidi_laws.proofs.PieceUnits.{length-values}
 use Rattle.bidi_base.proofs.PlaceLemmas.{subrange-front, place-le, place-mono, place-end, char_index-place, IsLine-places}
-use Rattle.bidi_base.proofs.StrLemmas.{text_len-encodes, has_units, subrange-from_str, IsCharBoundary-from_is_boundary}
+use Rattle.bidi_text.proofs.StrLemmas.{text_len-encodes, has_units, subrange-from_str, IsCharBoundary-from_is_boundary}
 use Rattle.bidi_show.specs.Shown.{levels_in, own_end, line_in, text_in, layout_in, layout_text, printed_at, printed_in}
 use Rattle.bidi_show.specs.Texts.{without_separator, shown_line, one_column, one_at_least, layout_lines, paragraph_text, lines_from, shown_text}
 use Rattle.bidi_show.specs.declared.command.View.{View}
 use Rattle.bidi_show.specs.declared.command.View.TheVariants.{Whole, Lines}
 use Rattle.bidi_show.proofs.ShownLemmas.{without_separator-IsFront}
 use Rattle.unicode_bidi.specs.ParagraphInfo.{ranges_of, levels_of}
-use Rattle.bidi_paragraphs.specs.declared.paragraph_info.ParagraphInfo.{ParagraphInfo}
+use Rattle.bidi_walk.specs.declared.paragraph_info.ParagraphInfo.{ParagraphInfo}
 
 -- ---- a part of a list
 

@@ -3,8 +3,8 @@ use Rattle.bidi_base.proofs.Common.{◌≡◌, ℕ, ◌+◌, ◌-◌, ◌<◌, �
 use Rattle.bidi_base.proofs.PlaceLemmas.{line_places, place-slice_range, IsLine-places}
 use Rattle.bidi_base.proofs.TextLemmas.{is_boundary-le}
 use Rattle.bidi_base.proofs.PerUnit.{length-per_char, get_or-per_char}
-use Rattle.bidi_base.proofs.StrLemmas.{has_units, text_len-chars, subrange-from_str}
-use Rattle.bidi_base.proofs.OrderLemmas.{length-slice_range}
+use Rattle.bidi_text.proofs.StrLemmas.{has_units, text_len-chars, subrange-from_str}
+use Rattle.bidi_laws.proofs.OrderLemmas.{length-slice_range}
 use Rattle.bidi_show.specs.Shown.{own_end}
 use Rattle.bidi_show.specs.Texts.{spaced, levels_line, without_separator}
 

@@ -12,8 +12,8 @@ ghost use Rattle.unicode_bidi.specs.ParagraphInfo.{level_of, range_of};
 
 use crate::command::View;
 use bidi_base::classes::is_paragraph_separator;
-use bidi_base::text::{StrText, TextSource};
 use bidi_terminal::push_number;
+use bidi_text::text::{StrText, TextSource};
 use std::alloc::{AllocError, Global};
 use unicode_bidi::layout::{self, CharWidth};
 use unicode_bidi::{BidiClass, BidiDataSource, BidiInfo, Level, LevelRun, ParagraphInfo};

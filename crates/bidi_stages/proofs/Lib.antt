@@ -1,4 +1,1 @@
-pub mod AloneLemmas
 pub mod PagesLemmas
-pub mod SequencesLemmas
-pub mod StagesLemmas

@@ -5,9 +5,9 @@ use Rattle.bidi_terminal.specs.Bases.{level_of_base}
 use Rattle.bidi_terminal.specs.declared.base.Base.TheVariants.{Auto}
 use Rattle.bidi_controls.specs.Lines.{lines_of, own_chars}
 use Rattle.bidi_stages.specs.Pages.{section_text}
-use Rattle.bidi_stages.specs.Stages.{AreStages}
+use Rattle.bidi_rule_stages.specs.Stages.{AreStages}
 use Rattle.bidi_stages.specs.Tables.{table_text}
-use Rattle.bidi_stages.specs.declared.stages.Stages.{Stages}
+use Rattle.bidi_rule_stages.specs.declared.stages.Stages.{Stages}
 use Rattle.bidi_stages.specs.declared.view.Form.{Form}
 use Rattle.bidi_stages.specs.declared.view.Form.TheVariants.{Table, Page}
 use Rattle.bidi_stages.specs.declared.view.StageView.{StageView}

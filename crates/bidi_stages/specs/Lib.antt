@@ -1,6 +1,4 @@
-pub mod Cells
 pub mod Explained
 pub mod Pages
 pub mod Rows
-pub mod Stages
 pub mod Tables

@@ -5,10 +5,10 @@ use Rattle.bidi_base.specs.declared.char_data.BidiClass.{BidiClass}
 use Rattle.bidi_base.specs.Levels.{is_odd}
 use Rattle.bidi_base.specs.Places.{class_at}
 use Rattle.bidi_base.specs.Sequences.{RunSequence, level_at}
-use Rattle.bidi_stages.specs.Cells.{glyph}
+use Rattle.bidi_cells.specs.Cells.{glyph}
 use Rattle.bidi_stages.specs.Rows.{stage_rows}
 use Rattle.bidi_stages.specs.Tables.{level_text, sequence_text}
-use Rattle.bidi_stages.specs.declared.stages.Stages.{Stages}
+use Rattle.bidi_rule_stages.specs.declared.stages.Stages.{Stages}
 
 -- what stands for a character between tags: what could begin or end one is written as its reference
 abbrev pub escaped : BidiClass → ℕ → List ℕ

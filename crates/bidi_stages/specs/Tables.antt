@@ -2,9 +2,9 @@
 use Rattle.std.specs.Prelude.{ℕ, List, ◌++◌, flat_map, codes, decimal}
 use Rattle.bidi_base.specs.declared.char_data.BidiClass.{BidiClass}
 use Rattle.bidi_base.specs.Sequences.{RunSequence}
-use Rattle.bidi_stages.specs.Cells.{class_name}
+use Rattle.bidi_cells.specs.Cells.{class_name}
 use Rattle.bidi_stages.specs.Rows.{rows_from}
-use Rattle.bidi_stages.specs.declared.stages.Stages.{Stages}
+use Rattle.bidi_rule_stages.specs.declared.stages.Stages.{Stages}
 
 -- a cell stands behind a tab
 abbrev pub cell_text : List ℕ → List ℕ

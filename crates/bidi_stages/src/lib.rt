@@ -1,10 +1,10 @@
 //! What each stage of the rules makes of the characters of a text, as tables and as a page of HTML.
 #![tactic(auto)]
 
-mod cells;
 pub mod explain;
 pub mod page;
 mod rows;
-pub mod stages;
 mod table;
 pub mod view;
+
+pub use bidi_rule_stages::stages;

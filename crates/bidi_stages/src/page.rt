@@ -3,13 +3,13 @@ ghost use Rattle.std.specs.Prelude.{◌≡◌, ◌<◌, ◌++◌, true, flat_map
 ghost use Rattle.std.specs.List.{list_all, range_with_len};
 ghost use Rattle.bidi_stages.specs.Pages.{escaped, is_text_byte, box_tag, box_start, box_text, box_at, boxes_row, shown_row, link, link_from, links_start, links_row, cell_element, row_element, summary_text, section_text};
 
-use crate::cells::push_glyph;
 use crate::rows::{Row, stage_rows};
-use crate::stages::Stages;
 use crate::table::{push_level, push_sequences};
 use bidi_base::char_data::BidiClass;
 use bidi_base::level::Level;
+use bidi_cells::cells::push_glyph;
 use bidi_plain::plain::PlainSequence;
+use bidi_rule_stages::stages::Stages;
 use bidi_terminal::push_number;
 use std::alloc::{AllocError, Global};
 

@@ -2,10 +2,10 @@
 ghost use Rattle.std.specs.Prelude.{◌≡◌, length, map, vec_len, IfOk, string_bytes};
 ghost use Rattle.bidi_stages.specs.Rows.{stage_rows, rows_from};
 
-use crate::cells::{
+use bidi_cells::cells::{
     class_cells, code_cells, glyph_cells, index_cells, level_cells, number_cells, option_cells,
 };
-use crate::stages::Stages;
+use bidi_rule_stages::stages::Stages;
 use std::alloc::{AllocError, Global};
 use std::marker::Model;
 

@@ -2,11 +2,11 @@
 ghost use Rattle.std.specs.Prelude.{◌≡◌, ◌++◌, flat_map, map, length, vec_len, codes, decimal, OnOk, string_bytes};
 ghost use Rattle.bidi_stages.specs.Tables.{cell_text, row_text, ends_text, sequence_line, sequence_text, level_text, stages_text, table_text};
 
-use crate::cells::class_name;
 use crate::rows::{Row, rows};
-use crate::stages::Stages;
 use bidi_base::char_data::BidiClass;
+use bidi_cells::cells::class_name;
 use bidi_plain::plain::PlainSequence;
+use bidi_rule_stages::stages::Stages;
 use bidi_terminal::push_number;
 use std::alloc::{AllocError, Global};
 

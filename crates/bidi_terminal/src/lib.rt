@@ -5,8 +5,6 @@
 mod base;
 mod columns;
 mod number;
-#[cfg(test)]
-mod tests;
 
 pub use base::Base;
 pub use columns::Columns;

@@ -4,7 +4,7 @@ use Rattle.std.proofs.Common.{slice_range}
 use Rattle.bidi_base.specs.Display.{run_text}
 use Rattle.bidi_base.proofs.TextLemmas.{HasUnits}
 use Rattle.bidi_base.proofs.PlaceLemmas.{place-mono, place-slice_range, char_index-place}
-use Rattle.bidi_base.proofs.OrderLemmas.{get_or-slice_range, length-slice_range}
+use Rattle.bidi_laws.proofs.OrderLemmas.{get_or-slice_range, length-slice_range}
 use Rattle.bidi_lines.proofs.VisualRuns.{visual_runs-are}
 use Rattle.bidi_text_lines.proofs.CharRuns.{units_of, place_from, visual_runs-units}
 use Rattle.bidi_text_lines.proofs.RunText.{reordered_text-runs, flat_map-same_on}

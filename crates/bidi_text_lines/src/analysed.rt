@@ -9,9 +9,9 @@ ghost use Rattle.bidi_base.specs.Text.{is_per_char};
 use crate::level_direction::direction_of;
 use bidi_base::char_data::{BidiClass, Direction};
 use bidi_base::level::{Level, has_rtl};
-use bidi_base::text::TextSource;
 use bidi_lines::line_levels::{levels_of_line, levels_per_char, levels_with_line};
 use bidi_lines::visual_runs::{levels_and_runs, visual_runs_of};
+use bidi_text::text::TextSource;
 use std::alloc::{AllocError, Global};
 use std::ops::Range;
 

@@ -7,9 +7,9 @@ ghost use Rattle.bidi_base.specs.declared.char_data.BidiClass.TheVariants.{L};
 
 use crate::analysed::Analysed;
 use bidi_base::level::Level;
-use bidi_base::text::TextSource;
 use bidi_lines::line_levels::{levels_of_line, line_has_rtl};
 use bidi_lines::visual_runs::visual_runs_of;
+use bidi_text::text::TextSource;
 use std::alloc::{AllocError, Global};
 use std::ops::Range;
 

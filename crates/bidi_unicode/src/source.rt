@@ -40,7 +40,13 @@ impl BidiDataSource for UnicodeData {
 }
 
 /// The partner of a character that is mirrored (L4): the one that is shown in its place at an odd
-/// level. `None` where Unicode names no such partner, also for some characters that it calls mirrored.
+/// level. `None` where the table names no such partner, also for some characters that Unicode calls
+/// mirrored.
+///
+/// The table has the partners of Unicode 15.0, and the brackets U+2E62 and U+2E63, which are each
+/// other's. The other characters that have become mirrored since then, up to `UNICODE_VERSION`, have
+/// no partner here: U+226D, U+1CEDD to U+1CEDF, U+1DB03 to U+1DB09, U+1DB10, U+1DB17, U+1DB18 and
+/// U+1DB1B.
 pub fn mirrored(c: char) -> Option<char>
     ensures partner { result ≡ mirrored_of c }
     ensures mirrored { IsSome result → IsTrue (is_bidi_mirrored c) }

@@ -4,18 +4,18 @@ use Rattle.std.proofs.lemmas.List.{append-nil}
 use Rattle.std.specs.Prelude.{Option, Some, None}
 use Rattle.bidi_base.specs.declared.char_data.BidiClass.TheVariants.{L}
 use Rattle.bidi_base.specs.Analysed.{HasCharValues}
-use Rattle.bidi_base.proofs.CrLfLemmas.{together-AreCrLfParagraphRanges}
+use Rattle.bidi_laws.proofs.CrLfLemmas.{together-AreCrLfParagraphRanges}
 use Rattle.bidi_base.proofs.PerUnit.{per_char-per_unit}
-use Rattle.bidi_base.proofs.PerCharTests.{class_test}
+use Rattle.bidi_text.proofs.PerCharTests.{class_test}
 use Rattle.bidi_base.proofs.TextLemmas.{HasUnits}
 use Rattle.bidi_base.proofs.UnitsLemmas.{is_per_char-per_unit}
-use Rattle.bidi_base.proofs.LevelLaws.{length-text_levels, text_classes-one, text_levels-one, paragraph_levels-one, stored_levels-AreLevelsFrom, All-per_unit}
-use Rattle.bidi_base.proofs.ParagraphsLemmas.{cut_after-joined, joined, length-text_classes, paragraphs-AreParagraphRanges}
-use Rattle.bidi_paragraphs.specs.declared.paragraph_info.ParagraphInfo.{ParagraphInfo}
-use Rattle.bidi_paragraphs.specs.ParagraphInfo.{range_of, ranges_of, levels_of}
-use Rattle.bidi_paragraphs.specs.SplitRule.{pieces_by, AreParagraphRangesBy, IsAnalysisOf, IsAnalysisBy}
-use Rattle.bidi_paragraphs.specs.declared.split_rule.SplitRule.{SplitRule}
-use Rattle.bidi_paragraphs.specs.declared.split_rule.SplitRule.TheVariants.{EachSeparator}
+use Rattle.bidi_laws.proofs.LevelLaws.{length-text_levels, text_classes-one, text_levels-one, paragraph_levels-one, stored_levels-AreLevelsFrom, All-per_unit}
+use Rattle.bidi_laws.proofs.ParagraphsLemmas.{cut_after-joined, joined, length-text_classes, paragraphs-AreParagraphRanges}
+use Rattle.bidi_walk.specs.declared.paragraph_info.ParagraphInfo.{ParagraphInfo}
+use Rattle.bidi_walk.specs.ParagraphInfo.{range_of, ranges_of, levels_of}
+use Rattle.bidi_walk.specs.SplitRule.{pieces_by, AreParagraphRangesBy, IsAnalysisOf, IsAnalysisBy}
+use Rattle.bidi_walk.specs.declared.split_rule.SplitRule.{SplitRule}
+use Rattle.bidi_walk.specs.declared.split_rule.SplitRule.TheVariants.{EachSeparator}
 use Rattle.unicode_bidi.proofs.ParagraphUnits.{paragraphs-HasOwnUnits, paragraphs-are_lines, paragraphs-AreLevelsFrom}
 
 -- cut into any pieces

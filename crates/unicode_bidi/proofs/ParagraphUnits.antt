@@ -4,18 +4,18 @@ use Rattle.bidi_text_lines.proofs.RunText.{flat_map-same_on}
 use Rattle.std.specs.Prelude.{flat_map}
 use Rattle.std.proofs.lemmas.List.Concat.{flat_map-append}
 use Rattle.bidi_base.specs.declared.char_data.BidiClass.{BidiClass}
-use Rattle.bidi_base.proofs.LevelLaws.{paragraph_level-few, length-stored_levels, stored_levels-AreLevelsFrom, All-per_unit}
-use Rattle.bidi_base.proofs.StoredSteps.{length-stored_classes}
+use Rattle.bidi_laws.proofs.LevelLaws.{paragraph_level-few, length-stored_levels, stored_levels-AreLevelsFrom, All-per_unit}
+use Rattle.bidi_laws.proofs.StoredSteps.{length-stored_classes}
 use Rattle.bidi_base.proofs.PlaceLemmas.{text_len-subrange}
 use Rattle.bidi_base.proofs.PerUnit.{length-per_unit}
 use Rattle.bidi_base.proofs.TextLemmas.{HasUnits, is_boundary-le, subrange-middle}
-use Rattle.bidi_base.proofs.ParagraphsLemmas.{ranges-lines, joined}
-use Rattle.bidi_base.proofs.PieceUnits.{per_unit-pieces, HasOwnUnits-pieces}
-use Rattle.bidi_base.proofs.ResolvedLemmas.{length-levels_in}
-use Rattle.bidi_paragraphs.specs.declared.paragraph_info.ParagraphInfo.{ParagraphInfo}
+use Rattle.bidi_laws.proofs.ParagraphsLemmas.{ranges-lines, joined}
+use Rattle.bidi_laws.proofs.PieceUnits.{per_unit-pieces, HasOwnUnits-pieces}
+use Rattle.bidi_laws.proofs.ResolvedLemmas.{length-levels_in}
+use Rattle.bidi_walk.specs.declared.paragraph_info.ParagraphInfo.{ParagraphInfo}
 use Rattle.unicode_bidi.specs.Engine.{unit_levels, own_flags, CanWrite, Follow, chars_of}
-use Rattle.bidi_paragraphs.specs.ParagraphFlags.{flags_of, paragraph_flags}
-use Rattle.bidi_paragraphs.specs.ParagraphInfo.{range_of, level_of, ranges_of, levels_of}
+use Rattle.bidi_walk.specs.ParagraphFlags.{flags_of, paragraph_flags}
+use Rattle.bidi_walk.specs.ParagraphInfo.{range_of, level_of, ranges_of, levels_of}
 
 -- ---- one paragraph
 

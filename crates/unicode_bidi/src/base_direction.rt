@@ -10,7 +10,7 @@ ghost use Rattle.bidi_base.specs.declared.char_data.Direction.TheVariants.{Rtl};
 use bidi_base::char_data::{BidiClass, Direction};
 use bidi_base::classes::{is_initiator, is_paragraph_separator, is_pdi, is_strong};
 use bidi_base::data_source::BidiDataSource;
-use bidi_base::text::TextSource;
+use bidi_text::text::TextSource;
 
 /// The base direction of a text: that of its first paragraph's first strong character outside
 /// isolates (P2), `Mixed` where there is none. It stops there, and takes no memory.

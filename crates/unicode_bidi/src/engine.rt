@@ -8,20 +8,20 @@ ghost use Rattle.bidi_base.specs.declared.char_data.BidiClass.TheVariants.{L};
 ghost use Rattle.bidi_base.specs.Paragraphs.{AreParagraphRanges};
 ghost use Rattle.bidi_base.specs.Text.{text_len, is_per_char, per_char, char_index, IsLine};
 ghost use Rattle.unicode_bidi.specs.Engine.{with_analysis, original_classes as original_classes_of, levels as stored_levels_of, paragraphs as paragraphs_of_analysis, flags as flags_of_analysis, unit_levels, own_flags, CanWrite, Follow};
-ghost use Rattle.bidi_paragraphs.specs.ParagraphFlags.{paragraph_flags};
-ghost use Rattle.bidi_paragraphs.specs.ParagraphInfo.{level_of, range_of, ranges_of, levels_of};
-ghost use Rattle.bidi_paragraphs.specs.SplitRule.{pieces_by, IsAnalysisBy};
+ghost use Rattle.bidi_walk.specs.ParagraphFlags.{paragraph_flags};
+ghost use Rattle.bidi_walk.specs.ParagraphInfo.{level_of, range_of, ranges_of, levels_of};
+ghost use Rattle.bidi_walk.specs.SplitRule.{pieces_by, IsAnalysisBy};
 
 use bidi_base::char_data::BidiClass;
 use bidi_base::data_source::BidiDataSource;
 use bidi_base::level::{LTR_LEVEL, Level};
-use bidi_base::text::TextSource;
 use bidi_lines::line_levels::levels_with_line;
 use bidi_paragraphs::first_walk;
 use bidi_paragraphs::paragraph_flags::ParagraphFlags;
 use bidi_paragraphs::paragraph_info::ParagraphInfo;
 use bidi_paragraphs::paragraph_levels::{ClassifiedParagraph, LevelResolver};
 use bidi_paragraphs::split_rule::SplitRule;
+use bidi_text::text::TextSource;
 use std::alloc::{AllocError, Global};
 use std::ops::Range;
 

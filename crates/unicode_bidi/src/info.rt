@@ -8,17 +8,17 @@ ghost use Rattle.bidi_base.specs.Order.{visual_order, IsVisualOrder, order_by_re
 ghost use Rattle.bidi_base.specs.Places.{indexes};
 ghost use Rattle.bidi_base.specs.Stored.{stored_levels};
 ghost use Rattle.bidi_base.specs.Text.{is_per_char, IsLine};
-ghost use Rattle.bidi_paragraphs.specs.ParagraphInfo.{level_of, range_of, ranges_of, levels_of};
-ghost use Rattle.bidi_paragraphs.specs.SplitRule.{AreParagraphRangesBy, IsAnalysisBy};
+ghost use Rattle.bidi_walk.specs.ParagraphInfo.{level_of, range_of, ranges_of, levels_of};
+ghost use Rattle.bidi_walk.specs.SplitRule.{AreParagraphRangesBy, IsAnalysisBy};
 
 use crate::engine;
 use bidi_base::char_data::BidiClass;
 use bidi_base::data_source::BidiDataSource;
 use bidi_base::level::Level;
-use bidi_base::text::TextSource;
 use bidi_lines::visual_order;
 use bidi_paragraphs::paragraph_info::ParagraphInfo;
 use bidi_paragraphs::split_rule::SplitRule;
+use bidi_text::text::TextSource;
 use bidi_text_lines::analysed::Analysed;
 use std::alloc::{AllocError, Global};
 use std::ops::Range;

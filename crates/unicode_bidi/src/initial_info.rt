@@ -3,15 +3,15 @@ ghost use Rattle.std.specs.Prelude.{◌≡◌, IsTrue, IfOk, true};
 ghost use Rattle.bidi_base.specs.Paragraphs.{pieces_of, ranges_from, AreParagraphRanges};
 ghost use Rattle.bidi_base.specs.Stored.{text_classes, paragraph_levels};
 ghost use Rattle.bidi_base.specs.Text.{is_per_char, per_unit};
-ghost use Rattle.bidi_paragraphs.specs.ParagraphInfo.{ranges_of, levels_of};
+ghost use Rattle.bidi_walk.specs.ParagraphInfo.{ranges_of, levels_of};
 
 use bidi_base::char_data::BidiClass;
 use bidi_base::data_source::BidiDataSource;
 use bidi_base::level::Level;
-use bidi_base::text::TextSource;
 use bidi_paragraphs::first_walk;
 use bidi_paragraphs::paragraph_info::ParagraphInfo;
 use bidi_paragraphs::split_rule::SplitRule;
+use bidi_text::text::TextSource;
 use std::alloc::{AllocError, Global};
 
 /// The paragraphs of a text and the classes of its characters: what there is before any level is

@@ -8,15 +8,15 @@ ghost use Rattle.bidi_base.specs.Order.{visual_order};
 ghost use Rattle.bidi_base.specs.Paragraphs.{IsPartition};
 ghost use Rattle.bidi_base.specs.Text.{place, per_char, text_len, IsLine};
 ghost use Rattle.unicode_bidi.specs.BidiInfo.{analysed as analysed_of};
-ghost use Rattle.bidi_paragraphs.specs.ParagraphInfo.{level_of, range_of};
+ghost use Rattle.bidi_walk.specs.ParagraphInfo.{level_of, range_of};
 
 use crate::utf8::BidiInfo;
 use bidi_base::level::Level;
-use bidi_base::text::{StrText, TextSource};
 use bidi_lines::line_levels::first_units;
 use bidi_lines::visual_order::inverse;
 use bidi_paragraphs::paragraph_info::ParagraphInfo;
 use bidi_rules::prepare::LevelRun;
+use bidi_text::text::{StrText, TextSource};
 use std::alloc::{AllocError, Global};
 use std::ops::Range;
 

@@ -26,6 +26,7 @@ mod paragraph;
 mod paragraph_bidi_info;
 pub mod utf16;
 mod utf8;
+mod version;
 
 pub use base_direction::{
     get_base_direction_full_with_data_source, get_base_direction_with_data_source,
@@ -33,10 +34,12 @@ pub use base_direction::{
 pub use bidi_base::char_data::{BidiClass, Direction};
 pub use bidi_base::data_source::BidiDataSource;
 pub use bidi_base::level::{LTR_LEVEL, Level, RTL_LEVEL};
-pub use bidi_base::text::{TextSource, Utf8IndexLenIter};
-pub use bidi_base::{char_data, data_source, format_chars, level, sample, text};
+pub use bidi_base::{char_data, data_source, format_chars, level, sample};
 pub use bidi_paragraphs::paragraph_info::ParagraphInfo;
 pub use bidi_paragraphs::split_rule::SplitRule;
 pub use bidi_rules::prepare::{LevelRun, LevelRunVec};
 pub use bidi_rules::{explicit, implicit, prepare};
+pub use bidi_text::text;
+pub use bidi_text::text::{TextSource, Utf8IndexLenIter};
 pub use utf8::{BidiInfo, InitialInfo, Paragraph, ParagraphBidiInfo};
+pub use version::VERSION;

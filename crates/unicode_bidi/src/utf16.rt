@@ -11,17 +11,17 @@ ghost use Rattle.bidi_base.specs.Laws.{HasOwnUnits, AreLevelsFrom, BoundaryNeutr
 ghost use Rattle.bidi_base.specs.Paragraphs.{pieces_of, ranges_from, AreParagraphRanges};
 ghost use Rattle.bidi_base.specs.Stored.{text_classes, stored_levels, paragraph_levels};
 ghost use Rattle.bidi_base.specs.Text.{per_unit, is_per_char};
-ghost use Rattle.bidi_paragraphs.specs.ParagraphInfo.{level_of, range_of, ranges_of, levels_of};
-ghost use Rattle.bidi_paragraphs.specs.SplitRule.{AreParagraphRangesBy, IsAnalysisBy};
+ghost use Rattle.bidi_walk.specs.ParagraphInfo.{level_of, range_of, ranges_of, levels_of};
+ghost use Rattle.bidi_walk.specs.SplitRule.{AreParagraphRangesBy, IsAnalysisBy};
 
 use crate::{info, initial_info, paragraph, paragraph_bidi_info};
 use bidi_base::char_data::BidiClass;
 use bidi_base::data_source::BidiDataSource;
 use bidi_base::level::Level;
-use bidi_base::text::Utf16Text;
-pub use bidi_base::text::{Utf16CharIndexIter, Utf16CharIter, Utf16IndexLenIter};
 use bidi_paragraphs::paragraph_info::ParagraphInfo;
 use bidi_paragraphs::split_rule::SplitRule;
+use bidi_text::text::Utf16Text;
+pub use bidi_text::text::{Utf16CharIndexIter, Utf16CharIter, Utf16IndexLenIter};
 use std::alloc::{AllocError, Global};
 use std::borrow::CowSlice;
 use std::ops::Range;

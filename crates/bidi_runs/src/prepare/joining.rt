@@ -21,7 +21,7 @@ use bidi_base::classes::is_initiator;
 use bidi_base::isolates::{WaitingSequences, read_class, waiting_for};
 use bidi_base::level::Level;
 use bidi_base::search::{ClassTest, first_passing};
-use bidi_base::text::TextSource;
+use bidi_text::text::TextSource;
 use std::alloc::{AllocError, Global};
 
 // The end of the last unit of a run whose class X9 keeps, or the run's start where there is none.

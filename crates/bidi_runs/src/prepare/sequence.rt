@@ -6,7 +6,7 @@ ghost use Rattle.bidi_base.specs.Units.{bounds, are_ordered, is_run_sequence};
 
 use super::LevelRun;
 use bidi_base::char_data::BidiClass;
-use bidi_base::text::{TextSource, is_line};
+use bidi_text::text::{TextSource, is_line};
 use smallvec::SmallVec;
 use std::alloc::{AllocError, Global};
 

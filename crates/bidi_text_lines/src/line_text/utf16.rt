@@ -8,7 +8,7 @@ ghost use Rattle.bidi_base.specs.Utf16.{utf16_text};
 use super::RunWriter;
 use crate::analysed::Analysed;
 use bidi_base::level::Level;
-use bidi_base::text::{TextSource, Utf16CharIter, Utf16Text};
+use bidi_text::text::{TextSource, Utf16CharIter, Utf16Text};
 use std::alloc::{AllocError, Global};
 use std::borrow::CowSlice;
 use std::ops::Range;

@@ -7,7 +7,7 @@ ghost use Rattle.bidi_base.specs.Analysed.{IsLineOf, IsTextOfLine, StaysInOrder}
 use super::RunWriter;
 use crate::analysed::Analysed;
 use bidi_base::level::Level;
-use bidi_base::text::{StrText, TextSource};
+use bidi_text::text::{StrText, TextSource};
 use std::alloc::{AllocError, Global};
 use std::borrow::CowStr;
 use std::ops::Range;

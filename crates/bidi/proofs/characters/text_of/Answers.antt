@@ -1,6 +1,6 @@
 use Rattle.bidi_base.proofs.Common.{◌∙◌, ap, take_more, take_all, chars-nil, chars}
 use Rattle.std.proofs.lemmas.Str.{IsUtf8-string_bytes}
-use Rattle.bidi_base.proofs.StrLemmas.{chars-push}
+use Rattle.bidi_text.proofs.StrLemmas.{chars-push}
 use Rattle.bidi.proofs.characters.text_of.Goals as goal
 
 pub loop-c-init : goal.loop-c-init

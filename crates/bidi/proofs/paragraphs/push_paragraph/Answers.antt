@@ -9,7 +9,7 @@ use Rattle.bidi.proofs.paragraphs.push_paragraph.Goals.{In_ok-info}
 use Rattle.bidi.proofs.paragraphs.push_paragraph.Given.{Over}
 use Rattle.unicode_bidi.specs.BidiInfo.{original_classes, levels as levels_of_info, paragraphs, text as text_of}
 use Rattle.unicode_bidi.specs.ParagraphInfo.{ranges_of, levels_of}
-use Rattle.bidi_paragraphs.specs.declared.paragraph_info.ParagraphInfo.{ParagraphInfo}
+use Rattle.bidi_walk.specs.declared.paragraph_info.ParagraphInfo.{ParagraphInfo}
 
 -- the text has the line's own characters
 own_text : (g : Over) (c : In_ok-info g) → chars (text_of c.in_ok-info.info) ≡ own_chars (g.D.BidiDataSource.source c.args.data_source.now) c.args.paragraph.now

@@ -1,6 +1,6 @@
 use Rattle.bidi_base.proofs.Common.{◌≡◌, ◌∙◌, append_assoc, sym, ap, arith, len_utf8, chars, line_levels_per_char, text_len, subrange}
 use Rattle.bidi_base.proofs.PerUnit.{length-per_char}
-use Rattle.bidi_base.proofs.StrLemmas.{has_units, subrange-from_str}
+use Rattle.bidi_text.proofs.StrLemmas.{has_units, subrange-from_str}
 use Rattle.unicode_bidi.specs.BidiInfo.{text, analysed}
 use Rattle.unicode_bidi.specs.ParagraphInfo.{level_of}
 use Rattle.bidi_text_lines.proofs.StoredLine.{length-shown, per_char-shown}

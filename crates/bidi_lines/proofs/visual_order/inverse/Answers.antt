@@ -1,7 +1,7 @@
 use Rattle.bidi_base.proofs.Common.{◌<◌, ℕ, length, get_or, arith, get_or-set_other, get_or-set_same, length-set, All-permutation, indexes}
 use Rattle.std.proofs.Common.{below_more}
-use Rattle.bidi_base.proofs.LayoutLemmas.{AreInverse-from_back}
-use Rattle.bidi_base.proofs.VisualOrderLemmas.{all_below}
+use Rattle.bidi_laws.proofs.LayoutLemmas.{AreInverse-from_back}
+use Rattle.bidi_laws.proofs.VisualOrderLemmas.{all_below}
 use Rattle.bidi_lines.proofs.Distinct.{distinct}
 use Rattle.bidi_lines.proofs.visual_order.inverse.Goals as goal
 

@@ -1,6 +1,6 @@
 use Rattle.bidi_base.proofs.Common.{◌≡◌, ℕ, ◌-◌, ◌<◌, ◌≤◌, List, length, slice_index, arith}
 use Rattle.std.proofs.Common.{slice_range}
-use Rattle.bidi_base.proofs.OrderLemmas.{get_or-slice_range, length-slice_range}
+use Rattle.bidi_laws.proofs.OrderLemmas.{get_or-slice_range, length-slice_range}
 use Rattle.bidi_lines.proofs.visual_order.least_above.Goals as goal
 
 -- the levels of a part

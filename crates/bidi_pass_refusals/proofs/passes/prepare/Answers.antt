@@ -3,8 +3,8 @@ use Rattle.bidi_base.proofs.Common.{ℕ, List, sym, ap, ◌∙◌, len_utf8, cha
 use Rattle.bidi_base.specs.declared.char_data.BidiClass.{BidiClass}
 use Rattle.bidi_base.specs.declared.char_data.BidiClass.TheVariants.{L}
 use Rattle.bidi_base.proofs.PerUnit.{length-per_char}
-use Rattle.bidi_base.proofs.StrLemmas.{has_units}
-use Rattle.bidi_runs.proofs.ExplicitUnits.{is_per_char-explicit_levels, per_char-explicit_levels}
+use Rattle.bidi_text.proofs.StrLemmas.{has_units}
+use Rattle.bidi_explicit.proofs.ExplicitUnits.{is_per_char-explicit_levels, per_char-explicit_levels}
 use Rattle.bidi_pass_refusals.proofs.passes.prepare.Goals as goal
 
 pub isolating_run_sequences-requires-clause-levels : goal.isolating_run_sequences-requires-clause-levels

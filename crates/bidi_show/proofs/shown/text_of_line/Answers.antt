@@ -1,5 +1,5 @@
 use Rattle.bidi_base.proofs.Common.{arith}
-use Rattle.bidi_base.proofs.StrLemmas.{IsCharBoundary-from_is_boundary}
+use Rattle.bidi_text.proofs.StrLemmas.{IsCharBoundary-from_is_boundary}
 use Rattle.bidi_show.proofs.shown.text_of_line.Goals as goal
 
 pub range-requires : goal.range-requires

@@ -1,5 +1,5 @@
 use Rattle.bidi_base.proofs.Common.{arith, nil_from_length, chars-nil, chars}
-use Rattle.bidi_base.proofs.StrLemmas.{chars-push}
+use Rattle.bidi_text.proofs.StrLemmas.{chars-push}
 use Rattle.bidi_show.proofs.ShownLemmas.{without_separator-separator, without_separator-other}
 use Rattle.bidi_show.proofs.shown.without_separator.Goals as goal
 

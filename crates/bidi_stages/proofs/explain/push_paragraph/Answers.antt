@@ -1,6 +1,6 @@
 use Rattle.bidi_base.proofs.Common.{arith}
-use Rattle.bidi_base.proofs.LevelLaws.{length-stored_levels}
-use Rattle.bidi_stages.proofs.StagesLemmas.{line_levels-long, order-within}
+use Rattle.bidi_laws.proofs.LevelLaws.{length-stored_levels}
+use Rattle.bidi_rule_stages.proofs.StagesLemmas.{line_levels-long, order-within}
 use Rattle.bidi_stages.proofs.explain.push_paragraph.Goals as goal
 
 pub push_stages-requires-clause-levels : goal.push_stages-requires-clause-levels

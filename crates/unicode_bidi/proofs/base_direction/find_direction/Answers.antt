@@ -1,6 +1,6 @@
 use Rattle.bidi_base.proofs.Common.{◌≡◌, ◌∙◌, ◌+◌, ◌≤◌, ◌∷◌, ◌++◌, [], ◌⊎◌, inl, inr, ℕ, List, false, length, map, sym, ap, arith, rules, length_push, drop_all, is_strong, place}
 use Rattle.bidi_base.proofs.TextLemmas.{length-le-text_len}
-use Rattle.bidi_base.proofs.DirectionWalk.{direction_from-is, direction-decided, direction-ended, direction-next, direction-on, depth-le, direction_from}
+use Rattle.bidi_laws.proofs.DirectionWalk.{direction_from-is, direction-decided, direction-ended, direction-next, direction-on, depth-le, direction_from}
 use Rattle.bidi_base.proofs.PlaceLemmas.{char_turn, char_end, CharTurn}
 use Rattle.unicode_bidi.proofs.base_direction.find_direction.Given.{Over}
 use Rattle.unicode_bidi.proofs.base_direction.find_direction.Goals as goal

@@ -1,5 +1,5 @@
 use Rattle.bidi_base.proofs.Common.{◌≡◌, ◌≤◌, length, drop, map}
-use Rattle.bidi_base.proofs.DirectionWalk.{direction_from}
+use Rattle.bidi_laws.proofs.DirectionWalk.{direction_from}
 use Rattle.unicode_bidi.proofs.base_direction.find_direction.Given as goal
 
 abbrev pub invariant-loop-c : goal.invariant-loop-c

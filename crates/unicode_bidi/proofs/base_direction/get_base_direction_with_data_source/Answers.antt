@@ -1,5 +1,5 @@
 use Rattle.bidi_base.proofs.Common.{arith}
-use Rattle.bidi_base.proofs.DirectionWalk.{base_direction-Rtl}
+use Rattle.bidi_laws.proofs.DirectionWalk.{base_direction-Rtl}
 use Rattle.unicode_bidi.proofs.base_direction.get_base_direction_with_data_source.Goals as goal
 
 pub returns-clause-level : goal.returns-clause-level

@@ -1,5 +1,5 @@
 use Rattle.bidi_base.proofs.Common.{arith, rules, IfOk-weaker}
-use Rattle.bidi_base.proofs.ParagraphsLemmas.{pieces-joined, paragraphs-AreParagraphRanges}
+use Rattle.bidi_laws.proofs.ParagraphsLemmas.{pieces-joined, paragraphs-AreParagraphRanges}
 use Rattle.unicode_bidi.specs.Engine.{with_analysis}
 use Rattle.unicode_bidi.proofs.FoundLaws.{analysis-pieces, analysis-HasCharValues}
 use Rattle.unicode_bidi.proofs.engine.analyse.Goals as goal

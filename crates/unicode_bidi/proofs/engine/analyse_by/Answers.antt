@@ -1,5 +1,5 @@
 use Rattle.bidi_base.proofs.Common.{◌∙◌, List, ℕ, arith, take-append_seam}
-use Rattle.bidi_base.proofs.ParagraphsLemmas.{length-text_classes}
+use Rattle.bidi_laws.proofs.ParagraphsLemmas.{length-text_classes}
 use Rattle.bidi_base.proofs.PerUnit.{length-per_unit}
 use Rattle.unicode_bidi.proofs.FoundLaws.{analysis-IsPerCharText, bounded-found, pieces_by-joined}
 use Rattle.unicode_bidi.proofs.ParagraphUnits.{paragraphs-Follow, paragraphs-flags, paragraphs-CanWrite, paragraphs-levels}

@@ -1,5 +1,5 @@
 use Rattle.bidi_base.proofs.Common.{sym, len_utf8, chars}
-use Rattle.bidi_base.proofs.StrLemmas.{text_len-chars}
+use Rattle.bidi_text.proofs.StrLemmas.{text_len-chars}
 use Rattle.unicode_bidi.proofs.WholeText.{whole-IsLine}
 use Rattle.unicode_bidi.proofs.kept_line.reorder_utf8.Goals as goal
 

@@ -1,7 +1,7 @@
 use Rattle.bidi_base.proofs.Common.{◌≡◌, ◌∙◌, sym, ap, arith, len_utf8, chars, text_len, subrange}
-use Rattle.bidi_base.proofs.StrLemmas.{has_units}
+use Rattle.bidi_text.proofs.StrLemmas.{has_units}
 use Rattle.unicode_bidi.specs.BidiInfo.{text, analysed}
-use Rattle.bidi_paragraphs.specs.ParagraphInfo.{level_of}
+use Rattle.bidi_walk.specs.ParagraphInfo.{level_of}
 use Rattle.bidi_text_lines.proofs.StoredLine.{length-shown, per_char-shown}
 use Rattle.unicode_bidi.proofs.layout.char_levels.Goals as goal
 use Rattle.unicode_bidi.proofs.layout.char_levels.Goals.{In_ok-levels}

@@ -1,5 +1,5 @@
 use Rattle.bidi_base.proofs.Common.{◌∙◌, length, arith, rules, length_push}
-use Rattle.bidi_base.proofs.LayoutLemmas.{first_line-one, first_line-stops, first_line-all, place-turn}
+use Rattle.bidi_laws.proofs.LayoutLemmas.{first_line-one, first_line-stops, first_line-all, place-turn}
 use Rattle.bidi_base.proofs.PlaceLemmas.{CharTurn, index_turn, index_end}
 use Rattle.unicode_bidi.proofs.layout.first_line_len.Goals as goal
 use Rattle.unicode_bidi.proofs.layout.first_line_len.Goals.{In-Some, then-at-eq0, else-at-eq0}

@@ -5,5 +5,5 @@ use Rattle.bidi.proofs.command.Command.+parse_explain.Goals as goal
 pub returns-in-len1-up : goal.returns-in-len1-up
 returns-in-len1-up t c = grind (arith, explain_of-html)
 
-pub returns-in_ok-base-in-len2-up : goal.returns-in_ok-base-in-len2-up
-returns-in_ok-base-in-len2-up t c = grind (arith, explain_of-base)
+pub returns-in-Some : goal.returns-in-Some
+returns-in-Some t c = grind (arith, explain_of-base)

@@ -1,9 +1,9 @@
 -- The passes over the one run.
 use Rattle.bidi_base.proofs.Common.{◌≡◌, ◌∙◌, List, [], ℕ, length, map, refl, arith, length-map, explicit_levels, explicit_classes, stored_classes, Source, text_len, AreLines}
 use Rattle.bidi_base.specs.declared.char_data.BidiClass.{BidiClass}
-use Rattle.bidi_base.proofs.NeutralLemmas.{direction_of-l_or_r}
+use Rattle.bidi_laws.proofs.NeutralLemmas.{direction_of-l_or_r}
 use Rattle.bidi_base.proofs.PerUnit.{length-per_unit}
-use Rattle.bidi_base.proofs.StoredSteps.{length-stored_classes}
+use Rattle.bidi_laws.proofs.StoredSteps.{length-stored_classes}
 use Rattle.bidi_runs.specs.Joining.{JoinedRuns, characters_of}
 use Rattle.bidi_paragraphs.proofs.FlatPasses.{lent, whole, lent-whole, joined-AreLines, joined-IsNext, joined-sequences, levels-whole, whole-AreResolvedTo}
 use Rattle.bidi_paragraphs.proofs.LevelPasses.{AreLevels, AreResolvedTo, AreResolvedTo-per_char, AreResolvedTo-long, AreWeakTo-from, AreWeakTo-resolved, AreResolvedTo-more, AreLevels-all}

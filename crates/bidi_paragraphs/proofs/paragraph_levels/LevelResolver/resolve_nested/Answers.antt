@@ -2,7 +2,7 @@
 use Rattle.bidi_base.proofs.Common.{◌∙◌, List, ℕ, map, ap, arith, rules, length-map, per_char}
 use Rattle.bidi_base.specs.declared.char_data.BidiClass.TheVariants.{L}
 use Rattle.bidi_base.proofs.PerUnit.{length-per_unit}
-use Rattle.bidi_base.proofs.StoredSteps.{length-stored_classes}
+use Rattle.bidi_laws.proofs.StoredSteps.{length-stored_classes}
 use Rattle.bidi_runs.specs.RunSequence.{joined, sequences_in}
 use Rattle.bidi_paragraphs.proofs.FlatPasses.{lent}
 use Rattle.bidi_paragraphs.proofs.LevelPasses.{ArePrepared, AreResolvedTo-start, AreResolvedTo-per_char, AreResolvedTo-long, AreWeakTo-from, AreWeakTo-resolved, AreResolvedTo-more, prepared, prepared-next, prepared-lines, prepared-more, prepared-long, prepared-low, sequences_before, AreLevels-from}

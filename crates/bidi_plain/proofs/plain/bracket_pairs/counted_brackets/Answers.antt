@@ -1,6 +1,6 @@
 use Rattle.bidi_base.proofs.Common.{append-nil, rules, arith, found_brackets}
 use Rattle.bidi_base.specs.declared.char_data.BidiClass.TheVariants.{L}
-use Rattle.bidi_base.proofs.FoundBracketsLemmas.{found_brackets-more}
+use Rattle.bidi_laws.proofs.FoundBracketsLemmas.{found_brackets-more}
 use Rattle.bidi_plain.proofs.plain.bracket_pairs.counted_brackets.Goals as goal
 use Rattle.bidi_plain.proofs.plain.bracket_pairs.counted_brackets.Goals.{in-Some+in_ok-push, in_default}
 

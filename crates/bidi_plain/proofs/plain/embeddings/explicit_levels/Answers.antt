@@ -1,5 +1,5 @@
 use Rattle.bidi_base.proofs.Common.{arith, rules}
-use Rattle.bidi_base.proofs.ExplicitLemmas.{length-explicit_levels, length-explicit_classes}
+use Rattle.bidi_laws.proofs.ExplicitLemmas.{length-explicit_levels, length-explicit_classes}
 use Rattle.bidi_plain.proofs.ExplicitPass.{IsExplicitSoFar-start, IsExplicitSoFar-more, IsExplicitSoFar-levels, IsExplicitSoFar-classes}
 use Rattle.bidi_plain.proofs.plain.embeddings.explicit_levels.Goals as goal
 

@@ -1,7 +1,7 @@
 use Rattle.bidi_base.proofs.Common.{arith, is_neutral}
-use Rattle.bidi_base.proofs.Blocks.{IsBlock-counted, length-part}
-use Rattle.bidi_base.proofs.InPlace.{IsRewritten-end}
-use Rattle.bidi_base.proofs.NeutralBlocks.{IsAtNeutrals-block}
+use Rattle.bidi_laws.proofs.Blocks.{IsBlock-counted, length-part}
+use Rattle.bidi_laws.proofs.InPlace.{IsRewritten-end}
+use Rattle.bidi_laws.proofs.NeutralBlocks.{IsAtNeutrals-block}
 use Rattle.bidi_plain.proofs.plain.neutrals.apply_n1_n2.Goals as goal
 
 pub loop-start-preserved : goal.loop-start-preserved

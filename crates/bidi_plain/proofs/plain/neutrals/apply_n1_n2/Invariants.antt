@@ -1,5 +1,5 @@
 use Rattle.bidi_base.proofs.Common.{length, ◌-◌}
-use Rattle.bidi_base.proofs.NeutralBlocks.{IsAtNeutrals}
+use Rattle.bidi_laws.proofs.NeutralBlocks.{IsAtNeutrals}
 use Rattle.bidi_plain.proofs.plain.neutrals.apply_n1_n2.Given as goal
 
 abbrev pub invariant-loop-start : goal.invariant-loop-start

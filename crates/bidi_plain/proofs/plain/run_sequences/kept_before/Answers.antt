@@ -1,5 +1,5 @@
 use Rattle.bidi_base.proofs.Common.{sym, arith}
-use Rattle.bidi_base.proofs.SuccessorLemmas.{kept_before-is, kept_before-is_None}
+use Rattle.bidi_laws.proofs.SuccessorLemmas.{kept_before-is, kept_before-is_None}
 use Rattle.bidi_plain.proofs.plain.run_sequences.kept_before.Goals as goal
 
 pub returns-then-not-is_removed-clause-kept : goal.returns-then-not-is_removed-clause-kept

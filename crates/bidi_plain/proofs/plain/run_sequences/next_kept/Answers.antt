@@ -1,5 +1,5 @@
 use Rattle.bidi_base.proofs.Common.{sym, arith}
-use Rattle.bidi_base.proofs.SuccessorLemmas.{next_kept-is, next_kept-is_None}
+use Rattle.bidi_laws.proofs.SuccessorLemmas.{next_kept-is, next_kept-is_None}
 use Rattle.bidi_plain.proofs.plain.run_sequences.next_kept.Goals as goal
 
 pub returns-then-not-is_removed-clause-kept : goal.returns-then-not-is_removed-clause-kept

@@ -1,7 +1,7 @@
 use Rattle.bidi_base.proofs.Common.{◌≡◌, ℕ, ◌+◌, ◌<◌, not, cond, List, length, get_or, set, refl, arith, is_nsm, carried, w1_rule}
 use Rattle.bidi_base.specs.declared.char_data.BidiClass.{BidiClass}
 use Rattle.bidi_base.specs.declared.char_data.BidiClass.TheVariants.{L}
-use Rattle.bidi_base.proofs.InPlace.{IsRewritten-end}
+use Rattle.bidi_laws.proofs.InPlace.{IsRewritten-end}
 use Rattle.bidi_plain.proofs.Scans.{IsScanned, IsScanned-write}
 use Rattle.bidi_plain.proofs.plain.weak_types.apply_w1.Goals as goal
 use Rattle.bidi_plain.proofs.plain.weak_types.apply_w1.Goals.{in-NSM, in_default}

@@ -1,5 +1,5 @@
 use Rattle.bidi_base.proofs.Common.{w4_rule}
-use Rattle.bidi_base.proofs.InPlace.{IsRewritten}
+use Rattle.bidi_laws.proofs.InPlace.{IsRewritten}
 use Rattle.bidi_plain.proofs.plain.weak_types.apply_w4.Given as goal
 
 abbrev pub invariant-loop-i : goal.invariant-loop-i

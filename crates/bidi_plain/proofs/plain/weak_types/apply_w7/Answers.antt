@@ -1,7 +1,7 @@
 use Rattle.bidi_base.proofs.Common.{◌≡◌, ℕ, ◌+◌, ◌<◌, cond, List, length, get_or, set, refl, arith, is_l_or_r, is_l, is_en, w7_rule}
 use Rattle.bidi_base.specs.declared.char_data.BidiClass.{BidiClass}
 use Rattle.bidi_base.specs.declared.char_data.BidiClass.TheVariants.{L, EN}
-use Rattle.bidi_base.proofs.InPlace.{IsRewritten-end}
+use Rattle.bidi_laws.proofs.InPlace.{IsRewritten-end}
 use Rattle.bidi_plain.proofs.Scans.{IsScanned, IsScanned-write}
 use Rattle.bidi_plain.proofs.plain.weak_types.apply_w7.Goals as goal
 use Rattle.bidi_plain.proofs.plain.weak_types.apply_w7.Goals.{in-L, in-EN+then-eq, in-EN+else-eq, in_default}

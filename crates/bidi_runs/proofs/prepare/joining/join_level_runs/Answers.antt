@@ -1,6 +1,6 @@
 -- One run after another comes to its sequence.
 use Rattle.bidi_base.proofs.Common.{ℕ, get_or, unwrap_or, ap, ◌∙◌, arith, rules, take_all, class_at, waiting_for}
-use Rattle.bidi_base.proofs.AgreeLemmas.{sequences-explicit_levels}
+use Rattle.bidi_laws.proofs.AgreeLemmas.{sequences-explicit_levels}
 use Rattle.bidi_runs.specs.Joining.{read_units}
 use Rattle.bidi_runs.proofs.WalkLemmas.{no_range}
 use Rattle.bidi_runs.proofs.RunLoop.{Comes, comes, last_kept, earlier, waiting_fits, AreJoinedSoFar-start, AreJoinedSoFar-read, AreJoinedSoFar-unread, AreJoined-end, AreJoined-removed}

@@ -2,7 +2,7 @@ use Rattle.bidi_base.proofs.Common.{◌≡◌, ◌≤◌, ℕ, List, length, tru
 use Rattle.bidi_base.specs.contracts.char_data.BidiClassPartialEq.TheImpl.{ghosts}
 use Rattle.bidi_base.specs.declared.char_data.BidiClass.{BidiClass}
 use Rattle.bidi_base.proofs.TextLemmas.{HasUnits, is_boundary-le}
-use Rattle.bidi_base.proofs.PerCharTests.{class_test}
+use Rattle.bidi_text.proofs.PerCharTests.{class_test}
 use Rattle.bidi_base.proofs.UnitsLemmas.{length-from_is_per_char}
 use Rattle.bidi_runs.proofs.RunReading.{IsReadTo-start, IsReadTo-jump, IsReadTo-asked, IsReadTo-more, IsReadTo-end, IsReadTo-past, IsReadTo-within}
 use Rattle.bidi_runs.proofs.prepare.joining.read_run.Goals as goal

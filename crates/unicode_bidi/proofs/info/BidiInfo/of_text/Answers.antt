@@ -1,7 +1,7 @@
 use Rattle.bidi_base.proofs.Common.{Some, arith, rules}
-use Rattle.bidi_base.proofs.LevelLaws.{BoundaryNeutralsAreAlike-all, StaysLeftToRight-all}
+use Rattle.bidi_laws.proofs.LevelLaws.{BoundaryNeutralsAreAlike-all, StaysLeftToRight-all}
 use Rattle.bidi_text_lines.specs.Analysed.{analysed}
-use Rattle.bidi_paragraphs.specs.SplitRule.{pieces_by}
+use Rattle.bidi_walk.specs.SplitRule.{pieces_by}
 use Rattle.unicode_bidi.proofs.FoundLaws.{pieces_by-joined, rule-AreParagraphRanges, lines-found, bounded-found, own_units-found}
 use Rattle.unicode_bidi.proofs.info.BidiInfo.of_text.Goals as goal
 

@@ -1,7 +1,7 @@
 use Rattle.bidi_base.proofs.Common.{arith}
-use Rattle.bidi_base.proofs.PerCharTests.{class_test}
+use Rattle.bidi_text.proofs.PerCharTests.{class_test}
 use Rattle.bidi_base.proofs.UnitsLemmas.{is_per_char-per_unit}
-use Rattle.bidi_base.proofs.ParagraphsLemmas.{length-paragraph_classes, paragraphs-AreParagraphRanges}
+use Rattle.bidi_laws.proofs.ParagraphsLemmas.{length-paragraph_classes, paragraphs-AreParagraphRanges}
 use Rattle.unicode_bidi.proofs.initial_info.InitialInfo.of_text.Goals as goal
 
 pub invariant_of-result : goal.invariant_of-result

@@ -1,5 +1,5 @@
 use Rattle.bidi_base.proofs.Common.{◌∙◌, ap, arith, visual_places}
-use Rattle.bidi_base.proofs.LayoutLemmas.{own_indexes, visual_places-inverse}
+use Rattle.bidi_laws.proofs.LayoutLemmas.{own_indexes, visual_places-inverse}
 use Rattle.unicode_bidi.proofs.layout.LineMap.new.Goals as goal
 
 pub inverse-requires : goal.inverse-requires

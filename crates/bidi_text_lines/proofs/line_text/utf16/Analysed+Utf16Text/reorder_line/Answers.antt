@@ -1,5 +1,5 @@
 use Rattle.bidi_base.proofs.Common.{arith}
-use Rattle.bidi_base.proofs.Utf16Lemmas.{text_len-utf16, is_boundary-within}
+use Rattle.bidi_text.proofs.Utf16Lemmas.{text_len-utf16, is_boundary-within}
 use Rattle.bidi_text_lines.proofs.line_text.utf16.Analysed+Utf16Text.reorder_line.Goals as goal
 
 pub turned_line-requires-clause-units : goal.turned_line-requires-clause-units

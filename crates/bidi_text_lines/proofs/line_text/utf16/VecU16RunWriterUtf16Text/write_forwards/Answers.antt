@@ -1,5 +1,5 @@
 use Rattle.bidi_base.proofs.Common.{arith}
-use Rattle.bidi_base.proofs.Utf16Lemmas.{is_boundary-within}
+use Rattle.bidi_text.proofs.Utf16Lemmas.{is_boundary-within}
 use Rattle.bidi_text_lines.proofs.line_text.utf16.VecU16RunWriterUtf16Text.write_forwards.Goals as goal
 
 pub offset_bounds-units-run : goal.offset_bounds-units-run

@@ -1,5 +1,5 @@
 use Rattle.bidi_base.proofs.Common.{arith}
-use Rattle.bidi_base.proofs.StrLemmas.{text_len-chars, IsCharBoundary-from_is_boundary}
+use Rattle.bidi_text.proofs.StrLemmas.{text_len-chars, IsCharBoundary-from_is_boundary}
 use Rattle.bidi_text_lines.proofs.line_text.utf8.Analysed+StrText.reorder_line.Goals as goal
 
 pub range-requires-clause-start_boundary : goal.range-requires-clause-start_boundary

@@ -1,4 +1,4 @@
-use Rattle.bidi_base.proofs.StrLemmas.{IsCharBoundary-from_is_boundary}
+use Rattle.bidi_text.proofs.StrLemmas.{IsCharBoundary-from_is_boundary}
 use Rattle.bidi_text_lines.proofs.line_text.utf8.StringRunWriterStrText.write_forwards.Goals as goal
 
 pub range-requires-clause-start_boundary : goal.range-requires-clause-start_boundary

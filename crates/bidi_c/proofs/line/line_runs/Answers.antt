@@ -1,6 +1,0 @@
-use Rattle.bidi_base.proofs.Common.{arith}
-use Rattle.bidi_text_lines.proofs.TextOfLine.{runs_begin}
-use Rattle.bidi_c.proofs.line.line_runs.Goals as goal
-
-pub put_runs-requires-clause-within : goal.put_runs-requires-clause-within
-put_runs-requires-clause-within c = grind (arith, runs_begin)

@@ -1,6 +1,0 @@
-use Rattle.bidi_base.proofs.Common.{arith, common_steps}
-use Rattle.bidi_base.proofs.Utf16Lemmas.{text_len-utf16}
-use Rattle.bidi_c.proofs.utf16.line_map.Goals as goal
-
-pub map_characters-requires-clause-units : goal.map_characters-requires-clause-units
-map_characters-requires-clause-units c = grind (arith, common_steps, text_len-utf16)

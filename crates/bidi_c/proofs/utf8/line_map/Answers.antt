@@ -1,6 +1,0 @@
-use Rattle.bidi_base.proofs.Common.{arith}
-use Rattle.bidi_base.proofs.StrLemmas.{text_len-chars}
-use Rattle.bidi_c.proofs.utf8.line_map.Goals as goal
-
-pub map_characters-requires-clause-units : goal.map_characters-requires-clause-units
-map_characters-requires-clause-units c = grind (arith, text_len-chars)

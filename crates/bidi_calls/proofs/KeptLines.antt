@@ -1,0 +1,30 @@
+-- A line whose classes and levels are kept.
+use Rattle.bidi_base.proofs.Common.{◌≡◌, ℕ, ◌+◌, ◌-◌, List, length, map, get_or, arith, take_all, length-map, length-range_with_len, line_text, levels_of_line, visual_order, per_char}
+use Rattle.bidi_base.specs.declared.char_data.BidiClass.{BidiClass}
+use Rattle.bidi_base.specs.declared.char_data.BidiClass.TheVariants.{L}
+use Rattle.bidi_lines.proofs.LineInText.{length-part}
+use Rattle.bidi_lines.proofs.LineLevels.{length-line_levels}
+use Rattle.bidi_calls.specs.declared.line.KeptLine.{KeptLine}
+use Rattle.bidi_calls.specs.Lines.{IsSound, own_classes, own_levels, shown_levels}
+use Rattle.bidi_numbers.specs.Numbers.{class_numbered}
+use Rattle.bidi_calls.specs.Shown.{line_classes, reordered, order_of_line, reordered_chars}
+
+pub length-own_levels : (l : KeptLine) → IsSound l → length (own_levels l) ≡ l.end - l.start
+length-own_levels l h = length-part l.levels.now l.start l.end h.within
+
+pub length-own_classes : (l : KeptLine) → IsSound l → length (own_classes l) ≡ l.end - l.start
+length-own_classes l h = length-part l.classes.now l.start l.end (omega (arith, h.within, h.same_len))
+
+-- L1 along the line's own classes and levels
+pub shown_levels-own : (l : KeptLine) → IsSound l → (level n : ℕ) (classes : List BidiClass) (levels : List ℕ) → level ≡ l.paragraph.now.level
+    → classes ≡ map class_numbered (own_classes l) → levels ≡ own_levels l → n ≡ length levels → levels_of_line level classes levels 0 n ≡ shown_levels l
+unfolding shown_levels
+shown_levels-own l h level n classes levels same of_classes of_levels e = grind (arith, length-map, length-own_classes, length-own_levels, take_all)
+
+pub length-shown_levels : (l : KeptLine) → IsSound l → length (shown_levels l) + l.start ≡ l.end
+unfolding shown_levels
+length-shown_levels l h = grind (arith, length-map, length-own_classes, length-line_levels, length-own_levels)
+
+pub length-visual_order : (levels : List ℕ) → length (visual_order levels) ≡ length levels
+unfolding visual_order
+length-visual_order levels = grind (arith, length-map, length-range_with_len)

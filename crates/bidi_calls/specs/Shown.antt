@@ -1,0 +1,74 @@
+-- What a line shows, from the classes and levels that are kept of it.
+use Rattle.std.specs.Prelude.{ℕ, Bool, not, ◌&&◌, ◌||◌, ◌==◌, nat_le, List, length, map, slice_range, get_or, Option}
+use Rattle.std.specs.List.{list_all}
+use Rattle.std.specs.Option.{option_or}
+use Rattle.bidi_base.specs.contracts.char_data.BidiClassPartialEq.TheImpl.{ghosts as class_test}
+use Rattle.bidi_base.specs.contracts.level.LevelPartialEq.TheImpl.{ghosts as level_test}
+use Rattle.bidi_base.specs.declared.char_data.BidiClass.{BidiClass}
+use Rattle.bidi_base.specs.declared.char_data.BidiClass.TheVariants.{L}
+use Rattle.bidi_base.specs.Display.{line_text}
+use Rattle.bidi_base.specs.Order.{visual_order}
+use Rattle.bidi_base.specs.Text.{per_char, is_per_char, is_boundary}
+use Rattle.bidi_base.specs.Utf16.{utf16_text, utf16_len}
+use Rattle.bidi_numbers.specs.declared.fault.Fault.{Fault}
+use Rattle.bidi_numbers.specs.declared.fault.Fault.TheVariants.{UnequalLengths, CutCharacter, UnevenCharacter, NoRoom, NotScalar}
+use Rattle.bidi_calls.specs.declared.line.KeptLine.{KeptLine}
+use Rattle.bidi_numbers.specs.Faults.{fault_unless}
+use Rattle.bidi_calls.specs.Lines.{own_classes, own_levels, shown_levels}
+use Rattle.bidi_numbers.specs.Numbers.{class_numbered}
+use Rattle.bidi_numbers.specs.Texts.{goes_on, is_scalar}
+
+-- the classes of a line's units
+abbrev pub line_classes : KeptLine → List BidiClass
+line_classes l = map class_numbered (own_classes l)
+
+-- the units of a line of a text
+abbrev pub own_units : List ℕ → KeptLine → List ℕ
+own_units text l = slice_range text l.start l.end
+
+-- the units of a line from left to right (L2)
+unfoldable pub reordered : (ℕ → ℕ) → (ℕ → List ℕ) → List ℕ → List ℕ → KeptLine → List ℕ
+reordered len_of encode chars units l =
+    line_text len_of encode chars units l.paragraph.now.level (per_char L len_of chars (line_classes l))
+    (per_char 0 len_of chars (own_levels l)) 0 (length units)
+
+-- a text has one entry a unit, and the line cuts no character
+abbrev pub text_fault : List ℕ → KeptLine → Bool → Option Fault
+text_fault text l cuts =
+    option_or (fault_unless (length text == length l.levels.now) UnequalLengths)
+    (fault_unless (not cuts) CutCharacter)
+
+-- a line of UTF-8, or of UTF-16, begins or ends inside a character
+abbrev pub cuts_utf8 : List ℕ → KeptLine → Bool
+cuts_utf8 text l = goes_on text l.start || goes_on text l.end
+
+abbrev pub cuts_utf16 : List ℕ → KeptLine → Bool
+cuts_utf16 text l = not (is_boundary utf16_len (utf16_text text) l.start && is_boundary utf16_len (utf16_text text) l.end)
+
+-- the classes and the levels are equal within each character
+abbrev pub is_even : (ℕ → ℕ) → List ℕ → KeptLine → Bool
+is_even len_of chars l =
+    is_per_char class_test.eq len_of chars (line_classes l) && is_per_char level_test.eq len_of chars (own_levels l)
+
+-- what is wrong with the units of a line, and with the room for its text
+abbrev pub shown_fault : (ℕ → ℕ) → (ℕ → List ℕ) → List ℕ → List ℕ → KeptLine → ℕ → Option Fault
+shown_fault len_of encode chars units l room =
+    option_or (fault_unless (is_even len_of chars l) UnevenCharacter)
+    (fault_unless (nat_le (length (reordered len_of encode chars units l)) room) NoRoom)
+
+-- the index in the line of the character that stands at each visual place (L2)
+unfoldable pub order_of_line : (ℕ → ℕ) → List ℕ → KeptLine → List ℕ
+order_of_line len_of chars l = visual_order (per_char 0 len_of chars (shown_levels l))
+
+-- what is wrong with the room for that
+abbrev pub map_fault : (ℕ → ℕ) → List ℕ → KeptLine → ℕ → Option Fault
+map_fault len_of chars l room = fault_unless (nat_le (length (order_of_line len_of chars l)) room) NoRoom
+
+-- the characters of a line from left to right (L2), where each is a unit
+unfoldable pub reordered_chars : List ℕ → KeptLine → List ℕ
+reordered_chars chars l = map (λ k. get_or chars k 0) (visual_order (shown_levels l))
+
+-- what is wrong with the characters of a line, and with the room for them
+abbrev pub chars_fault : List ℕ → ℕ → Option Fault
+chars_fault chars room =
+    option_or (fault_unless (list_all is_scalar chars) NotScalar) (fault_unless (nat_le (length chars) room) NoRoom)

@@ -1,0 +1,9 @@
+//! The calls of the library over numbers and buffers, each of which tests all that the library asks.
+#![tactic(auto)]
+
+pub mod by_tables;
+pub mod checked;
+pub mod line;
+pub mod utf16;
+pub mod utf32;
+pub mod utf8;

@@ -1,0 +1,233 @@
+//! The calls over a line, from classes and levels that the caller has kept.
+ghost use Rattle.std.specs.Prelude.{◌≡◌, ◌+◌, ◌-◌, ◌<◌, ◌≤◌, ◌&&◌, IsTrue, true, length, map, slice_index, slice_range, slice_index_or, OnOk, OnErr, IfOk, All};
+ghost use Rattle.std.specs.List.{list_all};
+ghost use Rattle.std.specs.Result.{result_err};
+ghost use Rattle.bidi_base.specs.Display.{run_of, visual_runs};
+ghost use Rattle.bidi_base.specs.Line.{line_levels as line_levels_of};
+ghost use Rattle.bidi_base.specs.Order.{visual_order as visual_order_of};
+ghost use Rattle.bidi_base.specs.Places.{at_places};
+ghost use Rattle.bidi_base.specs.Text.{text_len, place, per_char};
+ghost use Rattle.bidi_numbers.specs.Faults.{FaultsAs, has_room_or_none};
+ghost use Rattle.bidi_calls.specs.Kept.{written, written_if_room};
+ghost use Rattle.bidi_calls.specs.Lines.{lies_in, IsSound, own_classes, own_levels, line_fault, levels_fault, runs_fault, order_fault, shown_levels};
+ghost use Rattle.bidi_numbers.specs.Numbers.{class_numbered, is_class, is_level};
+ghost use Rattle.bidi_calls.specs.Shown.{order_of_line, map_fault};
+ghost use Rattle.bidi_numbers.specs.Rows.{run_row};
+
+use crate::checked::write_levels;
+use bidi_lines::line_levels::{first_units, levels_of_line};
+use bidi_lines::visual_order::reorder_visual;
+use bidi_lines::visual_runs::visual_runs_of;
+use bidi_numbers::fault::{Fault, check, check_room_or_none};
+use bidi_numbers::numbers::{all_below, check_classes, classes_of};
+use bidi_numbers::rows::{Paragraph, Run};
+use std::alloc::{AllocError, Global};
+use std::ops::Range;
+use unicode_bidi::level::VecError;
+use unicode_bidi::{BidiClass, Level, TextSource};
+
+/// A line as the caller names it: the numbers of the classes and the levels of a text's units, a
+/// paragraph of the text, and the units from `start` up to `end`.
+#[derive(Clone, Copy, Debug)]
+pub struct KeptLine<'t> {
+    pub classes: &'t [u8],
+    pub levels: &'t [u8],
+    pub paragraph: &'t Paragraph,
+    pub start: usize,
+    pub end: usize,
+}
+
+// Whether a line lies in its paragraph, and that in a text of so many units.
+fn lies_in(paragraph: &Paragraph, start: usize, end: usize, units: usize) -> bool
+    ensures { result ≡ lies_in paragraph.now start end units }
+{
+    paragraph.start <= start && start <= end && end <= paragraph.end && paragraph.end <= units
+}
+
+// The levels of numbers up to 126.
+fn levels_of(alloc: Global, numbers: &[u8]) -> Result<Vec<Level>, AllocError>
+    requires { IsTrue (list_all is_level numbers.now) }
+    ensures { IfOk result (λ v. v.items ≡ numbers.now) }
+{
+    match Level::vec(alloc, numbers) {
+        Ok(levels) => Ok(levels),
+        Err(VecError::Memory) => Err(AllocError),
+        Err(VecError::OutOfRangeNumber) => unreachable!(),
+    }
+}
+
+impl<'t> KeptLine<'t> {
+    /// Refuses a line that is none, and classes and levels that are none in the line.
+    pub fn check(&self) -> Result<(), Fault>
+        ensures fault { result_err result ≡ line_fault self.now }
+        ensures sound { OnOk result (IsSound self.now) }
+    {
+        let units = self.levels.len();
+        check(self.classes.len() == units, Fault::UnequalLengths)?;
+        check(
+            lies_in(self.paragraph, self.start, self.end, units),
+            Fault::BadLine,
+        )?;
+        check_classes(&self.classes[self.start..self.end])?;
+        check(
+            all_below(&self.levels[self.start..self.end], 127),
+            Fault::BadLevel,
+        )?;
+        check(self.paragraph.level < 127, Fault::BadLevel)
+    }
+
+    /// The level of the paragraph.
+    pub fn level(&self) -> Level
+        requires { IsSound self.now }
+        ensures { result ≡ self.now.paragraph.now.level }
+    {
+        match Level::new(self.paragraph.level) {
+            Ok(level) => level,
+            Err(_) => unreachable!(),
+        }
+    }
+
+    /// The stored classes of the line.
+    pub fn classes(&self, alloc: Global) -> Result<Vec<BidiClass>, AllocError>
+        requires { IsSound self.now }
+        ensures { IfOk result (λ v. v.items ≡ map class_numbered (own_classes self.now)) }
+    {
+        classes_of(alloc, &self.classes[self.start..self.end])
+    }
+
+    /// The stored levels of the line.
+    pub fn levels(&self, alloc: Global) -> Result<Vec<Level>, AllocError>
+        requires { IsSound self.now }
+        ensures { IfOk result (λ v. v.items ≡ own_levels self.now) }
+    {
+        levels_of(alloc, &self.levels[self.start..self.end])
+    }
+
+    /// The levels of the line after L1.
+    pub fn shown(&self, alloc: Global) -> Result<Vec<Level>, AllocError>
+        requires { IsSound self.now }
+        ensures levels { IfOk result (λ v. v.items ≡ shown_levels self.now) }
+        ensures units { IfOk result (λ v. length v.items + self.now.start ≡ self.now.end) }
+    {
+        let classes = self.classes(alloc)?;
+        let levels = self.levels(alloc)?;
+        let units = 0..levels.len();
+        levels_of_line(
+            alloc,
+            self.level(),
+            classes.as_slice(),
+            levels.as_slice(),
+            units,
+        )
+    }
+}
+
+/// The levels of a line's units after L1, of which it answers the number.
+pub fn line_levels(alloc: Global, line: &KeptLine<'_>, out: &mut [u8]) -> Result<usize, Fault>
+    ensures fault { FaultsAs result (levels_fault line.now (length out.old)) }
+    ensures kept { OnErr result (out.new ≡ out.old) }
+    ensures levels { OnOk result (out.new ≡ written (shown_levels line.now) out.old) }
+    ensures count { IfOk result (λ count. count ≡ line.now.end - line.now.start) }
+{
+    line.check()?;
+    let count = line.end - line.start;
+    check(count <= out.len(), Fault::NoRoom)?;
+    let shown = line.shown(alloc)?;
+    write_levels(&mut out[..count], shown.as_slice());
+    Ok(count)
+}
+
+// A run as a row. The line begins at the unit `start`.
+fn row_of(levels: &[Level], start: usize, run: &Range<usize>) -> Run
+    requires { start ≤ run.now.start × run.now.start < start + length levels.now }
+    ensures { result ≡ run_row start levels.now (run_of run.now) }
+{
+    Run {
+        start: run.start,
+        end: run.end,
+        level: levels[run.start - start].number(),
+    }
+}
+
+// Writes runs as rows.
+fn write_runs(out: &mut [Run], levels: &[Level], start: usize, runs: &[Range<usize>])
+    requires same_len { length out.old ≡ length runs.now }
+    requires within { All (λ r. start ≤ r.start × r.start < start + length levels.now) runs.now }
+    ensures { out.new ≡ map (run_row start levels.now) (map run_of runs.now) }
+{
+    for i in 0..runs.len() {
+        out[i] = row_of(levels, start, &runs[i]);
+    }
+}
+
+// Writes runs as rows to the front of a buffer, unless that has no room at all.
+fn put_runs(out: &mut [Run], levels: &[Level], start: usize, runs: &[Range<usize>])
+    requires room { IsTrue (has_room_or_none (length runs.now) (length out.old)) }
+    requires within { All (λ r. start ≤ r.start × r.start < start + length levels.now) runs.now }
+    ensures { out.new ≡ written_if_room (map (run_row start levels.now) (map run_of runs.now)) out.old }
+{
+    if !out.is_empty() {
+        write_runs(&mut out[..runs.len()], levels, start, runs);
+    }
+}
+
+/// The visual runs of a line, of which it answers the number. Where `out` has no room at all, they are
+/// only counted.
+pub fn line_runs(alloc: Global, line: &KeptLine<'_>, out: &mut [Run]) -> Result<usize, Fault>
+    ensures fault { FaultsAs result (runs_fault line.now (length out.old)) }
+    ensures kept { OnErr result (out.new ≡ out.old) }
+    ensures runs { OnOk result (out.new
+        ≡ written_if_room
+        (map (run_row line.now.start (shown_levels line.now))
+        (visual_runs line.now.start (shown_levels line.now)))
+        out.old) }
+    ensures count { IfOk result (λ count. count ≡ length (visual_runs line.now.start (shown_levels line.now))) }
+{
+    line.check()?;
+    let shown = line.shown(alloc)?;
+    let runs = visual_runs_of(alloc, shown.as_slice(), line.start)?;
+    let count = runs.len();
+    check_room_or_none(count, out.len())?;
+    put_runs(out, shown.as_slice(), line.start, runs.as_slice());
+    Ok(count)
+}
+
+/// The order of a line's characters from left to right, of which it answers the number. `text` is the
+/// line's.
+pub fn map_characters<T: TextSource>(
+    alloc: Global,
+    text: T,
+    line: &KeptLine<'_>,
+    out: &mut [usize],
+) -> Result<usize, Fault>
+    requires sound { IsSound line.now }
+    requires units { text_len T.units (T.characters text) + line.now.start ≡ line.now.end }
+    ensures fault { FaultsAs result (map_fault T.units (T.characters text) line.now (length out.old)) }
+    ensures kept { OnErr result (out.new ≡ out.old) }
+    ensures order { OnOk result (out.new ≡ written (order_of_line T.units (T.characters text) line.now) out.old) }
+    ensures count { IfOk result (λ count. count ≡ length (order_of_line T.units (T.characters text) line.now)) }
+{
+    let levels = line.shown(alloc)?;
+    let shown = first_units(text, levels);
+    let found = reorder_visual(alloc, shown.as_slice())?;
+    let order = found.as_slice();
+    check(order.len() <= out.len(), Fault::NoRoom)?;
+    out[..order.len()].copy_from_slice(order);
+    Ok(order.len())
+}
+
+/// The visual order of levels, of which it answers the number.
+pub fn visual_order(alloc: Global, levels: &[u8], out: &mut [usize]) -> Result<usize, Fault>
+    ensures fault { FaultsAs result (order_fault levels.now (length out.old)) }
+    ensures kept { OnErr result (out.new ≡ out.old) }
+    ensures order { OnOk result (out.new ≡ written (visual_order_of levels.now) out.old) }
+    ensures count { IfOk result (λ count. count ≡ length levels.now) }
+{
+    check(all_below(levels, 127), Fault::BadLevel)?;
+    check(levels.len() <= out.len(), Fault::NoRoom)?;
+    let count = levels.len();
+    let levels = levels_of(alloc, levels)?;
+    let order = reorder_visual(alloc, levels.as_slice())?;
+    out[..count].copy_from_slice(order.as_slice());
+    Ok(count)
+}

@@ -1,0 +1,167 @@
+//! The calls over texts of UTF-16. A surrogate in no pair is the character U+FFFD.
+ghost use Rattle.std.specs.Prelude.{◌≡◌, length, map, OnOk, OnErr, IfOk};
+ghost use Rattle.std.specs.Char.Escape.{encode_utf16};
+ghost use Rattle.bidi_base.specs.Text.{is_boundary};
+ghost use Rattle.bidi_base.specs.Utf16.{utf16_text, utf16_len};
+ghost use Rattle.bidi_numbers.specs.Faults.{FaultsAs};
+ghost use Rattle.bidi_calls.specs.Kept.{written, written_if_room, class_numbers, level_numbers, paragraphs_in, analysis_fault};
+ghost use Rattle.bidi_calls.specs.Lines.{IsSound, line_fault};
+ghost use Rattle.bidi_numbers.specs.Numbers.{base_of, split_of, direction_in};
+ghost use Rattle.bidi_calls.specs.Shown.{own_units, reordered, text_fault, cuts_utf16, shown_fault, order_of_line, map_fault};
+ghost use Rattle.std.specs.Option.{option_or};
+ghost use Rattle.std.specs.Result.{result_err};
+
+use crate::checked;
+use crate::line::{KeptLine, map_characters};
+use bidi_numbers::fault::{Fault, check};
+use bidi_numbers::rows::Paragraph;
+use std::alloc::Global;
+use unicode_bidi::BidiDataSource;
+use unicode_bidi::kept_line::reorder_utf16;
+use unicode_bidi::text::{TextSource, Utf16Text, is_per_char};
+
+/// The classes and the levels of a text's units, and its paragraphs, of which it answers the number.
+pub fn analyse<D: BidiDataSource>(
+    alloc: Global,
+    data_source: &D,
+    text: &[u16],
+    base: u8,
+    split: u8,
+    classes: &mut [u8],
+    levels: &mut [u8],
+    paragraphs: &mut [Paragraph],
+) -> Result<usize, Fault>
+    ensures fault { let rows = paragraphs_in (D.source data_source.now) (base_of base) (split_of split) utf16_len
+        (utf16_text text.now) in
+        FaultsAs result (analysis_fault base split (length text.now) (length classes.old) (length levels.old)
+        (length rows) (length paragraphs.old)) }
+    ensures kept { OnErr result ((classes.new ≡ classes.old) × (levels.new ≡ levels.old) × (paragraphs.new ≡ paragraphs.old)) }
+
+    ensures classes { OnOk result (classes.new
+        ≡ written (class_numbers (D.source data_source.now) (split_of split) utf16_len (utf16_text text.now))
+        classes.old) }
+    ensures levels { OnOk result (levels.new
+        ≡ written
+        (level_numbers (D.source data_source.now) (base_of base) (split_of split) utf16_len
+        (utf16_text text.now))
+        levels.old) }
+    ensures paragraphs { let rows = paragraphs_in (D.source data_source.now) (base_of base) (split_of split) utf16_len
+        (utf16_text text.now) in
+        OnOk result (paragraphs.new ≡ written_if_room rows paragraphs.old) }
+    ensures count { let rows = paragraphs_in (D.source data_source.now) (base_of base) (split_of split) utf16_len
+        (utf16_text text.now) in
+        IfOk result (λ count. count ≡ length rows) }
+{
+    let text = Utf16Text::new(text);
+    checked::analyse(
+        alloc,
+        data_source,
+        text,
+        base,
+        split,
+        classes,
+        levels,
+        paragraphs,
+    )
+}
+
+/// The number of a text's base direction.
+pub fn base_direction<D: BidiDataSource>(data_source: &D, text: &[u16], full: bool) -> usize
+    ensures { result ≡ direction_in (D.source data_source.now) full (utf16_text text.now) }
+{
+    checked::base_direction(data_source, Utf16Text::new(text), full)
+}
+
+// Whether no character goes on at an index.
+fn is_boundary(text: &[u16], index: usize) -> bool
+    ensures { result ≡ is_boundary utf16_len (utf16_text text.now) index }
+{
+    Utf16Text::new(text).is_boundary(index)
+}
+
+// Refuses a text that has not one unit an entry, and a line that cuts a character.
+pub fn check_text(text: &[u16], line: &KeptLine<'_>) -> Result<(), Fault>
+    ensures { result_err result ≡ text_fault text.now line.now (cuts_utf16 text.now line.now) }
+{
+    check(text.len() == line.levels.len(), Fault::UnequalLengths)?;
+    check(
+        is_boundary(text, line.start) && is_boundary(text, line.end),
+        Fault::CutCharacter,
+    )
+}
+
+// Writes the text of a line from left to right, and answers its length.
+fn reorder(
+    alloc: Global,
+    text: &[u16],
+    line: &KeptLine<'_>,
+    out: &mut [u16],
+) -> Result<usize, Fault>
+    requires sound { IsSound line.now }
+    ensures fault { FaultsAs result (shown_fault utf16_len encode_utf16 (utf16_text text.now) text.now line.now (length out.old)) }
+    ensures kept { OnErr result (out.new ≡ out.old) }
+    ensures text { OnOk result (out.new
+        ≡ written (reordered utf16_len encode_utf16 (utf16_text text.now) text.now line.now) out.old) }
+    ensures count { IfOk result (λ count. count
+        ≡ length (reordered utf16_len encode_utf16 (utf16_text text.now) text.now line.now)) }
+{
+    let classes = line.classes(alloc)?;
+    let levels = line.levels(alloc)?;
+    let own = Utf16Text::new(text);
+    check(
+        is_per_char(own, classes.as_slice()) && is_per_char(own, levels.as_slice()),
+        Fault::UnevenCharacter,
+    )?;
+    let shown = reorder_utf16(alloc, text, classes, levels, line.level())?;
+    let units = shown.as_slice();
+    check(units.len() <= out.len(), Fault::NoRoom)?;
+    out[..units.len()].copy_from_slice(units);
+    Ok(units.len())
+}
+
+/// Writes the text of a line from left to right, and answers its length.
+pub fn reorder_line(
+    alloc: Global,
+    text: &[u16],
+    line: &KeptLine<'_>,
+    out: &mut [u16],
+) -> Result<usize, Fault>
+    ensures fault { let units = own_units text.now line.now in
+        let told = option_or (line_fault line.now)
+        (option_or (text_fault text.now line.now (cuts_utf16 text.now line.now))
+        (shown_fault utf16_len encode_utf16 (utf16_text units) units line.now (length out.old))) in
+        FaultsAs result told }
+    ensures kept { OnErr result (out.new ≡ out.old) }
+    ensures text { let units = own_units text.now line.now in
+        OnOk result (out.new ≡ written (reordered utf16_len encode_utf16 (utf16_text units) units line.now) out.old) }
+    ensures count { let units = own_units text.now line.now in
+        IfOk result (λ count. count ≡ length (reordered utf16_len encode_utf16 (utf16_text units) units line.now)) }
+{
+    line.check()?;
+    check_text(text, line)?;
+    reorder(alloc, &text[line.start..line.end], line, out)
+}
+
+/// The order of a line's characters from left to right, of which it answers the number.
+pub fn line_map(
+    alloc: Global,
+    text: &[u16],
+    line: &KeptLine<'_>,
+    out: &mut [usize],
+) -> Result<usize, Fault>
+    ensures fault { let units = own_units text.now line.now in
+        let told = option_or (line_fault line.now)
+        (option_or (text_fault text.now line.now (cuts_utf16 text.now line.now))
+        (map_fault utf16_len (utf16_text units) line.now (length out.old))) in
+        FaultsAs result told }
+    ensures kept { OnErr result (out.new ≡ out.old) }
+    ensures order { OnOk result (out.new
+        ≡ written (order_of_line utf16_len (utf16_text (own_units text.now line.now)) line.now) out.old) }
+    ensures count { IfOk result (λ count. count
+        ≡ length (order_of_line utf16_len (utf16_text (own_units text.now line.now)) line.now)) }
+{
+    line.check()?;
+    check_text(text, line)?;
+    let own = Utf16Text::new(&text[line.start..line.end]);
+    map_characters(alloc, own, line, out)
+}

@@ -1,0 +1,154 @@
+//! The calls over lists of numbers of characters, one a unit.
+ghost use Rattle.std.specs.Prelude.{◌≡◌, ◌+◌, ◌<◌, All, false, get_or, length, map, OnOk, OnErr, IfOk};
+ghost use Rattle.std.specs.List.{list_all};
+ghost use Rattle.std.specs.Option.{option_or};
+ghost use Rattle.bidi_base.specs.Text.{one_unit};
+ghost use Rattle.bidi_numbers.specs.Faults.{FaultsAs, fault_unless};
+ghost use Rattle.bidi_calls.specs.Kept.{written, written_if_room, class_numbers, level_numbers, paragraphs_in, analysis_fault};
+ghost use Rattle.bidi_calls.specs.Lines.{IsSound, line_fault};
+ghost use Rattle.bidi_numbers.specs.Numbers.{base_of, split_of, direction_in};
+ghost use Rattle.bidi_calls.specs.Shown.{own_units, reordered_chars, chars_fault, text_fault, order_of_line, map_fault};
+ghost use Rattle.bidi_numbers.specs.Texts.{is_scalar};
+
+use crate::checked;
+use crate::line::{KeptLine, map_characters};
+use bidi_lines::visual_order::reorder_visual;
+use bidi_numbers::fault::{Fault, check};
+use bidi_numbers::rows::Paragraph;
+use bidi_numbers::texts::{all_scalar, chars_of};
+use std::alloc::Global;
+use unicode_bidi::BidiDataSource;
+use unicode_bidi::text::CharsText;
+
+/// The classes and the levels of a text's characters, and its paragraphs, of which it answers the
+/// number.
+pub fn analyse<D: BidiDataSource>(
+    alloc: Global,
+    data_source: &D,
+    text: &[u32],
+    base: u8,
+    split: u8,
+    classes: &mut [u8],
+    levels: &mut [u8],
+    paragraphs: &mut [Paragraph],
+) -> Result<usize, Fault>
+    ensures fault { let rows = paragraphs_in (D.source data_source.now) (base_of base) (split_of split) one_unit
+        text.now in
+        FaultsAs result (option_or (fault_unless (list_all is_scalar text.now) Fault.NotScalar)
+        (analysis_fault base split (length text.now) (length classes.old) (length levels.old) (length rows)
+        (length paragraphs.old))) }
+    ensures kept { OnErr result ((classes.new ≡ classes.old) × (levels.new ≡ levels.old) × (paragraphs.new ≡ paragraphs.old)) }
+
+    ensures classes { OnOk result (classes.new
+        ≡ written (class_numbers (D.source data_source.now) (split_of split) one_unit text.now) classes.old) }
+    ensures levels { OnOk result (levels.new
+        ≡ written (level_numbers (D.source data_source.now) (base_of base) (split_of split) one_unit text.now)
+        levels.old) }
+    ensures paragraphs { let rows = paragraphs_in (D.source data_source.now) (base_of base) (split_of split) one_unit text.now in
+        OnOk result (paragraphs.new ≡ written_if_room rows paragraphs.old) }
+    ensures count { let rows = paragraphs_in (D.source data_source.now) (base_of base) (split_of split) one_unit text.now in
+        IfOk result (λ count. count ≡ length rows) }
+{
+    check(all_scalar(text), Fault::NotScalar)?;
+    let chars = chars_of(alloc, text)?;
+    checked::analyse(
+        alloc,
+        data_source,
+        CharsText::new(chars.as_slice()),
+        base,
+        split,
+        classes,
+        levels,
+        paragraphs,
+    )
+}
+
+/// The number of a text's base direction.
+pub fn base_direction<D: BidiDataSource>(
+    alloc: Global,
+    data_source: &D,
+    text: &[u32],
+    full: bool,
+) -> Result<usize, Fault>
+    ensures fault { FaultsAs result (fault_unless (list_all is_scalar text.now) Fault.NotScalar) }
+    ensures direction { IfOk result (λ n. n ≡ direction_in (D.source data_source.now) full text.now) }
+{
+    check(all_scalar(text), Fault::NotScalar)?;
+    let chars = chars_of(alloc, text)?;
+    Ok(checked::base_direction(data_source, CharsText::new(chars.as_slice()), full))
+}
+
+// Writes the characters at these indexes.
+fn write_chars(out: &mut [u32], chars: &[u32], order: &[usize])
+    requires same_len { length out.old ≡ length order.now }
+    requires within { All (λ k. k < length chars.now) order.now }
+    ensures { out.new ≡ map (λ k. get_or chars.now k 0) order.now }
+{
+    for i in 0..order.len() {
+        out[i] = chars[order[i]];
+    }
+}
+
+// Writes the characters of a line from left to right, and answers their number.
+fn reorder(
+    alloc: Global,
+    chars: &[u32],
+    line: &KeptLine<'_>,
+    out: &mut [u32],
+) -> Result<usize, Fault>
+    requires sound { IsSound line.now }
+    requires units { length chars.now + line.now.start ≡ line.now.end }
+    ensures fault { FaultsAs result (chars_fault chars.now (length out.old)) }
+    ensures kept { OnErr result (out.new ≡ out.old) }
+    ensures text { OnOk result (out.new ≡ written (reordered_chars chars.now line.now) out.old) }
+    ensures count { IfOk result (λ count. count ≡ length chars.now) }
+{
+    check(all_scalar(chars), Fault::NotScalar)?;
+    check(chars.len() <= out.len(), Fault::NoRoom)?;
+    let shown = line.shown(alloc)?;
+    let order = reorder_visual(alloc, shown.as_slice())?;
+    write_chars(&mut out[..chars.len()], chars, order.as_slice());
+    Ok(chars.len())
+}
+
+/// Writes the characters of a line from left to right, and answers their number.
+pub fn reorder_line(
+    alloc: Global,
+    text: &[u32],
+    line: &KeptLine<'_>,
+    out: &mut [u32],
+) -> Result<usize, Fault>
+    ensures fault { let chars = own_units text.now line.now in
+        FaultsAs result (option_or (line_fault line.now)
+        (option_or (text_fault text.now line.now false) (chars_fault chars (length out.old)))) }
+    ensures kept { OnErr result (out.new ≡ out.old) }
+    ensures text { OnOk result (out.new ≡ written (reordered_chars (own_units text.now line.now) line.now) out.old) }
+    ensures count { IfOk result (λ count. count ≡ length (own_units text.now line.now)) }
+{
+    line.check()?;
+    check(text.len() == line.levels.len(), Fault::UnequalLengths)?;
+    reorder(alloc, &text[line.start..line.end], line, out)
+}
+
+/// The order of a line's characters from left to right, of which it answers the number.
+pub fn line_map(
+    alloc: Global,
+    text: &[u32],
+    line: &KeptLine<'_>,
+    out: &mut [usize],
+) -> Result<usize, Fault>
+    ensures fault { let chars = own_units text.now line.now in
+        FaultsAs result (option_or (line_fault line.now) (option_or (text_fault text.now line.now false)
+        (option_or (fault_unless (list_all is_scalar chars) Fault.NotScalar)
+        (map_fault one_unit chars line.now (length out.old))))) }
+    ensures kept { OnErr result (out.new ≡ out.old) }
+    ensures order { OnOk result (out.new ≡ written (order_of_line one_unit (own_units text.now line.now) line.now) out.old) }
+    ensures count { IfOk result (λ count. count ≡ length (order_of_line one_unit (own_units text.now line.now) line.now)) }
+{
+    line.check()?;
+    check(text.len() == line.levels.len(), Fault::UnequalLengths)?;
+    let own = &text[line.start..line.end];
+    check(all_scalar(own), Fault::NotScalar)?;
+    let chars = chars_of(alloc, own)?;
+    map_characters(alloc, CharsText::new(chars.as_slice()), line, out)
+}

@@ -1,0 +1,166 @@
+//! The calls over texts of UTF-8, whose units are bytes.
+ghost use Rattle.std.specs.Prelude.{◌≡◌, ◌+◌, ◌-◌, ◌≤◌, nat_eq, length, map, slice_range, IsUtf8, IsTrue, OnOk, OnErr, IfOk, encode_utf8, MatchResult};
+ghost use Rattle.std.specs.Char.{len_utf8};
+ghost use Rattle.std.specs.Str.{chars};
+ghost use Rattle.bidi_numbers.specs.Faults.{FaultsAs};
+ghost use Rattle.bidi_calls.specs.Kept.{written, written_if_room, class_numbers, level_numbers, paragraphs_in, analysis_fault};
+ghost use Rattle.bidi_calls.specs.Lines.{IsSound, line_fault};
+ghost use Rattle.bidi_numbers.specs.Numbers.{base_of, split_of, direction_in};
+ghost use Rattle.bidi_calls.specs.Shown.{own_units, reordered, text_fault, cuts_utf8, is_even, shown_fault, order_of_line, map_fault};
+ghost use Rattle.std.specs.Option.{option_or};
+ghost use Rattle.std.specs.Result.{result_err};
+
+use crate::checked;
+use crate::line::{KeptLine, map_characters};
+use bidi_numbers::fault::{Fault, check};
+use bidi_numbers::rows::Paragraph;
+use bidi_numbers::texts::{goes_on, utf8};
+use std::alloc::Global;
+use unicode_bidi::BidiDataSource;
+use unicode_bidi::kept_line::reorder_utf8;
+use unicode_bidi::text::{StrText, is_per_char};
+
+/// The classes and the levels of a text's bytes, and its paragraphs, of which it answers the number.
+pub fn analyse<D: BidiDataSource>(
+    alloc: Global,
+    data_source: &D,
+    text: &[u8],
+    base: u8,
+    split: u8,
+    classes: &mut [u8],
+    levels: &mut [u8],
+    paragraphs: &mut [Paragraph],
+) -> Result<usize, Fault>
+    ensures not_utf8 { ¬ (IsUtf8 text.now) → result ≡ Err Fault.NotUtf8 }
+    ensures fault { let rows = paragraphs_in (D.source data_source.now) (base_of base) (split_of split) len_utf8
+        (chars text.now) in
+        IsUtf8 text.now
+        → FaultsAs result (analysis_fault base split (length text.now) (length classes.old) (length levels.old)
+        (length rows) (length paragraphs.old)) }
+    ensures kept { OnErr result ((classes.new ≡ classes.old) × (levels.new ≡ levels.old) × (paragraphs.new ≡ paragraphs.old)) }
+
+    ensures classes { OnOk result (classes.new
+        ≡ written (class_numbers (D.source data_source.now) (split_of split) len_utf8 (chars text.now))
+        classes.old) }
+    ensures levels { OnOk result (levels.new
+        ≡ written
+        (level_numbers (D.source data_source.now) (base_of base) (split_of split) len_utf8 (chars text.now))
+        levels.old) }
+    ensures paragraphs { let rows = paragraphs_in (D.source data_source.now) (base_of base) (split_of split) len_utf8
+        (chars text.now) in
+        OnOk result (paragraphs.new ≡ written_if_room rows paragraphs.old) }
+    ensures count { let rows = paragraphs_in (D.source data_source.now) (base_of base) (split_of split) len_utf8 (chars text.now) in
+        IfOk result (λ count. count ≡ length rows) }
+{
+    let text = StrText::new(utf8(text)?);
+    checked::analyse(
+        alloc,
+        data_source,
+        text,
+        base,
+        split,
+        classes,
+        levels,
+        paragraphs,
+    )
+}
+
+/// The number of a text's base direction.
+pub fn base_direction<D: BidiDataSource>(
+    data_source: &D,
+    text: &[u8],
+    full: bool,
+) -> Result<usize, Fault>
+    ensures { MatchResult result
+        (λ n. IsUtf8 text.now × (n ≡ direction_in (D.source data_source.now) full (chars text.now)))
+        (λ fault. (fault ≡ Fault.NotUtf8) × ¬ (IsUtf8 text.now)) }
+{
+    let text = StrText::new(utf8(text)?);
+    Ok(checked::base_direction(data_source, text, full))
+}
+
+// Refuses a text that has not one byte an entry, and a line that cuts a character.
+pub fn check_text(text: &[u8], line: &KeptLine<'_>) -> Result<(), Fault>
+    ensures { result_err result ≡ text_fault text.now line.now (cuts_utf8 text.now line.now) }
+{
+    check(text.len() == line.levels.len(), Fault::UnequalLengths)?;
+    check(
+        !(goes_on(text, line.start) || goes_on(text, line.end)),
+        Fault::CutCharacter,
+    )
+}
+
+// Writes the text of a line from left to right, and answers its length.
+fn reorder(alloc: Global, text: &str, line: &KeptLine<'_>, out: &mut [u8]) -> Result<usize, Fault>
+    requires sound { IsSound line.now }
+    ensures fault { FaultsAs result (shown_fault len_utf8 encode_utf8 (chars text.now) text.now line.now (length out.old)) }
+    ensures kept { OnErr result (out.new ≡ out.old) }
+    ensures text { OnOk result (out.new ≡ written (reordered len_utf8 encode_utf8 (chars text.now) text.now line.now) out.old) }
+    ensures count { IfOk result (λ count. count ≡ length (reordered len_utf8 encode_utf8 (chars text.now) text.now line.now)) }
+{
+    let classes = line.classes(alloc)?;
+    let levels = line.levels(alloc)?;
+    let own = StrText::new(text);
+    check(
+        is_per_char(own, classes.as_slice()) && is_per_char(own, levels.as_slice()),
+        Fault::UnevenCharacter,
+    )?;
+    let shown = reorder_utf8(alloc, text, classes, levels, line.level())?;
+    let bytes = shown.as_str().as_bytes();
+    check(bytes.len() <= out.len(), Fault::NoRoom)?;
+    out[..bytes.len()].copy_from_slice(bytes);
+    Ok(bytes.len())
+}
+
+/// Writes the text of a line from left to right, and answers its length.
+pub fn reorder_line(
+    alloc: Global,
+    text: &[u8],
+    line: &KeptLine<'_>,
+    out: &mut [u8],
+) -> Result<usize, Fault>
+    ensures not_utf8 { let told = option_or (line_fault line.now)
+        (option_or (text_fault text.now line.now (cuts_utf8 text.now line.now)) (Some Fault.NotUtf8)) in
+        ¬ (IsUtf8 (own_units text.now line.now)) → FaultsAs result told }
+    ensures fault { let units = own_units text.now line.now in
+        let told = option_or (line_fault line.now)
+        (option_or (text_fault text.now line.now (cuts_utf8 text.now line.now))
+        (shown_fault len_utf8 encode_utf8 (chars units) units line.now (length out.old))) in
+        IsUtf8 units → FaultsAs result told }
+    ensures kept { OnErr result (out.new ≡ out.old) }
+    ensures text { let units = own_units text.now line.now in
+        OnOk result (out.new ≡ written (reordered len_utf8 encode_utf8 (chars units) units line.now) out.old) }
+    ensures count { let units = own_units text.now line.now in
+        IfOk result (λ count. count ≡ length (reordered len_utf8 encode_utf8 (chars units) units line.now)) }
+{
+    line.check()?;
+    check_text(text, line)?;
+    let own = utf8(&text[line.start..line.end])?;
+    reorder(alloc, own, line, out)
+}
+
+/// The order of a line's characters from left to right, of which it answers the number.
+pub fn line_map(
+    alloc: Global,
+    text: &[u8],
+    line: &KeptLine<'_>,
+    out: &mut [usize],
+) -> Result<usize, Fault>
+    ensures not_utf8 { let told = option_or (line_fault line.now)
+        (option_or (text_fault text.now line.now (cuts_utf8 text.now line.now)) (Some Fault.NotUtf8)) in
+        ¬ (IsUtf8 (own_units text.now line.now)) → FaultsAs result told }
+    ensures fault { let units = own_units text.now line.now in
+        let told = option_or (line_fault line.now)
+        (option_or (text_fault text.now line.now (cuts_utf8 text.now line.now))
+        (map_fault len_utf8 (chars units) line.now (length out.old))) in
+        IsUtf8 units → FaultsAs result told }
+    ensures kept { OnErr result (out.new ≡ out.old) }
+    ensures order { OnOk result (out.new
+        ≡ written (order_of_line len_utf8 (chars (own_units text.now line.now)) line.now) out.old) }
+    ensures count { IfOk result (λ count. count ≡ length (order_of_line len_utf8 (chars (own_units text.now line.now)) line.now)) }
+{
+    line.check()?;
+    check_text(text, line)?;
+    let own = StrText::new(utf8(&text[line.start..line.end])?);
+    map_characters(alloc, own, line, out)
+}

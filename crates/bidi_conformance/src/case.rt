@@ -1,0 +1,97 @@
+//! A case: a text, and what has to be found of it.
+
+ghost use Rattle.std.specs.Prelude.{◌≤◌, IfSome};
+
+use crate::fault::Fault;
+use bidi_base::data_source::BidiDataSource;
+use bidi_base::level::Level;
+use bidi_unicode::UnicodeData;
+use std::alloc::Global;
+use unicode_bidi::prepare::removed_by_x9;
+
+/// A base level.
+#[derive(Clone, Copy, Debug, PartialEq)]
+pub enum Base {
+    Auto,
+    Ltr,
+    Rtl,
+}
+
+/// The bases, each with the bit that it has in a file of classes.
+pub const BASES: [(Base, u32); 3] = [(Base::Auto, 1), (Base::Ltr, 2), (Base::Rtl, 4)];
+
+impl Base {
+    /// The level, where there is one.
+    pub fn level(self) -> Option<Level>
+        ensures { IfSome result (λ level. level ≤ 125) }
+    {
+        match self {
+            Base::Auto => None,
+            Base::Ltr => Some(Level::ltr()),
+            Base::Rtl => Some(Level::rtl()),
+        }
+    }
+
+    pub fn name(self) -> &'static str {
+        match self {
+            Base::Auto => "auto",
+            Base::Ltr => "ltr",
+            Base::Rtl => "rtl",
+        }
+    }
+}
+
+/// A text in each encoding, and which of its characters X9 removes.
+#[derive(Drop)]
+pub struct Text {
+    pub utf8: String,
+    pub utf16: Vec<u16>,
+    pub chars: Vec<char>,
+    pub removed: Vec<bool>,
+}
+
+impl Text {
+    pub fn new(alloc: Global) -> Text {
+        Text {
+            utf8: String::new(alloc),
+            utf16: Vec::new(alloc),
+            chars: Vec::new(alloc),
+            removed: Vec::new(alloc),
+        }
+    }
+
+    /// Empties it, and keeps the memory.
+    pub fn clear(&mut self) {
+        self.utf8.clear();
+        self.utf16.clear();
+        self.chars.clear();
+        self.removed.clear();
+    }
+
+    pub fn push(&mut self, c: char) -> Result<(), Fault> {
+        self.utf8.push(c)?;
+        self.utf16.extend_from_slice(c.encode_utf16(&mut [0; 2]))?;
+        self.chars.push(c)?;
+        self.removed.push(removed_by_x9(UnicodeData.bidi_class(c)))?;
+        Ok(())
+    }
+}
+
+/// What has to be found of a text: the level of its paragraph where it is told, that of each character
+/// after L1, none for one that X9 removes, and the others' places from left to right.
+#[derive(Drop)]
+pub struct Wanted {
+    pub paragraph: Option<Level>,
+    pub levels: Vec<Option<Level>>,
+    pub order: Vec<usize>,
+}
+
+impl Wanted {
+    pub fn new(alloc: Global) -> Wanted {
+        Wanted {
+            paragraph: None,
+            levels: Vec::new(alloc),
+            order: Vec::new(alloc),
+        }
+    }
+}

@@ -1,0 +1,112 @@
+//! How many cases there were, and in which forms they failed.
+
+use crate::case::{Base, Text, Wanted};
+use crate::compare::{Difference, compare};
+use crate::fault::Fault;
+use crate::forms::{FORMS, Form, ask};
+use std::alloc::Global;
+
+/// How many failures are told.
+const TOLD: usize = 10;
+
+/// How many cases passed in one form, and how many failed.
+#[derive(Clone, Copy, Debug, PartialEq)]
+pub struct Outcome {
+    pub passed: usize,
+    pub failed: usize,
+}
+
+/// The cases of a file.
+#[derive(Drop)]
+pub struct Counts {
+    /// Lines with a text.
+    pub lines: usize,
+    /// Texts with a base level.
+    pub cases: usize,
+    /// In each form.
+    pub outcomes: [Outcome; 5],
+    /// The first failures, each a line.
+    pub told: Vec<String>,
+}
+
+impl Counts {
+    pub fn new(alloc: Global) -> Counts {
+        let none = Outcome {
+            passed: 0,
+            failed: 0,
+        };
+        Counts {
+            lines: 0,
+            cases: 0,
+            outcomes: [none; 5],
+            told: Vec::new(alloc),
+        }
+    }
+
+    /// Whether every case passed in every form.
+    pub fn all_passed(&self) -> bool {
+        self.outcomes.iter().all(|outcome| outcome.failed == 0)
+    }
+
+    // Tells a failure, where few were told.
+    fn tell(
+        &mut self,
+        alloc: Global,
+        line: usize,
+        form: Form,
+        base: Base,
+        found: &Difference,
+    ) -> Result<(), Fault> {
+        if self.told.len() < TOLD {
+            let (form, base, part) = (form.name(), base.name(), found.part);
+            let (wanted, came) = (found.wanted.as_str(), found.came.as_str());
+            self.told.push(format!(in alloc;
+                "{line}: {form}, base {base}: {part}: wanted '{wanted}', came '{came}'"
+            )?)?;
+        }
+        Ok(())
+    }
+
+    // Runs a case in one form, and answers whether it passed.
+    fn passes(
+        &mut self,
+        alloc: Global,
+        line: usize,
+        form: Form,
+        text: &Text,
+        base: Base,
+        wanted: &Wanted,
+    ) -> Result<bool, Fault> {
+        let found = ask(alloc, form, text, base)?;
+        match compare(alloc, form, text, &found, wanted)? {
+            Some(found) => {
+                self.tell(alloc, line, form, base, &found)?;
+                Ok(false)
+            }
+            None => Ok(true),
+        }
+    }
+
+    /// Runs a case in each form.
+    pub fn run(
+        &mut self,
+        alloc: Global,
+        line: usize,
+        text: &Text,
+        base: Base,
+        wanted: &Wanted,
+    ) -> Result<(), Fault> {
+        self.cases = self.cases.saturating_add(1);
+        for (index, form) in FORMS.iter().enumerate() {
+            let passes = self.passes(alloc, line, *form, text, base, wanted)?;
+            if let Some(outcome) = self.outcomes.get_mut(index) {
+                if passes {
+                    outcome.passed = outcome.passed.saturating_add(1);
+                } else {
+                    outcome.failed = outcome.failed.saturating_add(1);
+                }
+            }
+        }
+        Ok(())
+    }
+}

@@ -1,0 +1,3 @@
+pub mod ExplicitStretches
+pub mod ExplicitUnits
+pub mod StackLemmas

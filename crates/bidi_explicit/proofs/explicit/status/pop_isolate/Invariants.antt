@@ -1,0 +1,13 @@
+use Rattle.bidi_base.proofs.Common.{◌≡◌, ◌+◌, ◌≤◌, length, map, reverse, drop_isolate}
+use Rattle.bidi_explicit.specs.Status.{seen}
+use Rattle.bidi_explicit.proofs.explicit.status.pop_isolate.Given as goal
+
+abbrev pub invariant-loop-entry : goal.invariant-loop-entry
+invariant-loop-entry g l = record {
+  stack : drop_isolate (map seen (reverse l.stack.items)) ≡ drop_isolate (map seen (reverse l.fn.stack.items));
+  at_least : l.fn.steps ≤ l.steps;
+  popped : l.steps + length l.stack.items ≡ l.fn.steps + length l.fn.stack.items;
+}
+
+abbrev pub decreases-loop-entry : goal.decreases-loop-entry
+decreases-loop-entry g l = length l.stack.items

@@ -1,0 +1,86 @@
+-- The explicit pass by stretches between controls: what it has written of the units below one.
+use Rattle.std.specs.Prelude.{◌≡◌, ℕ, ◌<◌, ◌≤◌, Bool, ◌||◌, if◌then◌else◌, List, length, get_or, Option, Some, None}
+use Rattle.bidi_base.specs.declared.char_data.BidiClass.{BidiClass}
+use Rattle.bidi_base.specs.declared.char_data.BidiClass.TheVariants.{L}
+use Rattle.bidi_base.specs.Classes.{is_kept_in_place, is_opener, is_paragraph_separator, is_pdf, is_pdi}
+use Rattle.bidi_base.specs.Explicit.{explicit_levels, processing_classes}
+use Rattle.bidi_base.specs.Places.{class_at}
+use Rattle.bidi_base.specs.StatusMachine.{State, state_at}
+use Rattle.bidi_base.specs.Text.{place, text_len, per_char, per_unit, IsPerChar}
+use Rattle.bidi_runs.specs.ExplicitPass.{runs_before, run_start, IsCutTo}
+use Rattle.bidi_explicit.specs.declared.explicit.stretches.OpenRun.{OpenRun}
+use Rattle.bidi_explicit.specs.declared.explicit.stretches.Progress.{Progress}
+
+-- a class that changes the status, or whose level is not that of the status (X1 to X8)
+abbrev pub is_control : BidiClass → Bool
+is_control c = is_paragraph_separator c || (is_opener c || (is_pdi c || is_pdf c))
+
+-- what an override that puts a class makes of another, where there is no control (X6)
+abbrev pub put_over : BidiClass → BidiClass → BidiClass
+put_over put c = if is_kept_in_place c then put else c
+
+-- the same of an override that there may be
+abbrev pub overridden : Option BidiClass → BidiClass → BidiClass
+overridden None c = c
+overridden (Some put) c = put_over put c
+
+-- an override was put on the units from `from` up to `to`, and nothing on others
+pub record IsOverridden (override : Option BidiClass) (from to : ℕ) (old new : List BidiClass) : Type 0 where
+  pub inside : (u : ℕ) → from ≤ u → u < to → class_at new u ≡ overridden override (class_at old u)
+  pub below : (u : ℕ) → u < from → class_at new u ≡ class_at old u
+  pub above : (u : ℕ) → to ≤ u → class_at new u ≡ class_at old u
+  pub long : length new ≡ length old
+
+-- a paragraph, with the stored class of each unit
+pub record Paragraph : Type 0 where
+  pub len_of : ℕ → ℕ
+  pub chars : List ℕ
+  pub level : ℕ
+  pub original : List BidiClass
+
+abbrev pub paragraph_of : (ℕ → ℕ) → List ℕ → ℕ → List BidiClass → Paragraph
+paragraph_of len_of chars level original = record { len_of = len_of; chars = chars; level = level; original = original }
+
+-- the stored class of each character
+abbrev pub stored : Paragraph → List BidiClass
+stored p = per_char L p.len_of p.chars p.original
+
+-- its explicit levels and processing classes, one a character
+abbrev pub levels_of : Paragraph → List ℕ
+levels_of p = explicit_levels p.level (stored p)
+
+abbrev pub classes_of : Paragraph → List BidiClass
+classes_of p = processing_classes p.level (stored p)
+
+-- the units below u are read, and u is a boundary
+pub record IsReadTo (p : Paragraph) (u : ℕ) (stack : State) (levels : List ℕ) (classes : List BidiClass)
+    (runs : List (ℕ × ℕ)) (run : OpenRun) : Type 0 where
+  pub has_units : (c : ℕ) → 1 ≤ p.len_of c
+  pub per_char : IsPerChar p.len_of p.chars p.original
+  pub index : ℕ
+  pub begins : u ≡ place p.len_of p.chars index
+  pub within : index ≤ length p.chars
+  pub machine : stack ≡ state_at p.level (stored p) index
+  pub levels_long : length levels ≡ text_len p.len_of p.chars
+  pub classes_long : length classes ≡ text_len p.len_of p.chars
+  pub levels_written : (v : ℕ) → v < u → get_or levels v 0 ≡ get_or (per_unit p.len_of p.chars (levels_of p)) v 0
+  pub classes_written : (v : ℕ) → v < u → class_at classes v ≡ class_at (per_unit p.len_of p.chars (classes_of p)) v
+  pub unread : (v : ℕ) → u ≤ v → class_at classes v ≡ class_at p.original v
+  pub cut : IsCutTo p.len_of p.chars (stored p) (levels_of p) index runs run.start run.last_level
+
+-- the level runs that have ended once the first kept unit of what was read, if there is one, met the run that
+-- is open, and that one then
+abbrev pub runs_met : Option ℕ → ℕ → OpenRun → List (ℕ × ℕ) → List (ℕ × ℕ)
+runs_met None level run runs = runs
+runs_met (Some unit) level run runs = runs_before run.last_level level run.start unit runs
+
+abbrev pub run_met : Option ℕ → ℕ → OpenRun → OpenRun
+run_met None level run = run
+run_met (Some unit) level run = record { start = run_start run.last_level level run.start unit; last_level = Some level }
+
+-- from a unit on a stretch or a control is read, whatever runs came before
+abbrev pub ReadsOn : Paragraph → ℕ → State → List ℕ → List BidiClass → Progress → State → List ℕ → List BidiClass → Type 0
+ReadsOn p from stack levels classes read stack_now levels_now classes_now =
+    (runs : List (ℕ × ℕ)) (run : OpenRun) → IsReadTo p from stack levels classes runs run
+    → IsReadTo p read.end stack_now levels_now classes_now (runs_met read.first_kept read.level run runs)
+    (run_met read.first_kept read.level run)

@@ -1,0 +1,2 @@
+pub mod ExplicitStretches
+pub mod Status

@@ -1,0 +1,258 @@
+//! Explicit levels and directions (X1 to X8), and level runs (BD7), in place over the units of one
+//! paragraph.
+
+ghost use Rattle.std.specs.Prelude.{◌≡◌, ℕ, ◌+◌, ◌*◌, ◌-◌, ◌≤◌, ◌||◌, [], if◌then◌else◌, length, map, unwrap_or, IsTrue, OnOk, IfOk};
+ghost use Rattle.bidi_base.specs.declared.char_data.BidiClass.TheVariants.{L, BN};
+ghost use Rattle.bidi_base.specs.Classes.{is_paragraph_separator, is_removed};
+ghost use Rattle.bidi_base.specs.Explicit.{explicit_levels, processing_classes as processing_classes_of};
+ghost use Rattle.bidi_base.specs.Text.{per_unit, per_char, is_per_char};
+ghost use Rattle.bidi_base.specs.Units.{bounds, level_run_ranges};
+ghost use Rattle.bidi_runs.specs.ExplicitPass.{filled, runs_before, run_start as run_start_after};
+
+mod status;
+mod stretches;
+
+use bidi_base::char_data::BidiClass;
+use bidi_base::classes::is_removed;
+use bidi_base::level::Level;
+use bidi_runs::prepare::{LevelRunVec, Steps, not_removed_by_x9};
+use bidi_text::text::TextSource;
+use status::StatusStack;
+use std::alloc::{AllocError, Global};
+use std::marker::Brand;
+use std::sync::ledger::{Blank, Ledger};
+use stretches::{OpenRun, Paragraph, is_control};
+
+// The level of a character, where `level` holds at its place (X8).
+fn own_level(para_level: Level, class: BidiClass, level: Level) -> Level
+    ensures { result ≡ (if is_paragraph_separator class then para_level else level) }
+{
+    match class {
+        BidiClass::B => para_level,
+        _ => level,
+    }
+}
+
+// The class of a character under an override (X6), and BN for what X9 removes.
+fn own_class(class: BidiClass, override_class: Option<BidiClass>) -> BidiClass
+    ensures { result
+        ≡ (if is_removed class then BN
+        else if is_paragraph_separator class || is_removed class then class else unwrap_or override_class class) }
+{
+    match class {
+        BidiClass::B => class,
+        _ if is_removed(class) => BidiClass::BN,
+        _ => override_class.unwrap_or(class),
+    }
+}
+
+// Writes a value to `len` units from `start` on, three at most.
+fn fill_few<X: Copy>(units: &mut [X], start: usize, len: usize, value: X)
+    requires few { len ≤ 3 }
+    requires within { start + len ≤ length units.old }
+    ensures { units.new ≡ filled start len value units.old }
+{
+    match len {
+        1 => units[start] = value,
+        2 => {
+            units[start] = value;
+            units[start + 1] = value;
+        }
+        3 => {
+            units[start] = value;
+            units[start + 1] = value;
+            units[start + 2] = value;
+        }
+        _ => {}
+    }
+}
+
+// Writes a level to the units from one up to another. A few are written one by one.
+fn write_level(levels: &mut [Level], from: usize, to: usize, level: Level)
+    requires ordered { from ≤ to }
+    requires within { to ≤ length levels.old }
+    ensures { levels.new ≡ filled from (to - from) level levels.old }
+{
+    if to - from <= 3 {
+        fill_few(levels, from, to - from, level);
+    } else {
+        levels[from..to].fill(level);
+    }
+}
+
+// The same of a class.
+fn write_class(classes: &mut [BidiClass], from: usize, to: usize, class: BidiClass)
+    requires ordered { from ≤ to }
+    requires within { to ≤ length classes.old }
+    ensures { classes.new ≡ filled from (to - from) class classes.old }
+{
+    if to - from <= 3 {
+        fill_few(classes, from, to - from, class);
+    } else {
+        classes[from..to].fill(class);
+    }
+}
+
+// Ends the level run that began at `run_start`, where the kept character at `start` has another
+// level than the kept one before it. Answers where the run of that character starts.
+fn cut_run(
+    runs: &mut LevelRunVec,
+    run_start: usize,
+    start: usize,
+    last_level: Option<Level>,
+    level: Level,
+) -> Result<usize, AllocError>
+    ensures runs { OnOk result (map bounds runs.new.items
+        ≡ runs_before last_level level run_start start (map bounds runs.old.items)) }
+    ensures start { IfOk result (λ s. s ≡ run_start_after last_level level run_start start) }
+{
+    match last_level {
+        Some(last) if last != level => {
+            runs.push(run_start..start)?;
+            Ok(start)
+        }
+        _ => Ok(run_start),
+    }
+}
+
+/// The explicit levels of a paragraph, its classes under overrides, and its level runs.
+///
+/// `original_classes` has the stored classes. Each unit of `levels` gets the explicit level of its
+/// character, whatever it held, and each unit of `processing_classes` the class, which is BN for
+/// what X9 removes. A new run begins exactly at a character that X9 keeps and whose level differs
+/// from that of the kept character before it; the runs cover the text.
+///
+/// `para_level` is at most 125, and there is one entry a unit in each list, in `original_classes` the
+/// same for all units of a character. `processing_classes` comes as a copy of them, and `runs` empty.
+/// Refused only where `runs`, which brings its own memory, cannot grow; the slices and the runs hold
+/// any values then. Nothing else takes memory: `alloc` is there as in all passes.
+pub fn compute<T: TextSource>(
+    alloc: Global,
+    text: T,
+    para_level: Level,
+    original_classes: &[BidiClass],
+    levels: &mut [Level],
+    processing_classes: &mut [BidiClass],
+    runs: &mut LevelRunVec,
+) -> Result<(), AllocError>
+    requires explicit { para_level ≤ 125 }
+    requires original { IsTrue (is_per_char ⟦<BidiClass as PartialEq>⟧.eq T.units (T.characters text) original_classes.now) }
+    requires levels { length levels.old ≡ length original_classes.now }
+    requires processing { processing_classes.old ≡ original_classes.now }
+    requires runs { runs.old.items ≡ [] }
+    ensures levels { let stored = per_char L T.units (T.characters text) original_classes.now in
+        OnOk result (levels.new ≡ per_unit T.units (T.characters text) (explicit_levels para_level stored)) }
+    ensures classes { let stored = per_char L T.units (T.characters text) original_classes.now in
+        OnOk result (processing_classes.new
+        ≡ per_unit T.units (T.characters text) (processing_classes_of para_level stored)) }
+    ensures runs { let stored = per_char L T.units (T.characters text) original_classes.now in
+        OnOk result (map bounds runs.new.items
+        ≡ level_run_ranges T.units (T.characters text) stored (explicit_levels para_level stored)) }
+{
+    compute_fresh::<T, Brand>(
+        alloc,
+        text,
+        para_level,
+        original_classes,
+        levels,
+        processing_classes,
+        runs,
+        Blank::new(1),
+    )
+}
+
+// The same by a new count of steps.
+fn compute_fresh<T: TextSource, S: Ledger>(
+    alloc: Global,
+    text: T,
+    para_level: Level,
+    original_classes: &[BidiClass],
+    levels: &mut [Level],
+    processing_classes: &mut [BidiClass],
+    runs: &mut LevelRunVec,
+    blank: Blank,
+) -> Result<(), AllocError>
+    requires explicit { para_level ≤ 125 }
+    requires original { IsTrue (is_per_char ⟦<BidiClass as PartialEq>⟧.eq T.units (T.characters text) original_classes.now) }
+    requires levels { length levels.old ≡ length original_classes.now }
+    requires processing { processing_classes.old ≡ original_classes.now }
+    requires runs { runs.old.items ≡ [] }
+    requires name { blank.name ≡ S.name }
+    requires parts { blank.parts ≡ S.parts }
+    requires one { blank.parts ≡ 1 }
+    ensures levels { let stored = per_char L T.units (T.characters text) original_classes.now in
+        OnOk result (levels.new ≡ per_unit T.units (T.characters text) (explicit_levels para_level stored)) }
+    ensures classes { let stored = per_char L T.units (T.characters text) original_classes.now in
+        OnOk result (processing_classes.new
+        ≡ per_unit T.units (T.characters text) (processing_classes_of para_level stored)) }
+    ensures runs { let stored = per_char L T.units (T.characters text) original_classes.now in
+        OnOk result (map bounds runs.new.items
+        ≡ level_run_ranges T.units (T.characters text) stored (explicit_levels para_level stored)) }
+{
+    let mut steps = Steps::<S>::new(blank);
+    compute_counted(
+        alloc,
+        text,
+        para_level,
+        original_classes,
+        levels,
+        processing_classes,
+        runs,
+        &mut steps,
+    )
+}
+
+/// The same as [`compute`], where each turn of a loop, here and in what is called, counts in `steps`: at
+/// least one for each character of the paragraph, and at most four. The turns that empty the status
+/// stack at a PDI are paid by the openers that filled it. Calls of the text and of the library have no
+/// turns. After a refusal nothing is said of the count.
+pub fn compute_counted<T: TextSource, S: Ledger>(
+    _alloc: Global,
+    text: T,
+    para_level: Level,
+    original_classes: &[BidiClass],
+    levels: &mut [Level],
+    processing_classes: &mut [BidiClass],
+    runs: &mut LevelRunVec,
+    steps: &mut Steps<S>,
+) -> Result<(), AllocError>
+    requires explicit { para_level ≤ 125 }
+    requires original { IsTrue (is_per_char ⟦<BidiClass as PartialEq>⟧.eq T.units (T.characters text) original_classes.now) }
+    requires levels { length levels.old ≡ length original_classes.now }
+    requires processing { processing_classes.old ≡ original_classes.now }
+    requires runs { runs.old.items ≡ [] }
+    ensures levels { let stored = per_char L T.units (T.characters text) original_classes.now in
+        OnOk result (levels.new ≡ per_unit T.units (T.characters text) (explicit_levels para_level stored)) }
+    ensures classes { let stored = per_char L T.units (T.characters text) original_classes.now in
+        OnOk result (processing_classes.new
+        ≡ per_unit T.units (T.characters text) (processing_classes_of para_level stored)) }
+    ensures runs { let stored = per_char L T.units (T.characters text) original_classes.now in
+        OnOk result (map bounds runs.new.items
+        ≡ level_run_ranges T.units (T.characters text) stored (explicit_levels para_level stored)) }
+    ensures at_least { OnOk result (steps.old + length (T.characters text) ≤ steps.new) }
+    ensures at_most { OnOk result (steps.new ≤ steps.old + 4 * length (T.characters text)) }
+{
+    let paragraph = Paragraph {
+        text,
+        level: para_level,
+        original_classes,
+    };
+    let units = original_classes.len();
+    let mut stack = StatusStack::new(para_level);
+    let mut run = OpenRun::new();
+    let mut at = 0;
+    while at < units {
+        steps.tick();
+        let progress = if is_control(original_classes[at]) {
+            paragraph.read_control(at, &mut stack, levels, processing_classes, steps)
+        } else {
+            paragraph.read_stretch(at, stack.top(), levels, processing_classes, steps)
+        };
+        run.meet(runs, &progress)?;
+        at = progress.end;
+    }
+    if units > 0 {
+        runs.push(run.start..units)?;
+    }
+    Ok(())
+}

@@ -1,0 +1,283 @@
+//! The explicit pass by stretches: between two controls the status stands still, so all units there
+//! get one level, and are under one override.
+
+ghost use Rattle.std.specs.Prelude.{◌≡◌, ℕ, ◌+◌, ◌*◌, ◌-◌, ◌<◌, ◌≤◌, false, List, None, Some, length, map, IsTrue, OnOk};
+ghost use Rattle.bidi_base.specs.Places.{class_at};
+ghost use Rattle.bidi_base.specs.Search.{IsFirst};
+ghost use Rattle.bidi_base.specs.StatusMachine.{State};
+ghost use Rattle.bidi_base.specs.Text.{char_index, is_boundary, is_per_char, place, text_len};
+ghost use Rattle.bidi_base.specs.Units.{bounds};
+ghost use Rattle.bidi_explicit.specs.ExplicitStretches.{is_control, paragraph_of, run_met, runs_met, IsOverridden, IsReadTo, ReadsOn};
+ghost use Rattle.bidi_explicit.specs.Status.{entry_count, seen};
+
+use super::status::{StatusEntry, StatusStack};
+use super::{cut_run, own_class, own_level, write_class, write_level};
+use bidi_base::char_data::BidiClass::{self, B, BN, FSI, LRE, LRI, LRO, PDF, PDI, RLE, RLI, RLO};
+use bidi_base::level::Level;
+use bidi_base::search::ClassTest;
+use bidi_runs::characters::end_of;
+use bidi_runs::prepare::{LevelRunVec, Steps, not_removed_by_x9};
+use bidi_text::text::TextSource;
+use std::alloc::AllocError;
+use std::sync::ledger::Ledger;
+
+/// Whether a class changes the status, or has another level than it.
+pub fn is_control(class: BidiClass) -> bool
+    ensures { result ≡ is_control class }
+{
+    let embedding = (class == LRE) | (class == RLE) | (class == LRO) | (class == RLO);
+    let isolate = (class == LRI) | (class == RLI) | (class == FSI);
+    (class == B) | embedding | isolate | (class == PDI) | (class == PDF)
+}
+
+/// Classes of controls.
+#[derive(Clone, Copy, Debug)]
+struct Control;
+
+impl ClassTest for Control {
+    ghost test = { λ _. is_control };
+
+    fn passes(self, class: BidiClass) -> bool {
+        is_control(class)
+    }
+}
+
+/// Classes that X9 keeps, where there is no control: all but BN.
+#[derive(Clone, Copy, Debug)]
+struct Kept;
+
+impl ClassTest for Kept {
+    ghost use Rattle.bidi_base.specs.Classes.{is_kept_in_place};
+
+    ghost test = { λ _. is_kept_in_place };
+
+    fn passes(self, class: BidiClass) -> bool {
+        class != BN
+    }
+}
+
+/// How far the pass got with a stretch or a control, in which one level holds.
+#[derive(Clone, Copy, Debug)]
+pub struct Progress {
+    /// The unit behind what was read.
+    pub end: usize,
+    level: Level,
+    /// The first unit read that X9 keeps.
+    first_kept: Option<usize>,
+}
+
+/// The level run that no later one has ended yet.
+#[derive(Clone, Copy, Debug)]
+pub struct OpenRun {
+    /// Its first unit.
+    pub start: usize,
+    /// The level of the last kept character.
+    last_level: Option<Level>,
+}
+
+impl OpenRun {
+    /// The run at the start of a paragraph.
+    pub fn new() -> OpenRun
+        ensures { result ≡ record { start = 0; last_level = None } }
+    {
+        OpenRun {
+            start: 0,
+            last_level: None,
+        }
+    }
+
+    /// Goes on with what was read, or ends before the first kept character in it.
+    pub fn meet(&mut self, runs: &mut LevelRunVec, progress: &Progress) -> Result<(), AllocError>
+        ensures runs { OnOk result (map bounds runs.new.items
+            ≡ runs_met progress.now.first_kept progress.now.level self.old (map bounds runs.old.items)) }
+        ensures run { OnOk result (self.new ≡ run_met progress.now.first_kept progress.now.level self.old) }
+    {
+        if let Some(unit) = progress.first_kept {
+            self.start = cut_run(runs, self.start, unit, self.last_level, progress.level)?;
+            self.last_level = Some(progress.level);
+        }
+        Ok(())
+    }
+}
+
+// The unit behind the character that begins at a unit. To go there is a step.
+fn step_over<T: TextSource, S: Ledger>(text: T, start: usize, steps: &mut Steps<S>) -> usize
+    requires begins { IsTrue (is_boundary T.units (T.characters text) start) }
+    requires inside { start < text_len T.units (T.characters text) }
+    requires fits { text_len T.units (T.characters text) ≤ usize.MAX }
+    ensures end { (k : ℕ) → k < length (T.characters text) → start ≡ place T.units (T.characters text) k
+        → result ≡ place T.units (T.characters text) (k + 1) }
+    ensures steps { steps.new ≡ steps.old + 1 }
+{
+    steps.tick();
+    end_of(text, start)
+}
+
+/// A paragraph, as the pass reads it.
+#[derive(Drop)]
+pub struct Paragraph<'p, T: TextSource> {
+    pub text: T,
+    pub level: Level,
+    /// Its stored classes, one a unit.
+    pub original_classes: &'p [BidiClass],
+    ghost low: { level ≤ 125 },
+    ghost per_char: { IsTrue (is_per_char ⟦<BidiClass as PartialEq>⟧.eq T.units (T.characters text) original_classes.now) },
+    ghost long: { length original_classes.now ≡ text_len T.units (T.characters text) },
+}
+
+impl<T: TextSource> Paragraph<'_, T> {
+    // The next character from a unit on, and below another, whose class passes a test. Each character
+    // that is passed over is a step.
+    fn next_passing<C: ClassTest, S: Ledger>(
+        &self,
+        test: C,
+        from: usize,
+        to: usize,
+        steps: &mut Steps<S>,
+    ) -> usize
+        requires begins { IsTrue (is_boundary T.units (T.characters self.now.text) from) }
+        requires ends { IsTrue (is_boundary T.units (T.characters self.now.text) to) }
+        requires ordered { from ≤ to }
+        requires within { to ≤ length self.now.original_classes.now }
+        ensures first { IsFirst (C.test test) self.now.original_classes.now from to result }
+        ensures begins { IsTrue (is_boundary T.units (T.characters self.now.text) result) }
+        ensures steps { steps.new + char_index T.units (T.characters self.now.text) from
+            ≡ steps.old + char_index T.units (T.characters self.now.text) result }
+    {
+        let mut at = from;
+        while at < to && !test.passes(self.original_classes[at]) {
+            at = step_over(self.text, at, steps);
+        }
+        at
+    }
+
+    // Puts the class of an override on the characters of a stretch without controls, and spares BN
+    // (X6). Each of them is a step.
+    fn put_override<S: Ledger>(
+        &self,
+        classes: &mut [BidiClass],
+        from: usize,
+        to: usize,
+        put: BidiClass,
+        steps: &mut Steps<S>,
+    )
+        requires classes { length classes.old ≡ length self.now.original_classes.now }
+        requires begins { IsTrue (is_boundary T.units (T.characters self.now.text) from) }
+        requires ends { IsTrue (is_boundary T.units (T.characters self.now.text) to) }
+        requires ordered { from ≤ to }
+        requires within { to ≤ length self.now.original_classes.now }
+        requires unread { (u : ℕ) → from ≤ u → class_at classes.old u ≡ class_at self.now.original_classes.now u }
+        ensures put { IsOverridden (Some put) from to classes.old classes.new }
+        ensures steps { steps.new + char_index T.units (T.characters self.now.text) from
+            ≡ steps.old + char_index T.units (T.characters self.now.text) to }
+    {
+        let mut at = from;
+        while at < to {
+            let next = step_over(self.text, at, steps);
+            if Kept.passes(self.original_classes[at]) {
+                write_class(classes, at, next, put);
+            }
+            at = next;
+        }
+    }
+
+    // Writes the classes of a stretch without controls, if an override is over it.
+    fn write_override<S: Ledger>(
+        &self,
+        classes: &mut [BidiClass],
+        from: usize,
+        to: usize,
+        override_class: Option<BidiClass>,
+        steps: &mut Steps<S>,
+    )
+        requires classes { length classes.old ≡ length self.now.original_classes.now }
+        requires begins { IsTrue (is_boundary T.units (T.characters self.now.text) from) }
+        requires ends { IsTrue (is_boundary T.units (T.characters self.now.text) to) }
+        requires ordered { from ≤ to }
+        requires within { to ≤ length self.now.original_classes.now }
+        requires unread { (u : ℕ) → from ≤ u → class_at classes.old u ≡ class_at self.now.original_classes.now u }
+        ensures put { IsOverridden override_class from to classes.old classes.new }
+        ensures at_least { steps.old ≤ steps.new }
+        ensures at_most { steps.new
+            ≤ steps.old
+            + (char_index T.units (T.characters self.now.text) to
+            - char_index T.units (T.characters self.now.text) from) }
+    {
+        if let Some(put) = override_class {
+            self.put_override(classes, from, to, put, steps);
+        }
+    }
+
+    /// Reads the characters from a unit up to the next control.
+    pub fn read_stretch<S: Ledger>(
+        &self,
+        from: usize,
+        status: StatusEntry,
+        levels: &mut [Level],
+        classes: &mut [BidiClass],
+        steps: &mut Steps<S>,
+    ) -> Progress
+        requires inside { from < length self.now.original_classes.now }
+        requires plain { is_control (class_at self.now.original_classes.now from) ≡ false }
+        requires begins { IsTrue (is_boundary T.units (T.characters self.now.text) from) }
+        requires levels { length levels.old ≡ length self.now.original_classes.now }
+        requires classes { length classes.old ≡ length self.now.original_classes.now }
+        requires unread { (u : ℕ) → from ≤ u → class_at classes.old u ≡ class_at self.now.original_classes.now u }
+        ensures read { (stack : State) → seen status ≡ stack.top
+            → ReadsOn (paragraph_of T.units (T.characters self.now.text) self.now.level self.now.original_classes.now)
+            from stack levels.old classes.old result stack levels.new classes.new }
+        ensures some { from < result.end }
+        ensures more { char_index T.units (T.characters self.now.text) from
+            < char_index T.units (T.characters self.now.text) result.end }
+        ensures at_least { steps.old + char_index T.units (T.characters self.now.text) result.end
+            ≤ steps.new + char_index T.units (T.characters self.now.text) from }
+        ensures at_most { steps.new + 3 * char_index T.units (T.characters self.now.text) from
+            ≤ steps.old + 3 * char_index T.units (T.characters self.now.text) result.end }
+    {
+        let end = self.next_passing(Control, from, self.original_classes.len(), steps);
+        write_level(levels, from, end, status.level);
+        self.write_override(classes, from, end, status.override_class, steps);
+        let first_kept = self.next_passing(Kept, from, end, steps);
+        Progress {
+            end,
+            level: status.level,
+            first_kept: (first_kept < end).then_some(first_kept),
+        }
+    }
+
+    /// Reads the control that begins at a unit.
+    pub fn read_control<S: Ledger>(
+        &self,
+        start: usize,
+        stack: &mut StatusStack,
+        levels: &mut [Level],
+        classes: &mut [BidiClass],
+        steps: &mut Steps<S>,
+    ) -> Progress
+        requires inside { start < length self.now.original_classes.now }
+        requires read { (runs : List (ℕ × ℕ)) × (run : OpenRun)
+            × IsReadTo
+            (paragraph_of T.units (T.characters self.now.text) self.now.level self.now.original_classes.now) start
+            stack.old levels.old classes.old runs run }
+        ensures read { ReadsOn
+            (paragraph_of T.units (T.characters self.now.text) self.now.level self.now.original_classes.now) start
+            stack.old levels.old classes.old result stack.new levels.new classes.new }
+        ensures some { start < result.end }
+        ensures one { char_index T.units (T.characters self.now.text) result.end
+            ≡ char_index T.units (T.characters self.now.text) start + 1 }
+        ensures at_least { steps.old ≤ steps.new }
+        ensures at_most { steps.new + entry_count stack.new ≤ steps.old + entry_count stack.old + 1 }
+    {
+        let class = self.original_classes[start];
+        let status = stack.read(class, steps);
+        let level = own_level(self.level, class, status.level);
+        let end = end_of(self.text, start);
+        write_level(levels, start, end, level);
+        write_class(classes, start, end, own_class(class, status.override_class));
+        Progress {
+            end,
+            level,
+            first_kept: not_removed_by_x9(&class).then_some(start),
+        }
+    }
+}

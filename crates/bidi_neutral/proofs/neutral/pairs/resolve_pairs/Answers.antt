@@ -1,0 +1,116 @@
+use Rattle.bidi_base.proofs.Common.{◌≡◌, ◌+◌, ◌≤◌, ℕ, List, length, map, get_or, sym, ap, subst, ◌∙◌, arith, length-map, take_all, is_nsm, place, text_len, bounds, kept_in_place}
+use Rattle.bidi_base.proofs.PlaceLemmas.{place-mono}
+use Rattle.bidi_neutral.specs.PairWalk.{spot, IsSet}
+use Rattle.bidi_neutral.proofs.NeutralSteps.{runs-within}
+use Rattle.bidi_neutral.proofs.PairPlaces.{pair_at}
+use Rattle.bidi_neutral.proofs.PairSteps.{IsWalkedTo-start, IsWalkedTo-none, IsWalkedTo-set, IsAnswered-taken, Stands, stands}
+use Rattle.bidi_neutral.proofs.RowLemmas.{IsRow-none}
+use Rattle.bidi_neutral.proofs.neutral.pairs.resolve_pairs.Given.{Over}
+use Rattle.bidi_neutral.proofs.neutral.pairs.resolve_pairs.Goals as goal
+use Rattle.bidi_neutral.proofs.neutral.pairs.resolve_pairs.Goals.{In-loop-pair, in-Some, in_default}
+
+pub loop-pair-init : goal.loop-pair-init
+loop-pair-init g c = (
+  λ h ready side long found nested is.
+      IsWalkedTo-start g.T.TextSource.units h (g.T.TextSource.characters c.args.text) c.args.original_classes.now c.args.runs.now c.args.directions.sos c.args.classes.now ready c.args.directions.embedding side long found nested c.new-walk.result c.new-walk.ensures,
+  rw c.new-row.ensures (IsRow-none g.T.TextSource.units (g.T.TextSource.characters c.args.text) (map bounds c.args.runs.now) c.args.original_classes.now c.args.classes.now c.args.directions.embedding),
+)
+
+-- where the pair stands
+here : (g : Over) (c : In-loop-pair g) → Stands g.T.TextSource.units g.met.T.TextSource.has_units (g.T.TextSource.characters c.args.text) c.args.original_classes.now c.args.runs.now c.args.directions.sos c.args.classes.now c.requires.ready c.args.directions.embedding c.requires.side c.requires.original c.requires.pairs.0 c.requires.pairs.1 (get_or c.args.pairs.now c.loop-pair.pair-index (0, 0)) c.loop-pair.pair-index
+here g c = search (arith, stands)
+
+long : (g : Over) (c : In-loop-pair g) → length c.args.classes.now ≡ text_len g.T.TextSource.units (g.T.TextSource.characters c.args.text)
+long g c = grind arith steps 400000
+
+pub end_of-requires-clause-begins : goal.end_of-requires-clause-begins
+end_of-requires-clause-begins g c = (here g (goal.at.end_of-requires-clause-begins g c).In-loop-pair).first_begins
+
+pub end_of-requires-clause-inside : goal.end_of-requires-clause-inside
+end_of-requires-clause-inside g c = (here g (goal.at.end_of-requires-clause-inside g c).In-loop-pair).first_inside
+
+pub bounds-original_classes-opening : goal.bounds-original_classes-opening
+bounds-original_classes-opening g c =
+    let loop = (goal.at.bounds-original_classes-opening g c).In-loop-pair in
+    omega (arith, (here g loop).first_inside, long g loop, c.requires.original)
+
+pub pair_direction-taken-requires-clause-runs : goal.pair_direction-taken-requires-clause-runs
+pair_direction-taken-requires-clause-runs g c =
+    rw c.loop-pair.auto.classes (runs-within g.T.TextSource.units g.met.T.TextSource.has_units (g.T.TextSource.characters c.args.text) c.args.runs.now c.args.directions.sos c.args.classes.now c.requires.ready)
+
+pub pair_direction-taken-requires-clause-inside : goal.pair_direction-taken-requires-clause-inside
+pair_direction-taken-requires-clause-inside g c =
+    let st = here g (goal.at.pair_direction-taken-requires-clause-inside g c).In-loop-pair in
+    grind (arith, st.first_place, c.end_of.ensures _ st.first_within st.first_place, place-mono g.T.TextSource.units (g.T.TextSource.characters c.args.text))
+
+pub pair_direction-taken-requires-clause-closing : goal.pair_direction-taken-requires-clause-closing
+pair_direction-taken-requires-clause-closing g c =
+    let loop = (goal.at.pair_direction-taken-requires-clause-closing g c).In-loop-pair in
+    omega (arith, (here g loop).last_inside, long g loop, c.loop-pair.auto.classes)
+
+pub set_direction-requires-clause-long : goal.set_direction-requires-clause-long
+set_direction-requires-clause-long g c = grind arith steps 400000
+
+pub set_direction-requires-clause-begins : goal.set_direction-requires-clause-begins
+set_direction-requires-clause-begins g c = (here g (goal.at.set_direction-requires-clause-begins g c).In-loop-pair).first_begins
+
+pub set_direction-requires-clause-inside : goal.set_direction-requires-clause-inside
+set_direction-requires-clause-inside g c = (here g (goal.at.set_direction-requires-clause-inside g c).In-loop-pair).first_inside
+
+pub set_direction-requires-in-Some-clause-long : goal.set_direction-requires-in-Some-clause-long
+set_direction-requires-in-Some-clause-long g c = grind arith steps 400000
+
+pub set_direction-requires-in-Some-clause-begins : goal.set_direction-requires-in-Some-clause-begins
+set_direction-requires-in-Some-clause-begins g c = (here g (goal.at.set_direction-requires-in-Some-clause-begins g c).In-loop-pair).last_begins
+
+pub set_direction-requires-in-Some-clause-inside : goal.set_direction-requires-in-Some-clause-inside
+set_direction-requires-in-Some-clause-inside g c = (here g (goal.at.set_direction-requires-in-Some-clause-inside g c).In-loop-pair).last_inside
+
+pub loop-pair-preserved : goal.loop-pair-preserved
+loop-pair-preserved g c = (
+  λ h ready side long found nested is.
+      let len_of = g.T.TextSource.units in
+      let chars : List ℕ = g.T.TextSource.characters c.args.text in
+      let a = c.args in
+      let s = c.loop-pair in
+      let k = s.pair-index in
+      let e = a.directions.embedding in
+      let sos = a.directions.sos in
+      let old = a.classes.now in
+      let original = a.original_classes.now in
+      let runs = a.runs.now in
+      let ks = kept_in_place len_of chars old (map bounds runs) in
+      let i = (pair_at found k).0 in
+      let j = (pair_at found k).1 in
+      let st = stands len_of h chars original runs sos old ready e side long found nested a.pairs.now is k c.loop-pair-test.true in
+      let w = s.invariant.0 h ready side long found nested is in
+      let inside : c.end_of.result ≡ place len_of chars (get_or ks i 0 + 1) = c.end_of.ensures (get_or ks i 0) st.first_within st.first_place in
+      let answer = IsAnswered-taken len_of h chars original runs sos old ready e side long found nested s.classes k st.fits s.walk c.pair_direction-taken.new.self w c.pair_direction-taken.result
+      (rw (sym st.first, sym st.last, sym inside, sym (c.is_nsm.ensures ∙ ap is_nsm (sym st.class_is))) c.pair_direction-taken.ensures.taken) in
+      elim c.match-taken.branch [
+        | in-Some b ↦
+            rw b.classes-is
+            (IsWalkedTo-set len_of h chars original runs sos old ready e side long found nested s.classes k st.fits s.walk c.pair_direction-taken.new.self w c.pair_direction-taken.result b.in-Some.direction b.set_direction.new.classes b.set_direction-in-Some.new.classes answer b.in-Some.is
+            (c.pair_direction-taken.ensures.embedding ∙ w.embedding_is) (c.pair_direction-taken.ensures.opposite ∙ w.opposite_is)
+            (subst (λ u. IsSet len_of chars (map bounds runs) original b.in-Some.direction u (get_or ks i 0 + 1) s.classes b.set_direction.new.classes) st.first (b.set_direction.ensures.set (get_or ks i 0) st.first_within st.first_place))
+            (subst (λ u. IsSet len_of chars (map bounds runs) original b.in-Some.direction u (get_or ks j 0 + 1) b.set_direction.new.classes b.set_direction-in-Some.new.classes) st.last (b.set_direction-in-Some.ensures.set (get_or ks j 0) st.last_within st.last_place)))
+        | in_default b ↦
+            rw b.classes-is
+            (IsWalkedTo-none len_of h chars original runs sos old ready e side long found nested s.classes k st.fits s.walk c.pair_direction-taken.new.self w c.pair_direction-taken.result answer b.in_default.is
+            (c.pair_direction-taken.ensures.embedding ∙ w.embedding_is) (c.pair_direction-taken.ensures.opposite ∙ w.opposite_is))
+      ],
+  elim c.match-taken.branch [
+    | in-Some b ↦ rw (b.classes-is, b.row-is) b.set_direction-in-Some.ensures.row
+    | in_default b ↦ rw (b.classes-is, b.row-is) c.loop-pair.invariant.1
+  ],
+)
+
+pub returns : goal.returns
+returns g c = λ found nested is.
+    let len_of = g.T.TextSource.units in
+    let chars : List ℕ = g.T.TextSource.characters c.args.text in
+    let a = c.args in
+    let ks = kept_in_place len_of chars a.classes.now (map bounds a.runs.now) in
+    let w = c.loop-pair.invariant.0 g.met.T.TextSource.has_units c.requires.ready c.requires.side c.requires.original found nested is in
+    let all : length found ≤ c.loop-pair.pair-index = omega (arith, ap length is, length-map found (λ (p : ℕ × ℕ). let q : ℕ × ℕ = (spot len_of chars ks p.0, spot len_of chars ks p.1) in q), c.loop-pair-test.false) in
+    simp (take_all c.loop-pair.pair-index found all) at w.done

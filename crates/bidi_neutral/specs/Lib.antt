@@ -1,0 +1,3 @@
+pub mod JoinPass
+pub mod NeutralPass
+pub mod PairWalk

@@ -1,0 +1,358 @@
+//! The neutrals in place (N0 to N2).
+//!
+//! In a sequence with one direction alone N2 is all there is to do. Of others the brackets are found, and
+//! then all is resolved where it stands. So all memory is taken before the first class is written.
+
+ghost use Rattle.std.specs.Prelude.{◌≡◌, ℕ, List, [], ◌∷◌, ◌++◌, false, length, map, IsTrue, OnOk, OnErr, Option};
+ghost use Rattle.std.specs.List.{list_all};
+ghost use Rattle.bidi_base.specs.declared.char_data.BidiClass.TheVariants.{L, BN};
+ghost use Rattle.bidi_base.specs.declared.data_source.BidiMatchedOpeningBracket.{BidiMatchedOpeningBracket};
+ghost use Rattle.bidi_base.specs.Classes.{is_l_or_r, is_weak_resolved};
+ghost use Rattle.bidi_base.specs.Levels.{direction_of};
+ghost use Rattle.bidi_base.specs.Neutral.{n0, n2_rule, neutral_classes};
+ghost use Rattle.bidi_base.specs.Places.{at_places, class_at, first_or};
+ghost use Rattle.bidi_base.specs.Sequences.{level_at};
+ghost use Rattle.bidi_base.specs.Text.{is_per_char, place, text_len, IsLine};
+ghost use Rattle.bidi_base.specs.Units.{bounds, in_runs, kept_in_place, AreLines};
+ghost use Rattle.bidi_base.specs.declared.brackets.Bracket.{Bracket};
+ghost use Rattle.bidi_base.specs.FoundBrackets.{brackets_from};
+ghost use Rattle.bidi_base.specs.PairSearch.{HasRead};
+ghost use Rattle.bidi_neutral.specs.NeutralPass.{pairs_in, placed_brackets, HasGatheredNothing, IsPaired, IsReady};
+ghost use Rattle.bidi_runs.specs.RunSequence.{lent_runs, lent_sos, lent_eos, runs as runs_of, sos as sos_of, eos as eos_of};
+
+mod class_tests;
+mod directions;
+mod marks;
+mod nearest;
+mod one_direction;
+mod pairs;
+
+use bidi_base::brackets::{Bracket, PairSearch};
+use bidi_base::char_data::BidiClass;
+use bidi_base::data_source::BidiDataSource;
+use bidi_base::level::Level;
+use bidi_base::search::first_passing;
+use bidi_runs::prepare::{IsolatingRunSequence, LentSequence, LevelRun};
+use bidi_text::text::TextSource;
+use class_tests::OtherNeutral;
+use directions::{Directions, resolve_opposite, settle_rest};
+use nearest::first_kept;
+use one_direction::stands_alone;
+use pairs::resolve_pairs;
+use std::alloc::{AllocError, Global};
+
+/// Resolves the neutrals of one sequence after another, and keeps its memory from each to the next.
+#[derive(Debug, Drop)]
+pub struct NeutralResolver {
+    /// The brackets of a sequence that count, and their pairs, by the units at which they begin.
+    search: PairSearch,
+}
+
+impl NeutralResolver {
+    /// A resolver that has gathered nothing yet. No memory is taken.
+    pub fn new(alloc: Global) -> NeutralResolver
+        ensures { HasGatheredNothing result }
+    {
+        NeutralResolver {
+            search: PairSearch::new(alloc),
+        }
+    }
+
+    /// The neutrals of a sequence, in place, as [`resolve_neutral`] says.
+    pub fn resolve<D: BidiDataSource, T: TextSource>(
+        &mut self,
+        text: T,
+        data_source: &D,
+        sequence: &IsolatingRunSequence,
+        levels: &[Level],
+        original_classes: &[BidiClass],
+        processing_classes: &mut [BidiClass],
+    ) -> Result<(), AllocError>
+        requires per_char { IsTrue (is_per_char ⟦<BidiClass as PartialEq>⟧.eq T.units (T.characters text) processing_classes.old) }
+        requires fits { AreLines T.units (T.characters text) (map bounds (runs_of sequence.now)) }
+        requires levels { length levels.now ≡ length processing_classes.old }
+        requires original { length original_classes.now ≡ length processing_classes.old }
+        requires resolved { let places = map (place T.units (T.characters text))
+            (kept_in_place T.units (T.characters text) processing_classes.old
+            (map bounds (runs_of sequence.now))) in
+            IsTrue (list_all is_weak_resolved (at_places L processing_classes.old places)) }
+        ensures kept { let indexes = kept_in_place T.units (T.characters text) processing_classes.old
+            (map bounds (runs_of sequence.now)) in
+            let places = map (place T.units (T.characters text)) indexes in
+            OnOk result (at_places L processing_classes.new places
+            ≡ neutral_classes (level_at levels.now (first_or 0 places)) (sos_of sequence.now)
+            (eos_of sequence.now) (at_places L original_classes.now places)
+            (map (D.source data_source.now).bracket_of (at_places 0 (T.characters text) indexes))
+            (at_places L processing_classes.old places)) }
+        ensures removed { (u : ℕ) → class_at processing_classes.old u ≡ BN → class_at processing_classes.new u ≡ BN }
+        ensures outside { (u : ℕ) → in_runs (map bounds (runs_of sequence.now)) u ≡ false
+            → class_at processing_classes.new u ≡ class_at processing_classes.old u }
+        ensures per_char { IsTrue (is_per_char ⟦<BidiClass as PartialEq>⟧.eq T.units (T.characters text) processing_classes.new) }
+        ensures refused { OnErr result (processing_classes.new ≡ processing_classes.old) }
+    {
+        self.resolve_lent(
+            text,
+            data_source,
+            sequence.lend(),
+            levels,
+            original_classes,
+            processing_classes,
+        )
+    }
+
+    /// As [`NeutralResolver::resolve`], of a sequence whose runs are lent.
+    pub fn resolve_lent<D: BidiDataSource, T: TextSource>(
+        &mut self,
+        text: T,
+        data_source: &D,
+        sequence: LentSequence<'_>,
+        levels: &[Level],
+        original_classes: &[BidiClass],
+        processing_classes: &mut [BidiClass],
+    ) -> Result<(), AllocError>
+        requires per_char { IsTrue (is_per_char ⟦<BidiClass as PartialEq>⟧.eq T.units (T.characters text) processing_classes.old) }
+        requires fits { AreLines T.units (T.characters text) (map bounds (lent_runs sequence)) }
+        requires levels { length levels.now ≡ length processing_classes.old }
+        requires original { length original_classes.now ≡ length processing_classes.old }
+        requires resolved { let places = map (place T.units (T.characters text))
+            (kept_in_place T.units (T.characters text) processing_classes.old
+            (map bounds (lent_runs sequence))) in
+            IsTrue (list_all is_weak_resolved (at_places L processing_classes.old places)) }
+        ensures kept { let indexes = kept_in_place T.units (T.characters text) processing_classes.old
+            (map bounds (lent_runs sequence.entry)) in
+            let places = map (place T.units (T.characters text)) indexes in
+            OnOk result (at_places L processing_classes.new places
+            ≡ neutral_classes (level_at levels.now (first_or 0 places)) (lent_sos sequence.entry)
+            (lent_eos sequence.entry) (at_places L original_classes.now places)
+            (map (D.source data_source.now).bracket_of (at_places 0 (T.characters text) indexes))
+            (at_places L processing_classes.old places)) }
+        ensures removed { (u : ℕ) → class_at processing_classes.old u ≡ BN → class_at processing_classes.new u ≡ BN }
+        ensures outside { (u : ℕ) → in_runs (map bounds (lent_runs sequence.entry)) u ≡ false
+            → class_at processing_classes.new u ≡ class_at processing_classes.old u }
+        ensures per_char { IsTrue (is_per_char ⟦<BidiClass as PartialEq>⟧.eq T.units (T.characters text) processing_classes.new) }
+        ensures refused { OnErr result (processing_classes.new ≡ processing_classes.old) }
+    {
+        let runs = sequence.runs();
+        let Some(first) = first_kept(runs, processing_classes) else {
+            return Ok(());
+        };
+        let embedding = levels[first].bidi_class();
+        self.resolve_up_to_n1(
+            text,
+            data_source,
+            sequence,
+            levels,
+            original_classes,
+            processing_classes,
+        )?;
+        settle_rest(embedding, runs, processing_classes);
+        Ok(())
+    }
+
+    /// As [`NeutralResolver::resolve_lent`], but for N2: what it would give the embedding direction stays
+    /// a neutral. The levels are the same, since neither adds to them (I1, I2).
+    pub fn resolve_up_to_n1<D: BidiDataSource, T: TextSource>(
+        &mut self,
+        text: T,
+        data_source: &D,
+        sequence: LentSequence<'_>,
+        levels: &[Level],
+        original_classes: &[BidiClass],
+        processing_classes: &mut [BidiClass],
+    ) -> Result<(), AllocError>
+        requires per_char { IsTrue (is_per_char ⟦<BidiClass as PartialEq>⟧.eq T.units (T.characters text) processing_classes.old) }
+        requires fits { AreLines T.units (T.characters text) (map bounds (lent_runs sequence)) }
+        requires levels { length levels.now ≡ length processing_classes.old }
+        requires original { length original_classes.now ≡ length processing_classes.old }
+        requires resolved { let places = map (place T.units (T.characters text))
+            (kept_in_place T.units (T.characters text) processing_classes.old
+            (map bounds (lent_runs sequence))) in
+            IsTrue (list_all is_weak_resolved (at_places L processing_classes.old places)) }
+        ensures kept { let indexes = kept_in_place T.units (T.characters text) processing_classes.old
+            (map bounds (lent_runs sequence.entry)) in
+            let places = map (place T.units (T.characters text)) indexes in
+            let level = level_at levels.now (first_or 0 places) in
+            OnOk result (map (n2_rule (direction_of level)) (at_places L processing_classes.new places)
+            ≡ neutral_classes level (lent_sos sequence.entry) (lent_eos sequence.entry)
+            (at_places L original_classes.now places)
+            (map (D.source data_source.now).bracket_of (at_places 0 (T.characters text) indexes))
+            (at_places L processing_classes.old places)) }
+        ensures removed { (u : ℕ) → class_at processing_classes.old u ≡ BN → class_at processing_classes.new u ≡ BN }
+        ensures outside { (u : ℕ) → in_runs (map bounds (lent_runs sequence.entry)) u ≡ false
+            → class_at processing_classes.new u ≡ class_at processing_classes.old u }
+        ensures per_char { IsTrue (is_per_char ⟦<BidiClass as PartialEq>⟧.eq T.units (T.characters text) processing_classes.new) }
+        ensures refused { OnErr result (processing_classes.new ≡ processing_classes.old) }
+    {
+        let runs = sequence.runs();
+        let sos = sequence.sos();
+        let Some(first) = first_kept(runs, processing_classes) else {
+            return Ok(());
+        };
+        let embedding = levels[first].bidi_class();
+        let eos = sequence.eos();
+        let directions = Directions {
+            embedding,
+            sos,
+            eos,
+        };
+        if stands_alone(directions, runs, processing_classes) {
+            return Ok(());
+        }
+        self.resolve_brackets(
+            text,
+            data_source,
+            directions,
+            runs,
+            original_classes,
+            processing_classes,
+        )?;
+        resolve_opposite(directions, runs, processing_classes);
+        Ok(())
+    }
+
+    /// N0 over the characters of a sequence that are not BN.
+    fn resolve_brackets<D: BidiDataSource, T: TextSource>(
+        &mut self,
+        text: T,
+        data_source: &D,
+        directions: Directions,
+        runs: &[LevelRun],
+        original_classes: &[BidiClass],
+        classes: &mut [BidiClass],
+    ) -> Result<(), AllocError>
+        requires ready { IsReady T.units (T.characters text) runs.now directions.sos classes.old }
+        requires side { IsTrue (is_l_or_r directions.embedding) }
+        requires original { length original_classes.now ≡ length classes.old }
+        ensures paired { OnOk result (IsPaired T.units (T.characters text) original_classes.now classes.old
+            classes.new runs.now directions.embedding directions.sos
+            (pairs_in T.units (T.characters text) (D.source data_source.now) classes.old runs.now)) }
+        ensures refused { OnErr result (classes.new ≡ classes.old) }
+    {
+        self.gather(text, data_source, runs, classes)?;
+        let pairs = self.search.finish();
+        resolve_pairs(text, directions, runs, original_classes, pairs, classes);
+        Ok(())
+    }
+
+    /// Reads the brackets of a sequence that count, by the units at which they begin.
+    fn gather<D: BidiDataSource, T: TextSource>(
+        &mut self,
+        text: T,
+        data_source: &D,
+        runs: &[LevelRun],
+        classes: &[BidiClass],
+    ) -> Result<(), AllocError>
+        requires lines { AreLines T.units (T.characters text) (map bounds runs.now) }
+        requires long { length classes.now ≡ text_len T.units (T.characters text) }
+        ensures { OnOk result (HasRead self.new.search (placed_brackets T.units (T.characters text)
+            (D.source data_source.now) classes.now
+            (kept_in_place T.units (T.characters text) classes.now (map bounds runs.now)))) }
+    {
+        self.search.clear();
+        for run in runs {
+            self.gather_run(text, data_source, run, classes)?;
+        }
+        Ok(())
+    }
+
+    /// Reads those of a run behind what was read before.
+    fn gather_run<D: BidiDataSource, T: TextSource>(
+        &mut self,
+        text: T,
+        data_source: &D,
+        run: &LevelRun,
+        classes: &[BidiClass],
+    ) -> Result<(), AllocError>
+        requires line { IsLine T.units (T.characters text) run.now.start run.now.end }
+        requires long { length classes.now ≡ text_len T.units (T.characters text) }
+        requires read { (before : List Bracket) × HasRead self.old.search before }
+        ensures { (before : List Bracket) → HasRead self.old.search before
+            → OnOk result (HasRead self.new.search (before
+            ++ placed_brackets T.units (T.characters text) (D.source data_source.now) classes.now
+            (kept_in_place T.units (T.characters text) classes.now (bounds run.now ∷ [])))) }
+    {
+        let end = run.end;
+        let mut at = first_passing(OtherNeutral, classes, run.start, end);
+        while at < end {
+            if let Some((c, _)) = text.char_at(at) {
+                self.push(data_source, at, c)?;
+            }
+            at = first_passing(OtherNeutral, classes, at + 1, end);
+        }
+        Ok(())
+    }
+
+    /// Reads a character that begins at a unit, of class ON, if it is a bracket.
+    fn push<D: BidiDataSource>(
+        &mut self,
+        data_source: &D,
+        at: usize,
+        c: char,
+    ) -> Result<(), AllocError>
+        requires { (before : List Bracket) × HasRead self.old.search before }
+        ensures { (before : List Bracket) → HasRead self.old.search before → OnOk result (HasRead self.new.search (before
+            ++ brackets_from at ((D.source data_source.now).bracket_of c ∷ []))) }
+    {
+        if let Some(bracket) = data_source.bidi_matched_opening_bracket(c) {
+            self.search.read(&Bracket {
+                index: at,
+                opening: bracket.opening,
+                is_open: bracket.is_open,
+            })?;
+        }
+        Ok(())
+    }
+}
+
+/// The neutrals of a sequence, in place: N0 to N2 over its characters that are not BN.
+///
+/// Each unit of `processing_classes` has the class of its character: those of the sequence the one
+/// after W7, or BN for what X9 removed. `levels` and `original_classes` have an entry for each unit
+/// too, and the latter the stored classes. The sequence fits the text. The embedding direction is
+/// that of the level at the sequence's first unit that is not BN; no other level is read.
+///
+/// BN stays, and so do the units outside the sequence. After a refusal, which comes for want of
+/// memory alone, all classes are as they were. [`NeutralResolver`] does the same for many sequences
+/// with the same memory.
+///
+/// The cost is linear in the sequence. Where the data source calls brackets themselves nonspacing
+/// marks, a row of marks is gone over a few times for each of the 63 pairs that can be open at once.
+pub fn resolve_neutral<D: BidiDataSource, T: TextSource>(
+    alloc: Global,
+    text: T,
+    data_source: &D,
+    sequence: &IsolatingRunSequence,
+    levels: &[Level],
+    original_classes: &[BidiClass],
+    processing_classes: &mut [BidiClass],
+) -> Result<(), AllocError>
+    requires per_char { IsTrue (is_per_char ⟦<BidiClass as PartialEq>⟧.eq T.units (T.characters text) processing_classes.old) }
+    requires fits { AreLines T.units (T.characters text) (map bounds (runs_of sequence.now)) }
+    requires levels { length levels.now ≡ length processing_classes.old }
+    requires original { length original_classes.now ≡ length processing_classes.old }
+    requires resolved { let places = map (place T.units (T.characters text))
+        (kept_in_place T.units (T.characters text) processing_classes.old (map bounds (runs_of sequence.now))) in
+        IsTrue (list_all is_weak_resolved (at_places L processing_classes.old places)) }
+    ensures kept { let indexes = kept_in_place T.units (T.characters text) processing_classes.old
+        (map bounds (runs_of sequence.now)) in
+        let places = map (place T.units (T.characters text)) indexes in
+        OnOk result (at_places L processing_classes.new places
+        ≡ neutral_classes (level_at levels.now (first_or 0 places)) (sos_of sequence.now) (eos_of sequence.now)
+        (at_places L original_classes.now places)
+        (map (D.source data_source.now).bracket_of (at_places 0 (T.characters text) indexes))
+        (at_places L processing_classes.old places)) }
+    ensures removed { (u : ℕ) → class_at processing_classes.old u ≡ BN → class_at processing_classes.new u ≡ BN }
+    ensures outside { (u : ℕ) → in_runs (map bounds (runs_of sequence.now)) u ≡ false
+        → class_at processing_classes.new u ≡ class_at processing_classes.old u }
+    ensures per_char { IsTrue (is_per_char ⟦<BidiClass as PartialEq>⟧.eq T.units (T.characters text) processing_classes.new) }
+    ensures refused { OnErr result (processing_classes.new ≡ processing_classes.old) }
+{
+    NeutralResolver::new(alloc).resolve(
+        text,
+        data_source,
+        sequence,
+        levels,
+        original_classes,
+        processing_classes,
+    )
+}

@@ -1,0 +1,226 @@
+//! N1 and N2 over the units of a sequence.
+
+ghost use Rattle.std.specs.Prelude.{◌≡◌, ◌⊎◌, ℕ, ◌<◌, ◌≤◌, true, false, length, map, get_or, drop, All, IsTrue};
+ghost use Rattle.bidi_base.specs.Classes.{is_l_or_r, is_weak_resolved, stands_for};
+ghost use Rattle.bidi_base.specs.Neutral.{n1_n2, n2_rule};
+ghost use Rattle.bidi_base.specs.Places.{at_places, class_at};
+ghost use Rattle.bidi_base.specs.declared.char_data.BidiClass.TheVariants.{L};
+ghost use Rattle.bidi_base.specs.Units.{bounds, are_ordered, in_runs};
+ghost use Rattle.bidi_neutral.specs.JoinPass.{IsAtOpposite, IsJoined, IsUnderWay, Unjoined};
+ghost use Rattle.bidi_runs.specs.Written.{seen_units};
+ghost use Rattle.bidi_neutral.specs.PairWalk.{opposite_of};
+ghost use Rattle.bidi_runs.specs.Written.{is_seen, IsWrittenOver};
+
+use super::class_tests::{AnyDirection, For, NotFor};
+use bidi_base::char_data::BidiClass::{self, L, R};
+use bidi_base::classes::{is_neutral, stands_for};
+use bidi_base::search::first_passing;
+use bidi_runs::prepare::LevelRun;
+use bidi_runs::written::write_over_runs;
+
+/// The directions that neutrals of a sequence can take beside those among them.
+#[derive(Clone, Copy, Debug)]
+pub struct Directions {
+    /// That of the sequence's level.
+    pub embedding: BidiClass,
+    /// That before its first character.
+    pub sos: BidiClass,
+    /// That after its last character.
+    pub eos: BidiClass,
+}
+
+/// The direction other than this one.
+pub fn opposite_of(direction: BidiClass) -> BidiClass
+    ensures { result ≡ opposite_of direction }
+{
+    match direction {
+        L => R,
+        _ => L,
+    }
+}
+
+/// N1 for the direction against the embedding one: neutrals that stand between two of it take it, where
+/// sos and eos stand at the ends. All others stay, for N2. Units count as characters would: a class that
+/// stands several times in a row is seen as one.
+pub fn resolve_opposite(directions: Directions, runs: &[LevelRun], classes: &mut [BidiClass])
+    requires side { IsTrue (is_l_or_r directions.embedding) }
+    requires sos { IsTrue (is_l_or_r directions.sos) }
+    requires eos { IsTrue (is_l_or_r directions.eos) }
+    requires ordered { IsTrue (are_ordered (map bounds runs.now)) }
+    requires inside { All (λ r. r.1 ≤ length classes.old) (map bounds runs.now) }
+    requires resolved { (u : ℕ) → is_seen (map bounds runs.now) classes.old u ≡ true
+        → is_weak_resolved (class_at classes.old u) ≡ true }
+    ensures kept { let units = seen_units (map bounds runs.now) classes.old in
+        map (n2_rule directions.embedding) (at_places L classes.new units)
+        ≡ n1_n2 directions.embedding directions.sos directions.eos (at_places L classes.old units) }
+    ensures others { (u : ℕ) → is_seen (map bounds runs.now) classes.old u ≡ false
+        → class_at classes.new u ≡ class_at classes.old u }
+    ensures own { (u : ℕ)
+        → (class_at classes.new u ≡ class_at classes.old u)
+        ⊎ (class_at classes.new u ≡ opposite_of directions.embedding) }
+{
+    let opposite = opposite_of(directions.embedding);
+    let mut join = Join {
+        opposite,
+        waits: stands_for(directions.sos, opposite),
+        first: 0,
+        first_run: 0,
+    };
+    for run in 0..runs.len() {
+        join.read_run(runs, run, classes);
+    }
+    if stands_for(directions.eos, opposite) {
+        let end = classes.len();
+        join.settle(runs, classes, end);
+    }
+}
+
+/// What a walk for N1 knows of the units that it has read.
+#[derive(Clone, Copy, Debug)]
+struct Join {
+    /// The direction against the embedding one.
+    opposite: BidiClass,
+    /// Whether nothing but neutrals came since this direction.
+    waits: bool,
+    /// The unit where they begin, if so.
+    first: usize,
+    /// The index of the run of that unit.
+    first_run: usize,
+}
+
+impl Join {
+    /// Reads the units of the run at the index `run`.
+    fn read_run(&mut self, runs: &[LevelRun], run: usize, classes: &mut [BidiClass])
+        requires ordered { IsTrue (are_ordered (map bounds runs.now)) }
+        requires first_run { self.old.first_run ≤ length runs.now }
+        requires run { run < length runs.now }
+        requires inside { (get_or (map bounds runs.now) run (0, 0)).1 ≤ length classes.old }
+        ensures first_run { self.new.first_run ≤ length runs.now }
+        ensures opposite { self.new.opposite ≡ self.old.opposite }
+        ensures reads { let r = get_or (map bounds runs.now) run (0, 0) in
+            (s : Unjoined) → s.runs ≡ map bounds runs.now → opposite_of s.e ≡ self.old.opposite
+            → IsUnderWay s classes.old self.old r.0 → IsUnderWay s classes.new self.new r.1 }
+    {
+        let end = runs[run].end;
+        let mut at = runs[run].start;
+        while at < end {
+            at = self.next_opposite(runs, classes, at, end);
+            if at < end {
+                at = self.pass(run, classes, at, end);
+            }
+        }
+    }
+
+    /// Goes on to the next unit of the opposite direction, and settles what waits for it. Answers where
+    /// it is, or else `end`.
+    fn next_opposite(
+        &mut self,
+        runs: &[LevelRun],
+        classes: &mut [BidiClass],
+        at: usize,
+        end: usize,
+    ) -> usize
+        requires ordered { IsTrue (are_ordered (map bounds runs.now)) }
+        requires first_run { self.old.first_run ≤ length runs.now }
+        requires some { at < end }
+        requires inside { end ≤ length classes.old }
+        ensures begins { at ≤ result }
+        ensures ends { result ≤ end }
+        ensures first_run { self.new.first_run ≤ length runs.now }
+        ensures opposite { self.new.opposite ≡ self.old.opposite }
+        ensures there { result < end → stands_for self.old.opposite (class_at classes.new result) ≡ true }
+        ensures reads { (s : Unjoined) → s.runs ≡ map bounds runs.now → opposite_of s.e ≡ self.old.opposite
+            → ((k : ℕ) → at ≤ k → k < end → in_runs s.runs k ≡ true) → IsUnderWay s classes.old self.old at
+            → IsAtOpposite s classes.new self.new result end }
+    {
+        let mut from = at;
+        if self.waits {
+            let next = first_passing(AnyDirection, classes, at, end);
+            if next == end {
+                return end;
+            }
+            if stands_for(classes[next], self.opposite) {
+                self.settle(runs, classes, next);
+                return next;
+            }
+            self.waits = false;
+            from = next;
+        }
+        first_passing(For(self.opposite), classes, from, end)
+    }
+
+    /// Passes over a stretch of the opposite direction, in the run at the index `run`. Answers where it
+    /// ends, at most `end`.
+    fn pass(&mut self, run: usize, classes: &[BidiClass], at: usize, end: usize) -> usize
+        requires some { at < end }
+        requires inside { end ≤ length classes.now }
+        requires there { stands_for self.old.opposite (class_at classes.now at) ≡ true }
+        ensures some { at < result }
+        ensures ends { result ≤ end }
+        ensures first_run { self.new.first_run ≡ run }
+        ensures opposite { self.new.opposite ≡ self.old.opposite }
+        ensures reads { (s : Unjoined) → opposite_of s.e ≡ self.old.opposite → run < length s.runs
+            → (get_or s.runs run (0, 0)).0 ≤ at → end ≤ (get_or s.runs run (0, 0)).1
+            → IsJoined s classes.now self.old.waits at at → IsUnderWay s classes.now self.new result }
+    {
+        let next = first_passing(NotFor(self.opposite), classes, at, end);
+        self.waits = true;
+        self.first = next;
+        self.first_run = run;
+        next
+    }
+
+    /// Gives the opposite direction to what waits, if something does. It stands below the unit `to`.
+    fn settle(&self, runs: &[LevelRun], classes: &mut [BidiClass], to: usize)
+        requires ordered { IsTrue (are_ordered (map bounds runs.now)) }
+        requires first_run { self.now.first_run ≤ length runs.now }
+        requires inside { to ≤ length classes.old }
+        ensures held { self.now.waits ≡ true
+            → IsWrittenOver (is_seen (drop self.now.first_run (map bounds runs.now)) classes.old) self.now.opposite
+            self.now.first to classes.old classes.new }
+        ensures idle { self.now.waits ≡ false → classes.new ≡ classes.old }
+    {
+        if self.waits && self.first < to {
+            write_over_runs(
+                &runs[self.first_run..],
+                classes,
+                self.first,
+                to,
+                self.opposite,
+            );
+        }
+    }
+}
+
+/// N2: the neutrals of some runs take the embedding direction.
+pub fn settle_rest(embedding: BidiClass, runs: &[LevelRun], classes: &mut [BidiClass])
+    requires { All (λ r. r.1 ≤ length classes.old) (map bounds runs.now) }
+    ensures changed { (u : ℕ) → in_runs (map bounds runs.now) u ≡ true
+        → class_at classes.new u ≡ n2_rule embedding (class_at classes.old u) }
+    ensures same { (u : ℕ) → in_runs (map bounds runs.now) u ≡ false → class_at classes.new u ≡ class_at classes.old u }
+    ensures long { length classes.new ≡ length classes.old }
+{
+    for run in runs {
+        settle_run(embedding, run, classes);
+    }
+}
+
+/// The same of one run.
+fn settle_run(embedding: BidiClass, run: &LevelRun, classes: &mut [BidiClass])
+    requires { run.now.end ≤ length classes.old }
+    ensures changed { (u : ℕ) → run.now.start ≤ u → u < run.now.end
+        → class_at classes.new u ≡ n2_rule embedding (class_at classes.old u) }
+    ensures below { (u : ℕ) → u < run.now.start → class_at classes.new u ≡ class_at classes.old u }
+    ensures above { (u : ℕ) → run.now.end ≤ u → class_at classes.new u ≡ class_at classes.old u }
+{
+    for unit in run.start..run.end {
+        classes[unit] = settled(embedding, classes[unit]);
+    }
+}
+
+/// What N2 makes of a class that N1 left.
+fn settled(embedding: BidiClass, class: BidiClass) -> BidiClass
+    ensures { result ≡ n2_rule embedding class }
+{
+    if is_neutral(class) { embedding } else { class }
+}

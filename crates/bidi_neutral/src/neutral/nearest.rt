@@ -1,0 +1,94 @@
+//! What stands first in a sequence, and which directions stand next to a unit of it.
+
+ghost use Rattle.std.specs.Prelude.{◌≡◌, ℕ, ◌+◌, ◌<◌, ◌≤◌, length, map, drop, take, find, All, IsTrue};
+ghost use Rattle.bidi_base.specs.Classes.{is_kept_in_place};
+ghost use Rattle.bidi_base.specs.Places.{class_at};
+ghost use Rattle.bidi_base.specs.Units.{bounds, are_ordered, in_runs, units_in_runs};
+ghost use Rattle.bidi_neutral.specs.PairWalk.{IsFirstFor, IsNearestBefore};
+
+use super::class_tests::For;
+use bidi_base::char_data::BidiClass;
+use bidi_base::classes::as_direction;
+use bidi_base::search::first_passing;
+use bidi_runs::prepare::LevelRun;
+use bidi_runs::written::is_kept_in_place;
+
+/// The first unit of a sequence that is not BN.
+pub fn first_kept(runs: &[LevelRun], classes: &[BidiClass]) -> Option<usize>
+    requires { All (λ r. r.1 ≤ length classes.now) (map bounds runs.now) }
+    ensures { result ≡ find (λ u. is_kept_in_place (class_at classes.now u)) (units_in_runs (map bounds runs.now)) }
+{
+    for run in runs {
+        for unit in run.start..run.end {
+            if is_kept_in_place(classes[unit]) {
+                return Some(unit);
+            }
+        }
+    }
+    None
+}
+
+/// The index of the first of some runs that does not end at or before a unit, or else their number.
+pub fn run_of(runs: &[LevelRun], unit: usize) -> usize
+    requires { IsTrue (are_ordered (map bounds runs.now)) }
+    ensures within { result ≤ length runs.now }
+    ensures later { (k : ℕ) → unit ≤ k → in_runs (drop result (map bounds runs.now)) k ≡ in_runs (map bounds runs.now) k }
+    ensures upto { (k : ℕ) → k < unit → in_runs (take (result + 1) (map bounds runs.now)) k ≡ in_runs (map bounds runs.now) k }
+{
+    let mut low = 0;
+    let mut high = runs.len();
+    while low < high {
+        let middle = low + (high - low) / 2;
+        if runs[middle].end <= unit {
+            low = middle + 1;
+        } else {
+            high = middle;
+        }
+    }
+    low
+}
+
+/// The first unit of some runs from `from` on and below `to` whose class stands for a direction, or
+/// else `to`.
+pub fn first_for(
+    direction: BidiClass,
+    runs: &[LevelRun],
+    classes: &[BidiClass],
+    from: usize,
+    to: usize,
+) -> usize
+    requires ordered { IsTrue (are_ordered (map bounds runs.now)) }
+    requires inside { to ≤ length classes.now }
+    ensures { IsFirstFor direction (map bounds runs.now) classes.now from to result }
+{
+    for run in runs {
+        let end = run.end.min(to);
+        let start = run.start.max(from).min(end);
+        let unit = first_passing(For(direction), classes, start, end);
+        if unit < end {
+            return unit;
+        }
+    }
+    to
+}
+
+/// The nearest direction at the units of some runs below `to`, or else the one given.
+pub fn direction_before(
+    before: BidiClass,
+    runs: &[LevelRun],
+    classes: &[BidiClass],
+    to: usize,
+) -> BidiClass
+    requires ordered { IsTrue (are_ordered (map bounds runs.now)) }
+    requires inside { All (λ r. r.1 ≤ length classes.now) (map bounds runs.now) }
+    ensures { IsNearestBefore before (map bounds runs.now) classes.now to result }
+{
+    for run in (0..runs.len()).rev() {
+        for unit in (runs[run].start..runs[run].end.min(to)).rev() {
+            if let Some(direction) = as_direction(classes[unit]) {
+                return direction;
+            }
+        }
+    }
+    before
+}

@@ -1,0 +1,252 @@
+//! What the bracket pairs of an isolating run sequence take (N0), in place over its units.
+
+ghost use Rattle.std.specs.Prelude.{◌≡◌, ℕ, ◌+◌, ◌<◌, ◌≤◌, List, length, map, All, IsTrue};
+ghost use Rattle.bidi_base.specs.Brackets.{AreNestedPairs};
+ghost use Rattle.bidi_base.specs.Classes.{is_l_or_r};
+ghost use Rattle.bidi_base.specs.Text.{is_boundary, place, text_len};
+ghost use Rattle.bidi_base.specs.Units.{bounds, are_ordered, kept_in_place, AreLines};
+ghost use Rattle.bidi_neutral.specs.NeutralPass.{IsPaired, IsReady};
+ghost use Rattle.bidi_neutral.specs.PairWalk.{at_spots, opposite_of, IsAsked, IsRow, IsSet, IsSetUpTo, IsTaken};
+
+use super::directions::{Directions, opposite_of};
+use super::marks::marks_end;
+use super::nearest::{direction_before, first_for, run_of};
+use bidi_base::char_data::BidiClass;
+use bidi_base::classes::is_nsm;
+use bidi_runs::characters::end_of;
+use bidi_runs::prepare::LevelRun;
+use bidi_runs::written::write_over_runs;
+use bidi_text::text::TextSource;
+
+/// N0: the pairs one by one, in the order of their openings, each by the units at which its brackets
+/// begin. `original_classes` has the stored classes, and `classes` those after W7.
+///
+/// The context of a pair is looked for backwards from its opening, and only where the opposite
+/// direction stands inside: then the opening takes a direction, and no later search goes past it.
+/// What stands inside is known from two places that only go forwards. Only a pair whose opening is a
+/// nonspacing mark by its original class is looked through by itself, since it may stand among the
+/// marks that another pair changed. Brackets among marks that have their direction already are not
+/// written again, so a row of marks is not gone over for each bracket in it.
+pub fn resolve_pairs<T: TextSource>(
+    text: T,
+    directions: Directions,
+    runs: &[LevelRun],
+    original_classes: &[BidiClass],
+    pairs: &[(usize, usize)],
+    classes: &mut [BidiClass],
+)
+    requires ready { IsReady T.units (T.characters text) runs.now directions.sos classes.old }
+    requires side { IsTrue (is_l_or_r directions.embedding) }
+    requires long { length classes.old ≡ text_len T.units (T.characters text) }
+    requires original { length original_classes.now ≡ length classes.old }
+    requires pairs { (found : List (ℕ × ℕ))
+        × AreNestedPairs (length (kept_in_place T.units (T.characters text) classes.old (map bounds runs.now))) found
+        × (pairs.now
+        ≡ at_spots T.units (T.characters text)
+        (kept_in_place T.units (T.characters text) classes.old (map bounds runs.now)) found) }
+    ensures { (found : List (ℕ × ℕ))
+        → AreNestedPairs (length (kept_in_place T.units (T.characters text) classes.old (map bounds runs.now))) found
+        → pairs.now
+        ≡ at_spots T.units (T.characters text)
+        (kept_in_place T.units (T.characters text) classes.old (map bounds runs.now)) found
+        → IsPaired T.units (T.characters text) original_classes.now classes.old classes.new runs.now
+        directions.embedding directions.sos found }
+{
+    let mut walk = PairWalk::new(directions.embedding);
+    let mut row = Row::new(directions.embedding);
+    for pair in pairs {
+        let (opening, closing) = *pair;
+        let pair = Pair {
+            opening,
+            inside: end_of(text, opening),
+            closing,
+            is_marked: is_nsm(original_classes[opening]),
+        };
+        let taken = walk.pair_direction(directions.sos, runs, classes, pair);
+        if let Some(direction) = taken {
+            row.set_direction(text, runs, original_classes, classes, opening, direction);
+            row.set_direction(text, runs, original_classes, classes, closing, direction);
+        }
+    }
+}
+
+/// A pair of brackets, by the units at which they begin.
+#[derive(Clone, Copy, Debug)]
+struct Pair {
+    opening: usize,
+    /// The unit behind the opening.
+    inside: usize,
+    closing: usize,
+    /// Whether the opening is a nonspacing mark by its original class.
+    is_marked: bool,
+}
+
+/// Where a direction stands next.
+#[derive(Clone, Copy, Debug)]
+struct Next {
+    direction: BidiClass,
+    /// The first unit whose class stands for it, of those that do not lie before the opening asked
+    /// for last.
+    unit: usize,
+}
+
+impl Next {
+    /// Whether it stands between the brackets of a pair. Openings come in order. A pair that opens at
+    /// a mark is looked through.
+    fn is_inside(&mut self, runs: &[LevelRun], classes: &[BidiClass], pair: Pair) -> bool
+        requires ordered { IsTrue (are_ordered (map bounds runs.now)) }
+        requires closing { pair.closing ≤ length classes.now }
+        ensures direction { self.new.direction ≡ self.old.direction }
+        ensures asked { IsAsked self.old.direction (map bounds runs.now) classes.now pair self.old.unit self.new.unit result }
+    {
+        if pair.is_marked {
+            let found = first_for(self.direction, runs, classes, pair.inside, pair.closing);
+            return found < pair.closing;
+        }
+        if self.unit <= pair.opening {
+            self.unit = first_for(self.direction, runs, classes, pair.inside, classes.len());
+        }
+        self.unit < pair.closing
+    }
+}
+
+/// What is known ahead while the pairs are gone through.
+#[derive(Clone, Copy, Debug)]
+struct PairWalk {
+    embedding: Next,
+    opposite: Next,
+}
+
+impl PairWalk {
+    /// Before the first pair.
+    fn new(embedding: BidiClass) -> PairWalk
+        ensures { result
+            ≡ record {
+              embedding = record { direction = embedding; unit = 0 };
+              opposite = record { direction = opposite_of embedding; unit = 0 };
+            } }
+    {
+        PairWalk {
+            embedding: Next {
+                direction: embedding,
+                unit: 0,
+            },
+            opposite: Next {
+                direction: opposite_of(embedding),
+                unit: 0,
+            },
+        }
+    }
+
+    /// What a pair takes: the embedding direction if it stands inside (N0 b), otherwise, if the
+    /// opposite one does, that of the context before the pair (N0 c), and else none (N0 d).
+    fn pair_direction(
+        &mut self,
+        sos: BidiClass,
+        runs: &[LevelRun],
+        classes: &[BidiClass],
+        pair: Pair,
+    ) -> Option<BidiClass>
+        requires ordered { IsTrue (are_ordered (map bounds runs.now)) }
+        requires runs { All (λ r. r.1 ≤ length classes.now) (map bounds runs.now) }
+        requires closing { pair.closing ≤ length classes.now }
+        requires inside { pair.opening ≤ pair.inside }
+        ensures embedding { self.new.embedding.direction ≡ self.old.embedding.direction }
+        ensures opposite { self.new.opposite.direction ≡ self.old.opposite.direction }
+        ensures taken { IsTaken sos (map bounds runs.now) classes.now pair self.old self.new result }
+    {
+        let run = run_of(runs, pair.opening);
+        let later = &runs[run..];
+        if self.embedding.is_inside(later, classes, pair) {
+            return Some(self.embedding.direction);
+        }
+        if self.opposite.is_inside(later, classes, pair) {
+            let upto = runs.len().min(run + 1);
+            return Some(direction_before(sos, &runs[..upto], classes, pair.opening));
+        }
+        None
+    }
+}
+
+/// A bracket and the nonspacing marks directly behind it, as they were written last.
+#[derive(Clone, Copy, Debug)]
+struct Row {
+    from: usize,
+    /// Where the marks end.
+    end: usize,
+    direction: BidiClass,
+}
+
+impl Row {
+    /// No row yet.
+    fn new(direction: BidiClass) -> Row
+        ensures { result ≡ record { from = 0; end = 0; direction = direction } }
+    {
+        Row {
+            from: 0,
+            end: 0,
+            direction,
+        }
+    }
+
+    /// Gives a bracket a direction, and the nonspacing marks directly behind it by their original
+    /// classes. They are the row from then on.
+    fn set_direction<T: TextSource>(
+        &mut self,
+        text: T,
+        runs: &[LevelRun],
+        original_classes: &[BidiClass],
+        classes: &mut [BidiClass],
+        bracket: usize,
+        direction: BidiClass,
+    )
+        requires lines { AreLines T.units (T.characters text) (map bounds runs.now) }
+        requires ordered { IsTrue (are_ordered (map bounds runs.now)) }
+        requires long { length classes.old ≡ text_len T.units (T.characters text) }
+        requires original { length original_classes.now ≡ length classes.old }
+        requires begins { IsTrue (is_boundary T.units (T.characters text) bracket) }
+        requires inside { bracket < text_len T.units (T.characters text) }
+        requires row { IsRow T.units (T.characters text) (map bounds runs.now) original_classes.now classes.old self.old }
+        ensures set { (k : ℕ) → k < length (T.characters text) → bracket ≡ place T.units (T.characters text) k
+            → IsSet T.units (T.characters text) (map bounds runs.now) original_classes.now direction bracket (k + 1)
+            classes.old classes.new }
+        ensures row { IsRow T.units (T.characters text) (map bounds runs.now) original_classes.now classes.new self.new }
+    {
+        if self.from <= bracket && bracket < self.end && self.direction == direction {
+            return;
+        }
+        let end = set_direction(text, runs, original_classes, classes, bracket, direction);
+        *self = Row {
+            from: bracket,
+            end,
+            direction,
+        };
+    }
+}
+
+/// Gives a bracket a direction, and the nonspacing marks directly behind it by their original classes.
+/// Answers where the marks end.
+fn set_direction<T: TextSource>(
+    text: T,
+    runs: &[LevelRun],
+    original_classes: &[BidiClass],
+    classes: &mut [BidiClass],
+    bracket: usize,
+    direction: BidiClass,
+) -> usize
+    requires lines { AreLines T.units (T.characters text) (map bounds runs.now) }
+    requires ordered { IsTrue (are_ordered (map bounds runs.now)) }
+    requires long { length classes.old ≡ text_len T.units (T.characters text) }
+    requires original { length original_classes.now ≡ length classes.old }
+    requires begins { IsTrue (is_boundary T.units (T.characters text) bracket) }
+    requires inside { bracket < text_len T.units (T.characters text) }
+    ensures { (k : ℕ) → k < length (T.characters text) → bracket ≡ place T.units (T.characters text) k
+        → IsSetUpTo T.units (T.characters text) (map bounds runs.now) original_classes.now direction bracket (k + 1)
+        result classes.old classes.new }
+{
+    let inside = end_of(text, bracket);
+    let later = &runs[run_of(runs, bracket)..];
+    let end = marks_end(text, later, original_classes, classes, inside);
+    write_over_runs(later, classes, bracket, end, direction);
+    end
+}

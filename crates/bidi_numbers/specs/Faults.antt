@@ -1,0 +1,38 @@
+-- Why a call is refused, and the number that stands for it.
+use Rattle.std.specs.Prelude.{◌≡◌, ◌≢◌, ℕ, ℤ, pos, negsuc, ◌-◌, ◌^◌, min, Bool, ◌||◌, ◌==◌, nat_le, if◌then◌else◌, Option, Some, None, Result, Ok, Err, MatchResult}
+use Rattle.bidi_numbers.specs.declared.fault.Fault.{Fault}
+use Rattle.bidi_numbers.specs.declared.fault.Fault.TheVariants.{NoMemory, NotUtf8, NotScalar, BadBaseLevel, BadSplit, BadClass, BadLevel, UnequalLengths, BadLine, CutCharacter, UnevenCharacter, NoRoom, BadRanges}
+
+-- the fault of a test that fails
+abbrev pub fault_unless : Bool → Fault → Option Fault
+fault_unless holds fault = if holds then None else Some fault
+
+-- a buffer for an answer of so many entries has room for all, or for none, which asks for their number alone
+abbrev pub has_room_or_none : ℕ → ℕ → Bool
+has_room_or_none count room = room == 0 || nat_le count room
+
+-- the number of a fault
+abbrev pub code_of : Fault → ℤ
+code_of NoMemory = negsuc 0
+code_of NotUtf8 = negsuc 1
+code_of NotScalar = negsuc 2
+code_of BadBaseLevel = negsuc 3
+code_of BadSplit = negsuc 4
+code_of BadClass = negsuc 5
+code_of BadLevel = negsuc 6
+code_of UnequalLengths = negsuc 7
+code_of BadLine = negsuc 8
+code_of CutCharacter = negsuc 9
+code_of UnevenCharacter = negsuc 10
+code_of NoRoom = negsuc 11
+code_of BadRanges = negsuc 12
+
+-- what an export answers: a count, which no buffer makes greater than this, or the number of a fault
+abbrev pub answer_of : Result ℕ Fault → ℤ
+answer_of (Ok count) = pos (min count (2 ^ 63 - 1))
+answer_of (Err fault) = code_of fault
+
+-- a call whose first fault is the one told, if it has one: it goes well only without a fault, and any refusal
+-- but for want of memory is that fault
+abbrev pub FaultsAs : {A : Type 0} → Result A Fault → Option Fault → Type 0
+FaultsAs result told = MatchResult result (λ _. told ≡ None) (λ fault. fault ≢ NoMemory → told ≡ Some fault)

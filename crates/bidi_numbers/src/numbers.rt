@@ -1,0 +1,138 @@
+//! Classes, levels and rules as the numbers that stand for them.
+ghost use Rattle.std.specs.Prelude.{◌≡◌, ◌≤◌, ◌<◌, IfOk, length, map, nat_lt, nat_le};
+ghost use Rattle.std.specs.List.{list_all};
+ghost use Rattle.std.specs.Result.{result_err};
+ghost use Rattle.bidi_numbers.specs.Faults.{fault_unless};
+ghost use Rattle.bidi_base.specs.Classes.{class_number};
+ghost use Rattle.bidi_numbers.specs.Numbers.{class_numbered, is_class, base_of, is_base, split_of, is_split};
+
+use crate::fault::{Fault, check};
+use bidi_base::char_data::BidiClass;
+use bidi_base::level::Level;
+use bidi_walk::split_rule::SplitRule;
+use std::alloc::{AllocError, Global};
+
+/// The number that stands for no base level.
+const AUTO: u8 = 255;
+
+/// How many classes there are.
+const CLASSES: u8 = 23;
+
+/// The number of a class.
+pub fn number_of(class: BidiClass) -> u8
+    ensures { result ≡ class_number class }
+{
+    match class {
+        BidiClass::L => 0,
+        BidiClass::R => 1,
+        BidiClass::AL => 2,
+        BidiClass::EN => 3,
+        BidiClass::ES => 4,
+        BidiClass::ET => 5,
+        BidiClass::AN => 6,
+        BidiClass::CS => 7,
+        BidiClass::NSM => 8,
+        BidiClass::BN => 9,
+        BidiClass::B => 10,
+        BidiClass::S => 11,
+        BidiClass::WS => 12,
+        BidiClass::ON => 13,
+        BidiClass::LRE => 14,
+        BidiClass::LRO => 15,
+        BidiClass::RLE => 16,
+        BidiClass::RLO => 17,
+        BidiClass::PDF => 18,
+        BidiClass::LRI => 19,
+        BidiClass::RLI => 20,
+        BidiClass::FSI => 21,
+        BidiClass::PDI => 22,
+    }
+}
+
+/// The class of a number below 23.
+#[tactic(auto, unfolding(crate::specs::Numbers::class_numbered))]
+pub fn class_of(number: u8) -> BidiClass
+    ensures { result ≡ class_numbered number }
+{
+    match number {
+        0 => BidiClass::L,
+        1 => BidiClass::R,
+        2 => BidiClass::AL,
+        3 => BidiClass::EN,
+        4 => BidiClass::ES,
+        5 => BidiClass::ET,
+        6 => BidiClass::AN,
+        7 => BidiClass::CS,
+        8 => BidiClass::NSM,
+        9 => BidiClass::BN,
+        10 => BidiClass::B,
+        11 => BidiClass::S,
+        12 => BidiClass::WS,
+        13 => BidiClass::ON,
+        14 => BidiClass::LRE,
+        15 => BidiClass::LRO,
+        16 => BidiClass::RLE,
+        17 => BidiClass::RLO,
+        18 => BidiClass::PDF,
+        19 => BidiClass::LRI,
+        20 => BidiClass::RLI,
+        21 => BidiClass::FSI,
+        _ => BidiClass::PDI,
+    }
+}
+
+/// Whether each number is below a limit. It reads all of them, so that it needs no branch for each.
+pub fn all_below(numbers: &[u8], limit: u8) -> bool
+    ensures { result ≡ list_all (λ n. nat_lt n limit) numbers.now }
+{
+    let mut all = true;
+    for number in numbers {
+        all &= *number < limit;
+    }
+    all
+}
+
+/// Refuses numbers of which one stands for no class.
+pub fn check_classes(numbers: &[u8]) -> Result<(), Fault>
+    ensures { result_err result ≡ fault_unless (list_all is_class numbers.now) Fault.BadClass }
+{
+    check(all_below(numbers, CLASSES), Fault::BadClass)
+}
+
+/// The classes of numbers below 23.
+pub fn classes_of(alloc: Global, numbers: &[u8]) -> Result<Vec<BidiClass>, AllocError>
+    ensures { IfOk result (λ v. v.items ≡ map class_numbered numbers.now) }
+{
+    let mut classes = Vec::with_capacity(alloc, numbers.len())?;
+    for number in numbers {
+        classes.push(class_of(*number))?;
+    }
+    Ok(classes)
+}
+
+/// The base level that a number asks for.
+pub fn base_level(number: u8) -> Result<Option<Level>, Fault>
+    ensures fault { result_err result ≡ fault_unless (is_base number) Fault.BadBaseLevel }
+    ensures level { IfOk result (λ base. base ≡ base_of number) }
+{
+    if number == AUTO {
+        return Ok(None);
+    }
+    match Level::new_explicit(number) {
+        Ok(level) => Ok(Some(level)),
+        Err(_) => Err(Fault::BadBaseLevel),
+    }
+}
+
+/// The split rule that a number asks for, none for 0.
+pub fn split_rule(number: u8) -> Result<Option<SplitRule>, Fault>
+    ensures fault { result_err result ≡ fault_unless (is_split number) Fault.BadSplit }
+    ensures rule { IfOk result (λ split. split ≡ split_of number) }
+{
+    match number {
+        0 => Ok(None),
+        1 => Ok(Some(SplitRule::EachSeparator)),
+        2 => Ok(Some(SplitRule::CrLfTogether)),
+        _ => Err(Fault::BadSplit),
+    }
+}

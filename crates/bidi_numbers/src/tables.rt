@@ -1,0 +1,141 @@
+//! A data source over tables of the caller's.
+ghost use Rattle.std.specs.Prelude.{◌≡◌, true, map, IsTrue, IfOk, None};
+ghost use Rattle.std.specs.List.{list_all};
+ghost use Rattle.bidi_base.specs.Source.{table_fault, table_source};
+ghost use Rattle.bidi_base.specs.Table.{source_of};
+ghost use Rattle.bidi_numbers.specs.Faults.{FaultsAs};
+ghost use Rattle.bidi_numbers.specs.Tables.{has_scalars, has_brackets, has_class, range_of, bracket_of, rows_fault, order_fault};
+
+use crate::fault::{Fault, check};
+use crate::numbers::class_of;
+use crate::rows::{BracketPair, ClassRange};
+use crate::texts::{char_of, is_scalar};
+use bidi_base::char_data::BidiClass;
+use bidi_base::data_source::TableBidiData;
+use std::alloc::{AllocError, Global};
+
+/// The rows of a table of ranges and of one of brackets, as the library reads them.
+#[derive(Drop)]
+pub struct Tables {
+    ranges: Vec<(char, char, BidiClass)>,
+    brackets: Vec<(char, char, Option<char>)>,
+}
+
+// Whether the ends of a range are characters.
+fn has_scalars(range: &ClassRange) -> bool
+    ensures { result ≡ has_scalars range.now }
+{
+    is_scalar(range.first) && is_scalar(range.last)
+}
+
+// Whether the members of a pair are characters.
+fn has_brackets(pair: &BracketPair) -> bool
+    ensures { result ≡ has_brackets pair.now }
+{
+    is_scalar(pair.opening) && is_scalar(pair.closing) && is_scalar(pair.normal_form)
+}
+
+// A range as the library reads it.
+fn range_of(range: &ClassRange) -> (char, char, BidiClass)
+    requires { IsTrue (has_scalars range.now) }
+    ensures { result ≡ range_of range.now }
+{
+    (
+        char_of(range.first),
+        char_of(range.last),
+        class_of(range.class),
+    )
+}
+
+// A pair as the library reads it.
+fn bracket_of(pair: &BracketPair) -> (char, char, Option<char>)
+    requires { IsTrue (has_brackets pair.now) }
+    ensures { result ≡ bracket_of pair.now }
+{
+    let normal_form = char_of(pair.normal_form);
+    (
+        char_of(pair.opening),
+        char_of(pair.closing),
+        Some(normal_form),
+    )
+}
+
+// Ranges as the library reads them.
+fn ranges_of(alloc: Global, rows: &[ClassRange]) -> Result<Vec<(char, char, BidiClass)>, AllocError>
+    requires { list_all has_scalars rows.now ≡ true }
+    ensures { IfOk result (λ v. v.items ≡ map range_of rows.now) }
+{
+    let mut ranges = Vec::with_capacity(alloc, rows.len())?;
+    for row in rows {
+        ranges.push(range_of(row))?;
+    }
+    Ok(ranges)
+}
+
+// Pairs as the library reads them.
+fn brackets_of(
+    alloc: Global,
+    rows: &[BracketPair],
+) -> Result<Vec<(char, char, Option<char>)>, AllocError>
+    requires { list_all has_brackets rows.now ≡ true }
+    ensures { IfOk result (λ v. v.items ≡ map bracket_of rows.now) }
+{
+    let mut brackets = Vec::with_capacity(alloc, rows.len())?;
+    for row in rows {
+        brackets.push(bracket_of(row))?;
+    }
+    Ok(brackets)
+}
+
+// Whether all ends of ranges are characters.
+fn all_have_scalars(rows: &[ClassRange]) -> bool
+    ensures { result ≡ list_all has_scalars rows.now }
+{
+    rows.iter().all(has_scalars)
+}
+
+// Whether all members of pairs are characters.
+fn all_have_brackets(rows: &[BracketPair]) -> bool
+    ensures { result ≡ list_all has_brackets rows.now }
+{
+    rows.iter().all(has_brackets)
+}
+
+// Whether the numbers of all ranges stand for classes.
+fn all_have_classes(rows: &[ClassRange]) -> bool
+    ensures { result ≡ list_all has_class rows.now }
+{
+    rows.iter().all(|row| row.class < 23)
+}
+
+impl Tables {
+    /// Reads the rows.
+    pub fn new(
+        alloc: Global,
+        ranges: &[ClassRange],
+        brackets: &[BracketPair],
+    ) -> Result<Tables, Fault>
+        ensures fault { FaultsAs result (rows_fault ranges.now brackets.now) }
+        ensures ranges { IfOk result (λ t. t.ranges.items ≡ map range_of ranges.now) }
+        ensures brackets { IfOk result (λ t. t.brackets.items ≡ map bracket_of brackets.now) }
+    {
+        check(all_have_scalars(ranges), Fault::NotScalar)?;
+        check(all_have_brackets(brackets), Fault::NotScalar)?;
+        check(all_have_classes(ranges), Fault::BadClass)?;
+        Ok(Tables {
+            ranges: ranges_of(alloc, ranges)?,
+            brackets: brackets_of(alloc, brackets)?,
+        })
+    }
+
+    /// The source over them.
+    pub fn source(&self) -> Result<TableBidiData<'_>, Fault>
+        ensures fault { FaultsAs result (order_fault self.now.ranges.items) }
+        ensures source { IfOk result (λ t. source_of t ≡ table_source self.now.ranges.items self.now.brackets.items) }
+    {
+        match TableBidiData::new(self.ranges.as_slice(), self.brackets.as_slice()) {
+            Ok(source) => Ok(source),
+            Err(_) => Err(Fault::BadRanges),
+        }
+    }
+}

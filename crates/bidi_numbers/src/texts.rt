@@ -1,0 +1,67 @@
+//! Texts as they come: bytes, units and numbers of characters.
+ghost use Rattle.std.specs.Prelude.{◌≡◌, ℕ, ◌<◌, ◌≤◌, IsTrue, IsUtf8, IfOk, MatchResult, length, slice_get, List, true};
+ghost use Rattle.std.specs.List.{list_all};
+ghost use Rattle.bidi_numbers.specs.Texts.{is_scalar, goes_on};
+
+use crate::fault::Fault;
+use std::alloc::{AllocError, Global};
+
+/// The text of bytes that are UTF-8.
+pub fn utf8(bytes: &[u8]) -> Result<&str, Fault>
+    ensures { MatchResult result
+        (λ text. (text.now ≡ bytes.now) × IsUtf8 bytes.now)
+        (λ fault. (fault ≡ Fault.NotUtf8) × ¬ (IsUtf8 bytes.now)) }
+{
+    match simdutf8::compat::from_utf8(bytes) {
+        Ok(text) => Ok(text),
+        Err(_) => Err(Fault::NotUtf8),
+    }
+}
+
+/// Whether a character of UTF-8 goes on at an index.
+pub fn goes_on(bytes: &[u8], index: usize) -> bool
+    ensures { result ≡ goes_on bytes.now index }
+{
+    index < bytes.len() && 0x80 <= bytes[index] && bytes[index] < 0xC0
+}
+
+/// Whether a number is a scalar value.
+pub fn is_scalar(number: u32) -> bool
+    ensures { result ≡ is_scalar number }
+{
+    number < 0xD800 || 0xE000 <= number && number <= 0x10FFFF
+}
+
+/// Whether each number is a scalar value. It reads all of them, so that it needs no branch for each.
+pub fn all_scalar(numbers: &[u32]) -> bool
+    ensures { result ≡ list_all is_scalar numbers.now }
+{
+    let mut all = true;
+    for number in numbers {
+        all &= is_scalar(*number);
+    }
+    all
+}
+
+/// The character of a scalar value.
+pub fn char_of(number: u32) -> char
+    requires { is_scalar number ≡ true }
+    ensures { result ≡ number }
+{
+    match char::from_u32(number) {
+        Some(c) => c,
+        None => unreachable!(),
+    }
+}
+
+/// The characters of scalar values.
+pub fn chars_of(alloc: Global, numbers: &[u32]) -> Result<Vec<char>, AllocError>
+    requires { list_all is_scalar numbers.now ≡ true }
+    ensures { IfOk result (λ v. v.items ≡ numbers.now) }
+{
+    let mut chars = Vec::with_capacity(alloc, numbers.len())?;
+    for number in numbers {
+        chars.push(char_of(*number))?;
+    }
+    Ok(chars)
+}

@@ -1,5 +1,0 @@
-use Rattle.bidi_paragraphs.proofs.ClassSets.{union_has}
-use Rattle.bidi_paragraphs.proofs.class_set.ClassSet.union.Goals as goal
-
-pub returns : goal.returns
-returns c = union_has c.args.self c.args.other

@@ -1,0 +1,3 @@
+pub mod AloneLemmas
+pub mod SequencesLemmas
+pub mod StagesLemmas

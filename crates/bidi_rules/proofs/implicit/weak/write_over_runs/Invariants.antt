@@ -1,4 +1,0 @@
-use Rattle.bidi_rules.proofs.implicit.weak.write_over_runs.Given as goal
-
-abbrev pub ghosts-write_over_runs_fresh : goal.ghosts-write_over_runs_fresh
-ghosts-write_over_runs_fresh a = record { name = a.blank.name; parts = a.blank.parts }

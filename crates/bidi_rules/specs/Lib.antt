@@ -1,5 +1,0 @@
-pub mod JoinPass
-pub mod NeutralPass
-pub mod PairWalk
-pub mod WeakPass
-pub mod WeakWalk

@@ -1,0 +1,29 @@
+-- The units of some ranges that are read, and a class written over them.
+use Rattle.std.specs.Prelude.{◌≡◌, ℕ, ◌-◌, ◌<◌, ◌≤◌, Bool, true, false, ◌&&◌, List, length, filter, min, sum_by}
+use Rattle.bidi_base.specs.declared.char_data.BidiClass.{BidiClass}
+use Rattle.bidi_base.specs.Classes.{is_kept_in_place}
+use Rattle.bidi_base.specs.Places.{between, class_at}
+use Rattle.bidi_base.specs.Units.{in_runs}
+
+-- a unit of some ranges whose class is read
+abbrev pub is_seen : List (ℕ × ℕ) → List BidiClass → ℕ → Bool
+is_seen runs units k = in_runs runs k && is_kept_in_place (class_at units k)
+
+-- the class was written over those units from `from` up to `to` that pass the test, and nowhere else
+pub record IsWrittenOver (test : ℕ → Bool) (class : BidiClass) (from to : ℕ) (old new : List BidiClass) : Type 0 where
+  pub inside : (k : ℕ) → from ≤ k → k < to → test k ≡ true → class_at new k ≡ class
+  pub failing : (k : ℕ) → test k ≡ false → class_at new k ≡ class_at old k
+  pub below : (k : ℕ) → k < from → class_at new k ≡ class_at old k
+  pub above : (k : ℕ) → to ≤ k → class_at new k ≡ class_at old k
+  pub long : length new ≡ length old
+
+-- the seen units from `low` up to `high`, and all of them
+abbrev pub seen_from : List (ℕ × ℕ) → List BidiClass → ℕ → ℕ → List ℕ
+seen_from runs units low high = filter (is_seen runs units) (between low high)
+
+abbrev pub seen_units : List (ℕ × ℕ) → List BidiClass → List ℕ
+seen_units runs units = seen_from runs units 0 (length units)
+
+-- how many units of some ranges lie below u
+unfoldable pub count_below : List (ℕ × ℕ) → ℕ → ℕ
+count_below runs u = sum_by (λ r. min r.1 u - min r.0 u) runs

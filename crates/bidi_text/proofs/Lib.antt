@@ -1,0 +1,5 @@
+pub mod CharsLemmas
+pub mod PerCharTests
+pub mod StrLemmas
+pub mod Utf16Ends
+pub mod Utf16Lemmas

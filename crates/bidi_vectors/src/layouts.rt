@@ -1,0 +1,167 @@
+//! Rows of lines of given width, and of the places of their characters on the screen.
+
+use bidi_base::data_source::TableBidiData;
+use bidi_base::level::Level;
+use bidi_text::text::{StrText, is_line};
+use bidi_vectors_format::answer::{number_words, places_of, ranges_in};
+use bidi_vectors_format::fault::{RowFault, Why};
+use bidi_vectors_format::item::{number, range_of};
+use bidi_vectors_format::row::Row;
+use bidi_vectors_format::source::Tables;
+use bidi_vectors_format::tally::Tally;
+use bidi_vectors_format::text::RowText;
+use std::alloc::Global;
+use std::ops::Range;
+use unicode_bidi::layout::{CharWidth, LineMap, lines};
+use unicode_bidi::{BidiInfo, ParagraphInfo};
+
+// One width for every character but U+0301, which has one of its own.
+#[derive(Clone, Copy)]
+struct Widths {
+    letter: usize,
+    mark: usize,
+}
+
+impl CharWidth for Widths {
+    ghost use Rattle.std.specs.Prelude.{◌==◌, if◌then◌else◌};
+
+    ghost width_of = { λ w c. if c == 0x301 then w.mark else w.letter };
+
+    fn width(&self, c: char) -> usize {
+        if c == '\u{301}' {
+            self.mark
+        } else {
+            self.letter
+        }
+    }
+}
+
+// The units of a range of characters.
+fn units_of(alloc: Global, text: &str, word: &str, line: usize) -> Result<Range<usize>, RowFault> {
+    let places = places_of(alloc, StrText::new(text))?;
+    let (start, end) = range_of(word, line)?;
+    match (places.get(start), places.get(end)) {
+        (Some(start), Some(end)) => Ok(*start..*end),
+        _ => Err(RowFault::Line(line, Why::TextRange)),
+    }
+}
+
+// The range that a row asks about: its field `part`, or the whole text.
+fn part_of(alloc: Global, row: &Row<'_>, text: &str) -> Result<Range<usize>, RowFault> {
+    match row.get("part") {
+        Some(field) => units_of(alloc, text, field.value, field.line),
+        None => Ok(0..text.len()),
+    }
+}
+
+// The lines of a range of a text.
+fn lines_between(
+    alloc: Global,
+    info: &BidiInfo<'_>,
+    range: Range<usize>,
+    widths: Widths,
+    limit: usize,
+) -> Result<Vec<Range<usize>>, RowFault> {
+    let Some(para) = ParagraphInfo::new(range, Level::ltr()) else {
+        return Err(RowFault::Line(0, Why::Line));
+    };
+    if !is_line(StrText::new(info.text()), &para.range()) {
+        return Err(RowFault::Line(0, Why::Line));
+    }
+    Ok(lines(alloc, info, &para, &widths, limit)?)
+}
+
+// The widths of a row's characters.
+fn widths_of(row: &Row<'_>) -> Result<Widths, RowFault> {
+    Ok(Widths {
+        letter: number(row.field("letter")?)?,
+        mark: number(row.field("mark")?)?,
+    })
+}
+
+// The lines of the range of a text that a row asks about, in words.
+fn words_of_lines(
+    alloc: Global,
+    source: &TableBidiData<'_>,
+    text: &str,
+    row: &Row<'_>,
+) -> Result<String, RowFault> {
+    let (widths, limit) = (widths_of(row)?, number(row.field("limit")?)?);
+    let part = part_of(alloc, row, text)?;
+    let info = BidiInfo::new_with_data_source(alloc, source, text, None)?;
+    let found = lines_between(alloc, &info, part, widths, limit)?;
+    ranges_in(alloc, StrText::new(text), found.as_slice())
+}
+
+/// A row of a text, the widths of its characters, a limit, and the lines of a range of it.
+pub fn run_lines(
+    alloc: Global,
+    tables: &Tables,
+    row: &Row<'_>,
+    tally: &mut Tally,
+) -> Result<(), RowFault> {
+    row.has_only(&["text", "source", "letter", "mark", "limit", "part", "lines"])?;
+    let source = tables.source(row.line)?;
+    let text = RowText::of_row(alloc, row)?;
+    let words = words_of_lines(alloc, &source, text.utf8.as_str(), row);
+    tally.agree(row, "lines", "layout::lines", words);
+    Ok(())
+}
+
+// The map of a line of the first paragraph.
+fn map_of(alloc: Global, info: &BidiInfo<'_>, line: Range<usize>) -> Result<LineMap, RowFault> {
+    let Some(para) = info.paragraphs().first() else {
+        return Err(RowFault::Line(0, Why::Paragraph));
+    };
+    if !is_line(StrText::new(info.text()), &line) {
+        return Err(RowFault::Line(0, Why::Line));
+    }
+    Ok(LineMap::new(alloc, info, para, line)?)
+}
+
+// The map of the line of a text that a row asks about.
+fn map_of_row(
+    alloc: Global,
+    source: &TableBidiData<'_>,
+    text: &str,
+    row: &Row<'_>,
+) -> Result<LineMap, RowFault> {
+    let line = row.field("line")?;
+    let range = units_of(alloc, text, line.value, line.line)?;
+    let info = BidiInfo::new_with_data_source(alloc, source, text, None)?;
+    map_of(alloc, &info, range)
+}
+
+// The character at each visual place up to two behind the last, and the place of each character.
+fn entries_of(alloc: Global, map: &LineMap) -> Result<(Vec<usize>, Vec<usize>), RowFault> {
+    let mut order = Vec::new(alloc);
+    let mut places = Vec::new(alloc);
+    for index in 0..map.len().saturating_add(2) {
+        if let Some(logical) = map.visual_to_logical(index) {
+            order.push(logical)?;
+        }
+        if let Some(visual) = map.logical_to_visual(index) {
+            places.push(visual)?;
+        }
+    }
+    Ok((order, places))
+}
+
+/// A row of a text, a line of it, the character at each visual place, and the place of each character.
+pub fn run_map(
+    alloc: Global,
+    tables: &Tables,
+    row: &Row<'_>,
+    tally: &mut Tally,
+) -> Result<(), RowFault> {
+    row.has_only(&["text", "source", "line", "order", "places"])?;
+    let source = tables.source(row.line)?;
+    let text = RowText::of_row(alloc, row)?;
+    let map = map_of_row(alloc, &source, text.utf8.as_str(), row)?;
+    let (order, places) = entries_of(alloc, &map)?;
+    let words = number_words(alloc, order.as_slice());
+    tally.agree(row, "order", "LineMap::visual_to_logical", words);
+    let words = number_words(alloc, places.as_slice());
+    tally.agree(row, "places", "LineMap::logical_to_visual", words);
+    Ok(())
+}

@@ -1,0 +1,102 @@
+//! The rows of a file, each by its kind.
+
+use crate::tables::Sources;
+use crate::{characters, directions, layouts, levels, lines, orders, searches, texts, units};
+use bidi_vectors_format::fault::{RowFault, Why};
+use bidi_vectors_format::row::{Row, rows_of};
+use bidi_vectors_format::source::Tables;
+use bidi_vectors_format::tally::Tally;
+use std::alloc::Global;
+
+// Makes the calls of a row of the public calls, over this source. Whether its kind is one of theirs.
+fn run_public(
+    alloc: Global,
+    tables: &Tables,
+    row: &Row<'_>,
+    tally: &mut Tally,
+) -> Result<bool, RowFault> {
+    match row.kind {
+        "text" => texts::run(alloc, tables, row, tally)?,
+        "initial" => texts::run_initial(alloc, tables, row, tally)?,
+        "line" => lines::run(alloc, tables, row, tally)?,
+        "order" => orders::run_order(alloc, row, tally)?,
+        "visual runs" => orders::run_runs(alloc, row, tally)?,
+        "lines of a width" => layouts::run_lines(alloc, tables, row, tally)?,
+        "line map" => layouts::run_map(alloc, tables, row, tally)?,
+        "base direction" => directions::run_base(alloc, tables, row, tally)?,
+        "direction" => directions::run_levels(alloc, tables, row, tally)?,
+        _ => return Ok(false),
+    }
+    Ok(true)
+}
+
+// The same of the calls that have no text, or a text alone.
+fn run_base(
+    alloc: Global,
+    tables: &Tables,
+    row: &Row<'_>,
+    tally: &mut Tally,
+) -> Result<bool, RowFault> {
+    match row.kind {
+        "units" => units::run(alloc, row, tally)?,
+        "entries" => units::run_entries(alloc, row, tally)?,
+        "level" => levels::run_level(alloc, row, tally)?,
+        "level step" => levels::run_step(alloc, row, tally)?,
+        "level name" => levels::run_name(row, tally)?,
+        "list of levels" => levels::run_list(alloc, row, tally)?,
+        "group of classes" => characters::run_group(alloc, row, tally)?,
+        "character" => characters::run_character(alloc, tables, row, tally)?,
+        "character of Unicode" => characters::run_unicode(alloc, row, tally)?,
+        "format character" => characters::run_format(alloc, tables, row, tally)?,
+        "search" => searches::run(alloc, row, tally)?,
+        _ => return Ok(false),
+    }
+    Ok(true)
+}
+
+fn run_row(
+    alloc: Global,
+    sources: &mut Sources,
+    row: &Row<'_>,
+    tally: &mut Tally,
+) -> Result<(), RowFault> {
+    if sources.run(alloc, row, tally)? {
+        return Ok(());
+    }
+    let tables = sources.of_row(row)?;
+    if run_public(alloc, tables, row, tally)?
+        || run_base(alloc, tables, row, tally)?
+        || bidi_vectors_rules::run(alloc, tables, row, tally)?
+    {
+        return Ok(());
+    }
+    Err(RowFault::Line(row.line, Why::Kind))
+}
+
+// The fault of a row, which has its line where the call knew none.
+fn at_row(fault: RowFault, row: &Row<'_>) -> RowFault {
+    match fault {
+        RowFault::Line(0, why) => RowFault::Line(row.line, why),
+        _ => fault,
+    }
+}
+
+/// Runs the rows of a file. Each row is held against at least one answer.
+pub fn run_file(
+    alloc: Global,
+    text: &str,
+    sources: &mut Sources,
+    tally: &mut Tally,
+) -> Result<(), RowFault> {
+    for row in &rows_of(alloc, text)? {
+        let before = tally.compared;
+        let outcome = run_row(alloc, sources, row, tally);
+        outcome.map_err(|fault| at_row(fault, row))?;
+        let outcome = tally.end_row();
+        outcome.map_err(|fault| at_row(fault, row))?;
+        if tally.compared == before {
+            return Err(RowFault::Line(row.line, Why::Nothing));
+        }
+    }
+    Ok(())
+}

@@ -1,0 +1,46 @@
+//! Rows of searches among classes.
+
+use bidi_base::char_data::BidiClass;
+use bidi_base::search::{ClassTest, first_passing};
+use bidi_vectors_format::answer::number_words;
+use bidi_vectors_format::class::classes_of;
+use bidi_vectors_format::fault::{RowFault, Why};
+use bidi_vectors_format::item::range_of;
+use bidi_vectors_format::row::Row;
+use bidi_vectors_format::tally::Tally;
+use std::alloc::Global;
+
+/// The class ON.
+#[derive(Clone, Copy)]
+struct OtherNeutral;
+
+impl ClassTest for OtherNeutral {
+    ghost use Rattle.bidi_base.specs.Classes.{same_class};
+    ghost use Rattle.bidi_base.specs.declared.char_data.BidiClass.TheVariants.{ON};
+
+    ghost test = { λ _. same_class ON };
+
+    fn passes(self, class: BidiClass) -> bool {
+        class == BidiClass::ON
+    }
+}
+
+// The first unit of class ON in a range of the classes, or the range's end.
+fn first_neutral(classes: &[BidiClass], from: usize, to: usize) -> Result<usize, RowFault> {
+    if from > to || to > classes.len() {
+        return Err(RowFault::Line(0, Why::Line));
+    }
+    Ok(first_passing(OtherNeutral, classes, from, to))
+}
+
+/// A row of classes, a range of them, and the first unit of class ON there, or the range's end.
+pub fn run(alloc: Global, row: &Row<'_>, tally: &mut Tally) -> Result<(), RowFault> {
+    row.has_only(&["classes", "range", "found"])?;
+    let classes = classes_of(alloc, row.field("classes")?)?;
+    let range = row.field("range")?;
+    let (from, to) = range_of(range.value, range.line)?;
+    let found = first_neutral(classes.as_slice(), from, to)?;
+    let words = number_words(alloc, &[found]);
+    tally.agree(row, "found", "search::first_passing", words);
+    Ok(())
+}

@@ -1,0 +1,19 @@
+//! Tests that are no rows: equality, iterators from both ends, accessors, and a trait of one's own.
+#![tactic(auto)]
+
+#[cfg(test)]
+mod equality;
+#[cfg(test)]
+mod iterators;
+#[cfg(test)]
+mod layout;
+#[cfg(test)]
+mod levels;
+#[cfg(test)]
+mod pairs;
+#[cfg(test)]
+mod source;
+#[cfg(test)]
+mod utf16;
+#[cfg(test)]
+mod utf8;

@@ -1,0 +1,460 @@
+//! Rows of bracket pairs (BD16), of neutrals (N0 to N2) and of what follows from them, over lists and in
+//! place.
+
+use crate::conditions::{are_directed, are_kept, are_left, are_left_or_removed, is_side};
+use crate::explicit_levels::explicit_level;
+use crate::units::{Sequence, per_unit, sequences_of_field, whole_sequence_of};
+use crate::weak_types::class_field;
+use bidi_base::char_data::BidiClass;
+use bidi_base::data_source::{BidiDataSource, BidiMatchedOpeningBracket, TableBidiData};
+use bidi_base::level::Level;
+use bidi_plain::plain::{implicit, neutral, pairs, weak};
+use bidi_rules::implicit::{NeutralResolver, resolve_neutral};
+use bidi_rules::prepare::IsolatingRunSequence;
+use bidi_text::text::{StrText, is_per_char};
+use bidi_vectors_format::answer::{class_words, classes_in, level_words, range_words};
+use bidi_vectors_format::class::classes_of;
+use bidi_vectors_format::fault::{RowFault, Why};
+use bidi_vectors_format::item::levels;
+use bidi_vectors_format::row::Row;
+use bidi_vectors_format::source::Tables;
+use bidi_vectors_format::tally::Tally;
+use bidi_vectors_format::text::RowText;
+use std::alloc::Global;
+
+// The brackets of a text, one entry a character.
+fn brackets_of(
+    alloc: Global,
+    source: &TableBidiData,
+    text: &[char],
+) -> Result<Vec<Option<BidiMatchedOpeningBracket>>, RowFault> {
+    let mut brackets = Vec::new(alloc);
+    for c in text {
+        brackets.push(source.bidi_matched_opening_bracket(*c))?;
+    }
+    Ok(brackets)
+}
+
+// The pairs of a list.
+fn listed_pairs(
+    alloc: Global,
+    classes: &[BidiClass],
+    brackets: &[Option<BidiMatchedOpeningBracket>],
+    line: usize,
+) -> Result<Vec<(usize, usize)>, RowFault> {
+    if brackets.len() != classes.len() || !are_left(classes) {
+        return Err(RowFault::Line(line, Why::Classes));
+    }
+    Ok(pairs(alloc, classes, brackets)?)
+}
+
+/// A row of a text, the classes of its characters, and the pairs of its brackets.
+pub fn run_pairs(
+    alloc: Global,
+    tables: &Tables,
+    row: &Row<'_>,
+    tally: &mut Tally,
+) -> Result<(), RowFault> {
+    row.has_only(&["text", "source", "classes", "pairs"])?;
+    let source = tables.source(row.line)?;
+    let text = RowText::of_row(alloc, row)?;
+    let classes = classes_of(alloc, row.field("classes")?)?;
+    let brackets = brackets_of(alloc, &source, text.chars.as_slice())?;
+    let found = listed_pairs(alloc, classes.as_slice(), brackets.as_slice(), row.line)?;
+    let words = range_words(alloc, found.as_slice());
+    tally.agree(row, "pairs", "plain::pairs", words);
+    Ok(())
+}
+
+// The neutrals of a sequence over lists.
+fn listed(
+    alloc: Global,
+    level: Level,
+    edges: (BidiClass, BidiClass),
+    original: &[BidiClass],
+    brackets: &[Option<BidiMatchedOpeningBracket>],
+    classes: &[BidiClass],
+) -> Result<Vec<BidiClass>, RowFault> {
+    if level.number() > 125 || !is_side(edges.0) || !is_side(edges.1) {
+        return Err(RowFault::Line(0, Why::Sides));
+    }
+    if brackets.len() != classes.len() || original.len() != classes.len() {
+        return Err(RowFault::Line(0, Why::Lengths));
+    }
+    if !are_kept(original) || !are_left(classes) {
+        return Err(RowFault::Line(0, Why::Classes));
+    }
+    let answer = neutral(alloc, level, edges.0, edges.1, original, brackets, classes)?;
+    Ok(answer)
+}
+
+// Classes and levels one a unit: the levels, the classes before the weak types were resolved, and
+// those of the neutrals.
+#[derive(Drop)]
+struct OfUnits {
+    levels: Vec<Level>,
+    original: Vec<BidiClass>,
+    classes: Vec<BidiClass>,
+}
+
+impl OfUnits {
+    // Of entries one a character.
+    fn new(alloc: Global, text: &str, before: &Before) -> Result<OfUnits, RowFault> {
+        let text = StrText::new(text);
+        Ok(OfUnits {
+            levels: per_unit(alloc, text, before.levels.as_slice())?,
+            original: per_unit(alloc, text, before.original.as_slice())?,
+            classes: per_unit(alloc, text, before.classes.as_slice())?,
+        })
+    }
+}
+
+// By which call neutrals are resolved in place.
+#[derive(Clone, Copy)]
+enum Call {
+    Alone,
+    ByOneResolver,
+    Lent,
+    UpToN1,
+}
+
+impl Call {
+    fn name(self) -> &'static str {
+        match self {
+            Call::Alone => "implicit::resolve_neutral",
+            Call::ByOneResolver => "NeutralResolver::resolve",
+            Call::Lent => "NeutralResolver::resolve_lent",
+            Call::UpToN1 => "NeutralResolver::resolve_up_to_n1",
+        }
+    }
+
+    // The field that has the classes which it leaves.
+    fn key(self) -> &'static str {
+        match self {
+            Call::UpToN1 => "without n2",
+            _ => "after",
+        }
+    }
+}
+
+const CALLS: [Call; 4] = [Call::Alone, Call::ByOneResolver, Call::Lent, Call::UpToN1];
+
+const OTHER_TEXT: RowFault = RowFault::Line(0, Why::OtherText);
+
+const OTHER_CLASSES: RowFault = RowFault::Line(0, Why::Classes);
+
+// Resolves the neutrals of a sequence in place, by a resolver or by the call alone.
+fn resolve(
+    alloc: Global,
+    text: StrText,
+    source: &TableBidiData,
+    sequence: &IsolatingRunSequence,
+    levels: &[Level],
+    original: &[BidiClass],
+    classes: &mut [BidiClass],
+    resolver: Option<&mut NeutralResolver>,
+) -> Result<(), RowFault> {
+    if !sequence.fits(text) {
+        return Err(OTHER_TEXT);
+    }
+    if !is_per_char(text, classes) {
+        return Err(OTHER_TEXT);
+    }
+    if levels.len() != classes.len() {
+        return Err(OTHER_TEXT);
+    }
+    if original.len() != classes.len() {
+        return Err(OTHER_TEXT);
+    }
+    if !are_left_or_removed(classes) {
+        return Err(OTHER_CLASSES);
+    }
+    match resolver {
+        Some(resolver) => resolver.resolve(text, source, sequence, levels, original, classes)?,
+        None => resolve_neutral(alloc, text, source, sequence, levels, original, classes)?,
+    }
+    Ok(())
+}
+
+// Resolves the neutrals of a sequence whose runs are lent, with N2 or without it.
+fn resolve_lent(
+    alloc: Global,
+    text: StrText,
+    source: &TableBidiData,
+    sequence: &IsolatingRunSequence,
+    levels: &[Level],
+    original: &[BidiClass],
+    classes: &mut [BidiClass],
+    has_n2: bool,
+) -> Result<(), RowFault> {
+    if !sequence.fits(text) {
+        return Err(OTHER_TEXT);
+    }
+    if !is_per_char(text, classes) {
+        return Err(OTHER_TEXT);
+    }
+    if levels.len() != classes.len() {
+        return Err(OTHER_TEXT);
+    }
+    if original.len() != classes.len() {
+        return Err(OTHER_TEXT);
+    }
+    if !are_left_or_removed(classes) {
+        return Err(OTHER_CLASSES);
+    }
+    let mut resolver = NeutralResolver::new(alloc);
+    let lent = sequence.lend();
+    if has_n2 {
+        resolver.resolve_lent(text, source, lent, levels, original, classes)?;
+    } else {
+        resolver.resolve_up_to_n1(text, source, lent, levels, original, classes)?;
+    }
+    Ok(())
+}
+
+// Resolves the neutrals of a sequence in place, by this call.
+fn resolve_by(
+    alloc: Global,
+    text: StrText,
+    source: &TableBidiData,
+    sequence: &IsolatingRunSequence,
+    units: &mut OfUnits,
+    resolver: &mut NeutralResolver,
+    call: Call,
+) -> Result<(), RowFault> {
+    let levels = units.levels.as_slice();
+    let original = units.original.as_slice();
+    let classes = units.classes.as_mut_slice();
+    match call {
+        Call::Alone => resolve(
+            alloc, text, source, sequence, levels, original, classes, None,
+        ),
+        Call::ByOneResolver => {
+            let resolver = Some(resolver);
+            resolve(
+                alloc, text, source, sequence, levels, original, classes, resolver,
+            )
+        }
+        Call::Lent => resolve_lent(
+            alloc, text, source, sequence, levels, original, classes, true,
+        ),
+        Call::UpToN1 => {
+            resolve_lent(
+                alloc, text, source, sequence, levels, original, classes, false,
+            )
+        }
+    }
+}
+
+// Resolves the sequences of a text in place.
+fn resolve_sequences(
+    alloc: Global,
+    text: StrText,
+    source: &TableBidiData,
+    sequences: &[Sequence],
+    units: &mut OfUnits,
+    call: Call,
+) -> Result<(), RowFault> {
+    let mut resolver = NeutralResolver::new(alloc);
+    for sequence in sequences {
+        let (sos, eos) = (sequence.sos, sequence.eos);
+        let sequence = whole_sequence_of(alloc, sequence.runs.as_slice(), sos, eos, 0)?;
+        resolve_by(alloc, text, source, &sequence, units, &mut resolver, call)?;
+    }
+    Ok(())
+}
+
+// The classes and levels of a sequence's characters that a row has.
+#[derive(Drop)]
+struct Before {
+    levels: Vec<Level>,
+    original: Vec<BidiClass>,
+    classes: Vec<BidiClass>,
+}
+
+impl Before {
+    // Of a row that has the levels.
+    fn of_row(alloc: Global, row: &Row<'_>) -> Result<Before, RowFault> {
+        Ok(Before {
+            levels: levels(alloc, row.field("levels")?)?,
+            original: classes_of(alloc, row.field("original")?)?,
+            classes: classes_of(alloc, row.field("classes")?)?,
+        })
+    }
+
+    // Of a row whose characters are all at level 0.
+    fn at_level_0(alloc: Global, row: &Row<'_>) -> Result<Before, RowFault> {
+        let classes = classes_of(alloc, row.field("classes")?)?;
+        Ok(Before {
+            levels: vec![in alloc; Level::ltr(); classes.len()]?,
+            original: classes_of(alloc, row.field("original")?)?,
+            classes,
+        })
+    }
+}
+
+// What the sequences of a text become in place, by a call.
+fn words_in_place(
+    alloc: Global,
+    source: &TableBidiData,
+    text: &str,
+    sequences: &[Sequence],
+    before: &Before,
+    call: Call,
+) -> Result<String, RowFault> {
+    let mut units = OfUnits::new(alloc, text, before)?;
+    let text = StrText::new(text);
+    resolve_sequences(alloc, text, source, sequences, &mut units, call)?;
+    classes_in(alloc, text, units.classes.as_slice())
+}
+
+// Holds that against a row, by each call.
+fn check_in_place(
+    alloc: Global,
+    row: &Row<'_>,
+    tally: &mut Tally,
+    source: &TableBidiData,
+    text: &str,
+    sequences: &[Sequence],
+    before: &Before,
+) {
+    for call in CALLS {
+        let words = words_in_place(alloc, source, text, sequences, before, call);
+        tally.agree(row, call.key(), call.name(), words);
+    }
+}
+
+// The neutrals over a list, in words.
+fn listed_words(
+    alloc: Global,
+    source: &TableBidiData,
+    text: &[char],
+    edges: (BidiClass, BidiClass),
+    before: &Before,
+) -> Result<String, RowFault> {
+    let brackets = brackets_of(alloc, source, text)?;
+    let (original, classes) = (before.original.as_slice(), before.classes.as_slice());
+    let level = Level::ltr();
+    let answer = listed(alloc, level, edges, original, brackets.as_slice(), classes)?;
+    class_words(alloc, answer.as_slice())
+}
+
+/// A row of a text at level 0 that is one sequence: the rule over a list, and the passes in place.
+pub fn run_list(
+    alloc: Global,
+    tables: &Tables,
+    row: &Row<'_>,
+    tally: &mut Tally,
+) -> Result<(), RowFault> {
+    row.has_only(&[
+        "text",
+        "source",
+        "sos",
+        "eos",
+        "original",
+        "classes",
+        "after",
+        "without n2",
+    ])?;
+    let source = tables.source(row.line)?;
+    let text = RowText::of_row(alloc, row)?;
+    let (sos, eos) = (class_field(row, "sos")?, class_field(row, "eos")?);
+    let before = Before::at_level_0(alloc, row)?;
+    let words = listed_words(alloc, &source, text.chars.as_slice(), (sos, eos), &before);
+    tally.agree(row, "after", "plain::neutral", words);
+    let text = text.utf8.as_str();
+    let runs = vec![in alloc; (0, text.len())]?;
+    let whole = [Sequence { runs, sos, eos }];
+    check_in_place(alloc, row, tally, &source, text, &whole, &before);
+    Ok(())
+}
+
+/// A row of a text with its sequences, the explicit level of each character, its class before the weak
+/// types were resolved and before the neutrals are.
+pub fn run_units(
+    alloc: Global,
+    tables: &Tables,
+    row: &Row<'_>,
+    tally: &mut Tally,
+) -> Result<(), RowFault> {
+    row.has_only(&[
+        "text",
+        "source",
+        "sequences",
+        "levels",
+        "original",
+        "classes",
+        "after",
+        "without n2",
+    ])?;
+    let source = tables.source(row.line)?;
+    let text = RowText::of_row(alloc, row)?;
+    let text = text.utf8.as_str();
+    let sequences = sequences_of_field(alloc, StrText::new(text), row.field("sequences")?)?;
+    let before = Before::of_row(alloc, row)?;
+    check_in_place(
+        alloc,
+        row,
+        tally,
+        &source,
+        text,
+        sequences.as_slice(),
+        &before,
+    );
+    Ok(())
+}
+
+// The weak types of a sequence whose sos is `edge`.
+fn listed_weak(
+    alloc: Global,
+    edge: BidiClass,
+    classes: &[BidiClass],
+) -> Result<Vec<BidiClass>, RowFault> {
+    if !is_side(edge) || !are_kept(classes) {
+        return Err(RowFault::Line(0, Why::Classes));
+    }
+    Ok(weak(alloc, edge, classes)?)
+}
+
+// The implicit levels of classes at a level, in words.
+fn listed_levels(alloc: Global, level: Level, classes: &[BidiClass]) -> Result<String, RowFault> {
+    if level.number() > 125 || !are_directed(classes) {
+        return Err(RowFault::Line(0, Why::Classes));
+    }
+    let levels = implicit(alloc, level, classes)?;
+    level_words(alloc, levels.as_slice())
+}
+
+// The levels that the rules over lists leave of a sequence whose sides are `edge`, in words.
+fn words_of_levels(
+    alloc: Global,
+    source: &TableBidiData,
+    text: &[char],
+    row: &Row<'_>,
+) -> Result<String, RowFault> {
+    let level = explicit_level(row, "level")?;
+    let edge = class_field(row, "edge")?;
+    let classes = classes_of(alloc, row.field("classes")?)?;
+    let classes = classes.as_slice();
+    let resolved = listed_weak(alloc, edge, classes)?;
+    let brackets = brackets_of(alloc, source, text)?;
+    let (brackets, resolved) = (brackets.as_slice(), resolved.as_slice());
+    let answer = listed(alloc, level, (edge, edge), classes, brackets, resolved)?;
+    listed_levels(alloc, level, answer.as_slice())
+}
+
+/// A row of a text that is one sequence, its level, its sos and eos in one, its classes, and its levels
+/// after the weak types, the neutrals and the implicit levels.
+pub fn run_levels(
+    alloc: Global,
+    tables: &Tables,
+    row: &Row<'_>,
+    tally: &mut Tally,
+) -> Result<(), RowFault> {
+    row.has_only(&["text", "source", "level", "edge", "classes", "levels"])?;
+    let source = tables.source(row.line)?;
+    let text = RowText::of_row(alloc, row)?;
+    let words = words_of_levels(alloc, &source, text.chars.as_slice(), row);
+    tally.agree(row, "levels", "plain: weak, neutral, implicit", words);
+    Ok(())
+}

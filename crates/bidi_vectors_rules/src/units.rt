@@ -1,0 +1,158 @@
+//! Lists over the units of a text, and sequences of runs.
+
+use bidi_base::char_data::BidiClass;
+use bidi_rules::implicit::resolve_weak;
+use bidi_rules::prepare::{IsolatingRunSequence, LevelRun, LevelRunVec};
+use bidi_text::text::{StrText, TextSource, is_per_char};
+use bidi_vectors_format::answer::places_of;
+use bidi_vectors_format::class::class_of;
+use bidi_vectors_format::fault::{RowFault, Why};
+use bidi_vectors_format::item::range_of;
+use bidi_vectors_format::row::Field;
+use std::alloc::Global;
+
+/// The start and the end of each run of a sequence, its sos and its eos.
+#[derive(Drop)]
+pub struct Sequence {
+    pub runs: Vec<(usize, usize)>,
+    pub sos: BidiClass,
+    pub eos: BidiClass,
+}
+
+/// Each entry, one a character of the text, on every unit of its character.
+pub fn per_unit<T: TextSource, X: Copy>(
+    alloc: Global,
+    text: T,
+    entries: &[X],
+) -> Result<Vec<X>, RowFault> {
+    let lengths: Vec<(usize, usize)> = text.indices_lengths().collect(alloc)?;
+    let mut units = Vec::new(alloc);
+    for ((_, length), entry) in lengths.iter().zip(entries) {
+        for _ in 0..*length {
+            units.push(*entry)?;
+        }
+    }
+    Ok(units)
+}
+
+// The places of runs of characters in a text.
+fn runs_in(
+    alloc: Global,
+    text: StrText,
+    runs: &[(usize, usize)],
+    line: usize,
+) -> Result<Vec<(usize, usize)>, RowFault> {
+    let places = places_of(alloc, text)?;
+    let mut found = Vec::new(alloc);
+    for (start, end) in runs {
+        match (places.get(*start), places.get(*end)) {
+            (Some(start), Some(end)) => found.push((*start, *end))?,
+            _ => return Err(RowFault::Line(line, Why::TextRange)),
+        }
+    }
+    Ok(found)
+}
+
+/// The runs of a field, which are ranges of a text's characters, as ranges of its units.
+pub fn runs_of_field(
+    alloc: Global,
+    text: StrText,
+    field: Field<'_>,
+) -> Result<Vec<(usize, usize)>, RowFault> {
+    let mut runs = Vec::new(alloc);
+    for word in field.value.split_whitespace() {
+        runs.push(range_of(word, field.line)?)?;
+    }
+    runs_in(alloc, text, runs.as_slice(), field.line)
+}
+
+// The sequence that words as `0..3 4..7 R R` are: its runs, sos and eos.
+fn sequence_of_words(
+    alloc: Global,
+    text: StrText,
+    words: &str,
+    line: usize,
+) -> Result<Sequence, RowFault> {
+    let mut runs = Vec::new(alloc);
+    let mut sides: [Option<BidiClass>; 2] = [None, None];
+    for word in words.split_whitespace() {
+        if word.contains("..") {
+            runs.push(range_of(word, line)?)?;
+        } else {
+            sides = [sides[1], Some(class_of(word, line)?)];
+        }
+    }
+    match sides {
+        [Some(sos), Some(eos)] => Ok(Sequence {
+            runs: runs_in(alloc, text, runs.as_slice(), line)?,
+            sos,
+            eos,
+        }),
+        _ => Err(RowFault::Line(line, Why::Sides)),
+    }
+}
+
+/// The sequences of a field, in units of a text: each its runs, sos and eos, with a semicolon between two.
+pub fn sequences_of_field(
+    alloc: Global,
+    text: StrText,
+    field: Field<'_>,
+) -> Result<Vec<Sequence>, RowFault> {
+    let mut sequences = Vec::new(alloc);
+    for words in field.value.split(";") {
+        if !words.trim().is_empty() {
+            sequences.push(sequence_of_words(alloc, text, words, field.line)?)?;
+        }
+    }
+    Ok(sequences)
+}
+
+/// The sequence of runs with these starts and ends, if they make one.
+pub fn sequence_of(
+    alloc: Global,
+    ends: &[(usize, usize)],
+    sos: BidiClass,
+    eos: BidiClass,
+) -> Result<Option<IsolatingRunSequence>, RowFault> {
+    let mut runs: Vec<LevelRun> = Vec::new(alloc);
+    for (start, end) in ends {
+        runs.push(*start..*end)?;
+    }
+    Ok(IsolatingRunSequence::new(runs, sos, eos))
+}
+
+/// The same, which must make one.
+pub fn whole_sequence_of(
+    alloc: Global,
+    ends: &[(usize, usize)],
+    sos: BidiClass,
+    eos: BidiClass,
+    line: usize,
+) -> Result<IsolatingRunSequence, RowFault> {
+    match sequence_of(alloc, ends, sos, eos)? {
+        Some(sequence) => Ok(sequence),
+        None => Err(RowFault::Line(line, Why::Sequence)),
+    }
+}
+
+/// The same runs once more.
+pub fn copied(alloc: Global, runs: &[LevelRun]) -> Result<LevelRunVec, RowFault> {
+    let mut copies = Vec::new(alloc);
+    for run in runs {
+        copies.push(run.start..run.end)?;
+    }
+    Ok(copies)
+}
+
+/// Resolves the weak types of a sequence in place, one class a unit of the text.
+pub fn resolve_weak_units(
+    text: StrText,
+    sequence: &IsolatingRunSequence,
+    classes: &mut [BidiClass],
+) -> Result<(), RowFault> {
+    if !sequence.fits(text) || !is_per_char(text, classes) {
+        return Err(RowFault::Line(0, Why::OtherText));
+    }
+    resolve_weak(text, sequence, classes);
+    Ok(())
+}

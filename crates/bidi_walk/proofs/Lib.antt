@@ -1,0 +1,9 @@
+pub mod ClassSets
+pub mod FlagsLemmas
+pub mod IdleClasses
+pub mod KnownClasses
+pub mod PutUnits
+pub mod Skimmed
+pub mod TextRead
+pub mod Undecided
+pub mod WalkSteps

@@ -1,0 +1,217 @@
+-- Characters on which nothing depends, read one after another.
+use Rattle.bidi_base.proofs.Common.{◌≡◌, ℕ, ◌+◌, ◌-◌, ◌<◌, ◌≤◌, true, false, List, [], ◌∷◌, ◌++◌, length, take, drop, Some, set, refl, sym, ap, ◌∙◌, arith, add-one, append_assoc, length-take, length-drop, rules, drop-append_seam, take-append-add, map-append, length-map, take-append-le, take-append-drop, nat_tests, All-nil, All-append, All-push, sum_by-append, sum_by-cons, Source, text_len, char_at, ascii_of, ascii_at, char_index, is_boundary, subrange, IsLine}
+use Rattle.std.specs.Prelude.{replicate}
+use Rattle.std.proofs.Math.Nat.{add_assoc}
+use Rattle.std.proofs.Math.Seq.{take-suc-set}
+use Rattle.std.proofs.lemmas.List.{append-nil}
+use Rattle.bidi_base.specs.declared.char_data.BidiClass.{BidiClass}
+use Rattle.bidi_base.proofs.PlaceLemmas.{text_len-subrange}
+use Rattle.bidi_base.proofs.PerUnit.{per_unit-push, per_unit-append}
+use Rattle.bidi_base.proofs.TextLemmas.{cut_at, HasUnits, char_at-append, char_index-append, is_boundary-append, is_boundary-le}
+use Rattle.bidi_walk.specs.declared.class_set.ClassSet.{ClassSet}
+use Rattle.bidi_walk.specs.declared.first_walk.Met.{Met}
+use Rattle.bidi_walk.specs.ClassSet.{has}
+use Rattle.bidi_walk.specs.FirstWalk.{ahead, AreWritten, IsSkimmed, IsMet}
+
+-- ---- what is ahead of a boundary
+
+module _ (len_of : ℕ → ℕ) (units : HasUnits len_of) where
+  pub ahead-append : (xs ys : List ℕ) → ahead len_of (xs ++ ys) (text_len len_of xs) ≡ ys
+  ahead-append xs ys = grind (arith, char_index-append, drop-append_seam)
+
+pub is_boundary-end : (len_of : ℕ → ℕ) (chars : List ℕ) → is_boundary len_of chars (text_len len_of chars) ≡ true
+is_boundary-end len_of chars = ap (λ cs. is_boundary len_of cs (text_len len_of chars)) (sym (append-nil chars)) ∙ is_boundary-append len_of chars []
+
+-- what is no boundary is not the end
+pub inside-lt : (len_of : ℕ → ℕ) (chars : List ℕ) (u : ℕ) → is_boundary len_of chars u ≡ false → u ≤ text_len len_of chars → u < text_len len_of chars
+inside-lt len_of chars u inside le = grind (arith, is_boundary-end len_of chars)
+
+-- an ASCII character, one unit long, begins what comes
+pub record AsciiNext (len_of : ℕ → ℕ) (coming : List ℕ) (c : ℕ) : Type 0 where
+  pub tail : List ℕ
+  pub next : coming ≡ c ∷ tail
+  pub one : len_of c ≡ 1
+
+ascii_next : (len_of : ℕ → ℕ) (coming : List ℕ) (c : ℕ) → ascii_of (char_at len_of coming 0) ≡ Some c → AsciiNext len_of coming c
+ascii_next len_of [] c e = absurd (cc e)
+ascii_next len_of (d ∷ ds) c e = record { tail = ds; next = grind (arith, nat_tests); one = grind (arith, nat_tests) }
+
+module _ (source : Source) (len_of : ℕ → ℕ) (minded : ClassSet) where
+  -- ---- one character, and some characters, more
+
+  pub AreWritten-push : (read : List ℕ) (from at c : ℕ) (old new after : List BidiClass) → AreWritten source len_of read from at old new
+      → take (at + len_of c) after ≡ take at new ++ replicate (len_of c) (source.class_of c) → AreWritten source len_of (read ++ c ∷ []) from (at + len_of c) old after
+  AreWritten-push read from at c old new after h is = grind (arith, sum_by-append, append_assoc, per_unit-push, length-map, map-append)
+
+  AreWritten-join : (xs ys : List ℕ) (from at to : ℕ) (old new after : List BidiClass) → AreWritten source len_of xs from at old new → AreWritten source len_of ys at to new after → AreWritten source len_of (xs ++ ys) from to old after
+  AreWritten-join xs ys from at to old new after h k = grind (arith, sum_by-append, append_assoc, per_unit-append, length-map, map-append)
+
+  -- where the units from `at` on were handed on
+  AreWritten-part : (read : List ℕ) (at to : ℕ) (old part new tail : List BidiClass) → at ≤ length old → to ≤ length new → AreWritten source len_of read 0 to part new → AreWritten source len_of read at (at + to) old (take at old ++ (new ++ tail))
+  AreWritten-part read at to old part new tail inside room h =
+      grind (arith, length-take at old, take-append-add (take at old) (new ++ tail) to, take-append-le to new tail room)
+
+  -- it begins in what came
+  pub IsMet-within : (coming : List ℕ) (from : ℕ) (met : Met) (old new : List BidiClass) → IsMet source len_of minded coming from met old new → met.start ≤ from + text_len len_of coming
+  IsMet-within coming from met old new h = grind (arith, sum_by-append)
+
+  unfoldable pub IsSkimmed-start : (coming : List ℕ) (at : ℕ) (classes : List BidiClass) → IsSkimmed source len_of minded coming at at classes classes
+  IsSkimmed-start coming at classes =
+      let written : AreWritten source len_of [] at at classes classes = record { long = omega arith; classes = sym (append-nil (take at classes)) } in
+      record { read = []; rest = coming; joined = refl; idle = All-nil (λ c. has minded (source.class_of c) ≡ false); written = written }
+
+  module _ (coming : List ℕ) (from at : ℕ) (old new : List BidiClass) (h : IsSkimmed source len_of minded coming from at old new) where
+    unfoldable pub IsSkimmed-more : (c : ℕ) (rest : List ℕ) (to : ℕ) (after : List BidiClass) → h.rest ≡ c ∷ rest → has minded (source.class_of c) ≡ false → to ≡ at + len_of c
+        → take to after ≡ take at new ++ replicate (len_of c) (source.class_of c) → IsSkimmed source len_of minded coming from to old after
+    IsSkimmed-more c rest to after next idle end is =
+        let joined = h.joined ∙ ap (λ cs. h.read ++ cs) next ∙ sym (append_assoc h.read (c ∷ []) rest) in
+        let idle = All-push (λ c. has minded (source.class_of c) ≡ false) h.read c h.idle idle in
+        let written = AreWritten-push h.read from at c old new after h.written (rw end at is) in
+        record { read = h.read ++ c ∷ []; rest = rest; joined = joined; idle = idle; written = rw end written }
+
+    pub IsMet-next : (met : Met) (rest : List ℕ) (after : List BidiClass) → h.rest ≡ met.c ∷ rest → met.start ≡ at → met.class ≡ source.class_of met.c
+        → take (met.start + len_of met.c) after ≡ take met.start new ++ replicate (len_of met.c) met.class → IsMet source len_of minded coming from met old after
+    IsMet-next met rest after next start class is =
+        let joined = h.joined ∙ ap (λ cs. h.read ++ cs) next in
+        let written = AreWritten-push h.read from at met.c old new after h.written (simp (start, class) at is) in
+        record { read = h.read; rest = rest; joined = joined; idle = h.idle; begins = cc start; class = class; written = rw start written }
+
+    pub IsSkimmed-join : (to : ℕ) (after : List BidiClass) → IsSkimmed source len_of minded h.rest at to new after → IsSkimmed source len_of minded coming from to old after
+    IsSkimmed-join to after k =
+        let joined = h.joined ∙ ap (λ cs. h.read ++ cs) k.joined ∙ sym (append_assoc h.read k.read k.rest) in
+        let idle = All-append (λ c. has minded (source.class_of c) ≡ false) h.read k.read h.idle k.idle in
+        let written = AreWritten-join h.read k.read from at to old new after h.written k.written in
+        record { read = h.read ++ k.read; rest = k.rest; joined = joined; idle = idle; written = written }
+
+    pub IsMet-join : (met : Met) (after : List BidiClass) → IsMet source len_of minded h.rest at met new after → IsMet source len_of minded coming from met old after
+    IsMet-join met after k =
+        let joined = h.joined ∙ ap (λ cs. h.read ++ cs) k.joined ∙ sym (append_assoc h.read k.read (met.c ∷ k.rest)) in
+        let idle = All-append (λ c. has minded (source.class_of c) ≡ false) h.read k.read h.idle k.idle in
+        let begins : met.start ≡ from + text_len len_of (h.read ++ k.read) = omega (
+          arith,
+          k.begins,
+          h.written.long,
+          sum_by-append len_of h.read k.read,
+        ) in
+        let written = AreWritten-join h.read (k.read ++ met.c ∷ []) from at (met.start + len_of met.c) old new after h.written k.written in
+        record { read = h.read ++ k.read; rest = k.rest; joined = joined; idle = idle; begins = begins; class = k.class; written = rw append_assoc written }
+
+    -- what has not come yet is ahead
+    module _ (units : HasUnits len_of) (chars : List ℕ) (begins : is_boundary len_of chars from ≡ true) (is_ahead : coming ≡ ahead len_of chars from) where
+      passed : List ℕ
+      passed = (cut_at len_of chars from begins).front ++ h.read
+
+      split : chars ≡ passed ++ h.rest
+      unfolding passed
+      split =
+          let w = cut_at len_of chars from begins in
+          let joined : chars ≡ w.front ++ ahead len_of chars from = cc (w.joined, w.long, ahead-append len_of units w.front w.back) in
+          grind (arith, append_assoc)
+
+      passed_long : text_len len_of passed ≡ at
+      unfolding passed
+      passed_long = grind (arith, sum_by-append, (cut_at len_of chars from begins).long)
+
+      pub is_boundary-skimmed : is_boundary len_of chars at ≡ true
+      is_boundary-skimmed = ap (λ cs. is_boundary len_of cs at) split ∙ ap (is_boundary len_of (passed ++ h.rest)) (sym passed_long) ∙ is_boundary-append len_of passed h.rest
+
+      pub ahead-skimmed : ahead len_of chars at ≡ h.rest
+      ahead-skimmed = ap (λ cs. ahead len_of cs at) split ∙ ap (ahead len_of (passed ++ h.rest)) (sym passed_long) ∙ ahead-append len_of units passed h.rest
+
+      pub IsMet-on : (met : Met) (after : List BidiClass) → IsMet source len_of minded (ahead len_of chars at) at met new after → IsMet source len_of minded coming from met old after
+      IsMet-on met after k = IsMet-join met after (rw ahead-skimmed at k)
+
+      pub fits-skimmed : at + text_len len_of h.rest ≡ text_len len_of chars
+      fits-skimmed = omega (arith, ap (text_len len_of) split, sum_by-append len_of passed h.rest, passed_long)
+
+      -- an ASCII character that comes
+      pub ascii-skimmed : (c : ℕ) → Some c ≡ ascii_at len_of chars at → AsciiNext len_of h.rest c
+      ascii-skimmed c e = ascii_next len_of h.rest c (cc (char_at-append len_of units passed h.rest, split, passed_long, e))
+
+      module _ (c : ℕ) (is : Some c ≡ ascii_at len_of chars at) (class : BidiClass) (is_class : class ≡ source.class_of c) (long : length new ≡ text_len len_of chars) where
+        one_more : take (at + 1) (set new at class) ≡ take at new ++ class ∷ []
+        one_more = rw add-one (take-suc-set new at class (grind (arith, ascii-skimmed c is, fits-skimmed, sum_by-cons)))
+
+        pub IsSkimmed-ascii : has minded class ≡ false → IsSkimmed source len_of minded coming from (at + 1) old (set new at class)
+        IsSkimmed-ascii idle =
+            let w = ascii-skimmed c is in
+            IsSkimmed-more c w.tail (at + 1) (set new at class) w.next (cc (is_class, idle)) (cc w.one) (simp (w.one, ← is_class) one_more)
+
+        pub IsMet-ascii : IsMet source len_of minded coming from (record { start = at; c = c; class = class }) old (set new at class)
+        IsMet-ascii =
+            let w = ascii-skimmed c is in
+            IsMet-next (record { start = at; c = c; class = class }) w.tail (set new at class) w.next refl is_class (simp w.one one_more)
+
+      pub within-skimmed : at ≤ text_len len_of chars
+      within-skimmed = omega (arith, fits-skimmed)
+
+-- ---- one turn of the walk to the next character on which something depends
+
+module _ (source : Source) (len_of : ℕ → ℕ) (minded : ClassSet) (units : HasUnits len_of) (chars : List ℕ) (from at start : ℕ) (old now new : List BidiClass) (begins : is_boundary len_of chars from ≡ true)
+    (h : IsSkimmed source len_of minded (ahead len_of chars from) from at old now) (k : IsSkimmed source len_of minded (ahead len_of chars at) at start now new) where
+  skimmed : IsSkimmed source len_of minded (ahead len_of chars from) from start old new
+  skimmed = IsSkimmed-join source len_of minded (ahead len_of chars from) from at old now h start new
+      (rw (ahead-skimmed source len_of minded (ahead len_of chars from) from at old now h units chars begins refl) at k)
+
+  pub start-within : start ≤ text_len len_of chars
+  start-within = search (rules, within-skimmed, skimmed)
+
+  -- a block begins there
+  module _ (end : ℕ) (order : start ≤ end) (boundary : is_boundary len_of chars end ≡ true) where
+    pub block-line : IsLine len_of chars start end
+    block-line = record { ordered = order; begins = is_boundary-skimmed source len_of minded (ahead len_of chars from) from start old new skimmed units chars begins refl; ends = boundary }
+
+    module _ (block : List ℕ) (is_block : block ≡ subrange len_of chars start end) where
+      pub block-long : start + text_len len_of block ≡ end
+      block-long = omega (arith, ap (text_len len_of) is_block, text_len-subrange len_of units chars start end block-line, order)
+
+      pub block-room : length new ≡ text_len len_of chars → text_len len_of block ≤ length (take (length new - start) (drop start new))
+      block-room long = omega (arith, block-long, is_boundary-le len_of chars end boundary, length-take (length new - start) (drop start new), length-drop start new)
+
+      -- it is read into the units from there on
+      behind : List ℕ
+      behind = drop (char_index len_of chars end - char_index len_of chars start) (ahead len_of chars start)
+
+      block_first : skimmed.rest ≡ block ++ behind
+      unfolding behind
+      block_first =
+          cc (
+            ahead-skimmed source len_of minded (ahead len_of chars from) from start old new skimmed units chars begins refl,
+            is_block,
+            take-append-drop (char_index len_of chars end - char_index len_of chars start) (ahead len_of chars start),
+          )
+
+      module _ (part written tail : List BidiClass) (long : length new ≡ text_len len_of chars) (room : text_len len_of block ≤ length written) where
+        inside : start ≤ length new
+        inside = omega (arith, long, start-within)
+
+        pub IsSkimmed-turn : IsSkimmed source len_of minded block 0 (text_len len_of block) part written → IsSkimmed source len_of minded (ahead len_of chars from) from end old (take start new ++ (written ++ tail))
+        IsSkimmed-turn k =
+            IsSkimmed-join source len_of minded (ahead len_of chars from) from start old new skimmed end (take start new ++ (written ++ tail)) (record {
+              read = k.read;
+              rest = k.rest ++ behind;
+              joined = cc (block_first, append_assoc k.read k.rest behind, k.joined);
+              idle = k.idle;
+              written = rw (← block-long) (AreWritten-part source len_of minded k.read start (text_len len_of block) new part written tail inside room k.written);
+            })
+
+        pub IsMet-turn : (met : Met) → IsMet source len_of minded block 0 met part written
+            → IsMet source len_of minded (ahead len_of chars from) from (record { start = start + met.start; c = met.c; class = met.class }) old (take start new ++ (written ++ tail))
+        IsMet-turn met k =
+            let fits : met.start + len_of met.c ≤ length written = grind (
+              arith,
+              k.written.long,
+              k.joined,
+              sum_by-append,
+              sum_by-cons,
+              room,
+            ) in
+            IsMet-join source len_of minded (ahead len_of chars from) from start old new skimmed (record { start = start + met.start; c = met.c; class = met.class }) (take start new ++ (written ++ tail)) (record {
+              read = k.read;
+              rest = k.rest ++ behind;
+              joined = cc (block_first, append_assoc k.read (met.c ∷ k.rest) behind, k.joined);
+              idle = k.idle;
+              begins = omega (arith, k.begins);
+              class = k.class;
+              written = rw (add_assoc start met.start (len_of met.c)) (AreWritten-part source len_of minded (k.read ++ met.c ∷ []) start (met.start + len_of met.c) new part written tail inside fits k.written);
+            })

@@ -1,0 +1,255 @@
+-- What the walk over a text holds once n characters were read.
+use Rattle.bidi_base.proofs.Common.{◌≡◌, ℕ, ◌+◌, ◌<◌, ◌≤◌, true, false, List, [], ◌∷◌, ◌++◌, length, get_or, take, drop, map, Option, Some, None, option_map, refl, sym, ap, ◌∙◌, arith, ◌⊎◌, inl, inr, append_assoc, length-append, length-take, common_steps, All, is_none, Range, nil_from_length, map-append, length-map, take_more, take_all, drop_all, get_or-append-add, length-take-le, take-append-drop, sum_by-append, is_paragraph_separator, deciding_class, paragraph_level, stored_classes, class_at, ranges_from, innermost, met_units, Source, text_classes, paragraph_levels, char_at, place, text_len, per_unit}
+use Rattle.std.specs.Prelude.{replicate}
+use Rattle.std.proofs.lemmas.List.{append-nil}
+use Rattle.std.proofs.lemmas.List.Concat.{flat_map-append}
+use Rattle.bidi_base.specs.declared.char_data.BidiClass.{BidiClass}
+use Rattle.bidi_base.specs.declared.char_data.BidiClass.TheVariants.{L}
+use Rattle.bidi_base.proofs.TextLemmas.{HasUnits, char_at-append, length-le-text_len}
+use Rattle.bidi_base.proofs.PerUnit.{per_unit-push, get_or-per_unit-place}
+use Rattle.bidi_base.proofs.PlaceLemmas.{place-le, place-lt, place-mono, place-more}
+use Rattle.bidi_laws.proofs.ParagraphsLemmas.{IsCut, IsCut-start, IsCut-more, IsCut-stop, IsCut-last, IsCut-none, ranges_from-push, joined, length-text_classes}
+use Rattle.bidi_laws.proofs.ReadingLemmas.{char_units, char_units-take, met_units-char, innermost-All}
+use Rattle.bidi_laws.proofs.StoredSteps.{stored_classes-nil, deciding_class-push, deciding_class-nil, open_initiators, open_initiators-push, met_by, stored_classes-push, length-stored_classes, length-met_by, open_initiators-below}
+use Rattle.bidi_walk.specs.declared.paragraph_flags.ParagraphFlags.{ParagraphFlags}
+use Rattle.bidi_walk.specs.declared.first_walk.Reading.{Reading}
+use Rattle.bidi_walk.specs.declared.first_walk.TextReading.{TextReading}
+use Rattle.bidi_walk.specs.declared.first_walk.Undecided.{Undecided}
+use Rattle.bidi_walk.specs.declared.paragraph_info.ParagraphInfo.{ParagraphInfo}
+use Rattle.bidi_walk.specs.FirstWalk.{waiting, classes_after, IsFresh, IsReadBy, IsClosed}
+use Rattle.bidi_walk.specs.ParagraphInfo.{ranges_of, levels_of}
+use Rattle.bidi_walk.specs.ParagraphFlags.{flags_of, paragraph_flags}
+use Rattle.bidi_walk.specs.SplitRule.{ends_by, ends_after, pieces_by}
+use Rattle.bidi_walk.specs.declared.split_rule.SplitRule.{SplitRule}
+use Rattle.bidi_walk.proofs.FlagsLemmas.{with_classes-push}
+use Rattle.bidi_walk.proofs.PutUnits.{take-filled, filled-append}
+use Rattle.bidi_walk.proofs.Undecided.{undecided_from, waits_of, fsi_at, waiting-is, undecided-more, deciding-more, length-opened_by, open_initiators-few, All-undecided}
+
+-- what the walk has seen: the classes of the units, and the paragraphs that ended
+pub record Seen : Type 0 where
+  pub units : List BidiClass
+  pub paragraphs : List ParagraphInfo
+  pub flags : List ParagraphFlags
+
+abbrev pub seen : List BidiClass → TextReading → Seen
+seen units walk = record { units = units; paragraphs = walk.paragraphs.items; flags = walk.flags.items }
+
+module _ (source : Source) (len_of : ℕ → ℕ) (chars : List ℕ) where
+  abbrev classes_of : List ℕ → List BidiClass
+  classes_of piece = map source.class_of piece
+
+  -- the units of the q-th character after some pieces
+  abbrev units_after : List (List ℕ) → ℕ → Range ℕ
+  units_after done q = char_units len_of chars (length (joined done) + q)
+
+  -- `done` are the paragraphs that have ended, and `current` is the one that is read
+  pub record IsTextRead (base : Option ℕ) (n : ℕ) (done : List (List ℕ)) (current : List ℕ) (found : Seen) (reading : Reading) : Type 0 where
+    pub whole : joined done ++ current ≡ take n chars
+    pub sized : length found.units ≡ text_len len_of chars
+    pub classes : take (place len_of chars n) found.units ≡ per_unit len_of (take n chars) (text_classes source done ++ stored_classes (classes_of current))
+    pub ranges : ranges_of found.paragraphs ≡ ranges_from len_of 0 done
+    pub levels : levels_of found.paragraphs ≡ paragraph_levels source base done
+    pub flags : found.flags ≡ paragraph_flags source done
+    pub start : reading.start ≡ text_len len_of (joined done)
+    pub depth : reading.depth ≡ length (open_initiators (classes_of current))
+    pub undecided : reading.undecided.items ≡ undecided_from (units_after done) 0 (stored_classes (classes_of current)) (open_initiators (classes_of current))
+    pub deciding : reading.deciding ≡ deciding_class (classes_of current)
+    pub turns : reading.flags ≡ flags_of (classes_of current)
+
+  -- and once all of them have ended
+  pub record IsTextDone (base : Option ℕ) (n : ℕ) (done : List (List ℕ)) (found : Seen) : Type 0 where
+    pub whole : joined done ≡ take n chars
+    pub sized : length found.units ≡ text_len len_of chars
+    pub classes : take (place len_of chars n) found.units ≡ per_unit len_of (take n chars) (text_classes source done)
+    pub ranges : ranges_of found.paragraphs ≡ ranges_from len_of 0 done
+    pub levels : levels_of found.paragraphs ≡ paragraph_levels source base done
+    pub flags : found.flags ≡ paragraph_flags source done
+
+  -- ---- the end of a paragraph
+
+  module _ (base : Option ℕ) (n : ℕ) (done : List (List ℕ)) (current : List ℕ) (found : Seen) (reading : Reading) (h : IsTextRead base n done current found reading) where
+    -- where it is read to
+    read_to : place len_of chars n ≡ text_len len_of (joined done) + text_len len_of current
+    read_to = ap (text_len len_of) (sym h.whole) ∙ sum_by-append len_of (joined done) current
+
+    -- it is not empty exactly if it begins before the end
+    pub current-some : HasUnits len_of → reading.start < place len_of chars n → 0 < length current
+    current-some units order = grind (arith, common_steps)
+
+    pub current-none : HasUnits len_of → place len_of chars n ≤ reading.start → current ≡ []
+    current-none units order = nil_from_length current (omega (arith, length-le-text_len len_of units current, h.start, read_to))
+
+    pub IsTextDone-close : (closed : Seen) (end : ℕ) → end ≡ place len_of chars n → closed.units ≡ found.units
+        → IsClosed base reading end found.paragraphs found.flags closed.paragraphs closed.flags → IsTextDone base n (done ++ current ∷ []) closed
+    unfolding text_classes paragraph_levels paragraph_level paragraph_flags
+    IsTextDone-close closed end here same ended =
+        grind (arith, flat_map-append, map-append, append-nil, read_to, ranges_from-push)
+
+  pub IsTextDone-none : (base : Option ℕ) (n : ℕ) (done : List (List ℕ)) (current : List ℕ) (found : Seen) (reading : Reading) → current ≡ [] → IsTextRead base n done current found reading → IsTextDone base n done found
+  IsTextDone-none base n done current found reading none h = grind (arith, append-nil, stored_classes-nil)
+
+  -- ---- one more character
+
+  module _ (units : HasUnits len_of) (base : Option ℕ) (n : ℕ) (done : List (List ℕ)) (current : List ℕ) (found : Seen) (reading : Reading) (within : n < length chars) (h : IsTextRead base n done current found reading) where
+    long : length (joined done) + length current ≡ n
+    long = omega (arith, length-append (joined done) current, ap length h.whole, length-take n chars)
+
+    -- the open initiators stand among the units read
+    units_within : (q : ℕ) → q < length (classes_of current) → ((units_after done q).start < (units_after done q).end) × ((units_after done q).end ≤ place len_of chars n)
+    units_within q below = grind (arith, long, length-map, place-lt)
+
+    pub open_within : All (λ (u : Undecided). (u.units.start ≤ u.units.end) × (u.units.end ≤ length found.units)) reading.undecided.items
+    open_within =
+        rw h.undecided (All-undecided (λ u. (u.units.start ≤ u.units.end) × (u.units.end ≤ length found.units)) (units_after done) 0 (stored_classes (classes_of current)) (open_initiators (classes_of current))
+        (λ k d inside depth. grind (arith, units_within (get_or (open_initiators (classes_of current)) k d), open_initiators-below (classes_of current) k d inside, h.sized, place-le len_of chars n)))
+
+    -- where none is open, none is undecided
+    pub undecided-none : reading.depth ≡ 0 → reading.undecided.items ≡ []
+    undecided-none none = grind (arith, common_steps)
+
+    -- and there are no more of them than units
+    pub depth-le : reading.depth ≤ place len_of chars n
+    depth-le = grind (arith, open_initiators-few, length-map, long, length-take, length-le-text_len)
+
+    module _ (c : ℕ) (is_char : get_or chars n 0 ≡ c) (class : BidiClass) (is_class : class ≡ source.class_of c) where
+      abbrev so_far : List BidiClass
+      so_far = classes_of current
+
+      abbrev values : List BidiClass
+      values = text_classes source done ++ stored_classes so_far
+
+      -- the units before it, which are read
+      abbrev read_units : List BidiClass
+      read_units = take (place len_of chars n) found.units
+
+      index-below : (q : ℕ) → innermost (open_initiators so_far) ≡ Some q → q < length so_far
+      index-below q e = innermost-All (λ (q : ℕ). q < length so_far) (open_initiators so_far) q (open_initiators-below so_far) e
+
+      units_taken : (q : ℕ) → q < length so_far → char_units len_of (take n chars) (length (text_classes source done) + q) ≡ units_after done q
+      units_taken q below = grind (arith, long, length-map, length-text_classes, char_units-take)
+
+      whole_long : length (text_classes source done) + length (stored_classes so_far) ≡ length (take n chars)
+      whole_long = omega (arith, length-text_classes source done, length-stored_classes so_far, length-map current source.class_of, long, length-take n chars)
+
+      -- the class at an initiator
+      class-at : (q : ℕ) → q < length so_far → class_at read_units (units_after done q).start ≡ class_at (stored_classes so_far) q
+      class-at q below =
+          grind (
+            arith,
+            h.classes,
+            units_taken q below,
+            length-append,
+            whole_long,
+            length-stored_classes,
+            get_or-per_unit-place len_of units (take n chars) values (length (text_classes source done) + q) L,
+            get_or-append-add,
+          )
+
+      -- what the innermost open isolate makes of them
+      met : (o : Option ℕ) → innermost (open_initiators so_far) ≡ o
+          → met_units class (option_map (units_after done) o) read_units ≡ per_unit len_of (take n chars) (text_classes source done ++ met_by class o (stored_classes so_far))
+      met None e = h.classes
+      met (Some q) e = grind (
+        arith,
+        h.classes,
+        index-below q e,
+        units_taken q,
+        length-stored_classes,
+        met_units-char len_of units (take n chars) (text_classes source done) (stored_classes so_far) class q whole_long,
+      )
+
+      -- its units, as they are written
+      pub drawn-is : (drawn : List BidiClass) (from : ℕ) → from ≡ place len_of chars n → take (from + len_of c) drawn ≡ take from found.units ++ replicate (len_of c) class
+          → take (place len_of chars (n + 1)) drawn ≡ read_units ++ replicate (len_of c) class
+      drawn-is drawn from from_is written = grind (arith, place-more)
+
+      -- once the units of the character are written
+      module _ (drawn : List BidiClass) (drawn_is : take (place len_of chars (n + 1)) drawn ≡ read_units ++ replicate (len_of c) class) (drawn_long : length drawn ≡ length found.units) where
+        abbrev row : List BidiClass
+        row = replicate (len_of c) class
+
+        -- what the one that waits takes stays before them
+        take-after : (u : Undecided) → u.units.start < u.units.end → u.units.end ≤ place len_of chars n
+            → take (place len_of chars (n + 1)) (classes_after class (Some u) drawn) ≡ classes_after class (Some u) read_units ++ row
+        take-after u some fits = grind (arith, take-filled, place-mono, place-le, filled-append, length-take-le)
+
+        after : (o : Option ℕ) → innermost (open_initiators so_far) ≡ o
+            → take (place len_of chars (n + 1)) (classes_after class (waits_of (units_after done) so_far class o) drawn) ≡ per_unit len_of (take n chars) (text_classes source done ++ met_by class o (stored_classes so_far)) ++ row
+        after None e = grind (arith, drawn_is, met None e)
+        after (Some q) e = grind (arith, index-below q e, units_within q, class-at q, take-after (fsi_at (units_after done) so_far class q), drawn_is, met (Some q) e)
+
+        pub IsTextRead-more : (range : Range ℕ) (longer : Seen) (after : Reading) → range ≡ char_units len_of chars n → longer.units ≡ classes_after class (waiting reading.depth reading.undecided.items) drawn
+            → length longer.units ≡ length found.units → longer.paragraphs ≡ found.paragraphs → longer.flags ≡ found.flags → IsReadBy class range reading after → IsTextRead base (n + 1) done (current ++ c ∷ []) longer after
+        IsTextRead-more range longer new is_range is_longer same_length same_paragraphs same_flags read =
+            grind (arith, append_assoc, take_more chars n 0, waiting-is (units_after done) so_far class (innermost (open_initiators so_far)) refl, after, per_unit-push, stored_classes-push, map-append, length-opened_by, open_initiators-push, undecided-more, deciding-more, deciding_class-push, with_classes-push, length-append, length-met_by, whole_long, long, length-map)
+
+  -- ---- the whole walk
+
+  pub record IsRead (split : Option SplitRule) (base : Option ℕ) (n : ℕ) (found : Seen) (reading : Reading) : Type 0 where
+    pub done : List (List ℕ)
+    pub current : List ℕ
+    pub cut : IsCut (ends_after split source) chars done current (drop n chars)
+    pub one : split ≡ None → done ≡ []
+    pub read : IsTextRead base n done current found reading
+
+  pub IsRead-start : (split : Option SplitRule) (base : Option ℕ) (found : Seen) (reading : Reading) → length found.units ≡ text_len len_of chars → found.paragraphs ≡ [] → found.flags ≡ [] → IsFresh reading 0 → IsRead split base 0 found reading
+  unfolding text_classes paragraph_levels paragraph_flags
+  IsRead-start split base found reading sized no_paragraphs no_flags fresh =
+      let read : IsTextRead base 0 [] [] found reading = grind (arith, deciding_class-nil) in
+      record { done = []; current = []; cut = IsCut-start (ends_after split source) chars; one = λ e. refl; read = read }
+
+  -- the paragraph goes on
+  pub IsRead-on : (split : Option SplitRule) (base : Option ℕ) (n c : ℕ) (found : Seen) (reading : Reading) (longer : Seen) (after : Reading) (h : IsRead split base n found reading) → drop n chars ≡ c ∷ drop (n + 1) chars
+      → IsTextRead base (n + 1) h.done (h.current ++ c ∷ []) longer after → ends_after split source c (drop (n + 1) chars) ≡ false → IsRead split base (n + 1) longer after
+  IsRead-on split base n c found reading longer after h next read on =
+      let cut = IsCut-more (ends_after split source) chars h.done h.current c (drop (n + 1) chars) on (rw next at h.cut) in
+      record { done = h.done; current = h.current ++ c ∷ []; cut = cut; one = h.one; read = read }
+
+  -- or it ends, and the next one begins
+  pub IsRead-stop : (split : Option SplitRule) (base : Option ℕ) (n c : ℕ) (found : Seen) (reading : Reading) (closed : Seen) (after : Reading) (h : IsRead split base n found reading) → drop n chars ≡ c ∷ drop (n + 1) chars
+      → IsTextDone base (n + 1) (h.done ++ (h.current ++ c ∷ []) ∷ []) closed → IsFresh after (place len_of chars (n + 1)) → ends_after split source c (drop (n + 1) chars) ≡ true → IsRead split base (n + 1) closed after
+  IsRead-stop split base n c found reading closed after h next ended fresh stop =
+      let done = h.done ++ (h.current ++ c ∷ []) ∷ [] in
+      let cut = IsCut-stop (ends_after split source) chars h.done h.current c (drop (n + 1) chars) stop (rw next at h.cut) in
+      let read : IsTextRead base (n + 1) done [] closed after = grind (arith, append-nil, stored_classes-nil, deciding_class-nil) in
+      record { done = done; current = []; cut = cut; one = λ e. absurd (cc (e, stop)); read = read }
+
+  -- at the end of the text, what is left is the last paragraph
+  module _ (units : HasUnits len_of) (base : Option ℕ) (n : ℕ) (found : Seen) (reading : Reading) (all : n ≡ length chars) where
+    ended : (split : Option SplitRule) (h : IsRead split base n found reading) → IsCut (ends_after split source) chars h.done h.current []
+    ended split h = rw (drop_all n chars (omega arith)) at h.cut
+
+    -- it is not empty, or the only one
+    pub IsRead-last : (split : Option SplitRule) (h : IsRead split base n found reading) → (is_none split ≡ true) ⊎ (reading.start < place len_of chars n) → h.done ++ h.current ∷ [] ≡ pieces_by split source chars
+    IsRead-last None h last = grind (arith, h.one refl, h.read.whole, take_all)
+    IsRead-last (Some rule) h (inl e) = absurd (cc e)
+    IsRead-last (Some rule) h (inr order) =
+        sym (IsCut-last (ends_by rule source) chars h.done h.current (current-some base n h.done h.current found reading h.read units order) (ended (Some rule) h))
+
+    pub IsRead-none : (split : Option SplitRule) (h : IsRead split base n found reading) → is_none split ≡ false → place len_of chars n ≤ reading.start → (h.current ≡ []) × (h.done ≡ pieces_by split source chars)
+    IsRead-none None h some order = absurd (cc some)
+    IsRead-none (Some rule) h some order =
+        let none = current-none base n h.done h.current found reading h.read units order in
+        (none, sym (IsCut-none (ends_by rule source) chars h.done (rw none at (ended (Some rule) h))))
+
+  -- ---- what the walk answers
+
+  pub record IsAnswer (split : Option SplitRule) (base : Option ℕ) (found : Seen) : Type 0 where
+    pub classes : found.units ≡ per_unit len_of chars (text_classes source (pieces_by split source chars))
+    pub ranges : ranges_of found.paragraphs ≡ ranges_from len_of 0 (pieces_by split source chars)
+    pub levels : levels_of found.paragraphs ≡ paragraph_levels source base (pieces_by split source chars)
+    pub flags : found.flags ≡ paragraph_flags source (pieces_by split source chars)
+
+  pub IsTextDone-answer : (split : Option SplitRule) (base : Option ℕ) (n : ℕ) (done : List (List ℕ)) (found : Seen) → n ≡ length chars → done ≡ pieces_by split source chars → IsTextDone base n done found → IsAnswer split base found
+  IsTextDone-answer split base n done found all is h = grind (arith, take_all)
+
+-- what is no separator ends no paragraph
+pub ends_after-other : (split : Option SplitRule) (source : Source) (c : ℕ) (after : List ℕ) → is_paragraph_separator (source.class_of c) ≡ false → ends_after split source c after ≡ false
+ends_after-other split source c after other = grind arith
+
+-- the character that begins at a place is the first of those that follow
+pub next-at : (len_of : ℕ → ℕ) → HasUnits len_of → (chars : List ℕ) (n : ℕ) → char_at len_of chars (place len_of chars n) ≡ char_at len_of (drop n chars) 0
+next-at len_of units chars n = rw take-append-drop at (char_at-append len_of units (take n chars) (drop n chars))
+
+pub same_range : (a b c d : ℕ) → a ≡ b → c ≡ d → ◌≡◌ {A = Range ℕ} (record { start = a; end = c }) (record { start = b; end = d })
+same_range a b c d e f = λ i. record { start = e i; end = f i }

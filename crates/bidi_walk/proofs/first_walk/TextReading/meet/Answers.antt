@@ -1,0 +1,10 @@
+use Rattle.bidi_base.proofs.Common.{both_ways}
+use Rattle.bidi_walk.proofs.first_walk.TextReading.meet.Goals as goal
+use Rattle.bidi_walk.proofs.first_walk.TextReading.meet.Goals.{then-ends+in_ok-close, else-ends}
+
+pub returns-clause-ended : goal.returns-clause-ended
+returns-clause-ended c = λ stop.
+    elim c.if-ends.branch [
+      | then-ends+in_ok-close w ↦ rw w.self-is (w.restart.ensures, (c.read.new.self, c.in_ok-read.ensures.reading, w.in_ok-close.ensures.closed))
+      | else-ends w ↦ absurd (both_ways c.args.ends w.if-ends.false stop)
+    ]

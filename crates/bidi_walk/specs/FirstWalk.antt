@@ -1,0 +1,119 @@
+-- What the walk over a text holds of the isolates that are open, and what one more character does to it.
+use Rattle.std.specs.Prelude.{◌≡◌, ℕ, ◌+◌, ◌-◌, Bool, false, not, ◌&&◌, ◌||◌, ◌==◌, nat_lt, if◌then◌else◌, List, [], ◌∷◌, ◌++◌, take, drop, get_or, map, All, Option, Some, None, unwrap_or}
+use Rattle.std.specs.Option.{is_some, is_none}
+use Rattle.std.specs.declared.ops.Range.{Range}
+use Rattle.bidi_base.specs.declared.char_data.BidiClass.{BidiClass}
+use Rattle.bidi_base.specs.Classes.{is_strong, is_initiator, is_pdi, is_paragraph_separator}
+use Rattle.bidi_base.specs.Isolates.{level_by, resolved_fsi}
+use Rattle.bidi_base.specs.Reading.{innermost, outer, is_fsi, filled}
+use Rattle.bidi_base.specs.Source.{Source}
+use Rattle.bidi_base.specs.Text.{text_len, char_index, per_unit}
+use Rattle.bidi_walk.specs.ClassSet.{has}
+use Rattle.bidi_walk.specs.ParagraphFlags.{is_counted, with_class, flags_of}
+use Rattle.bidi_walk.specs.ParagraphInfo.{ranges_of, levels_of}
+use Rattle.bidi_walk.specs.declared.class_set.ClassSet.{ClassSet}
+use Rattle.bidi_walk.specs.declared.first_walk.Met.{Met}
+use Rattle.bidi_walk.specs.declared.first_walk.Reading.{Reading}
+use Rattle.bidi_walk.specs.declared.first_walk.Undecided.{Undecided}
+use Rattle.bidi_walk.specs.declared.paragraph_flags.ParagraphFlags.{ParagraphFlags}
+use Rattle.bidi_walk.specs.declared.paragraph_info.ParagraphInfo.{ParagraphInfo}
+
+-- the open isolate at this depth, if that is the one
+abbrev pub at_depth : ℕ → Option Undecided → Option Undecided
+at_depth depth None = None
+at_depth depth (Some u) = if u.depth == depth then Some u else None
+
+-- of so many open isolates the innermost one, if it is of an FSI that no character decided yet
+abbrev pub waiting : ℕ → List Undecided → Option Undecided
+waiting depth undecided = at_depth depth (innermost undecided)
+
+-- after one more character: how many isolates are open
+abbrev pub depth_after : BidiClass → ℕ → ℕ
+depth_after class depth = if is_initiator class then depth + 1 else (if is_pdi class then depth - 1 else depth)
+
+-- those of an FSI that no character decided yet
+abbrev pub undecided_after : BidiClass → Range ℕ → ℕ → List Undecided → List Undecided
+undecided_after class range depth undecided =
+    if is_initiator class
+    then (if is_fsi class then undecided ++ record { units = range; depth = depth + 1 } ∷ [] else undecided)
+    else (if (is_strong class || is_pdi class) && is_some (waiting depth undecided) then outer undecided else undecided)
+
+-- the class that decides the paragraph's level
+abbrev pub deciding_after : BidiClass → ℕ → Option BidiClass → Option BidiClass
+deciding_after class depth deciding = if is_strong class && (depth == 0 && is_none deciding) then Some class else deciding
+
+-- and the classes of the units before, of which those of the FSI that waits take its direction
+abbrev pub classes_after : BidiClass → Option Undecided → List BidiClass → List BidiClass
+classes_after class None classes = classes
+classes_after class (Some u) classes = if is_strong class then filled u.units (resolved_fsi (Some class)) classes else classes
+
+-- a strong character, if it came next, would decide something
+abbrev pub wants_strong : Reading → Bool
+wants_strong r = is_some (waiting r.depth r.undecided.items) || (r.depth == 0 && is_none r.deciding)
+
+-- a character of this class, if it came next, would change something
+abbrev pub minds : Reading → BidiClass → Bool
+minds r c =
+    (is_paragraph_separator c || is_initiator c)
+    || ((is_counted c && not (has r.flags.met c)) || ((is_strong c && wants_strong r) || (is_pdi c && nat_lt 0 r.depth)))
+
+-- a paragraph of which nothing is read
+pub record IsFresh (r : Reading) (start : ℕ) : Type 0 where
+  pub here : r.start ≡ start
+  pub depth : r.depth ≡ 0
+  pub undecided : r.undecided.items ≡ []
+  pub deciding : r.deciding ≡ None
+  pub turns : r.flags ≡ flags_of []
+
+-- one more character was read, of this class and with these units
+pub record IsReadBy (class : BidiClass) (range : Range ℕ) (old new : Reading) : Type 0 where
+  pub start : new.start ≡ old.start
+  pub depth : new.depth ≡ depth_after class old.depth
+  pub undecided : new.undecided.items ≡ undecided_after class range old.depth old.undecided.items
+  pub deciding : new.deciding ≡ deciding_after class old.depth old.deciding
+  pub turns : new.flags ≡ with_class old.flags class
+
+-- the paragraph that was read ends at a unit
+pub record IsClosed (base : Option ℕ) (r : Reading) (end : ℕ) (old : List ParagraphInfo)
+    (old_flags : List ParagraphFlags) (new : List ParagraphInfo) (new_flags : List ParagraphFlags) : Type 0 where
+  pub ranges : ranges_of new ≡ ranges_of old ++ (r.start, end) ∷ []
+  pub levels : levels_of new ≡ levels_of old ++ unwrap_or base (level_by r.deciding) ∷ []
+  pub flags : new_flags ≡ old_flags ++ r.flags ∷ []
+
+-- what is known of the classes of the first characters is what the source says
+abbrev pub AreKnown : Source → List (Option BidiClass) → Type 0
+AreKnown source known = (k : ℕ) (c : BidiClass) → get_or known k None ≡ Some c → c ≡ source.class_of k
+
+-- the characters from a boundary on
+abbrev pub ahead : (ℕ → ℕ) → List ℕ → ℕ → List ℕ
+ahead len_of chars u = drop (char_index len_of chars u) chars
+
+-- on the class of none of these characters anything depends
+abbrev pub AreIdle : Source → ClassSet → List ℕ → Type 0
+AreIdle source minded cs = All (λ c. has minded (source.class_of c) ≡ false) cs
+
+-- from one unit up to another these characters were read: their classes were written, and what stands before is
+-- as it was
+pub record AreWritten (source : Source) (len_of : ℕ → ℕ) (read : List ℕ) (from to : ℕ) (old new : List BidiClass) : Type 0 where
+  pub long : to ≡ from + text_len len_of read
+  pub classes : take to new ≡ take from old ++ per_unit len_of read (map source.class_of read)
+
+-- the first of the characters that come were read, and nothing depends on them
+pub record IsSkimmed (source : Source) (len_of : ℕ → ℕ) (minded : ClassSet) (coming : List ℕ) (from to : ℕ)
+    (old new : List BidiClass) : Type 0 where
+  pub read : List ℕ
+  pub rest : List ℕ
+  pub joined : coming ≡ read ++ rest
+  pub idle : AreIdle source minded read
+  pub written : AreWritten source len_of read from to old new
+
+-- they were read up to one on whose class something may depend
+pub record IsMet (source : Source) (len_of : ℕ → ℕ) (minded : ClassSet) (coming : List ℕ) (from : ℕ) (met : Met)
+    (old new : List BidiClass) : Type 0 where
+  pub read : List ℕ
+  pub rest : List ℕ
+  pub joined : coming ≡ read ++ met.c ∷ rest
+  pub idle : AreIdle source minded read
+  pub begins : met.start ≡ from + text_len len_of read
+  pub class : met.class ≡ source.class_of met.c
+  pub written : AreWritten source len_of (read ++ met.c ∷ []) from (met.start + len_of met.c) old new

@@ -1,0 +1,34 @@
+-- What the later steps ask of a paragraph's classes.
+use Rattle.std.specs.Prelude.{ℕ, Bool, true, false, if◌then◌else◌, List, [], ◌∷◌, map}
+use Rattle.bidi_base.specs.declared.char_data.BidiClass.{BidiClass}
+use Rattle.bidi_base.specs.declared.char_data.BidiClass.TheVariants.{ES, ET, CS, NSM, S, WS, ON}
+use Rattle.bidi_base.specs.Source.{Source}
+use Rattle.bidi_walk.specs.ClassSet.{with}
+use Rattle.bidi_walk.specs.declared.paragraph_flags.ParagraphFlags.{ParagraphFlags}
+
+-- the classes that the later steps tell apart in a paragraph
+abbrev pub is_counted : BidiClass → Bool
+is_counted ES = false
+is_counted ET = false
+is_counted CS = false
+is_counted NSM = false
+is_counted S = false
+is_counted WS = false
+is_counted ON = false
+is_counted _ = true
+
+-- the flags with those of one more character
+abbrev pub with_class : ParagraphFlags → BidiClass → ParagraphFlags
+with_class flags c = if is_counted c then record { met = with flags.met c } else flags
+
+abbrev pub with_classes : ParagraphFlags → List BidiClass → ParagraphFlags
+with_classes flags [] = flags
+with_classes flags (c ∷ classes) = with_classes (with_class flags c) classes
+
+-- the flags of a paragraph, by its source classes: those of them that are counted
+abbrev pub flags_of : List BidiClass → ParagraphFlags
+flags_of classes = with_classes (record { met = record { bits = 0 } }) classes
+
+-- those of the paragraphs of a text, given by their characters
+unfoldable pub paragraph_flags : Source → List (List ℕ) → List ParagraphFlags
+paragraph_flags source pieces = map (λ piece. flags_of (map source.class_of piece)) pieces

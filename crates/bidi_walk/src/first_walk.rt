@@ -1,0 +1,537 @@
+//! One walk over a text: the class of each character, with each FSI resolved (X5c), and the
+//! paragraphs (P1) with their levels (P2, P3).
+ghost use Rattle.std.specs.Prelude.{◌≡◌, ℕ, ◌+◌, ◌<◌, ◌≤◌, ◌&&◌, if◌then◌else◌, true, false, ◌++◌, length, take, drop, replicate, OnOk, IfOk, MatchOption, IsTrue, All, Some};
+ghost use Rattle.std.specs.Option.{is_some};
+ghost use Rattle.bidi_base.specs.declared.char_data.BidiClass.{BidiClass};
+ghost use Rattle.bidi_base.specs.Classes.{is_strong as is_strong_class};
+ghost use Rattle.bidi_base.specs.Isolates.{level_by, resolved_fsi};
+ghost use Rattle.bidi_base.specs.Reading.{outer, filled};
+ghost use Rattle.bidi_base.specs.Paragraphs.{begins_with_line_feed, ranges_from};
+ghost use Rattle.bidi_base.specs.Stored.{text_classes, paragraph_levels};
+ghost use Rattle.bidi_base.specs.Text.{place as place_of, text_len, per_unit, is_boundary as is_boundary_of};
+ghost use Rattle.bidi_walk.specs.ClassSet.{has};
+ghost use Rattle.bidi_walk.specs.FirstWalk.{waiting, deciding_after, classes_after, wants_strong, minds, ahead, IsFresh, IsReadBy, IsClosed, IsSkimmed, IsMet, AreKnown};
+ghost use Rattle.bidi_walk.specs.declared.first_walk.Reading.{Reading};
+ghost use Rattle.bidi_walk.specs.ParagraphInfo.{ranges_of, levels_of};
+ghost use Rattle.bidi_walk.specs.ParagraphFlags.{paragraph_flags};
+ghost use Rattle.bidi_walk.specs.SplitRule.{ends_after, pieces_by};
+
+use crate::class_set::ClassSet;
+use crate::paragraph_flags::ParagraphFlags;
+use crate::paragraph_info::ParagraphInfo;
+use crate::split_rule::SplitRule;
+use bidi_base::char_data::BidiClass;
+use bidi_base::classes::{is_initiator, is_paragraph_separator, is_pdi, is_strong};
+use bidi_base::data_source::BidiDataSource;
+use bidi_base::level::{LTR_LEVEL, Level, RTL_LEVEL};
+use bidi_text::text::TextSource;
+use std::alloc::{AllocError, Global};
+use std::ops::Range;
+
+// What an FSI becomes whose isolate has a deciding character of this class.
+fn resolved_by(class: BidiClass) -> BidiClass
+    ensures { result ≡ resolved_fsi (Some class) }
+{
+    match class {
+        BidiClass::R | BidiClass::AL => BidiClass::RLI,
+        BidiClass::L => BidiClass::LRI,
+        _ => BidiClass::FSI,
+    }
+}
+
+// The level of a paragraph whose deciding character has this class (P3).
+fn level_of_class(deciding: Option<BidiClass>) -> Level
+    ensures { result ≡ level_by deciding }
+{
+    match deciding {
+        Some(BidiClass::R | BidiClass::AL) => RTL_LEVEL,
+        _ => LTR_LEVEL,
+    }
+}
+
+// An FSI with these units takes its direction from a strong character.
+fn resolve(classes: &mut [BidiClass], initiator: &Range<usize>, class: BidiClass)
+    requires begins { initiator.now.start ≤ initiator.now.end }
+    requires ends { initiator.now.end ≤ length classes.old }
+    ensures { classes.new ≡ filled initiator.now (resolved_fsi (Some class)) classes.old }
+{
+    let start = initiator.start;
+    let end = initiator.end;
+    classes[start..end].fill(resolved_by(class));
+}
+
+// An open isolate of an FSI that no character decided yet.
+#[derive(Drop)]
+struct Undecided {
+    // The initiator's units.
+    units: Range<usize>,
+    // How many isolates are open up to it, itself among them.
+    depth: usize,
+}
+
+// The paragraph that is being read.
+#[derive(Drop)]
+struct Reading {
+    // The unit at which it begins.
+    start: usize,
+    // How many isolates are open.
+    depth: usize,
+    // Those of an FSI that no character decided yet, outermost first.
+    undecided: Vec<Undecided>,
+    // The class of the character that decides its level, once there is one.
+    deciding: Option<BidiClass>,
+    flags: ParagraphFlags,
+}
+
+impl Reading {
+    // Nothing is read of a text.
+    fn new(alloc: Global) -> Reading
+        ensures { IsFresh result 0 }
+    {
+        Reading {
+            start: 0,
+            depth: 0,
+            undecided: Vec::new(alloc),
+            deciding: None,
+            flags: ParagraphFlags::NONE,
+        }
+    }
+
+    // Begins the next paragraph.
+    fn restart(&mut self, start: usize)
+        ensures { IsFresh self.new start }
+    {
+        self.start = start;
+        self.depth = 0;
+        self.undecided.clear();
+        self.deciding = None;
+        self.flags = ParagraphFlags::NONE;
+    }
+
+    // Whether the innermost open isolate is of an FSI that no character decided yet.
+    fn is_waiting(&self) -> bool
+        ensures { result ≡ is_some (waiting self.now.depth self.now.undecided.items) }
+    {
+        match self.undecided.last() {
+            Some(innermost) => innermost.depth == self.depth,
+            None => false,
+        }
+    }
+
+    // Whether a strong character, if it came next, would decide something.
+    fn wants_strong(&self) -> bool
+        ensures { result ≡ wants_strong self.now }
+    {
+        self.is_waiting() || (self.depth == 0 && self.deciding.is_none())
+    }
+
+    // The classes of those characters that would change something here if they came next.
+    fn minded(&self) -> ClassSet
+        ensures { (c : BidiClass) → has result c ≡ minds self.now c }
+    {
+        ClassSet::BOUNDS
+            .union(ClassSet::COUNTED.without(self.flags.met))
+            .union(ClassSet::STRONG.when(self.wants_strong()))
+            .union(ClassSet::CLOSING.when(self.depth > 0))
+    }
+
+    // Reads the next character, whose units are given. `classes` has those of the units before it.
+    fn read(
+        &mut self,
+        classes: &mut [BidiClass],
+        class: BidiClass,
+        units: Range<usize>,
+    ) -> Result<(), AllocError>
+        requires within { All (λ u. (u.units.start ≤ u.units.end) × (u.units.end ≤ length classes.old)) self.old.undecided.items }
+        requires few { self.old.depth < usize.MAX }
+        ensures classes { OnOk result (classes.new
+            ≡ classes_after class (waiting self.old.depth self.old.undecided.items) classes.old) }
+        ensures reading { OnOk result (IsReadBy class units self.old self.new) }
+    {
+        self.flags = self.flags.with(class);
+        if is_strong(class) {
+            self.decide(classes, class);
+        } else if is_initiator(class) {
+            self.depth += 1;
+            if class == BidiClass::FSI {
+                self.undecided.push(Undecided {
+                    units,
+                    depth: self.depth,
+                })?;
+            }
+        } else if is_pdi(class) {
+            self.take_waiting();
+            self.depth = self.depth.saturating_sub(1);
+        }
+        Ok(())
+    }
+
+    // Takes the innermost open isolate from the undecided ones, if it is one of them.
+    fn take_waiting(&mut self) -> Option<Undecided>
+        ensures taken { result ≡ waiting self.old.depth self.old.undecided.items }
+        ensures rest { self.new.undecided.items
+            ≡ (if is_some (waiting self.old.depth self.old.undecided.items) then outer self.old.undecided.items
+            else self.old.undecided.items) }
+        ensures start { self.new.start ≡ self.old.start }
+        ensures depth { self.new.depth ≡ self.old.depth }
+        ensures deciding { self.new.deciding ≡ self.old.deciding }
+        ensures flags { self.new.flags ≡ self.old.flags }
+    {
+        if self.is_waiting() {
+            self.undecided.pop()
+        } else {
+            None
+        }
+    }
+
+    // A strong character decides the paragraph's level, or what the innermost FSI stands for.
+    fn decide(&mut self, classes: &mut [BidiClass], class: BidiClass)
+        requires within { All (λ u. (u.units.start ≤ u.units.end) × (u.units.end ≤ length classes.old)) self.old.undecided.items }
+        requires strong { is_strong_class class ≡ true }
+        ensures classes { classes.new ≡ classes_after class (waiting self.old.depth self.old.undecided.items) classes.old }
+        ensures rest { self.new.undecided.items
+            ≡ (if is_some (waiting self.old.depth self.old.undecided.items) then outer self.old.undecided.items
+            else self.old.undecided.items) }
+        ensures start { self.new.start ≡ self.old.start }
+        ensures depth { self.new.depth ≡ self.old.depth }
+        ensures deciding { self.new.deciding ≡ deciding_after class self.old.depth self.old.deciding }
+        ensures flags { self.new.flags ≡ self.old.flags }
+    {
+        if let Some(initiator) = self.take_waiting() {
+            resolve(classes, &initiator.units, class);
+        }
+        if self.depth == 0 && self.deciding.is_none() {
+            self.deciding = Some(class);
+        }
+    }
+}
+
+/// What one walk over a text finds out.
+#[derive(Drop)]
+pub struct Found {
+    /// The stored class of each unit.
+    pub original_classes: Vec<BidiClass>,
+    /// The paragraphs, in order.
+    pub paragraphs: Vec<ParagraphInfo>,
+    /// One entry a paragraph.
+    pub flags: Vec<ParagraphFlags>,
+}
+
+// One paragraph after another, as they are read.
+#[derive(Drop)]
+struct TextReading {
+    base: Option<Level>,
+    reading: Reading,
+    paragraphs: Vec<ParagraphInfo>,
+    flags: Vec<ParagraphFlags>,
+}
+
+impl TextReading {
+    // Ends the paragraph that was read at a unit.
+    fn close(&mut self, end: usize) -> Result<(), AllocError>
+        requires { self.old.reading.start ≤ end }
+        ensures closed { OnOk result (IsClosed self.old.base self.old.reading end self.old.paragraphs.items
+            self.old.flags.items self.new.paragraphs.items self.new.flags.items) }
+        ensures reading { self.new.reading ≡ self.old.reading }
+        ensures base { self.new.base ≡ self.old.base }
+    {
+        let level = self.base.unwrap_or(level_of_class(self.reading.deciding));
+        self.paragraphs
+            .push(ParagraphInfo::from_range(self.reading.start..end, level))?;
+        self.flags.push(self.reading.flags)?;
+        Ok(())
+    }
+
+    // Reads a character of whose class something depends; it stands on the character's units. The
+    // paragraph may end with it. Answers on which classes something depends next.
+    #[inline(never)]
+    fn meet(
+        &mut self,
+        classes: &mut [BidiClass],
+        class: BidiClass,
+        units: Range<usize>,
+        ends: bool,
+    ) -> Result<ClassSet, AllocError>
+        requires within { All (λ u. (u.units.start ≤ u.units.end) × (u.units.end ≤ length classes.old))
+            self.old.reading.undecided.items }
+        requires few { self.old.reading.depth < usize.MAX }
+        requires follows { self.old.reading.start ≤ units.end }
+        ensures classes { OnOk result (classes.new
+            ≡ classes_after class (waiting self.old.reading.depth self.old.reading.undecided.items) classes.old) }
+        ensures on { OnOk result (ends ≡ false
+            → IsReadBy class units self.old.reading self.new.reading
+            × (self.new.paragraphs.items ≡ self.old.paragraphs.items)
+            × (self.new.flags.items ≡ self.old.flags.items)) }
+        ensures ended { OnOk result (ends ≡ true
+            → IsFresh self.new.reading units.end
+            × ((r : Reading) × IsReadBy class units self.old.reading r
+            × IsClosed self.old.base r units.end self.old.paragraphs.items self.old.flags.items
+            self.new.paragraphs.items self.new.flags.items)) }
+        ensures minded { IfOk result (λ set. (c : BidiClass) → has set c ≡ minds self.new.reading c) }
+        ensures base { self.new.base ≡ self.old.base }
+    {
+        let end = units.end;
+        self.reading.read(classes, class, units)?;
+        if ends {
+            self.close(end)?;
+            self.reading.restart(end);
+        }
+        Ok(self.reading.minded())
+    }
+}
+
+// Writes a character's class to each of its units, of which the first is given. Up to four are written
+// at once; units behind the character may get the class too, since what comes next writes over them.
+fn write<T: TextSource>(classes: &mut [BidiClass], start: usize, c: char, class: BidiClass)
+    requires { start + T.units c ≤ length classes.old }
+    ensures { take (start + T.units c) classes.new ≡ take start classes.old ++ replicate (T.units c) class }
+{
+    if T::char_len(c) <= 4 && classes.len() - start >= 4 {
+        classes[start] = class;
+        classes[start + 1] = class;
+        classes[start + 2] = class;
+        classes[start + 3] = class;
+    } else {
+        classes[start..start + T::char_len(c)].fill(class);
+    }
+}
+
+// A character that was read, on whose class something depends.
+#[derive(Clone, Copy)]
+struct Met {
+    start: usize,
+    c: char,
+    class: BidiClass,
+}
+
+// The classes of the characters below 0x100 that the data source was asked for.
+type KnownClasses = [Option<BidiClass>; 256];
+
+// The class of a character below 0x100. The data source is asked for it once.
+fn class_of_byte<D: BidiDataSource>(
+    data_source: &D,
+    known: &mut KnownClasses,
+    byte: u8,
+) -> BidiClass
+    requires { AreKnown (D.source data_source.now) known.old }
+    ensures class { result ≡ (D.source data_source.now).class_of byte }
+    ensures known { AreKnown (D.source data_source.now) known.new }
+{
+    let at = usize::from(byte);
+    if let Some(class) = known[at] {
+        return class;
+    }
+    let class = data_source.bidi_class(char::from(byte));
+    known[at] = Some(class);
+    class
+}
+
+// Writes the classes of ASCII characters, each one unit long, that come one after another from a place
+// on, up to one on which something depends, and answers it. Where none comes, the place goes on to the
+// first other character, or to the end.
+#[inline(never)]
+fn skim<D: BidiDataSource, T: TextSource>(
+    data_source: &D,
+    known: &mut KnownClasses,
+    text: T,
+    classes: &mut [BidiClass],
+    at: &mut usize,
+    minded: ClassSet,
+) -> Option<Met>
+    requires known { AreKnown (D.source data_source.now) known.old }
+    requires sized { length classes.old ≡ text_len T.units (T.characters text) }
+    requires begins { IsTrue (is_boundary_of T.units (T.characters text) at.old) }
+    ensures met { MatchOption result
+        (IsSkimmed (D.source data_source.now) T.units minded (ahead T.units (T.characters text) at.old) at.old at.new
+        classes.old classes.new)
+        (λ met. IsMet (D.source data_source.now) T.units minded (ahead T.units (T.characters text) at.old) at.old met
+        classes.old classes.new) }
+    ensures known { AreKnown (D.source data_source.now) known.new }
+{
+    let mut start = *at;
+    while start < classes.len() {
+        let Some(byte) = text.ascii_at(start) else {
+            break;
+        };
+        let class = class_of_byte(data_source, known, byte);
+        classes[start] = class;
+        if minded.has(class) {
+            let c = char::from(byte);
+            return Some(Met { start, c, class });
+        }
+        start += 1;
+    }
+    *at = start;
+    None
+}
+
+// How many units are read without another look at what is ASCII.
+const BLOCK: usize = 256;
+
+// The end of the block of characters that begins at a place.
+fn block_end<T: TextSource>(text: T, from: usize) -> usize
+    requires { from ≤ text_len T.units (T.characters text) }
+    ensures order { from ≤ result }
+    ensures goes_on { from < text_len T.units (T.characters text) → from < result }
+    ensures boundary { IsTrue (is_boundary_of T.units (T.characters text) result) }
+{
+    let len = text.len();
+    if len - from <= BLOCK {
+        return len;
+    }
+    let mut end = from + BLOCK;
+    while !text.is_boundary(end) {
+        end += 1;
+    }
+    end
+}
+
+// Writes the classes of a text's characters, up to one on which something depends, and answers it.
+#[inline(never)]
+fn read_to_minded<D: BidiDataSource, T: TextSource>(
+    data_source: &D,
+    block: T,
+    classes: &mut [BidiClass],
+    minded: ClassSet,
+) -> Option<Met>
+    requires { text_len T.units (T.characters block) ≤ length classes.old }
+    ensures { MatchOption result
+        (IsSkimmed (D.source data_source.now) T.units minded (T.characters block) 0
+        (text_len T.units (T.characters block)) classes.old classes.new)
+        (λ met. IsMet (D.source data_source.now) T.units minded (T.characters block) 0 met classes.old classes.new) }
+{
+    for (start, c) in block.char_indices() {
+        let class = data_source.bidi_class(c);
+        write::<T>(classes, start, c, class);
+        if minded.has(class) {
+            return Some(Met { start, c, class });
+        }
+    }
+    None
+}
+
+// Writes the classes of the characters from a place on, up to one on which something depends, and
+// answers it.
+fn next_minded<D: BidiDataSource, T: TextSource>(
+    data_source: &D,
+    known: &mut KnownClasses,
+    text: T,
+    classes: &mut [BidiClass],
+    from: usize,
+    minded: ClassSet,
+) -> Option<Met>
+    requires sized { length classes.old ≡ text_len T.units (T.characters text) }
+    requires begins { IsTrue (is_boundary_of T.units (T.characters text) from) }
+    requires known { AreKnown (D.source data_source.now) known.old }
+    ensures met { MatchOption result
+        (IsSkimmed (D.source data_source.now) T.units minded (ahead T.units (T.characters text) from) from
+        (text_len T.units (T.characters text)) classes.old classes.new)
+        (λ met. IsMet (D.source data_source.now) T.units minded (ahead T.units (T.characters text) from) from met
+        classes.old classes.new) }
+    ensures known { AreKnown (D.source data_source.now) known.new }
+{
+    let mut at = from;
+    while at < classes.len() {
+        if let Some(met) = skim(data_source, known, text, classes, &mut at, minded) {
+            return Some(met);
+        }
+        let end = block_end(text, at);
+        let block = text.subrange(at..end);
+        if let Some(met) = read_to_minded(data_source, block, &mut classes[at..], minded) {
+            let place = at + met.start;
+            return Some(Met {
+                start: place,
+                ..met
+            });
+        }
+        at = end;
+    }
+    None
+}
+
+// Whether a text goes on, at a character's place or at its end, with a line feed that separates
+// paragraphs.
+fn goes_on_with_line_feed<D: BidiDataSource, T: TextSource>(
+    data_source: &D,
+    text: T,
+    place: usize,
+) -> bool
+    ensures { (n : ℕ) → place ≡ place_of T.units (T.characters text) n
+        → result ≡ begins_with_line_feed (D.source data_source.now) (drop n (T.characters text)) }
+{
+    match text.char_at(place) {
+        Some((c, _)) => c == '\n' && is_paragraph_separator(data_source.bidi_class(c)),
+        None => false,
+    }
+}
+
+// Whether a paragraph ends after a character, whose class and whose end in the text are given.
+fn ends_paragraph<D: BidiDataSource, T: TextSource>(
+    data_source: &D,
+    text: T,
+    split: Option<SplitRule>,
+    c: char,
+    class: BidiClass,
+    end: usize,
+) -> bool
+    requires { class ≡ (D.source data_source.now).class_of c }
+    ensures { (n : ℕ) → end ≡ place_of T.units (T.characters text) n
+        → result ≡ ends_after split (D.source data_source.now) c (drop n (T.characters text)) }
+{
+    match split {
+        None => false,
+        Some(SplitRule::EachSeparator) => is_paragraph_separator(class),
+        Some(SplitRule::CrLfTogether) => {
+            is_paragraph_separator(class)
+                && !(c == '\r' && goes_on_with_line_feed(data_source, text, end))
+        }
+    }
+}
+
+/// The stored classes (X5c) of a text, one a code unit, and its paragraphs (P1) with the levels that
+/// `base` or their characters (P2, P3) give them. Without a rule the whole text is one paragraph, even
+/// an empty one. Any base level will do. One walk; memory is taken for the answer and for the FSI that
+/// are open at once and that nothing decided.
+pub fn walk<D: BidiDataSource, T: TextSource>(
+    alloc: Global,
+    data_source: &D,
+    text: T,
+    base: Option<Level>,
+    split: Option<SplitRule>,
+) -> Result<Found, AllocError>
+    ensures classes { let pieces = pieces_by split (D.source data_source.now) (T.characters text) in
+        IfOk result (λ i. i.original_classes.items
+        ≡ per_unit T.units (T.characters text) (text_classes (D.source data_source.now) pieces)) }
+    ensures ranges { let pieces = pieces_by split (D.source data_source.now) (T.characters text) in
+        IfOk result (λ i. ranges_of i.paragraphs.items ≡ ranges_from T.units 0 pieces) }
+    ensures levels { let pieces = pieces_by split (D.source data_source.now) (T.characters text) in
+        IfOk result (λ i. levels_of i.paragraphs.items ≡ paragraph_levels (D.source data_source.now) base pieces) }
+    ensures flags { let pieces = pieces_by split (D.source data_source.now) (T.characters text) in
+        IfOk result (λ i. i.flags.items ≡ paragraph_flags (D.source data_source.now) pieces) }
+{
+    let mut original_classes = vec![in alloc; BidiClass::L; text.len()]?;
+    let classes = original_classes.as_mut_slice();
+    let mut walk = TextReading {
+        base,
+        reading: Reading::new(alloc),
+        paragraphs: Vec::new(alloc),
+        flags: Vec::new(alloc),
+    };
+    let mut minded = walk.reading.minded();
+    let mut known = [None; 256];
+    let mut at = 0;
+    while let Some(met) = next_minded(data_source, &mut known, text, classes, at, minded) {
+        at = met.start + T::char_len(met.c);
+        let ends = ends_paragraph(data_source, text, split, met.c, met.class, at);
+        minded = walk.meet(classes, met.class, met.start..at, ends)?;
+    }
+    let end = text.len();
+    if split.is_none() || walk.reading.start < end {
+        walk.close(end)?;
+    }
+    Ok(Found {
+        original_classes,
+        paragraphs: walk.paragraphs,
+        flags: walk.flags,
+    })
+}

@@ -1,0 +1,78 @@
+//! What the later steps ask of a paragraph's classes.
+ghost use Rattle.std.specs.Prelude.{◌≡◌, not};
+ghost use Rattle.bidi_base.specs.Classes.{is_initiator, is_opener, is_removed};
+ghost use Rattle.bidi_base.specs.Direction.{may_turn};
+ghost use Rattle.bidi_base.specs.Flat.{may_leave};
+ghost use Rattle.bidi_walk.specs.ClassSet.{any_of};
+ghost use Rattle.bidi_walk.specs.ParagraphFlags.{with_class};
+
+use crate::class_set::ClassSet;
+use bidi_base::char_data::BidiClass;
+use bidi_base::level::Level;
+
+/// Which classes stand in a paragraph, as the data source gives them, of those that the later steps
+/// tell apart.
+#[derive(Clone, Copy, PartialEq, Debug)]
+pub struct ParagraphFlags {
+    pub(crate) met: ClassSet,
+}
+
+impl ParagraphFlags {
+    /// The flags of no character.
+    pub(crate) const NONE: ParagraphFlags = ParagraphFlags {
+        met: ClassSet::NONE,
+    };
+
+    /// The flags with those of one more character, of this class.
+    pub(crate) fn with(self, class: BidiClass) -> ParagraphFlags
+        ensures { result ≡ with_class self class }
+    {
+        if ClassSet::COUNTED.has(class) {
+            ParagraphFlags {
+                met: self.met.with(class),
+            }
+        } else {
+            self
+        }
+    }
+
+    /// No character can make the paragraph other than left to right throughout, at level 0.
+    pub fn is_pure_ltr(self) -> bool
+        ensures { result ≡ not (any_of self.met may_turn) }
+    {
+        !self.met.meets(ClassSet::TURNING_EVEN)
+    }
+
+    /// Some character is an isolate initiator.
+    pub fn has_isolates(self) -> bool
+        ensures { result ≡ any_of self.met is_initiator }
+    {
+        self.met.meets(ClassSet::INITIATORS)
+    }
+
+    /// No embedding and no isolate begins.
+    pub fn is_flat(self) -> bool
+        ensures { result ≡ not (any_of self.met is_opener) }
+    {
+        !self.met.meets(ClassSet::OPENERS)
+    }
+
+    /// No character can give the paragraph another level than this one, if it is the paragraph's.
+    pub fn keeps_to(self, level: Level) -> bool
+        ensures { result ≡ not (any_of self.met (may_leave level)) }
+    {
+        let turning = if level.is_rtl() {
+            ClassSet::TURNING_ODD
+        } else {
+            ClassSet::TURNING_EVEN
+        };
+        !self.met.meets(turning)
+    }
+
+    /// X9 removes some character.
+    pub fn has_removed(self) -> bool
+        ensures { result ≡ any_of self.met is_removed }
+    {
+        self.met.meets(ClassSet::REMOVED)
+    }
+}

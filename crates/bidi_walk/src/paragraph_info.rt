@@ -1,0 +1,75 @@
+//! A paragraph of a text.
+ghost use Rattle.std.specs.Prelude.{◌≡◌, ◌-◌, ◌≤◌, ◌↔◌, IsSome, IfSome};
+
+use bidi_base::level::Level;
+use std::alloc::AllocError;
+use std::clone::Clone;
+use std::ops::Range;
+
+/// Where a paragraph stands in a text, and its level.
+#[derive(PartialEq, Debug, Drop)]
+pub struct ParagraphInfo {
+    range: Range<usize>,
+    level: Level,
+    ghost ordered: { range.start ≤ range.end },
+}
+
+impl ParagraphInfo {
+    ghost use Rattle.bidi_walk.specs.ParagraphInfo.{range_of, level_of};
+
+    /// A paragraph that takes a range of code units. `None` exactly where the range is reversed.
+    pub fn new(range: Range<usize>, level: Level) -> Option<ParagraphInfo>
+        ensures some { IsSome result ↔ (range.start ≤ range.end) }
+        ensures range { IfSome result (λ p. range_of p ≡ range) }
+        ensures level { IfSome result (λ p. level_of p ≡ level) }
+    {
+        if range.start <= range.end {
+            Some(ParagraphInfo { range, level })
+        } else {
+            None
+        }
+    }
+
+    /// The paragraph of a range that is known to be in order.
+    pub fn from_range(range: Range<usize>, level: Level) -> ParagraphInfo
+        requires { range.start ≤ range.end }
+        ensures range { range_of result ≡ range }
+        ensures level { level_of result ≡ level }
+    {
+        ParagraphInfo { range, level }
+    }
+
+    /// The code units of the text that the paragraph takes, its separator among them.
+    pub fn range(&self) -> Range<usize>
+        ensures { result ≡ range_of self.now }
+    {
+        self.range.start..self.range.end
+    }
+
+    /// The paragraph level (BD4).
+    pub fn level(&self) -> Level
+        ensures { result ≡ level_of self.now }
+    {
+        self.level
+    }
+
+    /// The number of code units.
+    pub fn len(&self) -> usize
+        ensures { result ≡ (range_of self.now).end - (range_of self.now).start }
+    {
+        self.range.end - self.range.start
+    }
+}
+
+impl Clone for ParagraphInfo {
+    ghost is_clone = { λ p q. q ≡ p };
+
+    ghost is_infallible = { λ _. Unit {0} };
+
+    fn clone(&self) -> Result<ParagraphInfo, AllocError> {
+        Ok(ParagraphInfo {
+            range: self.range(),
+            level: self.level,
+        })
+    }
+}

@@ -1,0 +1,2 @@
+pub mod WeakPass
+pub mod WeakWalk

@@ -1,0 +1,145 @@
+-- The weak passes over units in place: what each has done once it read some units of a slice.
+use Rattle.std.specs.Prelude.{◌≡◌, ℕ, ◌+◌, ◌-◌, ◌*◌, ◌/◌, ◌<◌, ◌≤◌, Bool, true, false, ◌||◌, if◌then◌else◌, List, ◌++◌, length, map, get_or, min, slice_range}
+use Rattle.std.specs.List.{fold, list_any}
+use Rattle.std.specs.Option.{option_map_or}
+use Rattle.std.specs.declared.ops.Range.{Range}
+use Rattle.bidi_base.specs.declared.char_data.BidiClass.{BidiClass}
+use Rattle.bidi_base.specs.declared.char_data.BidiClass.TheVariants.{L}
+use Rattle.bidi_base.specs.Classes.{is_kept_in_place}
+use Rattle.bidi_base.specs.Places.{at_places, class_at}
+use Rattle.bidi_base.specs.Text.{char_at}
+use Rattle.bidi_base.specs.Units.{bounds}
+use Rattle.bidi_weak.specs.declared.weak.numbers.Walk.{Walk}
+use Rattle.bidi_weak.specs.declared.weak.steps.Before.TheVariants.{Other}
+use Rattle.bidi_runs.specs.Written.{is_seen, seen_from, seen_units}
+use Rattle.bidi_weak.specs.WeakPass.{after_w1, strengthened, next_before, waits, left_over, still_to_come, walked}
+
+-- the classes of a range of units, as far as there are any
+abbrev pub part_of : List BidiClass → ℕ × ℕ → List BidiClass
+part_of units r = let end = min r.1 (length units) in slice_range units (min r.0 end) end
+
+-- one of some classes passes the test
+abbrev pub is_any_of : (BidiClass → Bool) → List BidiClass → Bool
+is_any_of test classes = fold (λ found class. found || test class) false classes
+
+-- one in some ranges passes the test
+abbrev pub is_any : (BidiClass → Bool) → List (Range ℕ) → List BidiClass → Bool
+is_any test runs units = list_any (λ run. is_any_of test (part_of units (bounds run))) runs
+
+-- the classes of a range, and of the units behind it up to a multiple of 32 in all
+abbrev pub wide_part_of : List BidiClass → ℕ × ℕ → List BidiClass
+wide_part_of units r =
+    let end = min r.1 (length units) in
+    let start = min r.0 end in
+    slice_range units start (min (start + (end - start + 31) / 32 * 32) (length units))
+
+abbrev pub is_any_wide : (BidiClass → Bool) → List (Range ℕ) → List BidiClass → Bool
+is_any_wide test runs units = list_any (λ run. is_any_of test (wide_part_of units (bounds run))) runs
+
+-- W1 is done for the seen units below i, where the next mark takes `mark`
+pub record AreMarked (runs : List (ℕ × ℕ)) (sos : BidiClass) (old now : List BidiClass) (mark : BidiClass) (i : ℕ) : Type 0 where
+  pub answers : at_places L now (seen_from runs old 0 i)
+      ++ after_w1 mark (at_places L old (seen_from runs old i (length old)))
+      ≡ after_w1 sos (at_places L old (seen_units runs old))
+  pub unread : (k : ℕ) → i ≤ k → class_at now k ≡ class_at old k
+  pub unseen : (k : ℕ) → is_seen runs old k ≡ false → class_at now k ≡ class_at old k
+  pub kept : (k : ℕ) → is_kept_in_place (class_at now k) ≡ is_kept_in_place (class_at old k)
+  pub takes : is_kept_in_place mark ≡ true
+  pub inside : i ≤ length old
+  pub long : length now ≡ length old
+
+-- W1 is done
+pub record IsMarked (runs : List (ℕ × ℕ)) (sos : BidiClass) (old new : List BidiClass) : Type 0 where
+  pub answers : at_places L new (seen_units runs old) ≡ after_w1 sos (at_places L old (seen_units runs old))
+  pub unseen : (k : ℕ) → is_seen runs old k ≡ false → class_at new k ≡ class_at old k
+  pub kept : (k : ℕ) → is_kept_in_place (class_at new k) ≡ is_kept_in_place (class_at old k)
+  pub long : length new ≡ length old
+
+-- the length of the character that begins at a unit, or 1 where none begins
+abbrev pub len_at : (ℕ → ℕ) → List ℕ → ℕ → ℕ
+len_at len_of chars u = option_map_or (λ e. e.1) (char_at len_of chars u) 1
+
+-- a walk over the seen units of some ranges, which had these classes at first
+pub record Pass : Type 0 where
+  pub runs : List (ℕ × ℕ)
+  pub sos : BidiClass
+  pub old : List BidiClass
+  pub len : ℕ → ℕ
+
+abbrev pub seen : Pass → ℕ → Bool
+seen p k = is_seen p.runs p.old k
+
+abbrev pub units : Pass → ℕ → ℕ → List ℕ
+units p low high = seen_from p.runs p.old low high
+
+-- what waits begins at `from`, in the run that the walk names
+pub record AreHeld (p : Pass) (w : Walk) (from : ℕ) : Type 0 where
+  pub first : w.first ≡ from
+  pub run_fits : w.first_run < length p.runs
+  pub run : (get_or p.runs w.first_run (0, 0)).0 ≤ from
+
+-- the units below i are read, those from `from` on are not yet written, and the rest of the walk gives what it
+-- is to give
+pub record IsUnderWay (p : Pass) (now : List BidiClass) (w : Walk) (i : ℕ) : Type 0 where
+  pub from : ℕ
+  pub answers : map left_over (at_places L now (units p 0 from))
+      ++ walked (class_at p.old) p.len w.strong w.before 0 (length (units p from i)) (units p i (length p.old))
+      ≡ walked (class_at p.old) p.len p.sos Other 0 0 (units p 0 (length p.old))
+  pub unwritten : (k : ℕ) → from ≤ k → class_at now k ≡ class_at p.old k
+  pub unseen : (k : ℕ) → seen p k ≡ false → class_at now k ≡ class_at p.old k
+  pub waiting : waits w.before ≡ true → AreHeld p w from
+  pub idle : waits w.before ≡ false → from ≡ i
+  pub order : from ≤ i
+  pub inside : i ≤ length p.old
+  pub long : length now ≡ length p.old
+
+-- these units of the run at an index have one class that is read, and where one separator counts they are one character
+pub record IsStretch (p : Pass) (w : Walk) (runs : List (ℕ × ℕ)) (run from to : ℕ) : Type 0 where
+  pub runs_are : p.runs ≡ runs
+  pub some : from < to
+  pub inside : to ≤ length p.old
+  pub kept : is_kept_in_place (class_at p.old from) ≡ true
+  pub alike : (k : ℕ) → from ≤ k → k < to → class_at p.old k ≡ class_at p.old from
+  pub single : let next = next_before (strengthened w.strong (class_at p.old from)) w.before in
+      still_to_come next (p.len from) ≡ still_to_come next (to - from)
+  pub run_fits : run < length runs
+  pub run_starts : (get_or runs run (0, 0)).0 ≤ from
+  pub run_ends : to ≤ (get_or runs run (0, 0)).1
+
+-- the units from `from` up to `to` take each walk on
+abbrev pub Reads : List (ℕ × ℕ) → ℕ → ℕ → ℕ → Walk → Walk → List BidiClass → List BidiClass → Type 0
+Reads runs run from to before after old new =
+    (p : Pass) → IsStretch p before runs run from to → IsUnderWay p old before from → IsUnderWay p new after to
+
+-- the units of a run from `from` up to `to` do, where nothing is written
+abbrev pub Passes : ℕ → ℕ → ℕ → Walk → Walk → List BidiClass → Type 0
+Passes from to end before after now =
+    (p : Pass) (run : ℕ) → run < length p.runs → (get_or p.runs run (0, 0)).0 ≤ from
+    → end ≤ (get_or p.runs run (0, 0)).1 → IsUnderWay p now before from → IsUnderWay p now after to
+
+abbrev pub ReadsTo : (ℕ → ℕ) → List (ℕ × ℕ) → ℕ → ℕ → Walk → Walk → List BidiClass → List BidiClass → Type 0
+ReadsTo len runs from to before after old new =
+    (p : Pass) → p.runs ≡ runs → p.len ≡ len → IsUnderWay p old before from → IsUnderWay p new after to
+
+-- a character that begins at u ends at `end` or before, and its units have one class
+pub record IsWhole (len : ℕ → ℕ) (classes : List BidiClass) (end u : ℕ) : Type 0 where
+  pub some : 1 ≤ len u
+  pub within : u + len u ≤ end
+  pub alike : (k : ℕ) → u ≤ k → k < u + len u → class_at classes k ≡ class_at classes u
+
+-- what waits, if something does, begins below u, in the run that the walk names or before
+pub record WaitsBelow (runs : List (ℕ × ℕ)) (w : Walk) (u : ℕ) : Type 0 where
+  pub first_run : w.first_run ≤ length runs
+  pub first : waits w.before ≡ true → w.first < u
+  pub run : waits w.before ≡ true → w.first < (get_or runs w.first_run (0, 0)).1
+
+-- the units below this one are settled, where those below u are read
+abbrev pub settled_to : Walk → ℕ → ℕ
+settled_to w u = if waits w.before then w.first else u
+
+-- W2, W4, W5 and W7 are done, but for what W3 and W6 make of what is left
+pub record IsWalked (len : ℕ → ℕ) (runs : List (ℕ × ℕ)) (sos : BidiClass) (old new : List BidiClass) : Type 0 where
+  pub answers : map left_over (at_places L new (seen_units runs old))
+      ≡ walked (class_at old) len sos Other 0 0 (seen_units runs old)
+  pub unseen : (k : ℕ) → is_seen runs old k ≡ false → class_at new k ≡ class_at old k
+  pub long : length new ≡ length old

@@ -1,0 +1,226 @@
+//! The weak types in place (W1 to W7).
+
+ghost use Rattle.std.specs.Prelude.{◌≡◌, ℕ, ◌+◌, ◌-◌, ◌*◌, ◌<◌, ◌≤◌, false, List, length, map, IsTrue};
+ghost use Rattle.bidi_base.specs.Classes.{is_l_or_r};
+ghost use Rattle.bidi_base.specs.Places.{at_places, class_at};
+ghost use Rattle.bidi_base.specs.Text.{IsLine, is_per_char, place, text_len, IsPerChar};
+ghost use Rattle.bidi_base.specs.Units.{bounds, are_ordered, chars_in_runs, in_runs, kept_in_place, units_in_runs, AreLines};
+ghost use Rattle.bidi_base.specs.Weak.{carried, weak_classes};
+ghost use Rattle.bidi_base.specs.declared.char_data.BidiClass.{BidiClass};
+ghost use Rattle.bidi_base.specs.declared.char_data.BidiClass.TheVariants.{L, BN};
+ghost use Rattle.bidi_runs.specs.RunSequence.{lent_runs, lent_sos, runs as runs_of, sos as sos_of};
+ghost use Rattle.bidi_weak.specs.WeakPass.{is_mark_or_number};
+ghost use Rattle.bidi_weak.specs.WeakWalk.{is_any_of, is_any_wide, len_at, part_of, wide_part_of, IsMarked, IsWalked};
+
+mod left_over;
+mod marks;
+mod numbers;
+mod steps;
+
+use bidi_base::char_data::BidiClass::{self, NSM};
+use bidi_runs::prepare::{IsolatingRunSequence, LentSequence, LevelRun, Steps};
+use bidi_text::text::TextSource;
+use left_over::change;
+use marks::resolve_marks;
+use numbers::{is_number, resolve_numbers};
+use std::marker::Brand;
+use std::sync::ledger::{Blank, Ledger};
+
+/// The classes of a run's units, as far as there are any.
+fn part_of<'c>(classes: &'c [BidiClass], run: &LevelRun) -> &'c [BidiClass]
+    ensures { result.now ≡ part_of classes.now (bounds run.now) }
+{
+    let end = run.end.min(classes.len());
+    &classes[run.start.min(end)..end]
+}
+
+/// The weak types of a sequence, in place: W1 to W7 over its characters that are not BN.
+///
+/// Each unit of `processing_classes` has the class of its character, and the sequence fits the
+/// text. BN stays, and so do the units outside the sequence. No memory is taken. Beside the looks that find
+/// out whether there are any, it goes over the units at most once for nonspacing marks, once for numbers,
+/// and once for what is left; the units of terminators and separators that wait for the character behind
+/// them are gone over once more.
+pub fn resolve_weak<T: TextSource>(
+    text: T,
+    sequence: &IsolatingRunSequence,
+    processing_classes: &mut [BidiClass],
+)
+    requires per_char { IsTrue (is_per_char ⟦<BidiClass as PartialEq>⟧.eq T.units (T.characters text) processing_classes.old) }
+    requires fits { AreLines T.units (T.characters text) (map bounds (runs_of sequence.now)) }
+    ensures kept { let places = map (place T.units (T.characters text))
+        (kept_in_place T.units (T.characters text) processing_classes.old (map bounds (runs_of sequence.now))) in
+        at_places L processing_classes.new places
+        ≡ weak_classes (sos_of sequence.now) (at_places L processing_classes.old places) }
+    ensures removed { (u : ℕ) → class_at processing_classes.old u ≡ BN → class_at processing_classes.new u ≡ BN }
+    ensures outside { (u : ℕ) → in_runs (map bounds (runs_of sequence.now)) u ≡ false
+        → class_at processing_classes.new u ≡ class_at processing_classes.old u }
+    ensures per_char { IsTrue (is_per_char ⟦<BidiClass as PartialEq>⟧.eq T.units (T.characters text) processing_classes.new) }
+{
+    resolve_weak_lent(text, sequence.lend(), processing_classes)
+}
+
+/// The same as [`resolve_weak`], where each turn of a loop, here and in what is called, counts in
+/// `steps`: at least one for each character in the runs, and at most eight for each unit in them. What
+/// waits for a character behind it waits until that comes: nothing is looked for ahead, so no stretch of
+/// BN is gone over for each unit before it. Calls of the text and of the library have no turns.
+pub fn resolve_weak_counted<T: TextSource, S: Ledger>(
+    text: T,
+    sequence: &IsolatingRunSequence,
+    processing_classes: &mut [BidiClass],
+    steps: &mut Steps<S>,
+)
+    requires per_char { IsTrue (is_per_char ⟦<BidiClass as PartialEq>⟧.eq T.units (T.characters text) processing_classes.old) }
+    requires fits { AreLines T.units (T.characters text) (map bounds (runs_of sequence.now)) }
+    ensures kept { let places = map (place T.units (T.characters text))
+        (kept_in_place T.units (T.characters text) processing_classes.old (map bounds (runs_of sequence.now))) in
+        at_places L processing_classes.new places
+        ≡ weak_classes (sos_of sequence.now) (at_places L processing_classes.old places) }
+    ensures removed { (u : ℕ) → class_at processing_classes.old u ≡ BN → class_at processing_classes.new u ≡ BN }
+    ensures outside { (u : ℕ) → in_runs (map bounds (runs_of sequence.now)) u ≡ false
+        → class_at processing_classes.new u ≡ class_at processing_classes.old u }
+    ensures per_char { IsTrue (is_per_char ⟦<BidiClass as PartialEq>⟧.eq T.units (T.characters text) processing_classes.new) }
+    ensures at_least { steps.old
+        + length (chars_in_runs T.units (T.characters text) (map bounds (runs_of sequence.now)))
+        ≤ steps.new }
+    ensures at_most { steps.new ≤ steps.old + 8 * length (units_in_runs (map bounds (runs_of sequence.now))) }
+{
+    resolve_weak_lent_counted(text, sequence.lend(), processing_classes, steps)
+}
+
+/// As [`resolve_weak`], of a sequence whose runs are lent.
+pub fn resolve_weak_lent<T: TextSource>(
+    text: T,
+    sequence: LentSequence<'_>,
+    processing_classes: &mut [BidiClass],
+)
+    requires per_char { IsTrue (is_per_char ⟦<BidiClass as PartialEq>⟧.eq T.units (T.characters text) processing_classes.old) }
+    requires fits { AreLines T.units (T.characters text) (map bounds (lent_runs sequence)) }
+    ensures kept { let places = map (place T.units (T.characters text)) (kept_in_place T.units (T.characters text)
+        processing_classes.old (map bounds (lent_runs sequence.entry))) in
+        at_places L processing_classes.new places
+        ≡ weak_classes (lent_sos sequence.entry) (at_places L processing_classes.old places) }
+    ensures removed { (u : ℕ) → class_at processing_classes.old u ≡ BN → class_at processing_classes.new u ≡ BN }
+    ensures outside { (u : ℕ) → in_runs (map bounds (lent_runs sequence.entry)) u ≡ false
+        → class_at processing_classes.new u ≡ class_at processing_classes.old u }
+    ensures per_char { IsTrue (is_per_char ⟦<BidiClass as PartialEq>⟧.eq T.units (T.characters text) processing_classes.new) }
+{
+    resolve_weak_fresh::<T, Brand>(text, sequence, processing_classes, Blank::new(1))
+}
+
+// The same by a new count of steps.
+fn resolve_weak_fresh<T: TextSource, S: Ledger>(
+    text: T,
+    sequence: LentSequence<'_>,
+    processing_classes: &mut [BidiClass],
+    blank: Blank,
+)
+    requires per_char { IsTrue (is_per_char ⟦<BidiClass as PartialEq>⟧.eq T.units (T.characters text) processing_classes.old) }
+    requires fits { AreLines T.units (T.characters text) (map bounds (lent_runs sequence)) }
+    requires name { blank.name ≡ S.name }
+    requires parts { blank.parts ≡ S.parts }
+    requires one { blank.parts ≡ 1 }
+    ensures kept { let places = map (place T.units (T.characters text)) (kept_in_place T.units (T.characters text)
+        processing_classes.old (map bounds (lent_runs sequence.entry))) in
+        at_places L processing_classes.new places
+        ≡ weak_classes (lent_sos sequence.entry) (at_places L processing_classes.old places) }
+    ensures removed { (u : ℕ) → class_at processing_classes.old u ≡ BN → class_at processing_classes.new u ≡ BN }
+    ensures outside { (u : ℕ) → in_runs (map bounds (lent_runs sequence.entry)) u ≡ false
+        → class_at processing_classes.new u ≡ class_at processing_classes.old u }
+    ensures per_char { IsTrue (is_per_char ⟦<BidiClass as PartialEq>⟧.eq T.units (T.characters text) processing_classes.new) }
+{
+    let mut steps = Steps::<S>::new(blank);
+    resolve_weak_lent_counted(text, sequence, processing_classes, &mut steps)
+}
+
+// The same with each turn counted.
+fn resolve_weak_lent_counted<T: TextSource, S: Ledger>(
+    text: T,
+    sequence: LentSequence<'_>,
+    processing_classes: &mut [BidiClass],
+    steps: &mut Steps<S>,
+)
+    requires per_char { IsTrue (is_per_char ⟦<BidiClass as PartialEq>⟧.eq T.units (T.characters text) processing_classes.old) }
+    requires fits { AreLines T.units (T.characters text) (map bounds (lent_runs sequence)) }
+    ensures kept { let places = map (place T.units (T.characters text)) (kept_in_place T.units (T.characters text)
+        processing_classes.old (map bounds (lent_runs sequence.entry))) in
+        at_places L processing_classes.new places
+        ≡ weak_classes (lent_sos sequence.entry) (at_places L processing_classes.old places) }
+    ensures removed { (u : ℕ) → class_at processing_classes.old u ≡ BN → class_at processing_classes.new u ≡ BN }
+    ensures outside { (u : ℕ) → in_runs (map bounds (lent_runs sequence.entry)) u ≡ false
+        → class_at processing_classes.new u ≡ class_at processing_classes.old u }
+    ensures per_char { IsTrue (is_per_char ⟦<BidiClass as PartialEq>⟧.eq T.units (T.characters text) processing_classes.new) }
+    ensures at_least { steps.old
+        + length (chars_in_runs T.units (T.characters text) (map bounds (lent_runs sequence.entry)))
+        ≤ steps.new }
+    ensures at_most { steps.new ≤ steps.old + 8 * length (units_in_runs (map bounds (lent_runs sequence.entry))) }
+{
+    let runs = sequence.runs();
+    let sos = sequence.sos();
+    resolve_marks_and_numbers(text, runs, sos, processing_classes, steps);
+    change(runs, processing_classes, steps);
+}
+
+/// W1, and W2, W4, W5 and W7 behind it, which ask for nonspacing marks and numbers alone.
+fn resolve_marks_and_numbers<T: TextSource, S: Ledger>(
+    text: T,
+    runs: &[LevelRun],
+    sos: BidiClass,
+    classes: &mut [BidiClass],
+    steps: &mut Steps<S>,
+)
+    requires ordered { IsTrue (are_ordered (map bounds runs.now)) }
+    requires lines { AreLines T.units (T.characters text) (map bounds runs.now) }
+    requires per_char { IsPerChar T.units (T.characters text) classes.old }
+    requires sos { IsTrue (is_l_or_r sos) }
+    ensures walked { (marked : List BidiClass) × IsMarked (map bounds runs.now) (carried sos) classes.old marked
+        × IsWalked (len_at T.units (T.characters text)) (map bounds runs.now) sos marked classes.new }
+    ensures at_least { steps.old ≤ steps.new }
+    ensures at_most { steps.new ≤ steps.old + 6 * length (units_in_runs (map bounds runs.now)) }
+{
+    if has_marks_or_numbers(runs, classes) {
+        resolve_marks(runs, sos, classes, steps);
+        resolve_numbers(text, runs, sos, classes, steps);
+    }
+}
+
+/// Whether a nonspacing mark or a number stands in the runs, or a little behind one.
+fn has_marks_or_numbers(runs: &[LevelRun], classes: &[BidiClass]) -> bool
+    ensures { result ≡ is_any_wide is_mark_or_number runs.now classes.now }
+{
+    runs.iter()
+        .any(|run| is_mark_or_number_in(wide_part_of(classes, run)))
+}
+
+/// How many units are looked at together.
+const WIDE: usize = 32;
+
+/// The classes of a run's units, as far as there are any, and of those behind it up to the next multiple
+/// of [`WIDE`] in all, so that no unit is looked at by itself.
+fn wide_part_of<'c>(classes: &'c [BidiClass], run: &LevelRun) -> &'c [BidiClass]
+    ensures { result.now ≡ wide_part_of classes.now (bounds run.now) }
+{
+    let end = run.end.min(classes.len());
+    let start = run.start.min(end);
+    let units = (end - start + (WIDE - 1)) / WIDE * WIDE;
+    let wide_end = (start + units).min(classes.len());
+    &classes[start..wide_end]
+}
+
+/// Whether one of the classes is that of a nonspacing mark or a number. All are looked at, many at once,
+/// which the compiler sees only where this stands by itself.
+#[inline(never)]
+fn is_mark_or_number_in(classes: &[BidiClass]) -> bool
+    ensures { result ≡ is_any_of is_mark_or_number classes.now }
+{
+    classes
+        .iter()
+        .fold(false, |found, class| found | is_mark_or_number(*class))
+}
+
+/// Whether a class is that of a nonspacing mark or a number.
+fn is_mark_or_number(class: BidiClass) -> bool
+    ensures { result ≡ is_mark_or_number class }
+{
+    (class == NSM) | is_number(class)
+}

@@ -1,0 +1,106 @@
+//! W1: a nonspacing mark takes the class of the character before it.
+
+ghost use Rattle.std.specs.Prelude.{◌≡◌, ℕ, ◌+◌, ◌-◌, ◌*◌, ◌<◌, ◌≤◌, true, List, length, map, All, IsTrue};
+ghost use Rattle.bidi_base.specs.declared.char_data.BidiClass.{BidiClass};
+ghost use Rattle.bidi_base.specs.Classes.{is_kept_in_place, is_l_or_r, is_nsm};
+ghost use Rattle.bidi_base.specs.Places.{class_at};
+ghost use Rattle.bidi_base.specs.Units.{bounds, are_ordered, in_runs, units_in_runs};
+ghost use Rattle.bidi_base.specs.Weak.{carried};
+ghost use Rattle.bidi_weak.specs.WeakPass.{marked};
+ghost use Rattle.bidi_weak.specs.WeakWalk.{is_any, is_any_of, AreMarked, IsMarked};
+ghost use Rattle.bidi_runs.specs.Written.{is_seen};
+
+use super::part_of;
+use bidi_base::char_data::BidiClass::{self, FSI, LRI, NSM, ON, PDI, RLI};
+use bidi_base::classes::is_nsm;
+use bidi_runs::prepare::{LevelRun, Steps};
+use bidi_runs::written::is_kept_in_place;
+use std::sync::ledger::Ledger;
+
+/// W1 over the units of some runs that are not BN.
+pub fn resolve_marks<S: Ledger>(
+    runs: &[LevelRun],
+    sos: BidiClass,
+    classes: &mut [BidiClass],
+    steps: &mut Steps<S>,
+)
+    requires ordered { IsTrue (are_ordered (map bounds runs.now)) }
+    requires within { All (λ r. r.1 ≤ length classes.old) (map bounds runs.now) }
+    requires sos { IsTrue (is_l_or_r sos) }
+    ensures marked { IsMarked (map bounds runs.now) (carried sos) classes.old classes.new }
+    ensures at_least { steps.old ≤ steps.new }
+    ensures at_most { steps.new ≤ steps.old + 2 * length (units_in_runs (map bounds runs.now)) }
+{
+    if !has_marks(runs, classes) {
+        return;
+    }
+    let mut mark = carried(sos);
+    for run in runs {
+        steps.tick();
+        mark = resolve_marks_in(run, mark, classes, steps);
+    }
+}
+
+/// Whether a nonspacing mark stands in the runs.
+fn has_marks(runs: &[LevelRun], classes: &[BidiClass]) -> bool
+    ensures { result ≡ is_any is_nsm runs.now classes.now }
+{
+    runs.iter().any(|run| is_mark_in(part_of(classes, run)))
+}
+
+/// Whether one of the classes is NSM. All are looked at, many at once.
+fn is_mark_in(classes: &[BidiClass]) -> bool
+    ensures { result ≡ is_any_of is_nsm classes.now }
+{
+    classes
+        .iter()
+        .fold(false, |found, class| found | is_nsm(*class))
+}
+
+/// The same over one run, where a mark at its front takes `mark`. Answers what a mark behind it takes.
+fn resolve_marks_in<S: Ledger>(
+    run: &LevelRun,
+    mark: BidiClass,
+    classes: &mut [BidiClass],
+    steps: &mut Steps<S>,
+) -> BidiClass
+    requires ordered { run.now.start ≤ run.now.end }
+    requires within { run.now.end ≤ length classes.old }
+    ensures marked { (runs : List (ℕ × ℕ)) (sos : BidiClass) (old : List BidiClass)
+        → ((k : ℕ) → run.now.start ≤ k → k < run.now.end → in_runs runs k ≡ true)
+        → AreMarked runs sos old classes.old mark run.now.start
+        → AreMarked runs sos old classes.new result run.now.end }
+    ensures steps { steps.new ≡ steps.old + (run.now.end - run.now.start) }
+{
+    let mut next = mark;
+    for unit in run.start..run.end {
+        steps.tick();
+        let class = classes[unit];
+        if is_kept_in_place(class) {
+            let own = marked(next, class);
+            classes[unit] = own;
+            next = carried(own);
+        }
+    }
+    next
+}
+
+/// What a nonspacing mark takes from the character before it.
+fn carried(class: BidiClass) -> BidiClass
+    ensures { result ≡ carried class }
+{
+    match class {
+        LRI | RLI | FSI | PDI => ON,
+        other => other,
+    }
+}
+
+/// A class after W1, where a nonspacing mark takes `mark`.
+fn marked(mark: BidiClass, class: BidiClass) -> BidiClass
+    ensures { result ≡ marked mark class }
+{
+    match class {
+        NSM => mark,
+        other => other,
+    }
+}

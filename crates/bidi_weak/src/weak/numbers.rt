@@ -1,0 +1,366 @@
+//! W2, W4, W5 and W7 as one walk over the units of a sequence, by stretches of one class. Most of these
+//! rules give a class that stands on several units what they give it where it stands on one; only a
+//! separator between numbers has to be one character.
+
+ghost use Rattle.std.specs.Prelude.{◌≡◌, ℕ, ◌+◌, ◌-◌, ◌*◌, ◌<◌, ◌≤◌, true, false, not, ◌&&◌, length, map, min, drop, take, find, get_or, reverse, IsTrue};
+ghost use Rattle.std.specs.List.{position_or_len};
+ghost use Rattle.bidi_base.specs.Classes.{is_strong};
+ghost use Rattle.bidi_base.specs.Places.{class_at};
+ghost use Rattle.bidi_base.specs.Text.{text_len, IsPerChar};
+ghost use Rattle.bidi_base.specs.Units.{bounds, are_ordered, units_in_runs, AreLines};
+ghost use Rattle.bidi_runs.specs.ExplicitPass.{filled};
+ghost use Rattle.bidi_weak.specs.WeakPass.{is_asked, is_number, is_other, next_before, still_to_come, strengthened, waits};
+ghost use Rattle.bidi_weak.specs.WeakWalk.{is_any, is_any_of, len_at, settled_to, IsWalked, IsWhole, Passes, Reads, ReadsTo, WaitsBelow};
+ghost use Rattle.bidi_runs.specs.Written.{count_below, is_seen, IsWrittenOver};
+
+use super::left_over::left_over;
+use super::steps::{Before, numbered, strengthened, strong_up_to};
+use super::{WIDE, part_of};
+use bidi_base::char_data::BidiClass::{self, AN, EN, ET, ON};
+use bidi_base::classes::is_strong;
+use bidi_runs::prepare::{LevelRun, Steps};
+use bidi_runs::written::{is_kept_in_place, write_over_runs_counted};
+use bidi_text::text::TextSource;
+use std::sync::ledger::Ledger;
+
+/// What a walk over a sequence knows of the units that it has read.
+#[derive(Clone, Copy, Debug)]
+struct Walk {
+    /// The nearest L, R or AL before, or else sos.
+    strong: BidiClass,
+    /// What stands directly before.
+    before: Before,
+    /// The unit where those begin that wait, if some do.
+    first: usize,
+    /// The index of the run of that unit.
+    first_run: usize,
+}
+
+/// W2, W4, W5 and W7 over the units of some runs that are not BN, none of which has NSM. Separators and
+/// terminators that do not become numbers may stay or have ON, and AL stays.
+pub fn resolve_numbers<T: TextSource, S: Ledger>(
+    text: T,
+    runs: &[LevelRun],
+    sos: BidiClass,
+    classes: &mut [BidiClass],
+    steps: &mut Steps<S>,
+)
+    requires ordered { IsTrue (are_ordered (map bounds runs.now)) }
+    requires lines { AreLines T.units (T.characters text) (map bounds runs.now) }
+    requires per_char { IsPerChar T.units (T.characters text) classes.old }
+    ensures walked { IsWalked (len_at T.units (T.characters text)) (map bounds runs.now) sos classes.old classes.new }
+    ensures at_least { steps.old ≤ steps.new }
+    ensures at_most { steps.new ≤ steps.old + 4 * length (units_in_runs (map bounds runs.now)) }
+{
+    if !has_numbers(runs, classes) {
+        return;
+    }
+    let mut walk = Walk {
+        strong: sos,
+        before: Before::Other,
+        first: 0,
+        first_run: 0,
+    };
+    for run in 0..runs.len() {
+        steps.tick();
+        walk.read_run(text, runs, run, classes, steps);
+    }
+    let end = classes.len();
+    walk.settle(runs, classes, end, ON, steps);
+}
+
+/// Whether a number stands in the runs.
+fn has_numbers(runs: &[LevelRun], classes: &[BidiClass]) -> bool
+    ensures { result ≡ is_any is_number runs.now classes.now }
+{
+    runs.iter().any(|run| is_number_in(part_of(classes, run)))
+}
+
+/// Whether one of the classes is a number. All are looked at, many at once, which the compiler sees
+/// only where this stands by itself.
+#[inline(never)]
+fn is_number_in(classes: &[BidiClass]) -> bool
+    ensures { result ≡ is_any_of is_number classes.now }
+{
+    classes
+        .iter()
+        .fold(false, |found, class| found | is_number(*class))
+}
+
+/// Whether a class is a European or Arabic number.
+pub fn is_number(class: BidiClass) -> bool
+    ensures { result ≡ is_number class }
+{
+    (class == EN) | (class == AN)
+}
+
+impl Walk {
+    /// Reads the units of the run at the index `run`.
+    fn read_run<T: TextSource, S: Ledger>(
+        &mut self,
+        text: T,
+        runs: &[LevelRun],
+        run: usize,
+        classes: &mut [BidiClass],
+        steps: &mut Steps<S>,
+    )
+        requires ordered { IsTrue (are_ordered (map bounds runs.now)) }
+        requires waiting { WaitsBelow (map bounds runs.now) self.old (get_or (map bounds runs.now) run (0, 0)).0 }
+        requires run { run < length runs.now }
+        requires inside { (get_or (map bounds runs.now) run (0, 0)).1 ≤ length classes.old }
+        requires whole { let r = get_or (map bounds runs.now) run (0, 0) in
+            (u : ℕ) → r.0 ≤ u → u < r.1 → IsWhole (len_at T.units (T.characters text)) classes.old r.1 u }
+        ensures waiting { WaitsBelow (map bounds runs.now) self.new (get_or (map bounds runs.now) run (0, 0)).1 }
+        ensures reads { let r = get_or (map bounds runs.now) run (0, 0) in
+            ReadsTo (len_at T.units (T.characters text)) (map bounds runs.now) r.0 r.1 self.old self.new classes.old
+            classes.new }
+        ensures at_least { steps.old ≤ steps.new }
+        ensures at_most { let r = get_or (map bounds runs.now) run (0, 0) in
+            steps.new + 1 + 2 * count_below (map bounds runs.now) (settled_to self.old r.0)
+            ≤ steps.old + 2 * (r.1 - r.0) + 2 * count_below (map bounds runs.now) (settled_to self.new r.1) }
+    {
+        let end = runs[run].end;
+        let mut at = runs[run].start;
+        while at < end {
+            steps.tick();
+            if self.passes_over(classes[at]) {
+                at = self.pass_over(classes, at, end);
+                continue;
+            }
+            let next = self.stretch_end(text, classes, at, end, steps);
+            if is_kept_in_place(classes[at]) {
+                self.read(runs, run, classes, at, next, steps);
+            }
+            at = next;
+        }
+    }
+
+    /// Whether a unit of this class is passed over: nothing that is asked for stands before it, and it
+    /// asks for nothing.
+    fn passes_over(&self, class: BidiClass) -> bool
+        ensures { result ≡ (is_other self.now.before && not (is_asked class)) }
+    {
+        matches!(self.before, Before::Other) && !is_asked(class)
+    }
+
+    /// Passes over the units from `at` on, the first one and those behind it that ask for nothing, below
+    /// `end`. Answers where they end.
+    fn pass_over(&mut self, classes: &[BidiClass], at: usize, end: usize) -> usize
+        requires other { is_other self.old.before ≡ true }
+        requires first { is_asked (class_at classes.now at) ≡ false }
+        requires some { at < end }
+        requires inside { end ≤ length classes.now }
+        ensures some { at < result }
+        ensures within { result ≤ end }
+        ensures other { is_other self.new.before ≡ true }
+        ensures first_run { self.new.first_run ≡ self.old.first_run }
+        ensures passes { Passes at result end self.old self.new classes.now }
+    {
+        let next = at + 1 + before_asked(&classes[at + 1..end]);
+        self.strong = last_strong(&classes[at..next]).unwrap_or(self.strong);
+        next
+    }
+
+    /// The end of the stretch that begins at the unit `at`: units of one class, below `end`. Where one
+    /// separator may stand between numbers it is one character.
+    fn stretch_end<T: TextSource, S: Ledger>(
+        &self,
+        text: T,
+        classes: &[BidiClass],
+        at: usize,
+        end: usize,
+        steps: &mut Steps<S>,
+    ) -> usize
+        requires some { at < end }
+        requires inside { end ≤ length classes.now }
+        requires whole { IsWhole (len_at T.units (T.characters text)) classes.now end at }
+        ensures some { at < result }
+        ensures within { result ≤ end }
+        ensures alike { (k : ℕ) → at ≤ k → k < result → class_at classes.now k ≡ class_at classes.now at }
+        ensures single { let next = next_before (strengthened self.now.strong (class_at classes.now at))
+            self.now.before in
+            still_to_come next (len_at T.units (T.characters text) at) ≡ still_to_come next (result - at) }
+        ensures at_least { steps.old ≤ steps.new }
+        ensures at_most { steps.new ≤ steps.old + min (result - at) (end - (at + 1)) }
+    {
+        let next = self.before.after(strengthened(self.strong, classes[at]));
+        if next.is_separator() {
+            at + len_at(text, at)
+        } else {
+            alike_end(classes, at, end, steps)
+        }
+    }
+
+    /// Reads the units from `start` up to `end` in the run at the index `run`, a stretch that is not BN.
+    fn read<S: Ledger>(
+        &mut self,
+        runs: &[LevelRun],
+        run: usize,
+        classes: &mut [BidiClass],
+        start: usize,
+        end: usize,
+        steps: &mut Steps<S>,
+    )
+        requires ordered { IsTrue (are_ordered (map bounds runs.now)) }
+        requires waiting { WaitsBelow (map bounds runs.now) self.old start }
+        requires run { start < (get_or (map bounds runs.now) run (0, 0)).1 }
+        requires some { start < end }
+        requires inside { end ≤ length classes.old }
+        ensures waiting { WaitsBelow (map bounds runs.now) self.new end }
+        ensures rest { (k : ℕ) → end ≤ k → class_at classes.new k ≡ class_at classes.old k }
+        ensures long { length classes.new ≡ length classes.old }
+        ensures reads { Reads (map bounds runs.now) run start end self.old self.new classes.old classes.new }
+        ensures at_least { steps.old ≤ steps.new }
+        ensures at_most { steps.new + 2 * count_below (map bounds runs.now) (settled_to self.old start)
+            ≤ steps.old + 2 * count_below (map bounds runs.now) (settled_to self.new end) }
+    {
+        let class = classes[start];
+        let strong = strengthened(self.strong, class);
+        let next = self.before.after(strong);
+        if !self.before.is_joined_by(strong) {
+            let held = numbered(self.strong, self.before.settled(strong));
+            self.settle(runs, classes, start, held, steps);
+            if next.waits() {
+                self.first = start;
+                self.first_run = run;
+            } else {
+                let own = numbered(self.strong, self.before.resolved(strong));
+                if left_over(class) != own {
+                    fill(classes, start, end, own);
+                }
+            }
+        }
+        self.strong = strong_up_to(self.strong, class);
+        self.before = next;
+    }
+
+    /// Writes the class over the units that wait, if some do. They stand below the unit `to`.
+    fn settle<S: Ledger>(
+        &self,
+        runs: &[LevelRun],
+        classes: &mut [BidiClass],
+        to: usize,
+        class: BidiClass,
+        steps: &mut Steps<S>,
+    )
+        requires ordered { IsTrue (are_ordered (map bounds runs.now)) }
+        requires waiting { WaitsBelow (map bounds runs.now) self.now to }
+        requires inside { to ≤ length classes.old }
+        ensures held { waits self.now.before ≡ true
+            → IsWrittenOver (is_seen (drop self.now.first_run (map bounds runs.now)) classes.old) class self.now.first
+            to classes.old classes.new }
+        ensures idle { waits self.now.before ≡ false → classes.new ≡ classes.old }
+        ensures at_least { steps.old ≤ steps.new }
+        ensures at_most { steps.new + 2 * count_below (map bounds runs.now) (settled_to self.now to)
+            ≤ steps.old + 2 * count_below (map bounds runs.now) to }
+    {
+        if self.before.waits() {
+            write_over_runs_counted(
+                &runs[self.first_run..],
+                classes,
+                self.first,
+                to,
+                class,
+                steps,
+            );
+        }
+    }
+}
+
+/// Gives the units from `start` up to `end` the class.
+fn fill(classes: &mut [BidiClass], start: usize, end: usize, class: BidiClass)
+    requires begins { start ≤ end }
+    requires ends { end ≤ length classes.old }
+    ensures { classes.new ≡ filled start (end - start) class classes.old }
+{
+    classes[start..end].fill(class);
+}
+
+/// Whether a class asks for what stands around it, or makes others ask, where nothing stands before.
+fn is_asked(class: BidiClass) -> bool
+    ensures { result ≡ is_asked class }
+{
+    is_number(class) | (class == ET)
+}
+
+/// How many of these classes stand before the first that asks, or all of them.
+fn before_asked(classes: &[BidiClass]) -> usize
+    ensures count { result ≡ position_or_len is_asked classes.now }
+    ensures within { result ≤ length classes.now }
+{
+    let idle = WIDE * idle_pieces(classes);
+    idle + before_near(&classes[idle..])
+}
+
+/// The same, one by one.
+fn before_near(classes: &[BidiClass]) -> usize
+    ensures count { result ≡ position_or_len is_asked classes.now }
+    ensures within { result ≤ length classes.now }
+{
+    classes
+        .iter()
+        .take_while(|class| !is_asked(**class))
+        .count()
+}
+
+/// How many pieces of that many classes come before the first in which one asks.
+fn idle_pieces(classes: &[BidiClass]) -> usize
+    ensures within { result * 32 ≤ length classes.now }
+    ensures idle { (k : ℕ) → k < result → is_any_of is_asked (take 32 (drop (k * 32) classes.now)) ≡ false }
+{
+    classes
+        .chunks_exact(WIDE)
+        .take_while(|piece| !is_asked_in(piece))
+        .count()
+}
+
+/// Whether one of the classes asks. All are looked at, many at once, which the compiler sees only where
+/// this stands by itself.
+#[inline(never)]
+fn is_asked_in(classes: &[BidiClass]) -> bool
+    ensures { result ≡ is_any_of is_asked classes.now }
+{
+    classes
+        .iter()
+        .fold(false, |found, class| found | is_asked(*class))
+}
+
+/// The last strong class of these.
+fn last_strong(classes: &[BidiClass]) -> Option<BidiClass>
+    ensures { result ≡ find is_strong (reverse classes.now) }
+{
+    classes
+        .iter()
+        .rev()
+        .copied()
+        .find(|class| is_strong(*class))
+}
+
+/// The end of the units from `at` on that have the class of the first, below `end`.
+fn alike_end<S: Ledger>(classes: &[BidiClass], at: usize, end: usize, steps: &mut Steps<S>) -> usize
+    requires some { at < end }
+    requires inside { end ≤ length classes.now }
+    ensures some { at < result }
+    ensures within { result ≤ end }
+    ensures alike { (k : ℕ) → at ≤ k → k < result → class_at classes.now k ≡ class_at classes.now at }
+    ensures steps { steps.new ≡ steps.old + min (result - at) (end - (at + 1)) }
+{
+    let class = classes[at];
+    for unit in at + 1..end {
+        steps.tick();
+        if classes[unit] != class {
+            return unit;
+        }
+    }
+    end
+}
+
+/// The length of the character that begins at a unit; 1 where none begins.
+fn len_at<T: TextSource>(text: T, unit: usize) -> usize
+    ensures { result ≡ len_at T.units (T.characters text) unit }
+{
+    match text.char_at(unit) {
+        Some((_, len)) => len,
+        None => 1,
+    }
+}
