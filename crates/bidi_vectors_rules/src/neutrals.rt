@@ -364,8 +364,10 @@ pub fn run_list(
     tally.agree(row, "after", "plain::neutral", words);
     let text = text.utf8.as_str();
     let runs = vec![in alloc; (0, text.len())]?;
-    let whole = [Sequence { runs, sos, eos }];
-    check_in_place(alloc, row, tally, &source, text, &whole, &before);
+    let mut whole = Vec::new(alloc);
+    whole.push(Sequence { runs, sos, eos })?;
+    let whole = whole.as_slice();
+    check_in_place(alloc, row, tally, &source, text, whole, &before);
     Ok(())
 }
 
