@@ -1,7 +1,5 @@
 //! Rows of lines: levels after L1, visual runs, and the text from left to right (L2).
 
-ghost use Rattle.std.specs.Prelude.{◌≤◌, IfSome};
-
 use crate::texts::base_of;
 use bidi_base::char_data::BidiClass;
 use bidi_base::data_source::TableBidiData;
@@ -284,21 +282,26 @@ impl Asked<'_> {
     fn check_paragraphs(
         &self,
         source: &TableBidiData<'_>,
-        base: Option<Level>,
         text: &RowText,
         tally: &mut Tally,
-    ) -> Result<(), RowFault>
-        requires { IfSome base (λ level. level ≤ 125) }
-    {
-        let alloc = self.alloc;
+    ) -> Result<(), RowFault> {
         if text.is_unicode {
-            let units = text.utf8.as_str();
-            let info = ParagraphBidiInfo::new_with_data_source(alloc, source, units, base)?;
-            self.check_paragraph(&info, tally)?;
+            self.check_paragraph_of(source, text.utf8.as_str(), tally)?;
         }
-        let units = text.utf16.as_slice();
+        let (alloc, base, units) = (self.alloc, base_of(self.row)?, text.utf16.as_slice());
         let info = utf16::ParagraphBidiInfo::new_with_data_source(alloc, source, units, base)?;
         self.check_paragraph16(&info, tally)
+    }
+
+    fn check_paragraph_of(
+        &self,
+        source: &TableBidiData<'_>,
+        text: &str,
+        tally: &mut Tally,
+    ) -> Result<(), RowFault> {
+        let base = base_of(self.row)?;
+        let info = ParagraphBidiInfo::new_with_data_source(self.alloc, source, text, base)?;
+        self.check_paragraph(&info, tally)
     }
 
     // The levels of all characters after L1, by the engine.
@@ -374,7 +377,7 @@ pub fn run(
     };
     check_infos(&asked, &source, &text, tally)?;
     if asked.own_level.is_none() {
-        asked.check_paragraphs(&source, base_of(row)?, &text, tally)?;
+        asked.check_paragraphs(&source, &text, tally)?;
     }
     Ok(())
 }

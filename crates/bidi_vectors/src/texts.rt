@@ -21,13 +21,12 @@ use std::alloc::Global;
 use unicode_bidi::engine::{Analysis, analyse, analyse_with_rule};
 use unicode_bidi::{BidiInfo, InitialInfo, ParagraphBidiInfo, ParagraphInfo, SplitRule, utf16};
 
-// What is found in a text: its paragraphs, and a class and a level on each unit.
+// What is found in a text without its levels: a class on each unit, and the paragraphs.
 #[derive(Clone, Copy)]
 struct Found<'a, T: TextSource> {
     text: T,
     classes: &'a [BidiClass],
     paragraphs: &'a [ParagraphInfo],
-    levels: &'a [Level],
 }
 
 impl<T: TextSource> Found<'_, T> {
@@ -38,8 +37,6 @@ impl<T: TextSource> Found<'_, T> {
         tally.agree(row, "classes", call, words);
         let words = paragraphs_in(alloc, self.text, self.paragraphs);
         tally.agree(row, "paragraphs", call, words);
-        let words = levels_in(alloc, self.text, self.levels);
-        tally.agree(row, "levels", call, words);
     }
 }
 
@@ -116,33 +113,39 @@ struct Asked<'r> {
     split: Split,
 }
 
-// Holds what a constructor found against a row.
-macro_rules! check_info {
+// Holds what a constructor found against a row, but its levels.
+macro_rules! check_found {
     ($asked:expr, $tally:expr, $call:expr, $text:expr, $info:expr) => {
         Found {
             text: $text,
             classes: $info.original_classes(),
             paragraphs: $info.paragraphs(),
-            levels: $info.levels(),
         }
         .check($asked, $tally, $call)
     };
 }
 
-// The same of one that finds no levels.
-macro_rules! check_initial {
-    ($asked:expr, $tally:expr, $call:expr, $text:expr, $info:expr, $levels:expr) => {
-        Found {
-            text: $text,
-            classes: $info.original_classes(),
-            paragraphs: $info.paragraphs(),
-            levels: $levels,
-        }
-        .check($asked, $tally, $call)
-    };
+// The same with its levels.
+macro_rules! check_info {
+    ($asked:expr, $tally:expr, $call:expr, $text:expr, $info:expr) => {{
+        check_found!($asked, $tally, $call, $text, $info);
+        $asked.check_levels($text, $info.levels(), $tally, $call);
+    }};
 }
 
 impl Asked<'_> {
+    // Holds the levels that a call answers, one a unit of the text, against the row.
+    fn check_levels<T: TextSource>(
+        &self,
+        text: T,
+        levels: &[Level],
+        tally: &mut Tally,
+        call: &'static str,
+    ) {
+        let words = levels_in(self.alloc, text, levels);
+        tally.agree(self.row, "levels", call, words);
+    }
+
     // Holds what the engine finds of a text in some encoding against the row.
     fn check_analysis<T: TextSource>(
         &self,
@@ -180,9 +183,15 @@ impl Asked<'_> {
         let info = BidiInfo::new_with_data_source(alloc, source, text, base_of(self.row)?)?;
         check_info!(self, tally, "BidiInfo::new_with_data_source", units, info);
         self.check_rtl(tally, info.levels(), info.has_rtl());
-        let initial = InitialInfo::new_with_data_source(alloc, source, text, base_of(self.row)?)?;
+        Ok(())
+    }
+
+    // The same of those that find no levels.
+    fn check_initial(&self, text: &str, tally: &mut Tally) -> Result<(), RowFault> {
+        let (base, units) = (base_of(self.row)?, StrText::new(text));
+        let info = InitialInfo::new_with_data_source(self.alloc, self.source, text, base)?;
         let call = "InitialInfo::new_with_data_source";
-        check_initial!(self, tally, call, units, initial, info.levels());
+        check_found!(self, tally, call, units, info);
         Ok(())
     }
 
@@ -206,10 +215,14 @@ impl Asked<'_> {
         let call = "utf16::BidiInfo::new_with_data_source";
         check_info!(self, tally, call, units, info);
         self.check_rtl(tally, info.levels(), info.has_rtl());
-        let base = base_of(self.row)?;
-        let initial = utf16::InitialInfo::new_with_data_source(alloc, source, text, base)?;
+        Ok(())
+    }
+
+    fn check_initial16(&self, text: &[u16], tally: &mut Tally) -> Result<(), RowFault> {
+        let (base, units) = (base_of(self.row)?, Utf16Text::new(text));
+        let info = utf16::InitialInfo::new_with_data_source(self.alloc, self.source, text, base)?;
         let call = "utf16::InitialInfo::new_with_data_source";
-        check_initial!(self, tally, call, units, initial, info.levels());
+        check_found!(self, tally, call, units, info);
         Ok(())
     }
 
@@ -218,13 +231,14 @@ impl Asked<'_> {
         let (base, units) = (base_of(self.row)?, StrText::new(text));
         let info = ParagraphBidiInfo::new_with_data_source(self.alloc, self.source, text, base)?;
         let whole = whole_of(text.len(), info.paragraph_level());
+        let call = "ParagraphBidiInfo::new_with_data_source";
         Found {
             text: units,
             classes: info.original_classes(),
             paragraphs: whole.as_slice(),
-            levels: info.levels(),
         }
-        .check(self, tally, "ParagraphBidiInfo::new_with_data_source");
+        .check(self, tally, call);
+        self.check_levels(units, info.levels(), tally, call);
         self.check_rtl(tally, info.levels(), info.has_rtl());
         Ok(())
     }
@@ -233,17 +247,14 @@ impl Asked<'_> {
         let (alloc, base, units) = (self.alloc, base_of(self.row)?, Utf16Text::new(text));
         let info = utf16::ParagraphBidiInfo::new_with_data_source(alloc, self.source, text, base)?;
         let whole = whole_of(text.len(), info.paragraph_level());
+        let call = "utf16::ParagraphBidiInfo::new_with_data_source";
         Found {
             text: units,
             classes: info.original_classes(),
             paragraphs: whole.as_slice(),
-            levels: info.levels(),
         }
-        .check(
-            self,
-            tally,
-            "utf16::ParagraphBidiInfo::new_with_data_source",
-        );
+        .check(self, tally, call);
+        self.check_levels(units, info.levels(), tally, call);
         self.check_rtl(tally, info.levels(), info.has_rtl());
         Ok(())
     }
@@ -263,7 +274,9 @@ impl Asked<'_> {
         }
         if self.split == Split::EachSeparator {
             self.check_utf8(utf8, tally)?;
+            self.check_initial(utf8, tally)?;
             self.check_utf16(utf16, tally)?;
+            self.check_initial16(utf16, tally)?;
         }
         if self.split == Split::Whole || has_one_paragraph(self.row) {
             self.check_whole_utf8(utf8, tally)?;
@@ -416,8 +429,7 @@ pub fn run_initial(
     };
     let (units, base) = (StrText::new(text.utf8.as_str()), any_base_of(row)?);
     let info = InitialInfo::new_with_data_source(alloc, &source, text.utf8.as_str(), base)?;
-    let levels = vec![in alloc; Level::ltr(); text.utf8.len()]?;
     let call = "InitialInfo::new_with_data_source";
-    check_initial!(&asked, tally, call, units, info, levels.as_slice());
+    check_found!(&asked, tally, call, units, info);
     Ok(())
 }
