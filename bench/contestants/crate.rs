@@ -56,7 +56,8 @@ macro_rules! calls {
 
         #[no_mangle]
         pub unsafe extern "C" fn $find_runs(state: *mut State) -> usize {
-            let info = (*state).info.as_ref().expect("no analysis");
+            let State { info, .. } = &*state;
+            let info = info.as_ref().expect("no analysis");
             let runs_of = |paragraph| info.visual_runs(paragraph, paragraph.range.clone()).1.len();
             info.paragraphs.iter().map(runs_of).sum()
         }
@@ -83,10 +84,10 @@ macro_rules! calls {
             paragraph_levels: *mut u8,
             levels: *mut u8,
         ) {
-            let length = (*state).shown.len();
-            let paragraph_levels = slice::from_raw_parts_mut(paragraph_levels, length);
-            let levels = slice::from_raw_parts_mut(levels, length);
-            let info = (*state).info.as_ref().expect("no analysis");
+            let State { shown, info, .. } = &*state;
+            let paragraph_levels = slice::from_raw_parts_mut(paragraph_levels, shown.len());
+            let levels = slice::from_raw_parts_mut(levels, shown.len());
+            let info = info.as_ref().expect("no analysis");
             for paragraph in &info.paragraphs {
                 let reordered = info.reordered_levels(paragraph, paragraph.range.clone());
                 for unit in paragraph.range.clone() {
