@@ -58,10 +58,23 @@ static void gather_contestants(void) {
   }
 }
 
+/* What the columns mean. */
+static void print_legend(bool hostile) {
+  printf("\nnanoseconds a character%s; library / it: the library's least time, in the same encoding, by the least of "
+         "this one%s\n", hostile ? ", the least of all rounds" : "", hostile ? ", in brackets" : "");
+  if (!hostile) printf("*: fewer rounds, since they took long\n");
+}
+
 static bool is_library(const entrant *entrant) {
   for (size_t index = 0; index < library_party.contestants_len; index++)
     if (entrant->who == &library_party.contestants[index]) return true;
   return false;
+}
+
+/* Writes a ratio with as many digits as tell something. */
+static void write_ratio(char *written, size_t size, double ratio) {
+  int digits = ratio < 0.01 ? 5 : ratio < 0.1 ? 3 : ratio < 10 ? 2 : 0;
+  snprintf(written, size, "%.*f", digits, ratio);
 }
 
 /* What stands in a table where there is no figure. */
@@ -77,9 +90,10 @@ static void print_row(const race *race, const entrant *entrant, operation operat
     return;
   }
   printf(" %8.2f%c | %9.2f |", figure->least, figure->cut_short ? '*' : ' ', figure->median);
+  char ratio[32] = "";
   double library = library_least(race, entrant, operation);
-  if (is_library(entrant) || library == 0) printf(" %12s |\n", "");
-  else printf(" %12.2f |\n", library / figure->least);
+  if (!is_library(entrant) && library > 0) write_ratio(ratio, sizeof ratio, library / figure->least);
+  printf(" %12s |\n", ratio);
 }
 
 static void print_operation(const race *race, operation operation) {
@@ -103,19 +117,22 @@ static void race_file(const contest_text *text, size_t rounds) {
 
 static void print_cell(const race *race, const entrant *entrant, operation operation) {
   const figure *figure = &entrant->figures[operation];
-  char cell[64];
+  char cell[80], ratio[32];
   double library = library_least(race, entrant, operation);
   if (figure->outcome != TIMED) snprintf(cell, sizeof cell, "%s", outcome_name(figure->outcome));
   else if (is_library(entrant) || library == 0) snprintf(cell, sizeof cell, "%.2f", figure->least);
-  else snprintf(cell, sizeof cell, "%.2f (%.2f)", figure->least, library / figure->least);
-  printf(" %16s |", cell);
+  else {
+    write_ratio(ratio, sizeof ratio, library / figure->least);
+    snprintf(cell, sizeof cell, "%.2f (%s)", figure->least, ratio);
+  }
+  printf(" %18s |", cell);
 }
 
 static void print_hostile_head(operation operation) {
   printf("\n| %-34s |", operation_names[operation]);
-  for (size_t index = 0; index < contestants_len; index++) printf(" %16s |", contestants[index]->name);
+  for (size_t index = 0; index < contestants_len; index++) printf(" %18s |", contestants[index]->name);
   printf("\n|------------------------------------|");
-  for (size_t index = 0; index < contestants_len; index++) printf("-----------------:|");
+  for (size_t index = 0; index < contestants_len; index++) printf("-------------------:|");
   printf("\n");
 }
 
@@ -170,6 +187,7 @@ static void race_files(char **names, size_t count, size_t rounds) {
   contest_text *texts = room(count, sizeof(contest_text));
   for (size_t index = 0; index < count; index++) read_file(&texts[index], names[index]);
   gather_contestants();
+  print_legend(false);
   for (size_t index = 0; index < count; index++) {
     race_file(&texts[index], rounds);
     free_text(&texts[index]);
@@ -185,6 +203,7 @@ int main(int count, char **words) {
     race_files(words + 2, (size_t)count - 2, (size_t)rounds);
   } else {
     gather_contestants();
+    print_legend(true);
     race_hostile((size_t)rounds);
   }
   return 0;

@@ -6,10 +6,11 @@
 #include <time.h>
 #include <unistd.h>
 
-/* A turn takes at least SHORTEST_TURN, so a short text is gone through more than once in it. An entrant that has
- * taken LONGEST has no further round. One that is tried apart has SECONDS_APART. */
-static const double SHORTEST_TURN = 1e6, LONGEST = 4e9;
-enum { MOST_REPEATS = 200, SECONDS_APART = 20 };
+/* In nanoseconds. What takes less than SHORTEST_TIMED is repeated within a turn, as long as all of the turn, with the
+ * analyses outside the time, stays within LONG_TURN. An entrant that has taken LONGEST has no further round. One that
+ * is tried apart has SECONDS_APART. */
+static const double SHORTEST_TIMED = 1e6, LONG_TURN = 2e7, LONGEST = 4e9;
+enum { SECONDS_APART = 20 };
 
 race open_race(const contest_text *text, const contestant *const *contestants, size_t contestants_len) {
   race opened = {text, room(contestants_len, sizeof(entrant)), contestants_len};
@@ -74,34 +75,35 @@ void try_apart(race *race) {
     }
 }
 
-/* The turns of one entrant at one operation. */
+/* The turns of one entrant at one operation, and how long all of them took, with what is outside the time. */
 typedef struct {
   size_t repeats;
   double spent, *samples;
   size_t samples_len;
 } turns;
 
-/* One turn, which is counted only if it is no warm-up. */
-static void take_turn(entrant *entrant, operation operation, turns *turns, bool counted) {
-  double sum = 0;
+/* One turn: the mean time of its repeats, or below 0 where one failed. */
+static double take_turn(entrant *entrant, operation operation, turns *turns) {
+  double start = now(), sum = 0;
   for (size_t repeat = 0; repeat < turns->repeats; repeat++) {
     double spent = time_once(entrant, operation);
     if (spent < 0) {
       entrant->figures[operation].outcome = FAILED;
-      return;
+      return -1;
     }
     sum += spent;
   }
-  turns->spent += sum;
-  if (counted) turns->samples[turns->samples_len++] = sum / (double)turns->repeats;
+  turns->spent += now() - start;
+  return sum / (double)turns->repeats;
 }
 
+/* The first turn is a warm-up, and tells how often the next ones are to repeat the operation. */
 static turns begin_turns(entrant *entrant, operation operation, size_t rounds) {
   turns begun = {.repeats = 1, .samples = room(rounds, sizeof(double))};
   if (entrant->figures[operation].outcome != TIMED) return begun;
-  take_turn(entrant, operation, &begun, false);
-  double repeats = SHORTEST_TURN / (begun.spent + 1) + 1;
-  begun.repeats = repeats < MOST_REPEATS ? (size_t)repeats : MOST_REPEATS;
+  double timed = take_turn(entrant, operation, &begun);
+  double by_timed = SHORTEST_TIMED / (timed + 1), by_all = LONG_TURN / (begun.spent + 1);
+  begun.repeats = 1 + (size_t)(by_timed < by_all ? by_timed : by_all);
   begun.spent = 0;
   return begun;
 }
@@ -131,7 +133,7 @@ static void race_operation(race *race, operation operation, size_t rounds) {
     for (size_t index = 0; index < race->entrants_len; index++) {
       entrant *next = &race->entrants[index];
       if (next->figures[operation].outcome == TIMED && all[index].spent < LONGEST)
-        take_turn(next, operation, &all[index], true);
+        all[index].samples[all[index].samples_len++] = take_turn(next, operation, &all[index]);
     }
   for (size_t index = 0; index < race->entrants_len; index++)
     end_turns(&race->entrants[index], operation, &all[index], rounds);

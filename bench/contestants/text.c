@@ -111,7 +111,8 @@ void free_text(contest_text *text) {
   }
 }
 
-/* A hostile text: what stands in front once, a piece over and over, and a piece behind these as often. */
+/* A hostile text: what stands in front once, a piece over and over, and a piece behind these as often. Brackets and
+ * marks have letters of both directions in front, so that no short way for texts of one direction applies. */
 typedef struct {
   const char *name, *front, *piece, *behind;
 } hostile_text;
@@ -123,11 +124,11 @@ static const hostile_text hostile_texts[] = {
   {"RLI, nested and closed", "", "\u2067", "\u2069"},
   {"RLI PDI in pairs", "", "\u2067\u2069", ""},
   {"FSI, never closed", "", "\u2068", ""},
-  {"brackets, nested", "\u05D0", "(", ")"},
-  {"brackets in pairs", "\u05D0", "()", ""},
-  {"brackets, never closed", "\u05D0", "(", ""},
+  {"brackets, nested", "a\u05D0", "(", ")"},
+  {"brackets in pairs", "a\u05D0", "()", ""},
+  {"brackets, never closed", "a\u05D0", "(", ""},
   {"a and a Hebrew letter in turn", "", "a\u05D0", ""},
-  {"nonspacing marks", "\u05D0", "\u0300", ""},
+  {"nonspacing marks", "a\u05D0", "\u0300", ""},
 };
 
 const size_t hostile_texts_len = sizeof hostile_texts / sizeof *hostile_texts;
