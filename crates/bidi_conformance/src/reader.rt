@@ -136,9 +136,9 @@ impl Reader {
         let bits = bases_of(bases, line)?;
         read_classes(&mut self.text, words, line)?;
         self.count_line(line)?;
-        for (base, bit) in BASES {
-            if bits & bit != 0 {
-                self.run(line, base)?;
+        for (base, bit) in BASES.iter() {
+            if bits & *bit != 0 {
+                self.run(line, *base)?;
             }
         }
         Ok(())

@@ -40,10 +40,10 @@ impl CharWidth for Widths {
 fn units_of(alloc: Global, text: &str, word: &str, line: usize) -> Result<Range<usize>, RowFault> {
     let places = places_of(alloc, StrText::new(text))?;
     let (start, end) = range_of(word, line)?;
-    match (places.get(start), places.get(end)) {
-        (Some(start), Some(end)) => Ok(*start..*end),
-        _ => Err(RowFault::Line(line, Why::TextRange)),
-    }
+    let fault = RowFault::Line(line, Why::TextRange);
+    let start = places.get(start).copied().ok_or(fault)?;
+    let end = places.get(end).copied().ok_or(fault)?;
+    Ok(start..end)
 }
 
 // The range that a row asks about: its field `part`, or the whole text.

@@ -192,10 +192,9 @@ impl Asked<'_> {
     // The line in units of a text.
     fn units<T: TextSource>(&self, text: T) -> Result<(usize, usize), RowFault> {
         let places = places_of(self.alloc, text)?;
-        match (places.get(self.line.0), places.get(self.line.1)) {
-            (Some(start), Some(end)) => Ok((*start, *end)),
-            _ => Err(NO_LINE),
-        }
+        let start = places.get(self.line.0).copied().ok_or(NO_LINE)?;
+        let end = places.get(self.line.1).copied().ok_or(NO_LINE)?;
+        Ok((start, end))
     }
 
     // The paragraph that the line is asked with: the first one, or one of the row's level.

@@ -36,14 +36,6 @@ fn is_in_a_range(ranges: &[(char, char, BidiClass)], c: char) -> bool {
     false
 }
 
-// The neighbours of a range that are in no range, each of which has class L.
-fn neighbours(first: char, last: char) -> [Option<char>; 2] {
-    [
-        char::from_u32(u32::from(first).wrapping_sub(1)),
-        char::from_u32(u32::from(last).wrapping_add(1)),
-    ]
-}
-
 // Holds the classes of the first and the last character of each range, and of their neighbours, against
 // the ranges.
 fn check_ranges(
@@ -58,21 +50,23 @@ fn check_ranges(
         let classes = [source.bidi_class(*first), source.bidi_class(*last)];
         let came = class_words(alloc, &classes);
         tally.same(row, "TableBidiData::bidi_class", wanted, came);
-        for neighbour in neighbours(*first, *last) {
-            check_neighbour(alloc, tables, source, neighbour, row, tally);
-        }
+        let before = u32::from(*first).wrapping_sub(1);
+        check_neighbour(alloc, tables, source, before, row, tally);
+        let behind = u32::from(*last).wrapping_add(1);
+        check_neighbour(alloc, tables, source, behind, row, tally);
     }
 }
 
+// A neighbour of a range, if it is a character and in no range, has class L.
 fn check_neighbour(
     alloc: Global,
     tables: &Tables,
     source: &TableBidiData<'_>,
-    neighbour: Option<char>,
+    neighbour: u32,
     row: &Row<'_>,
     tally: &mut Tally,
 ) {
-    if let Some(c) = neighbour
+    if let Some(c) = char::from_u32(neighbour)
         && !is_in_a_range(tables.ranges.as_slice(), c)
     {
         let (wanted, came) = ([BidiClass::L], [source.bidi_class(c)]);

@@ -48,8 +48,10 @@ fn walks_agree<T: TextSource>(
 
 // What stands at a unit: the character that begins there, if one does.
 fn char_beginning(chars: &[char], places: &[usize], unit: usize) -> Option<char> {
-    let index = places.binary_search(&unit).ok()?;
-    chars.get(index).copied()
+    match places.binary_search(&unit) {
+        Ok(index) => chars.get(index).copied(),
+        Err(_) => None,
+    }
 }
 
 // Sees that a text answers of a unit what stands there.

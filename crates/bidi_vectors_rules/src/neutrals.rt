@@ -318,8 +318,8 @@ fn check_in_place(
     sequences: &[Sequence],
     before: &Before,
 ) {
-    for call in CALLS {
-        let words = words_in_place(alloc, source, text, sequences, before, call);
+    for call in CALLS.iter() {
+        let words = words_in_place(alloc, source, text, sequences, before, *call);
         tally.agree(row, call.key(), call.name(), words);
     }
 }

@@ -44,11 +44,11 @@ fn runs_in(
 ) -> Result<Vec<(usize, usize)>, RowFault> {
     let places = places_of(alloc, text)?;
     let mut found = Vec::new(alloc);
+    let fault = RowFault::Line(line, Why::TextRange);
     for (start, end) in runs {
-        match (places.get(*start), places.get(*end)) {
-            (Some(start), Some(end)) => found.push((*start, *end))?,
-            _ => return Err(RowFault::Line(line, Why::TextRange)),
-        }
+        let start = places.get(*start).copied().ok_or(fault)?;
+        let end = places.get(*end).copied().ok_or(fault)?;
+        found.push((start, end))?;
     }
     Ok(found)
 }
