@@ -1,0 +1,338 @@
+//! The jobs, each through the public calls.
+ghost use Rattle.std.specs.Prelude.{◌≤◌, IfSome};
+
+use crate::digest::Digest;
+use crate::languages::{self, Language};
+use crate::random::Random;
+use crate::texts::{self, Sentences};
+use bidi_base::level::{LTR_LEVEL, Level, RTL_LEVEL};
+use bidi_controls::check::findings_in;
+use bidi_controls::report::report;
+use bidi_text::text::{StrText, is_line};
+use bidi_unicode::UnicodeData;
+use std::alloc::{AllocError, Global};
+use std::ops::Range;
+use unicode_bidi::layout::{CharWidth, LineMap, lines};
+use unicode_bidi::{BidiInfo, ParagraphBidiInfo, ParagraphInfo, utf16};
+
+/// How much there is to do.
+#[derive(Clone, Copy)]
+pub struct Amount {
+    /// How many inputs there are.
+    pub count: usize,
+    /// How large each is, in paragraphs, messages, lines or pieces.
+    pub size: usize,
+}
+
+/// A job that somebody waits for.
+#[derive(Clone, Copy)]
+pub enum Job {
+    Documents,
+    Lines,
+    Messages,
+    Controls,
+    Sources,
+    Hostile,
+}
+
+pub const ALL: [Job; 6] = [
+    Job::Documents,
+    Job::Lines,
+    Job::Messages,
+    Job::Controls,
+    Job::Sources,
+    Job::Hostile,
+];
+
+impl Job {
+    pub fn name(self) -> &'static str {
+        match self {
+            Job::Documents => "documents",
+            Job::Lines => "lines",
+            Job::Messages => "messages",
+            Job::Controls => "controls",
+            Job::Sources => "sources",
+            Job::Hostile => "hostile",
+        }
+    }
+
+    /// Does the job, and answers the digest of all results.
+    pub fn run(self, alloc: Global, amount: Amount, seed: u32) -> Result<u64, AllocError> {
+        let mut digest = Digest::new();
+        let mut random = Random::new(seed);
+        match self {
+            Job::Documents => documents(alloc, &mut random, amount, &mut digest)?,
+            Job::Lines => lay_out(alloc, &mut random, amount, &mut digest)?,
+            Job::Messages => messages(alloc, &mut random, amount, &mut digest)?,
+            Job::Controls => controls(alloc, &mut random, amount, &mut digest)?,
+            Job::Sources => sources(alloc, &mut random, amount, &mut digest)?,
+            Job::Hostile => hostile(alloc, &mut random, amount, &mut digest)?,
+        }
+        Ok(digest.number())
+    }
+}
+
+// The sentences of each language of documents.
+fn all_sentences(alloc: Global, random: &mut Random) -> Result<Vec<Sentences>, AllocError> {
+    let mut all = Vec::new(alloc);
+    for language in languages::of_documents() {
+        all.push(Sentences::new(alloc, random, language)?)?;
+    }
+    Ok(all)
+}
+
+// The sentences whose turn it is.
+fn turn(all: &[Sentences], index: usize) -> Option<&Sentences> {
+    if all.is_empty() {
+        return None;
+    }
+    all.get(index % all.len())
+}
+
+fn add_paragraphs(digest: &mut Digest, paragraphs: &[ParagraphInfo]) {
+    for paragraph in paragraphs {
+        digest.add_range(&paragraph.range());
+        digest.add(u64::from(paragraph.level().number()));
+    }
+}
+
+fn analyse(alloc: Global, text: &str, digest: &mut Digest) -> Result<(), AllocError> {
+    let info = BidiInfo::new_with_data_source(alloc, &UnicodeData, text, None)?;
+    add_paragraphs(digest, info.paragraphs());
+    digest.add_classes(info.original_classes());
+    digest.add_levels(info.levels());
+    Ok(())
+}
+
+fn analyse_utf16(alloc: Global, text: &[u16], digest: &mut Digest) -> Result<(), AllocError> {
+    let info = utf16::BidiInfo::new_with_data_source(alloc, &UnicodeData, text, None)?;
+    add_paragraphs(digest, info.paragraphs());
+    digest.add_classes(info.original_classes());
+    digest.add_levels(info.levels());
+    Ok(())
+}
+
+// Documents are opened: a fourth of them in UTF-16.
+fn documents(
+    alloc: Global,
+    random: &mut Random,
+    amount: Amount,
+    digest: &mut Digest,
+) -> Result<(), AllocError> {
+    let all = all_sentences(alloc, random)?;
+    for index in 0..amount.count {
+        if let Some(sentences) = turn(all.as_slice(), index) {
+            if index % 32 < 8 {
+                let text = texts::document_utf16(alloc, random, sentences, amount.size)?;
+                analyse_utf16(alloc, text.as_slice(), digest)?;
+            } else {
+                let text = texts::document(alloc, random, sentences, amount.size)?;
+                analyse(alloc, text.as_str(), digest)?;
+            }
+        }
+    }
+    Ok(())
+}
+
+// Each character is one wide.
+struct One;
+
+impl CharWidth for One {
+    ghost width_of = { λ _ _. 1 };
+
+    fn width(&self, _c: char) -> usize {
+        1
+    }
+}
+
+// Lays a document out in lines, and asks of each line what an engine asks.
+fn lay_out_text(
+    alloc: Global,
+    text: &str,
+    length: usize,
+    digest: &mut Digest,
+) -> Result<(), AllocError> {
+    let info = BidiInfo::new_with_data_source(alloc, &UnicodeData, text, None)?;
+    for paragraph in info.paragraphs() {
+        for line in lines(alloc, &info, paragraph, &One, length)? {
+            let range = line.start..line.end;
+            let levels = info.line_levels(alloc, paragraph, line.start..line.end)?;
+            digest.add_levels(levels.as_slice());
+            let order = BidiInfo::reorder_visual(alloc, levels.as_slice())?;
+            digest.add_places(order.as_slice());
+            for run in info.line_runs(alloc, paragraph, line.start..line.end)? {
+                digest.add_range(&run);
+            }
+            digest.add_map(&LineMap::new(alloc, &info, paragraph, line)?);
+            let shown = info.reorder_line(alloc, paragraph, range)?;
+            digest.add_bytes(shown.as_str().as_bytes());
+        }
+        let shown = info.reorder_line(alloc, paragraph, paragraph.range())?;
+        digest.add_bytes(shown.as_str().as_bytes());
+    }
+    Ok(())
+}
+
+fn lay_out(
+    alloc: Global,
+    random: &mut Random,
+    amount: Amount,
+    digest: &mut Digest,
+) -> Result<(), AllocError> {
+    let all = all_sentences(alloc, random)?;
+    for index in 0..amount.count {
+        if let Some(sentences) = turn(all.as_slice(), index) {
+            let text = texts::document(alloc, random, sentences, amount.size)?;
+            let length = 40 + random.below(60);
+            lay_out_text(alloc, text.as_str(), length, digest)?;
+        }
+    }
+    Ok(())
+}
+
+// A short text is analysed as a paragraph, and shown in one line.
+fn show_paragraph(
+    alloc: Global,
+    text: &str,
+    base: Option<Level>,
+    digest: &mut Digest,
+) -> Result<(), AllocError>
+    requires { IfSome base (λ level. level ≤ 125) }
+{
+    let info = ParagraphBidiInfo::new_with_data_source(alloc, &UnicodeData, text, base)?;
+    digest.add(u64::from(info.paragraph_level().number()));
+    let line = 0..text.len();
+    if is_line(StrText::new(info.text()), &line) {
+        let shown = info.reorder_line(alloc, line)?;
+        digest.add_bytes(shown.as_str().as_bytes());
+    }
+    Ok(())
+}
+
+// A text is analysed, and each of its paragraphs shown in one line.
+fn show_text(
+    alloc: Global,
+    text: &str,
+    base: Option<Level>,
+    digest: &mut Digest,
+) -> Result<(), AllocError>
+    requires { IfSome base (λ level. level ≤ 125) }
+{
+    let info = BidiInfo::new_with_data_source(alloc, &UnicodeData, text, base)?;
+    for paragraph in info.paragraphs() {
+        digest.add(u64::from(paragraph.level().number()));
+        let shown = info.reorder_line(alloc, paragraph, paragraph.range())?;
+        digest.add_bytes(shown.as_str().as_bytes());
+    }
+    Ok(())
+}
+
+// The base level whose turn it is.
+fn base_level(index: usize) -> Option<Level>
+    ensures { IfSome result (λ level. level ≤ 125) }
+{
+    match index % 4 {
+        0 => Some(LTR_LEVEL),
+        1 => Some(RTL_LEVEL),
+        _ => None,
+    }
+}
+
+fn language_of_message(random: &mut Random) -> &'static Language {
+    let languages = languages::of_messages();
+    languages[random.below(languages.len())]
+}
+
+// Lists of short texts, each an analysis and a line of its own.
+fn messages(
+    alloc: Global,
+    random: &mut Random,
+    amount: Amount,
+    digest: &mut Digest,
+) -> Result<(), AllocError> {
+    let mut text = String::new(alloc);
+    for _ in 0..amount.count {
+        for index in 0..amount.size {
+            let language = language_of_message(random);
+            texts::write_message(&mut text, random, language)?;
+            if index % 2 == 0 {
+                show_paragraph(alloc, text.as_str(), base_level(index / 2), digest)?;
+            } else {
+                show_text(alloc, text.as_str(), base_level(index / 2), digest)?;
+            }
+        }
+    }
+    Ok(())
+}
+
+// Pages that programs put together, with controls in them.
+fn controls(
+    alloc: Global,
+    random: &mut Random,
+    amount: Amount,
+    digest: &mut Digest,
+) -> Result<(), AllocError> {
+    let languages = languages::of_documents();
+    for _ in 0..amount.count {
+        let text = texts::page(alloc, random, &languages, amount.size)?;
+        show_text(alloc, text.as_str(), None, digest)?;
+    }
+    Ok(())
+}
+
+// Sources are checked for controls.
+fn sources(
+    alloc: Global,
+    random: &mut Random,
+    amount: Amount,
+    digest: &mut Digest,
+) -> Result<(), AllocError> {
+    for index in 0..amount.count {
+        let lines = amount.size.saturating_add(random.below(200));
+        let file = texts::source_file(alloc, random, lines)?;
+        let any = index % 2 == 1;
+        let found = findings_in(alloc, &UnicodeData, any, file.as_slice())?;
+        let told = report(alloc, "source", found.as_slice())?;
+        digest.add_bytes(told.as_str().as_bytes());
+    }
+    Ok(())
+}
+
+// Adds the level runs of a line.
+fn add_runs(
+    alloc: Global,
+    info: &BidiInfo<'_>,
+    paragraph: &ParagraphInfo,
+    line: Range<usize>,
+    digest: &mut Digest,
+) -> Result<(), AllocError> {
+    if is_line(StrText::new(info.text()), &line) {
+        for run in info.line_runs(alloc, paragraph, line)? {
+            digest.add_range(&run);
+        }
+    }
+    Ok(())
+}
+
+// What strangers send to a server: one paragraph each, analysed and shown in one line.
+fn hostile(
+    alloc: Global,
+    random: &mut Random,
+    amount: Amount,
+    digest: &mut Digest,
+) -> Result<(), AllocError> {
+    for _ in 0..amount.count {
+        for shape in 0..texts::shapes() {
+            let pieces = amount.size.saturating_add(random.below(1_000));
+            let text = texts::hostile(alloc, random, shape, pieces)?;
+            let info = BidiInfo::new_with_data_source(alloc, &UnicodeData, text.as_str(), None)?;
+            digest.add_levels(info.levels());
+            for paragraph in info.paragraphs() {
+                add_runs(alloc, &info, paragraph, paragraph.range(), digest)?;
+                let shown = info.reorder_line(alloc, paragraph, paragraph.range())?;
+                digest.add_bytes(shown.as_str().as_bytes());
+            }
+        }
+    }
+    Ok(())
+}
