@@ -3,4 +3,5 @@ pub mod FindingsLemmas
 pub mod IndexLemmas
 pub mod LinesLemmas
 pub mod OpenersLemmas
+pub mod QuietLines
 pub mod UnmatchedPass

@@ -3,3 +3,4 @@ pub mod Findings
 pub mod Lines
 pub mod Matches
 pub mod OpenOpeners
+pub mod Quiet

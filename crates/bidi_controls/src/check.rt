@@ -6,7 +6,7 @@ ghost use Rattle.bidi_controls.specs.Findings.{findings_in_line, findings_of};
 ghost use Rattle.bidi_controls.specs.Matches.{is_unmatched};
 
 use crate::finding::Finding;
-use crate::lines::first_line_len;
+use crate::lines::first_line;
 use crate::openers::Openers;
 use crate::unmatched::find_unmatched;
 use bidi_base::data_source::BidiDataSource;
@@ -62,16 +62,19 @@ pub fn findings_in<D: BidiDataSource>(
     let mut lines_before = 0;
     let mut rest = chars;
     while !rest.is_empty() {
-        let (line, after) = rest.split_at(first_line_len(data_source, rest));
-        find_unmatched(data_source, line, &mut openers, &mut unmatched)?;
-        push_findings(
-            &mut findings,
-            data_source,
-            any,
-            lines_before + 1,
-            line,
-            unmatched.as_slice(),
-        )?;
+        let first = first_line(data_source, rest);
+        let (line, after) = rest.split_at(first.len);
+        if !first.is_quiet {
+            find_unmatched(data_source, line, &mut openers, &mut unmatched)?;
+            push_findings(
+                &mut findings,
+                data_source,
+                any,
+                lines_before + 1,
+                line,
+                unmatched.as_slice(),
+            )?;
+        }
         lines_before += 1;
         rest = after;
     }

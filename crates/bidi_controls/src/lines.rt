@@ -1,10 +1,12 @@
 //! Where the lines of a text end.
-ghost use Rattle.std.specs.Prelude.{◌≡◌, ◌<◌, ◌≤◌, ◌∷◌, length, take, drop};
+ghost use Rattle.std.specs.Prelude.{◌≡◌, ◌<◌, ◌≤◌, ◌∷◌, true, length, take, drop};
 ghost use Rattle.bidi_base.specs.Classes.{is_paragraph_separator};
 ghost use Rattle.bidi_base.specs.Paragraphs.{begins_with_line_feed, cr_lf_together};
 ghost use Rattle.bidi_controls.specs.Lines.{lines_of};
+ghost use Rattle.bidi_controls.specs.Quiet.{AreQuiet};
 ghost use Rattle.bidi_controls.specs.Lines.{own_chars as own_chars_of};
 
+use crate::control::Control;
 use bidi_base::classes::is_paragraph_separator;
 use bidi_base::data_source::BidiDataSource;
 
@@ -33,6 +35,39 @@ fn ends_line<D: BidiDataSource>(data_source: &D, c: char, after: &[char]) -> boo
         && !(c == '\r' && begins_with_line_feed(data_source, after))
 }
 
+/// The first line of a text.
+#[derive(Clone, Copy)]
+pub(crate) struct FirstLine {
+    /// How many characters it has, with the separator that ends it, CR LF as one.
+    pub len: usize,
+    /// Whether no control and no mark stands in it.
+    pub is_quiet: bool,
+}
+
+/// The first line of a text that is not empty.
+pub(crate) fn first_line<D: BidiDataSource>(data_source: &D, chars: &[char]) -> FirstLine
+    requires { 0 < length chars.now }
+    ensures some { 0 < result.len }
+    ensures within { result.len ≤ length chars.now }
+    ensures first { lines_of (D.source data_source.now) chars.now
+        ≡ take result.len chars.now ∷ lines_of (D.source data_source.now) (drop result.len chars.now) }
+    ensures quiet { result.is_quiet ≡ true → AreQuiet (D.source data_source.now) (take result.len chars.now) }
+{
+    let mut is_quiet = true;
+    for (at, c) in chars.iter().enumerate() {
+        let class = data_source.bidi_class(*c);
+        if Control::of(class, *c).is_some() {
+            is_quiet = false;
+        }
+        if is_paragraph_separator(class) && ends_line(data_source, *c, &chars[at + 1..]) {
+            let len = at + 1;
+            return FirstLine { len, is_quiet };
+        }
+    }
+    let len = chars.len();
+    FirstLine { len, is_quiet }
+}
+
 /// How many characters the first line of a text has, with the separator that ends it, CR LF as one. The
 /// text is not empty.
 pub fn first_line_len<D: BidiDataSource>(data_source: &D, chars: &[char]) -> usize
@@ -42,12 +77,7 @@ pub fn first_line_len<D: BidiDataSource>(data_source: &D, chars: &[char]) -> usi
     ensures first { lines_of (D.source data_source.now) chars.now
         ≡ take result chars.now ∷ lines_of (D.source data_source.now) (drop result chars.now) }
 {
-    for (at, c) in chars.iter().enumerate() {
-        if ends_line(data_source, *c, &chars[at + 1..]) {
-            return at + 1;
-        }
-    }
-    chars.len()
+    first_line(data_source, chars).len
 }
 
 /// The characters of a line before the separator that ends it (P1).

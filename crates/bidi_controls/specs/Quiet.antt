@@ -1,0 +1,8 @@
+-- Texts without direction controls and marks.
+use Rattle.std.specs.Prelude.{◌≡◌, ℕ, List, All, None}
+use Rattle.bidi_base.specs.Source.{Source}
+use Rattle.bidi_controls.specs.Controls.{control_of}
+
+-- none of the characters is a control or a mark
+abbrev pub AreQuiet : Source → List ℕ → Type 0
+AreQuiet source chars = All (λ c. control_of (source.class_of c) c ≡ None) chars
