@@ -1,2 +1,3 @@
+pub mod LowClasses
 pub mod RowsLemmas
 pub mod TableLaws

@@ -2,6 +2,7 @@
 //! algorithm. The classes are those of the kit's `ucd_bidi`, of the version that `UNICODE_VERSION` names.
 #![tactic(auto)]
 
+mod low_classes;
 mod rows;
 mod source;
 mod tables;

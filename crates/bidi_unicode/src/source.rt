@@ -4,6 +4,7 @@ ghost use Rattle.bidi_unicode.specs.Unicode.{class_named, bracket_of, bracket_in
 ghost use Rattle.ucd_bidi.specs.Binary.{is_bidi_mirrored};
 ghost use Rattle.ucd_category.specs.declared.GeneralCategory.TheVariants.{OpenPunctuation, ClosePunctuation};
 
+use crate::low_classes::LOW_CLASSES;
 use crate::rows;
 use crate::tables::{BRACKETS, MIRRORED, Side};
 use bidi_base::char_data::BidiClass;
@@ -23,7 +24,12 @@ impl BidiDataSource for UnicodeData {
     ghost source = { λ _. unicode_source };
 
     fn bidi_class(&self, c: char) -> BidiClass {
-        class_named(Property::for_char(c))
+        let at = c as usize;
+        if at < LOW_CLASSES.len() {
+            LOW_CLASSES[at]
+        } else {
+            class_above(c)
+        }
     }
 
     fn bidi_matched_opening_bracket(&self, c: char) -> Option<BidiMatchedOpeningBracket>
@@ -54,6 +60,15 @@ pub fn mirrored(c: char) -> Option<char>
 {
     let (_, partner) = MIRRORED[rows::index_of(&MIRRORED, c)?];
     Some(partner)
+}
+
+/// The class of a character by the kit's tables.
+#[inline(never)]
+#[tactic(auto, unfolding(crate::specs::Unicode::unicode_source))]
+fn class_above(c: char) -> BidiClass
+    ensures { result ≡ unicode_source.class_of c }
+{
+    class_named(Property::for_char(c))
 }
 
 /// The bracket that a character is by the table of brackets.
