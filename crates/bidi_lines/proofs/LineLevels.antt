@@ -1,5 +1,5 @@
 -- L1 along a line: the level that each place takes, and what a pass over the line keeps true.
-use Rattle.bidi_base.proofs.Common.{◌≡◌, ℕ, zero, suc, ◌+◌, ◌-◌, ◌<◌, ◌≤◌, if◌then◌else◌, ◌&&◌, ◌||◌, Bool, true, false, not, nat_lt, List, [], ◌∷◌, length, get_or, drop, set, refl, sym, ap, ◌∙◌, arith, inl, inr, drop-cons, get_or-set_other, get_or-set_same, ◌≢◌, add-zero, common_steps, same_number_lists, cases_lt, get_or_default, list_any_at, list_any_none, is_removed, is_odd, has_rtl, is_reset, line_levels_after, line_levels, class_at}
+use Rattle.bidi_base.proofs.Common.{◌≡◌, ℕ, zero, suc, ◌+◌, ◌-◌, ◌<◌, ◌≤◌, if◌then◌else◌, ◌&&◌, ◌||◌, Bool, true, false, not, nat_lt, List, [], ◌∷◌, length, get_or, drop, set, refl, sym, ap, ◌∙◌, arith, inl, inr, drop-cons, get_or-set_other, get_or-set_same, ◌≢◌, add-zero, common_steps, same_number_lists, cases_lt, cases_Bool, get_or_default, list_any_at, list_any_none, is_removed, is_odd, has_rtl, is_reset, line_levels_after, line_levels, class_at}
 use Rattle.std.proofs.Common.{length-set}
 use Rattle.bidi_base.specs.declared.char_data.BidiClass.{BidiClass}
 use Rattle.bidi_base.specs.declared.char_data.BidiClass.TheVariants.{L}
@@ -13,6 +13,9 @@ is_blank-removed c e = grind arith
 
 pub is_removed-not_blank : (c : BidiClass) → is_blank c ≡ false → is_removed c ≡ false
 is_removed-not_blank c e = grind arith
+
+pub is_separator-blank : (c : BidiClass) → is_blank c ≡ true → is_separator c ≡ false
+is_separator-blank c e = grind arith
 
 -- ---- what is reset
 
@@ -33,6 +36,21 @@ module _ (classes : List BidiClass) where
 
   pub is_reset-to : (k i : ℕ) → (k ≤ i) × (i ≤ length classes) → ((j : ℕ) → k ≤ j → j < i → is_blank (class_at classes j) ≡ true) → is_reset (drop k classes) ≡ is_reset (drop i classes)
   is_reset-to k i within blank = grind (arith, is_reset-blanks (i - k) k)
+
+  -- what comes before a character that is neither is not reset, up to the separator before it
+  is_reset-not : (n k m : ℕ) → k + n ≡ m → m < length classes → ((j : ℕ) → k ≤ j → j ≤ m → is_separator (class_at classes j) ≡ false) → is_blank (class_at classes m) ≡ false → is_reset (drop k classes) ≡ false
+  is_reset-not zero k m e fits apart other =
+      let same : m ≡ k = omega arith in
+      is_reset-at_other k (omega arith) (apart k (omega arith) (omega arith)) (simp (← same) other)
+  is_reset-not (suc n) k m e fits apart other =
+      let after : is_reset (drop (suc k) classes) ≡ false = is_reset-not n (suc k) m (omega arith) fits (λ j low high. apart j (omega arith) high) other in
+      elim (cases_Bool (is_blank (class_at classes k))) [
+        | inl blank ↦ is_reset-at_blank k (omega arith) blank ∙ after
+        | inr none ↦ is_reset-at_other k (omega arith) (apart k (omega arith) (omega arith)) none
+      ]
+
+  pub is_reset-before : (k m : ℕ) → (k ≤ m) × (m < length classes) → ((j : ℕ) → k ≤ j → j ≤ m → is_separator (class_at classes j) ≡ false) → is_blank (class_at classes m) ≡ false → is_reset (drop k classes) ≡ false
+  is_reset-before k m within apart other = is_reset-not (m - k) k m (omega arith) (omega arith) apart other
 
 -- the line's end counts as reset
 is_reset-end : (xs : List BidiClass) → is_reset (drop (length xs) xs) ≡ true
@@ -156,6 +174,57 @@ module _ (level : ℕ) (classes : List BidiClass) (old new : List ℕ) (blank_st
     pending = λ k from below. absurd (omega arith);
     rest = λ k from. h.rest k (omega arith);
     last = read ∙ sym (level_before-more level new i);
+  }
+
+-- the units from `from` up to `to` are neither separators nor removed
+abbrev pub ArePlain : List BidiClass → ℕ → ℕ → Type 0
+ArePlain classes from to = (k : ℕ) → from ≤ k → k < to → (is_separator (class_at classes k) || is_removed (class_at classes k)) ≡ false
+
+-- `start` is where the blanks before `to` begin, or `from`
+pub record AreLastBlanks (classes : List BidiClass) (from to start : ℕ) : Type 0 where
+  pub begins : from ≤ start
+  pub ends : start ≤ to
+  pub blank : (k : ℕ) → start ≤ k → k < to → is_blank (class_at classes k) ≡ true
+  pub stops : (k : ℕ) → from < start → k + 1 ≡ start → is_blank (class_at classes k) ≡ false
+
+module _ (level : ℕ) (classes : List BidiClass) (old new : List ℕ) (blank_start before i to start : ℕ) where
+  -- a stretch of such units keeps its levels
+  kept : ArePlain classes i to → IsResetTo level classes old new blank_start before i → (k : ℕ) → blank_start ≤ k → k < to → get_or new k 0 ≡ kept_level level classes old new k
+  kept plain h k from below = grind arith
+
+  -- in front of the stretch's last character that is no blank nothing is reset
+  not_reset : to ≤ length classes → ArePlain classes i to → AreLastBlanks classes i to start → IsResetTo level classes old new blank_start before i → i < start → (k : ℕ) → blank_start ≤ k → k < start → is_reset (drop k classes) ≡ false
+  not_reset fits plain b h some k from below = is_reset-before classes k (start - 1) (omega arith, omega (arith, b.ends))
+      (λ j low high. elim (cases_lt j i) [ inl under ↦ is_separator-blank (class_at classes j) (h.blank j (omega arith) under) | inr past ↦ grind arith ])
+      (b.stops (start - 1) some (omega arith))
+
+  -- one of blanks alone
+  pub IsResetTo-blanks : to ≤ length classes → i < to → ArePlain classes i to → AreLastBlanks classes i to start → IsResetTo level classes old new blank_start before i → start ≤ i
+      → IsResetTo level classes old new blank_start (level_before level new to) to
+  IsResetTo-blanks fits some plain b h none = record {
+    ordered = omega (arith, h.ordered);
+    long = h.long;
+    done = h.done;
+    blank = λ k from below. elim (cases_lt k i) [ inl under ↦ h.blank k from under | inr past ↦ b.blank k (omega arith) below ];
+    pending = kept plain h;
+    rest = λ k from. h.rest k (omega arith);
+    last = refl;
+  }
+
+  -- one in which some character is no blank
+  pub IsResetTo-others : to ≤ length classes → i < to → ArePlain classes i to → AreLastBlanks classes i to start → IsResetTo level classes old new blank_start before i → i < start
+      → IsResetTo level classes old new start (level_before level new to) to
+  IsResetTo-others fits some plain b h other = record {
+    ordered = b.ends;
+    long = h.long;
+    done = λ k below. elim (cases_lt k blank_start) [
+      | inl under ↦ h.done k under
+      | inr past ↦ simp (not_reset fits plain b h other k past below) (kept plain h k past (omega (arith, b.ends)))
+    ];
+    blank = b.blank;
+    pending = λ k from below. kept plain h k (omega (arith, h.ordered)) below;
+    rest = λ k from. h.rest k (omega arith);
+    last = refl;
   }
 
 -- the part from `from` to `to` of a list is written with one level

@@ -1,6 +1,6 @@
 //! The levels of a line (L1).
 
-ghost use Rattle.std.specs.Prelude.{◌≡◌, ℕ, ◌+◌, ◌<◌, ◌≤◌, ◌&&◌, ◌||◌, not, nat_lt, if◌then◌else◌, length, slice_index, take, IfOk, map};
+ghost use Rattle.std.specs.Prelude.{◌≡◌, ℕ, ◌+◌, ◌<◌, ◌≤◌, ◌&&◌, ◌||◌, not, nat_lt, true, false, if◌then◌else◌, length, slice_index, take, IfOk, map};
 ghost use Rattle.bidi_base.specs.Classes.{is_removed, is_separator};
 ghost use Rattle.bidi_base.specs.Levels.{is_odd, has_rtl};
 ghost use Rattle.bidi_base.specs.Line.{is_blank, line_levels, levels_of_line, levels_with_line};
@@ -10,6 +10,7 @@ ghost use Rattle.bidi_base.specs.Text.{text_len, per_char};
 use bidi_base::char_data::BidiClass;
 use bidi_base::classes::{is_blank, is_removed, is_separator};
 use bidi_base::level::{Level, has_rtl};
+use bidi_base::search::{ClassTest, first_passing};
 use bidi_text::text::TextSource;
 use std::alloc::{AllocError, Global};
 use std::ops::Range;
@@ -25,28 +26,65 @@ fn write_level(levels: &mut [Level], from: usize, to: usize, level: Level)
     levels[from..to].fill(level);
 }
 
+/// What L1 looks at before the line's end: a separator, or what X9 removes. The test has no branch.
+#[derive(Clone, Copy, Debug)]
+struct SeparatorOrRemoved;
+
+impl ClassTest for SeparatorOrRemoved {
+    ghost use Rattle.std.specs.Prelude.{◌||◌};
+    ghost use Rattle.bidi_base.specs.Classes.{is_removed, is_separator};
+
+    ghost test = { λ _ c. is_separator c || is_removed c };
+
+    fn passes(self, class: BidiClass) -> bool {
+        is_separator(class) | is_removed(class)
+    }
+}
+
+// The start of the blanks at the end of the part from `from` to `to`.
+fn blanks_start(classes: &[BidiClass], from: usize, to: usize) -> usize
+    requires begins { from ≤ to }
+    requires ends { to ≤ length classes.now }
+    ensures begins { from ≤ result }
+    ensures ends { result ≤ to }
+    ensures blank { (k : ℕ) → result ≤ k → k < to → is_blank (class_at classes.now k) ≡ true }
+    ensures stops { (k : ℕ) → from < result → k + 1 ≡ result → is_blank (class_at classes.now k) ≡ false }
+{
+    let mut start = to;
+    while start > from && is_blank(classes[start - 1]) {
+        start -= 1;
+    }
+    start
+}
+
 // L1 on the units of a line, from its stored classes and levels: separators, and blanks before them
 // or before the line's end, take the level handed in. Any other unit that X9 removes takes the level
-// before it.
+// before it. Stretches of units that are neither are passed over at once.
 fn reset_levels(level: Level, classes: &[BidiClass], levels: &mut [Level])
     requires { length levels.old ≡ length classes.now }
     ensures { levels.new ≡ line_levels level classes.now levels.old }
 {
     let mut before = level;
     let mut blank_start = 0;
-    for i in 0..classes.len() {
-        let class = classes[i];
+    let mut at = 0;
+    while at < classes.len() {
+        let class = classes[at];
         if is_separator(class) {
-            write_level(levels, blank_start, i + 1, level);
+            write_level(levels, blank_start, at + 1, level);
             before = level;
-            blank_start = i + 1;
+            at += 1;
+            blank_start = at;
         } else if is_removed(class) {
-            levels[i] = before;
+            levels[at] = before;
+            at += 1;
         } else {
-            before = levels[i];
-            if !is_blank(class) {
-                blank_start = i + 1;
+            let next = first_passing(SeparatorOrRemoved, classes, at + 1, classes.len());
+            let start = blanks_start(classes, at, next);
+            if start > at {
+                blank_start = start;
             }
+            before = levels[next - 1];
+            at = next;
         }
     }
     write_level(levels, blank_start, classes.len(), level);

@@ -1,22 +1,48 @@
-use Rattle.bidi_base.proofs.Common.{sym, ◌∙◌, arith, get_or_default}
-use Rattle.bidi_lines.proofs.LineLevels.{IsResetTo-start, IsResetTo-removed, IsResetTo-blank, IsResetTo-other, IsResetTo-separator, IsResetTo-end}
+use Rattle.bidi_base.proofs.Common.{ℕ, ◌-◌, ◌<◌, ◌≡◌, ◌||◌, false, get_or, sym, ◌∙◌, arith, inl, inr, cases_lt, get_or_default, is_removed, class_at}
+use Rattle.bidi_base.specs.Classes.{is_separator}
+use Rattle.bidi_lines.proofs.LineLevels.{IsResetTo-start, IsResetTo-removed, IsResetTo-blanks, IsResetTo-others, IsResetTo-separator, IsResetTo-end, AreLastBlanks, ArePlain, level_before}
 use Rattle.bidi_lines.proofs.line_levels.reset_levels.Goals as goal
-use Rattle.bidi_lines.proofs.line_levels.reset_levels.Goals.{then-is_separator, else-is_separator+then-is_removed, else-is_separator+else-is_removed+then-not-is_blank, else-is_separator+else-is_removed+else-not-is_blank}
+use Rattle.bidi_lines.proofs.line_levels.reset_levels.Goals.{then-start-at, else-start-at}
 
-pub loop-i-init : goal.loop-i-init
-loop-i-init c = IsResetTo-start c.args.level c.args.classes.now c.args.levels.now
+pub loop-at-init : goal.loop-at-init
+loop-at-init c = record { reset = IsResetTo-start c.args.level c.args.classes.now c.args.levels.now; ends = omega arith }
 
-pub loop-i-preserved : goal.loop-i-preserved
-loop-i-preserved c = elim c.if-is_separator.branch [
-  | then-is_separator w ↦ rw (w.levels-is, w.before-is, w.blank_start-is)
-      (IsResetTo-separator _ _ _ c.loop-i.levels _ _ c.loop-i.before _ (omega arith) (sym c.is_separator.ensures ∙ w.if-is_separator.true) (grind arith) c.loop-i.invariant)
-  | else-is_separator+then-is_removed w ↦ rw (w.levels-is, w.before-is, w.blank_start-is)
-      (IsResetTo-removed _ _ _ _ _ _ _ 0 (omega arith) (sym w.is_removed.ensures ∙ w.if-is_removed.true) c.loop-i.invariant)
-  | else-is_separator+else-is_removed+then-not-is_blank w ↦ rw (w.levels-is, w.before-is, w.blank_start-is)
-      (IsResetTo-other _ _ _ _ _ _ _ _ (omega arith) (grind (arith, get_or_default)) (grind arith) (grind arith) c.loop-i.invariant)
-  | else-is_separator+else-is_removed+else-not-is_blank w ↦ rw (w.levels-is, w.before-is, w.blank_start-is)
-      (IsResetTo-blank _ _ _ _ _ _ _ _ (omega arith) (grind (arith, get_or_default)) (grind arith) (grind arith) c.loop-i.invariant)
-]
+pub loop-at-preserved-then-is_separator : goal.loop-at-preserved-then-is_separator
+loop-at-preserved-then-is_separator c = record {
+  reset = IsResetTo-separator _ _ _ c.loop-at.levels _ _ c.loop-at.before _ (omega (arith, c.loop-at-test.true)) (sym c.is_separator.ensures ∙ c.if-is_separator.true) (grind arith) c.loop-at.invariant.reset;
+  ends = omega (arith, c.loop-at-test.true);
+}
+
+pub loop-at-preserved-then-is_removed : goal.loop-at-preserved-then-is_removed
+loop-at-preserved-then-is_removed c = record {
+  reset = IsResetTo-removed _ _ _ _ _ _ _ 0 (omega (arith, c.loop-at-test.true, c.requires, c.loop-at.auto.levels)) (sym c.is_removed.ensures ∙ c.if-is_removed.true) c.loop-at.invariant.reset;
+  ends = omega (arith, c.loop-at-test.true);
+}
+
+-- the level before a place that is not the first
+level_before-at : (level : ℕ) (levels : _) (i read : ℕ) → 0 < i → read ≡ get_or levels (i - 1) 0 → read ≡ level_before level levels i
+level_before-at level levels i read some e = grind arith
+
+pub loop-at-preserved : goal.loop-at-preserved
+loop-at-preserved c =
+    let inv = c.loop-at.invariant.reset in
+    let f = c.first_passing-next.ensures in
+    let b : AreLastBlanks c.args.classes.now c.loop-at.at c.first_passing-next.result c.blanks_start-start.result = grind arith in
+    let here : (is_separator (class_at c.args.classes.now c.loop-at.at) || is_removed (class_at c.args.classes.now c.loop-at.at)) ≡ false =
+    simp (sym c.is_separator.ensures ∙ c.if-is_separator.false, sym c.is_removed.ensures ∙ c.if-is_removed.false) in
+    let plain : ArePlain c.args.classes.now c.loop-at.at c.first_passing-next.result = λ k from below. elim (cases_lt c.loop-at.at k) [
+      | inl past ↦ f.before k (omega arith) below
+      | inr same ↦ let e : k ≡ c.loop-at.at = omega arith in simp (e, here)
+    ] in
+    let read = level_before-at c.args.level c.loop-at.levels c.first_passing-next.result c.index-levels-next.result (omega (arith, f.begins))
+    (c.index-levels-next.is ∙ get_or_default c.loop-at.levels (c.first_passing-next.result - 1) c.index-levels-next.result 0 (omega (arith, f.begins, f.ends, c.requires, c.loop-at.auto.levels))) in
+    record {
+      reset = elim c.if-start-at.branch [
+        | then-start-at w ↦ rw (w.blank_start-is, read) (IsResetTo-others _ _ _ _ _ _ _ _ _ f.ends (omega (arith, f.begins)) plain b inv w.if-start-at.true)
+        | else-start-at w ↦ rw (w.blank_start-is, read) (IsResetTo-blanks _ _ _ _ _ _ _ _ _ f.ends (omega (arith, f.begins)) plain b inv (omega (arith, w.if-start-at.false)))
+      ];
+      ends = f.ends;
+    }
 
 pub returns : goal.returns
-returns c = IsResetTo-end _ _ _ c.loop-i.levels _ _ c.loop-i.before _ (omega arith) c.requires (grind arith) c.loop-i.invariant
+returns c = IsResetTo-end _ _ _ c.loop-at.levels _ _ c.loop-at.before _ (omega (arith, c.loop-at-test.false, c.loop-at.invariant.ends)) c.requires (grind arith) c.loop-at.invariant.reset

@@ -1,5 +1,12 @@
+use Rattle.bidi_base.proofs.Common.{◌≤◌, ◌-◌, length}
 use Rattle.bidi_lines.proofs.LineLevels.{IsResetTo}
 use Rattle.bidi_lines.proofs.line_levels.reset_levels.Given as goal
 
-abbrev pub invariant-loop-i : goal.invariant-loop-i
-invariant-loop-i l = IsResetTo l.level l.classes l.initial.levels l.levels l.blank_start l.before l.i
+abbrev pub invariant-loop-at : goal.invariant-loop-at
+invariant-loop-at l = record {
+  reset : IsResetTo l.level l.classes l.initial.levels l.levels l.blank_start l.before l.at;
+  ends : l.at ≤ length l.classes;
+}
+
+abbrev pub decreases-loop-at : goal.decreases-loop-at
+decreases-loop-at l = length l.classes - l.at
