@@ -37,7 +37,7 @@ struct Waiting {
 impl Default for Waiting {
     fn default() -> Waiting {
         Waiting {
-            opening: '(',
+            opening: '\0',
             pair: 0,
         }
     }

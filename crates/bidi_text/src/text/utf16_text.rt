@@ -1,6 +1,6 @@
 //! Texts of UTF-16, whose units are those of UTF-16.
 
-ghost use Rattle.std.specs.Prelude.{◌≡◌, ℕ, ◌+◌, ◌-◌, ◌<◌, ◌≤◌, ◌^◌, length, [], true, MatchOption};
+ghost use Rattle.std.specs.Prelude.{◌≡◌, ℕ, ◌+◌, ◌-◌, ◌<◌, ◌≤◌, ◌^◌, length, [], true, IsTrue, ◌↔◌, MatchOption};
 ghost use Rattle.std.specs.Iterator.{YieldsFirst, YieldsLast, item_count};
 ghost use Rattle.bidi_base.specs.Text.{char_indices_from, indices_lengths_from};
 ghost use Rattle.bidi_base.specs.Utf16.{is_pair as is_pair_of, splits_pair as splits_pair_of, pair_char, lone_char, utf16_text, utf16_len, IsFirst, IsLast};
@@ -29,6 +29,13 @@ impl<'t> Utf16Text<'t> {
     {
         self.units
     }
+}
+
+// Whether a unit is a surrogate.
+fn is_surrogate(unit: u16) -> bool
+    ensures { IsTrue result ↔ ((0xD800 ≤ unit) × (unit < 0xE000)) }
+{
+    0xD800 <= unit && unit < 0xE000
 }
 
 // Whether two units are a high surrogate and a low one.
@@ -71,6 +78,8 @@ fn first_char(units: &[u16]) -> Option<(char, usize)>
 {
     match units {
         [] => None,
+        // Most units are no surrogates, and then the next one is not asked for.
+        [unit, ..] if !is_surrogate(*unit) => Some((char_of_unit(*unit), 1)),
         [high, low, ..] if is_pair(*high, *low) => Some((char_of_pair(*high, *low), 2)),
         [unit, ..] => Some((char_of_unit(*unit), 1)),
     }
