@@ -5,4 +5,5 @@ pub mod LineUnits
 pub mod RunText
 pub mod StoredLine
 pub mod TextOfLine
+pub mod TurnedText
 pub mod WrittenRuns

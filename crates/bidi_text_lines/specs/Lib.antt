@@ -1,1 +1,2 @@
 pub mod Analysed
+pub mod Turned

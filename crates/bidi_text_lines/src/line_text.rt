@@ -13,6 +13,7 @@ use bidi_text::text::TextSource;
 use std::alloc::{AllocError, Global};
 use std::ops::Range;
 
+mod turned;
 mod utf16;
 mod utf8;
 
