@@ -1,6 +1,6 @@
 // The bytes of a text whose characters stand last first. A loop over bytes turns many at once: it reads
 // no character, and each byte tells by its neighbours with which of them it changes places.
-ghost use Rattle.std.specs.Prelude.{◌≡◌, ℕ, ◌+◌, ◌-◌, ◌<◌, ◌≤◌, nat_lt, length, slice_index, slice_index_or};
+ghost use Rattle.std.specs.Prelude.{◌≡◌, ℕ, ◌+◌, ◌-◌, ◌<◌, ◌≤◌, nat_lt, length, slice_index, slice_index_or, if◌then◌else◌};
 ghost use Rattle.std.specs.List.{list_all};
 ghost use Rattle.bidi_text_lines.specs.Turned.{turned_byte, turned_at, behind_two};
 
@@ -22,22 +22,23 @@ pub(super) fn are_short(bytes: &[u8]) -> bool
     greatest < OF_FOUR
 }
 
+// The first of two bytes where a test holds, else the second. There is no branch in it, so that a loop chooses for many bytes at once.
+fn choose(test: bool, held: u8, other: u8) -> u8
+    ensures { result ≡ (if test then held else other) }
+{
+    let mask = 0u8.wrapping_sub(u8::from(test));
+    (held & mask) | (other & !mask)
+}
+
 // What stands in the place of a byte when the text is turned round, by the two bytes before it and the
-// two behind it. It has no branch that a loop would take, so that one tests many bytes at once.
+// two behind it.
 fn turned_byte(far: u8, near: u8, byte: u8, next: u8, later: u8) -> u8
     ensures { result ≡ turned_byte far near byte next later }
 {
-    if byte >= OF_THREE {
-        later
-    } else if byte >= OF_TWO {
-        next
-    } else if near >= OF_TWO && near < OF_THREE {
-        near
-    } else if far >= OF_THREE {
-        far
-    } else {
-        byte
-    }
+    let by_far = choose(far >= OF_THREE, far, byte);
+    let by_near = choose((near >= OF_TWO) & (near < OF_THREE), near, by_far);
+    let by_next = choose(byte >= OF_TWO, next, by_near);
+    choose(byte >= OF_THREE, later, by_next)
 }
 
 // Turns all bytes of a text but the first two and the last two.
