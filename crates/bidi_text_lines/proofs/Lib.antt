@@ -6,4 +6,6 @@ pub mod RunText
 pub mod StoredLine
 pub mod TextOfLine
 pub mod TurnedText
+pub mod Utf16Backwards
+pub mod WrittenBehind
 pub mod WrittenRuns

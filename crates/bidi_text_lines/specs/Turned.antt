@@ -1,5 +1,5 @@
--- The bytes of a text whose characters stand last first, each with its bytes in their own order.
-use Rattle.std.specs.Prelude.{ℕ, ◌+◌, ◌&&◌, nat_le, nat_lt, if◌then◌else◌, List, ◌∷◌, slice_index_or}
+-- The units of a text whose characters stand last first, each with its units in their own order.
+use Rattle.std.specs.Prelude.{ℕ, Bool, ◌+◌, ◌&&◌, ◌||◌, nat_le, nat_lt, if◌then◌else◌, List, ◌∷◌, slice_index_or}
 
 -- what stands in the place of a byte when the list is turned round: the byte itself, or the one with which it changes
 -- places, which is one or two before or behind it. `far` and `near` stand before it, `next` and `later` behind it
@@ -19,3 +19,9 @@ turned_at bytes j =
 -- the bytes of a text, before which two others stand
 abbrev pub behind_two : List ℕ → List ℕ
 behind_two bytes = 0 ∷ 0 ∷ bytes
+
+-- ---- UTF-16
+
+-- the unit is no surrogate, and so a character
+abbrev pub is_character : ℕ → Bool
+is_character unit = nat_lt unit 0xD800 || nat_le 0xE000 unit

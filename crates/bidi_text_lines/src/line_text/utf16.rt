@@ -1,9 +1,11 @@
 // The text of a line of UTF-16.
 ghost use Rattle.std.specs.Prelude.{◌≡◌, [], ◌++◌, reverse, flat_map, IfOk, OnOk, ◌↔◌};
 ghost use Rattle.std.specs.Char.Escape.{encode_utf16};
+ghost use Rattle.std.specs.List.{list_all};
 ghost use Rattle.std.specs.Cow.{cow_slice_items, IsBorrowedSlice};
 ghost use Rattle.bidi_base.specs.Analysed.{IsLineOf, IsTextOfLine, StaysInOrder};
 ghost use Rattle.bidi_base.specs.Utf16.{utf16_text};
+ghost use Rattle.bidi_text_lines.specs.Turned.{is_character};
 
 use super::RunWriter;
 use crate::analysed::Analysed;
@@ -13,13 +15,37 @@ use std::alloc::{AllocError, Global};
 use std::borrow::CowSlice;
 use std::ops::Range;
 
-// Appends the characters of some units, last first. A surrogate in no pair is U+FFFD.
-fn push_reversed(out: &mut Vec<u16>, units: &[u16]) -> Result<(), AllocError>
+// Appends the characters of some units, last first, one by one. A surrogate in no pair is U+FFFD.
+fn push_chars_backwards(out: &mut Vec<u16>, units: &[u16]) -> Result<(), AllocError>
     ensures { OnOk result (out.new.items ≡ out.old.items ++ flat_map encode_utf16 (reverse (utf16_text units.now))) }
 {
     for c in Utf16CharIter::new(units).rev() {
         out.extend_from_slice(c.encode_utf16(&mut [0; 2]))?;
     }
+    Ok(())
+}
+
+// Whether each unit is a character. The test has no branch, so that a loop tests many units at once.
+fn are_characters(units: &[u16]) -> bool
+    ensures { result ≡ list_all is_character units.now }
+{
+    let mut all = true;
+    for unit in units {
+        all &= (*unit < 0xD800) | (*unit >= 0xE000);
+    }
+    all
+}
+
+// Appends the characters of some units, last first. A surrogate in no pair is U+FFFD.
+fn push_backwards(out: &mut Vec<u16>, units: &[u16]) -> Result<(), AllocError>
+    ensures { OnOk result (out.new.items ≡ out.old.items ++ flat_map encode_utf16 (reverse (utf16_text units.now))) }
+{
+    if !are_characters(units) {
+        return push_chars_backwards(out, units);
+    }
+    let start = out.len();
+    out.extend_from_slice(units)?;
+    out.as_mut_slice()[start..].reverse();
     Ok(())
 }
 
@@ -46,7 +72,7 @@ impl<'t> RunWriter<Utf16Text<'t>> for Vec<u16> {
         text: Utf16Text<'t>,
         run: Range<usize>,
     ) -> Result<(), AllocError> {
-        push_reversed(self, text.subrange(run).units())
+        push_backwards(self, text.subrange(run).units())
     }
 }
 

@@ -1,4 +1,4 @@
-use Rattle.bidi_base.proofs.Common.{◌≡◌, ℕ, ◌+◌, ◌-◌, ◌%◌, ◌<◌, Bool, true, false, bit_or, refl, ap, ap₂, ◌∙◌, sym, arith, if◌then◌else◌, cases_Bool, inl, inr}
+use Rattle.bidi_base.proofs.Common.{◌≡◌, ℕ, ◌+◌, ◌-◌, ◌%◌, ◌<◌, Bool, true, false, bit_or, refl, ap₂, ◌∙◌, arith, if◌then◌else◌}
 use mir.Val.{bool_byte}
 use Rattle.std.specs.Int.Bits.{bit_and, and_zero_r, or_zero_l, or_zero_r}
 use Rattle.std.proofs.lemmas.Grind.{and_numeral}

@@ -1,25 +1,10 @@
-use Rattle.bidi_base.proofs.Common.{◌≡◌, ℕ, ◌+◌, ◌-◌, true, List, [], ◌++◌, length, reverse, take, drop, flat_map, sym, ap, ◌∙◌, subst, arith, append-nil, length-append, length-drop, drop_all, take_all, take-append-le, le_refl, chars, list_all, nat_lt}
+use Rattle.bidi_base.proofs.Common.{◌≡◌, ℕ, ◌+◌, ◌-◌, true, List, ◌++◌, length, reverse, take, drop, flat_map, ap, ◌∙◌, arith, length-append, length-drop, chars, list_all, nat_lt}
 use Rattle.std.specs.Char.{encode_utf8}
 use Rattle.std.specs.Str.{is_utf8}
 use Rattle.std.proofs.lemmas.Str.{scalars-chars}
+use Rattle.bidi_text_lines.proofs.WrittenBehind.{written_over}
 use Rattle.bidi_text_lines.proofs.TurnedText.{turned-chars, backwards-utf8, is_utf8-append}
 use Rattle.bidi_text_lines.proofs.line_text.utf8.push_backwards.Goals as goal
-
--- what is written behind a list, over what was put there
-written_behind : (old text new rest : List ℕ) (n many : ℕ) → n ≡ length old → length new ≡ length text → many ≡ n + length text
-    → take many ((take n (old ++ text) ++ (new ++ drop (length (old ++ text) - n) (drop n (old ++ text)))) ++ rest) ≡ old ++ new
-written_behind old text new rest n many start same all =
-    let front : take n (old ++ text) ≡ old = ap (λ k. take k (old ++ text)) start ∙ take-append-le (length old) old text (le_refl (length old)) ∙ take_all (length old) old (le_refl (length old)) in
-    let back : drop (length (old ++ text) - n) (drop n (old ++ text)) ≡ [] =
-    drop_all (length (old ++ text) - n) (drop n (old ++ text)) (omega (arith, length-drop n (old ++ text))) in
-    let long : many ≡ length (old ++ new) = omega (arith, length-append old new) in
-    simp (front, back, append-nil new, long)
-    (take-append-le (length (old ++ new)) (old ++ new) rest (le_refl (length (old ++ new))) ∙ take_all (length (old ++ new)) (old ++ new) (le_refl (length (old ++ new))))
-
-written_over : (old text xs new rest : List ℕ) (n many : ℕ) → xs ≡ old ++ text → n ≡ length old → length new ≡ length text → many ≡ n + length text
-    → take many ((take n xs ++ (new ++ drop (length xs - n) (drop n xs))) ++ rest) ≡ old ++ new
-written_over old text xs new rest n many is start same all =
-    subst (λ ys. take many ((take n ys ++ (new ++ drop (length ys - n) (drop n ys))) ++ rest) ≡ old ++ new) (sym is) (written_behind old text new rest n many start same all)
 
 pub returns : goal.returns
 returns c =

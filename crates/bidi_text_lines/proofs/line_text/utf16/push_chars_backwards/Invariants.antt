@@ -1,6 +1,6 @@
 use Rattle.bidi_base.proofs.Common.{◌≡◌, ◌++◌, flat_map, reverse, rev_source, utf16_text}
 use Rattle.std.specs.Char.Escape.{encode_utf16}
-use Rattle.bidi_text_lines.proofs.line_text.utf16.push_reversed.Given as goal
+use Rattle.bidi_text_lines.proofs.line_text.utf16.push_chars_backwards.Given as goal
 
 abbrev pub invariant-loop-c : goal.invariant-loop-c
 invariant-loop-c l = record {

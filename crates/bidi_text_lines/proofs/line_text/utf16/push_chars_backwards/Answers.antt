@@ -1,5 +1,5 @@
 use Rattle.bidi_base.proofs.Common.{◌≡◌, ℕ, List, [], ◌++◌, reverse, arith, common_steps, reverse-reverse}
-use Rattle.bidi_text_lines.proofs.line_text.utf16.push_reversed.Goals as goal
+use Rattle.bidi_text_lines.proofs.line_text.utf16.push_chars_backwards.Goals as goal
 
 -- at the end all have come
 all_taken : (text rest xs : List ℕ) → rest ++ reverse xs ≡ text → rest ≡ [] → xs ≡ reverse text
