@@ -1,3 +1,4 @@
 pub mod LowClasses
+pub mod PlaneClasses
 pub mod RowsLemmas
 pub mod TableLaws

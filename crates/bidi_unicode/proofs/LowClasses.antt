@@ -24,12 +24,12 @@ same_from_numbers a b e =
     sym (class_of_number-class_number a) ∙ ap class_of_number (eqb-true (class_number a) (class_number b) e) ∙ class_of_number-class_number b
 
 -- the classes are those of the characters from c on, by the steps
-unfoldable are_of_steps : Property.BidiClass → List BidiClass → ℕ → List (Step Property.BidiClass) → Bool
+unfoldable pub are_of_steps : Property.BidiClass → List BidiClass → ℕ → List (Step Property.BidiClass) → Bool
 are_of_steps default [] c steps = true
 are_of_steps default (x ∷ xs) c steps =
     let here = skip steps c in (class_number x == class_number (class_named (step_value default here c))) && are_of_steps default xs (suc c) here
 
-are_of_steps-at : (default : Property.BidiClass) (classes : List BidiClass) (c : ℕ) (steps : List (Step Property.BidiClass)) (k : ℕ) → are_of_steps default classes c steps ≡ true → k < length classes
+pub are_of_steps-at : (default : Property.BidiClass) (classes : List BidiClass) (c : ℕ) (steps : List (Step Property.BidiClass)) (k : ℕ) → are_of_steps default classes c steps ≡ true → k < length classes
     → get_or classes k L ≡ class_named (step_value default steps (c + k))
 unfolding are_of_steps
 are_of_steps-at default [] c steps k h fits = absurd (omega arith)

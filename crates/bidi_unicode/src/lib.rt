@@ -3,6 +3,7 @@
 #![tactic(auto)]
 
 mod low_classes;
+mod plane_classes;
 mod rows;
 mod source;
 mod tables;

@@ -1,10 +1,11 @@
 //! Unicode's data as the algorithm asks for it.
-ghost use Rattle.std.specs.Prelude.{◌≡◌, Some, option_map, option_and_then, IsSome, IfSome, IsTrue};
+ghost use Rattle.std.specs.Prelude.{◌≡◌, ◌<◌, Some, option_map, option_and_then, IsSome, IfSome, IsTrue};
 ghost use Rattle.bidi_unicode.specs.Unicode.{class_named, bracket_of, bracket_in, normal_form, mirrored_of, unicode_source, is_opening, is_closing, other_bracket, is_mirrored_in};
 ghost use Rattle.ucd_bidi.specs.Binary.{is_bidi_mirrored};
 ghost use Rattle.ucd_category.specs.declared.GeneralCategory.TheVariants.{OpenPunctuation, ClosePunctuation};
 
 use crate::low_classes::LOW_CLASSES;
+use crate::plane_classes::{BLOCK, BLOCK_CLASSES, BLOCK_OF};
 use crate::rows;
 use crate::tables::{BRACKETS, MIRRORED, Side};
 use bidi_base::char_data::BidiClass;
@@ -27,8 +28,10 @@ impl BidiDataSource for UnicodeData {
         let at = c as usize;
         if at < LOW_CLASSES.len() {
             LOW_CLASSES[at]
+        } else if at < BLOCK_OF.len() * BLOCK {
+            class_in_plane(at)
         } else {
-            class_above(c)
+            class_beyond(c)
         }
     }
 
@@ -62,10 +65,18 @@ pub fn mirrored(c: char) -> Option<char>
     Some(partner)
 }
 
+/// The class of a character of the first plane.
+fn class_in_plane(c: usize) -> BidiClass
+    requires { c < 0x10000 }
+    ensures { result ≡ unicode_source.class_of c }
+{
+    BLOCK_CLASSES[BLOCK_OF[c / BLOCK] as usize * BLOCK + c % BLOCK]
+}
+
 /// The class of a character by the kit's tables.
 #[inline(never)]
 #[tactic(auto, unfolding(crate::specs::Unicode::unicode_source))]
-fn class_above(c: char) -> BidiClass
+fn class_beyond(c: char) -> BidiClass
     ensures { result ≡ unicode_source.class_of c }
 {
     class_named(Property::for_char(c))
