@@ -1,5 +1,5 @@
 -- What is found in a table whose rows ascend.
-use Rattle.bidi_base.proofs.Common.{◌≡◌, ℕ, zero, suc, ◌+◌, ◌<◌, ◌≤◌, true, List, [], ◌∷◌, length, get_or, Some, None, Result, Ok, Err, refl, sym, arith, cases_lt, nat_tests}
+use Rattle.bidi_base.proofs.Common.{◌≡◌, ◌≢◌, ℕ, zero, suc, ◌+◌, ◌<◌, ◌≤◌, true, nat_le, list_all, and_parts, leb-true, ◌∙◌, List, [], ◌∷◌, length, get_or, Some, None, Result, Ok, Err, refl, sym, arith, cases_lt, nat_tests}
 use Rattle.std.proofs.Common.{MatchResult, zero-le, not-suc-le-zero}
 use Rattle.std.specs.List.Sorted.{IsSearchInRange, IsBinarySearchResult}
 use Rattle.std.specs.Ordering.{nat_cmp}
@@ -47,3 +47,14 @@ module _ {V : Type 0} where
   searched rows c (Err i) up within parted =
       let points = parted (λ j k d le below. grind (arith, nat_tests, cases_lt j k, key_at-lt 0 rows j k d)) in
       row_value-none rows c (λ k d below same. grind (arith, nat_tests, cases_lt k i, points.0 k d zero-le, points.1 k d))
+
+  -- a row of another character is passed over
+  pub row_value-other : (r : ℕ × V) (rs : List (ℕ × V)) (c : ℕ) → c ≢ r.0 → row_value (r ∷ rs) c ≡ row_value rs c
+  row_value-other r rs c other = grind (arith, nat_tests)
+
+  -- no row from n on has a character before it
+  pub row_value-before : (rows : List (ℕ × V)) (n c : ℕ) → list_all (λ r. nat_le n r.0) rows ≡ true → c < n → row_value rows c ≡ None
+  row_value-before [] n c from low = refl
+  row_value-before (r ∷ rs) n c from low =
+      let parts = and_parts (nat_le n r.0) (list_all (λ row. nat_le n row.0) rs) from in
+      row_value-other r rs c (λ e. absurd (omega (arith, leb-true n r.0 parts.0))) ∙ row_value-before rs n c parts.1 low

@@ -1,6 +1,8 @@
 //! Unicode's data as the algorithm asks for it.
-ghost use Rattle.std.specs.Prelude.{◌≡◌, ◌<◌, Some, option_map, option_and_then, IsSome, IfSome, IsTrue};
+ghost use Rattle.std.specs.Prelude.{◌≡◌, ◌<◌, Some, option_map, option_and_then, None, IsSome, IfSome, IfNone, IsTrue};
 ghost use Rattle.bidi_unicode.specs.Unicode.{class_named, bracket_of, bracket_in, normal_form, mirrored_of, unicode_source, is_opening, is_closing, other_bracket, is_mirrored_in};
+ghost use Rattle.bidi_unicode.specs.Rows.{row_value, IsRowOf};
+ghost use Rattle.bidi_unicode.specs.declared.tables.TheConstants.{BRACKETS};
 ghost use Rattle.ucd_bidi.specs.Binary.{is_bidi_mirrored};
 ghost use Rattle.ucd_category.specs.declared.GeneralCategory.TheVariants.{OpenPunctuation, ClosePunctuation};
 
@@ -86,8 +88,31 @@ fn class_beyond(c: char) -> BidiClass
 fn bracket_of(c: char) -> Option<BidiMatchedOpeningBracket>
     ensures { result ≡ bracket_of c }
 {
-    let (_, (partner, side)) = BRACKETS[rows::index_of(&BRACKETS, c)?];
+    let index = if c < '\u{0F3A}' {
+        early_row(c)?
+    } else {
+        rows::index_of(&BRACKETS, c)?
+    };
+    let (_, (partner, side)) = BRACKETS[index];
     Some(bracket_in(c, partner, side))
+}
+
+/// The index of the row of a character before U+0F3A in the table of brackets. Only ASCII has brackets
+/// there, and most characters that are asked for stand there.
+fn early_row(c: char) -> Option<usize>
+    requires { c < 0x0F3A }
+    ensures found { IfSome result (IsRowOf BRACKETS c) }
+    ensures absent { IfNone result (row_value BRACKETS c ≡ None) }
+{
+    match c {
+        '(' => Some(0),
+        ')' => Some(1),
+        '[' => Some(2),
+        ']' => Some(3),
+        '{' => Some(4),
+        '}' => Some(5),
+        _ => None,
+    }
 }
 
 /// The class that the property's value stands for.

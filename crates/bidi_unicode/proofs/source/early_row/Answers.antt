@@ -1,0 +1,25 @@
+use Rattle.bidi_base.proofs.Common.{◌≡◌, ◌≢◌, ℕ, suc, ◌<◌, true, None, ◌∷◌, get_or, drop, refl, ◌∙◌, nat_le, list_all, arith}
+use Rattle.bidi_unicode.specs.Rows.{row_value}
+use Rattle.bidi_unicode.specs.declared.tables.Side.{Side}
+use Rattle.bidi_unicode.specs.declared.tables.Side.TheVariants.{Open}
+use Rattle.bidi_unicode.specs.declared.tables.TheConstants.{BRACKETS}
+use Rattle.bidi_unicode.proofs.RowsLemmas.{row_value-other, row_value-before}
+use Rattle.bidi_unicode.proofs.source.early_row.Goals as goal
+
+-- the rows behind those of ASCII
+others_are_later : list_all (λ r. nat_le 0x0F3A r.0) (drop 6 BRACKETS) ≡ true
+others_are_later = refl
+
+-- the row at an index
+abbrev row : ℕ → ℕ × (ℕ × Side)
+row i = get_or BRACKETS i (0, (0, Open))
+
+none_early : (c : ℕ) → c < 0x0F3A → c ≢ 0x28 → c ≢ 0x29 → c ≢ 0x5B → c ≢ 0x5D → c ≢ 0x7B → c ≢ 0x7D → row_value BRACKETS c ≡ None
+none_early c low a b d e f g =
+    passed 0 a ∙ passed 1 b ∙ passed 2 d ∙ passed 3 e ∙ passed 4 f ∙ passed 5 g ∙ row_value-before (drop 6 BRACKETS) 0x0F3A c others_are_later low
+  where
+    passed : (i : ℕ) → c ≢ (row i).0 → row_value (row i ∷ drop (suc i) BRACKETS) c ≡ row_value (drop (suc i) BRACKETS) c
+    passed i other = row_value-other (row i) (drop (suc i) BRACKETS) c other
+
+pub returns-in_default-clause-absent : goal.returns-in_default-clause-absent
+returns-in_default-clause-absent c = grind (arith, none_early c.args.c)
