@@ -6,12 +6,11 @@ ghost use Rattle.bidi_base.specs.Classes.{is_kept_in_place, is_l_or_r, is_nsm};
 ghost use Rattle.bidi_base.specs.Places.{class_at};
 ghost use Rattle.bidi_base.specs.Units.{bounds, are_ordered, in_runs, units_in_runs};
 ghost use Rattle.bidi_base.specs.Weak.{carried};
-ghost use Rattle.bidi_weak.specs.WeakPass.{marked};
 ghost use Rattle.bidi_weak.specs.WeakWalk.{is_any, is_any_of, AreMarked, IsMarked};
 ghost use Rattle.bidi_runs.specs.Written.{is_seen};
 
 use super::part_of;
-use bidi_base::char_data::BidiClass::{self, FSI, LRI, NSM, ON, PDI, RLI};
+use bidi_base::char_data::BidiClass::{self, FSI, LRI, ON, PDI, RLI};
 use bidi_base::classes::is_nsm;
 use bidi_runs::prepare::{LevelRun, Steps};
 use bidi_runs::written::is_kept_in_place;
@@ -34,10 +33,10 @@ pub fn resolve_marks<S: Ledger>(
     if !has_marks(runs, classes) {
         return;
     }
-    let mut mark = carried(sos);
+    let mut last = sos;
     for run in runs {
         steps.tick();
-        mark = resolve_marks_in(run, mark, classes, steps);
+        last = resolve_marks_in(run, last, classes, steps);
     }
 }
 
@@ -57,10 +56,11 @@ fn is_mark_in(classes: &[BidiClass]) -> bool
         .fold(false, |found, class| found | is_nsm(*class))
 }
 
-/// The same over one run, where a mark at its front takes `mark`. Answers what a mark behind it takes.
+/// The same over one run, behind a character of the class `before`. Answers the class of the last character
+/// that is neither BN nor a mark; marks are asked what it gives them only where they come.
 fn resolve_marks_in<S: Ledger>(
     run: &LevelRun,
-    mark: BidiClass,
+    before: BidiClass,
     classes: &mut [BidiClass],
     steps: &mut Steps<S>,
 ) -> BidiClass
@@ -68,21 +68,21 @@ fn resolve_marks_in<S: Ledger>(
     requires within { run.now.end ≤ length classes.old }
     ensures marked { (runs : List (ℕ × ℕ)) (sos : BidiClass) (old : List BidiClass)
         → ((k : ℕ) → run.now.start ≤ k → k < run.now.end → in_runs runs k ≡ true)
-        → AreMarked runs sos old classes.old mark run.now.start
-        → AreMarked runs sos old classes.new result run.now.end }
+        → AreMarked runs sos old classes.old (carried before) run.now.start
+        → AreMarked runs sos old classes.new (carried result) run.now.end }
     ensures steps { steps.new ≡ steps.old + (run.now.end - run.now.start) }
 {
-    let mut next = mark;
+    let mut last = before;
     for unit in run.start..run.end {
         steps.tick();
         let class = classes[unit];
-        if is_kept_in_place(class) {
-            let own = marked(next, class);
-            classes[unit] = own;
-            next = carried(own);
+        if is_nsm(class) {
+            classes[unit] = carried(last);
+        } else if is_kept_in_place(class) {
+            last = class;
         }
     }
-    next
+    last
 }
 
 /// What a nonspacing mark takes from the character before it.
@@ -91,16 +91,6 @@ fn carried(class: BidiClass) -> BidiClass
 {
     match class {
         LRI | RLI | FSI | PDI => ON,
-        other => other,
-    }
-}
-
-/// A class after W1, where a nonspacing mark takes `mark`.
-fn marked(mark: BidiClass, class: BidiClass) -> BidiClass
-    ensures { result ≡ marked mark class }
-{
-    match class {
-        NSM => mark,
         other => other,
     }
 }

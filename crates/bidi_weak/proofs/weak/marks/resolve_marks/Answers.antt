@@ -18,8 +18,8 @@ loop-run-init g c =
       side_kept c.args.sos c.requires.sos,
     )
 
-pub resolve_marks_in-mark-requires-clause-ordered : goal.resolve_marks_in-mark-requires-clause-ordered
-resolve_marks_in-mark-requires-clause-ordered g c =
+pub resolve_marks_in-last-requires-clause-ordered : goal.resolve_marks_in-last-requires-clause-ordered
+resolve_marks_in-last-requires-clause-ordered g c =
     grind (
       arith,
       get_or-map bounds c.args.runs.now c.loop-run.run-index no_range (0, 0) c.loop-run-test.true,
@@ -27,8 +27,8 @@ resolve_marks_in-mark-requires-clause-ordered g c =
       length-map c.args.runs.now bounds,
     )
 
-pub resolve_marks_in-mark-requires-clause-within : goal.resolve_marks_in-mark-requires-clause-within
-resolve_marks_in-mark-requires-clause-within g c = omega (arith, run_end _ c.args.runs.now c.loop-run.run-index c.requires.within c.loop-run-test.true, c.loop-run.auto.classes)
+pub resolve_marks_in-last-requires-clause-within : goal.resolve_marks_in-last-requires-clause-within
+resolve_marks_in-last-requires-clause-within g c = omega (arith, run_end _ c.args.runs.now c.loop-run.run-index c.requires.within c.loop-run-test.true, c.loop-run.auto.classes)
 
 pub loop-run-preserved : goal.loop-run-preserved
 loop-run-preserved g c =
@@ -39,7 +39,7 @@ loop-run-preserved g c =
       start_or-at (map bounds c.args.runs.now) c.loop-run.run-index (length c.args.classes.now),
       in_runs-at c.loop-run.run-index (map bounds c.args.runs.now),
       run_some 0 c.loop-run.run-index (map bounds c.args.runs.now) c.requires.ordered,
-      AreMarked-next_run (map bounds c.args.runs.now) (carried c.args.sos) c.args.classes.now c.requires.ordered c.requires.within c.resolve_marks_in-mark.new.classes c.resolve_marks_in-mark.result c.loop-run.run-index,
+      AreMarked-next_run (map bounds c.args.runs.now) (carried c.args.sos) c.args.classes.now c.requires.ordered c.requires.within c.resolve_marks_in-last.new.classes (carried c.resolve_marks_in-last.result) c.loop-run.run-index,
       length-units_in_runs-more c.loop-run.run-index (map bounds c.args.runs.now),
     )
 

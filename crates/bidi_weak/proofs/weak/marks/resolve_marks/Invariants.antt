@@ -7,6 +7,6 @@ use Rattle.bidi_weak.proofs.weak.marks.resolve_marks.Given as goal
 abbrev pub invariant-loop-run : goal.invariant-loop-run
 invariant-loop-run g l =
     let runs = map bounds l.runs in
-    AreMarked runs (carried l.fn.sos) l.fn.classes l.classes l.mark (start_or runs l.run-index (length l.fn.classes))
+    AreMarked runs (carried l.fn.sos) l.fn.classes l.classes (carried l.last) (start_or runs l.run-index (length l.fn.classes))
     × (l.fn.steps ≤ l.steps)
     × (l.steps ≤ l.fn.steps + 2 * length (units_in_runs (take l.run-index runs)))
