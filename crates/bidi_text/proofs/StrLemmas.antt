@@ -1,7 +1,8 @@
 -- A text of UTF-8 as a list of characters: `chars bs`, with `len_utf8` for the lengths.
-use Rattle.bidi_base.proofs.Common.{◌≡◌, ℕ, ◌+◌, ◌-◌, ◌≤◌, true, List, [], ◌∷◌, ◌++◌, length, take, drop, Option, Some, None, option_map, slice_get, refl, sym, ◌∙◌, ap, arith, subst, append-nil, length-append, length-take, length-drop, get_or, get_or-drop, ◌<◌, if◌then◌else◌, common_steps, slice_range, take-append_seam, drop-append_seam, len_utf8, chars, IsUtf8, IsCharBoundary, encode_utf8_all, char_indices_steps, char_indices_rest, char_indices_offset, CharIndices, take-append-drop, sum_by-cons, encodes-chars, encodes-append, length-encode, chars-nil, IsUtf8-past_char, and_parts, nat_tests, YieldsList, text_len, char_indices, char_indices_from, indices_lengths_from, char_at, ascii_of, ascii_at, is_boundary, subrange, IsLine}
+use Rattle.bidi_base.proofs.Common.{◌≡◌, ℕ, ◌+◌, ◌-◌, ◌≤◌, true, List, [], ◌∷◌, ◌++◌, length, take, drop, Option, Some, None, option_map, slice_get, refl, sym, ◌∙◌, ap, arith, subst, append-nil, length-append, length-take, length-drop, get_or, get_or-drop, ◌<◌, ◌*◌, ◌%◌, nat_lt, ◌/◌, inl, inr, cases_lt, if◌then◌else◌, common_steps, slice_range, take-append_seam, drop-append_seam, len_utf8, chars, IsUtf8, IsCharBoundary, encode_utf8_all, char_indices_steps, char_indices_rest, char_indices_offset, CharIndices, take-append-drop, sum_by-cons, encodes-chars, encodes-append, length-encode, chars-nil, IsUtf8-past_char, and_parts, nat_tests, YieldsList, text_len, char_indices, char_indices_from, indices_lengths_from, char_at, ascii_of, ascii_at, is_boundary, subrange, IsLine}
 use Rattle.std.specs.Char.{encode_utf8, is_ascii}
 use Rattle.std.specs.Str.{all_scalars}
+use lib.Utf8.{encode}
 use Rattle.std.specs.Iterator.{AlwaysYields}
 use Rattle.std.proofs.lemmas.Str.{chars-append, scalars-chars, len_utf8_bounds, chars_past_char, IsUtf8-take, IsUtf8-drop, IsCharBoundary-at_seam, IsCharBoundary-before_ascii, IsCharBoundary-from_take, byte_from_char, char_from_byte}
 use Rattle.std.proofs.lemmas.Iterator.Splits.{YieldsList-from_shown_while}
@@ -107,6 +108,36 @@ ascii_at-byte bs i u within =
 
 pub ascii_at-past : (bs : List ℕ) (i : ℕ) → IsUtf8 bs → length bs ≤ i → ascii_at len_utf8 (chars bs) i ≡ None
 ascii_at-past bs i u past = grind (arith, char_at-end, text_len-chars)
+
+-- ---- a character of one or two bytes is told by them
+
+two_bytes : (c : ℕ) (rest : List ℕ) → 128 ≤ c → c < 2048 → encode_utf8 c ++ rest ≡ (192 + c / 64) ∷ (128 + c % 64) ∷ rest
+unfolding encode
+two_bytes c rest low high = grind (arith, nat_tests)
+
+more_bytes : (c : ℕ) (rest : List ℕ) → 2048 ≤ c → 224 ≤ get_or (encode_utf8 c ++ rest) 0 0
+unfolding encode
+more_bytes c rest high = grind (arith, nat_tests)
+
+short_first : (bs cs : List ℕ) → encode_utf8_all cs ≡ bs → 0 < length bs → get_or bs 0 0 < 224
+    → char_at len_utf8 cs 0 ≡ (if nat_lt (get_or bs 0 0) 192 then Some (get_or bs 0 0, 1) else Some (get_or bs 0 0 % 32 * 64 + get_or bs 1 0 % 64, 2))
+short_first bs [] e some low = absurd (omega (arith, ap length e))
+short_first bs (c ∷ cs) e some low = elim (cases_lt c 128) [
+  | inl one ↦ grind (arith, nat_tests, byte_from_char bs (encode_utf8_all cs) c (sym e) one)
+  | inr more ↦ elim (cases_lt c 2048) [
+    | inl two ↦ grind (arith, nat_tests, ap (λ l. get_or l 0 0) (two_bytes c (encode_utf8_all cs) more two), ap (λ l. get_or l 1 0) (two_bytes c (encode_utf8_all cs) more two))
+    | inr long ↦ absurd (omega (arith, more_bytes c (encode_utf8_all cs) long, ap (λ l. get_or l 0 0) e))
+  ]
+]
+
+pub char_at-short : (bs : List ℕ) (i : ℕ) → IsUtf8 bs → is_boundary len_utf8 (chars bs) i ≡ true → i < length bs → get_or bs i 0 < 224
+    → char_at len_utf8 (chars bs) i ≡ (if nat_lt (get_or bs i 0) 192 then Some (get_or bs i 0, 1) else Some (get_or bs i 0 % 32 * 64 + get_or bs (i + 1) 0 % 64, 2))
+char_at-short bs i u begins within low =
+    let b = IsCharBoundary-from_is_boundary bs i u begins in
+    let first : get_or (drop i bs) 0 0 ≡ get_or bs i 0 = grind (arith, get_or-drop) in
+    let second : get_or (drop i bs) 1 0 ≡ get_or bs (i + 1) 0 = get_or-drop i bs 1 0 in
+    let rest = IsUtf8-drop bs i u b in
+    char_at-from_str bs i u b ∙ simp (first, second) at (short_first (drop i bs) (chars (drop i bs)) (encodes-chars (drop i bs) rest) (omega (arith, length-drop i bs)) (omega (arith, first)))
 
 -- ---- what `Utf8IndexLenIter` has left
 

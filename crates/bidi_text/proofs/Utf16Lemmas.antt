@@ -104,6 +104,19 @@ pub record PairAt (us : List ℕ) (i : ℕ) : Type 0 where
 pub pair_at : (us : List ℕ) (i : ℕ) → splits_pair us i ≡ true → PairAt us i
 pair_at us i e = grind arith
 
+-- what stands at a place before the last unit
+first_two : (u v : ℕ) (us : List ℕ) → char_at utf16_len (utf16_text (u ∷ v ∷ us)) 0 ≡ (if is_pair u v then Some (pair_char u v, 2) else Some (lone_char u, 1))
+first_two u v us = grind (arith, text_pair u v us, text_lone u v us, utf16_len-pair u v, utf16_len-lone u)
+
+drop_two : (us : List ℕ) (i : ℕ) → i + 1 < length us → drop i us ≡ get_or us i 0 ∷ get_or us (i + 1) 0 ∷ drop (i + 2) us
+drop_two us i within = grind (arith, drop-cons)
+
+pub char_at-next : (us : List ℕ) (i : ℕ) → is_boundary utf16_len (utf16_text us) i ≡ true → i + 1 < text_len utf16_len (utf16_text us)
+    → char_at utf16_len (utf16_text us) i ≡ (if is_pair (get_or us i 0) (get_or us (i + 1) 0) then Some (pair_char (get_or us i 0) (get_or us (i + 1) 0), 2) else Some (lone_char (get_or us i 0), 1))
+char_at-next us i begins before_last =
+    let within : i + 1 < length us = omega (arith, before_last, text_len-utf16 us) in
+    char_at-cut us i (omega arith) (NoPairAt-from_is_boundary us i begins) ∙ ap (λ vs. char_at utf16_len (utf16_text vs) 0) (drop_two us i within) ∙ first_two (get_or us i 0) (get_or us (i + 1) 0) (drop (i + 2) us)
+
 pub char_at-inside : (us : List ℕ) (i : ℕ) → splits_pair us i ≡ true → char_at utf16_len (utf16_text us) i ≡ None
 char_at-inside us i e =
     let w = pair_at us i e in

@@ -3,7 +3,7 @@
 //! A *unit* is what an encoding counts, as a byte of UTF-8. The *place* of a character is the number
 //! of units before it. Every call of a text agrees with its list of characters.
 
-ghost use Rattle.std.specs.Prelude.{◌≡◌, ℕ, ◌≤◌, ◌↔◌, List, IsTrue};
+ghost use Rattle.std.specs.Prelude.{◌≡◌, ℕ, ◌+◌, ◌<◌, ◌≤◌, ◌↔◌, List, Some, IsTrue};
 ghost use Rattle.std.specs.List.{list_all};
 ghost use Rattle.bidi_base.specs.Text.{text_len, char_indices, indices_lengths, char_at, ascii_at, is_boundary, IsLine, subrange, all_same, is_per_char as is_per_char_of, Gives};
 
@@ -81,6 +81,19 @@ pub trait TextSource: Copy {
         match self.char_at(index) {
             Some((c, 1)) if c.is_ascii() => Some(c as u8),
             _ => None,
+        }
+    }
+
+    /// The character that begins at a unit, with its length in units. The unit must be the place of a
+    /// character, and not the text's last unit.
+    fn next_at(&self, index: usize) -> (char, usize)
+        requires begins { IsTrue (is_boundary units (characters self.now) index) }
+        requires before_last { index + 1 < text_len units (characters self.now) }
+        ensures { Some result ≡ char_at units (characters self.now) index }
+    {
+        match self.char_at(index) {
+            Some(found) => found,
+            None => unreachable!(),
         }
     }
 

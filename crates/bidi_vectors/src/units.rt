@@ -66,6 +66,16 @@ fn unit_agrees<T: TextSource>(text: T, chars: &[char], places: &[usize], unit: u
     text.char_at(unit) == character
         && text.is_boundary(unit) == is_boundary
         && text.ascii_at(unit).map(|byte| char::from(byte)) == ascii
+        && next_agrees(text, character, unit)
+}
+
+// Sees that a text answers the character of a place before its last unit.
+fn next_agrees<T: TextSource>(text: T, character: Option<(char, usize)>, unit: usize) -> bool {
+    if unit < text.len().saturating_sub(1) && text.is_boundary(unit) {
+        Some(text.next_at(unit)) == character
+    } else {
+        true
+    }
 }
 
 // Sees that a text answers of every range what it is: a line between two places, or none.

@@ -156,6 +156,10 @@ impl<'t> TextSource for CharsText<'t> {
         if c.is_ascii() { Some(c as u8) } else { None }
     }
 
+    fn next_at(&self, index: usize) -> (char, usize) {
+        (self.list[index], 1)
+    }
+
     fn subrange(self, range: Range<usize>) -> CharsText<'t> {
         let list = self.list();
         CharsText::new(&list[range])

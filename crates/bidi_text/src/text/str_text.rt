@@ -1,6 +1,6 @@
 //! Texts of UTF-8, whose units are bytes.
 
-ghost use Rattle.std.specs.Prelude.{◌≡◌, ℕ, ◌+◌, ◌<◌, ◌^◌, length};
+ghost use Rattle.std.specs.Prelude.{◌≡◌, ℕ, ◌+◌, ◌*◌, ◌%◌, ◌<◌, ◌^◌, nat_lt, if◌then◌else◌, length};
 ghost use Rattle.std.specs.Char.{len_utf8};
 ghost use Rattle.std.specs.Str.{chars, IsUtf8};
 ghost use Rattle.std.specs.Str.Iter.{char_indices_rest, char_indices_offset};
@@ -74,6 +74,31 @@ impl<'t> Iterator for Utf8IndexLenIter<'t> {
     }
 }
 
+// The character of a code below the surrogates.
+fn char_of_code(code: u32) -> char
+    requires { code < 0xD800 }
+    ensures { result ≡ code }
+{
+    match char::from_u32(code) {
+        Some(c) => c,
+        None => unreachable!(),
+    }
+}
+
+// The character that begins with these two bytes, or with the first of them, and its length. It is one
+// or two bytes long. Where words are of letters of two bytes, a branch between the two would be
+// mispredicted at the spaces, so both are worked out.
+fn one_or_two(first: u8, second: u8) -> (char, usize)
+    requires { first < 0xE0 }
+    ensures { result ≡ (if nat_lt first 0xC0 then (first, 1) else (first % 32 * 64 + second % 64, 2)) }
+{
+    let one = u32::from(first);
+    let two = one % 32 * 64 + u32::from(second) % 64;
+    let is_two = first >= 0xC0;
+    let code = if is_two { two } else { one };
+    (char_of_code(code), 1 + usize::from(is_two))
+}
+
 impl<'t> TextSource for StrText<'t> {
     type CharIter = Chars<'t>;
 
@@ -105,6 +130,18 @@ impl<'t> TextSource for StrText<'t> {
     fn ascii_at(&self, index: usize) -> Option<u8> {
         let byte = *self.as_str().as_bytes().get(index)?;
         if byte.is_ascii() { Some(byte) } else { None }
+    }
+
+    fn next_at(&self, index: usize) -> (char, usize) {
+        let bytes = self.as_str().as_bytes();
+        let first = bytes[index];
+        if first < 0xE0 {
+            return one_or_two(first, bytes[index + 1]);
+        }
+        match self.char_at(index) {
+            Some(found) => found,
+            None => unreachable!(),
+        }
     }
 
     fn subrange(self, range: Range<usize>) -> StrText<'t> {

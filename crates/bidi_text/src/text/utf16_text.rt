@@ -235,6 +235,21 @@ impl<'t> TextSource for Utf16Text<'t> {
         if unit < 0x80 { Some(unit as u8) } else { None }
     }
 
+    fn next_at(&self, index: usize) -> (char, usize) {
+        let units = self.units();
+        let unit = units[index];
+        // Most units are no surrogates, and then the next one is not asked for.
+        if let Some(c) = char::from_u32(u32::from(unit)) {
+            return (c, 1);
+        }
+        let next = units[index + 1];
+        if is_pair(unit, next) {
+            (char_of_pair(unit, next), 2)
+        } else {
+            (char::REPLACEMENT_CHARACTER, 1)
+        }
+    }
+
     fn subrange(self, range: Range<usize>) -> Utf16Text<'t> {
         let units = self.units();
         Utf16Text::new(&units[range])
