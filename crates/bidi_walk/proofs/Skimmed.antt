@@ -1,11 +1,13 @@
 -- Characters on which nothing depends, read one after another.
-use Rattle.bidi_base.proofs.Common.{◌≡◌, ℕ, ◌+◌, ◌≤◌, true, false, List, [], ◌∷◌, ◌++◌, length, take, Some, None, set, refl, sym, ap, ◌∙◌, arith, add-one, append_assoc, drop-append_seam, map-append, length-map, nat_tests, All-nil, All-append, All-push, sum_by-append, sum_by-cons, Source, text_len, char_at, ascii_of, ascii_at, is_boundary}
+use Rattle.bidi_base.proofs.Common.{◌≡◌, ℕ, ◌+◌, ◌-◌, ◌<◌, ◌≤◌, true, false, List, [], ◌∷◌, ◌++◌, length, take, drop, Some, set, refl, sym, ap, ◌∙◌, arith, add-one, append_assoc, length-take, length-drop, rules, drop-append_seam, take-append-add, map-append, length-map, take-append-le, take-append-drop, nat_tests, All-nil, All-append, All-push, sum_by-append, sum_by-cons, Source, text_len, char_at, ascii_of, ascii_at, char_index, is_boundary, subrange, IsLine}
 use Rattle.std.specs.Prelude.{replicate}
+use Rattle.std.proofs.Math.Nat.{add_assoc}
 use Rattle.std.proofs.Math.Seq.{take-suc-set}
 use Rattle.std.proofs.lemmas.List.{append-nil}
 use Rattle.bidi_base.specs.declared.char_data.BidiClass.{BidiClass}
+use Rattle.bidi_base.proofs.PlaceLemmas.{text_len-subrange}
 use Rattle.bidi_base.proofs.PerUnit.{per_unit-push, per_unit-append}
-use Rattle.bidi_base.proofs.TextLemmas.{cut_at, HasUnits, is_boundary-char_at, char_at-append, char_index-append, is_boundary-append}
+use Rattle.bidi_base.proofs.TextLemmas.{cut_at, HasUnits, char_at-append, char_index-append, is_boundary-append, is_boundary-le}
 use Rattle.bidi_walk.specs.declared.class_set.ClassSet.{ClassSet}
 use Rattle.bidi_walk.specs.declared.first_walk.Met.{Met}
 use Rattle.bidi_walk.specs.ClassSet.{has}
@@ -17,24 +19,12 @@ module _ (len_of : ℕ → ℕ) (units : HasUnits len_of) where
   pub ahead-append : (xs ys : List ℕ) → ahead len_of (xs ++ ys) (text_len len_of xs) ≡ ys
   ahead-append xs ys = grind (arith, char_index-append, drop-append_seam)
 
--- a character, n units long, begins what comes
-record CharNext (len_of : ℕ → ℕ) (coming : List ℕ) (c n : ℕ) : Type 0 where
-  pub tail : List ℕ
-  pub next : coming ≡ c ∷ tail
-  pub long : n ≡ len_of c
+pub is_boundary-end : (len_of : ℕ → ℕ) (chars : List ℕ) → is_boundary len_of chars (text_len len_of chars) ≡ true
+is_boundary-end len_of chars = ap (λ cs. is_boundary len_of cs (text_len len_of chars)) (sym (append-nil chars)) ∙ is_boundary-append len_of chars []
 
-char_next : (len_of : ℕ → ℕ) (coming : List ℕ) (c n : ℕ) → char_at len_of coming 0 ≡ Some (c, n) → CharNext len_of coming c n
-char_next len_of [] c n e = absurd (cc e)
-char_next len_of (d ∷ ds) c n e =
-    let same : ◌≡◌ {A = ℕ × ℕ} (d, len_of d) (c, n) = cc e in
-    let first : d ≡ c = ap (λ (p : ℕ × ℕ). p.0) same in
-    record { tail = ds; next = ap (λ x. x ∷ ds) first; long = sym (ap (λ (p : ℕ × ℕ). p.1) same) ∙ ap len_of first }
-
--- its units, in the text
-pub record CharRoom (len_of : ℕ → ℕ) (chars : List ℕ) (at c n : ℕ) : Type 0 where
-  pub long : n ≡ len_of c
-  pub some : 1 ≤ n
-  pub fits : at + n ≤ text_len len_of chars
+-- what is no boundary is not the end
+pub inside-lt : (len_of : ℕ → ℕ) (chars : List ℕ) (u : ℕ) → is_boundary len_of chars u ≡ false → u ≤ text_len len_of chars → u < text_len len_of chars
+inside-lt len_of chars u inside le = grind (arith, is_boundary-end len_of chars)
 
 -- an ASCII character, one unit long, begins what comes
 pub record AsciiNext (len_of : ℕ → ℕ) (coming : List ℕ) (c : ℕ) : Type 0 where
@@ -56,13 +46,22 @@ module _ (source : Source) (len_of : ℕ → ℕ) (minded : ClassSet) where
   AreWritten-join : (xs ys : List ℕ) (from at to : ℕ) (old new after : List BidiClass) → AreWritten source len_of xs from at old new → AreWritten source len_of ys at to new after → AreWritten source len_of (xs ++ ys) from to old after
   AreWritten-join xs ys from at to old new after h k = grind (arith, sum_by-append, append_assoc, per_unit-append, length-map, map-append)
 
-  pub IsSkimmed-start : (coming : List ℕ) (at : ℕ) (classes : List BidiClass) → IsSkimmed source len_of minded coming at at classes classes
+  -- where the units from `at` on were handed on
+  AreWritten-part : (read : List ℕ) (at to : ℕ) (old part new tail : List BidiClass) → at ≤ length old → to ≤ length new → AreWritten source len_of read 0 to part new → AreWritten source len_of read at (at + to) old (take at old ++ (new ++ tail))
+  AreWritten-part read at to old part new tail inside room h =
+      grind (arith, length-take at old, take-append-add (take at old) (new ++ tail) to, take-append-le to new tail room)
+
+  -- it begins in what came
+  pub IsMet-within : (coming : List ℕ) (from : ℕ) (met : Met) (old new : List BidiClass) → IsMet source len_of minded coming from met old new → met.start ≤ from + text_len len_of coming
+  IsMet-within coming from met old new h = grind (arith, sum_by-append)
+
+  unfoldable pub IsSkimmed-start : (coming : List ℕ) (at : ℕ) (classes : List BidiClass) → IsSkimmed source len_of minded coming at at classes classes
   IsSkimmed-start coming at classes =
       let written : AreWritten source len_of [] at at classes classes = record { long = omega arith; classes = sym (append-nil (take at classes)) } in
       record { read = []; rest = coming; joined = refl; idle = All-nil (λ c. has minded (source.class_of c) ≡ false); written = written }
 
   module _ (coming : List ℕ) (from at : ℕ) (old new : List BidiClass) (h : IsSkimmed source len_of minded coming from at old new) where
-    pub IsSkimmed-more : (c : ℕ) (rest : List ℕ) (to : ℕ) (after : List BidiClass) → h.rest ≡ c ∷ rest → has minded (source.class_of c) ≡ false → to ≡ at + len_of c
+    unfoldable pub IsSkimmed-more : (c : ℕ) (rest : List ℕ) (to : ℕ) (after : List BidiClass) → h.rest ≡ c ∷ rest → has minded (source.class_of c) ≡ false → to ≡ at + len_of c
         → take to after ≡ take at new ++ replicate (len_of c) (source.class_of c) → IsSkimmed source len_of minded coming from to old after
     IsSkimmed-more c rest to after next idle end is =
         let joined = h.joined ∙ ap (λ cs. h.read ++ cs) next ∙ sym (append_assoc h.read (c ∷ []) rest) in
@@ -122,9 +121,6 @@ module _ (source : Source) (len_of : ℕ → ℕ) (minded : ClassSet) where
       pub IsMet-on : (met : Met) (after : List BidiClass) → IsMet source len_of minded (ahead len_of chars at) at met new after → IsMet source len_of minded coming from met old after
       IsMet-on met after k = IsMet-join met after (rw ahead-skimmed at k)
 
-      pub IsSkimmed-on : (to : ℕ) (after : List BidiClass) → IsSkimmed source len_of minded (ahead len_of chars at) at to new after → IsSkimmed source len_of minded coming from to old after
-      IsSkimmed-on to after k = IsSkimmed-join to after (rw ahead-skimmed at k)
-
       pub fits-skimmed : at + text_len len_of h.rest ≡ text_len len_of chars
       fits-skimmed = omega (arith, ap (text_len len_of) split, sum_by-append len_of passed h.rest, passed_long)
 
@@ -146,30 +142,76 @@ module _ (source : Source) (len_of : ℕ → ℕ) (minded : ClassSet) where
             let w = ascii-skimmed c is in
             IsMet-next (record { start = at; c = c; class = class }) w.tail (set new at class) w.next refl is_class (simp w.one one_more)
 
-      -- any character that comes
-      module _ (c n : ℕ) (is : Some (c, n) ≡ char_at len_of chars at) where
-        char-skimmed : CharNext len_of h.rest c n
-        char-skimmed = char_next len_of h.rest c n (cc (char_at-append len_of units passed h.rest, split, passed_long, is))
-
-        pub char-room : CharRoom len_of chars at c n
-        char-room = record {
-          long = char-skimmed.long;
-          some = omega (arith, units c, char-skimmed.long);
-          fits = omega (arith, fits-skimmed, ap (text_len len_of) char-skimmed.next, sum_by-cons len_of c char-skimmed.tail, char-skimmed.long);
-        }
-
-        module _ (class : BidiClass) (is_class : class ≡ source.class_of c) (after : List BidiClass) (written : take (at + len_of c) after ≡ take at new ++ replicate (len_of c) class) where
-          pub IsSkimmed-char : has minded class ≡ false → IsSkimmed source len_of minded coming from (at + n) old after
-          IsSkimmed-char idle =
-              let w = char-skimmed in
-              IsSkimmed-more c w.tail (at + n) after w.next (cc (is_class, idle)) (omega (arith, w.long)) (simp (w.long, ← is_class) written)
-
-          pub IsMet-char : IsMet source len_of minded coming from (record { start = at; c = c; class = class }) old after
-          IsMet-char = IsMet-next (record { start = at; c = c; class = class }) char-skimmed.tail after char-skimmed.next refl is_class written
-
-      -- where none comes, the text ends
-      pub end-skimmed : char_at len_of chars at ≡ None → at ≡ text_len len_of chars
-      end-skimmed none = grind (arith, nat_tests, units, is_boundary-skimmed, is_boundary-char_at)
-
       pub within-skimmed : at ≤ text_len len_of chars
       within-skimmed = omega (arith, fits-skimmed)
+
+-- ---- one turn of the walk to the next character on which something depends
+
+module _ (source : Source) (len_of : ℕ → ℕ) (minded : ClassSet) (units : HasUnits len_of) (chars : List ℕ) (from at start : ℕ) (old now new : List BidiClass) (begins : is_boundary len_of chars from ≡ true)
+    (h : IsSkimmed source len_of minded (ahead len_of chars from) from at old now) (k : IsSkimmed source len_of minded (ahead len_of chars at) at start now new) where
+  skimmed : IsSkimmed source len_of minded (ahead len_of chars from) from start old new
+  skimmed = IsSkimmed-join source len_of minded (ahead len_of chars from) from at old now h start new
+      (rw (ahead-skimmed source len_of minded (ahead len_of chars from) from at old now h units chars begins refl) at k)
+
+  pub start-within : start ≤ text_len len_of chars
+  start-within = search (rules, within-skimmed, skimmed)
+
+  -- a block begins there
+  module _ (end : ℕ) (order : start ≤ end) (boundary : is_boundary len_of chars end ≡ true) where
+    pub block-line : IsLine len_of chars start end
+    block-line = record { ordered = order; begins = is_boundary-skimmed source len_of minded (ahead len_of chars from) from start old new skimmed units chars begins refl; ends = boundary }
+
+    module _ (block : List ℕ) (is_block : block ≡ subrange len_of chars start end) where
+      pub block-long : start + text_len len_of block ≡ end
+      block-long = omega (arith, ap (text_len len_of) is_block, text_len-subrange len_of units chars start end block-line, order)
+
+      pub block-room : length new ≡ text_len len_of chars → text_len len_of block ≤ length (take (length new - start) (drop start new))
+      block-room long = omega (arith, block-long, is_boundary-le len_of chars end boundary, length-take (length new - start) (drop start new), length-drop start new)
+
+      -- it is read into the units from there on
+      behind : List ℕ
+      behind = drop (char_index len_of chars end - char_index len_of chars start) (ahead len_of chars start)
+
+      block_first : skimmed.rest ≡ block ++ behind
+      unfolding behind
+      block_first =
+          cc (
+            ahead-skimmed source len_of minded (ahead len_of chars from) from start old new skimmed units chars begins refl,
+            is_block,
+            take-append-drop (char_index len_of chars end - char_index len_of chars start) (ahead len_of chars start),
+          )
+
+      module _ (part written tail : List BidiClass) (long : length new ≡ text_len len_of chars) (room : text_len len_of block ≤ length written) where
+        inside : start ≤ length new
+        inside = omega (arith, long, start-within)
+
+        pub IsSkimmed-turn : IsSkimmed source len_of minded block 0 (text_len len_of block) part written → IsSkimmed source len_of minded (ahead len_of chars from) from end old (take start new ++ (written ++ tail))
+        IsSkimmed-turn k =
+            IsSkimmed-join source len_of minded (ahead len_of chars from) from start old new skimmed end (take start new ++ (written ++ tail)) (record {
+              read = k.read;
+              rest = k.rest ++ behind;
+              joined = cc (block_first, append_assoc k.read k.rest behind, k.joined);
+              idle = k.idle;
+              written = rw (← block-long) (AreWritten-part source len_of minded k.read start (text_len len_of block) new part written tail inside room k.written);
+            })
+
+        pub IsMet-turn : (met : Met) → IsMet source len_of minded block 0 met part written
+            → IsMet source len_of minded (ahead len_of chars from) from (record { start = start + met.start; c = met.c; class = met.class }) old (take start new ++ (written ++ tail))
+        IsMet-turn met k =
+            let fits : met.start + len_of met.c ≤ length written = grind (
+              arith,
+              k.written.long,
+              k.joined,
+              sum_by-append,
+              sum_by-cons,
+              room,
+            ) in
+            IsMet-join source len_of minded (ahead len_of chars from) from start old new skimmed (record { start = start + met.start; c = met.c; class = met.class }) (take start new ++ (written ++ tail)) (record {
+              read = k.read;
+              rest = k.rest ++ behind;
+              joined = cc (block_first, append_assoc k.read (met.c ∷ k.rest) behind, k.joined);
+              idle = k.idle;
+              begins = omega (arith, k.begins);
+              class = k.class;
+              written = rw (add_assoc start met.start (len_of met.c)) (AreWritten-part source len_of minded (k.read ++ met.c ∷ []) start (met.start + len_of met.c) new part written tail inside fits k.written);
+            })

@@ -1,6 +1,6 @@
 //! One walk over a text: the class of each character, with each FSI resolved (X5c), and the
 //! paragraphs (P1) with their levels (P2, P3).
-ghost use Rattle.std.specs.Prelude.{◌≡◌, ℕ, ◌+◌, ◌<◌, ◌≤◌, ◌&&◌, if◌then◌else◌, true, false, ◌++◌, length, take, drop, replicate, OnOk, IfOk, MatchOption, IsTrue, All, Some, None};
+ghost use Rattle.std.specs.Prelude.{◌≡◌, ℕ, ◌+◌, ◌<◌, ◌≤◌, ◌&&◌, if◌then◌else◌, true, false, ◌++◌, length, take, drop, replicate, OnOk, IfOk, MatchOption, IsTrue, All, Some};
 ghost use Rattle.std.specs.Option.{is_some};
 ghost use Rattle.bidi_base.specs.declared.char_data.BidiClass.{BidiClass};
 ghost use Rattle.bidi_base.specs.Classes.{is_strong as is_strong_class};
@@ -280,31 +280,19 @@ impl TextReading {
     }
 }
 
-// Writes a character's class to each of its units, of which the first is given.
+// Writes a character's class to each of its units, of which the first is given. Up to four are written
+// at once; units behind the character may get the class too, since what comes next writes over them.
 fn write<T: TextSource>(classes: &mut [BidiClass], start: usize, c: char, class: BidiClass)
     requires { start + T.units c ≤ length classes.old }
     ensures { take (start + T.units c) classes.new ≡ take start classes.old ++ replicate (T.units c) class }
 {
-    classes[start..start + T::char_len(c)].fill(class);
-}
-
-// How many units are written at once, where there are as many.
-const AT_ONCE: usize = 4;
-
-// The same, where at least so many units begin. Units behind the character may get the class too, since
-// what comes next writes over them.
-fn write_at_once<T: TextSource>(classes: &mut [BidiClass], start: usize, c: char, class: BidiClass)
-    requires fits { start + T.units c ≤ length classes.old }
-    requires room { start + 4 ≤ length classes.old }
-    ensures { take (start + T.units c) classes.new ≡ take start classes.old ++ replicate (T.units c) class }
-{
-    if T::char_len(c) <= AT_ONCE {
+    if T::char_len(c) <= 4 && classes.len() - start >= 4 {
         classes[start] = class;
         classes[start + 1] = class;
         classes[start + 2] = class;
         classes[start + 3] = class;
     } else {
-        write::<T>(classes, start, c, class);
+        classes[start..start + T::char_len(c)].fill(class);
     }
 }
 
@@ -377,103 +365,49 @@ fn skim<D: BidiDataSource, T: TextSource>(
     None
 }
 
-// Writes the classes of the characters that begin from a place on and before a limit, up to one on which
-// something depends, and answers it. Where none comes, the place goes on to the first character that
-// begins at the limit or behind it. From each place before the limit on, four units can be written.
-#[inline(never)]
-fn read_block<D: BidiDataSource, T: TextSource>(
-    data_source: &D,
-    text: T,
-    classes: &mut [BidiClass],
-    at: &mut usize,
-    limit: usize,
-    minded: ClassSet,
-) -> Option<Met>
-    requires sized { length classes.old ≡ text_len T.units (T.characters text) }
-    requires begins { IsTrue (is_boundary_of T.units (T.characters text) at.old) }
-    requires room { limit + 3 ≤ length classes.old }
-    ensures met { MatchOption result
-        (IsSkimmed (D.source data_source.now) T.units minded (ahead T.units (T.characters text) at.old) at.old at.new
-        classes.old classes.new)
-        (λ met. IsMet (D.source data_source.now) T.units minded (ahead T.units (T.characters text) at.old) at.old met
-        classes.old classes.new) }
-    ensures passed { result ≡ None → limit ≤ at.new }
+// How many units are read without another look at what is ASCII.
+const BLOCK: usize = 256;
+
+// The end of the block of characters that begins at a place.
+fn block_end<T: TextSource>(text: T, from: usize) -> usize
+    requires { from ≤ text_len T.units (T.characters text) }
+    ensures order { from ≤ result }
+    ensures goes_on { from < text_len T.units (T.characters text) → from < result }
+    ensures boundary { IsTrue (is_boundary_of T.units (T.characters text) result) }
 {
-    let mut start = *at;
-    while start < limit {
-        let (c, len) = text.next_at(start);
-        let class = data_source.bidi_class(c);
-        write_at_once::<T>(classes, start, c, class);
-        if minded.has(class) {
-            return Some(Met { start, c, class });
-        }
-        start += len;
+    let len = text.len();
+    if len - from <= BLOCK {
+        return len;
     }
-    *at = start;
-    None
+    let mut end = from + BLOCK;
+    while !text.is_boundary(end) {
+        end += 1;
+    }
+    end
 }
 
-// Writes the classes of all characters from a place on, up to one on which something depends, and
-// answers it. Where none comes, the place goes on to the end.
+// Writes the classes of a text's characters, up to one on which something depends, and answers it.
 #[inline(never)]
-fn read_rest<D: BidiDataSource, T: TextSource>(
+fn read_to_minded<D: BidiDataSource, T: TextSource>(
     data_source: &D,
-    text: T,
+    block: T,
     classes: &mut [BidiClass],
-    at: &mut usize,
     minded: ClassSet,
 ) -> Option<Met>
-    requires sized { length classes.old ≡ text_len T.units (T.characters text) }
-    requires begins { IsTrue (is_boundary_of T.units (T.characters text) at.old) }
-    ensures met { MatchOption result
-        (IsSkimmed (D.source data_source.now) T.units minded (ahead T.units (T.characters text) at.old) at.old at.new
-        classes.old classes.new)
-        (λ met. IsMet (D.source data_source.now) T.units minded (ahead T.units (T.characters text) at.old) at.old met
-        classes.old classes.new) }
-    ensures passed { result ≡ None → length classes.new ≤ at.new }
+    requires { text_len T.units (T.characters block) ≤ length classes.old }
+    ensures { MatchOption result
+        (IsSkimmed (D.source data_source.now) T.units minded (T.characters block) 0
+        (text_len T.units (T.characters block)) classes.old classes.new)
+        (λ met. IsMet (D.source data_source.now) T.units minded (T.characters block) 0 met classes.old classes.new) }
 {
-    let mut start = *at;
-    while let Some((c, len)) = text.char_at(start) {
+    for (start, c) in block.char_indices() {
         let class = data_source.bidi_class(c);
         write::<T>(classes, start, c, class);
         if minded.has(class) {
             return Some(Met { start, c, class });
         }
-        start += len;
     }
-    *at = start;
     None
-}
-
-// How many units are read without another look at what is ASCII.
-const BLOCK: usize = 256;
-
-// Writes the classes of the characters of a block that begins at a place, up to one on which something
-// depends, and answers it. Where none comes, the place goes on.
-fn read_on<D: BidiDataSource, T: TextSource>(
-    data_source: &D,
-    text: T,
-    classes: &mut [BidiClass],
-    at: &mut usize,
-    minded: ClassSet,
-) -> Option<Met>
-    requires sized { length classes.old ≡ text_len T.units (T.characters text) }
-    requires begins { IsTrue (is_boundary_of T.units (T.characters text) at.old) }
-    ensures met { MatchOption result
-        (IsSkimmed (D.source data_source.now) T.units minded (ahead T.units (T.characters text) at.old) at.old at.new
-        classes.old classes.new)
-        (λ met. IsMet (D.source data_source.now) T.units minded (ahead T.units (T.characters text) at.old) at.old met
-        classes.old classes.new) }
-    ensures passed { result ≡ None → at.old < length classes.new → at.old < at.new }
-{
-    let start = *at;
-    let left = classes.len() - start;
-    if left < AT_ONCE {
-        return read_rest(data_source, text, classes, at, minded);
-    }
-    let wide = left - (AT_ONCE - 1);
-    let limit = start + wide.min(BLOCK);
-    read_block(data_source, text, classes, at, limit, minded)
 }
 
 // Writes the classes of the characters from a place on, up to one on which something depends, and
@@ -501,9 +435,16 @@ fn next_minded<D: BidiDataSource, T: TextSource>(
         if let Some(met) = skim(data_source, known, text, classes, &mut at, minded) {
             return Some(met);
         }
-        if let Some(met) = read_on(data_source, text, classes, &mut at, minded) {
-            return Some(met);
+        let end = block_end(text, at);
+        let block = text.subrange(at..end);
+        if let Some(met) = read_to_minded(data_source, block, &mut classes[at..], minded) {
+            let place = at + met.start;
+            return Some(Met {
+                start: place,
+                ..met
+            });
         }
+        at = end;
     }
     None
 }
