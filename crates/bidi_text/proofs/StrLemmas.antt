@@ -2,7 +2,7 @@
 use Rattle.bidi_base.proofs.Common.{◌≡◌, ℕ, ◌+◌, ◌-◌, ◌≤◌, true, List, [], ◌∷◌, ◌++◌, length, take, drop, Option, Some, None, option_map, slice_get, refl, sym, ◌∙◌, ap, arith, subst, append-nil, length-append, length-take, length-drop, get_or, get_or-drop, ◌<◌, ◌*◌, ◌%◌, nat_lt, ◌/◌, inl, inr, cases_lt, if◌then◌else◌, common_steps, slice_range, take-append_seam, drop-append_seam, len_utf8, chars, IsUtf8, IsCharBoundary, encode_utf8_all, char_indices_steps, char_indices_rest, char_indices_offset, CharIndices, take-append-drop, sum_by-cons, encodes-chars, encodes-append, length-encode, chars-nil, IsUtf8-past_char, and_parts, nat_tests, YieldsList, text_len, char_indices, char_indices_from, indices_lengths_from, char_at, ascii_of, ascii_at, is_boundary, subrange, IsLine}
 use Rattle.std.specs.Char.{encode_utf8, is_ascii}
 use Rattle.std.specs.Str.{all_scalars}
-use lib.Utf8.{encode}
+use lib.Utf8.{encode, scalar, scalar_cases}
 use Rattle.std.specs.Iterator.{AlwaysYields}
 use Rattle.std.proofs.lemmas.Str.{chars-append, scalars-chars, len_utf8_bounds, chars_past_char, IsUtf8-take, IsUtf8-drop, IsCharBoundary-at_seam, IsCharBoundary-before_ascii, IsCharBoundary-from_take, byte_from_char, char_from_byte}
 use Rattle.std.proofs.lemmas.Iterator.Splits.{YieldsList-from_shown_while}
@@ -138,6 +138,108 @@ char_at-short bs i u begins within low =
     let second : get_or (drop i bs) 1 0 ≡ get_or bs (i + 1) 0 = get_or-drop i bs 1 0 in
     let rest = IsUtf8-drop bs i u b in
     char_at-from_str bs i u b ∙ simp (first, second) at (short_first (drop i bs) (chars (drop i bs)) (encodes-chars (drop i bs) rest) (omega (arith, length-drop i bs)) (omega (arith, first)))
+
+-- ---- a character of three bytes or four is told by them
+
+abbrev pub code_of_three : ℕ → ℕ → ℕ → ℕ
+code_of_three first second third = first % 16 * 4096 + second % 64 * 64 + third % 64
+
+abbrev pub code_of_four : ℕ → ℕ → ℕ → ℕ → ℕ
+code_of_four first second third fourth = first % 8 * 262144 + second % 64 * 4096 + third % 64 * 64 + fourth % 64
+
+scalar_below : (c : ℕ) → scalar c ≡ true → c < 1114112
+scalar_below c e = elim (scalar_cases c e) [
+  | inl low ↦ omega (arith, low)
+  | inr high ↦ high.1
+]
+
+fewer_bytes : (c : ℕ) (rest : List ℕ) → c < 2048 → get_or (encode_utf8 c ++ rest) 0 0 < 224
+unfolding encode
+fewer_bytes c rest low = grind (arith, nat_tests)
+
+three_bytes : (c : ℕ) (rest : List ℕ) → 2048 ≤ c → c < 65536 → encode_utf8 c ++ rest ≡ (224 + c / 4096) ∷ (128 + c / 64 % 64) ∷ (128 + c % 64) ∷ rest
+unfolding encode
+three_bytes c rest low high = grind (arith, nat_tests)
+
+four_bytes : (c : ℕ) (rest : List ℕ) → 65536 ≤ c → encode_utf8 c ++ rest ≡ (240 + c / 262144) ∷ (128 + c / 4096 % 64) ∷ (128 + c / 64 % 64) ∷ (128 + c % 64) ∷ rest
+unfolding encode
+four_bytes c rest high = grind (arith, nat_tests)
+
+-- a code that is read from the bytes at i, n of them
+pub record IsReadFrom (bs : List ℕ) (i n code : ℕ) (there : Option (ℕ × ℕ)) : Type 0 where
+  pub long : i + n ≤ length bs
+  pub valid : scalar code ≡ true
+  pub found : there ≡ Some (code, n)
+
+three_first : (bs cs : List ℕ) → encode_utf8_all cs ≡ bs → all_scalars cs ≡ true → 0 < length bs → 224 ≤ get_or bs 0 0 → get_or bs 0 0 < 240
+    → IsReadFrom bs 0 3 (code_of_three (get_or bs 0 0) (get_or bs 1 0) (get_or bs 2 0)) (char_at len_utf8 cs 0)
+three_first bs [] e s some low high = absurd (omega (arith, ap length e))
+three_first bs (c ∷ cs) e s some low high = elim (cases_lt c 2048) [
+  | inl few ↦ absurd (omega (arith, fewer_bytes c (encode_utf8_all cs) few, ap (λ l. get_or l 0 0) e))
+  | inr more ↦ elim (cases_lt c 65536) [
+    | inr long ↦ absurd (omega (arith, ap (λ l. get_or l 0 0) (four_bytes c (encode_utf8_all cs) long), ap (λ l. get_or l 0 0) e))
+    | inl fits ↦
+        let is : bs ≡ (224 + c / 4096) ∷ (128 + c / 64 % 64) ∷ (128 + c % 64) ∷ encode_utf8_all cs = sym e ∙ three_bytes c (encode_utf8_all cs) more fits in
+        let code : code_of_three (get_or bs 0 0) (get_or bs 1 0) (get_or bs 2 0) ≡ c = grind (arith, is) in
+        record {
+          long = omega (arith, ap length is);
+          valid = cc (code, (and_parts (scalar c) (all_scalars cs) s).0);
+          found = grind (arith, nat_tests, code);
+        }
+  ]
+]
+
+four_first : (bs cs : List ℕ) → encode_utf8_all cs ≡ bs → all_scalars cs ≡ true → 0 < length bs → 240 ≤ get_or bs 0 0
+    → IsReadFrom bs 0 4 (code_of_four (get_or bs 0 0) (get_or bs 1 0) (get_or bs 2 0) (get_or bs 3 0)) (char_at len_utf8 cs 0)
+four_first bs [] e s some high = absurd (omega (arith, ap length e))
+four_first bs (c ∷ cs) e s some high = elim (cases_lt c 2048) [
+  | inl few ↦ absurd (omega (arith, fewer_bytes c (encode_utf8_all cs) few, ap (λ l. get_or l 0 0) e))
+  | inr more ↦ elim (cases_lt c 65536) [
+    | inl fits ↦ absurd (omega (arith, ap (λ l. get_or l 0 0) (three_bytes c (encode_utf8_all cs) more fits), ap (λ l. get_or l 0 0) e))
+    | inr long ↦
+        let is : bs ≡ (240 + c / 262144) ∷ (128 + c / 4096 % 64) ∷ (128 + c / 64 % 64) ∷ (128 + c % 64) ∷ encode_utf8_all cs = sym e ∙ four_bytes c (encode_utf8_all cs) long in
+        let here = (and_parts (scalar c) (all_scalars cs) s).0 in
+        let code : code_of_four (get_or bs 0 0) (get_or bs 1 0) (get_or bs 2 0) (get_or bs 3 0) ≡ c = grind (arith, is, scalar_below c here) in
+        record {
+          long = omega (arith, ap length is);
+          valid = cc (code, here);
+          found = grind (arith, nat_tests, code);
+        }
+  ]
+]
+
+module _ (bs : List ℕ) (i : ℕ) (u : IsUtf8 bs) (begins : is_boundary len_utf8 (chars bs) i ≡ true) (within : i < length bs) where
+  cut : IsCharBoundary bs i
+  cut = IsCharBoundary-from_is_boundary bs i u begins
+
+  rest_utf8 : IsUtf8 (drop i bs)
+  rest_utf8 = IsUtf8-drop bs i u cut
+
+  byte : (k : ℕ) → get_or (drop i bs) k 0 ≡ get_or bs (i + k) 0
+  byte k = get_or-drop i bs k 0
+
+  first : get_or (drop i bs) 0 0 ≡ get_or bs i 0
+  first = grind (arith, get_or-drop)
+
+  pub char_at-three : 224 ≤ get_or bs i 0 → get_or bs i 0 < 240
+      → IsReadFrom bs i 3 (code_of_three (get_or bs i 0) (get_or bs (i + 1) 0) (get_or bs (i + 2) 0)) (char_at len_utf8 (chars bs) i)
+  char_at-three low high =
+      let w = three_first (drop i bs) (chars (drop i bs)) (encodes-chars (drop i bs) rest_utf8) (scalars-chars (drop i bs) rest_utf8) (omega (arith, length-drop i bs, within)) (omega (arith, first, low)) (omega (arith, first, high)) in
+      record {
+        long = omega (arith, w.long, length-drop i bs);
+        valid = simp (first, byte 1, byte 2) at w.valid;
+        found = char_at-from_str bs i u cut ∙ simp (first, byte 1, byte 2) at w.found;
+      }
+
+  pub char_at-four : 240 ≤ get_or bs i 0
+      → IsReadFrom bs i 4 (code_of_four (get_or bs i 0) (get_or bs (i + 1) 0) (get_or bs (i + 2) 0) (get_or bs (i + 3) 0)) (char_at len_utf8 (chars bs) i)
+  char_at-four high =
+      let w = four_first (drop i bs) (chars (drop i bs)) (encodes-chars (drop i bs) rest_utf8) (scalars-chars (drop i bs) rest_utf8) (omega (arith, length-drop i bs, within)) (omega (arith, first, high)) in
+      record {
+        long = omega (arith, w.long, length-drop i bs);
+        valid = simp (first, byte 1, byte 2, byte 3) at w.valid;
+        found = char_at-from_str bs i u cut ∙ simp (first, byte 1, byte 2, byte 3) at w.found;
+      }
 
 -- ---- what `Utf8IndexLenIter` has left
 

@@ -3,8 +3,9 @@
 //! A *unit* is what an encoding counts, as a byte of UTF-8. The *place* of a character is the number
 //! of units before it. Every call of a text agrees with its list of characters.
 
-ghost use Rattle.std.specs.Prelude.{◌≡◌, ℕ, ◌+◌, ◌<◌, ◌≤◌, ◌↔◌, List, Some, IsTrue};
+ghost use Rattle.std.specs.Prelude.{◌≡◌, ℕ, ◌+◌, ◌<◌, ◌≤◌, ◌↔◌, true, List, Some, IsTrue};
 ghost use Rattle.std.specs.List.{list_all};
+ghost use lib.Utf8.{scalar};
 ghost use Rattle.bidi_base.specs.Text.{text_len, char_indices, indices_lengths, char_at, ascii_at, is_boundary, IsLine, subrange, all_same, is_per_char as is_per_char_of, Gives};
 
 use std::ops::Range;
@@ -27,6 +28,10 @@ pub trait TextSource: Copy {
 
     /// Gives the place and the length of each character.
     type IndexLenIter: Iterator<Item = (usize, usize)>;
+
+    /// Whether `next_at` takes no longer than a step of `char_indices`, as where the units stand in one
+    /// list. Such a text is read place by place where that is quicker. The answers are the same.
+    const READS_IN_PLACE: bool = false;
 
     /// The characters that the text means.
     ghost characters: { Self → List ℕ };
@@ -85,7 +90,7 @@ pub trait TextSource: Copy {
     }
 
     /// The character that begins at a unit, with its length in units. The unit must be the place of a
-    /// character, and not the text's last unit.
+    /// character, and not the text's last unit, so that the next unit can be read with it.
     fn next_at(&self, index: usize) -> (char, usize)
         requires begins { IsTrue (is_boundary units (characters self.now) index) }
         requires before_last { index + 1 < text_len units (characters self.now) }
@@ -107,6 +112,17 @@ pub fn is_line<T: TextSource>(text: T, line: &Range<usize>) -> bool
     ensures { IsTrue result ↔ IsLine T.units (T.characters text) line.now.start line.now.end }
 {
     line.start <= line.end && text.is_boundary(line.start) && text.is_boundary(line.end)
+}
+
+// The character of a code.
+fn char_of_code(code: u32) -> char
+    requires { scalar code ≡ true }
+    ensures { result ≡ code }
+{
+    match char::from_u32(code) {
+        Some(c) => c,
+        None => unreachable!(),
+    }
 }
 
 // Whether all entries equal one.

@@ -1,5 +1,5 @@
 -- Characters on which nothing depends, read one after another.
-use Rattle.bidi_base.proofs.Common.{◌≡◌, ℕ, ◌+◌, ◌-◌, ◌<◌, ◌≤◌, true, false, List, [], ◌∷◌, ◌++◌, length, take, drop, Some, set, refl, sym, ap, ◌∙◌, arith, add-one, append_assoc, length-take, length-drop, rules, drop-append_seam, take-append-add, map-append, length-map, take-append-le, take-append-drop, nat_tests, All-nil, All-append, All-push, sum_by-append, sum_by-cons, Source, text_len, char_at, ascii_of, ascii_at, char_index, is_boundary, subrange, IsLine}
+use Rattle.bidi_base.proofs.Common.{◌≡◌, ℕ, ◌+◌, ◌-◌, ◌<◌, ◌≤◌, true, false, List, [], ◌∷◌, ◌++◌, length, take, drop, Some, set, refl, sym, ap, ◌∙◌, arith, add-one, append_assoc, length-take, length-drop, drop-append_seam, take-append-add, map-append, length-map, take-append-le, take-append-drop, nat_tests, All-nil, All-append, All-push, sum_by-append, sum_by-cons, Source, text_len, char_at, ascii_of, ascii_at, char_index, is_boundary, subrange, IsLine}
 use Rattle.std.specs.Prelude.{replicate}
 use Rattle.std.proofs.Math.Nat.{add_assoc}
 use Rattle.std.proofs.Math.Seq.{take-suc-set}
@@ -25,6 +25,25 @@ is_boundary-end len_of chars = ap (λ cs. is_boundary len_of cs (text_len len_of
 -- what is no boundary is not the end
 pub inside-lt : (len_of : ℕ → ℕ) (chars : List ℕ) (u : ℕ) → is_boundary len_of chars u ≡ false → u ≤ text_len len_of chars → u < text_len len_of chars
 inside-lt len_of chars u inside le = grind (arith, is_boundary-end len_of chars)
+
+-- a character, n units long, begins what comes
+record CharNext (len_of : ℕ → ℕ) (coming : List ℕ) (c n : ℕ) : Type 0 where
+  pub tail : List ℕ
+  pub next : coming ≡ c ∷ tail
+  pub long : n ≡ len_of c
+
+char_next : (len_of : ℕ → ℕ) (coming : List ℕ) (c n : ℕ) → char_at len_of coming 0 ≡ Some (c, n) → CharNext len_of coming c n
+char_next len_of [] c n e = absurd (cc e)
+char_next len_of (d ∷ ds) c n e =
+    let same : ◌≡◌ {A = ℕ × ℕ} (d, len_of d) (c, n) = cc e in
+    let first : d ≡ c = ap (λ (p : ℕ × ℕ). p.0) same in
+    record { tail = ds; next = ap (λ x. x ∷ ds) first; long = sym (ap (λ (p : ℕ × ℕ). p.1) same) ∙ ap len_of first }
+
+-- its units, in the text
+pub record CharRoom (len_of : ℕ → ℕ) (chars : List ℕ) (at c n : ℕ) : Type 0 where
+  pub long : n ≡ len_of c
+  pub some : 1 ≤ n
+  pub fits : at + n ≤ text_len len_of chars
 
 -- an ASCII character, one unit long, begins what comes
 pub record AsciiNext (len_of : ℕ → ℕ) (coming : List ℕ) (c : ℕ) : Type 0 where
@@ -121,6 +140,9 @@ module _ (source : Source) (len_of : ℕ → ℕ) (minded : ClassSet) where
       pub IsMet-on : (met : Met) (after : List BidiClass) → IsMet source len_of minded (ahead len_of chars at) at met new after → IsMet source len_of minded coming from met old after
       IsMet-on met after k = IsMet-join met after (rw ahead-skimmed at k)
 
+      pub IsSkimmed-on : (to : ℕ) (after : List BidiClass) → IsSkimmed source len_of minded (ahead len_of chars at) at to new after → IsSkimmed source len_of minded coming from to old after
+      IsSkimmed-on to after k = IsSkimmed-join to after (rw ahead-skimmed at k)
+
       pub fits-skimmed : at + text_len len_of h.rest ≡ text_len len_of chars
       fits-skimmed = omega (arith, ap (text_len len_of) split, sum_by-append len_of passed h.rest, passed_long)
 
@@ -142,62 +164,68 @@ module _ (source : Source) (len_of : ℕ → ℕ) (minded : ClassSet) where
             let w = ascii-skimmed c is in
             IsMet-next (record { start = at; c = c; class = class }) w.tail (set new at class) w.next refl is_class (simp w.one one_more)
 
+      -- any character that comes
+      module _ (c n : ℕ) (is : Some (c, n) ≡ char_at len_of chars at) where
+        char-skimmed : CharNext len_of h.rest c n
+        char-skimmed = char_next len_of h.rest c n (cc (char_at-append len_of units passed h.rest, split, passed_long, is))
+
+        pub char-room : CharRoom len_of chars at c n
+        char-room = record {
+          long = char-skimmed.long;
+          some = omega (arith, units c, char-skimmed.long);
+          fits = omega (arith, fits-skimmed, ap (text_len len_of) char-skimmed.next, sum_by-cons len_of c char-skimmed.tail, char-skimmed.long);
+        }
+
+        module _ (class : BidiClass) (is_class : class ≡ source.class_of c) (after : List BidiClass) (written : take (at + len_of c) after ≡ take at new ++ replicate (len_of c) class) where
+          pub IsSkimmed-char : has minded class ≡ false → IsSkimmed source len_of minded coming from (at + n) old after
+          IsSkimmed-char idle =
+              let w = char-skimmed in
+              IsSkimmed-more c w.tail (at + n) after w.next (cc (is_class, idle)) (omega (arith, w.long)) (simp (w.long, ← is_class) written)
+
+          pub IsMet-char : IsMet source len_of minded coming from (record { start = at; c = c; class = class }) old after
+          IsMet-char = IsMet-next (record { start = at; c = c; class = class }) char-skimmed.tail after char-skimmed.next refl is_class written
+
       pub within-skimmed : at ≤ text_len len_of chars
       within-skimmed = omega (arith, fits-skimmed)
 
--- ---- one turn of the walk to the next character on which something depends
+-- ---- a block that is handed on by itself
 
-module _ (source : Source) (len_of : ℕ → ℕ) (minded : ClassSet) (units : HasUnits len_of) (chars : List ℕ) (from at start : ℕ) (old now new : List BidiClass) (begins : is_boundary len_of chars from ≡ true)
-    (h : IsSkimmed source len_of minded (ahead len_of chars from) from at old now) (k : IsSkimmed source len_of minded (ahead len_of chars at) at start now new) where
-  skimmed : IsSkimmed source len_of minded (ahead len_of chars from) from start old new
-  skimmed = IsSkimmed-join source len_of minded (ahead len_of chars from) from at old now h start new
-      (rw (ahead-skimmed source len_of minded (ahead len_of chars from) from at old now h units chars begins refl) at k)
+module _ (len_of : ℕ → ℕ) (units : HasUnits len_of) (chars : List ℕ) (start end : ℕ) (begins : is_boundary len_of chars start ≡ true) (order : start ≤ end) (boundary : is_boundary len_of chars end ≡ true) where
+  pub block-line : IsLine len_of chars start end
+  block-line = record { ordered = order; begins = begins; ends = boundary }
 
-  pub start-within : start ≤ text_len len_of chars
-  start-within = search (rules, within-skimmed, skimmed)
+  module _ (block : List ℕ) (is_block : block ≡ subrange len_of chars start end) where
+    pub block-long : start + text_len len_of block ≡ end
+    block-long = omega (arith, ap (text_len len_of) is_block, text_len-subrange len_of units chars start end block-line, order)
 
-  -- a block begins there
-  module _ (end : ℕ) (order : start ≤ end) (boundary : is_boundary len_of chars end ≡ true) where
-    pub block-line : IsLine len_of chars start end
-    block-line = record { ordered = order; begins = is_boundary-skimmed source len_of minded (ahead len_of chars from) from start old new skimmed units chars begins refl; ends = boundary }
+    module _ (classes : List BidiClass) (long : length classes ≡ text_len len_of chars) where
+      pub block-room : text_len len_of block ≤ length (take (length classes - start) (drop start classes))
+      block-room = omega (arith, block-long, is_boundary-le len_of chars end boundary, long, length-take (length classes - start) (drop start classes), length-drop start classes)
 
-    module _ (block : List ℕ) (is_block : block ≡ subrange len_of chars start end) where
-      pub block-long : start + text_len len_of block ≡ end
-      block-long = omega (arith, ap (text_len len_of) is_block, text_len-subrange len_of units chars start end block-line, order)
+      inside : start ≤ length classes
+      inside = omega (arith, long, is_boundary-le len_of chars start begins)
 
-      pub block-room : length new ≡ text_len len_of chars → text_len len_of block ≤ length (take (length new - start) (drop start new))
-      block-room long = omega (arith, block-long, is_boundary-le len_of chars end boundary, length-take (length new - start) (drop start new), length-drop start new)
-
-      -- it is read into the units from there on
+      -- its classes are written to the units from there on
       behind : List ℕ
       behind = drop (char_index len_of chars end - char_index len_of chars start) (ahead len_of chars start)
 
-      block_first : skimmed.rest ≡ block ++ behind
+      block_first : ahead len_of chars start ≡ block ++ behind
       unfolding behind
-      block_first =
-          cc (
-            ahead-skimmed source len_of minded (ahead len_of chars from) from start old new skimmed units chars begins refl,
-            is_block,
-            take-append-drop (char_index len_of chars end - char_index len_of chars start) (ahead len_of chars start),
-          )
+      block_first = cc (is_block, take-append-drop (char_index len_of chars end - char_index len_of chars start) (ahead len_of chars start))
 
-      module _ (part written tail : List BidiClass) (long : length new ≡ text_len len_of chars) (room : text_len len_of block ≤ length written) where
-        inside : start ≤ length new
-        inside = omega (arith, long, start-within)
+      module _ (source : Source) (minded : ClassSet) (part written tail : List BidiClass) (room : text_len len_of block ≤ length written) where
+        pub IsSkimmed-block : IsSkimmed source len_of minded block 0 (text_len len_of block) part written → IsSkimmed source len_of minded (ahead len_of chars start) start end classes (take start classes ++ (written ++ tail))
+        IsSkimmed-block k = record {
+          read = k.read;
+          rest = k.rest ++ behind;
+          joined = cc (block_first, append_assoc k.read k.rest behind, k.joined);
+          idle = k.idle;
+          written = rw (← block-long) (AreWritten-part source len_of minded k.read start (text_len len_of block) classes part written tail inside room k.written);
+        }
 
-        pub IsSkimmed-turn : IsSkimmed source len_of minded block 0 (text_len len_of block) part written → IsSkimmed source len_of minded (ahead len_of chars from) from end old (take start new ++ (written ++ tail))
-        IsSkimmed-turn k =
-            IsSkimmed-join source len_of minded (ahead len_of chars from) from start old new skimmed end (take start new ++ (written ++ tail)) (record {
-              read = k.read;
-              rest = k.rest ++ behind;
-              joined = cc (block_first, append_assoc k.read k.rest behind, k.joined);
-              idle = k.idle;
-              written = rw (← block-long) (AreWritten-part source len_of minded k.read start (text_len len_of block) new part written tail inside room k.written);
-            })
-
-        pub IsMet-turn : (met : Met) → IsMet source len_of minded block 0 met part written
-            → IsMet source len_of minded (ahead len_of chars from) from (record { start = start + met.start; c = met.c; class = met.class }) old (take start new ++ (written ++ tail))
-        IsMet-turn met k =
+        pub IsMet-block : (met : Met) → IsMet source len_of minded block 0 met part written
+            → IsMet source len_of minded (ahead len_of chars start) start (record { start = start + met.start; c = met.c; class = met.class }) classes (take start classes ++ (written ++ tail))
+        IsMet-block met k =
             let fits : met.start + len_of met.c ≤ length written = grind (
               arith,
               k.written.long,
@@ -206,12 +234,12 @@ module _ (source : Source) (len_of : ℕ → ℕ) (minded : ClassSet) (units : H
               sum_by-cons,
               room,
             ) in
-            IsMet-join source len_of minded (ahead len_of chars from) from start old new skimmed (record { start = start + met.start; c = met.c; class = met.class }) (take start new ++ (written ++ tail)) (record {
+            record {
               read = k.read;
               rest = k.rest ++ behind;
               joined = cc (block_first, append_assoc k.read (met.c ∷ k.rest) behind, k.joined);
               idle = k.idle;
               begins = omega (arith, k.begins);
               class = k.class;
-              written = rw (add_assoc start met.start (len_of met.c)) (AreWritten-part source len_of minded (k.read ++ met.c ∷ []) start (met.start + len_of met.c) new part written tail inside fits k.written);
-            })
+              written = rw (add_assoc start met.start (len_of met.c)) (AreWritten-part source len_of minded (k.read ++ met.c ∷ []) start (met.start + len_of met.c) classes part written tail inside fits k.written);
+            }

@@ -1,6 +1,6 @@
 //! One walk over a text: the class of each character, with each FSI resolved (X5c), and the
 //! paragraphs (P1) with their levels (P2, P3).
-ghost use Rattle.std.specs.Prelude.{◌≡◌, ℕ, ◌+◌, ◌<◌, ◌≤◌, ◌&&◌, if◌then◌else◌, true, false, ◌++◌, length, take, drop, replicate, OnOk, IfOk, MatchOption, IsTrue, All, Some};
+ghost use Rattle.std.specs.Prelude.{◌≡◌, ℕ, ◌+◌, ◌<◌, ◌≤◌, ◌&&◌, if◌then◌else◌, true, false, ◌++◌, length, take, drop, replicate, OnOk, IfOk, MatchOption, IsTrue, All, Some, None};
 ghost use Rattle.std.specs.Option.{is_some};
 ghost use Rattle.bidi_base.specs.declared.char_data.BidiClass.{BidiClass};
 ghost use Rattle.bidi_base.specs.Classes.{is_strong as is_strong_class};
@@ -280,19 +280,43 @@ impl TextReading {
     }
 }
 
-// Writes a character's class to each of its units, of which the first is given. Up to four are written
-// at once; units behind the character may get the class too, since what comes next writes over them.
-fn write<T: TextSource>(classes: &mut [BidiClass], start: usize, c: char, class: BidiClass)
+// Writes a character's class to each of its units, of which the first is given.
+fn write_each<T: TextSource>(classes: &mut [BidiClass], start: usize, c: char, class: BidiClass)
     requires { start + T.units c ≤ length classes.old }
     ensures { take (start + T.units c) classes.new ≡ take start classes.old ++ replicate (T.units c) class }
 {
-    if T::char_len(c) <= 4 && classes.len() - start >= 4 {
+    classes[start..start + T::char_len(c)].fill(class);
+}
+
+// How many units are written at once, where there are as many.
+const AT_ONCE: usize = 4;
+
+// The same, where so many units stand from the first one on. Units behind the character may get the class
+// too, since what comes next writes over them.
+fn write_at_once<T: TextSource>(classes: &mut [BidiClass], start: usize, c: char, class: BidiClass)
+    requires fits { start + T.units c ≤ length classes.old }
+    requires room { start + 4 ≤ length classes.old }
+    ensures { take (start + T.units c) classes.new ≡ take start classes.old ++ replicate (T.units c) class }
+{
+    if T::char_len(c) <= AT_ONCE {
         classes[start] = class;
         classes[start + 1] = class;
         classes[start + 2] = class;
         classes[start + 3] = class;
     } else {
-        classes[start..start + T::char_len(c)].fill(class);
+        write_each::<T>(classes, start, c, class);
+    }
+}
+
+// The same, wherever it stands.
+fn write<T: TextSource>(classes: &mut [BidiClass], start: usize, c: char, class: BidiClass)
+    requires { start + T.units c ≤ length classes.old }
+    ensures { take (start + T.units c) classes.new ≡ take start classes.old ++ replicate (T.units c) class }
+{
+    if classes.len() - start >= AT_ONCE {
+        write_at_once::<T>(classes, start, c, class);
+    } else {
+        write_each::<T>(classes, start, c, class);
     }
 }
 
@@ -410,6 +434,103 @@ fn read_to_minded<D: BidiDataSource, T: TextSource>(
     None
 }
 
+// Writes the classes of a block's characters, up to one on which something depends, and answers it. The
+// block begins at a place; where none comes, the place goes on to its end.
+fn read_block<D: BidiDataSource, T: TextSource>(
+    data_source: &D,
+    text: T,
+    classes: &mut [BidiClass],
+    at: &mut usize,
+    minded: ClassSet,
+) -> Option<Met>
+    requires sized { length classes.old ≡ text_len T.units (T.characters text) }
+    requires begins { IsTrue (is_boundary_of T.units (T.characters text) at.old) }
+    ensures met { MatchOption result
+        (IsSkimmed (D.source data_source.now) T.units minded (ahead T.units (T.characters text) at.old) at.old at.new
+        classes.old classes.new)
+        (λ met. IsMet (D.source data_source.now) T.units minded (ahead T.units (T.characters text) at.old) at.old met
+        classes.old classes.new) }
+    ensures passed { result ≡ None → at.old < length classes.new → at.old < at.new }
+{
+    let start = *at;
+    let end = block_end(text, start);
+    let block = text.subrange(start..end);
+    if let Some(met) = read_to_minded(data_source, block, &mut classes[start..], minded) {
+        let place = start + met.start;
+        return Some(Met {
+            start: place,
+            ..met
+        });
+    }
+    *at = end;
+    None
+}
+
+// The same, place by place, of the characters that begin before a limit. From each of these places on
+// there are four units. Where none comes, the place goes on to the first character that begins at the
+// limit or behind it.
+#[inline(never)]
+fn read_in_place<D: BidiDataSource, T: TextSource>(
+    data_source: &D,
+    text: T,
+    classes: &mut [BidiClass],
+    at: &mut usize,
+    limit: usize,
+    minded: ClassSet,
+) -> Option<Met>
+    requires sized { length classes.old ≡ text_len T.units (T.characters text) }
+    requires begins { IsTrue (is_boundary_of T.units (T.characters text) at.old) }
+    requires room { limit + 3 ≤ length classes.old }
+    ensures met { MatchOption result
+        (IsSkimmed (D.source data_source.now) T.units minded (ahead T.units (T.characters text) at.old) at.old at.new
+        classes.old classes.new)
+        (λ met. IsMet (D.source data_source.now) T.units minded (ahead T.units (T.characters text) at.old) at.old met
+        classes.old classes.new) }
+    ensures passed { result ≡ None → limit ≤ at.new }
+{
+    let mut start = *at;
+    while start < limit {
+        let (c, len) = text.next_at(start);
+        let class = data_source.bidi_class(c);
+        write_at_once::<T>(classes, start, c, class);
+        if minded.has(class) {
+            return Some(Met { start, c, class });
+        }
+        start += len;
+    }
+    *at = start;
+    None
+}
+
+// Writes the classes of some characters from a place on, up to one on which something depends, and
+// answers it. Where none comes, the place goes on. A text that does not read in place goes by the
+// iterator, and so do a text's last three units.
+fn read_on<D: BidiDataSource, T: TextSource>(
+    data_source: &D,
+    text: T,
+    classes: &mut [BidiClass],
+    at: &mut usize,
+    minded: ClassSet,
+) -> Option<Met>
+    requires sized { length classes.old ≡ text_len T.units (T.characters text) }
+    requires begins { IsTrue (is_boundary_of T.units (T.characters text) at.old) }
+    ensures met { MatchOption result
+        (IsSkimmed (D.source data_source.now) T.units minded (ahead T.units (T.characters text) at.old) at.old at.new
+        classes.old classes.new)
+        (λ met. IsMet (D.source data_source.now) T.units minded (ahead T.units (T.characters text) at.old) at.old met
+        classes.old classes.new) }
+    ensures passed { result ≡ None → at.old < length classes.new → at.old < at.new }
+{
+    let start = *at;
+    let left = classes.len() - start;
+    if T::READS_IN_PLACE && left >= AT_ONCE {
+        let limit = start + (left - (AT_ONCE - 1)).min(BLOCK);
+        read_in_place(data_source, text, classes, at, limit, minded)
+    } else {
+        read_block(data_source, text, classes, at, minded)
+    }
+}
+
 // Writes the classes of the characters from a place on, up to one on which something depends, and
 // answers it.
 fn next_minded<D: BidiDataSource, T: TextSource>(
@@ -435,16 +556,9 @@ fn next_minded<D: BidiDataSource, T: TextSource>(
         if let Some(met) = skim(data_source, known, text, classes, &mut at, minded) {
             return Some(met);
         }
-        let end = block_end(text, at);
-        let block = text.subrange(at..end);
-        if let Some(met) = read_to_minded(data_source, block, &mut classes[at..], minded) {
-            let place = at + met.start;
-            return Some(Met {
-                start: place,
-                ..met
-            });
+        if let Some(met) = read_on(data_source, text, classes, &mut at, minded) {
+            return Some(met);
         }
-        at = end;
     }
     None
 }

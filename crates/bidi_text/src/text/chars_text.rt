@@ -136,6 +136,8 @@ impl<'t> TextSource for CharsText<'t> {
 
     type IndexLenIter = CharsIndexLenIter<'t>;
 
+    const READS_IN_PLACE: bool = true;
+
     ghost characters = { λ t. t.list.now };
 
     ghost units = { one_unit };

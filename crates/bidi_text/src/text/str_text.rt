@@ -1,13 +1,14 @@
 //! Texts of UTF-8, whose units are bytes.
 
-ghost use Rattle.std.specs.Prelude.{◌≡◌, ℕ, ◌+◌, ◌*◌, ◌%◌, ◌<◌, ◌^◌, nat_lt, if◌then◌else◌, length};
+ghost use Rattle.std.specs.Prelude.{◌≡◌, ℕ, ◌+◌, ◌*◌, ◌%◌, ◌<◌, ◌^◌, true, nat_lt, if◌then◌else◌, length};
 ghost use Rattle.std.specs.Char.{len_utf8};
 ghost use Rattle.std.specs.Str.{chars, IsUtf8};
 ghost use Rattle.std.specs.Str.Iter.{char_indices_rest, char_indices_offset};
 ghost use Rattle.std.specs.Iterator.{YieldsFirst, item_count};
 ghost use Rattle.bidi_base.specs.Text.{indices_lengths_from};
+ghost use lib.Utf8.{scalar};
 
-use super::TextSource;
+use super::{TextSource, char_of_code};
 use std::ops::Range;
 use std::str::{CharIndices, Chars};
 
@@ -74,21 +75,9 @@ impl<'t> Iterator for Utf8IndexLenIter<'t> {
     }
 }
 
-// The character of a code below the surrogates.
-fn char_of_code(code: u32) -> char
-    requires { code < 0xD800 }
-    ensures { result ≡ code }
-{
-    match char::from_u32(code) {
-        Some(c) => c,
-        None => unreachable!(),
-    }
-}
-
-// The character that begins with these two bytes, or with the first of them, and its length. It is one
-// or two bytes long. Where words are of letters of two bytes, a branch between the two would be
-// mispredicted at the spaces, so both are worked out.
-fn one_or_two(first: u8, second: u8) -> (char, usize)
+// The character of the first of these bytes, or of both, with its length. Both are worked out: where
+// letters have two bytes, a branch would be mispredicted at each space.
+fn char_of_one_or_two(first: u8, second: u8) -> (char, usize)
     requires { first < 0xE0 }
     ensures { result ≡ (if nat_lt first 0xC0 then (first, 1) else (first % 32 * 64 + second % 64, 2)) }
 {
@@ -99,12 +88,34 @@ fn one_or_two(first: u8, second: u8) -> (char, usize)
     (char_of_code(code), 1 + usize::from(is_two))
 }
 
+// The character of these three bytes.
+fn char_of_three(first: u8, second: u8, third: u8) -> char
+    requires { scalar (first % 16 * 4096 + second % 64 * 64 + third % 64) ≡ true }
+    ensures { result ≡ first % 16 * 4096 + second % 64 * 64 + third % 64 }
+{
+    let high = u32::from(first) % 16 * 4096;
+    let middle = u32::from(second) % 64 * 64;
+    char_of_code(high + middle + u32::from(third) % 64)
+}
+
+// The character of these four bytes.
+fn char_of_four(first: u8, second: u8, third: u8, fourth: u8) -> char
+    requires { scalar (first % 8 * 262144 + second % 64 * 4096 + third % 64 * 64 + fourth % 64) ≡ true }
+    ensures { result ≡ first % 8 * 262144 + second % 64 * 4096 + third % 64 * 64 + fourth % 64 }
+{
+    let high = u32::from(first) % 8 * 262144 + u32::from(second) % 64 * 4096;
+    let low = u32::from(third) % 64 * 64 + u32::from(fourth) % 64;
+    char_of_code(high + low)
+}
+
 impl<'t> TextSource for StrText<'t> {
     type CharIter = Chars<'t>;
 
     type CharIndexIter = CharIndices<'t>;
 
     type IndexLenIter = Utf8IndexLenIter<'t>;
+
+    const READS_IN_PLACE: bool = true;
 
     ghost characters = { λ t. chars t.text.now };
 
@@ -135,13 +146,15 @@ impl<'t> TextSource for StrText<'t> {
     fn next_at(&self, index: usize) -> (char, usize) {
         let bytes = self.as_str().as_bytes();
         let first = bytes[index];
+        let second = bytes[index + 1];
         if first < 0xE0 {
-            return one_or_two(first, bytes[index + 1]);
+            return char_of_one_or_two(first, second);
         }
-        match self.char_at(index) {
-            Some(found) => found,
-            None => unreachable!(),
+        let third = bytes[index + 2];
+        if first < 0xF0 {
+            return (char_of_three(first, second, third), 3);
         }
+        (char_of_four(first, second, third, bytes[index + 3]), 4)
     }
 
     fn subrange(self, range: Range<usize>) -> StrText<'t> {

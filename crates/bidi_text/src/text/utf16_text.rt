@@ -5,7 +5,7 @@ ghost use Rattle.std.specs.Iterator.{YieldsFirst, YieldsLast, item_count};
 ghost use Rattle.bidi_base.specs.Text.{char_indices_from, indices_lengths_from};
 ghost use Rattle.bidi_base.specs.Utf16.{is_pair as is_pair_of, splits_pair as splits_pair_of, pair_char, lone_char, utf16_text, utf16_len, IsFirst, IsLast};
 
-use super::TextSource;
+use super::{TextSource, char_of_code};
 use std::ops::Range;
 
 /// A text of UTF-16. A high surrogate directly followed by a low one is one character, two units
@@ -58,11 +58,7 @@ fn char_of_pair(high: u16, low: u16) -> char
     requires { is_pair_of high low ≡ true }
     ensures { result ≡ pair_char high low }
 {
-    let code = 0x10000 + (u32::from(high - 0xD800) * 0x400 + u32::from(low - 0xDC00));
-    match char::from_u32(code) {
-        Some(c) => c,
-        None => unreachable!(),
-    }
+    char_of_code(0x10000 + (u32::from(high - 0xD800) * 0x400 + u32::from(low - 0xDC00)))
 }
 
 // The character of a unit in no pair.
@@ -213,6 +209,8 @@ impl<'t> TextSource for Utf16Text<'t> {
     type CharIndexIter = Utf16CharIndexIter<'t>;
 
     type IndexLenIter = Utf16IndexLenIter<'t>;
+
+    const READS_IN_PLACE: bool = true;
 
     ghost characters = { λ t. utf16_text t.units.now };
 
