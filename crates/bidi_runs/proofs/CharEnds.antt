@@ -28,6 +28,10 @@ module _ (len_of : ℕ → ℕ) (h : HasUnits len_of) (chars : List ℕ) where
   end-within u c l e boundary inside =
       grind (arith, begins_at u boundary inside, length-at u c l, place-more-le)
 
+  -- the last unit, if a character begins there, is one by itself
+  pub end-last : (u k : ℕ) → u + 1 ≡ text_len len_of chars → k < length chars → u ≡ place len_of chars k → u + 1 ≡ place len_of chars (k + 1)
+  end-last u k last within there = omega (arith, last, there, h (get_or chars k 0), place-more len_of chars k 0 within, place-more-le len_of chars k 0 within)
+
   pub never-None : (u k : ℕ) → char_at len_of chars u ≡ None → k < length chars → u ≡ place len_of chars k → ⊥
   never-None u k e within there = cc (char_at-place len_of h chars k 0 within, there, e)
 

@@ -18,3 +18,19 @@ pub fn end_of<T: TextSource>(text: T, start: usize) -> usize
         None => start,
     }
 }
+
+/// The unit behind the character that begins at `start`, in a text of `len` units. `start` is the place
+/// of a character. The text is asked by `next_at`, and not at all where `start` is its last unit.
+pub fn end_within<T: TextSource>(text: T, start: usize, len: usize) -> usize
+    requires begins { IsTrue (is_boundary T.units (T.characters text) start) }
+    requires inside { start < len }
+    requires long { len ≡ text_len T.units (T.characters text) }
+    ensures { (k : ℕ) → k < length (T.characters text) → start ≡ place T.units (T.characters text) k
+        → result ≡ place T.units (T.characters text) (k + 1) }
+{
+    if start + 1 == len {
+        return len;
+    }
+    let (_, units) = text.next_at(start);
+    start + units
+}

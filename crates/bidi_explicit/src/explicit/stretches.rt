@@ -15,7 +15,7 @@ use super::{cut_run, own_class, own_level, write_class, write_level};
 use bidi_base::char_data::BidiClass::{self, B, BN, FSI, LRE, LRI, LRO, PDF, PDI, RLE, RLI, RLO};
 use bidi_base::level::Level;
 use bidi_base::search::ClassTest;
-use bidi_runs::characters::end_of;
+use bidi_runs::characters::end_within;
 use bidi_runs::prepare::{LevelRunVec, Steps, not_removed_by_x9};
 use bidi_text::text::TextSource;
 use std::alloc::AllocError;
@@ -100,19 +100,6 @@ impl OpenRun {
     }
 }
 
-// The unit behind the character that begins at a unit. To go there is a step.
-fn step_over<T: TextSource, S: Ledger>(text: T, start: usize, steps: &mut Steps<S>) -> usize
-    requires begins { IsTrue (is_boundary T.units (T.characters text) start) }
-    requires inside { start < text_len T.units (T.characters text) }
-    requires fits { text_len T.units (T.characters text) ≤ usize.MAX }
-    ensures end { (k : ℕ) → k < length (T.characters text) → start ≡ place T.units (T.characters text) k
-        → result ≡ place T.units (T.characters text) (k + 1) }
-    ensures steps { steps.new ≡ steps.old + 1 }
-{
-    steps.tick();
-    end_of(text, start)
-}
-
 /// A paragraph, as the pass reads it.
 #[derive(Drop)]
 pub struct Paragraph<'p, T: TextSource> {
@@ -126,6 +113,30 @@ pub struct Paragraph<'p, T: TextSource> {
 }
 
 impl<T: TextSource> Paragraph<'_, T> {
+    // The unit behind the character that begins at a unit.
+    fn end_of(&self, start: usize) -> usize
+        requires begins { IsTrue (is_boundary T.units (T.characters self.now.text) start) }
+        requires inside { start < length self.now.original_classes.now }
+        ensures { (k : ℕ) → k < length (T.characters self.now.text)
+            → start ≡ place T.units (T.characters self.now.text) k
+            → result ≡ place T.units (T.characters self.now.text) (k + 1) }
+    {
+        end_within(self.text, start, self.original_classes.len())
+    }
+
+    // The same. To go there is a step.
+    fn step_over<S: Ledger>(&self, start: usize, steps: &mut Steps<S>) -> usize
+        requires begins { IsTrue (is_boundary T.units (T.characters self.now.text) start) }
+        requires inside { start < length self.now.original_classes.now }
+        ensures end { (k : ℕ) → k < length (T.characters self.now.text)
+            → start ≡ place T.units (T.characters self.now.text) k
+            → result ≡ place T.units (T.characters self.now.text) (k + 1) }
+        ensures steps { steps.new ≡ steps.old + 1 }
+    {
+        steps.tick();
+        self.end_of(start)
+    }
+
     // The next character from a unit on, and below another, whose class passes a test. Each character
     // that is passed over is a step.
     fn next_passing<C: ClassTest, S: Ledger>(
@@ -146,7 +157,7 @@ impl<T: TextSource> Paragraph<'_, T> {
     {
         let mut at = from;
         while at < to && !test.passes(self.original_classes[at]) {
-            at = step_over(self.text, at, steps);
+            at = self.step_over(at, steps);
         }
         at
     }
@@ -173,7 +184,7 @@ impl<T: TextSource> Paragraph<'_, T> {
     {
         let mut at = from;
         while at < to {
-            let next = step_over(self.text, at, steps);
+            let next = self.step_over(at, steps);
             if Kept.passes(self.original_classes[at]) {
                 write_class(classes, at, next, put);
             }
@@ -271,7 +282,7 @@ impl<T: TextSource> Paragraph<'_, T> {
         let class = self.original_classes[start];
         let status = stack.read(class, steps);
         let level = own_level(self.level, class, status.level);
-        let end = end_of(self.text, start);
+        let end = self.end_of(start);
         write_level(levels, start, end, level);
         write_class(classes, start, end, own_class(class, status.override_class));
         Progress {
