@@ -64,6 +64,7 @@ pub fn findings_in<D: BidiDataSource>(
     while !rest.is_empty() {
         let first = first_line(data_source, rest);
         let (line, after) = rest.split_at(first.len);
+        // In a line without controls and marks nothing is found.
         if !first.is_quiet {
             find_unmatched(data_source, line, &mut openers, &mut unmatched)?;
             push_findings(

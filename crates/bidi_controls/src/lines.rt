@@ -7,6 +7,7 @@ ghost use Rattle.bidi_controls.specs.Quiet.{AreQuiet};
 ghost use Rattle.bidi_controls.specs.Lines.{own_chars as own_chars_of};
 
 use crate::control::Control;
+use bidi_base::char_data::BidiClass;
 use bidi_base::classes::is_paragraph_separator;
 use bidi_base::data_source::BidiDataSource;
 
@@ -27,12 +28,12 @@ fn begins_with_line_feed<D: BidiDataSource>(data_source: &D, chars: &[char]) -> 
     }
 }
 
-/// Whether a line ends after a character, with these behind it.
-fn ends_line<D: BidiDataSource>(data_source: &D, c: char, after: &[char]) -> bool
+/// Whether a line ends after a character, with its class and with these behind it.
+fn ends_line<D: BidiDataSource>(data_source: &D, c: char, class: BidiClass, after: &[char]) -> bool
+    requires { class ≡ (D.source data_source.now).class_of c }
     ensures { result ≡ cr_lf_together (D.source data_source.now) c after.now }
 {
-    separates_paragraphs(data_source, c)
-        && !(c == '\r' && begins_with_line_feed(data_source, after))
+    is_paragraph_separator(class) && !(c == '\r' && begins_with_line_feed(data_source, after))
 }
 
 /// The first line of a text.
@@ -40,7 +41,7 @@ fn ends_line<D: BidiDataSource>(data_source: &D, c: char, after: &[char]) -> boo
 pub(crate) struct FirstLine {
     /// How many characters it has, with the separator that ends it, CR LF as one.
     pub len: usize,
-    /// Whether no control and no mark stands in it.
+    /// True only where no control and no mark stands in it.
     pub is_quiet: bool,
 }
 
@@ -59,7 +60,7 @@ pub(crate) fn first_line<D: BidiDataSource>(data_source: &D, chars: &[char]) -> 
         if Control::of(class, *c).is_some() {
             is_quiet = false;
         }
-        if is_paragraph_separator(class) && ends_line(data_source, *c, &chars[at + 1..]) {
+        if ends_line(data_source, *c, class, &chars[at + 1..]) {
             let len = at + 1;
             return FirstLine { len, is_quiet };
         }
