@@ -34,6 +34,7 @@ struct Waiting {
     pair: usize,
 }
 
+// The entry that fills a new stack. It is all zeros, so that the stack is cleared at once.
 impl Default for Waiting {
     fn default() -> Waiting {
         Waiting {

@@ -11,9 +11,6 @@ use Rattle.bidi_base.specs.Line.{is_blank}
 pub is_blank-removed : (c : BidiClass) → is_removed c ≡ true → is_blank c ≡ true
 is_blank-removed c e = grind arith
 
-pub is_removed-not_blank : (c : BidiClass) → is_blank c ≡ false → is_removed c ≡ false
-is_removed-not_blank c e = grind arith
-
 pub is_separator-blank : (c : BidiClass) → is_blank c ≡ true → is_separator c ≡ false
 is_separator-blank c e = grind arith
 
@@ -156,25 +153,6 @@ module _ (level : ℕ) (classes : List BidiClass) (old new : List ℕ) (blank_st
         rest = λ k from. other k (omega arith) ∙ h.rest k (omega arith);
         last = sym (level_before-more level (set new i before) i ∙ written);
       }
-
-  -- another blank keeps its level for now
-  pub IsResetTo-blank : i < length old → own ≡ get_or new i 0 → is_removed (class_at classes i) ≡ false → is_blank (class_at classes i) ≡ true → IsResetTo level classes old new blank_start before i → IsResetTo level classes old new blank_start own (i + 1)
-  IsResetTo-blank fits read kept here h = grind (arith, up_to (λ n. is_blank (class_at classes n) ≡ true) blank_start i, up_to (λ n. get_or new n 0 ≡ kept_level level classes old new n) blank_start i, level_before-more level new i)
-
-  -- any other character keeps its level, and so do the blanks before it
-  pub IsResetTo-other : i < length classes → own ≡ get_or new i 0 → is_separator (class_at classes i) ≡ false → is_blank (class_at classes i) ≡ false → IsResetTo level classes old new blank_start before i → IsResetTo level classes old new (i + 1) own (i + 1)
-  IsResetTo-other fits read apart other h = record {
-    ordered = omega arith;
-    long = h.long;
-    done = λ k below.
-        let ahead = λ (f : blank_start ≤ k). is_reset-to classes k i (omega arith, omega arith) (λ j low high. h.blank j (omega arith) high) in
-        let not_reset = is_reset-at_other classes i fits apart other in
-        grind (arith, h.done k, h.pending k, h.rest k, not_reset, is_removed-not_blank (class_at classes i), ahead);
-    blank = λ k from below. absurd (omega arith);
-    pending = λ k from below. absurd (omega arith);
-    rest = λ k from. h.rest k (omega arith);
-    last = read ∙ sym (level_before-more level new i);
-  }
 
 -- the units from `from` up to `to` are neither separators nor removed
 abbrev pub ArePlain : List BidiClass → ℕ → ℕ → Type 0

@@ -26,7 +26,7 @@ fn write_level(levels: &mut [Level], from: usize, to: usize, level: Level)
     levels[from..to].fill(level);
 }
 
-/// What L1 looks at before the line's end: a separator, or what X9 removes. The test has no branch.
+/// Separators, and what X9 removes. The test has no branch, so that many units are tested at once.
 #[derive(Clone, Copy, Debug)]
 struct SeparatorOrRemoved;
 
@@ -41,7 +41,7 @@ impl ClassTest for SeparatorOrRemoved {
     }
 }
 
-// The start of the blanks at the end of the part from `from` to `to`.
+// The start of the blanks at the end of the part from `from` to `to`, or `to` where none stands there.
 fn blanks_start(classes: &[BidiClass], from: usize, to: usize) -> usize
     requires begins { from ≤ to }
     requires ends { to ≤ length classes.now }
@@ -59,7 +59,7 @@ fn blanks_start(classes: &[BidiClass], from: usize, to: usize) -> usize
 
 // L1 on the units of a line, from its stored classes and levels: separators, and blanks before them
 // or before the line's end, take the level handed in. Any other unit that X9 removes takes the level
-// before it. Stretches of units that are neither are passed over at once.
+// before it. A stretch of units that are neither separators nor removed is passed over at once.
 fn reset_levels(level: Level, classes: &[BidiClass], levels: &mut [Level])
     requires { length levels.old ≡ length classes.now }
     ensures { levels.new ≡ line_levels level classes.now levels.old }

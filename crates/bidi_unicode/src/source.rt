@@ -75,7 +75,7 @@ fn class_in_plane(c: usize) -> BidiClass
     BLOCK_CLASSES[BLOCK_OF[c / BLOCK] as usize * BLOCK + c % BLOCK]
 }
 
-/// The class of a character by the kit's tables.
+/// The class of a character behind the first plane, by the kit's tables.
 #[inline(never)]
 #[tactic(auto, unfolding(crate::specs::Unicode::unicode_source))]
 fn class_beyond(c: char) -> BidiClass
@@ -98,7 +98,7 @@ fn bracket_of(c: char) -> Option<BidiMatchedOpeningBracket>
 }
 
 /// The index of the row of a character before U+0F3A in the table of brackets. Only ASCII has brackets
-/// there, and most characters that are asked for stand there.
+/// there.
 fn early_row(c: char) -> Option<usize>
     requires { c < 0x0F3A }
     ensures found { IfSome result (IsRowOf BRACKETS c) }

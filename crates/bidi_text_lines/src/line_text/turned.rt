@@ -22,7 +22,8 @@ pub(super) fn are_short(bytes: &[u8]) -> bool
     greatest < OF_FOUR
 }
 
-// The first of two bytes where a test holds, else the second. There is no branch in it, so that a loop chooses for many bytes at once.
+// The first of two bytes where a test holds, else the second. There is no branch in it, so that a loop
+// chooses for many bytes at once.
 fn choose(test: bool, held: u8, other: u8) -> u8
     ensures { result ≡ (if test then held else other) }
 {
@@ -108,7 +109,7 @@ fn turn_ends(bytes: &[u8], out: &mut [u8], from: usize, to: usize)
     }
 }
 
-// Writes the bytes of a text with its characters last first. No character takes four bytes.
+// Writes the bytes of a text with its characters last first, where no character takes four bytes.
 pub(super) fn turn_round(bytes: &[u8], out: &mut [u8])
     requires { length out.old ≡ length bytes.now }
     ensures { (j : ℕ) → j < length out.old

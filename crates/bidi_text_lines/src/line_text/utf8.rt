@@ -47,7 +47,7 @@ struct LineBytes {
 }
 
 impl LineBytes {
-    // The bytes as a string, which they are at each step.
+    // The bytes as a string. They are not tested: `utf8` says that they are UTF-8.
     fn into_string(self) -> String
         ensures { string_bytes result ≡ self.bytes.items }
     {

@@ -56,8 +56,8 @@ fn is_mark_in(classes: &[BidiClass]) -> bool
         .fold(false, |found, class| found | is_nsm(*class))
 }
 
-/// The same over one run, behind a character of the class `before`. Answers the class of the last character
-/// that is neither BN nor a mark; marks are asked what it gives them only where they come.
+/// W1 over one run, behind a character of the class `before`. Answers the class of the last character that
+/// is neither BN nor a mark, or `before` where there is none.
 fn resolve_marks_in<S: Ledger>(
     run: &LevelRun,
     before: BidiClass,
