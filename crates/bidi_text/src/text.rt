@@ -3,7 +3,7 @@
 //! A *unit* is what an encoding counts, as a byte of UTF-8. The *place* of a character is the number
 //! of units before it. Every call of a text agrees with its list of characters.
 
-ghost use Rattle.std.specs.Prelude.{◌≡◌, ℕ, ◌+◌, ◌<◌, ◌≤◌, ◌↔◌, true, List, Some, IsTrue};
+ghost use Rattle.std.specs.Prelude.{◌≡◌, ℕ, ◌+◌, ◌<◌, ◌≤◌, ◌↔◌, true, List, get_or, Some, IfSome, IsTrue};
 ghost use Rattle.std.specs.List.{list_all};
 ghost use lib.Utf8.{scalar};
 ghost use Rattle.bidi_base.specs.Text.{text_len, char_indices, indices_lengths, char_at, ascii_at, is_boundary, IsLine, subrange, all_same, is_per_char as is_per_char_of, Gives};
@@ -87,6 +87,16 @@ pub trait TextSource: Copy {
             Some((c, 1)) if c.is_ascii() => Some(c as u8),
             _ => None,
         }
+    }
+
+    /// The ASCII characters that begin at a unit and at the fifteen behind it, each one unit long, where such
+    /// stand there and the text has them at hand, as UTF-8 has. `None` says nothing of the text: one that
+    /// has no quicker way than `ascii_at` need not write this.
+    fn ascii_block_at(&self, index: usize) -> Option<[u8; 16]>
+        ensures { IfSome result (λ block. (k : ℕ) → k < 16
+            → Some (get_or block k 0) ≡ ascii_at units (characters self.now) (index + k)) }
+    {
+        None
     }
 
     /// The character that begins at a unit, with its length in units. The unit must be the place of a

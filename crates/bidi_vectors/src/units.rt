@@ -67,6 +67,7 @@ fn unit_agrees<T: TextSource>(text: T, chars: &[char], places: &[usize], unit: u
         && text.is_boundary(unit) == is_boundary
         && text.ascii_at(unit).map(|byte| char::from(byte)) == ascii
         && next_agrees(text, character, unit)
+        && block_agrees(text, unit)
 }
 
 // Sees that a text answers the character of a place before its last unit.
@@ -75,6 +76,17 @@ fn next_agrees<T: TextSource>(text: T, character: Option<(char, usize)>, unit: u
         Some(text.next_at(unit)) == character
     } else {
         true
+    }
+}
+
+// Sees that a text that answers sixteen ASCII characters at once answers those that stand there.
+fn block_agrees<T: TextSource>(text: T, unit: usize) -> bool {
+    match text.ascii_block_at(unit) {
+        Some(block) => block
+            .iter()
+            .enumerate()
+            .all(|(i, byte)| text.ascii_at(unit.saturating_add(i)) == Some(*byte)),
+        None => true,
     }
 }
 

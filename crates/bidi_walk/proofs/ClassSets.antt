@@ -41,20 +41,24 @@ any_of-empty test = refl
 class_of_number : (k : ℕ) → k < 23 → class_number (get_or every_class k L) ≡ k
 class_of_number k below = grind arith
 
-module _ (a b : ClassSet) (small : b.bits < 2 ^ 23) where
+module _ (a b : ClassSet) where
   bit_of_both : (c : BidiClass) → (bit_at (bit_and a.bits b.bits) (class_number c) == 1) ≡ (has a c && has b c)
   bit_of_both c = grind (arith, bit_at_and)
 
   none_of : bit_and a.bits b.bits ≡ 0 → (c : BidiClass) → (has a c && has b c) ≡ false
   none_of none c = simp (← bit_of_both c, none, bit_at-zero)
 
+  pub apart : bit_and a.bits b.bits ≡ 0 → (c : BidiClass) → has a c ≡ true → has b c ≡ false
+  apart none c there = grind (arith, none_of none c)
+
+module _ (a b : ClassSet) (small : b.bits < 2 ^ 23) where
   -- a bit of both is that of a class
   no_bit : list_any (λ c. has a c && has b c) every_class ≡ false → (k : ℕ) → bit_at (bit_and a.bits b.bits) k ≡ bit_at 0 k
   no_bit none k = elim (cases_lt k 23) [
     | inl below ↦
         let c = get_or every_class k L in
         let none_here = false_from_ne_true (has a c && has b c) (λ some. both_ways _ none (list_any_at (λ d. has a d && has b d) every_class k L below some)) in
-        grind (arith, class_of_number k below, bit_of_both c, none_here, bit_at-lt, bit_at-zero)
+        grind (arith, class_of_number k below, bit_of_both a b c, none_here, bit_at-lt, bit_at-zero)
     | inr past ↦ simp (bit_at_and, bit_at_above b.bits 23 k small past, bit_at-zero, min-zero)
   ]
 
@@ -63,7 +67,7 @@ module _ (a b : ClassSet) (small : b.bits < 2 ^ 23) where
   unfolding any_of
   meets_any = elim (cases_Bool (list_any (λ c. has a c && has b c) every_class)) [
     | inl some ↦
-        let apart = λ (none : bit_and a.bits b.bits ≡ 0). both_ways _ (list_any_none (λ c. has a c && has b c) every_class (λ k d within. none_of none (get_or every_class k d))) some in
+        let apart = λ (none : bit_and a.bits b.bits ≡ 0). both_ways _ (list_any_none (λ c. has a c && has b c) every_class (λ k d within. none_of a b none (get_or every_class k d))) some in
         simp (some, apart_eqb (bit_and a.bits b.bits) 0 apart)
     | inr none ↦ simp (none, same_from_bits (bit_and a.bits b.bits) 0 (no_bit none))
   ]

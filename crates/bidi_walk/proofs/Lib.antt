@@ -1,3 +1,4 @@
+pub mod AsciiBlocks
 pub mod ClassSets
 pub mod FlagsLemmas
 pub mod IdleClasses

@@ -1,13 +1,14 @@
 -- Characters on which nothing depends, read one after another.
-use Rattle.bidi_base.proofs.Common.{◌≡◌, ℕ, ◌+◌, ◌-◌, ◌<◌, ◌≤◌, true, false, List, [], ◌∷◌, ◌++◌, length, take, drop, Some, set, refl, sym, ap, ◌∙◌, arith, add-one, append_assoc, length-take, length-drop, drop-append_seam, take-append-add, map-append, length-map, take-append-le, take-append-drop, nat_tests, All-nil, All-append, All-push, sum_by-append, sum_by-cons, Source, text_len, char_at, ascii_of, ascii_at, char_index, is_boundary, subrange, IsLine}
+use Rattle.bidi_base.proofs.Common.{None, Option, inl, inr, cases_lt, class_at, take_more, get_or, subst, zero, suc, ◌≡◌, ℕ, ◌+◌, ◌-◌, ◌<◌, ◌≤◌, true, false, List, [], ◌∷◌, ◌++◌, length, take, drop, Some, set, refl, sym, ap, ◌∙◌, arith, add-one, append_assoc, length-take, length-drop, drop-append_seam, take-append-add, map-append, length-map, take-append-le, take-append-drop, nat_tests, All-nil, All-append, All-push, sum_by-append, sum_by-cons, Source, text_len, char_at, ascii_of, ascii_at, char_index, is_boundary, subrange, IsLine}
 use Rattle.std.specs.Prelude.{replicate}
 use Rattle.std.proofs.Math.Nat.{add_assoc}
 use Rattle.std.proofs.Math.Seq.{take-suc-set}
 use Rattle.std.proofs.lemmas.List.{append-nil}
 use Rattle.bidi_base.specs.declared.char_data.BidiClass.{BidiClass}
+use Rattle.bidi_base.specs.declared.char_data.BidiClass.TheVariants.{L}
 use Rattle.bidi_base.proofs.PlaceLemmas.{text_len-subrange}
 use Rattle.bidi_base.proofs.PerUnit.{per_unit-push, per_unit-append}
-use Rattle.bidi_base.proofs.TextLemmas.{cut_at, HasUnits, char_at-append, char_index-append, is_boundary-append, is_boundary-le}
+use Rattle.bidi_base.proofs.TextLemmas.{cut_at, HasUnits, char_at-append, char_at-end, char_index-append, is_boundary-append, is_boundary-le}
 use Rattle.bidi_walk.specs.declared.class_set.ClassSet.{ClassSet}
 use Rattle.bidi_walk.specs.declared.first_walk.Met.{Met}
 use Rattle.bidi_walk.specs.ClassSet.{has}
@@ -25,6 +26,21 @@ is_boundary-end len_of chars = ap (λ cs. is_boundary len_of cs (text_len len_of
 -- what is no boundary is not the end
 pub inside-lt : (len_of : ℕ → ℕ) (chars : List ℕ) (u : ℕ) → is_boundary len_of chars u ≡ false → u ≤ text_len len_of chars → u < text_len len_of chars
 inside-lt len_of chars u inside le = grind (arith, is_boundary-end len_of chars)
+
+-- an ASCII character is inside
+pub ascii-inside : (len_of : ℕ → ℕ) (units : HasUnits len_of) (chars : List ℕ) (u c : ℕ) → Some c ≡ ascii_at len_of chars u → u < text_len len_of chars
+ascii-inside len_of units chars u c is = elim (cases_lt u (text_len len_of chars)) [
+  | inl inside ↦ inside
+  | inr past ↦ absurd (cc (is, char_at-end len_of units chars u past))
+]
+
+-- and below 128
+below_128 : (found : Option (ℕ × ℕ)) (c : ℕ) → Some c ≡ ascii_of found → c < 128
+below_128 None c is = absurd (cc is)
+below_128 (Some p) c is = grind (arith, nat_tests)
+
+pub ascii-small : (len_of : ℕ → ℕ) (chars : List ℕ) (u c : ℕ) → Some c ≡ ascii_at len_of chars u → c < 128
+ascii-small len_of chars u c is = below_128 (char_at len_of chars u) c is
 
 -- a character, n units long, begins what comes
 record CharNext (len_of : ℕ → ℕ) (coming : List ℕ) (c n : ℕ) : Type 0 where
@@ -95,6 +111,12 @@ module _ (source : Source) (len_of : ℕ → ℕ) (minded : ClassSet) where
         let written = AreWritten-push h.read from at met.c old new after h.written (simp (start, class) at is) in
         record { read = h.read; rest = rest; joined = joined; idle = h.idle; begins = cc start; class = class; written = rw start written }
 
+    -- what stands from there on does not count
+    pub IsSkimmed-kept : (after : List BidiClass) → take at after ≡ take at new → IsSkimmed source len_of minded coming from at old after
+    IsSkimmed-kept after kept =
+        let written : AreWritten source len_of h.read from at old after = record { long = h.written.long; classes = kept ∙ h.written.classes } in
+        record { read = h.read; rest = h.rest; joined = h.joined; idle = h.idle; written = written }
+
     pub IsSkimmed-join : (to : ℕ) (after : List BidiClass) → IsSkimmed source len_of minded h.rest at to new after → IsSkimmed source len_of minded coming from to old after
     IsSkimmed-join to after k =
         let joined = h.joined ∙ ap (λ cs. h.read ++ cs) k.joined ∙ sym (append_assoc h.read k.read k.rest) in
@@ -152,7 +174,7 @@ module _ (source : Source) (len_of : ℕ → ℕ) (minded : ClassSet) where
 
       module _ (c : ℕ) (is : Some c ≡ ascii_at len_of chars at) (class : BidiClass) (is_class : class ≡ source.class_of c) (long : length new ≡ text_len len_of chars) where
         one_more : take (at + 1) (set new at class) ≡ take at new ++ class ∷ []
-        one_more = rw add-one (take-suc-set new at class (grind (arith, ascii-skimmed c is, fits-skimmed, sum_by-cons)))
+        one_more = rw add-one (take-suc-set new at class (omega (arith, ascii-inside len_of units chars at c is, long)))
 
         pub IsSkimmed-ascii : has minded class ≡ false → IsSkimmed source len_of minded coming from (at + 1) old (set new at class)
         IsSkimmed-ascii idle =
@@ -163,6 +185,13 @@ module _ (source : Source) (len_of : ℕ → ℕ) (minded : ClassSet) where
         IsMet-ascii =
             let w = ascii-skimmed c is in
             IsMet-next (record { start = at; c = c; class = class }) w.tail (set new at class) w.next refl is_class (simp w.one one_more)
+
+      -- one whose class is there already
+      pub IsSkimmed-there : (c : ℕ) → Some c ≡ ascii_at len_of chars at → at < length new → class_at new at ≡ source.class_of c → has minded (class_at new at) ≡ false
+          → IsSkimmed source len_of minded coming from (at + 1) old new
+      IsSkimmed-there c is within is_class idle =
+          let w = ascii-skimmed c is in
+          IsSkimmed-more c w.tail (at + 1) new w.next (rw is_class at idle) (cc w.one) (simp (w.one, ← is_class) (take_more new at L within))
 
       -- any character that comes
       module _ (c n : ℕ) (is : Some (c, n) ≡ char_at len_of chars at) where
@@ -187,6 +216,23 @@ module _ (source : Source) (len_of : ℕ → ℕ) (minded : ClassSet) where
 
       pub within-skimmed : at ≤ text_len len_of chars
       within-skimmed = omega (arith, fits-skimmed)
+
+-- ---- a block of ASCII characters whose classes are there already
+
+module _ (source : Source) (len_of : ℕ → ℕ) (minded : ClassSet) (units : HasUnits len_of) (chars : List ℕ) (from at : ℕ) (begins : is_boundary len_of chars from ≡ true) (old new : List BidiClass)
+    (h : IsSkimmed source len_of minded (ahead len_of chars from) from at old new) (block : List ℕ) (fits : at + 16 ≤ length new)
+    (ascii : (k : ℕ) → k < 16 → Some (get_or block k 0) ≡ ascii_at len_of chars (at + k)) (classes : (k : ℕ) → k < 16 → class_at new (at + k) ≡ source.class_of (get_or block k 0))
+    (idle : (k : ℕ) → k < 16 → has minded (class_at new (at + k)) ≡ false) where
+  some_more : (n : ℕ) → n ≤ 16 → IsSkimmed source len_of minded (ahead len_of chars from) from (at + n) old new
+  some_more zero le = subst (λ to. IsSkimmed source len_of minded (ahead len_of chars from) from to old new) (omega arith) h
+  some_more (suc n) le =
+      let before = some_more n (omega (arith, le)) in
+      let here : n < 16 = omega (arith, le) in
+      let one = IsSkimmed-there source len_of minded _ from (at + n) old new before units chars begins refl (get_or block n 0) (ascii n here) (omega (arith, fits, here)) (classes n here) (idle n here) in
+      subst (λ to. IsSkimmed source len_of minded (ahead len_of chars from) from to old new) (omega arith) one
+
+  pub IsSkimmed-ascii_block : IsSkimmed source len_of minded (ahead len_of chars from) from (at + 16) old new
+  IsSkimmed-ascii_block = some_more 16 (omega arith)
 
 -- ---- a block that is handed on by itself
 

@@ -1,10 +1,11 @@
 -- What the walk over a text holds of the isolates that are open, and what one more character does to it.
-use Rattle.std.specs.Prelude.{◌≡◌, ℕ, ◌+◌, ◌-◌, Bool, false, not, ◌&&◌, ◌||◌, ◌==◌, nat_lt, if◌then◌else◌, List, [], ◌∷◌, ◌++◌, take, drop, get_or, map, All, Option, Some, None, unwrap_or}
+use Rattle.std.specs.Prelude.{◌≡◌, ℕ, ◌+◌, ◌-◌, ◌<◌, Bool, false, not, ◌&&◌, ◌||◌, ◌==◌, nat_lt, if◌then◌else◌, List, [], ◌∷◌, ◌++◌, length, take, drop, map, All, Option, Some, None, unwrap_or}
 use Rattle.std.specs.Option.{is_some, is_none}
 use Rattle.std.specs.declared.ops.Range.{Range}
 use Rattle.bidi_base.specs.declared.char_data.BidiClass.{BidiClass}
 use Rattle.bidi_base.specs.Classes.{is_strong, is_initiator, is_pdi, is_paragraph_separator}
 use Rattle.bidi_base.specs.Isolates.{level_by, resolved_fsi}
+use Rattle.bidi_base.specs.Places.{class_at}
 use Rattle.bidi_base.specs.Reading.{innermost, outer, is_fsi, filled}
 use Rattle.bidi_base.specs.Source.{Source}
 use Rattle.bidi_base.specs.Text.{text_len, char_index, per_unit}
@@ -80,9 +81,9 @@ pub record IsClosed (base : Option ℕ) (r : Reading) (end : ℕ) (old : List Pa
   pub levels : levels_of new ≡ levels_of old ++ unwrap_or base (level_by r.deciding) ∷ []
   pub flags : new_flags ≡ old_flags ++ r.flags ∷ []
 
--- what is known of the classes of the first characters is what the source says
-abbrev pub AreKnown : Source → List (Option BidiClass) → Type 0
-AreKnown source known = (k : ℕ) (c : BidiClass) → get_or known k None ≡ Some c → c ≡ source.class_of k
+-- what is known of the classes of the first characters is what the source says; where FSI stands, nothing is known
+abbrev pub AreKnown : Source → List BidiClass → Type 0
+AreKnown source known = (k : ℕ) → k < length known → is_fsi (class_at known k) ≡ false → class_at known k ≡ source.class_of k
 
 -- the characters from a boundary on
 abbrev pub ahead : (ℕ → ℕ) → List ℕ → ℕ → List ℕ

@@ -1,5 +1,5 @@
 //! Sets of classes.
-ghost use Rattle.std.specs.Prelude.{◌≡◌, ◌<◌, ◌^◌, not, ◌&&◌, ◌||◌, if◌then◌else◌};
+ghost use Rattle.std.specs.Prelude.{◌≡◌, ◌<◌, ◌^◌, true, false, not, ◌&&◌, ◌||◌, if◌then◌else◌};
 ghost use Rattle.bidi_base.specs.declared.char_data.BidiClass.{BidiClass};
 ghost use Rattle.bidi_walk.specs.ClassSet.{has, with, any_of};
 
@@ -119,6 +119,13 @@ impl ClassSet {
         ensures { result ≡ (if holds then self else record { bits = 0 }) }
     {
         if holds { self } else { ClassSet::NONE }
+    }
+
+    /// Whether no class is in both sets.
+    pub(crate) fn is_apart(self, other: ClassSet) -> bool
+        ensures { result ≡ true → (c : BidiClass) → has self c ≡ true → has other c ≡ false }
+    {
+        self.bits & other.bits == 0
     }
 
     /// Whether some class is in both sets.

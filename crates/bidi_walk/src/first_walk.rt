@@ -1,15 +1,17 @@
 //! One walk over a text: the class of each character, with each FSI resolved (X5c), and the
 //! paragraphs (P1) with their levels (P2, P3).
-ghost use Rattle.std.specs.Prelude.{◌≡◌, ℕ, ◌+◌, ◌<◌, ◌≤◌, ◌&&◌, if◌then◌else◌, true, false, ◌++◌, length, take, drop, replicate, OnOk, IfOk, MatchOption, IsTrue, All, Some, None};
+ghost use Rattle.std.specs.Prelude.{◌≡◌, ℕ, ◌+◌, ◌<◌, ◌≤◌, ◌&&◌, if◌then◌else◌, true, false, ◌++◌, length, get_or, take, drop, replicate, OnOk, IfOk, MatchOption, IsTrue, All, Some, None};
 ghost use Rattle.std.specs.Option.{is_some};
 ghost use Rattle.bidi_base.specs.declared.char_data.BidiClass.{BidiClass};
+ghost use Rattle.bidi_base.specs.declared.char_data.BidiClass.TheVariants.{FSI};
 ghost use Rattle.bidi_base.specs.Classes.{is_strong as is_strong_class};
 ghost use Rattle.bidi_base.specs.Isolates.{level_by, resolved_fsi};
+ghost use Rattle.bidi_base.specs.Places.{class_at};
 ghost use Rattle.bidi_base.specs.Reading.{outer, filled};
 ghost use Rattle.bidi_base.specs.Paragraphs.{begins_with_line_feed, ranges_from};
 ghost use Rattle.bidi_base.specs.Stored.{text_classes, paragraph_levels};
 ghost use Rattle.bidi_base.specs.Text.{place as place_of, text_len, per_unit, is_boundary as is_boundary_of};
-ghost use Rattle.bidi_walk.specs.ClassSet.{has};
+ghost use Rattle.bidi_walk.specs.ClassSet.{has, with};
 ghost use Rattle.bidi_walk.specs.FirstWalk.{waiting, deciding_after, classes_after, wants_strong, minds, ahead, IsFresh, IsReadBy, IsClosed, IsSkimmed, IsMet, AreKnown};
 ghost use Rattle.bidi_walk.specs.declared.first_walk.Reading.{Reading};
 ghost use Rattle.bidi_walk.specs.ParagraphInfo.{ranges_of, levels_of};
@@ -280,6 +282,10 @@ impl TextReading {
     }
 }
 
+// How many units are written at once, where there are as many. The contracts below say 4, and 3 for one
+// less.
+const AT_ONCE: usize = 4;
+
 // Writes a character's class to each of its units, of which the first is given.
 fn write_each<T: TextSource>(classes: &mut [BidiClass], start: usize, c: char, class: BidiClass)
     requires { start + T.units c ≤ length classes.old }
@@ -287,9 +293,6 @@ fn write_each<T: TextSource>(classes: &mut [BidiClass], start: usize, c: char, c
 {
     classes[start..start + T::char_len(c)].fill(class);
 }
-
-// How many units are written at once, where there are as many.
-const AT_ONCE: usize = 4;
 
 // The same, where so many units stand from the first one on. Units behind the character may get the class
 // too, since what comes next writes over them.
@@ -328,32 +331,143 @@ struct Met {
     class: BidiClass,
 }
 
-// The classes of the characters below 0x100 that the data source was asked for.
-type KnownClasses = [Option<BidiClass>; 256];
+// The classes of the characters below 0x100 that the data source was asked for, and FSI for each other.
+// Something depends on an FSI wherever it comes, so one look finds both what was not asked and what has
+// to be read.
+type KnownClasses = [BidiClass; 256];
 
-// The class of a character below 0x100. The data source is asked for it once.
-fn class_of_byte<D: BidiDataSource>(
+// A closer look at a character below 0x100 at which skimming stops: its class, and whether something may
+// depend on it. Where its class was known, skimming stopped since something does.
+fn look_closer<D: BidiDataSource>(
     data_source: &D,
     known: &mut KnownClasses,
     byte: u8,
-) -> BidiClass
+    minded: ClassSet,
+) -> (BidiClass, bool)
     requires { AreKnown (D.source data_source.now) known.old }
-    ensures class { result ≡ (D.source data_source.now).class_of byte }
+    ensures class { result.0 ≡ (D.source data_source.now).class_of byte }
+    ensures idle { result.1 ≡ false → has minded result.0 ≡ false }
     ensures known { AreKnown (D.source data_source.now) known.new }
 {
     let at = usize::from(byte);
-    if let Some(class) = known[at] {
-        return class;
+    if known[at] != BidiClass::FSI {
+        return (known[at], true);
     }
     let class = data_source.bidi_class(char::from(byte));
-    known[at] = Some(class);
-    class
+    known[at] = class;
+    (class, minded.has(class))
+}
+
+// Writes the classes of ASCII characters, each one unit long, that come one after another from a place
+// on and before a limit, up to one on which something depends, and answers it. Where none comes, the place
+// goes on to the first other character, or to the limit.
+#[inline(never)]
+fn skim_each<D: BidiDataSource, T: TextSource>(
+    data_source: &D,
+    known: &mut KnownClasses,
+    text: T,
+    classes: &mut [BidiClass],
+    at: &mut usize,
+    limit: usize,
+    minded: ClassSet,
+) -> Option<Met>
+    requires known { AreKnown (D.source data_source.now) known.old }
+    requires sized { length classes.old ≡ text_len T.units (T.characters text) }
+    requires begins { IsTrue (is_boundary_of T.units (T.characters text) at.old) }
+    ensures met { MatchOption result
+        (IsSkimmed (D.source data_source.now) T.units minded (ahead T.units (T.characters text) at.old) at.old at.new
+        classes.old classes.new)
+        (λ met. IsMet (D.source data_source.now) T.units minded (ahead T.units (T.characters text) at.old) at.old met
+        classes.old classes.new) }
+    ensures known { AreKnown (D.source data_source.now) known.new }
+{
+    let stops = minded.with(BidiClass::FSI);
+    let mut start = *at;
+    while start < limit {
+        let Some(byte) = text.ascii_at(start) else {
+            break;
+        };
+        let mut class = known[usize::from(byte)];
+        if stops.has(class) {
+            let (asked, is_minded) = look_closer(data_source, known, byte, minded);
+            class = asked;
+            if is_minded {
+                classes[start] = class;
+                let c = char::from(byte);
+                return Some(Met { start, c, class });
+            }
+        }
+        classes[start] = class;
+        start += 1;
+    }
+    *at = start;
+    None
+}
+
+// How many ASCII characters are read at once.
+const ASCII_BLOCK: usize = 16;
+
+// Writes the classes of sixteen ASCII characters from a place on, and answers whether all are known and
+// nothing depends on them. Else what stands from the place on does not count.
+fn write_block(
+    known: &KnownClasses,
+    block: [u8; 16],
+    classes: &mut [BidiClass],
+    start: usize,
+    minded: ClassSet,
+) -> bool
+    requires { start + 16 ≤ length classes.old }
+    ensures kept { take start classes.new ≡ take start classes.old }
+    ensures written { result ≡ true → (k : ℕ) → k < 16
+        → class_at classes.new (start + k) ≡ class_at known.now (get_or block k 0) }
+    ensures idle { result ≡ true → (k : ℕ) → k < 16
+        → has (with minded FSI) (class_at known.now (get_or block k 0)) ≡ false }
+{
+    let mut found = ClassSet::NONE;
+    for i in 0..ASCII_BLOCK {
+        let class = known[usize::from(block[i])];
+        classes[start + i] = class;
+        found = found.with(class);
+    }
+    found.is_apart(minded.with(BidiClass::FSI))
+}
+
+// Writes the classes of ASCII characters that come one after another from a place on by sixteens, as long
+// as all are known and nothing depends on them. The place goes on. The contract alone asks for the source.
+#[inline(never)]
+fn skim_blocks<D: BidiDataSource, T: TextSource>(
+    _data_source: &D,
+    known: &KnownClasses,
+    text: T,
+    classes: &mut [BidiClass],
+    at: &mut usize,
+    minded: ClassSet,
+)
+    requires known { AreKnown (D.source _data_source.now) known.now }
+    requires sized { length classes.old ≡ text_len T.units (T.characters text) }
+    requires begins { IsTrue (is_boundary_of T.units (T.characters text) at.old) }
+    ensures read { IsSkimmed (D.source _data_source.now) T.units minded (ahead T.units (T.characters text) at.old)
+        at.old at.new classes.old classes.new }
+    ensures order { at.old ≤ at.new }
+{
+    let mut start = *at;
+    let mut next = text.ascii_block_at(start);
+    while let Some(block) = next {
+        // Read before this one is written: behind writes whose addresses end in the same twelve bits, a
+        // processor has a read wait.
+        next = text.ascii_block_at(start + ASCII_BLOCK);
+        if !write_block(known, block, classes, start, minded) {
+            break;
+        }
+        start += ASCII_BLOCK;
+    }
+    *at = start;
 }
 
 // Writes the classes of ASCII characters, each one unit long, that come one after another from a place
 // on, up to one on which something depends, and answers it. Where none comes, the place goes on to the
-// first other character, or to the end.
-#[inline(never)]
+// first other character, or to the end. They are read by sixteens only where sixteen were passed over one
+// by one, so that a text of which something depends on every few characters pays nothing for it.
 fn skim<D: BidiDataSource, T: TextSource>(
     data_source: &D,
     known: &mut KnownClasses,
@@ -372,20 +486,17 @@ fn skim<D: BidiDataSource, T: TextSource>(
         classes.old classes.new) }
     ensures known { AreKnown (D.source data_source.now) known.new }
 {
-    let mut start = *at;
-    while start < classes.len() {
-        let Some(byte) = text.ascii_at(start) else {
-            break;
-        };
-        let class = class_of_byte(data_source, known, byte);
-        classes[start] = class;
-        if minded.has(class) {
-            let c = char::from(byte);
-            return Some(Met { start, c, class });
+    let len = text.len();
+    while *at < len {
+        let limit = *at + (len - *at).min(ASCII_BLOCK);
+        if let Some(met) = skim_each(data_source, known, text, classes, at, limit, minded) {
+            return Some(met);
         }
-        start += 1;
+        if *at < limit {
+            return None;
+        }
+        skim_blocks(data_source, known, text, classes, at, minded);
     }
-    *at = start;
     None
 }
 
@@ -632,7 +743,7 @@ pub fn walk<D: BidiDataSource, T: TextSource>(
         flags: Vec::new(alloc),
     };
     let mut minded = walk.reading.minded();
-    let mut known = [None; 256];
+    let mut known = [BidiClass::FSI; 256];
     let mut at = 0;
     while let Some(met) = next_minded(data_source, &mut known, text, classes, at, minded) {
         at = met.start + T::char_len(met.c);

@@ -1,6 +1,6 @@
 //! Texts of UTF-8, whose units are bytes.
 
-ghost use Rattle.std.specs.Prelude.{◌≡◌, ℕ, ◌+◌, ◌*◌, ◌%◌, ◌<◌, ◌^◌, true, nat_lt, if◌then◌else◌, length};
+ghost use Rattle.std.specs.Prelude.{◌≡◌, ℕ, ◌+◌, ◌*◌, ◌%◌, ◌<◌, ◌^◌, true, nat_lt, if◌then◌else◌, length, get_or};
 ghost use Rattle.std.specs.Char.{len_utf8};
 ghost use Rattle.std.specs.Str.{chars, IsUtf8};
 ghost use Rattle.std.specs.Str.Iter.{char_indices_rest, char_indices_offset};
@@ -10,6 +10,7 @@ ghost use lib.Utf8.{scalar};
 
 use super::{TextSource, char_of_code};
 use std::ops::Range;
+use std::simd::prelude::*;
 use std::str::{CharIndices, Chars};
 
 /// A text of UTF-8. Its units are bytes, so a character is 1 to 4 units long.
@@ -108,6 +109,15 @@ fn char_of_four(first: u8, second: u8, third: u8, fourth: u8) -> char
     char_of_code(high + low)
 }
 
+// Whether all sixteen bytes are ASCII.
+fn is_ascii(block: u8x16) -> bool
+    requires { length block ≡ 16 }
+    ensures { result ≡ true → (k : ℕ) → k < 16 → get_or block k 0 < 128 }
+{
+    let others = block.simd_ge(u8x16::splat(0x80)).to_bitmask();
+    others == 0
+}
+
 impl<'t> TextSource for StrText<'t> {
     type CharIter = Chars<'t>;
 
@@ -141,6 +151,19 @@ impl<'t> TextSource for StrText<'t> {
     fn ascii_at(&self, index: usize) -> Option<u8> {
         let byte = *self.as_str().as_bytes().get(index)?;
         if byte.is_ascii() { Some(byte) } else { None }
+    }
+
+    fn ascii_block_at(&self, index: usize) -> Option<[u8; 16]> {
+        let bytes = self.as_str().as_bytes();
+        if bytes.len().checked_sub(index)? < 16 {
+            return None;
+        }
+        let block = u8x16::from_slice(&bytes[index..]);
+        if is_ascii(block) {
+            Some(block.to_array())
+        } else {
+            None
+        }
     }
 
     fn next_at(&self, index: usize) -> (char, usize) {

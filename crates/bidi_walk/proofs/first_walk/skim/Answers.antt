@@ -1,19 +1,33 @@
-use Rattle.bidi_base.proofs.Common.{◌∙◌, Some, refl, sym, ap}
-use Rattle.bidi_walk.proofs.Skimmed.{IsSkimmed-start, IsSkimmed-ascii, IsMet-ascii}
+use Rattle.bidi_base.proofs.Common.{refl}
+use Rattle.bidi_walk.specs.FirstWalk.{ahead, IsSkimmed}
+use Rattle.bidi_walk.proofs.Skimmed.{IsSkimmed-start, is_boundary-skimmed, IsSkimmed-on, IsMet-on}
+use Rattle.bidi_walk.proofs.first_walk.skim.Given.{Over}
 use Rattle.bidi_walk.proofs.first_walk.skim.Goals as goal
+use Rattle.bidi_walk.proofs.first_walk.skim.Goals.{In_default}
 
-pub loop-start-init : goal.loop-start-init
-loop-start-init g c = (c.requires.known, IsSkimmed-start _ _ _ _ _ _)
+pub loop-at-init : goal.loop-at-init
+loop-at-init g c = (c.requires.known, IsSkimmed-start _ _ _ _ _ _)
 
-pub loop-start-preserved : goal.loop-start-preserved
-loop-start-preserved g c = (
-  c.class_of_byte-class.ensures.known,
-  IsSkimmed-ascii _ _ _ _ _ _ _ _ c.loop-start.invariant.1 g.met.T.TextSource.has_units (g.T.TextSource.characters c.args.text) c.requires.begins refl
-      c.in-Some.byte (sym c.in-Some.is ∙ c.ascii_at.ensures) _ c.class_of_byte-class.ensures.class (c.loop-start.auto.classes ∙ c.requires.sized) (sym c.has.ensures ∙ c.if-has.false),
-)
+pub skim_each-requires-clause-begins : goal.skim_each-requires-clause-begins
+skim_each-requires-clause-begins g c = is_boundary-skimmed _ _ _ _ _ _ _ _ c.loop-at.invariant.1 g.met.T.TextSource.has_units (g.T.TextSource.characters c.args.text) c.requires.begins refl
 
-pub returns-then-has-clause-met : goal.returns-then-has-clause-met
-returns-then-has-clause-met g c =
-    IsMet-ascii _ _ _ _ _ _ _ _ c.loop-start.invariant.1 g.met.T.TextSource.has_units (g.T.TextSource.characters c.args.text) c.requires.begins refl
-    c.from-c.result (ap Some c.from-c.ensures ∙ sym c.in-Some.is ∙ c.ascii_at.ensures) _ (c.class_of_byte-class.ensures.class ∙ ap (g.D.BidiDataSource.source c.args.data_source.now).class_of (sym c.from-c.ensures))
-    (c.loop-start.auto.classes ∙ c.requires.sized)
+pub returns-in-Some-clause-met : goal.returns-in-Some-clause-met
+returns-in-Some-clause-met g c =
+    IsMet-on _ _ _ _ _ _ _ _ c.loop-at.invariant.1 g.met.T.TextSource.has_units (g.T.TextSource.characters c.args.text) c.requires.begins refl c.in-Some.met c.skim_each.new.classes c.in-Some.ensures.met
+
+-- what came before the blocks was read
+each : (g : Over) (c : In_default g)
+    → IsSkimmed (g.D.BidiDataSource.source c.args.data_source.now) g.T.TextSource.units c.args.minded (ahead g.T.TextSource.units (g.T.TextSource.characters c.args.text) c.args.at.now) c.args.at.now c.skim_each.new.at c.args.classes.now c.skim_each.new.classes
+each g c = IsSkimmed-on _ _ _ _ _ _ _ _ c.loop-at.invariant.1 g.met.T.TextSource.has_units (g.T.TextSource.characters c.args.text) c.requires.begins refl _ _ c.in_default.ensures.met
+
+pub returns-then-at-limit-clause-met : goal.returns-then-at-limit-clause-met
+returns-then-at-limit-clause-met g c = each g (goal.at.returns-then-at-limit-clause-met g c).In_default
+
+pub skim_blocks-requires-clause-begins : goal.skim_blocks-requires-clause-begins
+skim_blocks-requires-clause-begins g c =
+    is_boundary-skimmed _ _ _ _ _ _ _ _ (each g (goal.at.skim_blocks-requires-clause-begins g c).In_default) g.met.T.TextSource.has_units (g.T.TextSource.characters c.args.text) c.requires.begins refl
+
+pub loop-at-preserved : goal.loop-at-preserved
+loop-at-preserved g c =
+    let h = each g (goal.at.loop-at-preserved g c).In_default in
+    (c.in_default.ensures.known, IsSkimmed-on _ _ _ _ _ _ _ _ h g.met.T.TextSource.has_units (g.T.TextSource.characters c.args.text) c.requires.begins refl _ _ c.skim_blocks.ensures.read)
