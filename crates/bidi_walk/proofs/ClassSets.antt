@@ -48,8 +48,8 @@ module _ (a b : ClassSet) where
   none_of : bit_and a.bits b.bits ≡ 0 → (c : BidiClass) → (has a c && has b c) ≡ false
   none_of none c = simp (← bit_of_both c, none, bit_at-zero)
 
-  pub apart : bit_and a.bits b.bits ≡ 0 → (c : BidiClass) → has a c ≡ true → has b c ≡ false
-  apart none c there = grind (arith, none_of none c)
+  pub has_apart : bit_and a.bits b.bits ≡ 0 → (c : BidiClass) → has a c ≡ true → has b c ≡ false
+  has_apart none c there = grind (arith, none_of none c)
 
 module _ (a b : ClassSet) (small : b.bits < 2 ^ 23) where
   -- a bit of both is that of a class

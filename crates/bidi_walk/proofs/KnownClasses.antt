@@ -1,5 +1,5 @@
 -- What is known of the classes of the first characters.
-use Rattle.bidi_base.proofs.Common.{◌≡◌, ◌∙◌, ℕ, ◌<◌, Bool, ◌||◌, false, sym, List, length, replicate, inl, inr, arith, slice_set, cases_eq, get_or-replicate, length-replicate, length-set, Source, class_at, is_fsi, same_class}
+use Rattle.bidi_base.proofs.Common.{◌≡◌, ◌∙◌, ℕ, ◌<◌, false, sym, List, length, replicate, inl, inr, arith, slice_set, cases_eq, get_or-replicate, length-replicate, length-set, Source, or_parts, class_at, is_fsi, same_class}
 use Rattle.std.proofs.lemmas.List.{get_or-set_other, get_or-set_same}
 use Rattle.bidi_base.specs.declared.char_data.BidiClass.{BidiClass}
 use Rattle.bidi_base.specs.declared.char_data.BidiClass.TheVariants.{L, FSI}
@@ -11,13 +11,10 @@ use Rattle.bidi_walk.proofs.ClassSets.{has-with}
 not_fsi : (class : BidiClass) → same_class FSI class ≡ false → is_fsi class ≡ false
 not_fsi class other = grind arith
 
-neither : (a b : Bool) → (a || b) ≡ false → (a ≡ false) × (b ≡ false)
-neither a b none = grind arith
-
 -- a class that is none of these and no FSI
 idle_class : (minded : ClassSet) (class : BidiClass) → has (with minded FSI) class ≡ false → (has minded class ≡ false) × (is_fsi class ≡ false)
 idle_class minded class idle =
-    let w = neither (has minded class) (same_class FSI class) (sym (has-with minded FSI class) ∙ idle) in
+    let w = or_parts (has minded class) (same_class FSI class) (sym (has-with minded FSI class) ∙ idle) in
     (w.0, not_fsi class w.1)
 
 module _ (source : Source) where

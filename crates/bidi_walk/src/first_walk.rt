@@ -282,10 +282,6 @@ impl TextReading {
     }
 }
 
-// How many units are written at once, where there are as many. The contracts below say 4, and 3 for one
-// less.
-const AT_ONCE: usize = 4;
-
 // Writes a character's class to each of its units, of which the first is given.
 fn write_each<T: TextSource>(classes: &mut [BidiClass], start: usize, c: char, class: BidiClass)
     requires { start + T.units c ≤ length classes.old }
@@ -293,6 +289,9 @@ fn write_each<T: TextSource>(classes: &mut [BidiClass], start: usize, c: char, c
 {
     classes[start..start + T::char_len(c)].fill(class);
 }
+
+// How many units are written at once, where there are as many. The contracts say 4, and 3 for one less.
+const AT_ONCE: usize = 4;
 
 // The same, where so many units stand from the first one on. Units behind the character may get the class
 // too, since what comes next writes over them.
@@ -404,7 +403,7 @@ fn skim_each<D: BidiDataSource, T: TextSource>(
     None
 }
 
-// How many ASCII characters are read at once.
+// How many ASCII characters are read at once. The contracts say 16.
 const ASCII_BLOCK: usize = 16;
 
 // Writes the classes of sixteen ASCII characters from a place on, and answers whether all are known and
@@ -453,8 +452,8 @@ fn skim_blocks<D: BidiDataSource, T: TextSource>(
     let mut start = *at;
     let mut next = text.ascii_block_at(start);
     while let Some(block) = next {
-        // Read before this one is written: behind writes whose addresses end in the same twelve bits, a
-        // processor has a read wait.
+        // Read before this one is written: some processors let a read wait for a write before it whose
+        // address ends in the same twelve bits.
         next = text.ascii_block_at(start + ASCII_BLOCK);
         if !write_block(known, block, classes, start, minded) {
             break;
@@ -466,8 +465,8 @@ fn skim_blocks<D: BidiDataSource, T: TextSource>(
 
 // Writes the classes of ASCII characters, each one unit long, that come one after another from a place
 // on, up to one on which something depends, and answers it. Where none comes, the place goes on to the
-// first other character, or to the end. They are read by sixteens only where sixteen were passed over one
-// by one, so that a text of which something depends on every few characters pays nothing for it.
+// first other character, or to the end. They are read by sixteens only behind sixteen that were passed over
+// one by one, so that a text where something depends on one in every few pays nothing for it.
 fn skim<D: BidiDataSource, T: TextSource>(
     data_source: &D,
     known: &mut KnownClasses,
@@ -486,9 +485,8 @@ fn skim<D: BidiDataSource, T: TextSource>(
         classes.old classes.new) }
     ensures known { AreKnown (D.source data_source.now) known.new }
 {
-    let len = text.len();
-    while *at < len {
-        let limit = *at + (len - *at).min(ASCII_BLOCK);
+    while *at < classes.len() {
+        let limit = *at + (classes.len() - *at).min(ASCII_BLOCK);
         if let Some(met) = skim_each(data_source, known, text, classes, at, limit, minded) {
             return Some(met);
         }
