@@ -406,6 +406,10 @@ fn skim_each<D: BidiDataSource, T: TextSource>(
 // How many ASCII characters are read at once. The contracts say 16.
 const ASCII_BLOCK: usize = 16;
 
+// How many are passed over one by one before others are read at once. A paragraph of one line is mostly
+// shorter, and where it ends a block would be read in vain.
+const ONE_BY_ONE: usize = 64;
+
 // Writes the classes of sixteen ASCII characters from a place on, and answers whether all are known and
 // nothing depends on them. Else what stands from the place on does not count.
 fn write_block(
@@ -465,8 +469,8 @@ fn skim_blocks<D: BidiDataSource, T: TextSource>(
 
 // Writes the classes of ASCII characters, each one unit long, that come one after another from a place
 // on, up to one on which something depends, and answers it. Where none comes, the place goes on to the
-// first other character, or to the end. They are read by sixteens only behind sixteen that were passed over
-// one by one, so that a text where something depends on one in every few pays nothing for it.
+// first other character, or to the end. They are read by sixteens only behind many that were passed over
+// one by one.
 fn skim<D: BidiDataSource, T: TextSource>(
     data_source: &D,
     known: &mut KnownClasses,
@@ -486,7 +490,7 @@ fn skim<D: BidiDataSource, T: TextSource>(
     ensures known { AreKnown (D.source data_source.now) known.new }
 {
     while *at < classes.len() {
-        let limit = *at + (classes.len() - *at).min(ASCII_BLOCK);
+        let limit = *at + (classes.len() - *at).min(ONE_BY_ONE);
         if let Some(met) = skim_each(data_source, known, text, classes, at, limit, minded) {
             return Some(met);
         }

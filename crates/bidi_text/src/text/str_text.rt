@@ -76,17 +76,11 @@ impl<'t> Iterator for Utf8IndexLenIter<'t> {
     }
 }
 
-// The character of the first of these bytes, or of both, with its length. Both are worked out: where
-// letters have two bytes, a branch would be mispredicted at each space.
-fn char_of_one_or_two(first: u8, second: u8) -> (char, usize)
-    requires { first < 0xE0 }
-    ensures { result ≡ (if nat_lt first 0xC0 then (first, 1) else (first % 32 * 64 + second % 64, 2)) }
+// The character of these two bytes.
+fn char_of_two(first: u8, second: u8) -> char
+    ensures { result ≡ first % 32 * 64 + second % 64 }
 {
-    let one = u32::from(first);
-    let two = one % 32 * 64 + u32::from(second) % 64;
-    let is_two = first >= 0xC0;
-    let code = if is_two { two } else { one };
-    (char_of_code(code), 1 + usize::from(is_two))
+    char_of_code(u32::from(first) % 32 * 64 + u32::from(second) % 64)
 }
 
 // The character of these three bytes.
@@ -168,10 +162,15 @@ impl<'t> TextSource for StrText<'t> {
 
     fn next_at(&self, index: usize) -> (char, usize) {
         let bytes = self.as_str().as_bytes();
+        // The length is told by branches: behind one that it foresees a processor goes on, where a length
+        // that is worked out makes it wait.
         let first = bytes[index];
+        if first < 0xC0 {
+            return (char::from(first), 1);
+        }
         let second = bytes[index + 1];
         if first < 0xE0 {
-            return char_of_one_or_two(first, second);
+            return (char_of_two(first, second), 2);
         }
         let third = bytes[index + 2];
         if first < 0xF0 {

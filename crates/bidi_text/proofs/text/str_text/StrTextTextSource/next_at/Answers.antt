@@ -11,6 +11,9 @@ overflow_add-second c = grind (arith, text_len-chars)
 pub bounds-bytes-index-2 : goal.bounds-bytes-index-2
 bounds-bytes-index-2 c = grind (arith, text_len-chars)
 
+pub returns-then-first-lt192 : goal.returns-then-first-lt192
+returns-then-first-lt192 c = grind (arith, text_len-chars, char_at-short)
+
 pub returns-then-first-lt224 : goal.returns-then-first-lt224
 returns-then-first-lt224 c = grind (arith, text_len-chars, char_at-short)
 
