@@ -81,13 +81,15 @@ fn next_agrees<T: TextSource>(text: T, character: Option<(char, usize)>, unit: u
 
 // Sees that a text that answers sixteen ASCII characters at once answers those that stand there.
 fn block_agrees<T: TextSource>(text: T, unit: usize) -> bool {
-    match text.ascii_block_at(unit) {
-        Some(block) => block
-            .iter()
-            .enumerate()
-            .all(|(i, byte)| text.ascii_at(unit.saturating_add(i)) == Some(*byte)),
-        None => true,
+    let Some(block) = text.ascii_block_at(unit) else {
+        return true;
+    };
+    for (i, byte) in block.iter().enumerate() {
+        if text.ascii_at(unit.saturating_add(i)) != Some(*byte) {
+            return false;
+        }
     }
+    true
 }
 
 // Sees that a text answers of every range what it is: a line between two places, or none.
