@@ -1,3 +1,4 @@
+pub mod BlockLemmas
 pub mod CharsLemmas
 pub mod PerCharTests
 pub mod StrLemmas

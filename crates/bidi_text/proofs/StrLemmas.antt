@@ -1,12 +1,8 @@
 -- A text of UTF-8 as a list of characters: `chars bs`, with `len_utf8` for the lengths.
-use Rattle.bidi_base.proofs.Common.{◌≡◌, ℕ, ◌+◌, ◌-◌, ◌≤◌, true, List, [], ◌∷◌, ◌++◌, length, take, drop, Option, Some, None, option_map, slice_get, refl, sym, ◌∙◌, ap, arith, subst, append-nil, length-append, length-take, length-drop, get_or, get_or-drop, get_or-take, ◌<◌, ◌*◌, ◌%◌, nat_lt, nat_le, map, length-map, take_all, replicate, cond, w8, ◌^◌, Bool, false, ◌/◌, inl, inr, cases_lt, if◌then◌else◌, common_steps, slice_range, take-append_seam, drop-append_seam, len_utf8, chars, IsUtf8, IsCharBoundary, encode_utf8_all, char_indices_steps, char_indices_rest, char_indices_offset, CharIndices, take-append-drop, sum_by-cons, encodes-chars, encodes-append, length-encode, chars-nil, IsUtf8-past_char, and_parts, nat_tests, YieldsList, text_len, char_indices, char_indices_from, indices_lengths_from, char_at, ascii_of, ascii_at, is_boundary, subrange, IsLine}
+use Rattle.bidi_base.proofs.Common.{◌≡◌, ℕ, ◌+◌, ◌-◌, ◌≤◌, true, List, [], ◌∷◌, ◌++◌, length, take, drop, Option, Some, None, option_map, slice_get, refl, sym, ◌∙◌, ap, arith, subst, append-nil, length-append, length-take, length-drop, get_or, get_or-drop, get_or-take, ◌<◌, ◌*◌, ◌%◌, nat_lt, ◌/◌, inl, inr, cases_lt, if◌then◌else◌, common_steps, slice_range, take-append_seam, drop-append_seam, len_utf8, chars, IsUtf8, IsCharBoundary, encode_utf8_all, char_indices_steps, char_indices_rest, char_indices_offset, CharIndices, take-append-drop, sum_by-cons, encodes-chars, encodes-append, length-encode, chars-nil, IsUtf8-past_char, and_parts, nat_tests, YieldsList, text_len, char_indices, char_indices_from, indices_lengths_from, char_at, ascii_of, ascii_at, is_boundary, subrange, IsLine}
 use Rattle.std.specs.Char.{encode_utf8, is_ascii}
 use Rattle.std.specs.Str.{all_scalars}
-use lib.Lanes.{mask_l, top, zip2}
-use mir.Syntax.{Width}
-use mir.Val.{bits, hbits}
 use lib.Utf8.{encode, scalar, scalar_cases}
-use Rattle.std.proofs.lemmas.Simd.{none_from_empty_mask, tops_compared, zip2_splat_left, mask_l-mod}
 use Rattle.std.specs.Iterator.{AlwaysYields}
 use Rattle.std.proofs.lemmas.Str.{chars-append, scalars-chars, len_utf8_bounds, chars_past_char, IsUtf8-take, IsUtf8-drop, IsCharBoundary-at_seam, IsCharBoundary-before_ascii, IsCharBoundary-from_take, byte_from_char, char_from_byte}
 use Rattle.std.proofs.lemmas.Iterator.Splits.{YieldsList-from_shown_while}
@@ -114,24 +110,6 @@ pub ascii_at-past : (bs : List ℕ) (i : ℕ) → IsUtf8 bs → length bs ≤ i 
 ascii_at-past bs i u past = grind (arith, char_at-end, text_len-chars)
 
 -- ---- sixteen bytes at once
-
--- `to_bitmask` of the comparison t of a splat with a vector
-bitmask_splat_left : (w : Width) (t : ℕ → ℕ → Bool) (x : ℕ) (n : ℕ) (ys : List ℕ) → length ys ≡ n → n ≤ 64
-    → mask_l (map (top (hbits w)) (zip2 (λ a b. cond (t a b) (2 ^ bits w - 1) 0) (replicate n x) ys)) % 2 ^ 64 ≡ mask_l (map (λ y. t x y) ys)
-bitmask_splat_left w t x n ys long few =
-    ap (λ ms. mask_l ms % 2 ^ 64) (tops_compared w t (replicate n x) ys ∙ zip2_splat_left t x n ys long)
-    ∙ mask_l-mod (map (λ y. t x y) ys) 64 (omega (arith, few, long, length-map ys (λ y. t x y)))
-
-low_byte : (b : ℕ) → nat_le 128 b ≡ false → b < 128
-low_byte b low = grind (arith, nat_tests)
-
--- where no bit is set, all are below 128
-pub all_ascii : (bs : List ℕ) → length bs ≡ 16 → mask_l (map (top (hbits w8)) (zip2 (λ a b. cond (nat_le a b) (2 ^ bits w8 - 1) 0) (replicate 16 128) bs)) % 2 ^ 64 ≡ 0
-    → (k : ℕ) → k < 16 → get_or bs k 0 < 128
-all_ascii bs long none k below =
-    let bits = bitmask_splat_left w8 (λ a b. nat_le a b) 128 16 bs long (omega arith) in
-    let none = ap (λ xs. mask_l (map (λ b. nat_le 128 b) xs)) (take_all 16 bs (omega (arith, long))) ∙ sym bits ∙ none in
-    low_byte _ (none_from_empty_mask (λ b. nat_le 128 b) bs 0 16 0 (omega (arith, long)) none k (omega arith) below)
 
 -- a byte below 128 is a character
 ascii_at-below : (bs : List ℕ) (i : ℕ) → IsUtf8 bs → i < length bs → get_or bs i 0 < 128 → Some (get_or bs i 0) ≡ ascii_at len_utf8 (chars bs) i

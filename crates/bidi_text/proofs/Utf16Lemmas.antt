@@ -143,5 +143,15 @@ ascii_at-unit us i within = elim (cases_Bool (splits_pair us i)) [
   | inr apart ↦ grind (arith, char_at-cut us i, NoPairAt-from_splits_pair us i apart, drop-cons us i 0 within, ascii_first (get_or us i 0) (drop (suc i) us))
 ]
 
+-- a unit that is no surrogate is a character
+low_first : (u : ℕ) (us : List ℕ) → u < 0xD800 → char_at utf16_len (utf16_text (u ∷ us)) 0 ≡ Some (u, 1)
+low_first u [] low = grind (arith, nat_tests)
+low_first u (v ∷ us) low = grind (arith, nat_tests)
+
+pub char_at-unit : (us : List ℕ) (i : ℕ) → i < length us → get_or us i 0 < 0xD800 → Some (get_or us i 0, 1) ≡ char_at utf16_len (utf16_text us) i
+char_at-unit us i within low =
+    let apart : splits_pair us i ≡ false = grind (arith, nat_tests) in
+    grind (arith, char_at-cut us i, NoPairAt-from_splits_pair us i apart, drop-cons us i 0 within, low_first (get_or us i 0) (drop (suc i) us) low)
+
 pub ascii_at-past : (us : List ℕ) (i : ℕ) → length us ≤ i → ascii_at utf16_len (utf16_text us) i ≡ None
 ascii_at-past us i past = ap ascii_of (char_at-past us i past)

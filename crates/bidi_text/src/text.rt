@@ -90,11 +90,24 @@ pub trait TextSource: Copy {
     }
 
     /// The ASCII characters that begin at a unit and at the fifteen behind it, each one unit long, where such
-    /// stand there and the text has them at hand, as UTF-8 has. `None` says nothing of the text: one that
-    /// has no quicker way than `ascii_at` need not write this.
+    /// stand there and the text has them at hand, as UTF-8 and UTF-16 have. Any index may be asked, also from
+    /// the text's length on. `None` says nothing of the text: one that has no quicker way than `ascii_at` need
+    /// not write this.
     fn ascii_block_at(&self, index: usize) -> Option<[u8; 16]>
         ensures { IfSome result (λ block. (k : ℕ) → k < 16
             → Some (get_or block k 0) ≡ ascii_at units (characters self.now) (index + k)) }
+    {
+        None
+    }
+
+    /// The characters below U+0800 that begin at a unit and at the fifteen behind it, each one unit long, where
+    /// such stand there and the text has them at hand, as UTF-16 has. Any index may be asked, also from the
+    /// text's length on. `None` says nothing of the text: one that has no quicker way than `next_at` need not
+    /// write this.
+    fn low_block_at(&self, index: usize) -> Option<[u16; 16]>
+        ensures low { IfSome result (λ block. (k : ℕ) → k < 16 → get_or block k 0 < 0x800) }
+        ensures characters { IfSome result (λ block. (k : ℕ) → k < 16
+            → Some (get_or block k 0, 1) ≡ char_at units (characters self.now) (index + k)) }
     {
         None
     }

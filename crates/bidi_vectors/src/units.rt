@@ -68,6 +68,7 @@ fn unit_agrees<T: TextSource>(text: T, chars: &[char], places: &[usize], unit: u
         && text.ascii_at(unit).map(|byte| char::from(byte)) == ascii
         && next_agrees(text, character, unit)
         && block_agrees(text, unit)
+        && low_block_agrees(text, unit)
 }
 
 // Sees that a text answers the character of a place before its last unit.
@@ -86,6 +87,20 @@ fn block_agrees<T: TextSource>(text: T, unit: usize) -> bool {
     };
     for (i, byte) in block.iter().enumerate() {
         if text.ascii_at(unit.saturating_add(i)) != Some(*byte) {
+            return false;
+        }
+    }
+    true
+}
+
+// Sees that a text that answers sixteen characters below U+0800 at once answers those that stand there.
+fn low_block_agrees<T: TextSource>(text: T, unit: usize) -> bool {
+    let Some(block) = text.low_block_at(unit) else {
+        return true;
+    };
+    for (i, code) in block.iter().enumerate() {
+        let character = char::from_u32(u32::from(*code)).map(|c| (c, 1));
+        if text.char_at(unit.saturating_add(i)) != character {
             return false;
         }
     }

@@ -3,6 +3,7 @@ pub mod ClassSets
 pub mod FlagsLemmas
 pub mod IdleClasses
 pub mod KnownClasses
+pub mod LowBlocks
 pub mod PutUnits
 pub mod Skimmed
 pub mod TextRead

@@ -1,6 +1,6 @@
 -- Characters on which nothing depends, read one after another.
 use Rattle.bidi_base.proofs.Common.{None, Option, inl, inr, cases_lt, class_at, take_more, get_or, subst, zero, suc, ◌≡◌, ℕ, ◌+◌, ◌-◌, ◌<◌, ◌≤◌, true, false, List, [], ◌∷◌, ◌++◌, length, take, drop, Some, set, refl, sym, ap, ◌∙◌, arith, add-one, append_assoc, length-take, length-drop, drop-append_seam, take-append-add, map-append, length-map, take-append-le, take-append-drop, nat_tests, All-nil, All-append, All-push, sum_by-append, sum_by-cons, Source, text_len, char_at, ascii_of, ascii_at, char_index, is_boundary, subrange, IsLine}
-use Rattle.std.specs.Prelude.{replicate}
+use Rattle.std.specs.Prelude.{replicate, MatchOption}
 use Rattle.std.proofs.Math.Nat.{add_assoc}
 use Rattle.std.proofs.Math.Seq.{take-suc-set}
 use Rattle.std.proofs.lemmas.List.{append-nil}
@@ -34,10 +34,22 @@ ascii-inside len_of units chars u c is = elim (cases_lt u (text_len len_of chars
   | inr past ↦ absurd (cc (is, char_at-end len_of units chars u past))
 ]
 
--- and below 128
+-- and so is any character
+pub char-inside : (len_of : ℕ → ℕ) (units : HasUnits len_of) (chars : List ℕ) (u c n : ℕ) → Some (c, n) ≡ char_at len_of chars u → u < text_len len_of chars
+char-inside len_of units chars u c n is = elim (cases_lt u (text_len len_of chars)) [
+  | inl inside ↦ inside
+  | inr past ↦ absurd (cc (is, char_at-end len_of units chars u past))
+]
+
+-- and an ASCII one is below 128
 below_128 : (found : Option (ℕ × ℕ)) (c : ℕ) → Some c ≡ ascii_of found → c < 128
 below_128 None c is = absurd (cc is)
 below_128 (Some p) c is = grind (arith, nat_tests)
+
+-- and one unit long
+char-from_ascii : (found : Option (ℕ × ℕ)) (c : ℕ) → Some c ≡ ascii_of found → Some (c, 1) ≡ found
+char-from_ascii None c is = absurd (cc is)
+char-from_ascii (Some p) c is = grind (arith, nat_tests)
 
 pub ascii-small : (len_of : ℕ → ℕ) (chars : List ℕ) (u c : ℕ) → Some c ≡ ascii_at len_of chars u → c < 128
 ascii-small len_of chars u c is = below_128 (char_at len_of chars u) c is
@@ -165,6 +177,12 @@ module _ (source : Source) (len_of : ℕ → ℕ) (minded : ClassSet) where
       pub IsSkimmed-on : (to : ℕ) (after : List BidiClass) → IsSkimmed source len_of minded (ahead len_of chars at) at to new after → IsSkimmed source len_of minded coming from to old after
       IsSkimmed-on to after k = IsSkimmed-join to after (rw ahead-skimmed at k)
 
+      pub met-on : (r : Option Met) (to : ℕ) (after : List BidiClass)
+          → MatchOption r (IsSkimmed source len_of minded (ahead len_of chars at) at to new after) (λ met. IsMet source len_of minded (ahead len_of chars at) at met new after)
+          → MatchOption r (IsSkimmed source len_of minded coming from to old after) (λ met. IsMet source len_of minded coming from met old after)
+      met-on None to after k = IsSkimmed-on to after k
+      met-on (Some met) to after k = IsMet-on met after k
+
       pub fits-skimmed : at + text_len len_of h.rest ≡ text_len len_of chars
       fits-skimmed = omega (arith, ap (text_len len_of) split, sum_by-append len_of passed h.rest, passed_long)
 
@@ -185,13 +203,6 @@ module _ (source : Source) (len_of : ℕ → ℕ) (minded : ClassSet) where
         IsMet-ascii =
             let w = ascii-skimmed c is in
             IsMet-next (record { start = at; c = c; class = class }) w.tail (set new at class) w.next refl is_class (simp w.one one_more)
-
-      -- one whose class is there already
-      pub IsSkimmed-there : (c : ℕ) → Some c ≡ ascii_at len_of chars at → at < length new → class_at new at ≡ source.class_of c → has minded (class_at new at) ≡ false
-          → IsSkimmed source len_of minded coming from (at + 1) old new
-      IsSkimmed-there c is within is_class idle =
-          let w = ascii-skimmed c is in
-          IsSkimmed-more c w.tail (at + 1) new w.next (rw is_class at idle) (cc w.one) (simp (w.one, ← is_class) (take_more new at L within))
 
       -- any character that comes
       module _ (c n : ℕ) (is : Some (c, n) ≡ char_at len_of chars at) where
@@ -214,25 +225,51 @@ module _ (source : Source) (len_of : ℕ → ℕ) (minded : ClassSet) where
           pub IsMet-char : IsMet source len_of minded coming from (record { start = at; c = c; class = class }) old after
           IsMet-char = IsMet-next (record { start = at; c = c; class = class }) char-skimmed.tail after char-skimmed.next refl is_class written
 
+        -- one unit long, and its class is there already
+        pub IsSkimmed-char_there : n ≡ 1 → at < length new → class_at new at ≡ source.class_of c → has minded (class_at new at) ≡ false
+            → IsSkimmed source len_of minded coming from (at + 1) old new
+        IsSkimmed-char_there one within is_class idle =
+            let w = char-skimmed in
+            let long : len_of c ≡ 1 = omega (arith, w.long, one) in
+            IsSkimmed-more c w.tail (at + 1) new w.next (rw is_class at idle) (omega (arith, long)) (simp (long, ← is_class) (take_more new at L within))
+
+        pub IsMet-char_there : n ≡ 1 → at < length new → class_at new at ≡ source.class_of c → IsMet source len_of minded coming from (record { start = at; c = c; class = class_at new at }) old new
+        IsMet-char_there one within is_class =
+            let w = char-skimmed in
+            let long : len_of c ≡ 1 = omega (arith, w.long, one) in
+            IsMet-next (record { start = at; c = c; class = class_at new at }) w.tail new w.next refl is_class (simp long (take_more new at L within))
+
       pub within-skimmed : at ≤ text_len len_of chars
       within-skimmed = omega (arith, fits-skimmed)
 
--- ---- a block of ASCII characters whose classes are there already
+-- ---- a block of characters one unit long whose classes are there already
+
+module _ (source : Source) (len_of : ℕ → ℕ) (minded : ClassSet) (units : HasUnits len_of) (chars : List ℕ) (from at : ℕ) (begins : is_boundary len_of chars from ≡ true) (old new : List BidiClass)
+    (h : IsSkimmed source len_of minded (ahead len_of chars from) from at old new) (block : List ℕ) (fits : at + 16 ≤ length new)
+    (there : (k : ℕ) → k < 16 → Some (get_or block k 0, 1) ≡ char_at len_of chars (at + k)) where
+  pub IsSkimmed-part : (n : ℕ) → n ≤ 16 → ((k : ℕ) → k < 16 → k ≤ n → class_at new (at + k) ≡ source.class_of (get_or block k 0)) → ((k : ℕ) → k < n → has minded (class_at new (at + k)) ≡ false) → IsSkimmed source len_of minded (ahead len_of chars from) from (at + n) old new
+  IsSkimmed-part zero le classes idle = subst (λ to. IsSkimmed source len_of minded (ahead len_of chars from) from to old new) (omega arith) h
+  IsSkimmed-part (suc n) le classes idle =
+      let before = IsSkimmed-part n (omega (arith, le)) (λ k within below. classes k within (omega (arith, below))) (λ k below. idle k (omega (arith, below))) in
+      let here : n < 16 = omega (arith, le) in
+      let one = IsSkimmed-char_there source len_of minded _ from (at + n) old new before units chars begins refl (get_or block n 0) 1 (there n here) refl (omega (arith, fits, here)) (classes n here (omega arith)) (idle n (omega arith)) in
+      subst (λ to. IsSkimmed source len_of minded (ahead len_of chars from) from to old new) (omega arith) one
+
+  pub IsMet-part : (n : ℕ) → n < 16 → ((k : ℕ) → k < 16 → k ≤ n → class_at new (at + k) ≡ source.class_of (get_or block k 0)) → ((k : ℕ) → k < n → has minded (class_at new (at + k)) ≡ false)
+      → IsMet source len_of minded (ahead len_of chars from) from (record { start = at + n; c = get_or block n 0; class = class_at new (at + n) }) old new
+  IsMet-part n here classes idle =
+      let before = IsSkimmed-part n (omega (arith, here)) classes idle in
+      IsMet-char_there source len_of minded _ from (at + n) old new before units chars begins refl (get_or block n 0) 1 (there n here) refl (omega (arith, fits, here)) (classes n here (omega arith))
+
+-- ---- the same of ASCII characters, all of them idle
 
 module _ (source : Source) (len_of : ℕ → ℕ) (minded : ClassSet) (units : HasUnits len_of) (chars : List ℕ) (from at : ℕ) (begins : is_boundary len_of chars from ≡ true) (old new : List BidiClass)
     (h : IsSkimmed source len_of minded (ahead len_of chars from) from at old new) (block : List ℕ) (fits : at + 16 ≤ length new)
     (ascii : (k : ℕ) → k < 16 → Some (get_or block k 0) ≡ ascii_at len_of chars (at + k)) (classes : (k : ℕ) → k < 16 → class_at new (at + k) ≡ source.class_of (get_or block k 0))
     (idle : (k : ℕ) → k < 16 → has minded (class_at new (at + k)) ≡ false) where
-  some_more : (n : ℕ) → n ≤ 16 → IsSkimmed source len_of minded (ahead len_of chars from) from (at + n) old new
-  some_more zero le = subst (λ to. IsSkimmed source len_of minded (ahead len_of chars from) from to old new) (omega arith) h
-  some_more (suc n) le =
-      let before = some_more n (omega (arith, le)) in
-      let here : n < 16 = omega (arith, le) in
-      let one = IsSkimmed-there source len_of minded _ from (at + n) old new before units chars begins refl (get_or block n 0) (ascii n here) (omega (arith, fits, here)) (classes n here) (idle n here) in
-      subst (λ to. IsSkimmed source len_of minded (ahead len_of chars from) from to old new) (omega arith) one
-
   pub IsSkimmed-ascii_block : IsSkimmed source len_of minded (ahead len_of chars from) from (at + 16) old new
-  IsSkimmed-ascii_block = some_more 16 (omega arith)
+  IsSkimmed-ascii_block =
+      IsSkimmed-part source len_of minded units chars from at begins old new h block fits (λ k below. char-from_ascii (char_at len_of chars (at + k)) (get_or block k 0) (ascii k below)) 16 (omega arith) (λ k below le. classes k below) idle
 
 -- ---- a block that is handed on by itself
 

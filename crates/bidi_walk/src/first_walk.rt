@@ -502,6 +502,49 @@ fn skim<D: BidiDataSource, T: TextSource>(
     None
 }
 
+// How many characters below U+0800 are read at once. The contracts say 16.
+const LOW_BLOCK: usize = 16;
+
+// A character below U+0800 by its code. The remainder shows the compiler that it is one, so that only the
+// data source's look at it is left.
+fn char_of_low(code: u16) -> char
+    requires { code < 0x800 }
+    ensures { result ≡ code }
+{
+    match char::from_u32(u32::from(code % 0x800)) {
+        Some(c) => c,
+        None => unreachable!(),
+    }
+}
+
+// Writes the classes of sixteen characters below U+0800 from a place on, up to one on which something
+// depends, and answers how many come before that: sixteen where none comes.
+fn write_low_block<D: BidiDataSource>(
+    data_source: &D,
+    block: [u16; 16],
+    classes: &mut [BidiClass],
+    start: usize,
+    minded: ClassSet,
+) -> usize
+    requires room { start + 16 ≤ length classes.old }
+    requires low { (k : ℕ) → k < 16 → get_or block k 0 < 0x800 }
+    ensures kept { take start classes.new ≡ take start classes.old }
+    ensures written { (k : ℕ) → k < 16 → k ≤ result
+        → class_at classes.new (start + k) ≡ (D.source data_source.now).class_of (get_or block k 0) }
+    ensures few { result ≤ 16 }
+    ensures idle { (k : ℕ) → k < result → has minded (class_at classes.new (start + k)) ≡ false }
+    ensures stops { result < 16 → has minded (class_at classes.new (start + result)) ≡ true }
+{
+    for i in 0..LOW_BLOCK {
+        let class = data_source.bidi_class(char_of_low(block[i]));
+        classes[start + i] = class;
+        if minded.has(class) {
+            return i;
+        }
+    }
+    LOW_BLOCK
+}
+
 // How many units are read without another look at what is ASCII.
 const BLOCK: usize = 256;
 
@@ -615,9 +658,46 @@ fn read_in_place<D: BidiDataSource, T: TextSource>(
     None
 }
 
+// Writes the classes of characters below U+0800, each one unit long, that come one after another from a
+// place on, by sixteens, up to one on which something depends, and answers it. Where none comes, the place
+// goes on to where the text answers no sixteen, or `BLOCK` units on.
+fn read_low_blocks<D: BidiDataSource, T: TextSource>(
+    data_source: &D,
+    text: T,
+    classes: &mut [BidiClass],
+    at: &mut usize,
+    minded: ClassSet,
+) -> Option<Met>
+    requires sized { length classes.old ≡ text_len T.units (T.characters text) }
+    requires begins { IsTrue (is_boundary_of T.units (T.characters text) at.old) }
+    ensures met { MatchOption result
+        (IsSkimmed (D.source data_source.now) T.units minded (ahead T.units (T.characters text) at.old) at.old at.new
+        classes.old classes.new)
+        (λ met. IsMet (D.source data_source.now) T.units minded (ahead T.units (T.characters text) at.old) at.old met
+        classes.old classes.new) }
+{
+    let mut start = *at;
+    let limit = start.saturating_add(BLOCK);
+    while start < limit {
+        let Some(block) = text.low_block_at(start) else {
+            break;
+        };
+        let idle = write_low_block(data_source, block, classes, start, minded);
+        start += idle;
+        if idle < LOW_BLOCK {
+            let c = char_of_low(block[idle]);
+            let class = classes[start];
+            return Some(Met { start, c, class });
+        }
+    }
+    *at = start;
+    None
+}
+
 // Writes the classes of some characters from a place on, up to one on which something depends, and
-// answers it. Where none comes, the place goes on. A text that does not read in place goes by the
-// iterator, and so do a text's last three units.
+// answers it. Where none comes, the place goes on. They are read by sixteens as long as the text answers
+// such, and then place by place. A text that does not read in place goes by the iterator, and so do a
+// text's last three units.
 fn read_on<D: BidiDataSource, T: TextSource>(
     data_source: &D,
     text: T,
@@ -634,10 +714,13 @@ fn read_on<D: BidiDataSource, T: TextSource>(
         classes.old classes.new) }
     ensures passed { result ≡ None → at.old < length classes.new → at.old < at.new }
 {
-    let start = *at;
-    let left = classes.len() - start;
+    let end = at.saturating_add(BLOCK);
+    if let Some(met) = read_low_blocks(data_source, text, classes, at, minded) {
+        return Some(met);
+    }
+    let left = classes.len() - *at;
     if T::READS_IN_PLACE && left >= AT_ONCE {
-        let limit = start + (left - (AT_ONCE - 1)).min(BLOCK);
+        let limit = end.min(classes.len() - (AT_ONCE - 1));
         read_in_place(data_source, text, classes, at, limit, minded)
     } else {
         read_block(data_source, text, classes, at, minded)

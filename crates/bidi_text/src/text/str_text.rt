@@ -1,6 +1,6 @@
 //! Texts of UTF-8, whose units are bytes.
 
-ghost use Rattle.std.specs.Prelude.{◌≡◌, ℕ, ◌+◌, ◌*◌, ◌%◌, ◌<◌, ◌^◌, true, nat_lt, if◌then◌else◌, length, get_or};
+ghost use Rattle.std.specs.Prelude.{◌≡◌, ℕ, ◌+◌, ◌*◌, ◌%◌, ◌<◌, ◌^◌, true, length, get_or};
 ghost use Rattle.std.specs.Char.{len_utf8};
 ghost use Rattle.std.specs.Str.{chars, IsUtf8};
 ghost use Rattle.std.specs.Str.Iter.{char_indices_rest, char_indices_offset};
@@ -162,8 +162,8 @@ impl<'t> TextSource for StrText<'t> {
 
     fn next_at(&self, index: usize) -> (char, usize) {
         let bytes = self.as_str().as_bytes();
-        // The length is told by branches: behind one that it foresees a processor goes on, where a length
-        // that is worked out makes it wait.
+        // The length is told by branches, since a processor foresees most of them and goes on. For a length
+        // that is worked out it would have to wait.
         let first = bytes[index];
         if first < 0xC0 {
             return (char::from(first), 1);

@@ -1,12 +1,13 @@
 //! Texts of UTF-16, whose units are those of UTF-16.
 
-ghost use Rattle.std.specs.Prelude.{◌≡◌, ℕ, ◌+◌, ◌-◌, ◌<◌, ◌≤◌, ◌^◌, length, [], true, IsTrue, ◌↔◌, MatchOption};
+ghost use Rattle.std.specs.Prelude.{◌≡◌, ℕ, ◌+◌, ◌-◌, ◌<◌, ◌≤◌, ◌^◌, length, get_or, [], true, IsTrue, ◌↔◌, MatchOption, IfSome};
 ghost use Rattle.std.specs.Iterator.{YieldsFirst, YieldsLast, item_count};
 ghost use Rattle.bidi_base.specs.Text.{char_indices_from, indices_lengths_from};
 ghost use Rattle.bidi_base.specs.Utf16.{is_pair as is_pair_of, splits_pair as splits_pair_of, pair_char, lone_char, utf16_text, utf16_len, IsFirst, IsLast};
 
 use super::{TextSource, char_of_code};
 use std::ops::Range;
+use std::simd::prelude::*;
 
 /// A text of UTF-16. A high surrogate directly followed by a low one is one character, two units
 /// long. Any other unit is a character one unit long: a surrogate is U+FFFD.
@@ -51,6 +52,24 @@ fn splits_pair(units: &[u16], index: usize) -> bool
     ensures { result ≡ splits_pair_of units.now index }
 {
     index > 0 && is_pair(units[index - 1], units[index])
+}
+
+// Sixteen units from an index on, where there are as many and all are below a limit.
+fn block_below(units: &[u16], index: usize, limit: u16) -> Option<[u16; 16]>
+    ensures { IfSome result (λ block. (index + 16 ≤ length units.now) × (length block ≡ 16)
+        × ((k : ℕ) → k < 16 → (get_or block k 0 ≡ get_or units.now (index + k) 0) × (get_or block k 0 < limit))) }
+{
+    let rest = units.get(index..)?;
+    if rest.len() < 16 {
+        return None;
+    }
+    let block = u16x16::from_slice(rest);
+    let others = block.simd_ge(u16x16::splat(limit)).to_bitmask();
+    if others == 0 {
+        Some(block.to_array())
+    } else {
+        None
+    }
 }
 
 // The character of a pair.
@@ -231,6 +250,15 @@ impl<'t> TextSource for Utf16Text<'t> {
     fn ascii_at(&self, index: usize) -> Option<u8> {
         let unit = *self.units().get(index)?;
         if unit < 0x80 { Some(unit as u8) } else { None }
+    }
+
+    fn ascii_block_at(&self, index: usize) -> Option<[u8; 16]> {
+        let block = block_below(self.units(), index, 0x80)?;
+        Some(u16x16::from_array(block).cast::<u8>().to_array())
+    }
+
+    fn low_block_at(&self, index: usize) -> Option<[u16; 16]> {
+        block_below(self.units(), index, 0x800)
     }
 
     fn next_at(&self, index: usize) -> (char, usize) {
