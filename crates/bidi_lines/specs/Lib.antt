@@ -1,1 +1,3 @@
 pub mod Arranged
+pub mod LineRuns
+pub mod Stops

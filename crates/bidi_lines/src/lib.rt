@@ -3,5 +3,6 @@
 #![tactic(auto)]
 
 pub mod line_levels;
+pub mod stored;
 pub mod visual_order;
 pub mod visual_runs;

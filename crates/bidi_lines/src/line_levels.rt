@@ -5,8 +5,11 @@ ghost use Rattle.bidi_base.specs.Classes.{is_removed, is_separator};
 ghost use Rattle.bidi_base.specs.Levels.{is_odd, has_rtl};
 ghost use Rattle.bidi_base.specs.Line.{is_blank, line_levels, levels_of_line, levels_with_line};
 ghost use Rattle.bidi_base.specs.Places.{class_at};
+ghost use Rattle.bidi_base.specs.Search.{IsFirst};
 ghost use Rattle.bidi_base.specs.Text.{text_len, per_char};
+ghost use Rattle.bidi_lines.specs.Stops.{is_stop};
 
+use crate::stored::ClassList;
 use bidi_base::char_data::BidiClass;
 use bidi_base::classes::{is_blank, is_removed, is_separator};
 use bidi_base::level::{Level, has_rtl};
@@ -31,44 +34,73 @@ fn write_level(levels: &mut [Level], from: usize, to: usize, level: Level)
 struct SeparatorOrRemoved;
 
 impl ClassTest for SeparatorOrRemoved {
-    ghost use Rattle.std.specs.Prelude.{◌||◌};
-    ghost use Rattle.bidi_base.specs.Classes.{is_removed, is_separator};
+    ghost use Rattle.bidi_lines.specs.Stops.{is_stop};
 
-    ghost test = { λ _ c. is_separator c || is_removed c };
+    ghost test = { λ _ c. is_stop c };
 
     fn passes(self, class: BidiClass) -> bool {
         is_separator(class) | is_removed(class)
     }
 }
 
-// The start of the blanks at the end of the part from `from` to `to`, or `to` where none stands there.
-fn blanks_start(classes: &[BidiClass], from: usize, to: usize) -> usize
+// How many of the sixteen units from `at` on come before the first separator or removed one.
+fn units_before_stop<C: ClassList>(classes: C, at: usize) -> usize
+    requires { at + 16 ≤ length (C.classes classes) }
+    ensures { IsFirst is_stop (C.classes classes) at (at + 16) (at + result) }
+{
+    let block = classes.sixteen_at(at);
+    first_passing(SeparatorOrRemoved, &block, 0, 16)
+}
+
+// The first separator or removed unit from `from` on, or else the line's end.
+fn next_stop<C: ClassList>(classes: C, from: usize) -> usize
+    requires { from ≤ length (C.classes classes) }
+    ensures { IsFirst is_stop (C.classes classes) from (length (C.classes classes)) result }
+{
+    let len = classes.len();
+    let mut at = from;
+    while len - at >= 16 {
+        let before = units_before_stop(classes, at);
+        at += before;
+        if before < 16 {
+            return at;
+        }
+    }
+    while at < len && !SeparatorOrRemoved.passes(classes.class_at(at)) {
+        at += 1;
+    }
+    at
+}
+
+// The start of the blanks at the end of the part from `from` to `to`, or `to` if there are none.
+fn blanks_start<C: ClassList>(classes: C, from: usize, to: usize) -> usize
     requires begins { from ≤ to }
-    requires ends { to ≤ length classes.now }
+    requires ends { to ≤ length (C.classes classes) }
     ensures begins { from ≤ result }
     ensures ends { result ≤ to }
-    ensures blank { (k : ℕ) → result ≤ k → k < to → is_blank (class_at classes.now k) ≡ true }
-    ensures stops { (k : ℕ) → from < result → k + 1 ≡ result → is_blank (class_at classes.now k) ≡ false }
+    ensures blank { (k : ℕ) → result ≤ k → k < to → is_blank (class_at (C.classes classes) k) ≡ true }
+    ensures stops { (k : ℕ) → from < result → k + 1 ≡ result → is_blank (class_at (C.classes classes) k) ≡ false }
 {
     let mut start = to;
-    while start > from && is_blank(classes[start - 1]) {
+    while start > from && is_blank(classes.class_at(start - 1)) {
         start -= 1;
     }
     start
 }
 
-// L1 on the units of a line, from its stored classes and levels: separators, and blanks before them
-// or before the line's end, take the level handed in. Any other unit that X9 removes takes the level
-// before it. A stretch of units that are neither separators nor removed is passed over at once.
-fn reset_levels(level: Level, classes: &[BidiClass], levels: &mut [Level])
-    requires { length levels.old ≡ length classes.now }
-    ensures { levels.new ≡ line_levels level classes.now levels.old }
+/// Applies L1 to the levels of a line: separators, and blanks before them or at the line's end, take
+/// the paragraph's level. Any other unit that X9 removes takes the level before it. `classes` has the
+/// stored class of each unit, `levels` the stored level, and `level` is the paragraph's.
+pub fn reset_levels<C: ClassList>(level: Level, classes: C, levels: &mut [Level])
+    requires { length levels.old ≡ length (C.classes classes) }
+    ensures { levels.new ≡ line_levels level (C.classes classes) levels.old }
 {
     let mut before = level;
     let mut blank_start = 0;
     let mut at = 0;
+    // A stretch of units that are neither separators nor removed is passed over at once.
     while at < classes.len() {
-        let class = classes[at];
+        let class = classes.class_at(at);
         if is_separator(class) {
             write_level(levels, blank_start, at + 1, level);
             before = level;
@@ -78,7 +110,7 @@ fn reset_levels(level: Level, classes: &[BidiClass], levels: &mut [Level])
             levels[at] = before;
             at += 1;
         } else {
-            let next = first_passing(SeparatorOrRemoved, classes, at + 1, classes.len());
+            let next = next_stop(classes, at + 1);
             let start = blanks_start(classes, at, next);
             if start > at {
                 blank_start = start;

@@ -10,7 +10,8 @@ ghost use Rattle.bidi_base.specs.Levels.{has_rtl};
 ghost use Rattle.bidi_base.specs.Order.{visual_order, IsVisualOrder, order_by_reversals};
 ghost use Rattle.bidi_base.specs.Places.{indexes};
 
-use bidi_base::level::{Level, has_rtl};
+use crate::stored::LevelList;
+use bidi_base::level::Level;
 use std::alloc::{AllocError, Global};
 use std::simd::prelude::*;
 
@@ -26,35 +27,6 @@ fn flip(order: &mut [usize], from: usize, to: usize)
     order[from..to].reverse();
 }
 
-// The number of the level at `at`.
-fn number_at(levels: &[Level], at: usize) -> u8
-    requires { at < length levels.now }
-    ensures number { result ≡ slice_index levels.now at }
-    ensures in_range { result ≤ 126 }
-{
-    levels[at].number()
-}
-
-// Writes the numbers of levels.
-fn copy_numbers(levels: &[Level], block: &mut [u8])
-    requires { length block.old ≡ length levels.now }
-    ensures { block.new ≡ levels.now }
-{
-    for i in 0..block.len() {
-        block[i] = number_at(levels, i);
-    }
-}
-
-// The numbers of the 16 levels from `at` on.
-fn sixteen_numbers(levels: &[Level], at: usize) -> u8x16
-    requires { at + 16 ≤ length levels.now }
-    ensures { result ≡ chunk at 16 levels.now }
-{
-    let mut block = [0u8; 16];
-    copy_numbers(&levels[at..at + 16], &mut block);
-    u8x16::from_array(block)
-}
-
 // How many of 16 lanes come before the first one whose bit is set.
 fn lanes_before(bits: u64) -> usize
     ensures { result ≡ (if bits == 0 then 16 else count_trailing_zeros 64 bits) }
@@ -67,133 +39,134 @@ fn lanes_before(bits: u64) -> usize
 }
 
 // How many of the 16 items from `at` on come before the first that has not the level `level`.
-fn first_other(levels: &[Level], at: usize, level: u8) -> usize
-    requires { at + 16 ≤ length levels.now }
+fn first_other<L: LevelList>(levels: L, at: usize, level: u8) -> usize
+    requires { at + 16 ≤ length (L.numbers levels) }
     ensures within { result ≤ 16 }
-    ensures same { (p : ℕ) → at ≤ p → p < at + result → slice_index levels.now p ≡ level }
-    ensures stops { result < 16 → slice_index levels.now (at + result) ≢ level }
+    ensures same { (p : ℕ) → at ≤ p → p < at + result → slice_index (L.numbers levels) p ≡ level }
+    ensures stops { result < 16 → slice_index (L.numbers levels) (at + result) ≢ level }
 {
-    let others = sixteen_numbers(levels, at)
+    let others = u8x16::from_array(levels.sixteen_at(at))
         .simd_ne(u8x16::splat(level))
         .to_bitmask();
     lanes_before(others)
 }
 
 // The end of the stretch of items from `from` on that have its level.
-pub(crate) fn run_end(levels: &[Level], from: usize) -> usize
-    requires { from < length levels.now }
+pub(crate) fn run_end<L: LevelList>(levels: L, from: usize) -> usize
+    requires { from < length (L.numbers levels) }
     ensures begins { from < result }
-    ensures ends { result ≤ length levels.now }
-    ensures same { (p : ℕ) → from ≤ p → p < result → slice_index levels.now p ≡ slice_index levels.now from }
-    ensures stops { result < length levels.now → slice_index levels.now result ≢ slice_index levels.now from }
+    ensures ends { result ≤ length (L.numbers levels) }
+    ensures same { (p : ℕ) → from ≤ p → p < result → slice_index (L.numbers levels) p ≡ slice_index (L.numbers levels) from }
+    ensures stops { result < length (L.numbers levels) → slice_index (L.numbers levels) result ≢ slice_index (L.numbers levels) from }
 {
-    let level = number_at(levels, from);
+    let len = levels.len();
+    let level = levels.number_at(from);
     let mut at = from + 1;
-    if at < levels.len() && number_at(levels, at) != level {
+    if at < len && levels.number_at(at) != level {
         return at;
     }
-    while levels.len() - at >= 16 {
+    while len - at >= 16 {
         let count = first_other(levels, at, level);
         at += count;
         if count < 16 {
             return at;
         }
     }
-    while at < levels.len() && number_at(levels, at) == level {
+    while at < len && levels.number_at(at) == level {
         at += 1;
     }
     at
 }
 
 // How many of the 16 items from `at` on come before the first at the level `base` or below.
-fn first_at_most(levels: &[Level], at: usize, base: u8) -> usize
-    requires { at + 16 ≤ length levels.now }
+fn first_at_most<L: LevelList>(levels: L, at: usize, base: u8) -> usize
+    requires { at + 16 ≤ length (L.numbers levels) }
     ensures within { result ≤ 16 }
-    ensures above { (p : ℕ) → at ≤ p → p < at + result → base < slice_index levels.now p }
-    ensures stops { result < 16 → slice_index levels.now (at + result) ≤ base }
+    ensures above { (p : ℕ) → at ≤ p → p < at + result → base < slice_index (L.numbers levels) p }
+    ensures stops { result < 16 → slice_index (L.numbers levels) (at + result) ≤ base }
 {
-    let low = sixteen_numbers(levels, at)
+    let low = u8x16::from_array(levels.sixteen_at(at))
         .simd_le(u8x16::splat(base))
         .to_bitmask();
     lanes_before(low)
 }
 
 // The end of the stretch of items from `from` on whose levels are above `base`.
-fn stretch_end(levels: &[Level], from: usize, base: u8) -> usize
-    requires { from ≤ length levels.now }
+fn stretch_end<L: LevelList>(levels: L, from: usize, base: u8) -> usize
+    requires { from ≤ length (L.numbers levels) }
     ensures begins { from ≤ result }
-    ensures ends { result ≤ length levels.now }
-    ensures above { (p : ℕ) → from ≤ p → p < result → base < slice_index levels.now p }
-    ensures stops { result < length levels.now → slice_index levels.now result ≤ base }
+    ensures ends { result ≤ length (L.numbers levels) }
+    ensures above { (p : ℕ) → from ≤ p → p < result → base < slice_index (L.numbers levels) p }
+    ensures stops { result < length (L.numbers levels) → slice_index (L.numbers levels) result ≤ base }
 {
+    let len = levels.len();
     let mut at = from;
-    while levels.len() - at >= 16 {
+    while len - at >= 16 {
         let count = first_at_most(levels, at, base);
         at += count;
         if count < 16 {
             return at;
         }
     }
-    while at < levels.len() && number_at(levels, at) > base {
+    while at < len && levels.number_at(at) > base {
         at += 1;
     }
     at
 }
 
-// The least of some levels.
-fn least_of(levels: &[Level]) -> u8
-    requires { 0 < length levels.now }
-    ensures least { (p : ℕ) → p < length levels.now → result ≤ slice_index levels.now p }
-    ensures above { (base : ℕ) → ((p : ℕ) → p < length levels.now → base < slice_index levels.now p) → base < result }
-    ensures in_range { result ≤ 126 }
+// The least level of the items from `from` up to `to`.
+fn least_of<L: LevelList>(levels: L, from: usize, to: usize) -> u8
+    requires some { from < to }
+    requires within { to ≤ length (L.numbers levels) }
+    ensures least { (p : ℕ) → from ≤ p → p < to → result ≤ slice_index (L.numbers levels) p }
+    ensures above { (base : ℕ) → ((p : ℕ) → from ≤ p → p < to → base < slice_index (L.numbers levels) p) → base < result }
 {
-    let mut least = number_at(levels, 0);
-    for i in 1..levels.len() {
-        least = least.min(number_at(levels, i));
+    let mut least = levels.number_at(from);
+    for i in from + 1..to {
+        least = least.min(levels.number_at(i));
     }
     least
 }
 
 // The least level of the stretch above `base` that begins at `from`. At every level above `base` up
 // to that one the whole stretch is turned, so that their number tells how it ends up.
-fn least_above(levels: &[Level], from: usize, base: u8) -> u8
-    requires begins { from < length levels.now }
-    requires above { base < slice_index levels.now from }
+fn least_above<L: LevelList>(levels: L, from: usize, base: u8) -> u8
+    requires begins { from < length (L.numbers levels) }
+    requires above { base < slice_index (L.numbers levels) from }
     ensures above { base < result }
-    ensures least { (end : ℕ) → end < length levels.now
-        → ((p : ℕ) → from ≤ p → p ≤ end → base < slice_index levels.now p)
-        → (p : ℕ) → from ≤ p → p ≤ end → result ≤ slice_index levels.now p }
-    ensures in_range { result ≤ 126 }
+    ensures least { (end : ℕ) → end < length (L.numbers levels)
+        → ((p : ℕ) → from ≤ p → p ≤ end → base < slice_index (L.numbers levels) p)
+        → (p : ℕ) → from ≤ p → p ≤ end → result ≤ slice_index (L.numbers levels) p }
 {
-    if number_at(levels, from) == base + 1 {
+    if levels.number_at(from) == base + 1 {
         return base + 1;
     }
     let end = stretch_end(levels, from, base);
-    least_of(&levels[from..end])
+    least_of(levels, from, end)
 }
 
 // Arranges the stretch of items from `from` on whose levels are `base` or above, and gives its end.
-fn arrange(levels: &[Level], order: &mut [usize], from: usize, base: u8) -> usize
-    requires same_len { length order.old ≡ length levels.now }
-    requires begins { from ≤ length levels.now }
-    requires untouched { (p : ℕ) → from ≤ p → p < length levels.now → slice_index order.old p ≡ p }
+fn arrange<L: LevelList>(levels: L, order: &mut [usize], from: usize, base: u8) -> usize
+    requires same_len { length order.old ≡ length (L.numbers levels) }
+    requires begins { from ≤ length (L.numbers levels) }
+    requires untouched { (p : ℕ) → from ≤ p → p < length (L.numbers levels) → slice_index order.old p ≡ p }
     ensures begins { from ≤ result }
-    ensures ends { result ≤ length levels.now }
-    ensures progress { from < length levels.now → base ≤ slice_index levels.now from → from < result }
-    ensures stops { result < length levels.now → slice_index levels.now result < base }
-    ensures at_least { AtLeast levels.now base from result }
+    ensures ends { result ≤ length (L.numbers levels) }
+    ensures progress { from < length (L.numbers levels) → base ≤ slice_index (L.numbers levels) from → from < result }
+    ensures stops { result < length (L.numbers levels) → slice_index (L.numbers levels) result < base }
+    ensures at_least { AtLeast (L.numbers levels) base from result }
     ensures before { (p : ℕ) → p < from → slice_index order.new p ≡ slice_index order.old p }
     ensures after { (p : ℕ) → result ≤ p → slice_index order.new p ≡ slice_index order.old p }
-    ensures arranged { IsArranged levels.now base from result order.new }
+    ensures arranged { IsArranged (L.numbers levels) base from result order.new }
     ensures permutation { IsPermutation order.old order.new }
 {
     let mut at = from;
-    while at < levels.len() && number_at(levels, at) >= base {
-        let level = number_at(levels, at);
+    while at < levels.len() && levels.number_at(at) >= base {
+        let level = levels.number_at(at);
         let next = run_end(levels, at);
         if level == base {
             at = next;
-        } else if next == levels.len() || number_at(levels, next) <= base {
+        } else if next == levels.len() || levels.number_at(next) <= base {
             if (level - base) % 2 == 1 {
                 flip(order, at, next);
             }
@@ -210,38 +183,53 @@ fn arrange(levels: &[Level], order: &mut [usize], from: usize, base: u8) -> usiz
     at
 }
 
-// The indexes below `n`, upwards.
-fn indexes_below(alloc: Global, n: usize) -> Result<Vec<usize>, AllocError>
-    ensures { IfOk result (λ v. v.items ≡ range_with_len 0 n) }
+// Writes the indexes of a list upwards.
+fn write_indexes(order: &mut [usize])
+    ensures { order.new ≡ range_with_len 0 (length order.old) }
 {
-    (0..n).collect(alloc)
+    for k in 0..order.len() {
+        order[k] = k;
+    }
 }
 
 // Brings the indexes of a line's items, upwards at first, into the visual order. A line without an
 // odd level stays as it is.
-pub(crate) fn put_in_visual_order(levels: &[Level], order: &mut [usize])
-    requires { order.old ≡ range_with_len 0 (length levels.now) }
-    ensures order { order.new ≡ visual_order levels.now }
-    ensures visual { IsVisualOrder levels.now order.new }
-    ensures still { has_rtl levels.now ≡ false → order.new ≡ indexes levels.now }
-    ensures reversals { order.new ≡ order_by_reversals levels.now }
+fn put_in_visual_order<L: LevelList>(levels: L, order: &mut [usize])
+    requires { order.old ≡ range_with_len 0 (length (L.numbers levels)) }
+    ensures order { order.new ≡ visual_order (L.numbers levels) }
+    ensures visual { IsVisualOrder (L.numbers levels) order.new }
+    ensures still { has_rtl (L.numbers levels) ≡ false → order.new ≡ indexes (L.numbers levels) }
+    ensures reversals { order.new ≡ order_by_reversals (L.numbers levels) }
 {
-    if has_rtl(levels) {
+    if levels.has_rtl() {
         arrange(levels, order, 0, 0);
     }
 }
 
-/// The index of the item that stands at each place of a line, from left to right (L2), where `levels`
-/// has the level of each item after L1. Each index stands there once. An item may be a unit, a
-/// character or a level run. Only the list that is answered takes memory.
+/// Writes the visual order of a line (L2): for each place from left to right the index of the item that
+/// is shown there. `levels` has the level of each item after L1, and `order` has an entry for each. Each
+/// index is written once. An item may be a unit, a character or a level run. Nothing is allocated.
+pub fn write_visual_order<L: LevelList>(levels: L, order: &mut [usize])
+    requires { length order.old ≡ length (L.numbers levels) }
+    ensures order { order.new ≡ visual_order (L.numbers levels) }
+    ensures visual { IsVisualOrder (L.numbers levels) order.new }
+    ensures still { has_rtl (L.numbers levels) ≡ false → order.new ≡ indexes (L.numbers levels) }
+    ensures reversals { order.new ≡ order_by_reversals (L.numbers levels) }
+{
+    write_indexes(order);
+    put_in_visual_order(levels, order);
+}
+
+/// Returns the visual order of a line (L2), as [`write_visual_order`] writes it. Only the list that is
+/// returned is allocated.
 pub fn reorder_visual(alloc: Global, levels: &[Level]) -> Result<Vec<usize>, AllocError>
     ensures order { IfOk result (λ v. v.items ≡ visual_order levels.now) }
     ensures visual { IfOk result (λ v. IsVisualOrder levels.now v.items) }
     ensures still { has_rtl levels.now ≡ false → IfOk result (λ v. v.items ≡ indexes levels.now) }
     ensures reversals { IfOk result (λ v. v.items ≡ order_by_reversals levels.now) }
 {
-    let mut order = indexes_below(alloc, levels.len())?;
-    put_in_visual_order(levels, order.as_mut_slice());
+    let mut order = vec![in alloc; 0; levels.len()]?;
+    write_visual_order(levels, order.as_mut_slice());
     Ok(order)
 }
 

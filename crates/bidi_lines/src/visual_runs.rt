@@ -1,119 +1,143 @@
 //! The visual runs of a line (L2).
 
-ghost use Rattle.std.specs.Prelude.{◌≡◌, ◌+◌, ◌<◌, ◌≤◌, length, IfOk, All, map};
+ghost use Rattle.std.specs.Prelude.{◌≡◌, ◌+◌, ◌<◌, ◌≤◌, ◌++◌, [], length, IfOk, OnOk, OnErr, All, map};
 ghost use Rattle.bidi_base.specs.Display.{run_of, level_runs, run_level, visual_runs, AreVisualRuns};
 ghost use Rattle.bidi_base.specs.Line.{levels_of_line, levels_with_line};
-ghost use Rattle.std.specs.List.{range_with_len};
-ghost use Rattle.bidi_base.specs.Order.{visual_order};
+ghost use Rattle.bidi_base.specs.Order.{visual_order, IsVisualOrder};
 ghost use Rattle.bidi_base.specs.Places.{at_places};
 
 use crate::line_levels::levels_with_line;
-use crate::visual_order::{put_in_visual_order, reorder_visual, run_end};
+use crate::visual_order::{run_end, write_visual_order};
 use bidi_base::char_data::BidiClass;
-use bidi_base::level::{LTR_LEVEL, Level, has_rtl};
+use bidi_base::level::Level;
+use smallvec::SmallVec;
 use std::alloc::{AllocError, Global};
 use std::ops::Range;
 
-// The level runs of a line that starts at the unit `start`, upwards.
-fn runs_upwards(
-    alloc: Global,
+/// How many runs of a line are kept without an allocation.
+const FEW_RUNS: usize = 16;
+
+// Cuts a line that starts at the unit `start` into its level runs, and finds the number of the level of
+// each.
+fn cut_runs(
+    runs: &mut SmallVec<Range<usize>, FEW_RUNS>,
+    numbers: &mut SmallVec<u8, FEW_RUNS>,
     levels: &[Level],
     start: usize,
-) -> Result<Vec<Range<usize>>, AllocError>
+) -> Result<(), AllocError>
     requires { start + length levels.now ≤ usize.MAX }
-    ensures { IfOk result (λ v. map run_of v.items ≡ level_runs start levels.now) }
+    ensures runs { OnOk result (map run_of runs.new.items ≡ level_runs start levels.now) }
+    ensures levels { OnOk result (numbers.new.items ≡ map (run_level start levels.now) (map run_of runs.new.items)) }
 {
-    let mut runs = Vec::new(alloc);
+    runs.clear();
+    numbers.clear();
     let mut at = 0;
     while at < levels.len() {
         let end = run_end(levels, at);
         runs.push(start + at..start + end)?;
+        numbers.push(levels[at].number())?;
         at = end;
     }
-    Ok(runs)
+    Ok(())
 }
 
-/// How many runs a line may have so that no memory is taken for their levels and their order.
-const FEW_RUNS: usize = 16;
-
-// The level of each run.
-fn levels_of_runs(
-    alloc: Global,
-    levels: &[Level],
-    start: usize,
-    runs: &[Range<usize>],
-) -> Result<Vec<Level>, AllocError>
-    requires { All (λ r. start ≤ r.start × r.start < start + length levels.now) runs.now }
-    ensures { IfOk result (λ v. v.items ≡ map (run_level start levels.now) (map run_of runs.now)) }
+// Finds the order of runs from left to right, from the number of the level of each.
+fn order_runs(order: &mut SmallVec<usize, FEW_RUNS>, numbers: &[u8]) -> Result<(), AllocError>
+    ensures order { OnOk result (order.new.items ≡ visual_order numbers.now) }
+    ensures visual { OnOk result (IsVisualOrder numbers.now order.new.items) }
 {
-    let mut of_runs = Vec::with_capacity(alloc, runs.len())?;
-    for run in runs {
-        of_runs.push(levels[run.start - start])?;
-    }
-    Ok(of_runs)
+    order.resize(numbers.len(), 0)?;
+    write_visual_order(numbers, order.as_mut_slice());
+    Ok(())
 }
 
-// The runs at these indexes.
-fn runs_at(
-    alloc: Global,
+// Copies runs in this order. If an allocation fails, nothing is copied.
+fn copy_in_order(
+    ordered: &mut SmallVec<Range<usize>, FEW_RUNS>,
     runs: &[Range<usize>],
     order: &[usize],
-) -> Result<Vec<Range<usize>>, AllocError>
+) -> Result<(), AllocError>
     requires { All (λ k. k < length runs.now) order.now }
-    ensures { IfOk result (λ v. map run_of v.items ≡ at_places (0, 0) (map run_of runs.now) order.now) }
+    ensures runs { OnOk result (map run_of ordered.new.items
+        ≡ map run_of ordered.old.items ++ at_places (0, 0) (map run_of runs.now) order.now) }
+    ensures kept { OnErr result (ordered.new.items ≡ ordered.old.items) }
 {
-    let mut ordered = Vec::with_capacity(alloc, order.len())?;
+    ordered.reserve(order.len())?;
     for k in order {
-        ordered.push(runs[*k].start..runs[*k].end)?;
+        ordered.push_reserved(runs[*k].start..runs[*k].end);
     }
-    Ok(ordered)
+    Ok(())
 }
 
-// Writes the level of each run.
-fn write_levels(of_runs: &mut [Level], levels: &[Level], start: usize, runs: &[Range<usize>])
-    requires same_len { length of_runs.old ≡ length runs.now }
-    requires within { All (λ r. start ≤ r.start × r.start < start + length levels.now) runs.now }
-    ensures { of_runs.new ≡ map (run_level start levels.now) (map run_of runs.now) }
-{
-    for k in 0..runs.len() {
-        of_runs[k] = levels[runs[k].start - start];
+/// The visual runs of a line: its level runs (BD7), from left to right (L2).
+///
+/// A line of up to 16 runs needs no allocation. What a longer one allocates is used again for the next
+/// line.
+#[derive(Drop)]
+pub struct LineRuns {
+    // In the order of the text, with the number of the level of each.
+    runs: SmallVec<Range<usize>, FEW_RUNS>,
+    numbers: SmallVec<u8, FEW_RUNS>,
+    // From left to right, as indexes of `runs` and as runs.
+    order: SmallVec<usize, FEW_RUNS>,
+    ordered: SmallVec<Range<usize>, FEW_RUNS>,
+}
+
+impl LineRuns {
+    ghost use Rattle.bidi_lines.specs.LineRuns.{runs as runs_of};
+
+    /// No runs, with nothing allocated.
+    pub fn new(alloc: Global) -> LineRuns
+        ensures { runs_of result ≡ [] }
+    {
+        LineRuns {
+            runs: SmallVec::new(alloc),
+            numbers: SmallVec::new(alloc),
+            order: SmallVec::new(alloc),
+            ordered: SmallVec::new(alloc),
+        }
+    }
+
+    /// Finds the runs of a line that starts at the unit `start` of a text. `levels` are those of the
+    /// line's units after L1. If an allocation fails, there are no runs.
+    pub fn find(&mut self, levels: &[Level], start: usize) -> Result<(), AllocError>
+        requires { start + length levels.now ≤ usize.MAX }
+        ensures runs { OnOk result (runs_of self.new ≡ visual_runs start levels.now) }
+        ensures visual { OnOk result (AreVisualRuns start levels.now (runs_of self.new)) }
+        ensures none { OnErr result (runs_of self.new ≡ []) }
+    {
+        self.ordered.clear();
+        cut_runs(&mut self.runs, &mut self.numbers, levels, start)?;
+        order_runs(&mut self.order, self.numbers.as_slice())?;
+        copy_in_order(
+            &mut self.ordered,
+            self.runs.as_slice(),
+            self.order.as_slice(),
+        )
+    }
+
+    /// The runs from left to right, as ranges of units of the text.
+    pub fn as_slice(&self) -> &[Range<usize>]
+        ensures { map run_of result.now ≡ runs_of self.now }
+    {
+        self.ordered.as_slice()
     }
 }
 
-// Writes the indexes of a list upwards.
-fn write_indexes(order: &mut [usize])
-    ensures { order.new ≡ range_with_len 0 (length order.old) }
+// A list of the same runs.
+fn copied(alloc: Global, runs: &[Range<usize>]) -> Result<Vec<Range<usize>>, AllocError>
+    ensures { IfOk result (λ v. map run_of v.items ≡ map run_of runs.now) }
 {
-    for k in 0..order.len() {
-        order[k] = k;
+    let mut list = Vec::with_capacity(alloc, runs.len())?;
+    for run in runs {
+        list.push(run.start..run.end)?;
     }
-}
-
-// The runs of a line from left to right. `of_runs` and `order` have room for their levels and their
-// order.
-fn in_visual_order(
-    alloc: Global,
-    levels: &[Level],
-    start: usize,
-    runs: &[Range<usize>],
-    of_runs: &mut [Level],
-    order: &mut [usize],
-) -> Result<Vec<Range<usize>>, AllocError>
-    requires levels { length of_runs.old ≡ length runs.now }
-    requires order { length order.old ≡ length runs.now }
-    requires within { All (λ r. start ≤ r.start × r.start < start + length levels.now) runs.now }
-    ensures { IfOk result (λ v. map run_of v.items
-        ≡ at_places (0, 0) (map run_of runs.now) (visual_order (map (run_level start levels.now) (map run_of runs.now)))) }
-{
-    write_levels(of_runs, levels, start, runs);
-    write_indexes(order);
-    put_in_visual_order(of_runs, order);
-    runs_at(alloc, runs, order)
+    Ok(list)
 }
 
 /// The level runs (BD7) of a line, from left to right by L2: each a range of units of the text, in
-/// which the line starts at the unit `start`. `levels` are those of the line's units after L1. Of a
-/// line of up to 16 runs no memory is taken but for the runs.
+/// which the line starts at the unit `start`. `levels` are those of the line's units after L1. A line of
+/// up to 16 runs allocates the list of runs alone.
 pub fn visual_runs_of(
     alloc: Global,
     levels: &[Level],
@@ -123,29 +147,9 @@ pub fn visual_runs_of(
     ensures runs { IfOk result (λ v. map run_of v.items ≡ visual_runs start levels.now) }
     ensures visual { IfOk result (λ v. AreVisualRuns start levels.now (map run_of v.items)) }
 {
-    let runs = runs_upwards(alloc, levels, start)?;
-    let count = runs.len();
-    if count <= 1 {
-        return Ok(runs);
-    }
-    if count <= FEW_RUNS {
-        let mut of_runs = [LTR_LEVEL; FEW_RUNS];
-        let mut order = [0; FEW_RUNS];
-        return in_visual_order(
-            alloc,
-            levels,
-            start,
-            runs.as_slice(),
-            &mut of_runs[..count],
-            &mut order[..count],
-        );
-    }
-    let of_runs = levels_of_runs(alloc, levels, start, runs.as_slice())?;
-    if !has_rtl(of_runs.as_slice()) {
-        return Ok(runs);
-    }
-    let order = reorder_visual(alloc, of_runs.as_slice())?;
-    runs_at(alloc, runs.as_slice(), order.as_slice())
+    let mut runs = LineRuns::new(alloc);
+    runs.find(levels, start)?;
+    copied(alloc, runs.as_slice())
 }
 
 /// The level of each unit of a text, those of a line after L1 (see `levels_with_line`), and the level

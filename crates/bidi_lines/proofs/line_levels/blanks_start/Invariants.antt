@@ -3,11 +3,11 @@ use Rattle.bidi_base.specs.Line.{is_blank}
 use Rattle.bidi_lines.proofs.line_levels.blanks_start.Given as goal
 
 abbrev pub invariant-loop-start : goal.invariant-loop-start
-invariant-loop-start l = record {
+invariant-loop-start g l = record {
   begins : l.from ≤ l.start;
   ends : l.start ≤ l.to;
-  blank : (k : ℕ) → l.start ≤ k → k < l.to → is_blank (class_at l.classes k) ≡ true;
+  blank : (k : ℕ) → l.start ≤ k → k < l.to → is_blank (class_at (g.C.ClassList.classes l.classes) k) ≡ true;
 }
 
 abbrev pub decreases-loop-start : goal.decreases-loop-start
-decreases-loop-start l = l.start - l.from
+decreases-loop-start g l = l.start - l.from

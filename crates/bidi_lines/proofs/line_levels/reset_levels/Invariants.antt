@@ -3,10 +3,10 @@ use Rattle.bidi_lines.proofs.LineLevels.{IsResetTo}
 use Rattle.bidi_lines.proofs.line_levels.reset_levels.Given as goal
 
 abbrev pub invariant-loop-at : goal.invariant-loop-at
-invariant-loop-at l = record {
-  reset : IsResetTo l.level l.classes l.initial.levels l.levels l.blank_start l.before l.at;
-  ends : l.at ≤ length l.classes;
+invariant-loop-at g l = record {
+  reset : IsResetTo l.level (g.C.ClassList.classes l.classes) l.initial.levels l.levels l.blank_start l.before l.at;
+  ends : l.at ≤ length (g.C.ClassList.classes l.classes);
 }
 
 abbrev pub decreases-loop-at : goal.decreases-loop-at
-decreases-loop-at l = length l.classes - l.at
+decreases-loop-at g l = length (g.C.ClassList.classes l.classes) - l.at

@@ -3,28 +3,28 @@ use Rattle.std.proofs.lemmas.Bool.{leb-true}
 use Rattle.bidi_lines.specs.Arranged.{AtLeast}
 use Rattle.bidi_lines.proofs.Stretches.{IsArrangedTo-run, IsArrangedTo-stretch, IsNextPart-level, IsNextPart-nested, IsNextPart-turned}
 use Rattle.bidi_lines.proofs.visual_order.+arrange.Goals as goal
-use Rattle.bidi_lines.proofs.visual_order.+arrange.Goals.{then-next-levels, else-next-levels}
+use Rattle.bidi_lines.proofs.visual_order.+arrange.Goals.{then-next-len, else-next-len}
 
 pub loop-at-preserved-then-level-base : goal.loop-at-preserved-then-level-base
-loop-at-preserved-then-level-base t c =
+loop-at-preserved-then-level-base g t c =
     IsArrangedTo-run _ _ _ _ _ c.loop-at.at _ (omega arith) c.run_end-next.ensures.ends (λ p a b. omega (arith, c.run_end-next.ensures.same p a b)) c.requires.untouched c.loop-at.invariant
 
 pub loop-at-preserved-then-level-base-eq1 : goal.loop-at-preserved-then-level-base-eq1
-loop-at-preserved-then-level-base-eq1 t c =
+loop-at-preserved-then-level-base-eq1 g t c =
     IsArrangedTo-stretch _ _ _ _ _ _ c.loop-at.at _ (omega arith) (omega arith)
-    (λ b. elim c.if-next-levels.branch [ then-next-levels w ↦ absurd (omega arith) | else-next-levels w ↦ let h = leb-true _ _ (sym w.value-is ∙ c.if-number_at-base-2.true) in omega arith ])
+    (λ b. elim c.if-next-len.branch [ then-next-len w ↦ absurd (omega arith) | else-next-len w ↦ let h = leb-true _ _ (sym w.value-is ∙ c.if-number_at-base-2.true) in omega arith ])
     (IsNextPart-turned _ _ _ _ _ _ _ (omega arith)
-    (IsNextPart-level _ (slice_index c.args.levels.now c.loop-at.at) _ c.loop-at.at c.run_end-next.result (omega arith, omega arith) c.run_end-next.ensures.same
+    (IsNextPart-level _ (slice_index (g.L.LevelList.numbers c.args.levels) c.loop-at.at) _ c.loop-at.at c.run_end-next.result (omega arith, omega arith) c.run_end-next.ensures.same
     (λ p a b. c.loop-at.invariant.after p a ∙ c.requires.untouched p (omega (arith, c.loop-at.invariant.begins)) (omega arith)))
     _ (omega arith) c.flip.ensures.before c.flip.ensures.after c.flip.ensures.inside c.flip.ensures.permutation)
     c.loop-at.invariant
 
 pub loop-at-preserved-else-level-base-eq1 : goal.loop-at-preserved-else-level-base-eq1
-loop-at-preserved-else-level-base-eq1 t c =
+loop-at-preserved-else-level-base-eq1 g t c =
     IsArrangedTo-stretch _ _ _ _ _ _ c.loop-at.at _ (omega arith) (omega arith)
-    (λ b. elim c.if-next-levels.branch [ then-next-levels w ↦ absurd (omega arith) | else-next-levels w ↦ let h = leb-true _ _ (sym w.value-is ∙ c.if-number_at-base-2.true) in omega arith ])
+    (λ b. elim c.if-next-len.branch [ then-next-len w ↦ absurd (omega arith) | else-next-len w ↦ let h = leb-true _ _ (sym w.value-is ∙ c.if-number_at-base-2.true) in omega arith ])
     (IsNextPart-nested _ _ _ _ _ _ _ (omega arith)
-    (IsNextPart-level _ (slice_index c.args.levels.now c.loop-at.at) _ c.loop-at.at c.run_end-next.result (omega arith, omega arith) c.run_end-next.ensures.same
+    (IsNextPart-level _ (slice_index (g.L.LevelList.numbers c.args.levels) c.loop-at.at) _ c.loop-at.at c.run_end-next.result (omega arith, omega arith) c.run_end-next.ensures.same
     (λ p a b. c.loop-at.invariant.after p a ∙ c.requires.untouched p (omega (arith, c.loop-at.invariant.begins)) (omega arith)))
     (omega arith))
     c.loop-at.invariant
@@ -37,7 +37,7 @@ edge_after : (levels : List ℕ) (base least at end : ℕ) → base < least → 
 edge_after levels base least at end above all reach stops = grind arith
 
 pub loop-at-preserved-then-least-base-eq1 : goal.loop-at-preserved-then-least-base-eq1
-loop-at-preserved-then-least-base-eq1 t c =
+loop-at-preserved-then-least-base-eq1 g t c =
     let r = c.arrange-end.ensures in
     IsArrangedTo-stretch _ _ _ _ _ _ c.loop-at.at _ (omega arith) (omega arith)
     (λ b. edge_after _ _ _ c.loop-at.at _ c.least_above-least.ensures.above r.at_least (λ k h. c.least_above-least.ensures.least c.arrange-end.result b h c.arrange-end.result (omega arith) (le_refl _)) (r.stops b))
@@ -47,7 +47,7 @@ loop-at-preserved-then-least-base-eq1 t c =
     c.loop-at.invariant
 
 pub loop-at-preserved : goal.loop-at-preserved
-loop-at-preserved t c =
+loop-at-preserved g t c =
     let r = c.arrange-end.ensures in
     IsArrangedTo-stretch _ _ _ _ _ _ c.loop-at.at _ (omega arith) (omega arith)
     (λ b. edge_after _ _ _ c.loop-at.at _ c.least_above-least.ensures.above r.at_least (λ k h. c.least_above-least.ensures.least c.arrange-end.result b h c.arrange-end.result (omega arith) (le_refl _)) (r.stops b))

@@ -12,8 +12,8 @@ other_level : (x level : ℕ) → other level x ≡ true → x ≢ level
 other_level x level h e = grind arith
 
 pub returns : goal.returns
-returns c =
-    let v = c.sixteen_numbers.result in
-    let bits = bitmask_splat w8 (λ a b. not (eqb a b)) v 16 c.args.level (lanes_long v c.args.levels.now c.args.at c.sixteen_numbers.ensures c.requires) (omega arith) in
-    let f = counted_lanes (other c.args.level) c.args.levels.now v c.args.at _ _ c.requires c.sixteen_numbers.ensures bits c.lanes_before.ensures in
+returns g c =
+    let v = c.sixteen_at.result in
+    let bits = bitmask_splat w8 (λ a b. not (eqb a b)) v 16 c.args.level (lanes_long v (g.L.LevelList.numbers c.args.levels) c.args.at c.sixteen_at.ensures c.requires) (omega arith) in
+    let f = counted_lanes (other c.args.level) (g.L.LevelList.numbers c.args.levels) v c.args.at _ _ c.requires c.sixteen_at.ensures bits c.lanes_before.ensures in
     record { within = f.0; same = λ p a b. same_level _ c.args.level (f.1 p a b); stops = λ a. other_level _ c.args.level (f.2 a) }

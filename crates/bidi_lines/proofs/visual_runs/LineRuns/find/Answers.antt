@@ -1,0 +1,24 @@
+use Rattle.bidi_base.proofs.Common.{◌≡◌, ap, sym, subst, ◌∙◌, arith, length, length-map, map, run_of, visual_runs, AreVisualRuns}
+use Rattle.std.proofs.Common.{Ok, Err, Result, OnOk}
+use Rattle.bidi_lines.proofs.FoundRuns.{visual_runs-found, AreVisualRuns-from_same}
+use Rattle.bidi_lines.proofs.VisualRuns.{order_below}
+use Rattle.bidi_lines.proofs.visual_runs.LineRuns.find.Goals as goal
+
+pub copy_in_order-requires : goal.copy_in_order-requires
+copy_in_order-requires c =
+    rw (c.as_slice-3.ensures, c.as_slice-2.ensures) (order_below c.as_slice.result.now c.order_runs.new.order.items (length c.cut_runs.new.runs.items)
+    (ap length (c.as_slice.ensures ∙ c.in_ok-cut_runs.ensures.levels) ∙ length-map _ _ ∙ length-map _ _) c.in_ok-order_runs.ensures.visual)
+
+-- what holds where the call went well follows from what it gives
+found : {A E P Q : Type 0} (result : Result A E) → (P → Q) → OnOk result P → OnOk result Q
+found (Ok x) step given = step given
+found (Err e) step given = tt
+
+pub returns-clause-runs : goal.returns-clause-runs
+returns-clause-runs c = found c.copy_in_order.result (λ same. grind (arith, visual_runs-found)) c.copy_in_order.ensures.runs
+
+pub returns-clause-visual : goal.returns-clause-visual
+returns-clause-visual c = found c.copy_in_order.result (λ same. AreVisualRuns-from_same c.args.start c.args.levels.now (map run_of c.copy_in_order.new.ordered.items) same) (returns-clause-runs c)
+
+pub returns-clause-none : goal.returns-clause-none
+returns-clause-none c = grind arith

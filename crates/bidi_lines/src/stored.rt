@@ -1,0 +1,139 @@
+//! The classes and the levels that a line is read from, however they are stored: as the types of
+//! the library, or as numbers.
+
+ghost use Rattle.std.specs.Prelude.{◌≡◌, ℕ, ◌+◌, ◌<◌, ◌≤◌, Bool, List, length, slice_index};
+ghost use lib.Lanes.{chunk};
+ghost use Rattle.bidi_base.specs.declared.char_data.BidiClass.{BidiClass};
+ghost use Rattle.bidi_base.specs.Levels.{has_rtl};
+ghost use Rattle.bidi_base.specs.Places.{class_at};
+
+use bidi_base::char_data::BidiClass;
+use bidi_base::level::{Level, has_rtl};
+
+/// A list of classes that is read one by one, or sixteen at once.
+pub trait ClassList: Copy {
+    /// The classes.
+    ghost classes: { Self → List BidiClass };
+
+    /// The number of classes.
+    fn len(self) -> usize
+        ensures { result ≡ length (classes self) };
+
+    /// The class at an index.
+    fn class_at(self, index: usize) -> BidiClass
+        requires { index < length (classes self) }
+        ensures { result ≡ class_at (classes self) index };
+
+    /// The sixteen classes from an index on.
+    fn sixteen_at(self, index: usize) -> [BidiClass; 16]
+        requires { index + 16 ≤ length (classes self) }
+        ensures { result ≡ chunk index 16 (classes self) };
+}
+
+impl<'t> ClassList for &'t [BidiClass] {
+    ghost classes = { λ list. list.now };
+
+    fn len(self) -> usize {
+        self.len()
+    }
+
+    fn class_at(self, index: usize) -> BidiClass {
+        self[index]
+    }
+
+    fn sixteen_at(self, index: usize) -> [BidiClass; 16] {
+        let mut block = [BidiClass::L; 16];
+        block.copy_from_slice(&self[index..index + 16]);
+        block
+    }
+}
+
+/// A list of levels that is read one by one, or sixteen at once.
+pub trait LevelList: Copy {
+    /// The numbers of the levels.
+    ghost numbers: { Self → List ℕ };
+
+    /// The number of levels.
+    fn len(self) -> usize
+        ensures { result ≡ length (numbers self) };
+
+    /// The number of the level at an index.
+    fn number_at(self, index: usize) -> u8
+        requires { index < length (numbers self) }
+        ensures { result ≡ slice_index (numbers self) index };
+
+    /// The numbers of the sixteen levels from an index on.
+    fn sixteen_at(self, index: usize) -> [u8; 16]
+        requires { index + 16 ≤ length (numbers self) }
+        ensures { result ≡ chunk index 16 (numbers self) };
+
+    /// Whether some level is odd.
+    fn has_rtl(self) -> bool
+        ensures { result ≡ has_rtl (numbers self) };
+}
+
+// Writes the numbers of levels.
+fn copy_numbers(levels: &[Level], block: &mut [u8])
+    requires { length block.old ≡ length levels.now }
+    ensures { block.new ≡ levels.now }
+{
+    for i in 0..block.len() {
+        block[i] = levels[i].number();
+    }
+}
+
+impl<'t> LevelList for &'t [Level] {
+    ghost numbers = { λ list. list.now };
+
+    fn len(self) -> usize {
+        self.len()
+    }
+
+    fn number_at(self, index: usize) -> u8 {
+        self[index].number()
+    }
+
+    fn sixteen_at(self, index: usize) -> [u8; 16] {
+        let mut block = [0; 16];
+        copy_numbers(&self[index..index + 16], &mut block);
+        block
+    }
+
+    fn has_rtl(self) -> bool {
+        has_rtl(self)
+    }
+}
+
+// Whether some number is odd.
+fn any_odd(numbers: &[u8]) -> bool
+    ensures { result ≡ has_rtl numbers.now }
+{
+    let mut all = 0;
+    for number in numbers {
+        all |= *number;
+    }
+    all % 2 == 1
+}
+
+/// The numbers of levels.
+impl<'t> LevelList for &'t [u8] {
+    ghost numbers = { λ list. list.now };
+
+    fn len(self) -> usize {
+        self.len()
+    }
+
+    fn number_at(self, index: usize) -> u8 {
+        self[index]
+    }
+
+    fn sixteen_at(self, index: usize) -> [u8; 16] {
+        let mut block = [0; 16];
+        block.copy_from_slice(&self[index..index + 16]);
+        block
+    }
+
+    fn has_rtl(self) -> bool {
+        any_odd(self)
+    }
+}
