@@ -1,3 +1,4 @@
 pub mod Arranged
 pub mod LineRuns
+pub mod ShownLevels
 pub mod Stops

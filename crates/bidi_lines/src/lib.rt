@@ -3,6 +3,7 @@
 #![tactic(auto)]
 
 pub mod line_levels;
+pub mod shown_levels;
 pub mod stored;
 pub mod visual_order;
 pub mod visual_runs;

@@ -1,7 +1,8 @@
 //! The classes and the levels that a line is read from, however they are stored: as the types of
 //! the library, or as numbers.
 
-ghost use Rattle.std.specs.Prelude.{◌≡◌, ℕ, ◌+◌, ◌<◌, ◌≤◌, Bool, List, length, slice_index};
+ghost use Rattle.std.specs.Prelude.{◌≡◌, ℕ, ◌+◌, ◌<◌, ◌≤◌, Bool, IsTrue, ⊤, nat_lt, List, length, slice_index};
+ghost use Rattle.std.specs.List.{list_all};
 ghost use lib.Lanes.{chunk};
 ghost use Rattle.bidi_base.specs.declared.char_data.BidiClass.{BidiClass};
 ghost use Rattle.bidi_base.specs.Levels.{has_rtl};
@@ -70,6 +71,15 @@ pub trait LevelList: Copy {
     /// Whether some level is odd.
     fn has_rtl(self) -> bool
         ensures { result ≡ has_rtl (numbers self) };
+
+    /// The numbers stand for levels.
+    ghost are_levels: { Self → Type 0 };
+
+    /// Writes the levels.
+    fn copy_to(self, out: &mut [Level])
+        requires valid { are_levels self }
+        requires same_len { length out.old ≡ length (numbers self) }
+        ensures { out.new ≡ numbers self };
 }
 
 // Writes the numbers of levels.
@@ -102,6 +112,12 @@ impl<'t> LevelList for &'t [Level] {
     fn has_rtl(self) -> bool {
         has_rtl(self)
     }
+
+    ghost are_levels = { λ _. ⊤ };
+
+    fn copy_to(self, out: &mut [Level]) {
+        out.copy_from_slice(self);
+    }
 }
 
 // Whether some number is odd.
@@ -113,6 +129,17 @@ fn any_odd(numbers: &[u8]) -> bool
         all |= *number;
     }
     all % 2 == 1
+}
+
+// The level of a number.
+fn level_of(number: u8) -> Level
+    requires { number < 127 }
+    ensures { result ≡ number }
+{
+    match Level::new(number) {
+        Ok(level) => level,
+        Err(_) => unreachable!(),
+    }
 }
 
 /// The numbers of levels.
@@ -135,5 +162,13 @@ impl<'t> LevelList for &'t [u8] {
 
     fn has_rtl(self) -> bool {
         any_odd(self)
+    }
+
+    ghost are_levels = { λ list. IsTrue (list_all (λ number. nat_lt number 127) list.now) };
+
+    fn copy_to(self, out: &mut [Level]) {
+        for i in 0..out.len() {
+            out[i] = level_of(self[i]);
+        }
     }
 }

@@ -2,6 +2,7 @@
 //! condition tested, and the faults that a call is refused for.
 #![tactic(auto)]
 
+pub mod class_numbers;
 pub mod fault;
 pub mod numbers;
 pub mod rows;
