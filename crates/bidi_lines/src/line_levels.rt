@@ -227,7 +227,7 @@ pub fn levels_with_line(
 }
 
 // Brings the level of each character's first unit to the character's index, and counts the characters.
-fn gather<T: TextSource>(text: T, levels: &mut [Level]) -> usize
+pub(crate) fn gather<T: TextSource>(text: T, levels: &mut [Level]) -> usize
     requires { length levels.old ≡ text_len T.units (T.characters text) }
     ensures count { result ≡ length (T.characters text) }
     ensures gathered { take result levels.new ≡ per_char 0 T.units (T.characters text) levels.old }

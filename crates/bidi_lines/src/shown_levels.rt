@@ -1,12 +1,14 @@
 //! The levels of a line after L1, in memory that is used again for the next line.
 
-ghost use Rattle.std.specs.Prelude.{◌≡◌, ◌<◌, ◌≤◌, length, [], OnOk, OnErr, vec_len};
+ghost use Rattle.std.specs.Prelude.{◌≡◌, ◌<◌, ◌≤◌, true, false, take, length, [], OnOk, OnErr, vec_len};
+ghost use Rattle.bidi_base.specs.Text.{text_len, per_char};
 ghost use Rattle.bidi_base.specs.Line.{line_levels};
 ghost use Rattle.bidi_lines.specs.declared.shown_levels.TheConstants.{FEW_UNITS};
 
-use crate::line_levels::reset_levels;
+use crate::line_levels::{gather, reset_levels};
 use crate::stored::{ClassList, LevelList};
 use bidi_base::level::{LTR_LEVEL, Level};
+use bidi_text::text::TextSource;
 use std::alloc::{AllocError, Global};
 
 /// Up to how many units of a line need no allocation.
@@ -23,17 +25,40 @@ fn write_levels<C: ClassList, L: LevelList>(level: Level, classes: C, levels: L,
     reset_levels(level, classes, out);
 }
 
+// Makes room for so many levels, which hold any values. If an allocation fails, the list is unchanged.
+fn resize(levels: &mut Vec<Level>, len: usize) -> Result<(), AllocError>
+    ensures len { OnOk result (vec_len levels.new ≡ len) }
+    ensures kept { OnErr result (levels.new.items ≡ levels.old.items) }
+{
+    levels.resize(len, LTR_LEVEL)?;
+    Ok(())
+}
+
+// Brings the level of each character's first unit to the character's index, where the first `len` levels
+// are those of the text's units, and counts the characters.
+fn gather_front<T: TextSource>(text: T, levels: &mut [Level], len: usize) -> usize
+    requires within { len ≤ length levels.old }
+    requires one_a_unit { len ≡ text_len T.units (T.characters text) }
+    ensures within { result ≤ len }
+    ensures gathered { take result levels.new ≡ per_char 0 T.units (T.characters text) (take len levels.old) }
+{
+    gather(text, &mut levels[..len])
+}
+
 /// The levels of a line's units after L1.
 ///
 /// A line of up to 256 units needs no allocation. What a longer one allocates is used again for the next
 /// line.
 #[derive(Drop)]
 pub struct ShownLevels {
+    // The first `len` of these are the levels,
     few: [Level; FEW_UNITS],
-    // Those of a line of more units.
+    // or of these, if there were more units.
     many: Vec<Level>,
+    are_many: bool,
     len: usize,
-    ghost long: { FEW_UNITS < len → vec_len many ≡ len },
+    ghost few_fit: { are_many ≡ false → len ≤ FEW_UNITS },
+    ghost many_fit: { are_many ≡ true → len ≤ vec_len many },
 }
 
 impl ShownLevels {
@@ -46,6 +71,7 @@ impl ShownLevels {
         ShownLevels {
             few: [LTR_LEVEL; FEW_UNITS],
             many: Vec::new(alloc),
+            are_many: false,
             len: 0,
         }
     }
@@ -67,22 +93,36 @@ impl ShownLevels {
         let len = levels.len();
         if len <= FEW_UNITS {
             write_levels(level, classes, levels, &mut self.few[..len]);
+            self.are_many = false;
         } else {
-            self.many.resize(len, LTR_LEVEL)?;
+            resize(&mut self.many, len)?;
             write_levels(level, classes, levels, self.many.as_mut_slice());
+            self.are_many = true;
         }
         self.len = len;
         Ok(())
+    }
+
+    /// Keeps one level for each character of the line, that of its first unit. `text` is the line's.
+    pub fn keep_first_units<T: TextSource>(&mut self, text: T)
+        requires { length (levels_of self.old) ≡ text_len T.units (T.characters text) }
+        ensures { levels_of self.new ≡ per_char 0 T.units (T.characters text) (levels_of self.old) }
+    {
+        if self.are_many {
+            self.len = gather_front(text, self.many.as_mut_slice(), self.len);
+        } else {
+            self.len = gather_front(text, &mut self.few, self.len);
+        }
     }
 
     /// The level of each unit of the line.
     pub fn as_slice(&self) -> &[Level]
         ensures { result.now ≡ levels_of self.now }
     {
-        if self.len <= FEW_UNITS {
-            &self.few[..self.len]
+        if self.are_many {
+            &self.many.as_slice()[..self.len]
         } else {
-            self.many.as_slice()
+            &self.few[..self.len]
         }
     }
 }
