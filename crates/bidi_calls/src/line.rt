@@ -1,5 +1,5 @@
 //! The calls over a line, from classes and levels that the caller has kept.
-ghost use Rattle.std.specs.Prelude.{◌≡◌, ◌+◌, ◌-◌, ◌<◌, ◌≤◌, ◌&&◌, IsTrue, true, length, map, slice_index, slice_range, slice_index_or, OnOk, OnErr, IfOk, All};
+ghost use Rattle.std.specs.Prelude.{◌≡◌, ◌+◌, ◌-◌, ◌<◌, ◌≤◌, ◌&&◌, IsTrue, true, length, map, slice_index, slice_range, nat_le, OnOk, OnErr, IfOk, All};
 ghost use Rattle.std.specs.List.{list_all};
 ghost use Rattle.std.specs.Result.{result_err};
 ghost use Rattle.bidi_base.specs.Display.{run_of, visual_runs};
@@ -7,7 +7,8 @@ ghost use Rattle.bidi_base.specs.Line.{line_levels as line_levels_of};
 ghost use Rattle.bidi_base.specs.Order.{visual_order as visual_order_of};
 ghost use Rattle.bidi_base.specs.Places.{at_places};
 ghost use Rattle.bidi_base.specs.Text.{text_len, place, per_char};
-ghost use Rattle.bidi_numbers.specs.Faults.{FaultsAs, has_room_or_none};
+ghost use Rattle.bidi_lines.specs.ShownLevels.{levels as levels_of};
+ghost use Rattle.bidi_numbers.specs.Faults.{FaultsAs, fault_unless, has_room_or_none};
 ghost use Rattle.bidi_calls.specs.Kept.{written, written_if_room};
 ghost use Rattle.bidi_calls.specs.Lines.{lies_in, IsSound, own_classes, own_levels, line_fault, levels_fault, runs_fault, order_fault, shown_levels};
 ghost use Rattle.bidi_numbers.specs.Numbers.{class_numbered, is_class, is_level};
@@ -15,16 +16,16 @@ ghost use Rattle.bidi_calls.specs.Shown.{order_of_line, map_fault};
 ghost use Rattle.bidi_numbers.specs.Rows.{run_row};
 
 use crate::checked::write_levels;
-use bidi_lines::line_levels::{first_units, levels_of_line};
-use bidi_lines::visual_order::reorder_visual;
-use bidi_lines::visual_runs::visual_runs_of;
+use bidi_lines::shown_levels::ShownLevels;
+use bidi_lines::visual_order::write_visual_order;
+use bidi_lines::visual_runs::LineRuns;
+use bidi_numbers::class_numbers::ClassNumbers;
 use bidi_numbers::fault::{Fault, check, check_room_or_none};
-use bidi_numbers::numbers::{all_below, check_classes, classes_of};
+use bidi_numbers::numbers::{all_below, check_classes};
 use bidi_numbers::rows::{Paragraph, Run};
 use std::alloc::{AllocError, Global};
 use std::ops::Range;
-use unicode_bidi::level::VecError;
-use unicode_bidi::{BidiClass, Level, TextSource};
+use unicode_bidi::{Level, TextSource};
 
 /// A line as the caller names it: the numbers of the classes and the levels of a text's units, a
 /// paragraph of the text, and the units from `start` up to `end`.
@@ -42,18 +43,6 @@ fn lies_in(paragraph: &Paragraph, start: usize, end: usize, units: usize) -> boo
     ensures { result ≡ lies_in paragraph.now start end units }
 {
     paragraph.start <= start && start <= end && end <= paragraph.end && paragraph.end <= units
-}
-
-// The levels of numbers up to 126.
-fn levels_of(alloc: Global, numbers: &[u8]) -> Result<Vec<Level>, AllocError>
-    requires { IsTrue (list_all is_level numbers.now) }
-    ensures { IfOk result (λ v. v.items ≡ numbers.now) }
-{
-    match Level::vec(alloc, numbers) {
-        Ok(levels) => Ok(levels),
-        Err(VecError::Memory) => Err(AllocError),
-        Err(VecError::OutOfRangeNumber) => unreachable!(),
-    }
 }
 
 impl<'t> KeptLine<'t> {
@@ -87,38 +76,17 @@ impl<'t> KeptLine<'t> {
         }
     }
 
-    /// The stored classes of the line.
-    pub fn classes(&self, alloc: Global) -> Result<Vec<BidiClass>, AllocError>
+    /// The levels of the line after L1. A line of up to 256 units needs no allocation.
+    pub fn shown(&self, alloc: Global) -> Result<ShownLevels, AllocError>
         requires { IsSound self.now }
-        ensures { IfOk result (λ v. v.items ≡ map class_numbered (own_classes self.now)) }
+        ensures levels { IfOk result (λ s. levels_of s ≡ shown_levels self.now) }
+        ensures units { IfOk result (λ s. length (levels_of s) + self.now.start ≡ self.now.end) }
     {
-        classes_of(alloc, &self.classes[self.start..self.end])
-    }
-
-    /// The stored levels of the line.
-    pub fn levels(&self, alloc: Global) -> Result<Vec<Level>, AllocError>
-        requires { IsSound self.now }
-        ensures { IfOk result (λ v. v.items ≡ own_levels self.now) }
-    {
-        levels_of(alloc, &self.levels[self.start..self.end])
-    }
-
-    /// The levels of the line after L1.
-    pub fn shown(&self, alloc: Global) -> Result<Vec<Level>, AllocError>
-        requires { IsSound self.now }
-        ensures levels { IfOk result (λ v. v.items ≡ shown_levels self.now) }
-        ensures units { IfOk result (λ v. length v.items + self.now.start ≡ self.now.end) }
-    {
-        let classes = self.classes(alloc)?;
-        let levels = self.levels(alloc)?;
-        let units = 0..levels.len();
-        levels_of_line(
-            alloc,
-            self.level(),
-            classes.as_slice(),
-            levels.as_slice(),
-            units,
-        )
+        let classes = ClassNumbers::new(&self.classes[self.start..self.end]);
+        let levels = &self.levels[self.start..self.end];
+        let mut shown = ShownLevels::new(alloc);
+        shown.show(self.level(), classes, levels)?;
+        Ok(shown)
     }
 }
 
@@ -185,11 +153,12 @@ pub fn line_runs(alloc: Global, line: &KeptLine<'_>, out: &mut [Run]) -> Result<
 {
     line.check()?;
     let shown = line.shown(alloc)?;
-    let runs = visual_runs_of(alloc, shown.as_slice(), line.start)?;
-    let count = runs.len();
-    check_room_or_none(count, out.len())?;
-    put_runs(out, shown.as_slice(), line.start, runs.as_slice());
-    Ok(count)
+    let mut found = LineRuns::new(alloc);
+    found.find(shown.as_slice(), line.start)?;
+    let runs = found.as_slice();
+    check_room_or_none(runs.len(), out.len())?;
+    put_runs(out, shown.as_slice(), line.start, runs);
+    Ok(runs.len())
 }
 
 /// The order of a line's characters from left to right, of which it answers the number. `text` is the
@@ -207,17 +176,32 @@ pub fn map_characters<T: TextSource>(
     ensures order { OnOk result (out.new ≡ written (order_of_line T.units (T.characters text) line.now) out.old) }
     ensures count { IfOk result (λ count. count ≡ length (order_of_line T.units (T.characters text) line.now)) }
 {
-    let levels = line.shown(alloc)?;
-    let shown = first_units(text, levels);
-    let found = reorder_visual(alloc, shown.as_slice())?;
-    let order = found.as_slice();
-    check(order.len() <= out.len(), Fault::NoRoom)?;
-    out[..order.len()].copy_from_slice(order);
-    Ok(order.len())
+    let mut shown = line.shown(alloc)?;
+    shown.keep_first_units(text);
+    let levels = shown.as_slice();
+    let count = levels.len();
+    check(count <= out.len(), Fault::NoRoom)?;
+    write_visual_order(levels, &mut out[..count]);
+    Ok(count)
+}
+
+/// The order of a line's units from left to right, where each unit is a character. Returns their number.
+pub fn order_units(alloc: Global, line: &KeptLine<'_>, out: &mut [usize]) -> Result<usize, Fault>
+    requires { IsSound line.now }
+    ensures fault { FaultsAs result (fault_unless (nat_le (line.now.end - line.now.start) (length out.old)) Fault.NoRoom) }
+    ensures kept { OnErr result (out.new ≡ out.old) }
+    ensures order { OnOk result (out.new ≡ written (visual_order_of (shown_levels line.now)) out.old) }
+    ensures count { IfOk result (λ count. count ≡ line.now.end - line.now.start) }
+{
+    let count = line.end - line.start;
+    check(count <= out.len(), Fault::NoRoom)?;
+    let shown = line.shown(alloc)?;
+    write_visual_order(shown.as_slice(), &mut out[..count]);
+    Ok(count)
 }
 
 /// The visual order of levels, of which it answers the number.
-pub fn visual_order(alloc: Global, levels: &[u8], out: &mut [usize]) -> Result<usize, Fault>
+pub fn visual_order(levels: &[u8], out: &mut [usize]) -> Result<usize, Fault>
     ensures fault { FaultsAs result (order_fault levels.now (length out.old)) }
     ensures kept { OnErr result (out.new ≡ out.old) }
     ensures order { OnOk result (out.new ≡ written (visual_order_of levels.now) out.old) }
@@ -226,8 +210,6 @@ pub fn visual_order(alloc: Global, levels: &[u8], out: &mut [usize]) -> Result<u
     check(all_below(levels, 127), Fault::BadLevel)?;
     check(levels.len() <= out.len(), Fault::NoRoom)?;
     let count = levels.len();
-    let levels = levels_of(alloc, levels)?;
-    let order = reorder_visual(alloc, levels.as_slice())?;
-    out[..count].copy_from_slice(order.as_slice());
+    write_visual_order(levels, &mut out[..count]);
     Ok(count)
 }
