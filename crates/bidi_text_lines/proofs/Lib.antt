@@ -2,10 +2,11 @@ pub mod CharRuns
 pub mod DirectionLemmas
 pub mod LineText
 pub mod LineUnits
+pub mod LineUtf8
+pub mod RunLengths
 pub mod RunText
 pub mod StoredLine
 pub mod TextOfLine
 pub mod TurnedText
 pub mod Utf16Backwards
-pub mod WrittenBehind
 pub mod WrittenRuns

@@ -1,14 +1,14 @@
 -- A line of a text whose stored classes and levels pass the test `is_per_char`, as those of the info types do.
-use Rattle.bidi_base.proofs.Common.{◌≡◌, ℕ, ◌≤◌, List, length, false, arith, IsTrue, slice_range, Range, AnalysedText, line_levels_per_char, line_text, has_rtl, levels_of_line, levels_with_line, char_levels_of_line, char_levels_with_line, text_len, subrange, per_char, is_per_char, IsLine, IsPerChar}
-use Rattle.bidi_base.specs.Analysed.{AreLevelsWithLine, AreLevelsOfLine, IsTextOfLine, levels_with_line_per_char}
+use Rattle.bidi_base.proofs.Common.{◌≡◌, ℕ, ◌≤◌, List, length, refl, ◌∙◌, arith, IsTrue, slice_range, Range, AnalysedText, line_levels_per_char, has_rtl, levels_of_line, levels_with_line, char_levels_of_line, char_levels_with_line, text_len, subrange, per_char, is_per_char, IsLine, IsPerChar}
+use Rattle.bidi_base.specs.Analysed.{AreLevelsWithLine, AreLevelsOfLine, IsTextOfLine, StaysInOrder, levels_with_line_per_char}
 use Rattle.bidi_base.specs.declared.char_data.BidiClass.{BidiClass}
-use Rattle.bidi_base.specs.declared.char_data.BidiClass.TheVariants.{L}
 use Rattle.bidi_base.proofs.PerUnit.{length-per_char, per_char-per_unit}
 use Rattle.bidi_base.proofs.PlaceLemmas.{line_places, text_len-subrange}
 use Rattle.bidi_text.proofs.PerCharTests.{class_eq, class_test, level_eq, level_test}
 use Rattle.bidi_base.proofs.TextLemmas.{HasUnits}
 use Rattle.bidi_base.proofs.UnitsLemmas.{IsPerChar-from_is_per_char, length-from_IsPerChar}
 use Rattle.bidi_lines.proofs.LineInText.{length-part, length-line}
+use Rattle.bidi_text_lines.specs.Written.{line_units}
 use Rattle.bidi_text_lines.proofs.TextOfLine as line_of
 
 module _ (len_of : ℕ → ℕ) (some : HasUnits len_of) (chars : List ℕ) where
@@ -49,20 +49,25 @@ module _ (len_of : ℕ → ℕ) (some : HasUnits len_of) (chars : List ℕ) wher
     pub has_rtl-chars : has_rtl (levels_of_line level classes levels line.start line.end) ≡ has_rtl (char_levels_of_line len_of chars level classes levels line.start line.end)
     has_rtl-chars = line_of.has_rtl-chars len_of some chars level classes levels line.start line.end (classes_IsPerChar classes of_classes) (levels_IsPerChar levels of_levels) is_line
 
-    pub of_text : (encode : ℕ → List ℕ) (units shown : List ℕ)
-        → shown ≡ line_text len_of encode chars units level (per_char L len_of chars classes) (per_char 0 len_of chars levels) line.start line.end
+    -- the line's runs, written one after the other, are its text
+    pub of_text : (encode : ℕ → List ℕ) (units shown : List ℕ) → length units ≡ text_len len_of chars
+        → shown ≡ line_units encode units (record { len_of = len_of; chars = chars; classes = classes; levels = levels }) level line
         → IsTextOfLine encode units (record { len_of = len_of; chars = chars; classes = classes; levels = levels }) level line shown
-    of_text encode units shown e = grind (arith, line_of.line_text-empty)
+    of_text encode units shown long e =
+        let is = e ∙ line_of.flat_map-runs len_of some chars level classes levels line.start line.end (classes_IsPerChar classes of_classes) (levels_IsPerChar levels of_levels) is_line encode units _ long refl in
+        grind (arith, line_of.line_text-empty)
 
     -- where no level of the line is odd its text is the line's part of the text
-    pub still : (encode : ℕ → List ℕ) (units shown : List ℕ) → length units ≡ text_len len_of chars → has_rtl (levels_of_line level classes levels line.start line.end) ≡ false
-        → shown ≡ slice_range units line.start line.end → IsTextOfLine encode units (record { len_of = len_of; chars = chars; classes = classes; levels = levels }) level line shown
+    pub still : (encode : ℕ → List ℕ) (units shown : List ℕ) → length units ≡ text_len len_of chars
+        → StaysInOrder (record { len_of = len_of; chars = chars; classes = classes; levels = levels }) level line → shown ≡ slice_range units line.start line.end
+        → IsTextOfLine encode units (record { len_of = len_of; chars = chars; classes = classes; levels = levels }) level line shown
     still encode units shown long even e = grind (
       arith,
       line_of.line_text-still,
       line_of.line_text-empty,
       classes_IsPerChar,
       levels_IsPerChar,
+      has_rtl-chars,
     )
 
 -- ---- the levels of the line's characters

@@ -1,13 +1,24 @@
--- A pass that writes the runs of a line, one after the other.
-use Rattle.bidi_base.proofs.Common.{◌≡◌, ℕ, ◌+◌, ◌-◌, ◌<◌, Bool, true, false, List, ◌++◌, flat_map, reverse, length, get_or, take, map, arith, append_assoc, Range, get_or-map, get_or_default, length-map, take_more, flat_map-append, is_odd, subrange, Run, run_of, run_text_in}
-use Rattle.std.proofs.Common.{slice_range}
+-- A pass that writes the runs of a line, one after the other, to parts of a list.
+use Rattle.bidi_base.proofs.Common.{◌≡◌, ℕ, ◌+◌, ◌-◌, ◌<◌, ◌≤◌, Bool, true, false, List, ◌++◌, flat_map, reverse, length, get_or, take, drop, map, ap, ◌∙◌, arith, append_assoc, length-append, Range, get_or-map, get_or_default, length-map, take_more, flat_map-append, is_odd, subrange, Run, run_of}
+use Rattle.std.proofs.Common.{slice_range, length-take-le}
+use Rattle.std.proofs.Math.Seq.{take-append_seam}
 use Rattle.std.proofs.lemmas.List.{append-nil}
+use Rattle.bidi_text_lines.specs.Written.{run_units}
+
+-- what is written to the next part of a list
+pub written_part : {X : Type 0} (xs begun new : List X) (at end n : ℕ) → take at xs ≡ begun → at ≤ length xs → end ≡ at + length new
+    → take end (take at xs ++ (new ++ drop n (drop at xs))) ≡ begun ++ new
+written_part xs begun new at end n is fits e =
+    let long : end ≡ length (take at xs ++ new) = omega (arith, length-append (take at xs) new, length-take-le at xs fits) in
+    simp (long, ← append_assoc) (take-append_seam (take at xs ++ new) (drop n (drop at xs)) ∙ ap (λ ys. ys ++ new) is)
 
 -- one more run
-pub flat_map-more : (f : Run → List ℕ) (ranges : List (Range ℕ)) (k : ℕ) (d : Range ℕ) (begun old new : List ℕ) → k < length ranges
-    → old ≡ begun ++ flat_map f (take k (map run_of ranges)) → new ≡ old ++ f (run_of (get_or ranges k d)) → new ≡ begun ++ flat_map f (take (k + 1) (map run_of ranges))
-flat_map-more f ranges k d begun old new fits h e =
-    grind (
+pub written_run : {X : Type 0} (f : Run → List X) (ranges : List (Range ℕ)) (k : ℕ) (d : Range ℕ) (xs new : List X) (at end n : ℕ) → k < length ranges
+    → take at xs ≡ flat_map f (take k (map run_of ranges)) → at ≤ length xs → end ≡ at + length new → new ≡ f (run_of (get_or ranges k d))
+    → take end (take at xs ++ (new ++ drop n (drop at xs))) ≡ flat_map f (take (k + 1) (map run_of ranges))
+written_run f ranges k d xs new at end n fits so_far inside e is =
+    written_part xs (flat_map f (take k (map run_of ranges))) new at end n so_far inside e
+    ∙ grind (
       arith,
       append_assoc,
       take_more (map run_of ranges) k (0, 0),
@@ -17,12 +28,12 @@ flat_map-more f ranges k d begun old new fits h e =
       length-map,
     )
 
-module _ (len_of : ℕ → ℕ) (encode : ℕ → List ℕ) (chars units : List ℕ) (start : ℕ) (levels : List ℕ) (run : Range ℕ) (level : ℕ) (odd : Bool) where
-  -- the text of an odd run, and of an even one
-  pub run_text_in-odd : run.start - start < length levels → level ≡ get_or levels (run.start - start) level → odd ≡ is_odd level → odd ≡ true
-      → flat_map encode (reverse (subrange len_of chars run.start run.end)) ≡ run_text_in len_of encode chars units start levels (run_of run)
-  run_text_in-odd fits e f is = grind (arith, get_or_default levels (run.start - start) level 0)
+module _ {X : Type 0} (len_of : ℕ → ℕ) (encode : ℕ → List X) (chars : List ℕ) (units : List X) (start : ℕ) (levels : List ℕ) (run : Range ℕ) (level : ℕ) (odd : Bool) where
+  -- the units of an odd run, and of an even one
+  pub run_units-odd : run.start - start < length levels → level ≡ get_or levels (run.start - start) level → odd ≡ is_odd level → odd ≡ true
+      → flat_map encode (reverse (subrange len_of chars run.start run.end)) ≡ run_units len_of encode chars units start levels (run_of run)
+  run_units-odd fits e f is = grind (arith, get_or_default levels (run.start - start) level 0)
 
-  pub run_text_in-even : run.start - start < length levels → level ≡ get_or levels (run.start - start) level → odd ≡ is_odd level → odd ≡ false
-      → slice_range units run.start run.end ≡ run_text_in len_of encode chars units start levels (run_of run)
-  run_text_in-even fits e f is = grind (arith, get_or_default levels (run.start - start) level 0)
+  pub run_units-even : run.start - start < length levels → level ≡ get_or levels (run.start - start) level → odd ≡ is_odd level → odd ≡ false
+      → slice_range units run.start run.end ≡ run_units len_of encode chars units start levels (run_of run)
+  run_units-even fits e f is = grind (arith, get_or_default levels (run.start - start) level 0)

@@ -1,2 +1,3 @@
 pub mod Analysed
 pub mod Turned
+pub mod Written

@@ -3,4 +3,4 @@
 
 pub mod analysed;
 pub mod level_direction;
-mod line_text;
+pub mod line_text;

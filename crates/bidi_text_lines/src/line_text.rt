@@ -1,9 +1,9 @@
-// The text of a line from left to right (L2).
-ghost use Rattle.std.specs.Prelude.{◌≡◌, ℕ, ◌+◌, ◌<◌, ◌≤◌, ◌++◌, List, [], length, slice_range, reverse, flat_map, map, IfOk, OnOk, IsNone, MatchOption, All, ◌↔◌};
-ghost use Rattle.bidi_base.specs.Analysed.{IsLineOf, IsTextOfLine, StaysInOrder};
-ghost use Rattle.bidi_base.specs.Display.{run_of, run_text_in, line_text};
-ghost use Rattle.bidi_base.specs.Text.{text_len, subrange, per_char, IsLine};
-ghost use Rattle.bidi_base.specs.declared.char_data.BidiClass.TheVariants.{L};
+//! The text of a line from left to right (L2), written to a slice.
+ghost use Rattle.std.specs.Prelude.{◌≡◌, ℕ, ◌+◌, ◌-◌, ◌<◌, ◌≤◌, List, length, slice_range, reverse, flat_map, map, sum_by, IfOk, IfSome, OnOk, IsNone, IsTrue, All, ◌↔◌};
+ghost use Rattle.bidi_base.specs.Analysed.{IsLineOf, StaysInOrder};
+ghost use Rattle.bidi_base.specs.Display.{run_of};
+ghost use Rattle.bidi_base.specs.Text.{subrange, IsLine};
+ghost use Rattle.bidi_text_lines.specs.Written.{run_units, line_units};
 
 use crate::analysed::Analysed;
 use bidi_base::level::Level;
@@ -13,100 +13,105 @@ use bidi_text::text::TextSource;
 use std::alloc::{AllocError, Global};
 use std::ops::Range;
 
+mod chars;
+mod reversed;
 mod turned;
 mod utf16;
 mod utf8;
 
-// What the runs of a line are written to, from left to right.
-pub(crate) trait RunWriter<T: TextSource>: Drop {
-    // The units that are written.
-    ghost written: { Self → List ℕ };
+/// A text whose lines are written from left to right, run by run.
+pub trait LineText: TextSource {
+    /// A code unit: `u8` in UTF-8, `u16` in UTF-16, `char` in a list of characters.
+    type Unit: Copy;
 
-    // The units of a text.
-    ghost units_of: { T → List ℕ };
+    /// The code units of a text.
+    ghost units_of: { Self → List Self.Unit };
 
-    // How a character is written at an odd level.
-    ghost encode: { ℕ → List ℕ };
+    /// How a character is written at an odd level.
+    ghost encode: { ℕ → List Self.Unit };
 
-    // No units yet, with room for this many.
-    fn with_room(alloc: Global, units: usize) -> Result<Self, AllocError>
-        ensures { IfOk result (λ w. written w ≡ []) };
+    /// Writes the code units of a run unchanged.
+    fn copy_run(self, run: Range<usize>, out: &mut [Self::Unit])
+        requires is_line { IsLine Self.units (Self.characters self) run.start run.end }
+        requires room { length out.old + run.start ≡ run.end }
+        ensures { out.new ≡ slice_range (units_of self) run.start run.end };
 
-    // Appends the units of a run.
-    fn write_forwards(&mut self, text: T, run: Range<usize>) -> Result<(), AllocError>
-        requires { IsLine T.units (T.characters text) run.start run.end }
-        ensures { OnOk result (written self.new ≡ written self.old ++ slice_range (units_of text) run.start run.end) };
-
-    // Appends the characters of a run, last first.
-    fn write_backwards(&mut self, text: T, run: Range<usize>) -> Result<(), AllocError>
-        requires { IsLine T.units (T.characters text) run.start run.end }
-        ensures { OnOk result (written self.new
-            ≡ written self.old
-            ++ flat_map encode (reverse (subrange T.units (T.characters text) run.start run.end))) };
+    /// Writes the characters of a run in reverse order.
+    ///
+    /// The code units of each character keep their order.
+    fn reverse_run(self, run: Range<usize>, out: &mut [Self::Unit])
+        requires is_line { IsLine Self.units (Self.characters self) run.start run.end }
+        requires room { length out.old + run.start ≡ run.end }
+        ensures { out.new ≡ flat_map encode (reverse (subrange Self.units (Self.characters self) run.start run.end)) };
 }
 
-// Writes the runs of a line that starts at the unit `start` of a text, in the order in which they
-// stand. `levels` are those of the line's units after L1.
-fn write_runs<T: TextSource, W: RunWriter<T>>(
-    out: &mut W,
+/// Writes the runs of a line to `out`, in the order of `runs`.
+///
+/// The line begins at the code unit `start` of the text. `levels` are the levels of its code units
+/// after L1, and the lengths of the runs add up to their number. A run at an even level is copied, and
+/// the characters of a run at an odd level are reversed (L2). Takes time linear in the line, and does
+/// not allocate.
+pub fn write_runs<T: LineText>(
     text: T,
     start: usize,
     levels: &[Level],
     runs: &[Range<usize>],
-) -> Result<(), AllocError>
+    out: &mut [T::Unit],
+)
+    requires room { length out.old ≡ length levels.now }
     requires within { All (λ r. start ≤ r.start × r.start < start + length levels.now) runs.now }
     requires boundaries { All (λ r. IsLine T.units (T.characters text) r.start r.end) runs.now }
-    ensures { OnOk result (W.written out.new ≡ W.written out.old
-        ++ flat_map (run_text_in T.units W.encode (T.characters text) (W.units_of text) start levels.now) (map run_of runs.now)) }
+    requires whole { sum_by (λ r. r.end - r.start) runs.now ≡ length levels.now }
+    ensures { out.new ≡ flat_map (run_units T.units T.encode (T.characters text) (T.units_of text) start levels.now) (map run_of runs.now) }
 {
+    let mut at = 0;
     for run in runs {
+        let end = at + (run.end - run.start);
         let units = run.start..run.end;
         if levels[run.start - start].is_rtl() {
-            out.write_backwards(text, units)?;
+            text.reverse_run(units, &mut out[at..end]);
         } else {
-            out.write_forwards(text, units)?;
+            text.copy_run(units, &mut out[at..end]);
         }
+        at = end;
     }
-    Ok(())
 }
 
-impl<T: TextSource> Analysed<T> {
+impl<T: LineText> Analysed<T> {
     ghost use Rattle.bidi_text_lines.specs.Analysed.{analysed, text_of};
 
     // Writes a line from left to right.
-    fn write_line<W: RunWriter<T>>(
+    fn write_line(
         &self,
         alloc: Global,
-        out: &mut W,
         level: Level,
         line: Range<usize>,
+        out: &mut [T::Unit],
     ) -> Result<(), AllocError>
-        requires units { length (W.units_of (text_of self.now)) ≡ text_len T.units (T.characters (text_of self.now)) }
         requires is_line { IsLineOf (analysed self.now) line }
-        ensures { let a = analysed self.now in OnOk result (W.written out.new ≡ W.written out.old
-            ++ line_text a.len_of W.encode a.chars (W.units_of (text_of self.now)) level
-            (per_char L a.len_of a.chars a.classes) (per_char 0 a.len_of a.chars a.levels) line.start line.end) }
+        requires room { length out.old + line.start ≡ line.end }
+        ensures { OnOk result (out.new ≡ line_units T.encode (T.units_of (text_of self.now)) (analysed self.now) level line) }
     {
         let start = line.start;
         let classes = self.original_classes();
         let shown = levels_of_line(alloc, level, classes, self.levels(), line)?;
         let runs = visual_runs_of(alloc, shown.as_slice(), start)?;
-        write_runs(out, self.text(), start, shown.as_slice(), runs.as_slice())
+        write_runs(self.text(), start, shown.as_slice(), runs.as_slice(), out);
+        Ok(())
     }
 
-    // The text of a line from left to right. `None`, with no memory taken for it, where no level of
-    // the line is odd after L1: then the line shows its units as they stand.
-    fn turned_line<W: RunWriter<T>>(
+    // The text of a line from left to right. `None`, with nothing allocated for it, if no level of the
+    // line is odd after L1: then the line shows its units unchanged. `blank` is any unit.
+    fn turned_line(
         &self,
         alloc: Global,
         level: Level,
         line: Range<usize>,
-    ) -> Result<Option<W>, AllocError>
-        requires units { length (W.units_of (text_of self.now)) ≡ text_len T.units (T.characters (text_of self.now)) }
-        requires is_line { IsLineOf (analysed self.now) line }
-        ensures text { let units = W.units_of (text_of self.now) in IfOk result (λ o. MatchOption o
-            (IsTextOfLine W.encode units (analysed self.now) level line (slice_range units line.start line.end))
-            (λ w. IsTextOfLine W.encode units (analysed self.now) level line (W.written w))) }
+        blank: T::Unit,
+    ) -> Result<Option<Vec<T::Unit>>, AllocError>
+        requires { IsLineOf (analysed self.now) line }
+        ensures text { IfOk result (λ o. IfSome o (λ v.
+            v.items ≡ line_units T.encode (T.units_of (text_of self.now)) (analysed self.now) level line)) }
         ensures still { IfOk result (λ o. IsNone o ↔ StaysInOrder (analysed self.now) level line) }
     {
         let (start, end) = (line.start, line.end);
@@ -115,8 +120,8 @@ impl<T: TextSource> Analysed<T> {
         if !line_has_rtl(level, &classes[start..end], &levels[start..end]) {
             return Ok(None);
         }
-        let mut out = W::with_room(alloc, end - start)?;
-        self.write_line(alloc, &mut out, level, line)?;
+        let mut out = vec![in alloc; blank; end - start]?;
+        self.write_line(alloc, level, line, out.as_mut_slice())?;
         Ok(Some(out))
     }
 }

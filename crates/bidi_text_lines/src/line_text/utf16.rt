@@ -1,5 +1,5 @@
 // The text of a line of UTF-16.
-ghost use Rattle.std.specs.Prelude.{◌≡◌, [], ◌++◌, reverse, flat_map, IfOk, OnOk, ◌↔◌};
+ghost use Rattle.std.specs.Prelude.{◌≡◌, length, reverse, flat_map, IfOk, ◌↔◌};
 ghost use Rattle.std.specs.Char.Escape.{encode_utf16};
 ghost use Rattle.std.specs.List.{list_all};
 ghost use Rattle.std.specs.Cow.{cow_slice_items, IsBorrowedSlice};
@@ -7,7 +7,8 @@ ghost use Rattle.bidi_base.specs.Analysed.{IsLineOf, IsTextOfLine, StaysInOrder}
 ghost use Rattle.bidi_base.specs.Utf16.{utf16_text};
 ghost use Rattle.bidi_text_lines.specs.Turned.{is_character};
 
-use super::RunWriter;
+use super::LineText;
+use super::reversed::write_reversed;
 use crate::analysed::Analysed;
 use bidi_base::level::Level;
 use bidi_text::text::{TextSource, Utf16CharIter, Utf16Text};
@@ -15,14 +16,17 @@ use std::alloc::{AllocError, Global};
 use std::borrow::CowSlice;
 use std::ops::Range;
 
-// Appends the characters of some units, last first, one by one. A surrogate in no pair is U+FFFD.
-fn push_chars_backwards(out: &mut Vec<u16>, units: &[u16]) -> Result<(), AllocError>
-    ensures { OnOk result (out.new.items ≡ out.old.items ++ flat_map encode_utf16 (reverse (utf16_text units.now))) }
+// Writes the characters of some units in reverse order, one by one. A surrogate in no pair is U+FFFD.
+fn write_chars_reversed(units: &[u16], out: &mut [u16])
+    requires { length out.old ≡ length units.now }
+    ensures { out.new ≡ flat_map encode_utf16 (reverse (utf16_text units.now)) }
 {
+    let mut at = 0;
     for c in Utf16CharIter::new(units).rev() {
-        out.extend_from_slice(c.encode_utf16(&mut [0; 2]))?;
+        let end = at + c.len_utf16();
+        out[at..end].copy_from_slice(c.encode_utf16(&mut [0; 2]));
+        at = end;
     }
-    Ok(())
 }
 
 // Whether each unit is a character. The test has no branch, so that a loop tests many units at once.
@@ -36,43 +40,26 @@ fn are_characters(units: &[u16]) -> bool
     all
 }
 
-// Appends the characters of some units, last first. A surrogate in no pair is U+FFFD.
-fn push_backwards(out: &mut Vec<u16>, units: &[u16]) -> Result<(), AllocError>
-    ensures { OnOk result (out.new.items ≡ out.old.items ++ flat_map encode_utf16 (reverse (utf16_text units.now))) }
-{
-    if !are_characters(units) {
-        return push_chars_backwards(out, units);
-    }
-    let start = out.len();
-    out.extend_from_slice(units)?;
-    out.as_mut_slice()[start..].reverse();
-    Ok(())
-}
-
-impl<'t> RunWriter<Utf16Text<'t>> for Vec<u16> {
-    ghost written = { λ v. v.items };
+impl<'t> LineText for Utf16Text<'t> {
+    type Unit = u16;
 
     ghost units_of = { λ t. t.units.now };
 
     ghost encode = { encode_utf16 };
 
-    fn with_room(alloc: Global, units: usize) -> Result<Vec<u16>, AllocError>
-        ensures { IfOk result (λ v. v.items ≡ []) }
-    {
-        Vec::with_capacity(alloc, units)
+    fn copy_run(self, run: Range<usize>, out: &mut [u16]) {
+        let units = self.units();
+        out.copy_from_slice(&units[run]);
     }
 
-    fn write_forwards(&mut self, text: Utf16Text<'t>, run: Range<usize>) -> Result<(), AllocError> {
-        let units = text.units();
-        self.extend_from_slice(&units[run])
-    }
-
-    fn write_backwards(
-        &mut self,
-        text: Utf16Text<'t>,
-        run: Range<usize>,
-    ) -> Result<(), AllocError> {
-        push_backwards(self, text.subrange(run).units())
+    // A surrogate in no pair is U+FFFD.
+    fn reverse_run(self, run: Range<usize>, out: &mut [u16]) {
+        let units = self.subrange(run).units();
+        if are_characters(units) {
+            write_reversed(units, out);
+        } else {
+            write_chars_reversed(units, out);
+        }
     }
 }
 
@@ -95,7 +82,7 @@ impl<'t> Analysed<Utf16Text<'t>> {
     {
         let text = self.text().units();
         let units = line.start..line.end;
-        match self.turned_line::<Vec<u16>>(alloc, level, units)? {
+        match self.turned_line(alloc, level, units, 0)? {
             Some(turned) => Ok(CowSlice::Owned(turned)),
             None => Ok(CowSlice::Borrowed(&text[line])),
         }

@@ -1,23 +1,34 @@
-use Rattle.bidi_base.proofs.Common.{ℕ, ◌-◌, ◌<◌, List, length, get_or, arith, Range, run_text_in}
-use Rattle.bidi_text_lines.proofs.WrittenRuns.{flat_map-more, run_text_in-odd, run_text_in-even}
+use Rattle.bidi_base.proofs.Common.{ℕ, ◌-◌, ◌<◌, ◌≤◌, List, length, get_or, ◌∙◌, arith, Range}
+use Rattle.std.proofs.lemmas.List.Sums.{sum_by_more, sum_by_more_le}
+use Rattle.bidi_text_lines.specs.Written.{run_units}
+use Rattle.bidi_text_lines.proofs.WrittenRuns.{written_run, run_units-odd, run_units-even}
 use Rattle.bidi_text_lines.proofs.line_text.write_runs.Goals as goal
-use Rattle.bidi_text_lines.proofs.line_text.write_runs.Goals.{then-is_rtl+in_ok-write_backwards, else-is_rtl+in_ok-write_forwards}
+use Rattle.bidi_text_lines.proofs.line_text.write_runs.Goals.{then-is_rtl, else-is_rtl}
 
 pub loop-run-preserved : goal.loop-run-preserved
 loop-run-preserved g c =
     let len = g.T.TextSource.units in
-    let encode = g.W.RunWriter.encode in
+    let encode = g.T.LineText.encode in
     let cs : List ℕ = g.T.TextSource.characters c.args.text in
-    let units : List ℕ = g.W.RunWriter.units_of c.args.text in
+    let units = g.T.LineText.units_of c.args.text in
     let d : Range ℕ = record { start = 0; end = 0 } in
-    let run : Range ℕ = get_or c.args.runs.now c.loop-run.run-index d in
-    let here = c.requires.within c.loop-run.run-index d c.loop-run-test.true in
+    let k = c.loop-run.run-index in
+    let run : Range ℕ = get_or c.args.runs.now k d in
+    let here = c.requires.within k d c.loop-run-test.true in
     let inside : run.start - c.args.start < length c.args.levels.now = omega (arith, here.0, here.1) in
+    let more = sum_by_more (λ (r : Range ℕ). r.end - r.start) c.args.runs.now k d c.loop-run-test.true in
+    let whole = sum_by_more_le (λ (r : Range ℕ). r.end - r.start) c.args.runs.now k d c.loop-run-test.true in
+    let fits : c.loop-run.at ≤ length c.loop-run.out = omega (arith, c.loop-run.invariant.so_far, whole, c.requires.whole, c.requires.room, c.loop-run.auto.out) in
+    let f = run_units len encode cs units c.args.start c.args.levels.now in
     elim c.if-is_rtl.branch [
-      | then-is_rtl+in_ok-write_backwards w ↦
-          flat_map-more (run_text_in len encode cs units c.args.start c.args.levels.now) c.args.runs.now c.loop-run.run-index d _ _ _ c.loop-run-test.true c.loop-run.invariant
-          (cc (w.out-is, w.in_ok-write_backwards.ensures, run_text_in-odd len encode cs units _ _ run _ _ inside c.index-levels-run.is c.is_rtl.ensures w.if-is_rtl.true))
-      | else-is_rtl+in_ok-write_forwards w ↦
-          flat_map-more (run_text_in len encode cs units c.args.start c.args.levels.now) c.args.runs.now c.loop-run.run-index d _ _ _ c.loop-run-test.true c.loop-run.invariant
-          (cc (w.out-is, w.in_ok-write_forwards.ensures, run_text_in-even len encode cs units _ _ run _ _ inside c.index-levels-run.is c.is_rtl.ensures w.if-is_rtl.false))
+      | then-is_rtl w ↦ record {
+        so_far = omega (arith, w.at-is, more, c.loop-run.invariant.so_far);
+        written = rw w.out-is (written_run f c.args.runs.now k d c.loop-run.out w.reverse_run.new.out c.loop-run.at c.if-is_rtl.at _ c.loop-run-test.true c.loop-run.invariant.written fits (grind arith)
+            (w.reverse_run.ensures ∙ run_units-odd len encode cs units c.args.start c.args.levels.now run _ _ inside c.index-levels-run.is c.is_rtl.ensures w.if-is_rtl.true));
+      }
+      | else-is_rtl w ↦ record {
+        so_far = omega (arith, w.at-is, more, c.loop-run.invariant.so_far);
+        written = rw w.out-is (written_run f c.args.runs.now k d c.loop-run.out w.copy_run.new.out c.loop-run.at c.if-is_rtl.at _ c.loop-run-test.true c.loop-run.invariant.written fits (grind arith)
+            (w.copy_run.ensures ∙ run_units-even len encode cs units c.args.start c.args.levels.now run _ _ inside c.index-levels-run.is c.is_rtl.ensures w.if-is_rtl.false));
+      }
     ]
