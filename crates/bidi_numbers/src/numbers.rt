@@ -92,9 +92,8 @@ fn sixteen_below(numbers: &[u8], at: usize, limit: u8) -> bool
     block.simd_ge(u8x16::splat(limit)).to_bitmask() == 0
 }
 
-// Whether each of sixteen numbers or more is below a limit. The last block overlaps the one before it
-// where the number of blocks is not whole: lines are short, and a rest that is read one by one costs
-// more than the blocks.
+// Whether each of sixteen numbers or more is below a limit. The last block may overlap the one before it:
+// lines are short, and reading the rest one by one would cost more than the blocks.
 fn all_below_by_blocks(numbers: &[u8], limit: u8) -> bool
     requires { 16 ≤ length numbers.now }
     ensures { result ≡ list_all (λ n. nat_lt n limit) numbers.now }
