@@ -1,3 +1,4 @@
+pub mod Even
 pub mod Kept
 pub mod Lines
 pub mod Shown

@@ -1,7 +1,8 @@
 //! Classes, levels and rules as the numbers that stand for them.
-ghost use Rattle.std.specs.Prelude.{◌≡◌, ◌≤◌, ◌<◌, IfOk, length, map, nat_lt, nat_le};
+ghost use Rattle.std.specs.Prelude.{◌≡◌, ◌+◌, ◌≤◌, ◌<◌, IfOk, length, map, nat_lt, nat_le};
 ghost use Rattle.std.specs.List.{list_all};
 ghost use Rattle.std.specs.Result.{result_err};
+ghost use lib.Lanes.{chunk};
 ghost use Rattle.bidi_numbers.specs.Faults.{fault_unless};
 ghost use Rattle.bidi_base.specs.Classes.{class_number};
 ghost use Rattle.bidi_numbers.specs.Numbers.{class_numbered, is_class, base_of, is_base, split_of, is_split};
@@ -11,6 +12,7 @@ use bidi_base::char_data::BidiClass;
 use bidi_base::level::Level;
 use bidi_walk::split_rule::SplitRule;
 use std::alloc::{AllocError, Global};
+use std::simd::prelude::*;
 
 /// The number that stands for no base level.
 const AUTO: u8 = 255;
@@ -81,15 +83,41 @@ pub fn class_of(number: u8) -> BidiClass
     }
 }
 
-/// Whether each number is below a limit. It reads all of them, so that it needs no branch for each.
+// Whether the sixteen numbers from `at` on are below a limit.
+fn sixteen_below(numbers: &[u8], at: usize, limit: u8) -> bool
+    requires { at + 16 ≤ length numbers.now }
+    ensures { result ≡ list_all (λ n. nat_lt n limit) (chunk at 16 numbers.now) }
+{
+    let block = u8x16::from_slice(&numbers[at..]);
+    block.simd_ge(u8x16::splat(limit)).to_bitmask() == 0
+}
+
+// Whether each of sixteen numbers or more is below a limit. The last block may overlap the one before it:
+// lines are short, and reading the rest one by one would cost more than the blocks.
+fn all_below_by_blocks(numbers: &[u8], limit: u8) -> bool
+    requires { 16 ≤ length numbers.now }
+    ensures { result ≡ list_all (λ n. nat_lt n limit) numbers.now }
+{
+    let last = numbers.len() - 16;
+    let mut at = 0;
+    while at < last {
+        if !sixteen_below(numbers, at, limit) {
+            return false;
+        }
+        at += 16;
+    }
+    sixteen_below(numbers, last, limit)
+}
+
+/// Returns whether each number is below a limit. It reads sixteen numbers at a time.
 pub fn all_below(numbers: &[u8], limit: u8) -> bool
     ensures { result ≡ list_all (λ n. nat_lt n limit) numbers.now }
 {
-    let mut all = true;
-    for number in numbers {
-        all &= *number < limit;
+    if numbers.len() >= 16 {
+        all_below_by_blocks(numbers, limit)
+    } else {
+        numbers.iter().all(|number| *number < limit)
     }
-    all
 }
 
 /// Refuses numbers of which one stands for no class.

@@ -1,0 +1,160 @@
+//! Whether the classes and the levels of a line's units are equal within each character.
+ghost use Rattle.std.specs.Prelude.{◌≡◌, ◌+◌, ◌<◌, ◌≤◌, ◌&&◌, ◌↔◌, IsTrue, length, map};
+ghost use Rattle.std.specs.Char.{len_utf8};
+ghost use Rattle.std.specs.List.{list_all};
+ghost use Rattle.std.specs.Str.{chars};
+ghost use Rattle.bidi_base.specs.contracts.char_data.BidiClassPartialEq.TheImpl.{ghosts as class_test};
+ghost use Rattle.bidi_base.specs.contracts.level.LevelPartialEq.TheImpl.{ghosts as level_test};
+ghost use Rattle.bidi_base.specs.Text.{is_per_char};
+ghost use Rattle.bidi_base.specs.Utf16.{is_pair as is_pair_of, splits_pair, utf16_text, utf16_len};
+ghost use Rattle.bidi_calls.specs.Even.{IsEvenAt, IsEvenBetween, HasNoSurrogate};
+ghost use Rattle.bidi_numbers.specs.Numbers.{class_numbered, is_class};
+ghost use Rattle.bidi_numbers.specs.Texts.{goes_on as goes_on_at};
+
+use bidi_numbers::texts::goes_on;
+use std::simd::prelude::*;
+
+// Whether a unit has the class and the level of the unit before it, if it goes on with a character.
+fn is_even_at(goes_on: bool, classes: &[u8], levels: &[u8], at: usize) -> bool
+    requires before { 0 < at }
+    requires classes { at < length classes.now }
+    requires levels { at < length levels.now }
+    ensures { IsTrue result ↔ IsEvenAt goes_on classes.now levels.now at }
+{
+    !goes_on | (classes[at] == classes[at - 1]) & (levels[at] == levels[at - 1])
+}
+
+// Whether each byte that goes on with a character has the class and the level of the byte before it.
+fn is_even_by_bytes(bytes: &[u8], classes: &[u8], levels: &[u8]) -> bool
+    requires classes { length classes.now ≡ length bytes.now }
+    requires levels { length levels.now ≡ length bytes.now }
+    ensures { IsTrue result ↔ IsEvenBetween (goes_on_at bytes.now) classes.now levels.now 1 (length bytes.now) }
+{
+    let mut even = true;
+    for at in 1..bytes.len() {
+        even &= is_even_at(goes_on(bytes, at), classes, levels, at);
+    }
+    even
+}
+
+// Like `is_even_by_bytes`, for the sixteen bytes from `at` on.
+fn sixteen_are_even(bytes: &[u8], classes: &[u8], levels: &[u8], at: usize) -> bool
+    requires before { 0 < at }
+    requires within { at + 16 ≤ length bytes.now }
+    requires classes { length classes.now ≡ length bytes.now }
+    requires levels { length levels.now ≡ length bytes.now }
+    ensures { IsTrue result ↔ IsEvenBetween (goes_on_at bytes.now) classes.now levels.now at (at + 16) }
+{
+    let top_bits = u8x16::from_slice(&bytes[at..]) >> 6;
+    let goes_on = top_bits.simd_eq(u8x16::splat(2));
+    let class_before = u8x16::from_slice(&classes[at - 1..]);
+    let level_before = u8x16::from_slice(&levels[at - 1..]);
+    let other_class = u8x16::from_slice(&classes[at..]).simd_ne(class_before);
+    let other_level = u8x16::from_slice(&levels[at..]).simd_ne(level_before);
+    (goes_on & (other_class | other_level)).to_bitmask() == 0
+}
+
+// Like `is_even_by_bytes`, for more than sixteen bytes. The first byte begins a character, so the blocks start
+// at the second. The last block may overlap the one before it: lines are short, and reading the rest byte by
+// byte would cost more than the blocks.
+fn is_even_by_blocks(bytes: &[u8], classes: &[u8], levels: &[u8]) -> bool
+    requires some { 16 < length bytes.now }
+    requires classes { length classes.now ≡ length bytes.now }
+    requires levels { length levels.now ≡ length bytes.now }
+    ensures { IsTrue result ↔ IsEvenBetween (goes_on_at bytes.now) classes.now levels.now 1 (length bytes.now) }
+{
+    let last = bytes.len() - 16;
+    let mut at = 1;
+    while at < last {
+        if !sixteen_are_even(bytes, classes, levels, at) {
+            return false;
+        }
+        at += 16;
+    }
+    sixteen_are_even(bytes, classes, levels, last)
+}
+
+/// Returns whether the classes and the levels of a text's bytes are equal within each character.
+///
+/// There is one class and one level for each byte, and each class is a number below 23. The function
+/// reads sixteen bytes at a time, and never decodes the text.
+pub fn is_even_utf8(text: &str, classes: &[u8], levels: &[u8]) -> bool
+    requires classes { length classes.now ≡ length text.now }
+    requires levels { length levels.now ≡ length text.now }
+    requires numbers { IsTrue (list_all is_class classes.now) }
+    ensures { result
+        ≡ (is_per_char class_test.eq len_utf8 (chars text.now) (map class_numbered classes.now)
+        && is_per_char level_test.eq len_utf8 (chars text.now) levels.now) }
+{
+    let bytes = text.as_bytes();
+    if bytes.len() > 16 {
+        is_even_by_blocks(bytes, classes, levels)
+    } else {
+        is_even_by_bytes(bytes, classes, levels)
+    }
+}
+
+// Whether two units are a high surrogate and a low one.
+fn is_pair(high: u16, low: u16) -> bool
+    ensures { result ≡ is_pair_of high low }
+{
+    (0xD800 <= high && high < 0xDC00) && (0xDC00 <= low && low < 0xE000)
+}
+
+// Whether each unit that ends a pair of surrogates has the class and the level of the unit before it.
+fn is_even_by_units(units: &[u16], classes: &[u8], levels: &[u8]) -> bool
+    requires classes { length classes.now ≡ length units.now }
+    requires levels { length levels.now ≡ length units.now }
+    ensures { IsTrue result ↔ IsEvenBetween (splits_pair units.now) classes.now levels.now 1 (length units.now) }
+{
+    let mut even = true;
+    for at in 1..units.len() {
+        even &= is_even_at(is_pair(units[at - 1], units[at]), classes, levels, at);
+    }
+    even
+}
+
+// Whether none of the sixteen units from `at` on is a surrogate.
+fn sixteen_have_no_surrogate(units: &[u16], at: usize) -> bool
+    requires { at + 16 ≤ length units.now }
+    ensures { IsTrue result → HasNoSurrogate units.now at (at + 16) }
+{
+    let top_bits = u16x16::from_slice(&units[at..]) >> 11;
+    top_bits.simd_eq(u16x16::splat(0xD800 >> 11)).to_bitmask() == 0
+}
+
+// Whether sixteen units or more have no surrogate among them. The last block may overlap the one before it.
+fn have_no_surrogate(units: &[u16]) -> bool
+    requires { 16 ≤ length units.now }
+    ensures { IsTrue result → HasNoSurrogate units.now 0 (length units.now) }
+{
+    let last = units.len() - 16;
+    let mut at = 0;
+    while at < last {
+        if !sixteen_have_no_surrogate(units, at) {
+            return false;
+        }
+        at += 16;
+    }
+    sixteen_have_no_surrogate(units, last)
+}
+
+/// Returns whether the classes and the levels of the units of a text of UTF-16 are equal within each
+/// character.
+///
+/// There is one class and one level for each unit, and each class is a number below 23. Only a low
+/// surrogate directly behind a high one goes on with a character. Most texts have no surrogates, and the
+/// function finds that sixteen units at a time.
+pub fn is_even_utf16(units: &[u16], classes: &[u8], levels: &[u8]) -> bool
+    requires classes { length classes.now ≡ length units.now }
+    requires levels { length levels.now ≡ length units.now }
+    requires numbers { IsTrue (list_all is_class classes.now) }
+    ensures { result
+        ≡ (is_per_char class_test.eq utf16_len (utf16_text units.now) (map class_numbered classes.now)
+        && is_per_char level_test.eq utf16_len (utf16_text units.now) levels.now) }
+{
+    if units.len() >= 16 && have_no_surrogate(units) {
+        return true;
+    }
+    is_even_by_units(units, classes, levels)
+}
