@@ -1,14 +1,17 @@
 //! The text of a line from left to right (L2), written to a slice.
-ghost use Rattle.std.specs.Prelude.{◌≡◌, ℕ, ◌+◌, ◌-◌, ◌<◌, ◌≤◌, List, length, slice_range, reverse, flat_map, map, sum_by, IfOk, IfSome, OnOk, IsNone, IsTrue, All, ◌↔◌};
+ghost use Rattle.std.specs.Prelude.{◌≡◌, ℕ, ◌+◌, ◌-◌, ◌<◌, ◌≤◌, List, length, slice_range, reverse, flat_map, map, sum_by, IfOk, IfSome, OnOk, OnErr, IsNone, IsTrue, All, ◌↔◌};
 ghost use Rattle.bidi_base.specs.Analysed.{IsLineOf, StaysInOrder};
 ghost use Rattle.bidi_base.specs.Display.{run_of};
 ghost use Rattle.bidi_base.specs.Text.{subrange, IsLine};
-ghost use Rattle.bidi_text_lines.specs.Written.{run_units, line_units};
+ghost use Rattle.bidi_base.specs.Line.{line_levels};
+ghost use Rattle.bidi_text_lines.specs.Written.{run_units, shown_units, line_units, AreRunsOfChars};
 
 use crate::analysed::Analysed;
 use bidi_base::level::Level;
-use bidi_lines::line_levels::{levels_of_line, line_has_rtl};
-use bidi_lines::visual_runs::visual_runs_of;
+use bidi_lines::line_levels::line_has_rtl;
+use bidi_lines::shown_levels::ShownLevels;
+use bidi_lines::stored::{ClassList, LevelList};
+use bidi_lines::visual_runs::LineRuns;
 use bidi_text::text::TextSource;
 use std::alloc::{AllocError, Global};
 use std::ops::Range;
@@ -77,28 +80,38 @@ pub fn write_runs<T: LineText>(
     }
 }
 
+/// Writes the text of a line from left to right (L2). The line is a range of code units of the text.
+///
+/// `classes` and `levels` are those stored for its code units, and `level` is the paragraph's. A line of up
+/// to 256 code units with up to 16 runs needs no allocation. If an allocation fails, nothing is written.
+pub fn write_line<T: LineText, C: ClassList, L: LevelList>(
+    alloc: Global,
+    text: T,
+    line: Range<usize>,
+    level: Level,
+    classes: C,
+    levels: L,
+    out: &mut [T::Unit],
+) -> Result<(), AllocError>
+    requires valid { L.are_levels levels }
+    requires levels { length (L.numbers levels) + line.start ≡ line.end }
+    requires classes { length (C.classes classes) ≡ length (L.numbers levels) }
+    requires room { length out.old ≡ length (L.numbers levels) }
+    requires runs { AreRunsOfChars T.units (T.characters text) line.start (line_levels level (C.classes classes) (L.numbers levels)) }
+    ensures text { OnOk result (out.new ≡ shown_units T.units T.encode (T.characters text) (T.units_of text) line.start
+        (line_levels level (C.classes classes) (L.numbers levels))) }
+    ensures kept { OnErr result (out.new ≡ out.old) }
+{
+    let mut shown = ShownLevels::new(alloc);
+    shown.show(level, classes, levels)?;
+    let mut runs = LineRuns::new(alloc);
+    runs.find(shown.as_slice(), line.start)?;
+    write_runs(text, line.start, shown.as_slice(), runs.as_slice(), out);
+    Ok(())
+}
+
 impl<T: LineText> Analysed<T> {
     ghost use Rattle.bidi_text_lines.specs.Analysed.{analysed, text_of};
-
-    // Writes a line from left to right.
-    fn write_line(
-        &self,
-        alloc: Global,
-        level: Level,
-        line: Range<usize>,
-        out: &mut [T::Unit],
-    ) -> Result<(), AllocError>
-        requires is_line { IsLineOf (analysed self.now) line }
-        requires room { length out.old + line.start ≡ line.end }
-        ensures { OnOk result (out.new ≡ line_units T.encode (T.units_of (text_of self.now)) (analysed self.now) level line) }
-    {
-        let start = line.start;
-        let classes = self.original_classes();
-        let shown = levels_of_line(alloc, level, classes, self.levels(), line)?;
-        let runs = visual_runs_of(alloc, shown.as_slice(), start)?;
-        write_runs(self.text(), start, shown.as_slice(), runs.as_slice(), out);
-        Ok(())
-    }
 
     // The text of a line from left to right. `None`, with nothing allocated for it, if no level of the
     // line is odd after L1: then the line shows its units unchanged. `blank` is any unit.
@@ -115,13 +128,22 @@ impl<T: LineText> Analysed<T> {
         ensures still { IfOk result (λ o. IsNone o ↔ StaysInOrder (analysed self.now) level line) }
     {
         let (start, end) = (line.start, line.end);
-        let classes = self.original_classes();
-        let levels = self.levels();
-        if !line_has_rtl(level, &classes[start..end], &levels[start..end]) {
+        let classes = &self.original_classes()[start..end];
+        let levels = &self.levels()[start..end];
+        if !line_has_rtl(level, classes, levels) {
             return Ok(None);
         }
         let mut out = vec![in alloc; blank; end - start]?;
-        self.write_line(alloc, level, line, out.as_mut_slice())?;
+        let text = self.text();
+        write_line(
+            alloc,
+            text,
+            line,
+            level,
+            classes,
+            levels,
+            out.as_mut_slice(),
+        )?;
         Ok(Some(out))
     }
 }

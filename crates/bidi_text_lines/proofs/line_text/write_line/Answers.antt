@@ -1,0 +1,48 @@
+use Rattle.bidi_base.proofs.Common.{◌≡◌, ◌<◌, ℕ, List, All, map, length, get_or, ap, sym, subst, ◌∙◌, refl, arith, get_or-map, length-map, Range, IsLine, Run, run_of, visual_runs, AreVisualRuns}
+use Rattle.bidi_lines.proofs.LineLevels.{length-line_levels}
+use Rattle.bidi_text_lines.proofs.TextOfLine.{runs_begin}
+use Rattle.bidi_text_lines.proofs.RunLengths.{visual_runs-whole}
+use Rattle.bidi_text_lines.proofs.line_text.write_line.Goals as goal
+
+-- the ranges of runs cut no character if the runs do not
+at_boundaries : (len_of : ℕ → ℕ) (chars : List ℕ) (ranges : List (Range ℕ)) (runs : List Run) → map run_of ranges ≡ runs
+    → All (λ (r : Run). IsLine len_of chars r.0 r.1) runs → All (λ r. IsLine len_of chars r.start r.end) ranges
+at_boundaries len_of chars ranges runs e each k d fits =
+    let same : get_or runs k (0, 0) ≡ run_of (get_or ranges k d) = ap (λ rs. get_or rs k (0, 0)) (sym e) ∙ get_or-map run_of ranges k d (0, 0) fits in
+    subst (λ (r : Run). IsLine len_of chars r.0 r.1) same (each k (0, 0) (omega (arith, fits, ap length e, length-map ranges run_of)))
+
+pub find-requires : goal.find-requires
+find-requires g c =
+    let shown = c.as_slice.ensures ∙ c.in_ok-show.ensures.levels in
+    let long = ap length shown ∙ length-line_levels c.args.level (g.C.ClassList.classes c.args.classes) (g.L.LevelList.numbers c.args.levels) (sym c.requires.classes) ∙ c.requires.classes in
+    grind (arith, long, c.requires.levels)
+
+pub write_runs-requires-clause-room : goal.write_runs-requires-clause-room
+write_runs-requires-clause-room g c =
+    let shown = c.as_slice-2.ensures ∙ c.in_ok-show.ensures.levels in
+    let long = ap length shown ∙ length-line_levels c.args.level (g.C.ClassList.classes c.args.classes) (g.L.LevelList.numbers c.args.levels) (sym c.requires.classes) ∙ c.requires.classes in
+    c.requires.room ∙ sym long
+
+pub write_runs-requires-clause-within : goal.write_runs-requires-clause-within
+write_runs-requires-clause-within g c =
+    let visual : AreVisualRuns c.args.line.start c.as_slice-2.result.now (map run_of c.as_slice-3.result.now) =
+    rw (c.as_slice-3.ensures, c.as_slice-2.ensures, ← c.as_slice.ensures) c.in_ok-find.ensures.visual in
+    runs_begin c.args.line.start c.as_slice-2.result.now c.as_slice-3.result.now visual
+
+pub write_runs-requires-clause-whole : goal.write_runs-requires-clause-whole
+write_runs-requires-clause-whole g c =
+    let visual : AreVisualRuns c.args.line.start c.as_slice-2.result.now (map run_of c.as_slice-3.result.now) =
+    rw (c.as_slice-3.ensures, c.as_slice-2.ensures, ← c.as_slice.ensures) c.in_ok-find.ensures.visual in
+    visual_runs-whole c.args.line.start c.as_slice-2.result.now c.as_slice-3.result.now visual
+
+pub write_runs-requires-clause-boundaries : goal.write_runs-requires-clause-boundaries
+write_runs-requires-clause-boundaries g c =
+    let shown = c.as_slice.ensures ∙ c.in_ok-show.ensures.levels in
+    at_boundaries g.T.TextSource.units (g.T.TextSource.characters c.args.text) c.as_slice-3.result.now _ (c.as_slice-3.ensures ∙ c.in_ok-find.ensures.runs ∙ ap (visual_runs c.args.line.start) shown) c.requires.runs
+
+pub returns-clause-text : goal.returns-clause-text
+returns-clause-text g c =
+    let shown = c.as_slice.ensures ∙ c.in_ok-show.ensures.levels in
+    let again = c.as_slice-2.ensures ∙ c.in_ok-show.ensures.levels in
+    let runs = c.as_slice-3.ensures ∙ c.in_ok-find.ensures.runs ∙ ap (visual_runs c.args.line.start) shown in
+    rw (c.write_runs.ensures, again, runs) refl
