@@ -27,6 +27,7 @@ pub record IsSound (l : KeptLine) : Type 0 where
   pub same_len : length l.levels.now ≡ length l.classes.now
   pub ordered : l.start ≤ l.end
   pub within : l.end ≤ length l.levels.now
+  pub classes : IsTrue (list_all is_class (own_classes l))
   pub levels : IsTrue (list_all is_level (own_levels l))
   pub level : l.paragraph.now.level ≤ 126
 

@@ -1,28 +1,30 @@
 //! The calls over a line, from classes and levels that the caller has kept.
-ghost use Rattle.std.specs.Prelude.{◌≡◌, ◌+◌, ◌-◌, ◌<◌, ◌≤◌, ◌&&◌, IsTrue, true, length, map, slice_index, slice_range, nat_le, OnOk, OnErr, IfOk, All};
+ghost use Rattle.std.specs.Prelude.{◌≡◌, ◌+◌, ◌-◌, ◌<◌, ◌≤◌, ◌&&◌, IsTrue, true, false, length, map, slice_index, slice_range, nat_le, OnOk, OnErr, IfOk, All};
 ghost use Rattle.std.specs.List.{list_all};
 ghost use Rattle.std.specs.Result.{result_err};
 ghost use Rattle.bidi_base.specs.Display.{run_of, visual_runs};
-ghost use Rattle.bidi_base.specs.Line.{line_levels as line_levels_of};
+ghost use Rattle.bidi_base.specs.Levels.{has_rtl};
 ghost use Rattle.bidi_base.specs.Order.{visual_order as visual_order_of};
-ghost use Rattle.bidi_base.specs.Places.{at_places};
 ghost use Rattle.bidi_base.specs.Text.{text_len, place, per_char};
 ghost use Rattle.bidi_lines.specs.ShownLevels.{levels as levels_of};
 ghost use Rattle.bidi_numbers.specs.Faults.{FaultsAs, fault_unless, has_room_or_none};
 ghost use Rattle.bidi_calls.specs.Kept.{written, written_if_room};
 ghost use Rattle.bidi_calls.specs.Lines.{lies_in, IsSound, own_classes, own_levels, line_fault, levels_fault, runs_fault, order_fault, shown_levels};
 ghost use Rattle.bidi_numbers.specs.Numbers.{class_numbered, is_class, is_level};
-ghost use Rattle.bidi_calls.specs.Shown.{order_of_line, map_fault};
+ghost use Rattle.bidi_calls.specs.Shown.{is_even, order_of_line, map_fault};
+ghost use Rattle.bidi_text_lines.specs.Written.{shown_units};
 ghost use Rattle.bidi_numbers.specs.Rows.{run_row};
 
 use crate::checked::write_levels;
 use bidi_lines::shown_levels::ShownLevels;
+use bidi_lines::stored::LevelList;
 use bidi_lines::visual_order::write_visual_order;
 use bidi_lines::visual_runs::LineRuns;
 use bidi_numbers::class_numbers::ClassNumbers;
 use bidi_numbers::fault::{Fault, check, check_room_or_none};
 use bidi_numbers::numbers::{all_below, check_classes};
 use bidi_numbers::rows::{Paragraph, Run};
+use bidi_text_lines::line_text::{LineText, write_line};
 use std::alloc::{AllocError, Global};
 use std::ops::Range;
 use unicode_bidi::{Level, TextSource};
@@ -76,18 +78,68 @@ impl<'t> KeptLine<'t> {
         }
     }
 
+    // The stored classes of the line, which are read in place.
+    fn classes(&self) -> ClassNumbers<'t>
+        requires { IsSound self.now }
+        ensures { result.numbers.now ≡ own_classes self.now }
+    {
+        ClassNumbers::new(&self.classes[self.start..self.end])
+    }
+
+    // The stored levels of the line.
+    fn levels(&self) -> &'t [u8]
+        requires { IsSound self.now }
+        ensures { result.now ≡ own_levels self.now }
+    {
+        &self.levels[self.start..self.end]
+    }
+
+    // Whether neither the paragraph's level nor a stored level of the line is odd. Then none is odd
+    // after L1.
+    fn stays_in_order(&self) -> bool
+        requires { IsSound self.now }
+        ensures { result ≡ true → has_rtl (shown_levels self.now) ≡ false }
+    {
+        self.level().is_ltr() && !self.levels().has_rtl()
+    }
+
     /// The levels of the line after L1. A line of up to 256 units needs no allocation.
     pub fn shown(&self, alloc: Global) -> Result<ShownLevels, AllocError>
         requires { IsSound self.now }
         ensures levels { IfOk result (λ s. levels_of s ≡ shown_levels self.now) }
         ensures units { IfOk result (λ s. length (levels_of s) + self.now.start ≡ self.now.end) }
     {
-        let classes = ClassNumbers::new(&self.classes[self.start..self.end]);
-        let levels = &self.levels[self.start..self.end];
         let mut shown = ShownLevels::new(alloc);
-        shown.show(self.level(), classes, levels)?;
+        shown.show(self.level(), self.classes(), self.levels())?;
         Ok(shown)
     }
+}
+
+/// Writes the text of a line from left to right (L2). `text` is the line's, and has one class and one
+/// level for each of its characters. If an allocation fails, nothing is written.
+pub fn write_text<T: LineText>(
+    alloc: Global,
+    text: T,
+    line: &KeptLine<'_>,
+    out: &mut [T::Unit],
+) -> Result<(), AllocError>
+    requires sound { IsSound line.now }
+    requires even { is_even T.units (T.characters text) line.now ≡ true }
+    requires units { text_len T.units (T.characters text) + line.now.start ≡ line.now.end }
+    requires room { length out.old ≡ text_len T.units (T.characters text) }
+    ensures text { OnOk result (out.new ≡ shown_units T.units T.encode (T.characters text) (T.units_of text) 0 (shown_levels line.now)) }
+    ensures kept { OnErr result (out.new ≡ out.old) }
+{
+    let units = 0..out.len();
+    write_line(
+        alloc,
+        text,
+        units,
+        line.level(),
+        line.classes(),
+        line.levels(),
+        out,
+    )
 }
 
 /// The levels of a line's units after L1, of which it answers the number.

@@ -93,6 +93,7 @@ pub fn write_line<T: LineText, C: ClassList, L: LevelList>(
     levels: L,
     out: &mut [T::Unit],
 ) -> Result<(), AllocError>
+    requires is_line { IsLine T.units (T.characters text) line.start line.end }
     requires valid { L.are_levels levels }
     requires levels { length (L.numbers levels) + line.start ≡ line.end }
     requires classes { length (C.classes classes) ≡ length (L.numbers levels) }
@@ -102,6 +103,10 @@ pub fn write_line<T: LineText, C: ClassList, L: LevelList>(
         (line_levels level (C.classes classes) (L.numbers levels))) }
     ensures kept { OnErr result (out.new ≡ out.old) }
 {
+    if level.is_ltr() && !levels.has_rtl() {
+        text.copy_run(line, out);
+        return Ok(());
+    }
     let mut shown = ShownLevels::new(alloc);
     shown.show(level, classes, levels)?;
     let mut runs = LineRuns::new(alloc);

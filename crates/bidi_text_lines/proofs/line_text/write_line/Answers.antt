@@ -1,5 +1,7 @@
-use Rattle.bidi_base.proofs.Common.{◌≡◌, ◌<◌, ℕ, List, All, map, length, get_or, ap, sym, subst, ◌∙◌, refl, arith, get_or-map, length-map, Range, IsLine, Run, run_of, visual_runs, AreVisualRuns}
-use Rattle.bidi_lines.proofs.LineLevels.{length-line_levels}
+use Rattle.bidi_base.proofs.Common.{◌≡◌, ◌+◌, ◌<◌, ℕ, false, is_odd, has_rtl, line_levels, List, All, map, length, get_or, ap, sym, subst, ◌∙◌, refl, arith, get_or-map, length-map, Range, IsLine, Run, run_of, visual_runs, AreVisualRuns}
+use Rattle.std.proofs.Common.{slice_range}
+use Rattle.bidi_lines.proofs.LineLevels.{length-line_levels, has_rtl-even}
+use Rattle.bidi_text_lines.proofs.StillLine.{shown_units-still}
 use Rattle.bidi_text_lines.proofs.TextOfLine.{runs_begin}
 use Rattle.bidi_text_lines.proofs.RunLengths.{visual_runs-whole}
 use Rattle.bidi_text_lines.proofs.line_text.write_line.Goals as goal
@@ -46,3 +48,15 @@ returns-clause-text g c =
     let again = c.as_slice-2.ensures ∙ c.in_ok-show.ensures.levels in
     let runs = c.as_slice-3.ensures ∙ c.in_ok-find.ensures.runs ∙ ap (visual_runs c.args.line.start) shown in
     rw (c.write_runs.ensures, again, runs) refl
+
+pub returns-then-not-has_rtl-clause-text : goal.returns-then-not-has_rtl-clause-text
+returns-then-not-has_rtl-clause-text g c =
+    let classes = g.C.ClassList.classes c.args.classes in
+    let levels = g.L.LevelList.numbers c.args.levels in
+    let level_even : is_odd c.args.level ≡ false = grind arith in
+    let even : has_rtl levels ≡ false = grind arith in
+    let end : c.args.line.end ≡ c.args.line.start + length (line_levels c.args.level classes levels) =
+    omega (arith, c.requires.levels, c.requires.classes, length-line_levels c.args.level classes levels (sym c.requires.classes)) in
+    c.copy_run.ensures ∙ ap (slice_range (g.T.LineText.units_of c.args.text) c.args.line.start) end
+    ∙ sym (shown_units-still c.args.line.start (line_levels c.args.level classes levels) (has_rtl-even c.args.level classes levels (sym c.requires.classes) level_even even)
+    g.T.TextSource.units g.T.LineText.encode (g.T.TextSource.characters c.args.text) (g.T.LineText.units_of c.args.text))
