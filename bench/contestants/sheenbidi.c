@@ -18,7 +18,14 @@ typedef struct {
   void *shown;
 } sheenbidi_state;
 
-static void tell_version(void) { printf("SheenBidi: %s, does not tell its Unicode version\n", SHEENBIDI_FOUND); }
+/* Headers from version 3 on say which they are. */
+#ifdef SHEENBIDI_VERSION_STRING
+static const char version[] = SHEENBIDI_VERSION_STRING;
+#else
+static const char version[] = SHEENBIDI_FOUND;
+#endif
+
+static void tell_version(void) { printf("SheenBidi: %s, does not tell its Unicode version\n", version); }
 
 static size_t unit_size(const encoded_text *text) {
   static const size_t sizes[ENCODINGS] = {sizeof(uint8_t), sizeof(uint16_t), sizeof(uint32_t)};
