@@ -1,22 +1,40 @@
-/* Times the calls of the static library with a file of UTF-8, in nanoseconds a character; main.rt.in
- * times such calls of unicode_bidi. Lines have 60 characters, and fewer where a paragraph ends. */
+/* Times the calls of the static library with a file of UTF-8, in nanoseconds a character, a line or a short text;
+ * main.rt.in times such calls of unicode_bidi. Lines have 60 characters, and fewer where a paragraph ends. A short text
+ * is a piece of three words, and of fewer where a paragraph ends. It is analysed, and then shown as one line. */
 #include "unicode_bidi.h"
 #include <stdio.h>
 #include <stdlib.h>
 #include <time.h>
 
-enum { ROUNDS = 5, LINE_LENGTH = 60, CALLS = 7 };
+enum { ROUNDS = 5, LINE_LENGTH = 60, PIECE_WORDS = 3 };
+
+typedef enum {
+  ANALYSE,
+  BASE_DIRECTION,
+  LINE_LEVELS,
+  LINE_RUNS,
+  LINE_MAP,
+  REORDER_LINE,
+  REORDER_VISUAL,
+  SHORT_TEXTS,
+  CALLS
+} call;
 
 typedef struct {
   size_t paragraph, start, end;
 } text_line;
+
+typedef struct {
+  size_t start, end;
+} text_piece;
 
 static uint8_t *text, *classes, *levels, *bytes;
 static size_t *places;
 static unicode_bidi_run *runs;
 static unicode_bidi_paragraph *paragraphs;
 static text_line *lines;
-static size_t length, lines_len;
+static text_piece *pieces;
+static size_t length, lines_len, pieces_len;
 
 static double now(void) {
   struct timespec time;
@@ -24,29 +42,50 @@ static double now(void) {
   return (double)time.tv_sec * 1e9 + (double)time.tv_nsec;
 }
 
-static int64_t analyse(void) {
-  return unicode_bidi_analyse_utf8(text, length, UNICODE_BIDI_AUTO, UNICODE_BIDI_EACH_SEPARATOR, classes,
-                                   length, levels, length, paragraphs, length);
+static int64_t analyse(size_t start, size_t end) {
+  const size_t count = end - start;
+  return unicode_bidi_analyse_utf8(text + start, count, UNICODE_BIDI_AUTO, UNICODE_BIDI_EACH_SEPARATOR, classes, count,
+                                   levels, count, paragraphs, count);
 }
 
-static int64_t call_line(int call, const text_line *line) {
+/* Analyses a piece as a text of its own, and writes its one line from left to right. */
+static int64_t show_piece(const text_piece *piece) {
+  const size_t count = piece->end - piece->start;
+  int64_t found = analyse(piece->start, piece->end);
+  if (found < 0) return found;
+  return unicode_bidi_reorder_line_utf8(text + piece->start, count, classes, count, levels, count, paragraphs, 0, count,
+                                        bytes, count);
+}
+
+static int64_t show_pieces(void) {
+  for (size_t at = 0; at < pieces_len; at++) {
+    int64_t answer = show_piece(&pieces[at]);
+    if (answer < 0) return answer;
+  }
+  return 0;
+}
+
+static int64_t call_line(call call, const text_line *line) {
   const unicode_bidi_paragraph *paragraph = &paragraphs[line->paragraph];
   const size_t start = line->start, end = line->end;
   switch (call) {
-    case 2: return unicode_bidi_line_levels(classes, length, levels, length, paragraph, start, end, bytes, length);
-    case 3: return unicode_bidi_line_runs(classes, length, levels, length, paragraph, start, end, runs, length);
-    case 4: return unicode_bidi_line_map_utf8(text, length, classes, length, levels, length, paragraph, start, end,
-                                              places, length);
+    case LINE_LEVELS: return unicode_bidi_line_levels(classes, length, levels, length, paragraph, start, end, bytes,
+                                                      length);
+    case LINE_RUNS: return unicode_bidi_line_runs(classes, length, levels, length, paragraph, start, end, runs,
+                                                  length);
+    case LINE_MAP: return unicode_bidi_line_map_utf8(text, length, classes, length, levels, length, paragraph, start,
+                                                     end, places, length);
     default: return unicode_bidi_reorder_line_utf8(text, length, classes, length, levels, length, paragraph, start,
                                                    end, bytes, length);
   }
 }
 
 /* Makes the call over the whole text. */
-static int64_t make(int call) {
-  if (call == 0) return analyse();
-  if (call == 1) return unicode_bidi_base_direction_utf8(text, length, 1);
-  if (call == 6) return unicode_bidi_reorder_visual(levels, length, places, length);
+static int64_t make(call call) {
+  if (call == ANALYSE) return analyse(0, length);
+  if (call == BASE_DIRECTION) return unicode_bidi_base_direction_utf8(text, length, 1);
+  if (call == REORDER_VISUAL) return unicode_bidi_reorder_visual(levels, length, places, length);
+  if (call == SHORT_TEXTS) return show_pieces();
   for (size_t at = 0; at < lines_len; at++) {
     int64_t answer = call_line(call, &lines[at]);
     if (answer < 0) return answer;
@@ -76,6 +115,32 @@ static size_t cut_lines(size_t paragraphs_len) {
   return characters;
 }
 
+static int ends_word(size_t at) { return text[at] == ' ' || text[at] == '\n'; }
+
+/* Cuts the paragraphs into pieces. What has no word, such as an empty line, is in no piece. */
+static void cut_pieces(size_t paragraphs_len) {
+  for (size_t index = 0; index < paragraphs_len; index++) {
+    size_t start = paragraphs[index].start, words = 0;
+    for (size_t at = start; at < paragraphs[index].end; at++) {
+      words += !ends_word(at) && (at == start || ends_word(at - 1));
+      if (at + 1 < paragraphs[index].end && (words < PIECE_WORDS || !ends_word(at))) continue;
+      if (words > 0) pieces[pieces_len++] = (text_piece){start, at + 1};
+      start = at + 1;
+      words = 0;
+    }
+  }
+}
+
+static int is_by_lines(call call) { return call >= LINE_LEVELS && call <= REORDER_LINE; }
+
+static void print_time(const char *name, call call, double nanoseconds, double characters) {
+  if (call == SHORT_TEXTS) printf("%s: %.0f ns a text\n", name, nanoseconds / (double)pieces_len);
+  else if (!is_by_lines(call)) printf("%s: %.2f ns a character\n", name, nanoseconds / characters);
+  else
+    printf("%s: %.2f ns a character, %.0f ns a line\n", name, nanoseconds / characters,
+           nanoseconds / (double)lines_len);
+}
+
 static void *room(size_t size) {
   void *found = malloc(length * size);
   if (!found) exit(3);
@@ -83,8 +148,8 @@ static void *room(size_t size) {
 }
 
 int main(int count, char **words) {
-  static const char *const names[CALLS] = {"analyse", "base_direction, full", "line_levels", "line_runs",
-                                           "line_map", "reorder_line", "reorder_visual"};
+  static const char *const names[CALLS] = {"analyse",  "base_direction, full", "line_levels",    "line_runs",
+                                           "line_map", "reorder_line",         "reorder_visual", "short texts"};
   FILE *file = count == 2 ? fopen(words[1], "rb") : NULL;
   if (!file || fseek(file, 0, SEEK_END)) return 2;
   length = (size_t)ftell(file);
@@ -98,10 +163,13 @@ int main(int count, char **words) {
   runs = room(sizeof *runs);
   paragraphs = room(sizeof *paragraphs);
   lines = room(sizeof *lines);
-  int64_t paragraphs_len = analyse();
+  pieces = room(sizeof *pieces);
+  int64_t paragraphs_len = analyse(0, length);
   if (paragraphs_len < 0) return 2;
   double characters = (double)cut_lines((size_t)paragraphs_len);
-  for (int call = 0; call < CALLS; call++) {
+  cut_pieces((size_t)paragraphs_len);
+  for (call call = ANALYSE; call < CALLS; call++) {
+    if (call == SHORT_TEXTS && pieces_len == 0) continue;
     double shortest = 1e300;
     for (int round = 0; round < ROUNDS; round++) {
       double start = now();
@@ -109,7 +177,7 @@ int main(int count, char **words) {
       double spent = now() - start;
       if (spent < shortest) shortest = spent;
     }
-    printf("%s: %.2f ns a character\n", names[call], shortest / characters);
+    print_time(names[call], call, shortest, characters);
   }
   return 0;
 }

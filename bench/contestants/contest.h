@@ -1,7 +1,8 @@
 /* What the driver of bench/peers and the contestants share.
  *
  * A contestant is one library in one encoding. It answers three questions about a text: the levels of every
- * paragraph, the visual runs of every paragraph as one line, and the text of every line from left to right. */
+ * paragraph, the visual runs of every paragraph as one line, and the text of every line from left to right. It also
+ * finds the visual runs of every line, and shows pieces of the text, each of which it analyses as a text of its own. */
 #ifndef CONTEST_H
 #define CONTEST_H
 
@@ -17,7 +18,7 @@ typedef struct {
 } unit_range;
 
 /* A text in one encoding. Its places are the first unit of each character, and behind them the length. A line
- * lies in one paragraph. */
+ * lies in one paragraph, and so does a piece. */
 typedef struct {
   encoding encoding;
   void *units;
@@ -26,6 +27,8 @@ typedef struct {
   size_t characters;
   unit_range *lines;
   size_t lines_len;
+  unit_range *pieces;
+  size_t pieces_len;
 } encoded_text;
 
 typedef struct {
@@ -36,9 +39,14 @@ typedef struct {
   bool (*analyse)(void *state);
   /* Over the last analysis: how many visual runs all paragraphs have, or below 0. Null where there is no such call. */
   int64_t (*find_runs)(void *state);
+  /* The same of all lines. */
+  int64_t (*find_line_runs)(void *state);
   /* Over the last analysis: writes each line from left to right into the buffer that `shown` answers, at the
    * places of the line. */
   bool (*reorder_lines)(void *state);
+  /* Analyses each piece by itself and writes it as one line into the same buffer, at the places of the piece. No
+   * analysis of the whole text is left. Null if the contestant does not take part. */
+  bool (*show_pieces)(void *state);
   const void *(*shown)(void *state);
   /* Over the last analysis: of each character the level of its paragraph, and its level after L1 where each
    * paragraph is one line. It is never timed. */
@@ -57,5 +65,8 @@ extern const party library_party, icu_party, fribidi_party, sheenbidi_party, cra
 
 /* Memory for so many items, at least one; where there is none, the program ends and says so. */
 void *room(size_t count, size_t size);
+
+/* Returns the units of a text from one on. */
+const void *units_from(const encoded_text *text, size_t start);
 
 #endif

@@ -1,4 +1,4 @@
-/* The Rust crate unicode-bidi, by the calls of crate.rs. */
+/* The Rust crate unicode-bidi, by the calls of crate.rs. It takes no part in pieces and in the runs of lines. */
 #include "contest.h"
 #include <stdio.h>
 #include <stdlib.h>
@@ -80,8 +80,8 @@ static bool tell_by(level_teller *teller, const crate_state *state, uint8_t *par
   }
 
 #define CONTESTANT_OF(shown_name, encoding, name)                                                              \
-  {shown_name, encoding, open_##name, analyse_##name, find_runs_##name, reorder_lines_##name, shown,           \
-   tell_levels_##name, close_##name}
+  {shown_name, encoding, open_##name, analyse_##name, find_runs_##name, NULL, reorder_lines_##name, NULL,      \
+   shown, tell_levels_##name, close_##name}
 
 CALLS_OF(utf8, uint8_t)
 #ifdef CRATE_HAS_UTF16

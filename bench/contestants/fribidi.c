@@ -99,6 +99,27 @@ static bool reorder_lines(void *analysed) {
   return true;
 }
 
+/* Shows the piece at the front of the buffers for types, brackets and levels. */
+static bool show_piece(fribidi_state *state, unit_range piece) {
+  const FriBidiChar *units = units_from(state->text, piece.start);
+  const size_t length = piece.end - piece.start;
+  FriBidiParType direction = FRIBIDI_PAR_ON;
+  fribidi_get_bidi_types(units, (FriBidiStrIndex)length, state->types);
+  fribidi_get_bracket_types(units, (FriBidiStrIndex)length, state->types, state->brackets);
+  if (!fribidi_get_par_embedding_levels_ex(state->types, state->brackets, (FriBidiStrIndex)length, &direction,
+                                           state->levels))
+    return false;
+  memcpy(state->shown + piece.start, units, length * sizeof(FriBidiChar));
+  return reorder(state, 0, direction, (unit_range){0, length}, state->shown + piece.start);
+}
+
+static bool show_pieces(void *analysed) {
+  fribidi_state *state = analysed;
+  for (size_t index = 0; index < state->text->pieces_len; index++)
+    if (!show_piece(state, state->text->pieces[index])) return false;
+  return true;
+}
+
 static const void *shown(void *analysed) { return ((fribidi_state *)analysed)->shown; }
 
 static bool tell_levels(void *analysed, uint8_t *paragraph_levels, uint8_t *levels) {
@@ -116,7 +137,8 @@ static bool tell_levels(void *analysed, uint8_t *paragraph_levels, uint8_t *leve
 }
 
 static const contestant contestants[] = {
-  {"FriBidi UTF-32", UTF32, open_fribidi, analyse, NULL, reorder_lines, shown, tell_levels, close_fribidi},
+  {"FriBidi UTF-32", UTF32, open_fribidi, analyse, NULL, NULL, reorder_lines, show_pieces, shown, tell_levels,
+   close_fribidi},
 };
 
 const party fribidi_party = {tell_version, contestants, 1};

@@ -49,11 +49,11 @@ static bool analyse(void *analysed) {
   return U_SUCCESS(error);
 }
 
-/* The visual runs of one paragraph, each of which is asked for. */
-static int64_t find_runs_of(icu_state *state, unit_range paragraph) {
+/* The visual runs of a range of one paragraph, each of which is asked for. */
+static int64_t find_runs_of(icu_state *state, unit_range range) {
   UErrorCode error = U_ZERO_ERROR;
   volatile int32_t seen;
-  ubidi_setLine(state->whole, (int32_t)paragraph.start, (int32_t)paragraph.end, state->line, &error);
+  ubidi_setLine(state->whole, (int32_t)range.start, (int32_t)range.end, state->line, &error);
   int32_t count = ubidi_countRuns(state->line, &error);
   if (U_FAILURE(error)) return -1;
   for (int32_t run = 0; run < count; run++) {
@@ -84,6 +84,17 @@ static int64_t find_runs(void *analysed) {
   return sum;
 }
 
+static int64_t find_line_runs(void *analysed) {
+  icu_state *state = analysed;
+  int64_t sum = 0;
+  for (size_t index = 0; index < state->text->lines_len; index++) {
+    int64_t count = find_runs_of(state, state->text->lines[index]);
+    if (count < 0) return count;
+    sum += count;
+  }
+  return sum;
+}
+
 static bool reorder_lines(void *analysed) {
   icu_state *state = analysed;
   for (size_t index = 0; index < state->text->lines_len; index++) {
@@ -92,6 +103,21 @@ static bool reorder_lines(void *analysed) {
     UErrorCode error = U_ZERO_ERROR;
     ubidi_setLine(state->whole, (int32_t)line.start, (int32_t)line.end, state->line, &error);
     ubidi_writeReordered(state->line, state->shown + line.start, length, 0, &error);
+    if (U_FAILURE(error)) return false;
+  }
+  return true;
+}
+
+/* The levels are asked for here, too, as part of the analysis. */
+static bool show_pieces(void *analysed) {
+  icu_state *state = analysed;
+  for (size_t index = 0; index < state->text->pieces_len; index++) {
+    unit_range piece = state->text->pieces[index];
+    int32_t length = (int32_t)(piece.end - piece.start);
+    UErrorCode error = U_ZERO_ERROR;
+    ubidi_setPara(state->whole, units_from(state->text, piece.start), length, UBIDI_DEFAULT_LTR, NULL, &error);
+    state->levels = ubidi_getLevels(state->whole, &error);
+    ubidi_writeReordered(state->whole, state->shown + piece.start, length, 0, &error);
     if (U_FAILURE(error)) return false;
   }
   return true;
@@ -117,7 +143,8 @@ static bool tell_levels(void *analysed, uint8_t *paragraph_levels, uint8_t *leve
 }
 
 static const contestant contestants[] = {
-  {"ICU UTF-16", UTF16, open_icu, analyse, find_runs, reorder_lines, shown, tell_levels, close_icu},
+  {"ICU UTF-16", UTF16, open_icu, analyse, find_runs, find_line_runs, reorder_lines, show_pieces, shown, tell_levels,
+   close_icu},
 };
 
 const party icu_party = {tell_version, contestants, 1};

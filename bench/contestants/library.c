@@ -43,9 +43,10 @@ static void close_library(void *closed) {
   free(state);
 }
 
-static int64_t call_analyse(library_state *state) {
-  const void *units = state->text->units;
-  const size_t length = state->text->length;
+/* Analyses a range of the text as a text of its own. */
+static int64_t call_analyse(library_state *state, unit_range range) {
+  const void *units = units_from(state->text, range.start);
+  const size_t length = range.end - range.start;
   const uint8_t base = UNICODE_BIDI_AUTO, split = UNICODE_BIDI_CR_LF_TOGETHER;
   switch (state->text->encoding) {
     case UTF8: return unicode_bidi_analyse_utf8(units, length, base, split, state->classes, length, state->levels,
@@ -59,7 +60,7 @@ static int64_t call_analyse(library_state *state) {
 
 static bool analyse(void *analysed) {
   library_state *state = analysed;
-  int64_t count = call_analyse(state);
+  int64_t count = call_analyse(state, (unit_range){0, state->text->length});
   state->paragraphs_len = count < 0 ? 0 : (size_t)count;
   return count >= 0;
 }
@@ -78,29 +79,57 @@ static int64_t find_runs(void *analysed) {
   return sum;
 }
 
-static int64_t call_reorder_line(library_state *state, const unicode_bidi_paragraph *paragraph, unit_range line) {
-  const void *units = state->text->units;
-  const size_t length = state->text->length, line_length = line.end - line.start;
+static int64_t find_line_runs(void *analysed) {
+  library_state *state = analysed;
+  const size_t length = state->text->length;
+  const unicode_bidi_paragraph *paragraph = state->paragraphs;
+  int64_t sum = 0;
+  for (size_t index = 0; index < state->text->lines_len; index++) {
+    unit_range line = state->text->lines[index];
+    while (line.start >= paragraph->end) paragraph++;
+    int64_t count = unicode_bidi_line_runs(state->classes, length, state->levels, length, paragraph, line.start,
+                                           line.end, state->runs, length);
+    if (count < 0) return count;
+    sum += count;
+  }
+  return sum;
+}
+
+/* Writes a line of the range that was analysed last. The line is counted from the start of that range. */
+static int64_t call_reorder_line(library_state *state, unit_range range, const unicode_bidi_paragraph *paragraph,
+                                 unit_range line) {
+  const void *units = units_from(state->text, range.start);
+  const size_t length = range.end - range.start, line_length = line.end - line.start, to = range.start + line.start;
   switch (state->text->encoding) {
     case UTF8: return unicode_bidi_reorder_line_utf8(units, length, state->classes, length, state->levels, length,
                                                      paragraph, line.start, line.end,
-                                                     (uint8_t *)state->shown + line.start, line_length);
+                                                     (uint8_t *)state->shown + to, line_length);
     case UTF16: return unicode_bidi_reorder_line_utf16(units, length, state->classes, length, state->levels, length,
                                                        paragraph, line.start, line.end,
-                                                       (uint16_t *)state->shown + line.start, line_length);
+                                                       (uint16_t *)state->shown + to, line_length);
     default: return unicode_bidi_reorder_line_utf32(units, length, state->classes, length, state->levels, length,
                                                     paragraph, line.start, line.end,
-                                                    (uint32_t *)state->shown + line.start, line_length);
+                                                    (uint32_t *)state->shown + to, line_length);
   }
 }
 
 static bool reorder_lines(void *analysed) {
   library_state *state = analysed;
   const unicode_bidi_paragraph *paragraph = state->paragraphs;
+  const unit_range whole = {0, state->text->length};
   for (size_t index = 0; index < state->text->lines_len; index++) {
     unit_range line = state->text->lines[index];
     while (line.start >= paragraph->end) paragraph++;
-    if (call_reorder_line(state, paragraph, line) < 0) return false;
+    if (call_reorder_line(state, whole, paragraph, line) < 0) return false;
+  }
+  return true;
+}
+
+static bool show_pieces(void *analysed) {
+  library_state *state = analysed;
+  for (size_t index = 0; index < state->text->pieces_len; index++) {
+    unit_range piece = state->text->pieces[index], line = {0, piece.end - piece.start};
+    if (call_analyse(state, piece) != 1 || call_reorder_line(state, piece, state->paragraphs, line) < 0) return false;
   }
   return true;
 }
@@ -124,9 +153,12 @@ static bool tell_levels(void *analysed, uint8_t *paragraph_levels, uint8_t *leve
 }
 
 static const contestant contestants[] = {
-  {"library UTF-8", UTF8, open_library, analyse, find_runs, reorder_lines, shown, tell_levels, close_library},
-  {"library UTF-16", UTF16, open_library, analyse, find_runs, reorder_lines, shown, tell_levels, close_library},
-  {"library UTF-32", UTF32, open_library, analyse, find_runs, reorder_lines, shown, tell_levels, close_library},
+  {"library UTF-8", UTF8, open_library, analyse, find_runs, find_line_runs, reorder_lines, show_pieces, shown,
+   tell_levels, close_library},
+  {"library UTF-16", UTF16, open_library, analyse, find_runs, find_line_runs, reorder_lines, show_pieces, shown,
+   tell_levels, close_library},
+  {"library UTF-32", UTF32, open_library, analyse, find_runs, find_line_runs, reorder_lines, show_pieces, shown,
+   tell_levels, close_library},
 };
 
 const party library_party = {tell_version, contestants, sizeof contestants / sizeof *contestants};

@@ -33,7 +33,27 @@ enum { PARTIES = sizeof parties / sizeof *parties, MOST_CONTESTANTS = 16 };
 static const contestant *contestants[MOST_CONTESTANTS];
 static size_t contestants_len;
 
-static const char *const operation_names[OPERATIONS] = {"analysis", "visual runs", "lines of 60"};
+/* What the time of an operation is divided by. */
+typedef enum { PER_CHARACTER, PER_TEXT, PER_LINE } share;
+
+/* A table of figures. An operation can be in two, by different shares. */
+typedef struct {
+  const char *name;
+  operation operation;
+  share share;
+} table;
+
+/* Hostile texts have the tables of the first operations. */
+static const table tables[] = {
+  {"analysis", ANALYSIS, PER_CHARACTER},
+  {"visual runs", RUNS, PER_CHARACTER},
+  {"lines of 60", LINES, PER_CHARACTER},
+  {"short texts", PIECES, PER_TEXT},
+  {"runs of a line", LINE_RUNS, PER_LINE},
+  {"text of a line", LINES, PER_LINE},
+};
+
+enum { TABLES = sizeof tables / sizeof *tables, HOSTILE_TABLES = HOSTILE_OPERATIONS };
 
 void *room(size_t count, size_t size) {
   void *found = calloc(count ? count : 1, size);
@@ -61,7 +81,8 @@ static void gather_contestants(void) {
 /* What the columns mean. */
 static void print_legend(bool hostile) {
   printf("\nnanoseconds a character%s; library / it: the library's least time, in the same encoding, by the least of "
-         "this one%s\n", hostile ? ", the least of all rounds" : "", hostile ? ", in brackets" : "");
+         "this one%s\n", hostile ? ", the least of all rounds" : "; short texts: a text; single lines: a line",
+         hostile ? ", in brackets" : "");
   if (!hostile) printf("*: fewer rounds, since they took long\n");
 }
 
@@ -77,71 +98,78 @@ static void write_ratio(char *written, size_t size, double ratio) {
   snprintf(written, size, "%.*f", digits, ratio);
 }
 
-/* What stands in a table where there is no figure. */
+/* What is in a table instead of a figure. */
 static const char *outcome_name(outcome outcome) {
   return outcome == NO_CALL ? "-" : outcome == FAILED ? "failed" : "killed";
 }
 
-static void print_row(const race *race, const entrant *entrant, operation operation) {
-  const figure *figure = &entrant->figures[operation];
+/* How many characters, short texts or lines the text of an entrant has. */
+static double shares(const entrant *entrant, share share) {
+  const encoded_text *text = entrant->text;
+  return (double)(share == PER_CHARACTER ? text->characters : share == PER_TEXT ? text->pieces_len : text->lines_len);
+}
+
+static void print_row(const race *race, const entrant *entrant, const table *table) {
+  const figure *figure = &entrant->figures[table->operation];
+  const double by = shares(entrant, table->share);
   printf("| %-18s |", entrant->who->name);
   if (figure->outcome != TIMED) {
     printf(" %8s  | %9s | %12s |\n", outcome_name(figure->outcome), "", "");
     return;
   }
-  printf(" %8.2f%c | %9.2f |", figure->least, figure->cut_short ? '*' : ' ', figure->median);
+  printf(" %8.2f%c | %9.2f |", figure->least / by, figure->cut_short ? '*' : ' ', figure->median / by);
   char ratio[32] = "";
-  double library = library_least(race, entrant, operation);
+  double library = library_least(race, entrant, table->operation);
   if (!is_library(entrant) && library > 0) write_ratio(ratio, sizeof ratio, library / figure->least);
   printf(" %12s |\n", ratio);
 }
 
-static void print_operation(const race *race, operation operation) {
-  printf("| %-18s | %9s | %9s | %12s |\n", operation_names[operation], "least ns", "median ns", "library / it");
+static void print_table(const race *race, const table *table) {
+  printf("| %-18s | %9s | %9s | %12s |\n", table->name, "least ns", "median ns", "library / it");
   printf("|--------------------|----------:|----------:|-------------:|\n");
-  for (size_t index = 0; index < race->entrants_len; index++)
-    print_row(race, &race->entrants[index], operation);
+  for (size_t index = 0; index < race->entrants_len; index++) print_row(race, &race->entrants[index], table);
   printf("\n");
 }
 
 static void race_file(const contest_text *text, size_t rounds) {
   const encoded_text *utf8 = &text->encoded[UTF8];
-  printf("\n%s: %zu bytes, %zu characters, %zu paragraphs, %zu lines\n\n", text->name, utf8->length,
-         utf8->characters, text->paragraphs, utf8->lines_len);
+  printf("\n%s: %zu bytes, %zu characters, %zu paragraphs, %zu lines, %zu short texts\n\n", text->name,
+         utf8->length, utf8->characters, text->paragraphs, utf8->lines_len, utf8->pieces_len);
   race race = open_race(text, contestants, contestants_len);
   print_agreement(&race);
-  run_race(&race, rounds);
-  for (operation each = ANALYSIS; each < OPERATIONS; each++) print_operation(&race, each);
+  run_race(&race, OPERATIONS, rounds);
+  for (size_t at = 0; at < TABLES; at++) print_table(&race, &tables[at]);
   close_race(&race);
 }
 
-static void print_cell(const race *race, const entrant *entrant, operation operation) {
-  const figure *figure = &entrant->figures[operation];
+static void print_cell(const race *race, const entrant *entrant, const table *table) {
+  const figure *figure = &entrant->figures[table->operation];
+  const double least = figure->least / shares(entrant, table->share);
   char cell[80], ratio[32];
-  double library = library_least(race, entrant, operation);
+  double library = library_least(race, entrant, table->operation);
   if (figure->outcome != TIMED) snprintf(cell, sizeof cell, "%s", outcome_name(figure->outcome));
-  else if (is_library(entrant) || library == 0) snprintf(cell, sizeof cell, "%.2f", figure->least);
+  else if (is_library(entrant) || library == 0) snprintf(cell, sizeof cell, "%.2f", least);
   else {
     write_ratio(ratio, sizeof ratio, library / figure->least);
-    snprintf(cell, sizeof cell, "%.2f (%s)", figure->least, ratio);
+    snprintf(cell, sizeof cell, "%.2f (%s)", least, ratio);
   }
   printf(" %18s |", cell);
 }
 
-static void print_hostile_head(operation operation) {
-  printf("\n| %-34s |", operation_names[operation]);
+static void print_hostile_head(const table *table) {
+  printf("\n| %-34s |", table->name);
   for (size_t index = 0; index < contestants_len; index++) printf(" %18s |", contestants[index]->name);
   printf("\n|------------------------------------|");
   for (size_t index = 0; index < contestants_len; index++) printf("-------------------:|");
   printf("\n");
 }
 
-static void print_hostile(const race *races, operation operation) {
-  print_hostile_head(operation);
+static void print_hostile(const race *races, const table *table) {
+  print_hostile_head(table);
   for (size_t index = 0; index < hostile_texts_len; index++) {
     printf("| %-34s |", races[index].text->name);
     for (size_t at = 0; at < contestants_len; at++)
-      print_cell(&races[index], &races[index].entrants[at], operation);
+      print_cell(&races[index], &races[index].entrants[at], table);
     printf("\n");
   }
 }
@@ -152,10 +180,10 @@ static void race_hostile(size_t rounds) {
   for (size_t index = 0; index < hostile_texts_len; index++) {
     make_hostile_text(&texts[index], index);
     races[index] = open_race(&texts[index], contestants, contestants_len);
-    try_apart(&races[index]);
-    run_race(&races[index], rounds);
+    try_apart(&races[index], HOSTILE_OPERATIONS);
+    run_race(&races[index], HOSTILE_OPERATIONS, rounds);
   }
-  for (operation each = ANALYSIS; each < OPERATIONS; each++) print_hostile(races, each);
+  for (size_t at = 0; at < HOSTILE_TABLES; at++) print_hostile(races, &tables[at]);
   for (size_t index = 0; index < hostile_texts_len; index++) {
     close_race(&races[index]);
     free_text(&texts[index]);

@@ -18,7 +18,10 @@ race open_race(const contest_text *text, const contestant *const *contestants, s
     const contestant *who = contestants[index];
     const encoded_text *encoded = &text->encoded[who->encoding];
     opened.entrants[index] = (entrant){.who = who, .text = encoded, .state = who->open(encoded)};
-    if (!who->find_runs) opened.entrants[index].figures[RUNS].outcome = NO_CALL;
+    figure *figures = opened.entrants[index].figures;
+    if (!who->find_runs) figures[RUNS].outcome = NO_CALL;
+    if (!who->show_pieces || encoded->pieces_len == 0) figures[PIECES].outcome = NO_CALL;
+    if (!who->find_line_runs) figures[LINE_RUNS].outcome = NO_CALL;
   }
   return opened;
 }
@@ -39,6 +42,8 @@ static bool perform(entrant *entrant, operation operation) {
   switch (operation) {
     case ANALYSIS: return entrant->who->analyse(entrant->state);
     case RUNS: return entrant->who->find_runs(entrant->state) >= 0;
+    case PIECES: return entrant->who->show_pieces(entrant->state);
+    case LINE_RUNS: return entrant->who->find_line_runs(entrant->state) >= 0;
     default: return entrant->who->reorder_lines(entrant->state);
   }
 }
@@ -46,7 +51,8 @@ static bool perform(entrant *entrant, operation operation) {
 /* How long an operation takes, or below 0 where it fails. What is asked about lines begins from an analysis of its
  * own, made outside the time, so that nothing is left over from an earlier round. */
 static double time_once(entrant *entrant, operation operation) {
-  if (operation != ANALYSIS && !entrant->who->analyse(entrant->state)) return -1;
+  bool over_analysis = operation != ANALYSIS && operation != PIECES;
+  if (over_analysis && !entrant->who->analyse(entrant->state)) return -1;
   double start = now();
   bool done = perform(entrant, operation);
   double end = now();
@@ -67,9 +73,9 @@ static outcome outcome_apart(entrant *entrant, operation operation) {
   return !WIFEXITED(status) ? KILLED : WEXITSTATUS(status) ? FAILED : TIMED;
 }
 
-void try_apart(race *race) {
+void try_apart(race *race, operation behind) {
   for (size_t index = 0; index < race->entrants_len; index++)
-    for (operation each = ANALYSIS; each < OPERATIONS; each++) {
+    for (operation each = ANALYSIS; each < behind; each++) {
       entrant *tried = &race->entrants[index];
       if (tried->figures[each].outcome == TIMED) tried->figures[each].outcome = outcome_apart(tried, each);
     }
@@ -116,10 +122,9 @@ static int compare_samples(const void *left, const void *right) {
 static void end_turns(entrant *entrant, operation operation, turns *turns, size_t rounds) {
   figure *figure = &entrant->figures[operation];
   if (figure->outcome == TIMED) {
-    double characters = (double)entrant->text->characters;
     qsort(turns->samples, turns->samples_len, sizeof(double), compare_samples);
-    figure->least = turns->samples[0] / characters;
-    figure->median = turns->samples[turns->samples_len / 2] / characters;
+    figure->least = turns->samples[0];
+    figure->median = turns->samples[turns->samples_len / 2];
     figure->cut_short = turns->samples_len < rounds;
   }
   free(turns->samples);
@@ -140,8 +145,8 @@ static void race_operation(race *race, operation operation, size_t rounds) {
   free(all);
 }
 
-void run_race(race *race, size_t rounds) {
-  for (operation each = ANALYSIS; each < OPERATIONS; each++) race_operation(race, each, rounds);
+void run_race(race *race, operation behind, size_t rounds) {
+  for (operation each = ANALYSIS; each < behind; each++) race_operation(race, each, rounds);
 }
 
 double library_least(const race *race, const entrant *entrant, operation operation) {

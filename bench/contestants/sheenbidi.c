@@ -18,7 +18,14 @@ typedef struct {
   void *shown;
 } sheenbidi_state;
 
-static void tell_version(void) { printf("SheenBidi: %s, does not tell its Unicode version\n", SHEENBIDI_FOUND); }
+/* Headers from version 3 on say which they are. */
+#ifdef SHEENBIDI_VERSION_STRING
+static const char version[] = SHEENBIDI_VERSION_STRING;
+#else
+static const char version[] = SHEENBIDI_FOUND;
+#endif
+
+static void tell_version(void) { printf("SheenBidi: %s, does not tell its Unicode version\n", version); }
 
 static size_t unit_size(const encoded_text *text) {
   static const size_t sizes[ENCODINGS] = {sizeof(uint8_t), sizeof(uint16_t), sizeof(uint32_t)};
@@ -48,14 +55,18 @@ static void close_sheenbidi(void *closed) {
   free(state);
 }
 
+static SBAlgorithmRef create_algorithm(const encoded_text *text, unit_range range) {
+  static const SBStringEncoding encodings[ENCODINGS] = {SBStringEncodingUTF8, SBStringEncodingUTF16,
+                                                        SBStringEncodingUTF32};
+  SBCodepointSequence sequence = {encodings[text->encoding], units_from(text, range.start), range.end - range.start};
+  return SBAlgorithmCreate(&sequence);
+}
+
 static bool analyse(void *analysed) {
   sheenbidi_state *state = analysed;
   const encoded_text *text = state->text;
-  static const SBStringEncoding encodings[ENCODINGS] = {SBStringEncodingUTF8, SBStringEncodingUTF16,
-                                                        SBStringEncodingUTF32};
-  SBCodepointSequence sequence = {encodings[text->encoding], text->units, text->length};
   release(state);
-  state->algorithm = SBAlgorithmCreate(&sequence);
+  state->algorithm = create_algorithm(text, (unit_range){0, text->length});
   if (!state->algorithm) return false;
   for (size_t start = 0; start < text->length;) {
     SBParagraphRef paragraph =
@@ -75,19 +86,39 @@ static SBLineRef whole_line(SBParagraphRef paragraph) {
   return SBParagraphCreateLine(paragraph, SBParagraphGetOffset(paragraph), SBParagraphGetLength(paragraph));
 }
 
+/* Reads the runs of a line and releases it. Returns their number, or -1 if there is no line. */
+static int64_t read_runs(SBLineRef line) {
+  if (!line) return -1;
+  const SBRun *runs = SBLineGetRunsPtr(line);
+  size_t count = SBLineGetRunCount(line);
+  volatile size_t seen;
+  for (size_t run = 0; run < count; run++) seen = runs[run].offset + runs[run].length;
+  (void)seen;
+  SBLineRelease(line);
+  return (int64_t)count;
+}
+
 static int64_t find_runs(void *analysed) {
   sheenbidi_state *state = analysed;
   int64_t sum = 0;
   for (size_t index = 0; index < state->paragraphs_len; index++) {
-    SBLineRef line = whole_line(state->paragraphs[index]);
-    if (!line) return -1;
-    const SBRun *runs = SBLineGetRunsPtr(line);
-    size_t count = SBLineGetRunCount(line);
-    volatile size_t seen;
-    for (size_t run = 0; run < count; run++) seen = runs[run].offset + runs[run].length;
-    (void)seen;
-    sum += (int64_t)count;
-    SBLineRelease(line);
+    int64_t count = read_runs(whole_line(state->paragraphs[index]));
+    if (count < 0) return count;
+    sum += count;
+  }
+  return sum;
+}
+
+static int64_t find_line_runs(void *analysed) {
+  sheenbidi_state *state = analysed;
+  const SBParagraphRef *paragraph = state->paragraphs;
+  int64_t sum = 0;
+  for (size_t index = 0; index < state->text->lines_len; index++) {
+    unit_range range = state->text->lines[index];
+    while (range.start >= paragraph_end(*paragraph)) paragraph++;
+    int64_t count = read_runs(SBParagraphCreateLine(*paragraph, range.start, range.end - range.start));
+    if (count < 0) return count;
+    sum += count;
   }
   return sum;
 }
@@ -125,11 +156,23 @@ static void write_backwards_utf32(sheenbidi_state *state, size_t to, unit_range 
   while (run.end > run.start) shown[to++] = units[--run.end];
 }
 
-static void write_run(sheenbidi_state *state, size_t to, const SBRun *run) {
+static void write_run(sheenbidi_state *state, size_t to, unit_range run, SBLevel level) {
   static void (*const backwards[ENCODINGS])(sheenbidi_state *, size_t, unit_range) = {
       write_backwards_utf8, write_backwards_utf16, write_backwards_utf32};
-  if (run->level % 2 == 0) copy_units(state, to, run->offset, run->length);
-  else backwards[state->text->encoding](state, to, (unit_range){run->offset, run->offset + run->length});
+  if (level % 2 == 0) copy_units(state, to, run.start, run.end - run.start);
+  else backwards[state->text->encoding](state, to, run);
+}
+
+/* Writes a line at its place and releases it. Its runs are counted from `front`. */
+static bool write_line(sheenbidi_state *state, size_t front, SBLineRef line) {
+  if (!line) return false;
+  const SBRun *run = SBLineGetRunsPtr(line), *behind = run + SBLineGetRunCount(line);
+  for (size_t to = front + SBLineGetOffset(line); run < behind; to += run++->length) {
+    size_t start = front + run->offset;
+    write_run(state, to, (unit_range){start, start + run->length}, run->level);
+  }
+  SBLineRelease(line);
+  return true;
 }
 
 static bool reorder_lines(void *analysed) {
@@ -138,12 +181,26 @@ static bool reorder_lines(void *analysed) {
   for (size_t index = 0; index < state->text->lines_len; index++) {
     unit_range range = state->text->lines[index];
     while (range.start >= paragraph_end(*paragraph)) paragraph++;
-    SBLineRef line = SBParagraphCreateLine(*paragraph, range.start, range.end - range.start);
-    if (!line) return false;
-    const SBRun *run = SBLineGetRunsPtr(line), *behind = run + SBLineGetRunCount(line);
-    for (size_t to = range.start; run < behind; to += run++->length) write_run(state, to, run);
-    SBLineRelease(line);
+    if (!write_line(state, 0, SBParagraphCreateLine(*paragraph, range.start, range.end - range.start))) return false;
   }
+  return true;
+}
+
+static bool show_piece(sheenbidi_state *state, unit_range piece) {
+  const size_t length = piece.end - piece.start;
+  SBAlgorithmRef algorithm = create_algorithm(state->text, piece);
+  if (!algorithm) return false;
+  SBParagraphRef paragraph = SBAlgorithmCreateParagraph(algorithm, 0, length, SBLevelDefaultLTR);
+  bool written = paragraph && write_line(state, piece.start, SBParagraphCreateLine(paragraph, 0, length));
+  if (paragraph) SBParagraphRelease(paragraph);
+  SBAlgorithmRelease(algorithm);
+  return written;
+}
+
+static bool show_pieces(void *analysed) {
+  sheenbidi_state *state = analysed;
+  for (size_t index = 0; index < state->text->pieces_len; index++)
+    if (!show_piece(state, state->text->pieces[index])) return false;
   return true;
 }
 
@@ -178,9 +235,12 @@ static bool tell_levels(void *analysed, uint8_t *paragraph_levels, uint8_t *leve
 }
 
 static const contestant contestants[] = {
-  {"SheenBidi UTF-8", UTF8, open_sheenbidi, analyse, find_runs, reorder_lines, shown, tell_levels, close_sheenbidi},
-  {"SheenBidi UTF-16", UTF16, open_sheenbidi, analyse, find_runs, reorder_lines, shown, tell_levels, close_sheenbidi},
-  {"SheenBidi UTF-32", UTF32, open_sheenbidi, analyse, find_runs, reorder_lines, shown, tell_levels, close_sheenbidi},
+  {"SheenBidi UTF-8", UTF8, open_sheenbidi, analyse, find_runs, find_line_runs, reorder_lines, show_pieces, shown,
+   tell_levels, close_sheenbidi},
+  {"SheenBidi UTF-16", UTF16, open_sheenbidi, analyse, find_runs, find_line_runs, reorder_lines, show_pieces, shown,
+   tell_levels, close_sheenbidi},
+  {"SheenBidi UTF-32", UTF32, open_sheenbidi, analyse, find_runs, find_line_runs, reorder_lines, show_pieces, shown,
+   tell_levels, close_sheenbidi},
 };
 
 const party sheenbidi_party = {tell_version, contestants, sizeof contestants / sizeof *contestants};

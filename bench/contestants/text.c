@@ -2,7 +2,7 @@
 #include <stdlib.h>
 #include <string.h>
 
-enum { LINE_LENGTH = 60, HOSTILE_LENGTH = 65536 };
+enum { LINE_LENGTH = 60, PIECE_WORDS = 3, HOSTILE_LENGTH = 65536 };
 
 /* The length of the character of UTF-8 at the front, with its value, or 0 where there is none. */
 static size_t read_character(const uint8_t *bytes, size_t length, uint32_t *value) {
@@ -30,11 +30,17 @@ static bool count_characters(const uint8_t *bytes, size_t length, size_t *charac
   return true;
 }
 
+const void *units_from(const encoded_text *text, size_t start) {
+  static const size_t sizes[ENCODINGS] = {sizeof(uint8_t), sizeof(uint16_t), sizeof(uint32_t)};
+  return (const char *)text->units + start * sizes[text->encoding];
+}
+
 static encoded_text encoded_room(encoding encoding, size_t length, size_t size, size_t characters) {
   return (encoded_text){.encoding = encoding,
                         .units = room(length, size),
                         .places = room(characters + 1, sizeof(size_t)),
                         .lines = room(characters, sizeof(unit_range)),
+                        .pieces = room(characters, sizeof(unit_range)),
                         .characters = characters};
 }
 
@@ -76,18 +82,47 @@ static void add_line(contest_text *text, size_t first, size_t behind) {
   }
 }
 
-/* CR and LF are one separator, so no paragraph ends between them. */
+static void add_piece(contest_text *text, size_t first, size_t behind) {
+  for (encoding each = UTF8; each < ENCODINGS; each++) {
+    encoded_text *encoded = &text->encoded[each];
+    encoded->pieces[encoded->pieces_len++] = (unit_range){encoded->places[first], encoded->places[behind]};
+  }
+}
+
+/* Whether a paragraph ends behind a character. CR and LF are one separator, so none ends between them. */
+static bool ends_paragraph(const encoded_text *utf32, size_t at) {
+  const uint32_t *values = utf32->units;
+  if (at + 1 == utf32->characters) return true;
+  return is_separator(values[at]) && !(values[at] == '\r' && values[at + 1] == '\n');
+}
+
 static void cut_lines(contest_text *text) {
-  const uint32_t *values = text->encoded[UTF32].units;
-  const size_t characters = text->encoded[UTF32].characters;
+  const encoded_text *utf32 = &text->encoded[UTF32];
   size_t first = 0;
-  for (size_t at = 0; at < characters; at++) {
-    bool joined = values[at] == '\r' && at + 1 < characters && values[at + 1] == '\n';
-    bool ends = at + 1 == characters || (is_separator(values[at]) && !joined);
+  for (size_t at = 0; at < utf32->characters; at++) {
+    bool ends = ends_paragraph(utf32, at);
     text->paragraphs += ends;
     if (!ends && at + 1 - first < LINE_LENGTH) continue;
     add_line(text, first, at + 1);
     first = at + 1;
+  }
+}
+
+/* A word is what stands between blanks. What has no word, such as an empty line, is in no piece. */
+static void cut_pieces(contest_text *text) {
+  const encoded_text *utf32 = &text->encoded[UTF32];
+  const uint32_t *values = utf32->units;
+  size_t first = 0, words = 0;
+  bool in_word = false;
+  for (size_t at = 0; at < utf32->characters; at++) {
+    bool ends = ends_paragraph(utf32, at), blank = values[at] == ' ' || is_separator(values[at]);
+    words += !blank && !in_word;
+    in_word = !blank;
+    if (!ends && (words < PIECE_WORDS || in_word)) continue;
+    if (words > 0) add_piece(text, first, at + 1);
+    first = at + 1;
+    words = 0;
+    in_word = false;
   }
 }
 
@@ -100,6 +135,7 @@ bool make_text(contest_text *text, const char *name, const uint8_t *bytes, size_
   text->encoded[UTF32] = encoded_room(UTF32, characters, sizeof(uint32_t), characters);
   encode(text, bytes, length);
   cut_lines(text);
+  cut_pieces(text);
   return true;
 }
 
@@ -108,6 +144,7 @@ void free_text(contest_text *text) {
     free(text->encoded[each].units);
     free(text->encoded[each].places);
     free(text->encoded[each].lines);
+    free(text->encoded[each].pieces);
   }
 }
 

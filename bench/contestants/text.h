@@ -10,8 +10,9 @@ typedef struct {
   size_t paragraphs;
 } contest_text;
 
-/* Makes a text of bytes in all encodings, in lines of at most 60 characters that begin anew with each paragraph.
- * Answers whether the bytes are UTF-8; where not, nothing is to be freed. */
+/* Makes a text of bytes in all encodings, in lines of at most 60 characters, and in pieces of at most three words,
+ * which stand for short texts. Both begin anew with each paragraph. Returns whether the bytes are UTF-8. If they are
+ * not, nothing is to be freed. */
 bool make_text(contest_text *text, const char *name, const uint8_t *bytes, size_t length);
 void free_text(contest_text *text);
 

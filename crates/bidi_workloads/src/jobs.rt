@@ -1,5 +1,7 @@
 //! The jobs, each through the public calls.
 ghost use Rattle.std.specs.Prelude.{◌≤◌, IfSome};
+ghost use Rattle.bidi_base.specs.Analysed.{IsLineOf};
+ghost use Rattle.unicode_bidi.specs.BidiInfo.{analysed as analysed_of};
 
 use crate::digest::Digest;
 use crate::languages::{self, Language};
@@ -33,15 +35,17 @@ pub enum Job {
     Controls,
     Sources,
     Hostile,
+    Shown,
 }
 
-pub const ALL: [Job; 6] = [
+pub const ALL: [Job; 7] = [
     Job::Documents,
     Job::Lines,
     Job::Messages,
     Job::Controls,
     Job::Sources,
     Job::Hostile,
+    Job::Shown,
 ];
 
 impl Job {
@@ -53,6 +57,7 @@ impl Job {
             Job::Controls => "controls",
             Job::Sources => "sources",
             Job::Hostile => "hostile",
+            Job::Shown => "shown",
         }
     }
 
@@ -67,6 +72,7 @@ impl Job {
             Job::Controls => controls(alloc, &mut random, amount, &mut digest)?,
             Job::Sources => sources(alloc, &mut random, amount, &mut digest)?,
             Job::Hostile => hostile(alloc, &mut random, amount, &mut digest)?,
+            Job::Shown => shown(alloc, &mut random, amount, &mut digest)?,
         }
         Ok(digest.number())
     }
@@ -332,6 +338,119 @@ fn hostile(
                 let shown = info.reorder_line(alloc, paragraph, paragraph.range())?;
                 digest.add_bytes(shown.as_str().as_bytes());
             }
+        }
+    }
+    Ok(())
+}
+
+/// The widths of a window that somebody makes wider, in characters.
+const WINDOW_WIDTHS: [usize; 6] = [24, 36, 50, 64, 80, 100];
+
+/// The widths of a list that is shown in a narrow column and in a wide one, in characters.
+const COLUMN_WIDTHS: [usize; 2] = [16, 40];
+
+/// How many short texts come with each paragraph of a document.
+const TEXTS_PER_PARAGRAPH: usize = 8;
+
+// Asks of a line what a screen needs to draw it.
+fn draw_line(
+    alloc: Global,
+    info: &BidiInfo<'_>,
+    paragraph: &ParagraphInfo,
+    line: Range<usize>,
+    digest: &mut Digest,
+) -> Result<(), AllocError>
+    requires { IsLineOf (analysed_of info.now) line }
+{
+    let levels = info.line_levels(alloc, paragraph, line.start..line.end)?;
+    digest.add_levels(levels.as_slice());
+    for run in info.line_runs(alloc, paragraph, line.start..line.end)? {
+        digest.add_range(&run);
+    }
+    let shown = info.reorder_line(alloc, paragraph, line)?;
+    digest.add_bytes(shown.as_str().as_bytes());
+    Ok(())
+}
+
+// Draws the lines of an analysed text at one width. The caret is in the first line of each paragraph.
+fn draw_lines(
+    alloc: Global,
+    info: &BidiInfo<'_>,
+    width: usize,
+    digest: &mut Digest,
+) -> Result<(), AllocError> {
+    for paragraph in info.paragraphs() {
+        for line in lines(alloc, info, paragraph, &One, width)? {
+            if line.start == paragraph.range().start {
+                digest.add_map(&LineMap::new(alloc, info, paragraph, line.start..line.end)?);
+            }
+            draw_line(alloc, info, paragraph, line, digest)?;
+        }
+    }
+    Ok(())
+}
+
+// A document is analysed once, and drawn again whenever its window gets wider.
+fn draw_document(alloc: Global, text: &str, digest: &mut Digest) -> Result<(), AllocError> {
+    let info = BidiInfo::new_with_data_source(alloc, &UnicodeData, text, None)?;
+    for width in WINDOW_WIDTHS {
+        draw_lines(alloc, &info, width, digest)?;
+    }
+    Ok(())
+}
+
+// Short texts are analysed once for each base direction, and the text of their lines is shown at two widths.
+fn show_list(
+    alloc: Global,
+    random: &mut Random,
+    count: usize,
+    digest: &mut Digest,
+) -> Result<(), AllocError> {
+    let mut text = String::new(alloc);
+    for _ in 0..count {
+        let language = language_of_message(random);
+        texts::write_message(&mut text, random, language)?;
+        for index in 0..3 {
+            show_in_columns(alloc, text.as_str(), base_level(index), digest)?;
+        }
+    }
+    Ok(())
+}
+
+fn show_in_columns(
+    alloc: Global,
+    text: &str,
+    base: Option<Level>,
+    digest: &mut Digest,
+) -> Result<(), AllocError>
+    requires { IfSome base (λ level. level ≤ 125) }
+{
+    let info = BidiInfo::new_with_data_source(alloc, &UnicodeData, text, base)?;
+    for width in COLUMN_WIDTHS {
+        for paragraph in info.paragraphs() {
+            for line in lines(alloc, &info, paragraph, &One, width)? {
+                let shown = info.reorder_line(alloc, paragraph, line)?;
+                digest.add_bytes(shown.as_str().as_bytes());
+            }
+        }
+    }
+    Ok(())
+}
+
+// Documents in a window that changes its width, and lists of short texts.
+fn shown(
+    alloc: Global,
+    random: &mut Random,
+    amount: Amount,
+    digest: &mut Digest,
+) -> Result<(), AllocError> {
+    let all = all_sentences(alloc, random)?;
+    for index in 0..amount.count {
+        if let Some(sentences) = turn(all.as_slice(), index) {
+            let text = texts::document(alloc, random, sentences, amount.size)?;
+            draw_document(alloc, text.as_str(), digest)?;
+            let count = amount.size.saturating_mul(TEXTS_PER_PARAGRAPH);
+            show_list(alloc, random, count, digest)?;
         }
     }
     Ok(())
