@@ -1,2 +1,4 @@
+pub mod FirstDirectionLemmas
 pub mod FoundText
+pub mod Utf8Fronts
 pub mod KeptLines

@@ -1,3 +1,4 @@
+pub mod FirstDirection
 pub mod Kept
 pub mod Lines
 pub mod Shown
