@@ -173,6 +173,11 @@ static int64_t direction(int e, bool tables, const void *text, size_t n, uint8_t
     return unicode_bidi_base_direction_by_tables_utf32(ranges, nr, brackets, nb, text, n, full);
 }
 
+/* The same by the call that stops where the direction is decided. */
+static int64_t first_direction(int e, const void *text, size_t n, uint8_t full) {
+    return BY_ENCODING(e, first_direction, text, n, full);
+}
+
 static int64_t line_map(int e, const void *text, size_t n, const uint8_t *c, size_t nc, const uint8_t *l, size_t nl,
                         const unicode_bidi_paragraph *p, size_t start, size_t end, size_t *out, size_t room) {
     return BY_ENCODING(e, line_map, text, n, c, nc, l, nl, p, start, end, out, room);
@@ -399,6 +404,9 @@ static void try_direction(const row *r) {
         for (int tables = 0; tables < 2; tables++)
             if (direction(e, tables, t.in[e], t.units[e], 0) != direction_of(r, "first") || direction(e, tables, t.in[e], t.units[e], 1) != direction_of(r, "full"))
                 BAD_ROW(r, "%s, %s", NAMES[e], tables ? "by tables" : "by Unicode's data");
+    for (int e = UTF8; e <= UTF32; e++)
+        if (first_direction(e, t.in[e], t.units[e], 0) != direction_of(r, "first") || first_direction(e, t.in[e], t.units[e], 1) != direction_of(r, "full"))
+            BAD_ROW(r, "%s, read no further than it is decided", NAMES[e]);
 }
 
 /* Each call once, by Unicode's own data, and by a table of one range and no brackets. */
@@ -443,6 +451,45 @@ static void expect(const char *what, int64_t found, int64_t wanted) {
 static void try_versions(void) {
     expect("version", unicode_bidi_version(), UNICODE_BIDI_VERSION);
     expect("version of Unicode", unicode_bidi_unicode_version(), UNICODE_BIDI_UNICODE_VERSION);
+}
+
+/* The calls that stop where the direction is decided: faults before and behind that, and texts of every length. */
+static void try_first_direction(void) {
+    static const uint8_t behind[] = {' ', 0xD7, 0x90, 0xFF}, before[] = {' ', 0xFF, 0xD7, 0x90}, cut[] = {'1', ' ', 0xD7};
+    static const uint8_t inside[] = {0xE2, 0x81, 0xA6, 'a', 0xE2, 0x81, 0xA9, 0xC0}, ended[] = {' ', '\n', 0xFF};
+    static const uint32_t behind32[] = {' ', 0x5D0, 0x110000}, before32[] = {' ', 0xD800, 0x5D0}, ended32[] = {' ', 0x2029, 0xDFFF};
+    static const uint16_t lone[] = {' ', 0xD800, 0x5D0};
+    expect("a fault behind", unicode_bidi_first_direction_utf8(behind, 4, 0), UNICODE_BIDI_RTL);
+    expect("a fault before", unicode_bidi_first_direction_utf8(before, 4, 0), UNICODE_BIDI_NOT_UTF8);
+    expect("a cut character", unicode_bidi_first_direction_utf8(cut, 3, 1), UNICODE_BIDI_NOT_UTF8);
+    expect("a fault behind an isolate", unicode_bidi_first_direction_utf8(inside, 8, 0), UNICODE_BIDI_NOT_UTF8);
+    expect("a fault behind a separator", unicode_bidi_first_direction_utf8(ended, 3, 0), UNICODE_BIDI_MIXED);
+    expect("a fault behind a separator, in full", unicode_bidi_first_direction_utf8(ended, 3, 1), UNICODE_BIDI_NOT_UTF8);
+    expect("no scalar value behind", unicode_bidi_first_direction_utf32(behind32, 3, 0), UNICODE_BIDI_RTL);
+    expect("no scalar value before", unicode_bidi_first_direction_utf32(before32, 3, 0), UNICODE_BIDI_NOT_SCALAR);
+    expect("no scalar value behind a separator", unicode_bidi_first_direction_utf32(ended32, 3, 0), UNICODE_BIDI_MIXED);
+    expect("no scalar value behind a separator, in full", unicode_bidi_first_direction_utf32(ended32, 3, 1), UNICODE_BIDI_NOT_SCALAR);
+    expect("a lone surrogate", unicode_bidi_first_direction_utf16(lone, 3, 0), UNICODE_BIDI_RTL);
+    for (uint8_t full = 0; full < 2; full++) {
+        expect("an empty text", unicode_bidi_first_direction_utf8(behind, 0, full), UNICODE_BIDI_MIXED);
+        expect("an empty text", unicode_bidi_first_direction_utf16(lone, 0, full), UNICODE_BIDI_MIXED);
+        expect("an empty text", unicode_bidi_first_direction_utf32(behind32, 0, full), UNICODE_BIDI_MIXED);
+    }
+    /* Each length of the text before the deciding character, so that each character of the piece ends is cut once. */
+    for (size_t n = 0; n < 300; n++)
+        for (size_t width = 1; width <= 4; width++) {
+            static const char *const neutral[] = {" ", "\u00B7", "\u3000", "\U00010101"};
+            uint8_t bytes[2 + 300 * 4 + 2];
+            size_t len = 0;
+            for (size_t k = 0; k < n % 3; k++) bytes[len++] = '1';
+            for (size_t k = 0; k < n; k++) memcpy(bytes + len, neutral[width - 1], width), len += width;
+            uint8_t *in = copied(texts, bytes, len);
+            expect("no character decides", unicode_bidi_first_direction_utf8(in, len, 0), UNICODE_BIDI_MIXED);
+            if (width > 1 && n) expect("the last one is cut", unicode_bidi_first_direction_utf8(in, len - 1, 0), UNICODE_BIDI_NOT_UTF8);
+            bytes[len] = 0xD8, bytes[len + 1] = 0xA7;
+            in = copied(texts, bytes, len + 2);
+            expect("the last one decides", unicode_bidi_first_direction_utf8(in, len + 2, 0), UNICODE_BIDI_RTL);
+        }
 }
 
 /* Each fault, by a call in which nothing else is wrong. */
@@ -541,6 +588,9 @@ static void try_refusals(void) {
             SWEEP("analyse", levels_at, n, analyse(e, tables, in, n, AUTO, SPLIT, c, n, levels_at.end - n, n, p, 2));
             SWEEP("base_direction", levels_at, n, direction(e, tables, in, n, 1));
         }
+        until_refusal = 0, was_refused = false;
+        if (first_direction(e, in, n, 1) != UNICODE_BIDI_LTR || was_refused) FAIL("first_direction asks for memory");
+        until_refusal = -1;
         if (analyse(e, false, in, n, AUTO, SPLIT, c, n, l, n, p, 2) != 2) FAIL("two paragraphs");
         size_t end = p[0].end;
         size_t *order = (size_t *)order_at.end - n;
@@ -647,8 +697,29 @@ static void call_at_random(void) {
         size_t *order = copied(order_at, seed, room * sizeof *order);
         answer = unicode_bidi_reorder_visual(l, nl, order, room);
         unchanged(answer, order_at, seed, room * sizeof *order, "reorder_visual");
-        direction(e, below(2), in, m, next() & 1);
+        uint8_t full = next() & 1;
+        direction(e, true, in, m, full);
+        int64_t whole = direction(e, false, in, m, full), first = first_direction(e, in, m, full);
+        if (first != whole && (whole >= 0 || first < 0)) FAIL("first_direction differs from base_direction");
+        break;
     }
+    }
+}
+
+/* A text in which one character is made faulty: the direction of those before it, if they decide, and else the fault. */
+static void try_fault_at_random(const text *t, uint8_t full) {
+    if (!t->len) return;
+    size_t k = below(t->len);
+    for (int e = UTF8; e <= UTF32; e += UTF32 - UTF8) {
+        unsigned char *in = copied(texts, t->in[e], t->units[e] * SIZES[e]);
+        size_t at = t->at[e][k];
+        if (e == UTF8) in[at] = 0xFF;
+        else ((uint32_t *)in)[at] = 0x110000;
+        int64_t wanted = direction(e, false, t->in[e], at, full);
+        bool ended = false;
+        for (size_t i = 0; i < k; i++) ended |= t->chars[i] == '\n' || t->chars[i] == '\r' || t->chars[i] == 0x2029;
+        if (wanted == UNICODE_BIDI_MIXED && (full || !ended)) wanted = e == UTF8 ? UNICODE_BIDI_NOT_UTF8 : UNICODE_BIDI_NOT_SCALAR;
+        if (first_direction(e, in, t->units[e], full) != wanted) FAIL("first_direction of a text with a fault, in %s", NAMES[e]);
     }
 }
 
@@ -666,10 +737,12 @@ static void compare_at_random(void) {
         count[e] = analyse(e, tables, t.in[e], n, base, split, c[e], n, l[e], n, p[e], 25);
         if (count[e] < 0 || count[e] != count[0]) FAIL("paragraphs differ");
         if (direction(e, tables, t.in[e], n, full) != direction(0, tables, t.in[0], t.units[0], full)) FAIL("directions differ");
+        if (first_direction(e, t.in[e], n, full) != direction(e, false, t.in[e], n, full)) FAIL("first directions differ");
         for (size_t k = 0; k < t.len; k++)
             for (size_t u = t.at[e][k]; u < t.at[e][k + 1]; u++)
                 if (c[e][u] != c[0][t.at[0][k]] || l[e][u] != l[0][t.at[0][k]]) FAIL("levels differ in %s", NAMES[e]);
     }
+    try_fault_at_random(&t, full);
     if (!count[0]) return;
     size_t q = below(count[0]), first = 0, last = 0;
     while (t.at[0][first] != p[0][q].start) first++;
@@ -720,6 +793,7 @@ int main(int argc, char **argv) {
     try_each_call();
     try_versions();
     try_faults();
+    try_first_direction();
     try_refusals();
     for (long i = 0; i < calls; i++) {
         if (i % 4) call_at_random();

@@ -6,6 +6,7 @@
 #![tactic(auto)]
 
 mod exports;
+mod exports_direction;
 mod exports_utf16;
 mod exports_utf32;
 mod exports_utf8;

@@ -1,4 +1,5 @@
 pub mod Even
+pub mod FirstDirection
 pub mod Kept
 pub mod Lines
 pub mod Shown

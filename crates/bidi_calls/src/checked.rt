@@ -133,7 +133,7 @@ pub fn analyse<D: BidiDataSource, T: TextSource>(
 }
 
 // The number of a direction.
-fn number_of_direction(direction: Direction) -> usize
+pub(crate) fn number_of_direction(direction: Direction) -> usize
     ensures { result ≡ direction_number direction }
 {
     match direction {

@@ -4,6 +4,7 @@
 pub mod by_tables;
 pub mod checked;
 pub mod even;
+pub mod first_direction;
 pub mod line;
 pub mod utf16;
 pub mod utf32;

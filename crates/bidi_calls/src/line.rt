@@ -1,9 +1,8 @@
 //! The calls over a line, from classes and levels that the caller has kept.
-ghost use Rattle.std.specs.Prelude.{◌≡◌, ◌+◌, ◌-◌, ◌<◌, ◌≤◌, ◌&&◌, IsTrue, true, false, length, map, slice_index, slice_range, nat_le, OnOk, OnErr, IfOk, All};
+ghost use Rattle.std.specs.Prelude.{◌≡◌, ◌+◌, ◌-◌, ◌<◌, ◌≤◌, ◌&&◌, IsTrue, true, length, map, slice_index, slice_range, nat_le, OnOk, OnErr, IfOk, All};
 ghost use Rattle.std.specs.List.{list_all};
 ghost use Rattle.std.specs.Result.{result_err};
 ghost use Rattle.bidi_base.specs.Display.{run_of, visual_runs};
-ghost use Rattle.bidi_base.specs.Levels.{has_rtl};
 ghost use Rattle.bidi_base.specs.Order.{visual_order as visual_order_of};
 ghost use Rattle.bidi_base.specs.Text.{text_len, place, per_char};
 ghost use Rattle.bidi_lines.specs.ShownLevels.{levels as levels_of};
@@ -17,7 +16,6 @@ ghost use Rattle.bidi_numbers.specs.Rows.{run_row};
 
 use crate::checked::write_levels;
 use bidi_lines::shown_levels::ShownLevels;
-use bidi_lines::stored::LevelList;
 use bidi_lines::visual_order::write_visual_order;
 use bidi_lines::visual_runs::LineRuns;
 use bidi_numbers::class_numbers::ClassNumbers;
@@ -78,29 +76,20 @@ impl<'t> KeptLine<'t> {
         }
     }
 
-    // The stored classes of the line, which are read in place.
-    fn classes(&self) -> ClassNumbers<'t>
+    /// The numbers of the stored classes of the line.
+    pub fn class_numbers(&self) -> &'t [u8]
         requires { IsSound self.now }
-        ensures { result.numbers.now ≡ own_classes self.now }
+        ensures { result.now ≡ own_classes self.now }
     {
-        ClassNumbers::new(&self.classes[self.start..self.end])
+        &self.classes[self.start..self.end]
     }
 
-    // The stored levels of the line.
-    fn levels(&self) -> &'t [u8]
+    /// The numbers of the stored levels of the line.
+    pub fn level_numbers(&self) -> &'t [u8]
         requires { IsSound self.now }
         ensures { result.now ≡ own_levels self.now }
     {
         &self.levels[self.start..self.end]
-    }
-
-    // Whether neither the paragraph's level nor a stored level of the line is odd. Then none is odd
-    // after L1.
-    fn stays_in_order(&self) -> bool
-        requires { IsSound self.now }
-        ensures { result ≡ true → has_rtl (shown_levels self.now) ≡ false }
-    {
-        self.level().is_ltr() && !self.levels().has_rtl()
     }
 
     /// The levels of the line after L1. A line of up to 256 units needs no allocation.
@@ -109,8 +98,9 @@ impl<'t> KeptLine<'t> {
         ensures levels { IfOk result (λ s. levels_of s ≡ shown_levels self.now) }
         ensures units { IfOk result (λ s. length (levels_of s) + self.now.start ≡ self.now.end) }
     {
+        let classes = ClassNumbers::new(self.class_numbers());
         let mut shown = ShownLevels::new(alloc);
-        shown.show(self.level(), self.classes(), self.levels())?;
+        shown.show(self.level(), classes, self.level_numbers())?;
         Ok(shown)
     }
 }
@@ -131,15 +121,9 @@ pub fn write_text<T: LineText>(
     ensures kept { OnErr result (out.new ≡ out.old) }
 {
     let units = 0..out.len();
-    write_line(
-        alloc,
-        text,
-        units,
-        line.level(),
-        line.classes(),
-        line.levels(),
-        out,
-    )
+    let classes = ClassNumbers::new(line.class_numbers());
+    let levels = line.level_numbers();
+    write_line(alloc, text, units, line.level(), classes, levels, out)
 }
 
 /// The levels of a line's units after L1, of which it answers the number.

@@ -12,13 +12,13 @@ ghost use Rattle.std.specs.Option.{option_or};
 ghost use Rattle.std.specs.Result.{result_err};
 
 use crate::checked;
-use crate::line::{KeptLine, map_characters};
+use crate::even::is_even_utf16;
+use crate::line::{KeptLine, map_characters, write_text};
 use bidi_numbers::fault::{Fault, check};
 use bidi_numbers::rows::Paragraph;
 use std::alloc::Global;
 use unicode_bidi::BidiDataSource;
-use unicode_bidi::kept_line::reorder_utf16;
-use unicode_bidi::text::{TextSource, Utf16Text, is_per_char};
+use unicode_bidi::text::{TextSource, Utf16Text};
 
 /// The classes and the levels of a text's units, and its paragraphs, of which it answers the number.
 pub fn analyse<D: BidiDataSource>(
@@ -90,7 +90,7 @@ pub fn check_text(text: &[u16], line: &KeptLine<'_>) -> Result<(), Fault>
     )
 }
 
-// Writes the text of a line from left to right, and answers its length.
+// Writes the text of a line from left to right, and returns its length.
 fn reorder(
     alloc: Global,
     text: &[u16],
@@ -98,6 +98,7 @@ fn reorder(
     out: &mut [u16],
 ) -> Result<usize, Fault>
     requires sound { IsSound line.now }
+    requires units { length text.now + line.now.start ≡ line.now.end }
     ensures fault { FaultsAs result (shown_fault utf16_len encode_utf16 (utf16_text text.now) text.now line.now (length out.old)) }
     ensures kept { OnErr result (out.new ≡ out.old) }
     ensures text { OnOk result (out.new
@@ -105,18 +106,12 @@ fn reorder(
     ensures count { IfOk result (λ count. count
         ≡ length (reordered utf16_len encode_utf16 (utf16_text text.now) text.now line.now)) }
 {
-    let classes = line.classes(alloc)?;
-    let levels = line.levels(alloc)?;
-    let own = Utf16Text::new(text);
-    check(
-        is_per_char(own, classes.as_slice()) && is_per_char(own, levels.as_slice()),
-        Fault::UnevenCharacter,
-    )?;
-    let shown = reorder_utf16(alloc, text, classes, levels, line.level())?;
-    let units = shown.as_slice();
-    check(units.len() <= out.len(), Fault::NoRoom)?;
-    out[..units.len()].copy_from_slice(units);
-    Ok(units.len())
+    let even = is_even_utf16(text, line.class_numbers(), line.level_numbers());
+    check(even, Fault::UnevenCharacter)?;
+    let count = text.len();
+    check(count <= out.len(), Fault::NoRoom)?;
+    write_text(alloc, Utf16Text::new(text), line, &mut out[..count])?;
+    Ok(count)
 }
 
 /// Writes the text of a line from left to right, and answers its length.

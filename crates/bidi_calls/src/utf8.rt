@@ -11,14 +11,14 @@ ghost use Rattle.std.specs.Option.{option_or};
 ghost use Rattle.std.specs.Result.{result_err};
 
 use crate::checked;
-use crate::line::{KeptLine, map_characters};
+use crate::even::is_even_utf8;
+use crate::line::{KeptLine, map_characters, write_text};
 use bidi_numbers::fault::{Fault, check};
 use bidi_numbers::rows::Paragraph;
 use bidi_numbers::texts::{goes_on, utf8};
 use std::alloc::Global;
 use unicode_bidi::BidiDataSource;
-use unicode_bidi::kept_line::reorder_utf8;
-use unicode_bidi::text::{StrText, is_per_char};
+use unicode_bidi::text::StrText;
 
 /// The classes and the levels of a text's bytes, and its paragraphs, of which it answers the number.
 pub fn analyse<D: BidiDataSource>(
@@ -90,26 +90,21 @@ pub fn check_text(text: &[u8], line: &KeptLine<'_>) -> Result<(), Fault>
     )
 }
 
-// Writes the text of a line from left to right, and answers its length.
+// Writes the text of a line from left to right, and returns its length.
 fn reorder(alloc: Global, text: &str, line: &KeptLine<'_>, out: &mut [u8]) -> Result<usize, Fault>
     requires sound { IsSound line.now }
+    requires units { length text.now + line.now.start ≡ line.now.end }
     ensures fault { FaultsAs result (shown_fault len_utf8 encode_utf8 (chars text.now) text.now line.now (length out.old)) }
     ensures kept { OnErr result (out.new ≡ out.old) }
     ensures text { OnOk result (out.new ≡ written (reordered len_utf8 encode_utf8 (chars text.now) text.now line.now) out.old) }
     ensures count { IfOk result (λ count. count ≡ length (reordered len_utf8 encode_utf8 (chars text.now) text.now line.now)) }
 {
-    let classes = line.classes(alloc)?;
-    let levels = line.levels(alloc)?;
-    let own = StrText::new(text);
-    check(
-        is_per_char(own, classes.as_slice()) && is_per_char(own, levels.as_slice()),
-        Fault::UnevenCharacter,
-    )?;
-    let shown = reorder_utf8(alloc, text, classes, levels, line.level())?;
-    let bytes = shown.as_str().as_bytes();
-    check(bytes.len() <= out.len(), Fault::NoRoom)?;
-    out[..bytes.len()].copy_from_slice(bytes);
-    Ok(bytes.len())
+    let even = is_even_utf8(text, line.class_numbers(), line.level_numbers());
+    check(even, Fault::UnevenCharacter)?;
+    let count = text.len();
+    check(count <= out.len(), Fault::NoRoom)?;
+    write_text(alloc, StrText::new(text), line, &mut out[..count])?;
+    Ok(count)
 }
 
 /// Writes the text of a line from left to right, and answers its length.

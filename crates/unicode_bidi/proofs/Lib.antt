@@ -1,3 +1,4 @@
 pub mod FoundLaws
 pub mod ParagraphUnits
+pub mod SearchLemmas
 pub mod WholeText

@@ -1,4 +1,5 @@
 pub mod BidiInfo
+pub mod DirectionSteps
 pub mod Engine
 pub mod InitialInfo
 pub mod LineMap

@@ -17,6 +17,7 @@
 
 mod base_direction;
 pub mod deprecated;
+pub mod direction_search;
 pub mod engine;
 mod info;
 mod initial_info;

@@ -1,0 +1,21 @@
+//! The exports that return the base direction of a text, and read no further than it is decided.
+use bidi_calls::first_direction::{first_direction_utf8, first_direction_utf32};
+use bidi_calls::utf16::base_direction;
+use bidi_numbers::fault::answer;
+use bidi_unicode::UnicodeData;
+
+#[unsafe(no_mangle)]
+pub extern "C" fn unicode_bidi_first_direction_utf8(text: &[u8], full: u8) -> i64 {
+    answer(first_direction_utf8(&UnicodeData, text, full != 0))
+}
+
+// Units of UTF-16 have no faults, so the base direction is read no further than it is decided.
+#[unsafe(no_mangle)]
+pub extern "C" fn unicode_bidi_first_direction_utf16(text: &[u16], full: u8) -> i64 {
+    answer(Ok(base_direction(&UnicodeData, text, full != 0)))
+}
+
+#[unsafe(no_mangle)]
+pub extern "C" fn unicode_bidi_first_direction_utf32(text: &[u32], full: u8) -> i64 {
+    answer(first_direction_utf32(&UnicodeData, text, full != 0))
+}

@@ -1,0 +1,99 @@
+//! The base direction of a text of which no more is read than decides it.
+ghost use Rattle.std.specs.Prelude.{◌≡◌, ◌≤◌, ℕ, length, take, true, IsUtf8};
+ghost use Rattle.std.specs.Str.{chars};
+ghost use Rattle.std.specs.Str.Lossy.{utf8_valid_len};
+ghost use Rattle.std.specs.List.{list_all};
+ghost use Rattle.bidi_calls.specs.FirstDirection.{is_decided, first_direction_utf8, first_direction_utf32};
+ghost use Rattle.bidi_numbers.specs.Numbers.{direction_in};
+ghost use Rattle.bidi_numbers.specs.Texts.{is_scalar};
+
+use crate::checked::number_of_direction;
+use bidi_numbers::fault::Fault;
+use bidi_numbers::texts::{char_of, is_scalar};
+use unicode_bidi::direction_search::{DirectionSearch, search_class, search_direction};
+use unicode_bidi::text::StrText;
+use unicode_bidi::{BidiDataSource, Direction};
+
+// So many bytes are tested for UTF-8 at once, and then searched.
+const PIECE: usize = 64;
+
+// The longest text at the front of bytes.
+fn text_front(bytes: &[u8]) -> &str
+    ensures { result.now ≡ take (utf8_valid_len bytes.now) bytes.now }
+{
+    match bytes.utf8_chunks().next() {
+        Some(chunk) => chunk.valid(),
+        None => "",
+    }
+}
+
+/// Returns the number of the base direction of a text of UTF-8, and reads no further than the character that
+/// decides it.
+///
+/// Without `full` it also stops at the end of the first paragraph. It rejects bytes that are not UTF-8 only before it
+/// stops. It may test up to 64 bytes behind that, and does not allocate.
+pub fn first_direction_utf8<D: BidiDataSource>(
+    data_source: &D,
+    text: &[u8],
+    full: bool,
+) -> Result<usize, Fault>
+    ensures direction { result ≡ first_direction_utf8 (D.source data_source.now) full text.now }
+
+    // For a text without a fault it is the base direction.
+    ensures valid { IsUtf8 text.now → result ≡ Ok (direction_in (D.source data_source.now) full (chars text.now)) }
+
+    // The bytes behind those that decide do not matter.
+    ensures decided { let source = D.source data_source.now in
+        (n : ℕ) → n ≤ length text.now → IsUtf8 (take n text.now)
+        → is_decided source full (chars (take n text.now)) ≡ true
+        → result ≡ Ok (direction_in source full (chars (take n text.now))) }
+{
+    let mut rest = text;
+    let mut depth = 0;
+    while !rest.is_empty() {
+        let front = text_front(&rest[..rest.len().min(PIECE)]);
+        if front.is_empty() {
+            return Err(Fault::NotUtf8);
+        }
+        match search_direction(data_source, StrText::new(front), depth, full) {
+            DirectionSearch::Found(direction) => return Ok(number_of_direction(direction)),
+            DirectionSearch::Open(now) => depth = now,
+        }
+        rest = &rest[front.len()..];
+    }
+    Ok(number_of_direction(Direction::Mixed))
+}
+
+/// Returns the number of the base direction of a list of characters, and reads no further than the one that
+/// decides it.
+///
+/// Without `full` it also stops at the end of the first paragraph. It rejects numbers that are not scalar values only
+/// before it stops. It does not allocate.
+pub fn first_direction_utf32<D: BidiDataSource>(
+    data_source: &D,
+    text: &[u32],
+    full: bool,
+) -> Result<usize, Fault>
+    ensures direction { result ≡ first_direction_utf32 (D.source data_source.now) full text.now }
+
+    // For a text without a fault it is the base direction.
+    ensures valid { list_all is_scalar text.now ≡ true
+        → result ≡ Ok (direction_in (D.source data_source.now) full text.now) }
+
+    // The characters behind those that decide do not matter.
+    ensures decided { let source = D.source data_source.now in
+        (n : ℕ) → list_all is_scalar (take n text.now) ≡ true → is_decided source full (take n text.now) ≡ true
+        → result ≡ Ok (direction_in source full (take n text.now)) }
+{
+    let mut depth = 0;
+    for number in text {
+        if !is_scalar(*number) {
+            return Err(Fault::NotScalar);
+        }
+        match search_class(data_source.bidi_class(char_of(*number)), depth, full) {
+            DirectionSearch::Found(direction) => return Ok(number_of_direction(direction)),
+            DirectionSearch::Open(now) => depth = now,
+        }
+    }
+    Ok(number_of_direction(Direction::Mixed))
+}

@@ -1,0 +1,89 @@
+//! The search for a base direction (P2, P3), in a text or in its pieces one after another.
+ghost use Rattle.std.specs.Prelude.{◌≡◌, ◌+◌, ◌<◌, ◌^◌, map, Some};
+ghost use Rattle.bidi_base.specs.Direction.{direction_by};
+ghost use Rattle.bidi_base.specs.Text.{text_len};
+ghost use Rattle.unicode_bidi.specs.DirectionSteps.{depth_after, search_step, search_in};
+
+use bidi_base::char_data::{BidiClass, Direction};
+use bidi_base::classes::{is_initiator, is_paragraph_separator, is_pdi, is_strong};
+use bidi_base::data_source::BidiDataSource;
+use bidi_text::text::TextSource;
+
+/// How far a search for the base direction has come.
+#[derive(Clone, Copy, Debug, PartialEq)]
+pub enum DirectionSearch {
+    /// The search is over: the direction of the deciding character, or `Mixed` if the first paragraph ended
+    /// before one.
+    Found(Direction),
+    /// The search goes on in the characters that follow. This is the number of open isolates.
+    Open(usize),
+}
+
+// The direction that a deciding character of this class gives.
+fn direction_of(class: BidiClass) -> Direction
+    ensures { result ≡ direction_by (Some class) }
+{
+    match class {
+        BidiClass::R | BidiClass::AL => Direction::Rtl,
+        BidiClass::L => Direction::Ltr,
+        _ => Direction::Mixed,
+    }
+}
+
+// The number of isolates that are depth after a character.
+fn depth_after(depth: usize, class: BidiClass) -> usize
+    requires { depth + 1 < 2 ^ 64 }
+    ensures { result ≡ depth_after depth class }
+{
+    if is_initiator(class) {
+        depth + 1
+    } else if is_pdi(class) {
+        depth.saturating_sub(1)
+    } else {
+        depth
+    }
+}
+
+/// Takes the search over one character of this class, before which `depth` isolates are open.
+///
+/// With `full` a paragraph separator ends the open isolates, and the search goes on in the next paragraph;
+/// otherwise it ends the search.
+pub fn search_class(class: BidiClass, depth: usize, full: bool) -> DirectionSearch
+    requires { depth + 1 < 2 ^ 64 }
+    ensures { result ≡ search_step full depth class }
+{
+    if depth == 0 && is_strong(class) {
+        return DirectionSearch::Found(direction_of(class));
+    }
+    if !is_paragraph_separator(class) {
+        return DirectionSearch::Open(depth_after(depth, class));
+    }
+    if full {
+        DirectionSearch::Open(0)
+    } else {
+        DirectionSearch::Found(Direction::Mixed)
+    }
+}
+
+/// Takes the search over the characters of a text, before which `depth` isolates are open.
+///
+/// It stops at the character that decides, and does not allocate. A longer text may be searched in pieces: each
+/// call takes the number of open isolates that the call before it returned, and the first one takes 0.
+pub fn search_direction<D: BidiDataSource, T: TextSource>(
+    data_source: &D,
+    text: T,
+    depth: usize,
+    full: bool,
+) -> DirectionSearch
+    requires { depth + text_len T.units (T.characters text) < 2 ^ 64 }
+    ensures { result ≡ search_in full depth (map (D.source data_source.now).class_of (T.characters text)) }
+{
+    let mut now = depth;
+    for c in text.chars() {
+        match search_class(data_source.bidi_class(c), now, full) {
+            DirectionSearch::Open(after) => now = after,
+            found => return found,
+        }
+    }
+    DirectionSearch::Open(now)
+}
