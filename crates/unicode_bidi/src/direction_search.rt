@@ -1,8 +1,9 @@
 //! The search for a base direction (P2, P3), in a text or in its pieces one after another.
-ghost use Rattle.std.specs.Prelude.{◌≡◌, ◌+◌, ◌<◌, ◌^◌, map, Some};
-ghost use Rattle.bidi_base.specs.Direction.{direction_by};
+ghost use Rattle.std.specs.Prelude.{◌≡◌, ◌+◌, ◌<◌, ◌^◌, if◌then◌else◌, map, Some};
+ghost use Rattle.bidi_base.specs.Direction.{direction_by, base_direction, full_base_direction};
+ghost use Rattle.bidi_base.specs.Paragraphs.{paragraphs_of, each_separator};
 ghost use Rattle.bidi_base.specs.Text.{text_len};
-ghost use Rattle.unicode_bidi.specs.DirectionSteps.{depth_after, search_step, search_in};
+ghost use Rattle.unicode_bidi.specs.DirectionSteps.{depth_after, search_step, search_in, direction_found};
 
 use bidi_base::char_data::{BidiClass, Direction};
 use bidi_base::classes::{is_initiator, is_paragraph_separator, is_pdi, is_strong};
@@ -76,7 +77,13 @@ pub fn search_direction<D: BidiDataSource, T: TextSource>(
     full: bool,
 ) -> DirectionSearch
     requires { depth + text_len T.units (T.characters text) < 2 ^ 64 }
-    ensures { result ≡ search_in full depth (map (D.source data_source.now).class_of (T.characters text)) }
+    ensures search { result ≡ search_in full depth (map (D.source data_source.now).class_of (T.characters text)) }
+
+    // From the front of a text on, this is its base direction.
+    ensures direction { let classes = map (map (D.source data_source.now).class_of)
+        (paragraphs_of (each_separator (D.source data_source.now)) (T.characters text)) in
+        depth ≡ 0
+        → direction_found result ≡ (if full then full_base_direction classes else base_direction classes) }
 {
     let mut now = depth;
     for c in text.chars() {
