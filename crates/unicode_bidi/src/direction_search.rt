@@ -45,10 +45,11 @@ fn depth_after(depth: usize, class: BidiClass) -> usize
     }
 }
 
-/// Takes the search over one character of this class, before which `depth` isolates are open.
+/// Returns how far the search has come after one character.
 ///
-/// With `full` a paragraph separator ends the open isolates, and the search goes on in the next paragraph;
-/// otherwise it ends the search.
+/// `class` is the class of the character, and `depth` the number of isolates that are open before it. With `full` a
+/// paragraph separator closes the open isolates, and the search goes on in the next paragraph (P1). Without `full` it
+/// ends the search.
 pub fn search_class(class: BidiClass, depth: usize, full: bool) -> DirectionSearch
     requires { depth + 1 < 2 ^ 64 }
     ensures { result ≡ search_step full depth class }
@@ -66,10 +67,11 @@ pub fn search_class(class: BidiClass, depth: usize, full: bool) -> DirectionSear
     }
 }
 
-/// Takes the search over the characters of a text, before which `depth` isolates are open.
+/// Returns how far the search has come after the characters of a text.
 ///
-/// It stops at the character that decides, and does not allocate. A longer text may be searched in pieces: each
-/// call takes the number of open isolates that the call before it returned, and the first one takes 0.
+/// `depth` is the number of isolates that are open before the text: 0 at the front of a text. A longer text may be
+/// searched in pieces, each with the number that the call before it returned. The call stops at the character that
+/// decides, and does not allocate.
 pub fn search_direction<D: BidiDataSource, T: TextSource>(
     data_source: &D,
     text: T,
