@@ -5,6 +5,7 @@ pub mod LineUnits
 pub mod LineUtf8
 pub mod RunLengths
 pub mod RunText
+pub mod ShownUnits
 pub mod StillLine
 pub mod StoredLine
 pub mod TextOfLine
