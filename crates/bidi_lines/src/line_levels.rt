@@ -97,7 +97,7 @@ pub fn reset_levels<C: ClassList>(level: Level, classes: C, levels: &mut [Level]
             levels[at] = before;
             at += 1;
         } else {
-            let next = next_stop(classes, at + 1);
+            let next = next_stop(classes, at);
             let start = blanks_start(classes, at, next);
             if start > at {
                 blank_start = start;
