@@ -1,10 +1,12 @@
 pub mod CharRuns
 pub mod DirectionLemmas
+pub mod LineShown
 pub mod LineText
 pub mod LineUnits
 pub mod LineUtf8
 pub mod RunLengths
 pub mod RunText
+pub mod ShownLines
 pub mod StillLine
 pub mod StoredLine
 pub mod TextOfLine
