@@ -81,7 +81,7 @@ impl<T: TextSource> ShownLine<T> {
     ghost use Rattle.bidi_text_lines.specs.ShownLine.{text_of, levels as levels_of, runs as runs_of, Shows};
 
     /// Shows the empty line at the start of a text. Nothing is allocated.
-    pub fn new(alloc: Global, text: T) -> ShownLine<T>
+    pub fn of_text(alloc: Global, text: T) -> ShownLine<T>
         ensures text { text_of result ≡ text }
         ensures shows { (a : AnalysedText) → (level : ℕ) → a.len_of ≡ T.units → a.chars ≡ T.characters text
             → Shows result a level (record { start = 0; end = 0 }) }

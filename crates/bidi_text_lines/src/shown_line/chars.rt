@@ -2,13 +2,23 @@
 ghost use Rattle.std.specs.Prelude.{◌≡◌, ℕ, ◌∷◌, [], OnOk, OnErr};
 ghost use Rattle.std.specs.declared.ops.Range.{Range as RangeOf};
 ghost use Rattle.bidi_base.specs.Analysed.{AnalysedText};
+ghost use Rattle.bidi_base.specs.Text.{one_unit};
 
 use super::ShownLine;
 use bidi_text::text::CharsText;
-use std::alloc::AllocError;
+use std::alloc::{AllocError, Global};
 
 impl<'t> ShownLine<CharsText<'t>> {
     ghost use Rattle.bidi_text_lines.specs.ShownLine.{text_of, Shows, AppendsTextOfLine};
+
+    /// Shows the empty line of an empty text. Nothing is allocated.
+    pub fn new(alloc: Global) -> ShownLine<CharsText<'t>>
+        ensures text { (text_of result).list.now ≡ [] }
+        ensures shows { (a : AnalysedText) → (level : ℕ) → a.len_of ≡ one_unit → a.chars ≡ []
+            → Shows result a level (record { start = 0; end = 0 }) }
+    {
+        ShownLine::of_text(alloc, CharsText::new(&[]))
+    }
 
     /// Appends the characters of the line, from left to right (L2), to a list of characters.
     ///

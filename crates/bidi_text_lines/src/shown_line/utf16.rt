@@ -1,15 +1,25 @@
 // The text of a shown line of UTF-16.
-ghost use Rattle.std.specs.Prelude.{◌≡◌, ℕ, OnOk, OnErr};
+ghost use Rattle.std.specs.Prelude.{◌≡◌, ℕ, [], OnOk, OnErr};
 ghost use Rattle.std.specs.Char.Escape.{encode_utf16};
 ghost use Rattle.std.specs.declared.ops.Range.{Range as RangeOf};
 ghost use Rattle.bidi_base.specs.Analysed.{AnalysedText};
+ghost use Rattle.bidi_base.specs.Utf16.{utf16_len};
 
 use super::ShownLine;
 use bidi_text::text::Utf16Text;
-use std::alloc::AllocError;
+use std::alloc::{AllocError, Global};
 
 impl<'t> ShownLine<Utf16Text<'t>> {
     ghost use Rattle.bidi_text_lines.specs.ShownLine.{text_of, Shows, AppendsTextOfLine};
+
+    /// Shows the empty line of an empty text. Nothing is allocated.
+    pub fn new(alloc: Global) -> ShownLine<Utf16Text<'t>>
+        ensures text { (text_of result).units.now ≡ [] }
+        ensures shows { (a : AnalysedText) → (level : ℕ) → a.len_of ≡ utf16_len → a.chars ≡ []
+            → Shows result a level (record { start = 0; end = 0 }) }
+    {
+        ShownLine::of_text(alloc, Utf16Text::new(&[]))
+    }
 
     /// Appends the text of the line, from left to right (L2), to a list of code units of UTF-16.
     ///

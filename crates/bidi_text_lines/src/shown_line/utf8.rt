@@ -1,15 +1,25 @@
 // The text of a shown line of UTF-8.
-ghost use Rattle.std.specs.Prelude.{◌≡◌, ℕ, OnOk, OnErr, encode_utf8, string_bytes};
+ghost use Rattle.std.specs.Prelude.{◌≡◌, ℕ, [], OnOk, OnErr, encode_utf8, string_bytes};
+ghost use Rattle.std.specs.Char.{len_utf8};
 ghost use Rattle.std.specs.declared.ops.Range.{Range as RangeOf};
 ghost use Rattle.bidi_base.specs.Analysed.{AnalysedText};
 
 use super::ShownLine;
 use bidi_text::text::StrText;
-use std::alloc::AllocError;
+use std::alloc::{AllocError, Global};
 use std::mem;
 
 impl<'t> ShownLine<StrText<'t>> {
     ghost use Rattle.bidi_text_lines.specs.ShownLine.{text_of, Shows, AppendsTextOfLine};
+
+    /// Shows the empty line of an empty text. Nothing is allocated.
+    pub fn new(alloc: Global) -> ShownLine<StrText<'t>>
+        ensures text { (text_of result).text.now ≡ [] }
+        ensures shows { (a : AnalysedText) → (level : ℕ) → a.len_of ≡ len_utf8 → a.chars ≡ []
+            → Shows result a level (record { start = 0; end = 0 }) }
+    {
+        ShownLine::of_text(alloc, StrText::new(""))
+    }
 
     /// Appends the text of the line, from left to right (L2), to a string.
     ///

@@ -1,6 +1,6 @@
 use Rattle.bidi_base.proofs.Common.{refl, sym, ◌∙◌, arith}
 use Rattle.bidi_text_lines.proofs.LineShown.{empty-IsLine, empty-runs, empty-runs_of_chars, empty-levels}
-use Rattle.bidi_text_lines.proofs.shown_line.ShownLine.new.Goals as goal
+use Rattle.bidi_text_lines.proofs.shown_line.ShownLine.of_text.Goals as goal
 
 pub invariant_of-result : goal.invariant_of-result
 invariant_of-result g c = record {
