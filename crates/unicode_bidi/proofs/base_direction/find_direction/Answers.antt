@@ -1,4 +1,4 @@
-use Rattle.bidi_base.proofs.Common.{◌≡◌, ◌∙◌, ℕ, List, map, sym, ap, arith}
+use Rattle.bidi_base.proofs.Common.{◌∙◌, ℕ, List, map, sym, ap, arith}
 use Rattle.bidi_laws.proofs.DirectionWalk.{direction_from-is}
 use Rattle.unicode_bidi.proofs.SearchLemmas.{search_in-direction, direction_found}
 use Rattle.unicode_bidi.proofs.base_direction.find_direction.Goals as goal

@@ -3,7 +3,7 @@ use Rattle.bidi_base.proofs.TextLemmas.{length-le-text_len}
 use Rattle.bidi_base.proofs.PlaceLemmas.{char_turn, char_end, CharTurn}
 use Rattle.unicode_bidi.proofs.SearchLemmas.{search_turn, step-le, over-stays}
 use Rattle.unicode_bidi.specs.declared.direction_search.DirectionSearch.{DirectionSearch}
-use Rattle.unicode_bidi.specs.DirectionSteps.{search_in, search_step, search_on}
+use Rattle.unicode_bidi.specs.DirectionSteps.{search_in, search_on}
 use Rattle.unicode_bidi.proofs.direction_search.search_direction.Given.{Over}
 use Rattle.unicode_bidi.proofs.direction_search.search_direction.Goals as goal
 use Rattle.unicode_bidi.proofs.direction_search.search_direction.Goals.{In-Some}
