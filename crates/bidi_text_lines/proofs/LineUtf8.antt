@@ -5,7 +5,7 @@ use Rattle.std.specs.Char.{len_utf8}
 use Rattle.std.proofs.lemmas.Str.{scalars-chars, IsUtf8-nil, IsUtf8-append, IsUtf8-between}
 use Rattle.bidi_base.specs.declared.char_data.BidiClass.{BidiClass}
 use Rattle.bidi_text.proofs.StrLemmas.{has_units, IsCharBoundary-from_is_boundary, subrange-from_str}
-use Rattle.bidi_text_lines.specs.Written.{run_units, line_units}
+use Rattle.bidi_text_lines.specs.Written.{run_units, shown_units, line_units, AreRunsOfChars}
 use Rattle.bidi_text_lines.proofs.TurnedText.{backwards-utf8}
 use Rattle.bidi_text_lines.proofs.TextOfLine.{visual_runs_at_boundaries}
 
@@ -23,9 +23,13 @@ module _ (text : List ℕ) (u : IsUtf8 text) where
         | inr even ↦ simp even mid
       ]
 
+  -- a line whose runs cut no character
+  pub shown_utf8 : (start : ℕ) (levels : List ℕ) → AreRunsOfChars len_utf8 (chars text) start levels → IsUtf8 (shown_units len_utf8 encode_utf8 (chars text) text start levels)
+  shown_utf8 start levels of_chars =
+      IsUtf8-flat_map (run_units len_utf8 encode_utf8 (chars text) text start levels) (visual_runs start levels) (λ k d fits. run_utf8 start levels _ (of_chars k d fits))
+
   pub line_utf8 : (level : ℕ) (classes : List BidiClass) (levels : List ℕ) (line : Range ℕ) → IsPerChar len_utf8 (chars text) classes → IsPerChar len_utf8 (chars text) levels → IsLine len_utf8 (chars text) line.start line.end
       → IsUtf8 (line_units encode_utf8 text (record { len_of = len_utf8; chars = chars text; classes = classes; levels = levels }) level line)
   line_utf8 level classes levels line of_classes of_levels is_line =
-      let shown = levels_of_line level classes levels line.start line.end in
-      IsUtf8-flat_map (run_units len_utf8 encode_utf8 (chars text) text line.start shown) (visual_runs line.start shown)
-      (λ k d fits. run_utf8 line.start shown _ (visual_runs_at_boundaries len_utf8 has_units (chars text) level classes levels line.start line.end of_classes of_levels is_line k d fits))
+      shown_utf8 line.start (levels_of_line level classes levels line.start line.end)
+      (visual_runs_at_boundaries len_utf8 has_units (chars text) level classes levels line.start line.end of_classes of_levels is_line)

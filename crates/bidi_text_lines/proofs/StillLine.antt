@@ -1,6 +1,6 @@
 -- A line none of whose levels is odd: its runs, written one after the other, are its units.
-use Rattle.bidi_base.proofs.Common.{◌≡◌, ℕ, ◌+◌, ◌-◌, ◌≤◌, ◌<◌, ◌++◌, false, List, [], ◌∷◌, take, drop, length, get_or, reverse, flat_map, refl, ap, sym, ◌∙◌, arith, list_any_none, map, length-map, get_or-map, drop-drop, has_rtl, is_odd, Run, run_level, level_runs, visual_runs, visual_order, subrange, IsLevelRun}
-use Rattle.std.proofs.Common.{All, slice_range}
+use Rattle.bidi_base.proofs.Common.{◌≡◌, ℕ, ◌+◌, ◌-◌, ◌≤◌, ◌<◌, ◌++◌, false, List, [], ◌∷◌, drop, length, get_or, flat_map, ap, sym, ◌∙◌, arith, list_any_none, map, length-map, get_or-map, drop-drop, has_rtl, is_odd, Run, run_level, level_runs}
+use Rattle.std.proofs.Common.{slice_range}
 use Rattle.std.proofs.Math.Seq.{take-add}
 use Rattle.bidi_lines.proofs.Ordered.{none_odd}
 use Rattle.bidi_lines.proofs.RunsLemmas.{Follow, level_runs-follow, level_runs-each}

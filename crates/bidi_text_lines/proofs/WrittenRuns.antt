@@ -1,9 +1,16 @@
 -- A pass that writes the runs of a line, one after the other, to parts of a list.
-use Rattle.bidi_base.proofs.Common.{◌≡◌, ℕ, ◌+◌, ◌-◌, ◌<◌, ◌≤◌, Bool, true, false, List, ◌++◌, flat_map, reverse, length, get_or, take, drop, map, ap, ◌∙◌, arith, append_assoc, length-append, Range, get_or-map, get_or_default, length-map, take_more, flat_map-append, is_odd, subrange, Run, run_of}
-use Rattle.std.proofs.Common.{slice_range, length-take-le}
+use Rattle.bidi_base.proofs.Common.{◌≡◌, ℕ, ◌+◌, ◌-◌, ◌<◌, ◌≤◌, Bool, true, false, List, ◌++◌, flat_map, reverse, length, get_or, take, drop, map, ap, sym, subst, ◌∙◌, arith, append_assoc, length-append, Range, get_or-map, get_or_default, length-map, take_more, flat_map-append, is_odd, subrange, IsLine, Run, run_of}
+use Rattle.std.proofs.Common.{All, slice_range, length-take-le}
 use Rattle.std.proofs.Math.Seq.{take-append_seam}
 use Rattle.std.proofs.lemmas.List.{append-nil}
 use Rattle.bidi_text_lines.specs.Written.{run_units}
+
+-- the ranges of runs cut no character if the runs do not
+pub ranges_at_boundaries : (len_of : ℕ → ℕ) (chars : List ℕ) (ranges : List (Range ℕ)) (runs : List Run) → map run_of ranges ≡ runs
+    → All (λ (r : Run). IsLine len_of chars r.0 r.1) runs → All (λ r. IsLine len_of chars r.start r.end) ranges
+ranges_at_boundaries len_of chars ranges runs e each k d fits =
+    let same : get_or runs k (0, 0) ≡ run_of (get_or ranges k d) = ap (λ rs. get_or rs k (0, 0)) (sym e) ∙ get_or-map run_of ranges k d (0, 0) fits in
+    subst (λ (r : Run). IsLine len_of chars r.0 r.1) same (each k (0, 0) (omega (arith, fits, ap length e, length-map ranges run_of)))
 
 -- what is written to the next part of a list
 pub written_part : {X : Type 0} (xs begun new : List X) (at end n : ℕ) → take at xs ≡ begun → at ≤ length xs → end ≡ at + length new

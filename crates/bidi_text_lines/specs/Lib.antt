@@ -1,3 +1,4 @@
 pub mod Analysed
+pub mod ShownLine
 pub mod Turned
 pub mod Written

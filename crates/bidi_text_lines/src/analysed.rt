@@ -10,6 +10,7 @@ use crate::level_direction::direction_of;
 use bidi_base::char_data::{BidiClass, Direction};
 use bidi_base::level::{Level, has_rtl};
 use bidi_lines::line_levels::{levels_of_line, levels_per_char, levels_with_line};
+use bidi_lines::shown_levels::ShownLevels;
 use bidi_lines::visual_runs::{levels_and_runs, visual_runs_of};
 use bidi_text::text::TextSource;
 use std::alloc::{AllocError, Global};
@@ -142,6 +143,8 @@ impl<T: TextSource> Analysed<T> {
     }
 
     /// The line's level runs (BD7) from left to right (L2), as ranges of code units.
+    ///
+    /// A line of up to 256 code units with up to 16 runs allocates the list of runs alone.
     pub fn line_runs(
         &self,
         alloc: Global,
@@ -152,7 +155,9 @@ impl<T: TextSource> Analysed<T> {
         ensures { IfOk result (λ v. AreRunsOfLine (analysed self.now) level line (map run_of v.items)) }
     {
         let (start, end) = (line.start, line.end);
-        let shown = self.line_levels(alloc, level, start..end)?;
+        let classes = &self.original_classes()[start..end];
+        let mut shown = ShownLevels::new(alloc);
+        shown.show(level, classes, &self.levels()[start..end])?;
         visual_runs_of(alloc, shown.as_slice(), start)
     }
 }

@@ -4,3 +4,4 @@
 pub mod analysed;
 pub mod level_direction;
 pub mod line_text;
+pub mod shown_line;

@@ -1,4 +1,5 @@
 pub mod FoundLaws
+pub mod KeptOrder
 pub mod ParagraphUnits
 pub mod SearchLemmas
 pub mod WholeText

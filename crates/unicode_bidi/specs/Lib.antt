@@ -2,8 +2,10 @@ pub mod BidiInfo
 pub mod DirectionSteps
 pub mod Engine
 pub mod InitialInfo
+pub mod KeptOrder
 pub mod LineMap
 pub mod Paragraph
 pub mod ParagraphBidiInfo
 pub mod ParagraphInfo
+pub mod ShownLine
 pub mod SplitRule

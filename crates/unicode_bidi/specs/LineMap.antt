@@ -1,11 +1,12 @@
 -- What the look-ups of `LineMap` read.
 use Rattle.std.specs.Prelude.{ℕ, List}
+use Rattle.unicode_bidi.specs.KeptOrder.{entries}
 use Rattle.unicode_bidi.specs.declared.layout.LineMap.{LineMap}
 
 -- the character at each visual place
 abbrev pub order : LineMap → List ℕ
-order m = m.order.items
+order m = entries m.order.items m.len
 
 -- the visual place of each character
 abbrev pub places : LineMap → List ℕ
-places m = m.places.items
+places m = entries m.places.items m.len

@@ -1,5 +1,5 @@
 // What the algorithm finds out about a text.
-ghost use Rattle.std.specs.Prelude.{◌≡◌, ◌<◌, ◌≤◌, IsTrue, IfOk, IfSome, All, Some, map, slice_range, false};
+ghost use Rattle.std.specs.Prelude.{◌≡◌, ◌<◌, ◌≤◌, IsTrue, IfOk, IfSome, OnOk, OnErr, All, Some, map, slice_range, false};
 ghost use Rattle.bidi_base.specs.Analysed.{IsLineOf, IsPerCharText, AreLevelsWithLine, AreLevelsOfLine, AreRunsOfLine, levels_with_line_per_char};
 ghost use Rattle.bidi_base.specs.Display.{run_of};
 ghost use Rattle.bidi_base.specs.Laws.{HasOwnUnits, AreLevelsFrom, BoundaryNeutralsAreAlike, StaysLeftToRight};
@@ -20,6 +20,7 @@ use bidi_paragraphs::paragraph_info::ParagraphInfo;
 use bidi_paragraphs::split_rule::SplitRule;
 use bidi_text::text::TextSource;
 use bidi_text_lines::analysed::Analysed;
+use bidi_text_lines::shown_line::ShownLine;
 use std::alloc::{AllocError, Global};
 use std::ops::Range;
 
@@ -38,6 +39,8 @@ pub struct BidiInfo<T: TextSource> {
 }
 
 impl<T: TextSource> BidiInfo<T> {
+    ghost use Rattle.bidi_text_lines.specs.Analysed.{text_of as analysed_text};
+    ghost use Rattle.bidi_text_lines.specs.ShownLine.{text_of as shown_text, Shows};
     ghost use Rattle.unicode_bidi.specs.BidiInfo.{analysed as analysed_of, paragraphs, original_classes, levels as levels_of_info};
 
     // What `new_with_rule` finds at each encoding, of any text.
@@ -179,6 +182,27 @@ impl<T: TextSource> BidiInfo<T> {
         ensures { IfOk result (λ v. AreRunsOfLine (analysed_of self.now) (level_of para.now) line (map run_of v.items)) }
     {
         self.analysed.line_runs(alloc, para.level(), line)
+    }
+
+    /// Shows a line of the text in a value that keeps its memory for the next line.
+    ///
+    /// `shown` then has the line's levels after L1, its visual runs (L2), the order of its characters, and
+    /// its text from left to right. A line of up to 256 code units with up to 16 runs allocates nothing.
+    /// Takes time linear in the line. If an allocation fails, `shown` shows the empty line at the start of
+    /// the text.
+    pub fn show_line(
+        &self,
+        shown: &mut ShownLine<T>,
+        para: &ParagraphInfo,
+        line: Range<usize>,
+    ) -> Result<(), AllocError>
+        requires { IsLineOf (analysed_of self.now) line }
+        ensures text { shown_text shown.new ≡ analysed_text self.now.analysed }
+        ensures shows { OnOk result (Shows shown.new (analysed_of self.now) (level_of para.now) line) }
+        ensures empty { OnErr result (Shows shown.new (analysed_of self.now) (level_of para.now)
+            (record { start = 0; end = 0 })) }
+    {
+        shown.show(&self.analysed, para.level(), line)
     }
 
     /// The visual order of a line's items by L2: at each place from the left, the index in `levels`

@@ -1,18 +1,22 @@
 //! Lines of given width, and the places of their characters on the screen, over UTF-8.
 
-ghost use Rattle.std.specs.Prelude.{◌≡◌, ℕ, ◌<◌, map, length, slice_get, IfOk, IfSome, All, Some};
+ghost use Rattle.std.specs.Prelude.{◌≡◌, ◌≢◌, ℕ, ◌<◌, true, false, map, length, slice_get, IfOk, IfSome, All, Some};
+ghost use Rattle.std.specs.List.{range_with_len};
 ghost use Rattle.bidi_base.specs.Analysed.{IsLineOf, line_levels_per_char};
 ghost use Rattle.bidi_base.specs.Display.{run_of};
 ghost use Rattle.bidi_base.specs.Layout.{line_length, line_ranges, visual_places, AreInverse};
 ghost use Rattle.bidi_base.specs.Order.{visual_order};
+ghost use Rattle.bidi_base.specs.Places.{indexes};
 ghost use Rattle.bidi_base.specs.Paragraphs.{IsPartition};
 ghost use Rattle.bidi_base.specs.Text.{place, per_char, text_len, IsLine};
+ghost use Rattle.bidi_lines.specs.ShownLevels.{levels as kept_levels};
 ghost use Rattle.unicode_bidi.specs.BidiInfo.{analysed as analysed_of};
+ghost use Rattle.unicode_bidi.specs.KeptOrder.{entries};
 ghost use Rattle.bidi_walk.specs.ParagraphInfo.{level_of, range_of};
 
 use crate::utf8::BidiInfo;
-use bidi_base::level::Level;
-use bidi_lines::line_levels::first_units;
+use bidi_base::level::{Level, has_rtl};
+use bidi_lines::shown_levels::ShownLevels;
 use bidi_lines::visual_order::inverse;
 use bidi_paragraphs::paragraph_info::ParagraphInfo;
 use bidi_rules::prepare::LevelRun;
@@ -106,30 +110,93 @@ fn char_levels(
     info: &BidiInfo<'_>,
     para: &ParagraphInfo,
     line: Range<usize>,
-) -> Result<Vec<Level>, AllocError>
+) -> Result<ShownLevels, AllocError>
     requires { IsLineOf (analysed_of info.now) line }
-    ensures { IfOk result (λ v. v.items ≡ line_levels_per_char (analysed_of info.now) (level_of para.now) line) }
+    ensures { IfOk result (λ s. kept_levels s ≡ line_levels_per_char (analysed_of info.now) (level_of para.now) line) }
 {
     let text = StrText::new(info.text()).subrange(line.start..line.end);
-    let levels = info.line_levels(alloc, para, line)?;
-    Ok(first_units(text, levels))
+    let classes = &info.original_classes()[line.start..line.end];
+    let mut shown = ShownLevels::new(alloc);
+    shown.show(para.level(), classes, &info.levels()[line.start..line.end])?;
+    shown.keep_first_units(text);
+    Ok(shown)
+}
+
+// Whether each index stands at its own place.
+fn is_in_order(order: &[usize]) -> bool
+    ensures ordered { result ≡ true → order.now ≡ indexes order.now }
+    ensures other { result ≡ false → order.now ≢ indexes order.now }
+{
+    for place in 0..order.len() {
+        if order[place] != place {
+            return false;
+        }
+    }
+    true
+}
+
+// The entry of a list at an index. `None` from `len` on. An empty list stands for the indexes up to `len`.
+fn entry_at(list: &[usize], len: usize, index: usize) -> Option<usize>
+    ensures { result ≡ slice_get (entries list.now len) index }
+{
+    if !list.is_empty() {
+        list.get(index).copied()
+    } else if index < len {
+        Some(index)
+    } else {
+        None
+    }
 }
 
 /// Where each character of a line stands on the screen, and which one stands at each place there, by
 /// L2. Characters and visual places are counted from 0, those from the left.
 #[derive(PartialEq, Debug, Drop)]
 pub struct LineMap {
+    len: usize,
+    // Both are empty if each character stands at its own index.
     order: Vec<usize>,
     places: Vec<usize>,
     ghost inverse: { AreInverse order.items places.items },
+    ghost whole: { 0 < length order.items → length order.items ≡ len },
+    ghost other: { 0 < length order.items → order.items ≢ indexes order.items },
 }
 
 impl LineMap {
     ghost use Rattle.unicode_bidi.specs.LineMap.{order as order_of, places as places_of};
 
+    // The map of a line that shows its characters in the order of the text.
+    fn in_order(alloc: Global, len: usize) -> LineMap
+        ensures order { order_of result ≡ range_with_len 0 len }
+        ensures places { places_of result ≡ range_with_len 0 len }
+    {
+        LineMap {
+            len,
+            order: Vec::new(alloc),
+            places: Vec::new(alloc),
+        }
+    }
+
+    // The map of a line by the levels of its characters after L1.
+    fn of_levels(alloc: Global, levels: &[Level]) -> Result<LineMap, AllocError>
+        ensures order { IfOk result (λ m. order_of m ≡ visual_order levels.now) }
+        ensures places { IfOk result (λ m. places_of m ≡ visual_places levels.now) }
+    {
+        let len = levels.len();
+        if !has_rtl(levels) {
+            return Ok(LineMap::in_order(alloc, len));
+        }
+        let order = BidiInfo::reorder_visual(alloc, levels)?;
+        if is_in_order(order.as_slice()) {
+            return Ok(LineMap::in_order(alloc, len));
+        }
+        let places = inverse(alloc, order.as_slice())?;
+        Ok(LineMap { len, order, places })
+    }
+
     /// The map of a line, which goes from one byte of the text up to another, both of which have to
     /// begin a character or be the text's length (see `is_line`). Its levels are those after L1, with
-    /// the level of the paragraph handed in, whichever that is. It costs the line.
+    /// the level of the paragraph handed in, whichever that is. It costs the line. A line of up to 256
+    /// bytes allocates the two lists of the map alone, and none if its characters stay in order.
     pub fn new(
         alloc: Global,
         info: &BidiInfo<'_>,
@@ -143,9 +210,7 @@ impl LineMap {
             ≡ visual_places (line_levels_per_char (analysed_of info.now) (level_of para.now) line)) }
     {
         let levels = char_levels(alloc, info, para, line)?;
-        let order = BidiInfo::reorder_visual(alloc, levels.as_slice())?;
-        let places = inverse(alloc, order.as_slice())?;
-        Ok(LineMap { order, places })
+        LineMap::of_levels(alloc, levels.as_slice())
     }
 
     /// The number of characters, which is that of visual places.
@@ -153,7 +218,7 @@ impl LineMap {
         ensures order { result ≡ length (order_of self.now) }
         ensures places { result ≡ length (places_of self.now) }
     {
-        self.order.len()
+        self.len
     }
 
     /// The character at a visual place. `None` from `len()` on.
@@ -161,7 +226,7 @@ impl LineMap {
         ensures found { result ≡ slice_get (order_of self.now) visual }
         ensures back { IfSome result (λ logical. slice_get (places_of self.now) logical ≡ Some visual) }
     {
-        self.order.get(visual).copied()
+        entry_at(self.order.as_slice(), self.len, visual)
     }
 
     /// The visual place of a character. `None` from `len()` on.
@@ -169,6 +234,6 @@ impl LineMap {
         ensures found { result ≡ slice_get (places_of self.now) logical }
         ensures back { IfSome result (λ visual. slice_get (order_of self.now) visual ≡ Some logical) }
     {
-        self.places.get(logical).copied()
+        entry_at(self.places.as_slice(), self.len, logical)
     }
 }

@@ -42,5 +42,5 @@ pub use bidi_rules::prepare::{LevelRun, LevelRunVec};
 pub use bidi_rules::{explicit, implicit, prepare};
 pub use bidi_text::text;
 pub use bidi_text::text::{TextSource, Utf8IndexLenIter};
-pub use utf8::{BidiInfo, InitialInfo, Paragraph, ParagraphBidiInfo};
+pub use utf8::{BidiInfo, InitialInfo, Paragraph, ParagraphBidiInfo, ShownLine};
 pub use version::VERSION;

@@ -1,5 +1,5 @@
 // What the algorithm finds out about a text that is one paragraph.
-ghost use Rattle.std.specs.Prelude.{◌≡◌, ◌<◌, ◌≤◌, IsTrue, IfOk, IfSome, map, false};
+ghost use Rattle.std.specs.Prelude.{◌≡◌, ◌<◌, ◌≤◌, IsTrue, IfOk, IfSome, OnOk, OnErr, map, false};
 ghost use Rattle.bidi_base.specs.Analysed.{IsLineOf, IsPerCharText, IsParagraphAnalysis, AreLevelsWithLine, AreLevelsOfLine, AreRunsOfLine, levels_with_line_per_char};
 ghost use Rattle.bidi_base.specs.Direction.{direction_of_levels};
 ghost use Rattle.bidi_base.specs.Display.{run_of};
@@ -16,6 +16,7 @@ use bidi_base::level::Level;
 use bidi_lines::visual_order;
 use bidi_text::text::TextSource;
 use bidi_text_lines::analysed::Analysed;
+use bidi_text_lines::shown_line::ShownLine;
 use std::alloc::{AllocError, Global};
 use std::ops::Range;
 
@@ -32,6 +33,8 @@ pub struct ParagraphBidiInfo<T: TextSource> {
 }
 
 impl<T: TextSource> ParagraphBidiInfo<T> {
+    ghost use Rattle.bidi_text_lines.specs.Analysed.{text_of as analysed_text};
+    ghost use Rattle.bidi_text_lines.specs.ShownLine.{text_of as shown_text, Shows};
     ghost use Rattle.unicode_bidi.specs.ParagraphBidiInfo.{analysed as analysed_of, original_classes, levels as levels_of_info, paragraph_level, is_pure_ltr};
 
     // What `new_with_data_source` finds at each encoding, of any text.
@@ -174,6 +177,22 @@ impl<T: TextSource> ParagraphBidiInfo<T> {
         ensures { IfOk result (λ v. AreRunsOfLine (analysed_of self.now) (paragraph_level self.now) line (map run_of v.items)) }
     {
         self.paragraph.line_runs(alloc, self.paragraph_level, line)
+    }
+
+    /// Shows a line of the text in a value that keeps its memory for the next line.
+    ///
+    /// `shown` then has the line's levels after L1, its visual runs (L2), the order of its characters, and
+    /// its text from left to right. A line of up to 256 code units with up to 16 runs allocates nothing.
+    /// Takes time linear in the line. If an allocation fails, `shown` shows the empty line at the start of
+    /// the text.
+    pub fn show_line(&self, shown: &mut ShownLine<T>, line: Range<usize>) -> Result<(), AllocError>
+        requires { IsLineOf (analysed_of self.now) line }
+        ensures text { shown_text shown.new ≡ analysed_text self.now.paragraph }
+        ensures shows { OnOk result (Shows shown.new (analysed_of self.now) (paragraph_level self.now) line) }
+        ensures empty { OnErr result (Shows shown.new (analysed_of self.now) (paragraph_level self.now)
+            (record { start = 0; end = 0 })) }
+    {
+        shown.show(&self.paragraph, self.paragraph_level, line)
     }
 
     /// The visual order of a line's items by L2: at each place from the left, the index in `levels`

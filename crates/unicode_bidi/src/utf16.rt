@@ -22,6 +22,7 @@ use bidi_paragraphs::paragraph_info::ParagraphInfo;
 use bidi_paragraphs::split_rule::SplitRule;
 use bidi_text::text::Utf16Text;
 pub use bidi_text::text::{Utf16CharIndexIter, Utf16CharIter, Utf16IndexLenIter};
+use bidi_text_lines::shown_line;
 use std::alloc::{AllocError, Global};
 use std::borrow::CowSlice;
 use std::ops::Range;
@@ -40,6 +41,13 @@ pub type InitialInfo<'t> = initial_info::InitialInfo<Utf16Text<'t>>;
 
 /// A paragraph together with what was found out about its text.
 pub type Paragraph<'a, 't> = paragraph::Paragraph<'a, Utf16Text<'t>>;
+
+/// A line of a text as it is shown: its levels after L1, its visual runs (L2), the order of its characters,
+/// and its text from left to right. Units are code units.
+///
+/// A value shows one line after another (see `show_line` of the info types), and keeps its memory for the
+/// next line.
+pub type ShownLine<'t> = shown_line::ShownLine<Utf16Text<'t>>;
 
 impl<'t> info::BidiInfo<Utf16Text<'t>> {
     ghost use Rattle.unicode_bidi.specs.BidiInfo.{units as text_of, analysed as analysed_of, paragraphs};

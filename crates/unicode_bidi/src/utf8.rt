@@ -17,6 +17,7 @@ use bidi_base::level::Level;
 use bidi_paragraphs::paragraph_info::ParagraphInfo;
 use bidi_paragraphs::split_rule::SplitRule;
 use bidi_text::text::StrText;
+use bidi_text_lines::shown_line;
 use std::alloc::{AllocError, Global};
 use std::borrow::CowStr;
 use std::ops::Range;
@@ -35,6 +36,13 @@ pub type InitialInfo<'t> = initial_info::InitialInfo<StrText<'t>>;
 
 /// A paragraph together with what was found out about its text.
 pub type Paragraph<'a, 't> = paragraph::Paragraph<'a, StrText<'t>>;
+
+/// A line of a text as it is shown: its levels after L1, its visual runs (L2), the order of its characters,
+/// and its text from left to right. Units are bytes.
+///
+/// A value shows one line after another (see `show_line` of the info types), and keeps its memory for the
+/// next line.
+pub type ShownLine<'t> = shown_line::ShownLine<StrText<'t>>;
 
 impl<'t> info::BidiInfo<StrText<'t>> {
     ghost use Rattle.unicode_bidi.specs.BidiInfo.{text as text_of, analysed as analysed_of, paragraphs};

@@ -1,17 +1,11 @@
-use Rattle.bidi_base.proofs.Common.{◌≡◌, ◌+◌, ◌<◌, ℕ, false, is_odd, has_rtl, line_levels, List, All, map, length, get_or, ap, sym, subst, ◌∙◌, refl, arith, get_or-map, length-map, Range, IsLine, Run, run_of, visual_runs, AreVisualRuns}
+use Rattle.bidi_base.proofs.Common.{◌≡◌, ◌+◌, false, is_odd, has_rtl, line_levels, map, length, ap, sym, ◌∙◌, refl, arith, run_of, visual_runs, AreVisualRuns}
 use Rattle.std.proofs.Common.{slice_range}
 use Rattle.bidi_lines.proofs.LineLevels.{length-line_levels, has_rtl-even}
+use Rattle.bidi_text_lines.proofs.WrittenRuns.{ranges_at_boundaries}
 use Rattle.bidi_text_lines.proofs.StillLine.{shown_units-still}
 use Rattle.bidi_text_lines.proofs.TextOfLine.{runs_begin}
 use Rattle.bidi_text_lines.proofs.RunLengths.{visual_runs-whole}
 use Rattle.bidi_text_lines.proofs.line_text.write_line.Goals as goal
-
--- the ranges of runs cut no character if the runs do not
-at_boundaries : (len_of : ℕ → ℕ) (chars : List ℕ) (ranges : List (Range ℕ)) (runs : List Run) → map run_of ranges ≡ runs
-    → All (λ (r : Run). IsLine len_of chars r.0 r.1) runs → All (λ r. IsLine len_of chars r.start r.end) ranges
-at_boundaries len_of chars ranges runs e each k d fits =
-    let same : get_or runs k (0, 0) ≡ run_of (get_or ranges k d) = ap (λ rs. get_or rs k (0, 0)) (sym e) ∙ get_or-map run_of ranges k d (0, 0) fits in
-    subst (λ (r : Run). IsLine len_of chars r.0 r.1) same (each k (0, 0) (omega (arith, fits, ap length e, length-map ranges run_of)))
 
 pub find-requires : goal.find-requires
 find-requires g c =
@@ -40,7 +34,7 @@ write_runs-requires-clause-whole g c =
 pub write_runs-requires-clause-boundaries : goal.write_runs-requires-clause-boundaries
 write_runs-requires-clause-boundaries g c =
     let shown = c.as_slice.ensures ∙ c.in_ok-show.ensures.levels in
-    at_boundaries g.T.TextSource.units (g.T.TextSource.characters c.args.text) c.as_slice-3.result.now _ (c.as_slice-3.ensures ∙ c.in_ok-find.ensures.runs ∙ ap (visual_runs c.args.line.start) shown) c.requires.runs
+    ranges_at_boundaries g.T.TextSource.units (g.T.TextSource.characters c.args.text) c.as_slice-3.result.now _ (c.as_slice-3.ensures ∙ c.in_ok-find.ensures.runs ∙ ap (visual_runs c.args.line.start) shown) c.requires.runs
 
 pub returns-clause-text : goal.returns-clause-text
 returns-clause-text g c =
