@@ -6,11 +6,8 @@ pub mod LineUnits
 pub mod LineUtf8
 pub mod RunLengths
 pub mod RunText
-<<<<<<< HEAD
 pub mod ShownUnits
-=======
 pub mod ShownLines
->>>>>>> 12d7200450c63bf60893e24aec96c3f455e1c8e6
 pub mod StillLine
 pub mod StoredLine
 pub mod TextOfLine
