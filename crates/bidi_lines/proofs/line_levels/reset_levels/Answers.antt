@@ -37,8 +37,8 @@ stop_behind : (classes : List BidiClass) (to at u : ℕ) → at < to → is_stop
 stop_behind classes to at u fits here first = elim (cases_lt at u) [
   | inl past ↦ past
   | inr same ↦
-    let e : u ≡ at = omega (arith, first.begins) in
-    absurd (true≢false (sym (first.at (omega (arith, e))) ∙ ap (λ k. is_stop (class_at classes k)) e ∙ here))
+      let e : u ≡ at = omega (arith, first.begins) in
+      absurd (true≢false (sym (first.at (omega (arith, e))) ∙ ap (λ k. is_stop (class_at classes k)) e ∙ here))
 ]
 
 pub loop-at-preserved : goal.loop-at-preserved

@@ -1,4 +1,4 @@
-use Rattle.bidi_base.proofs.Common.{◌≡◌, ℕ, ◌+◌, ◌-◌, List, not, eqb, cond, map, take, drop, length, ap, sym, ◌∙◌, arith, w8, bitmask_splat, map-map, add-zero, IsFirst}
+use Rattle.bidi_base.proofs.Common.{◌≡◌, ℕ, ◌+◌, ◌-◌, List, not, eqb, cond, map, take, drop, ap, ◌∙◌, arith, w8, bitmask_splat, map-map}
 use lib.Lanes.{chunk, mask_l}
 use Rattle.std.proofs.lemmas.List.{take-map, drop-map}
 use Rattle.bidi_base.proofs.SearchLanes.{is_marked, mark_of, lanes_none, lanes_first}
