@@ -1,7 +1,5 @@
 -- The text of a line whose classes and levels are kept, and equal within each character.
-use Rattle.bidi_base.proofs.Common.{◌≡◌, ℕ, ◌+◌, ◌&&◌, true, false, Some, nat_le, List, length, refl, sym, ap, subst, ◌∙◌, arith, IsTrue, text_len, per_char, is_per_char, line_text, levels_of_line, visual_runs, IsLine, IsPerChar}
-use Rattle.bidi_base.specs.contracts.char_data.BidiClassPartialEq.TheImpl.{ghosts as class_test}
-use Rattle.bidi_base.specs.contracts.level.LevelPartialEq.TheImpl.{ghosts as level_test}
+use Rattle.bidi_base.proofs.Common.{◌≡◌, ℕ, ◌+◌, true, false, Some, nat_le, List, length, refl, sym, ap, subst, ◌∙◌, arith, text_len, per_char, line_text, levels_of_line, IsLine, IsPerChar}
 use Rattle.bidi_base.specs.declared.char_data.BidiClass.TheVariants.{L}
 use Rattle.bidi_base.proofs.TextLemmas.{HasUnits}
 use Rattle.bidi_text_lines.proofs.ShownUnits.{length-shown_units}

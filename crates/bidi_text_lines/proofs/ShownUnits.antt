@@ -1,6 +1,6 @@
 -- The units of a line that is shown are as many as those of the line.
-use Rattle.bidi_base.proofs.Common.{◌≡◌, ℕ, zero, ◌+◌, ◌-◌, ◌≤◌, ◌<◌, List, [], ◌∷◌, length, reverse, flat_map, refl, sym, ap, ◌∙◌, arith, inl, inr, All-tail, IsPermutation-reverse, cases_Bool, sum_by-cons, sum_by-IsPermutation, length-append, length-map, length-reverse, is_odd, text_len, subrange, IsLine, Run, run_level, written_run, written_runs, visual_runs, IsLevelRun}
-use Rattle.std.proofs.Common.{All, slice_range}
+use Rattle.bidi_base.proofs.Common.{◌≡◌, ℕ, zero, ◌+◌, ◌-◌, ◌≤◌, List, [], ◌∷◌, length, reverse, flat_map, refl, ap, ◌∙◌, arith, inl, inr, All-tail, IsPermutation-reverse, cases_Bool, sum_by-cons, sum_by-IsPermutation, length-append, length-map, is_odd, text_len, subrange, IsLine, Run, run_level, written_runs, visual_runs}
+use Rattle.std.proofs.Common.{All}
 use Rattle.bidi_base.proofs.TextLemmas.{HasUnits}
 use Rattle.bidi_base.proofs.PlaceLemmas.{text_len-subrange}
 use Rattle.bidi_lines.proofs.LineInText.{length-part}
