@@ -28,37 +28,6 @@ fn write_level(levels: &mut [Level], from: usize, to: usize, level: Level)
     levels[from..to].fill(level);
 }
 
-// Whether a class is a separator or one that X9 removes.
-fn is_stop(class: BidiClass) -> bool
-    ensures { result ≡ is_stop class }
-{
-    is_separator(class) || is_removed(class)
-}
-
-// The first separator or removed unit from `from` on, or else the line's end.
-fn next_stop<C: ClassList>(classes: C, from: usize) -> usize
-    requires { from ≤ length (C.classes classes) }
-    ensures { IsFirst is_stop (C.classes classes) from (length (C.classes classes)) result }
-{
-    let len = classes.len();
-    let mut at = from;
-    while len - at >= 16 {
-        let before = classes.units_before_stop(at);
-        at += before;
-        if before < 16 {
-            return at;
-        }
-    }
-    if len - from >= 16 {
-        // The last sixteen overlap those before them, none of which is a stop.
-        return len - 16 + classes.units_before_stop(len - 16);
-    }
-    while at < len && !is_stop(classes.class_at(at)) {
-        at += 1;
-    }
-    at
-}
-
 // The start of the blanks at the end of the part from `from` to `to`, or `to` if there are none.
 fn blanks_start<C: ClassList>(classes: C, from: usize, to: usize) -> usize
     requires begins { from ≤ to }
@@ -97,7 +66,7 @@ pub fn reset_levels<C: ClassList>(level: Level, classes: C, levels: &mut [Level]
             levels[at] = before;
             at += 1;
         } else {
-            let next = next_stop(classes, at);
+            let next = classes.next_stop(at);
             let start = blanks_start(classes, at, next);
             if start > at {
                 blank_start = start;

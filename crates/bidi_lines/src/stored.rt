@@ -1,7 +1,7 @@
 //! The classes and the levels that a line is read from, however they are stored: as the types of
 //! the library, or as numbers.
 
-ghost use Rattle.std.specs.Prelude.{◌≡◌, ℕ, ◌+◌, ◌<◌, ◌≤◌, Bool, IsTrue, ⊤, nat_lt, List, length, slice_index};
+ghost use Rattle.std.specs.Prelude.{◌≡◌, ℕ, ◌+◌, ◌<◌, ◌≤◌, Bool, IsTrue, ⊤, false, nat_lt, List, length, slice_index};
 ghost use Rattle.std.specs.List.{list_all};
 ghost use lib.Lanes.{chunk};
 ghost use Rattle.bidi_base.specs.declared.char_data.BidiClass.{BidiClass};
@@ -29,7 +29,7 @@ impl ClassTest for SeparatorOrRemoved {
     }
 }
 
-/// A list of classes that is read one by one, or searched sixteen at once.
+/// A list of classes that is read one by one, or searched.
 pub trait ClassList: Copy {
     /// The classes.
     ghost classes: { Self → List BidiClass };
@@ -43,11 +43,12 @@ pub trait ClassList: Copy {
         requires { index < length (classes self) }
         ensures { result ≡ class_at (classes self) index };
 
-    /// How many of the sixteen classes from an index on come before the first that is a separator or that
-    /// X9 removes.
-    fn units_before_stop(self, index: usize) -> usize
-        requires { index + 16 ≤ length (classes self) }
-        ensures { IsFirst is_stop (classes self) index (index + 16) (index + result) };
+    /// The index of the first separator, or class that X9 removes, behind an index, or else the number of
+    /// classes. The class at the index is neither.
+    fn next_stop(self, index: usize) -> usize
+        requires within { index < length (classes self) }
+        requires other { is_stop (class_at (classes self) index) ≡ false }
+        ensures { IsFirst is_stop (classes self) (index + 1) (length (classes self)) result };
 }
 
 impl<'t> ClassList for &'t [BidiClass] {
@@ -61,8 +62,8 @@ impl<'t> ClassList for &'t [BidiClass] {
         self[index]
     }
 
-    fn units_before_stop(self, index: usize) -> usize {
-        first_passing(SeparatorOrRemoved, self, index, index + 16) - index
+    fn next_stop(self, index: usize) -> usize {
+        first_passing(SeparatorOrRemoved, self, index + 1, self.len())
     }
 }
 

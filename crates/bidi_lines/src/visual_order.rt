@@ -52,6 +52,7 @@ fn first_other<L: LevelList>(levels: L, at: usize, level: u8) -> usize
 }
 
 // The end of the stretch of items from `from` on that have its level.
+#[inline(always)]
 pub(crate) fn run_end<L: LevelList>(levels: L, from: usize) -> usize
     requires { from < length (L.numbers levels) }
     ensures begins { from < result }

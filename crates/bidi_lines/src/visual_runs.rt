@@ -17,27 +17,48 @@ use std::ops::Range;
 /// How many runs of a line are kept without an allocation.
 const FEW_RUNS: usize = 16;
 
-// Cuts a line that starts at the unit `start` into its level runs, and finds the number of the level of
-// each.
+// Cuts a line that starts at the unit `start` into its level runs.
 fn cut_runs(
     runs: &mut SmallVec<Range<usize>, FEW_RUNS>,
-    numbers: &mut SmallVec<u8, FEW_RUNS>,
     levels: &[Level],
     start: usize,
 ) -> Result<(), AllocError>
     requires { start + length levels.now ≤ usize.MAX }
-    ensures runs { OnOk result (map run_of runs.new.items ≡ level_runs start levels.now) }
-    ensures levels { OnOk result (numbers.new.items ≡ map (run_level start levels.now) (map run_of runs.new.items)) }
+    ensures { OnOk result (map run_of runs.new.items ≡ level_runs start levels.now) }
 {
     runs.clear();
-    numbers.clear();
     let mut at = 0;
     while at < levels.len() {
         let end = run_end(levels, at);
         runs.push(start + at..start + end)?;
-        numbers.push(levels[at].number())?;
         at = end;
     }
+    Ok(())
+}
+
+// Writes the number of the level of each run.
+fn write_numbers(numbers: &mut [u8], levels: &[Level], start: usize, runs: &[Range<usize>])
+    requires same_len { length numbers.old ≡ length runs.now }
+    requires within { All (λ r. start ≤ r.start × r.start < start + length levels.now) runs.now }
+    ensures { numbers.new ≡ map (run_level start levels.now) (map run_of runs.now) }
+{
+    for k in 0..runs.len() {
+        numbers[k] = levels[runs[k].start - start].number();
+    }
+}
+
+// Finds the number of the level of each run.
+fn find_numbers(
+    numbers: &mut SmallVec<u8, FEW_RUNS>,
+    levels: &[Level],
+    start: usize,
+    runs: &[Range<usize>],
+) -> Result<(), AllocError>
+    requires { All (λ r. start ≤ r.start × r.start < start + length levels.now) runs.now }
+    ensures { OnOk result (numbers.new.items ≡ map (run_level start levels.now) (map run_of runs.now)) }
+{
+    numbers.resize(runs.len(), 0)?;
+    write_numbers(numbers.as_mut_slice(), levels, start, runs);
     Ok(())
 }
 
@@ -107,11 +128,12 @@ impl LineRuns {
         ensures none { OnErr result (runs_of self.new ≡ []) }
     {
         self.ordered.clear();
-        cut_runs(&mut self.runs, &mut self.numbers, levels, start)?;
+        cut_runs(&mut self.runs, levels, start)?;
         if self.runs.len() == 1 {
             self.ordered.push(start..start + levels.len())?;
             return Ok(());
         }
+        find_numbers(&mut self.numbers, levels, start, self.runs.as_slice())?;
         order_runs(&mut self.order, self.numbers.as_slice())?;
         copy_in_order(
             &mut self.ordered,

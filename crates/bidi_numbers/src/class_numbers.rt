@@ -1,5 +1,6 @@
 //! Classes that are read from the numbers that stand for them.
-ghost use Rattle.std.specs.Prelude.{◌≡◌, if◌then◌else◌, length, map};
+ghost use Rattle.std.specs.Prelude.{◌≡◌, ◌+◌, ◌≤◌, if◌then◌else◌, length, map};
+ghost use Rattle.bidi_base.specs.Search.{IsFirst};
 ghost use Rattle.bidi_lines.specs.Stops.{is_stop};
 ghost use Rattle.bidi_numbers.specs.Numbers.{class_numbered};
 
@@ -40,6 +41,47 @@ fn mark_stops(numbers: &[u8], marks: &mut [u8])
     }
 }
 
+// How many of the sixteen numbers from `at` on come before the first such number.
+fn numbers_before_stop(numbers: &[u8], at: usize) -> usize
+    requires { at + 16 ≤ length numbers.now }
+    ensures { IsFirst is_stop (map class_numbered numbers.now) at (at + 16) (at + result) }
+{
+    let mut marks = [0; 16];
+    mark_stops(&numbers[at..at + 16], &mut marks);
+    let stops = u8x16::from_array(marks)
+        .simd_ne(u8x16::splat(0))
+        .to_bitmask();
+    if stops == 0 {
+        16
+    } else {
+        stops.trailing_zeros() as usize
+    }
+}
+
+// The index of the first such number from `from` on, or else how many numbers there are. The last block may
+// overlap the one before it: lines are short, and reading the rest one by one would cost more than the blocks.
+fn first_stop(numbers: &[u8], from: usize) -> usize
+    requires { from ≤ length numbers.now }
+    ensures { IsFirst is_stop (map class_numbered numbers.now) from (length numbers.now) result }
+{
+    let len = numbers.len();
+    let mut at = from;
+    while len - at >= 16 {
+        let before = numbers_before_stop(numbers, at);
+        at += before;
+        if before < 16 {
+            return at;
+        }
+    }
+    if len - from >= 16 {
+        return len - 16 + numbers_before_stop(numbers, len - 16);
+    }
+    while at < len && !is_stop(numbers[at]) {
+        at += 1;
+    }
+    at
+}
+
 impl<'t> ClassList for ClassNumbers<'t> {
     ghost classes = { λ list. map class_numbered list.numbers.now };
 
@@ -51,16 +93,8 @@ impl<'t> ClassList for ClassNumbers<'t> {
         class_of(self.numbers[index])
     }
 
-    fn units_before_stop(self, index: usize) -> usize {
-        let mut marks = [0; 16];
-        mark_stops(&self.numbers[index..index + 16], &mut marks);
-        let stops = u8x16::from_array(marks)
-            .simd_ne(u8x16::splat(0))
-            .to_bitmask();
-        if stops == 0 {
-            16
-        } else {
-            stops.trailing_zeros() as usize
-        }
+    // In a line of sixteen units, the block from the index on takes in all of it.
+    fn next_stop(self, index: usize) -> usize {
+        first_stop(self.numbers, index)
     }
 }
