@@ -218,6 +218,9 @@ int64_t unicode_bidi_base_direction_by_tables_utf32(
  * ends, so each costs the line. These calls ask not where the numbers come from: any that pass the tests
  * will do.
  *
+ * A line of up to 256 units and 16 visual runs needs no allocation, except in reorder_line_utf32, which
+ * allocates a list of one index for each character.
+ *
  * Faults of every line call, first of all: UNEQUAL_LENGTHS of classes and levels, BAD_LINE, BAD_CLASS and
  * BAD_LEVEL in the line, BAD_LEVEL of the paragraph. */
 
@@ -283,7 +286,7 @@ int64_t unicode_bidi_reorder_line_utf32(const uint32_t *text, size_t text_len,
                                         uint32_t *out, size_t out_len);
 
 /* The visual order of any items (L2): for each place from the left the index of the item that stands
- * there, by their levels after L1. Answers levels_len.
+ * there, by their levels after L1. Answers levels_len. Does not allocate.
  * Faults   BAD_LEVEL, NO_ROOM
  * Proved   the order (visual_order). */
 int64_t unicode_bidi_reorder_visual(const uint8_t *levels, size_t levels_len,

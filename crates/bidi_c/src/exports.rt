@@ -45,10 +45,6 @@ pub extern "C" fn unicode_bidi_line_runs(
 }
 
 #[unsafe(no_mangle)]
-pub extern "C" fn unicode_bidi_reorder_visual(
-    alloc: Global,
-    levels: &[u8],
-    order: &mut [usize],
-) -> i64 {
-    answer(visual_order(alloc, levels, order))
+pub extern "C" fn unicode_bidi_reorder_visual(levels: &[u8], order: &mut [usize]) -> i64 {
+    answer(visual_order(levels, order))
 }

@@ -1,13 +1,11 @@
 -- A line whose classes and levels are kept.
-use Rattle.bidi_base.proofs.Common.{◌≡◌, ℕ, ◌+◌, ◌-◌, List, length, map, get_or, arith, take_all, length-map, length-range_with_len, line_text, levels_of_line, visual_order, per_char}
+use Rattle.bidi_base.proofs.Common.{◌≡◌, ℕ, ◌+◌, ◌-◌, List, length, map, arith, take_all, length-map, length-range_with_len, levels_of_line, visual_order}
 use Rattle.bidi_base.specs.declared.char_data.BidiClass.{BidiClass}
-use Rattle.bidi_base.specs.declared.char_data.BidiClass.TheVariants.{L}
 use Rattle.bidi_lines.proofs.LineInText.{length-part}
 use Rattle.bidi_lines.proofs.LineLevels.{length-line_levels}
 use Rattle.bidi_calls.specs.declared.line.KeptLine.{KeptLine}
 use Rattle.bidi_calls.specs.Lines.{IsSound, own_classes, own_levels, shown_levels}
 use Rattle.bidi_numbers.specs.Numbers.{class_numbered}
-use Rattle.bidi_calls.specs.Shown.{line_classes, reordered, order_of_line, reordered_chars}
 
 pub length-own_levels : (l : KeptLine) → IsSound l → length (own_levels l) ≡ l.end - l.start
 length-own_levels l h = length-part l.levels.now l.start l.end h.within

@@ -4,5 +4,7 @@ pub mod EvenSteps
 pub mod EvenText
 pub mod FirstDirectionLemmas
 pub mod FoundText
-pub mod Utf8Fronts
 pub mod KeptLines
+pub mod KeptText
+pub mod OneUnit
+pub mod Utf8Fronts

@@ -1,4 +1,4 @@
-//! The base direction of a text of which no more is read than decides it.
+//! The base direction of a text, read only as far as it is decided.
 ghost use Rattle.std.specs.Prelude.{◌≡◌, ◌≤◌, ℕ, length, take, true, IsUtf8};
 ghost use Rattle.std.specs.Str.{chars};
 ghost use Rattle.std.specs.Str.Lossy.{utf8_valid_len};
@@ -14,7 +14,7 @@ use unicode_bidi::direction_search::{DirectionSearch, search_class, search_direc
 use unicode_bidi::text::StrText;
 use unicode_bidi::{BidiDataSource, Direction};
 
-// So many bytes are tested for UTF-8 at once, and then searched.
+// The number of bytes that are tested for UTF-8 at a time, and then searched.
 const PIECE: usize = 64;
 
 // The longest text at the front of bytes.
@@ -27,11 +27,10 @@ fn text_front(bytes: &[u8]) -> &str
     }
 }
 
-/// Returns the number of the base direction of a text of UTF-8, and reads no further than the character that
-/// decides it.
+/// Returns the number of the base direction of a text of UTF-8, and stops at the character that decides it.
 ///
-/// Without `full` it also stops at the end of the first paragraph. It rejects bytes that are not UTF-8 only before it
-/// stops. It may test up to 64 bytes behind that, and does not allocate.
+/// Without `full` it also stops at the end of the first paragraph. It returns `NotUtf8` only if bytes that are not UTF-8
+/// come before that. It tests up to 64 bytes at a time, and does not allocate (P2, P3).
 pub fn first_direction_utf8<D: BidiDataSource>(
     data_source: &D,
     text: &[u8],
@@ -64,11 +63,10 @@ pub fn first_direction_utf8<D: BidiDataSource>(
     Ok(number_of_direction(Direction::Mixed))
 }
 
-/// Returns the number of the base direction of a list of characters, and reads no further than the one that
-/// decides it.
+/// Returns the number of the base direction of a list of characters, and stops at the one that decides it.
 ///
-/// Without `full` it also stops at the end of the first paragraph. It rejects numbers that are not scalar values only
-/// before it stops. It does not allocate.
+/// Without `full` it also stops at the end of the first paragraph. It returns `NotScalar` only if a number that is no
+/// scalar value comes before that. It does not allocate (P2, P3).
 pub fn first_direction_utf32<D: BidiDataSource>(
     data_source: &D,
     text: &[u32],

@@ -215,10 +215,10 @@ pub fn map_characters<T: TextSource>(
     let mut shown = line.shown(alloc)?;
     shown.keep_first_units(text);
     let levels = shown.as_slice();
-    let count = levels.len();
-    check(count <= out.len(), Fault::NoRoom)?;
-    write_visual_order(levels, &mut out[..count]);
-    Ok(count)
+    let characters = levels.len();
+    check(characters <= out.len(), Fault::NoRoom)?;
+    write_visual_order(levels, &mut out[..characters]);
+    Ok(characters)
 }
 
 /// The order of a line's units from left to right, where each unit is a character. Returns their number.
@@ -229,11 +229,11 @@ pub fn order_units(alloc: Global, line: &KeptLine<'_>, out: &mut [usize]) -> Res
     ensures order { OnOk result (out.new ≡ written (visual_order_of (shown_levels line.now)) out.old) }
     ensures count { IfOk result (λ count. count ≡ line.now.end - line.now.start) }
 {
-    let count = line.end - line.start;
-    check(count <= out.len(), Fault::NoRoom)?;
+    let units = line.end - line.start;
+    check(units <= out.len(), Fault::NoRoom)?;
     let shown = line.shown(alloc)?;
-    write_visual_order(shown.as_slice(), &mut out[..count]);
-    Ok(count)
+    write_visual_order(shown.as_slice(), &mut out[..units]);
+    Ok(units)
 }
 
 /// The visual order of levels, of which it answers the number.

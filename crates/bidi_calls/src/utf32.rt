@@ -1,7 +1,5 @@
 //! The calls over lists of numbers of characters, one a unit.
-ghost use Rattle.std.specs.Prelude.{◌≡◌, ◌+◌, false, get_or, if◌then◌else◌, length, map, reverse, OnOk, OnErr, IfOk};
-ghost use Rattle.bidi_base.specs.Display.{run_of, visual_runs};
-ghost use Rattle.bidi_base.specs.Order.{visual_order};
+ghost use Rattle.std.specs.Prelude.{◌≡◌, ◌+◌, ◌<◌, All, false, get_or, length, map, OnOk, OnErr, IfOk};
 ghost use Rattle.std.specs.List.{list_all};
 ghost use Rattle.std.specs.Option.{option_or};
 ghost use Rattle.bidi_base.specs.Text.{one_unit};
@@ -14,14 +12,13 @@ ghost use Rattle.bidi_numbers.specs.Texts.{is_scalar};
 
 use crate::checked;
 use crate::line::{KeptLine, order_units};
-use bidi_lines::visual_runs::LineRuns;
+use bidi_lines::visual_order::reorder_visual;
 use bidi_numbers::fault::{Fault, check};
 use bidi_numbers::rows::Paragraph;
 use bidi_numbers::texts::{all_scalar, chars_of};
 use std::alloc::Global;
-use std::ops::Range;
+use unicode_bidi::BidiDataSource;
 use unicode_bidi::text::CharsText;
-use unicode_bidi::{BidiDataSource, Level};
 
 /// The classes and the levels of a text's characters, and its paragraphs, of which it answers the
 /// number.
@@ -81,30 +78,14 @@ pub fn base_direction<D: BidiDataSource>(
     Ok(checked::base_direction(data_source, CharsText::new(chars.as_slice()), full))
 }
 
-// Writes the characters of a run of a line, from left to right.
-fn write_run(out: &mut [u32], chars: &[u32], is_rtl: bool)
-    requires { length out.old ≡ length chars.now }
-    ensures { out.new ≡ (if is_rtl then reverse chars.now else chars.now) }
+// Writes the characters at these indexes.
+fn write_chars(out: &mut [u32], chars: &[u32], order: &[usize])
+    requires same_len { length out.old ≡ length order.now }
+    requires within { All (λ k. k < length chars.now) order.now }
+    ensures { out.new ≡ map (λ k. get_or chars.now k 0) order.now }
 {
-    out.copy_from_slice(chars);
-    if is_rtl {
-        out.reverse();
-    }
-}
-
-// Writes the characters of a line from left to right, run by run. `levels` are those after L1.
-fn write_runs(out: &mut [u32], chars: &[u32], levels: &[Level], runs: &[Range<usize>])
-    requires levels { length levels.now ≡ length chars.now }
-    requires room { length out.old ≡ length chars.now }
-    requires runs { map run_of runs.now ≡ visual_runs 0 levels.now }
-    ensures { out.new ≡ map (λ k. get_or chars.now k 0) (visual_order levels.now) }
-{
-    let mut at = 0;
-    for run in runs {
-        let end = at + (run.end - run.start);
-        let is_rtl = levels[run.start].is_rtl();
-        write_run(&mut out[at..end], &chars[run.start..run.end], is_rtl);
-        at = end;
+    for i in 0..order.len() {
+        out[i] = chars[order[i]];
     }
 }
 
@@ -125,14 +106,8 @@ fn reorder(
     check(all_scalar(chars), Fault::NotScalar)?;
     check(chars.len() <= out.len(), Fault::NoRoom)?;
     let shown = line.shown(alloc)?;
-    let mut runs = LineRuns::new(alloc);
-    runs.find(shown.as_slice(), 0)?;
-    write_runs(
-        &mut out[..chars.len()],
-        chars,
-        shown.as_slice(),
-        runs.as_slice(),
-    );
+    let order = reorder_visual(alloc, shown.as_slice())?;
+    write_chars(&mut out[..chars.len()], chars, order.as_slice());
     Ok(chars.len())
 }
 

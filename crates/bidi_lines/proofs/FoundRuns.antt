@@ -1,11 +1,11 @@
 -- What a program's list of runs is: runs are ranges there.
-use Rattle.bidi_base.proofs.Common.{◌≡◌, ℕ, ◌+◌, ◌<◌, ◌≤◌, ◌++◌, false, List, [], ◌∷◌, map, length, get_or, take, sym, subst, arith, rules, common_steps, Range, get_or-map, length-map, length-range_with_len, IsPermutation-refl, has_rtl, indexes, at_places, visual_order, IsVisualOrder, Run, run_of, level_runs, run_level, visual_runs, AreVisualRuns}
+use Rattle.bidi_base.proofs.Common.{◌≡◌, ℕ, ◌+◌, ◌<◌, ◌≤◌, ◌++◌, false, List, [], ◌∷◌, map, length, get_or, take, sym, subst, ◌∙◌, arith, rules, common_steps, Range, get_or-map, length-map, length-range_with_len, IsPermutation-refl, has_rtl, indexes, at_places, visual_order, IsVisualOrder, Run, run_of, level_runs, run_level, visual_runs, AreVisualRuns}
 use Rattle.std.proofs.Common.{All}
 use Rattle.bidi_lines.proofs.Ordered.{visual_order-still, none_odd}
 use Rattle.bidi_laws.proofs.VisualOrderLemmas.{visual_order-unique}
 use Rattle.bidi_laws.proofs.StoredLemmas.{at_places-append}
 use Rattle.bidi_lines.proofs.Pieces.{at_places-map}
-use Rattle.bidi_lines.proofs.RunsLemmas.{level_runs-each}
+use Rattle.bidi_lines.proofs.RunsLemmas.{Follow, level_runs-each, level_runs-follow}
 use Rattle.bidi_lines.proofs.VisualRuns.{all-runs, visual_runs-are}
 
 -- each begins within the line
@@ -35,6 +35,16 @@ visual_runs-one start levels few =
       in_order = λ p q d before fits. absurd (omega (arith, length-range_with_len 0 (length of_runs)));
     } in
     simp (← visual_order-unique of_runs (indexes of_runs) upwards, long, at_places-map (0, 0) (level_runs start levels), all-runs (level_runs start levels))
+
+-- which is the whole line
+one_is_whole : (a b : ℕ) (runs : List Run) → length runs ≡ 1 → Follow a b runs → runs ≡ (a, b) ∷ []
+one_is_whole a b [] one follows = absurd (omega (arith, one))
+one_is_whole a b ((first, last) ∷ []) one follows = grind (arith, follows.0, follows.2)
+one_is_whole a b (run ∷ next ∷ more) one follows = absurd (omega (arith, one))
+
+pub visual_runs-whole : (start : ℕ) (levels : List ℕ) → length (level_runs start levels) ≡ 1 → visual_runs start levels ≡ (start, start + length levels) ∷ []
+visual_runs-whole start levels one =
+    sym (visual_runs-one start levels (omega (arith, one))) ∙ one_is_whole start (start + length levels) (level_runs start levels) one (level_runs-follow start levels)
 
 -- and otherwise in the order of their levels
 pub visual_runs-found : (start : ℕ) (levels of_runs order : List ℕ) (runs : List Run) → runs ≡ level_runs start levels → of_runs ≡ map (run_level start levels) runs → order ≡ visual_order of_runs

@@ -1,9 +1,8 @@
 -- How many of sixteen lanes come before the first one that a test accepts.
-use Rattle.bidi_base.proofs.Common.{◌≡◌, ℕ, ◌+◌, ◌-◌, ◌<◌, ◌≤◌, refl, class_at, IsFirst, List, map, cond, eqb, length, slice_index, not, true, false, Bool, ap, ◌∙◌, arith, prefix_len, length-chunk, run_in_chunk_fails, run_in_chunk_stops}
-use Rattle.bidi_base.specs.declared.char_data.BidiClass.{BidiClass}
+use Rattle.bidi_base.proofs.Common.{◌≡◌, ℕ, ◌+◌, ◌<◌, ◌≤◌, List, map, cond, eqb, length, slice_index, not, true, false, Bool, ap, ◌∙◌, arith, prefix_len, length-chunk, run_in_chunk_fails, run_in_chunk_stops}
 use lib.Count.{count_trailing_zeros}
 use lib.Lanes.{chunk, mask_l}
-use Rattle.std.proofs.lemmas.Simd.{first_set_mask_l, get_or-chunk, run_in_chunk_le}
+use Rattle.std.proofs.lemmas.Simd.{first_set_mask_l, run_in_chunk_le}
 
 pub lanes_long : (v xs : List ℕ) (at : ℕ) → v ≡ chunk at 16 xs → at + 16 ≤ length xs → length v ≡ 16
 lanes_long v xs at e room = ap length e ∙ length-chunk at 16 xs room
@@ -19,15 +18,3 @@ counted_lanes q xs v at bits r room lanes mask e = (
   where
     counted : r ≡ prefix_len (λ x. not (q x)) (chunk at 16 xs)
     counted = simp (e, mask, ← lanes, first_set_mask_l q v 16 (lanes_long v xs at lanes room) (omega arith))
-
--- what is found among sixteen classes is found among those of the line
-pub IsFirst-chunk : (test : BidiClass → Bool) (classes block : List BidiClass) (at found : ℕ) → at + 16 ≤ length classes → block ≡ chunk at 16 classes → IsFirst test block 0 16 found → IsFirst test classes at (at + 16) (at + found)
-IsFirst-chunk test classes block at found room e f = record {
-  begins = omega arith;
-  ends = omega (arith, f.ends);
-  before = λ k from below. rw (same_class (k - at) k (omega arith) (omega (arith, f.ends))) (f.before (k - at) (omega arith) (omega arith));
-  at = λ below. rw (same_class found (at + found) refl (omega arith)) (f.at (omega arith));
-}
-  where
-    same_class : (i k : ℕ) → k ≡ at + i → i < 16 → class_at classes k ≡ class_at block i
-    same_class i k place few = simp (e, place, get_or-chunk)

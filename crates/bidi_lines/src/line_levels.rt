@@ -13,7 +13,6 @@ use crate::stored::ClassList;
 use bidi_base::char_data::BidiClass;
 use bidi_base::classes::{is_blank, is_removed, is_separator};
 use bidi_base::level::{Level, has_rtl};
-use bidi_base::search::{ClassTest, first_passing};
 use bidi_text::text::TextSource;
 use std::alloc::{AllocError, Global};
 use std::ops::Range;
@@ -29,27 +28,11 @@ fn write_level(levels: &mut [Level], from: usize, to: usize, level: Level)
     levels[from..to].fill(level);
 }
 
-/// Separators, and what X9 removes. The test has no branch, so that many units are tested at once.
-#[derive(Clone, Copy, Debug)]
-struct SeparatorOrRemoved;
-
-impl ClassTest for SeparatorOrRemoved {
-    ghost use Rattle.bidi_lines.specs.Stops.{is_stop};
-
-    ghost test = { λ _ c. is_stop c };
-
-    fn passes(self, class: BidiClass) -> bool {
-        is_separator(class) | is_removed(class)
-    }
-}
-
-// How many of the sixteen units from `at` on come before the first separator or removed one.
-fn units_before_stop<C: ClassList>(classes: C, at: usize) -> usize
-    requires { at + 16 ≤ length (C.classes classes) }
-    ensures { IsFirst is_stop (C.classes classes) at (at + 16) (at + result) }
+// Whether a class is a separator or one that X9 removes.
+fn is_stop(class: BidiClass) -> bool
+    ensures { result ≡ is_stop class }
 {
-    let block = classes.sixteen_at(at);
-    first_passing(SeparatorOrRemoved, &block, 0, 16)
+    is_separator(class) || is_removed(class)
 }
 
 // The first separator or removed unit from `from` on, or else the line's end.
@@ -60,13 +43,17 @@ fn next_stop<C: ClassList>(classes: C, from: usize) -> usize
     let len = classes.len();
     let mut at = from;
     while len - at >= 16 {
-        let before = units_before_stop(classes, at);
+        let before = classes.units_before_stop(at);
         at += before;
         if before < 16 {
             return at;
         }
     }
-    while at < len && !SeparatorOrRemoved.passes(classes.class_at(at)) {
+    if len - from >= 16 {
+        // The last sixteen overlap those before them, none of which is a stop.
+        return len - 16 + classes.units_before_stop(len - 16);
+    }
+    while at < len && !is_stop(classes.class_at(at)) {
         at += 1;
     }
     at
@@ -110,7 +97,7 @@ pub fn reset_levels<C: ClassList>(level: Level, classes: C, levels: &mut [Level]
             levels[at] = before;
             at += 1;
         } else {
-            let next = next_stop(classes, at + 1);
+            let next = next_stop(classes, at);
             let start = blanks_start(classes, at, next);
             if start > at {
                 blank_start = start;

@@ -7,11 +7,29 @@ ghost use lib.Lanes.{chunk};
 ghost use Rattle.bidi_base.specs.declared.char_data.BidiClass.{BidiClass};
 ghost use Rattle.bidi_base.specs.Levels.{has_rtl};
 ghost use Rattle.bidi_base.specs.Places.{class_at};
+ghost use Rattle.bidi_base.specs.Search.{IsFirst};
+ghost use Rattle.bidi_lines.specs.Stops.{is_stop};
 
 use bidi_base::char_data::BidiClass;
-use bidi_base::level::{Level, has_rtl};
+use bidi_base::classes::{is_removed, is_separator};
+use bidi_base::level::{Level, MAX_IMPLICIT_DEPTH, has_rtl};
+use bidi_base::search::{ClassTest, first_passing};
 
-/// A list of classes that is read one by one, or sixteen at once.
+/// Separators, and what X9 removes. The test has no branch, so that many units are tested at once.
+#[derive(Clone, Copy, Debug)]
+struct SeparatorOrRemoved;
+
+impl ClassTest for SeparatorOrRemoved {
+    ghost use Rattle.bidi_lines.specs.Stops.{is_stop};
+
+    ghost test = { λ _ c. is_stop c };
+
+    fn passes(self, class: BidiClass) -> bool {
+        is_separator(class) | is_removed(class)
+    }
+}
+
+/// A list of classes that is read one by one, or searched sixteen at once.
 pub trait ClassList: Copy {
     /// The classes.
     ghost classes: { Self → List BidiClass };
@@ -25,10 +43,11 @@ pub trait ClassList: Copy {
         requires { index < length (classes self) }
         ensures { result ≡ class_at (classes self) index };
 
-    /// The sixteen classes from an index on.
-    fn sixteen_at(self, index: usize) -> [BidiClass; 16]
+    /// How many of the sixteen classes from an index on come before the first that is a separator or that
+    /// X9 removes.
+    fn units_before_stop(self, index: usize) -> usize
         requires { index + 16 ≤ length (classes self) }
-        ensures { result ≡ chunk index 16 (classes self) };
+        ensures { IsFirst is_stop (classes self) index (index + 16) (index + result) };
 }
 
 impl<'t> ClassList for &'t [BidiClass] {
@@ -42,10 +61,8 @@ impl<'t> ClassList for &'t [BidiClass] {
         self[index]
     }
 
-    fn sixteen_at(self, index: usize) -> [BidiClass; 16] {
-        let mut block = [BidiClass::L; 16];
-        block.copy_from_slice(&self[index..index + 16]);
-        block
+    fn units_before_stop(self, index: usize) -> usize {
+        first_passing(SeparatorOrRemoved, self, index, index + 16) - index
     }
 }
 
@@ -136,7 +153,8 @@ fn level_of(number: u8) -> Level
     requires { number < 127 }
     ensures { result ≡ number }
 {
-    match Level::new(number) {
+    // With the greatest level as a bound no test is left in a loop over many numbers.
+    match Level::new(number.min(MAX_IMPLICIT_DEPTH)) {
         Ok(level) => level,
         Err(_) => unreachable!(),
     }

@@ -72,6 +72,11 @@ pub(crate) fn run_end<L: LevelList>(levels: L, from: usize) -> usize
             return at;
         }
     }
+    // Of the last 16 items, those before `at` have this level too.
+    if len - from >= 16 {
+        let last = len - 16;
+        return last + first_other(levels, last, level);
+    }
     while at < len && levels.number_at(at) == level {
         at += 1;
     }

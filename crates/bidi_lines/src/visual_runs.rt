@@ -108,6 +108,10 @@ impl LineRuns {
     {
         self.ordered.clear();
         cut_runs(&mut self.runs, &mut self.numbers, levels, start)?;
+        if self.runs.len() == 1 {
+            self.ordered.push(start..start + levels.len())?;
+            return Ok(());
+        }
         order_runs(&mut self.order, self.numbers.as_slice())?;
         copy_in_order(
             &mut self.ordered,

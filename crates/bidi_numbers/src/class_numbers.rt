@@ -1,10 +1,12 @@
 //! Classes that are read from the numbers that stand for them.
-ghost use Rattle.std.specs.Prelude.{◌≡◌, length, map};
+ghost use Rattle.std.specs.Prelude.{◌≡◌, if◌then◌else◌, length, map};
+ghost use Rattle.bidi_lines.specs.Stops.{is_stop};
 ghost use Rattle.bidi_numbers.specs.Numbers.{class_numbered};
 
 use crate::numbers::class_of;
 use bidi_base::char_data::BidiClass;
 use bidi_lines::stored::ClassList;
+use std::simd::prelude::*;
 
 /// The classes of some numbers, which are read in place. A number above 22 is read as PDI.
 #[derive(Clone, Copy, Debug)]
@@ -21,13 +23,20 @@ impl<'t> ClassNumbers<'t> {
     }
 }
 
-// Writes the classes of numbers.
-fn write_classes(numbers: &[u8], classes: &mut [BidiClass])
-    requires { length classes.old ≡ length numbers.now }
-    ensures { classes.new ≡ map class_numbered numbers.now }
+// Whether a number stands for a separator or for a class that X9 removes.
+fn is_stop(number: u8) -> bool
+    ensures { result ≡ is_stop (class_numbered number) }
 {
-    for i in 0..classes.len() {
-        classes[i] = class_of(numbers[i]);
+    (9 <= number) & (number <= 11) | (14 <= number) & (number <= 18)
+}
+
+// Writes 1 for each such number, and 0 for each other.
+fn mark_stops(numbers: &[u8], marks: &mut [u8])
+    requires { length marks.old ≡ length numbers.now }
+    ensures { marks.new ≡ map (λ n. if is_stop (class_numbered n) then 1 else 0) numbers.now }
+{
+    for i in 0..marks.len() {
+        marks[i] = u8::from(is_stop(numbers[i]));
     }
 }
 
@@ -42,9 +51,16 @@ impl<'t> ClassList for ClassNumbers<'t> {
         class_of(self.numbers[index])
     }
 
-    fn sixteen_at(self, index: usize) -> [BidiClass; 16] {
-        let mut block = [BidiClass::L; 16];
-        write_classes(&self.numbers[index..index + 16], &mut block);
-        block
+    fn units_before_stop(self, index: usize) -> usize {
+        let mut marks = [0; 16];
+        mark_stops(&self.numbers[index..index + 16], &mut marks);
+        let stops = u8x16::from_array(marks)
+            .simd_ne(u8x16::splat(0))
+            .to_bitmask();
+        if stops == 0 {
+            16
+        } else {
+            stops.trailing_zeros() as usize
+        }
     }
 }

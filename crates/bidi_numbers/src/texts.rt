@@ -12,10 +12,12 @@ pub fn utf8(bytes: &[u8]) -> Result<&str, Fault>
         (λ text. (text.now ≡ bytes.now) × IsUtf8 bytes.now)
         (λ fault. (fault ≡ Fault.NotUtf8) × ¬ (IsUtf8 bytes.now)) }
 {
-    match simdutf8::compat::from_utf8(bytes) {
-        Ok(text) => Ok(text),
-        Err(_) => Err(Fault::NotUtf8),
+    if !simdutf8::is_utf8(bytes) {
+        return Err(Fault::NotUtf8);
     }
+    // `from_utf8` of `simdutf8` reads fewer than 64 bytes one by one, and the text of a line is often
+    // that short.
+    Ok(unsafe { std::str::from_utf8_unchecked(bytes) })
 }
 
 /// Whether a character of UTF-8 goes on at an index.

@@ -6,6 +6,7 @@ pub mod LineUnits
 pub mod LineUtf8
 pub mod RunLengths
 pub mod RunText
+pub mod ShownUnits
 pub mod ShownLines
 pub mod StillLine
 pub mod StoredLine

@@ -4,7 +4,7 @@ use Rattle.bidi_lines.proofs.Pieces.{length-between}
 use Rattle.bidi_lines.proofs.Ordered.{visual_order-is}
 use Rattle.std.proofs.lemmas.List.Sorted.{length_permutation}
 
-length-written_run : (from : ℕ) (levels : List ℕ) (run : Run) → length (written_run from levels run) ≡ run.1 - run.0
+pub length-written_run : (from : ℕ) (levels : List ℕ) (run : Run) → length (written_run from levels run) ≡ run.1 - run.0
 length-written_run from levels run = grind (arith, length-reverse, length-between)
 
 length-written_runs : (from : ℕ) (levels : List ℕ) (ranges : List (Range ℕ)) → length (written_runs from levels (map run_of ranges)) ≡ sum_by (λ r. r.end - r.start) ranges
@@ -13,7 +13,7 @@ length-written_runs from levels [] = refl
 length-written_runs from levels (r ∷ rs) =
     grind (arith, length-append, length-written_run from levels (run_of r), sum_by-cons (λ (r : Range ℕ). r.end - r.start) r rs, length-written_runs from levels rs)
 
-length-visual_order : (levels : List ℕ) → length (visual_order levels) ≡ length levels
+pub length-visual_order : (levels : List ℕ) → length (visual_order levels) ≡ length levels
 length-visual_order levels = length_permutation _ _ (visual_order-is levels).all_indexes ∙ length-range_with_len 0 (length levels)
 
 -- the lengths of the runs add up to that of the line

@@ -6,14 +6,9 @@ use Rattle.bidi_base.specs.declared.char_data.Direction.TheVariants.{Mixed}
 use Rattle.bidi_base.specs.Direction.{full_base_direction}
 use Rattle.bidi_laws.proofs.DirectionWalk.{direction_from, direction_from-is}
 use Rattle.bidi_laws.proofs.IsolateWalk.{is_zero, depth_by, kind_of, initiator-kind, pdi-kind}
-use Rattle.unicode_bidi.specs.DirectionSteps.{depth_after, search_step, search_on, search_in}
+use Rattle.unicode_bidi.specs.DirectionSteps.{depth_after, search_step, search_on, search_in, direction_found}
 use Rattle.unicode_bidi.specs.declared.direction_search.DirectionSearch.{DirectionSearch}
 use Rattle.unicode_bidi.specs.declared.direction_search.DirectionSearch.TheVariants.{Found, Open}
-
--- the direction that a search has found
-abbrev pub direction_found : DirectionSearch → Direction
-direction_found (Found direction) = direction
-direction_found (Open depth) = Mixed
 
 -- the search is over
 abbrev pub is_over : DirectionSearch → Bool

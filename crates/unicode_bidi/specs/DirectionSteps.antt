@@ -3,6 +3,7 @@ use Rattle.std.specs.Prelude.{ℕ, ◌+◌, ◌-◌, Bool, ◌&&◌, ◌==◌, i
 use Rattle.bidi_base.specs.Classes.{is_strong, is_initiator, is_pdi, is_paragraph_separator}
 use Rattle.bidi_base.specs.Direction.{direction_by}
 use Rattle.bidi_base.specs.declared.char_data.BidiClass.{BidiClass}
+use Rattle.bidi_base.specs.declared.char_data.Direction.{Direction}
 use Rattle.bidi_base.specs.declared.char_data.Direction.TheVariants.{Mixed}
 use Rattle.unicode_bidi.specs.declared.direction_search.DirectionSearch.{DirectionSearch}
 use Rattle.unicode_bidi.specs.declared.direction_search.DirectionSearch.TheVariants.{Found, Open}
@@ -27,3 +28,8 @@ search_on more (Open depth) = more depth
 abbrev pub search_in : Bool → ℕ → List BidiClass → DirectionSearch
 search_in full depth [] = Open depth
 search_in full depth (c ∷ cs) = search_on (λ now. search_in full now cs) (search_step full depth c)
+
+-- the direction that a search has found, mixed while it goes on
+abbrev pub direction_found : DirectionSearch → Direction
+direction_found (Found direction) = direction
+direction_found (Open depth) = Mixed

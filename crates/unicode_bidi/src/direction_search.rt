@@ -1,8 +1,9 @@
 //! The search for a base direction (P2, P3), in a text or in its pieces one after another.
-ghost use Rattle.std.specs.Prelude.{◌≡◌, ◌+◌, ◌<◌, ◌^◌, map, Some};
-ghost use Rattle.bidi_base.specs.Direction.{direction_by};
+ghost use Rattle.std.specs.Prelude.{◌≡◌, ◌+◌, ◌<◌, ◌^◌, if◌then◌else◌, map, Some};
+ghost use Rattle.bidi_base.specs.Direction.{direction_by, base_direction, full_base_direction};
+ghost use Rattle.bidi_base.specs.Paragraphs.{paragraphs_of, each_separator};
 ghost use Rattle.bidi_base.specs.Text.{text_len};
-ghost use Rattle.unicode_bidi.specs.DirectionSteps.{depth_after, search_step, search_in};
+ghost use Rattle.unicode_bidi.specs.DirectionSteps.{depth_after, search_step, search_in, direction_found};
 
 use bidi_base::char_data::{BidiClass, Direction};
 use bidi_base::classes::{is_initiator, is_paragraph_separator, is_pdi, is_strong};
@@ -44,10 +45,11 @@ fn depth_after(depth: usize, class: BidiClass) -> usize
     }
 }
 
-/// Takes the search over one character of this class, before which `depth` isolates are open.
+/// Returns how far the search has come after one character.
 ///
-/// With `full` a paragraph separator ends the open isolates, and the search goes on in the next paragraph;
-/// otherwise it ends the search.
+/// `class` is the class of the character, and `depth` the number of isolates that are open before it. With `full` a
+/// paragraph separator closes the open isolates, and the search goes on in the next paragraph (P1). Without `full` it
+/// ends the search.
 pub fn search_class(class: BidiClass, depth: usize, full: bool) -> DirectionSearch
     requires { depth + 1 < 2 ^ 64 }
     ensures { result ≡ search_step full depth class }
@@ -65,10 +67,11 @@ pub fn search_class(class: BidiClass, depth: usize, full: bool) -> DirectionSear
     }
 }
 
-/// Takes the search over the characters of a text, before which `depth` isolates are open.
+/// Returns how far the search has come after the characters of a text.
 ///
-/// It stops at the character that decides, and does not allocate. A longer text may be searched in pieces: each
-/// call takes the number of open isolates that the call before it returned, and the first one takes 0.
+/// `depth` is the number of isolates that are open before the text: 0 at the front of a text. A longer text may be
+/// searched in pieces, each with the number that the call before it returned. The call stops at the character that
+/// decides, and does not allocate.
 pub fn search_direction<D: BidiDataSource, T: TextSource>(
     data_source: &D,
     text: T,
@@ -76,7 +79,13 @@ pub fn search_direction<D: BidiDataSource, T: TextSource>(
     full: bool,
 ) -> DirectionSearch
     requires { depth + text_len T.units (T.characters text) < 2 ^ 64 }
-    ensures { result ≡ search_in full depth (map (D.source data_source.now).class_of (T.characters text)) }
+    ensures search { result ≡ search_in full depth (map (D.source data_source.now).class_of (T.characters text)) }
+
+    // From the front of a text on, this is its base direction.
+    ensures direction { let classes = map (map (D.source data_source.now).class_of)
+        (paragraphs_of (each_separator (D.source data_source.now)) (T.characters text)) in
+        depth ≡ 0
+        → direction_found result ≡ (if full then full_base_direction classes else base_direction classes) }
 {
     let mut now = depth;
     for c in text.chars() {

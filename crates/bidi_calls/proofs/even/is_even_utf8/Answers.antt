@@ -1,6 +1,3 @@
-use Rattle.bidi_base.proofs.Common.{IsTrue, ◌↔◌, Bool, length}
-use Rattle.bidi_numbers.specs.Texts.{goes_on}
-use Rattle.bidi_calls.specs.Even.{IsEvenBetween}
 use Rattle.bidi_calls.proofs.EvenText.{even-utf8}
 use Rattle.bidi_calls.proofs.even.is_even_utf8.Goals as goal
 

@@ -1,4 +1,3 @@
-use Rattle.bidi_base.proofs.Common.{refl}
 use Rattle.bidi_calls.proofs.EvenBlocks.{surrogate_top, sixteen_plain}
 use Rattle.bidi_calls.proofs.even.sixteen_have_no_surrogate.Goals as goal
 

@@ -29,7 +29,7 @@ returns-in-Found-clause-direction g c =
     let source = g.D.BidiDataSource.source c.args.data_source.now in
     let rest = c.loop-rest.rest.now in
     let front = c.text_front-front.result.now in
-    let searched = simp c.new.ensures at (sym c.search_direction.ensures ∙ c.in-Found.is) in
+    let searched = simp c.new.ensures at (sym c.search_direction.ensures.search ∙ c.in-Found.is) in
     rw c.number_of_direction.ensures
     (piece-found source c.args.full c.loop-rest.depth rest c.min.result front c.text_front-front.ensures c.in-Found.direction searched
     ∙ sym c.loop-rest.invariant.1 ∙ sym (utf8_from-start source c.args.full c.args.text.now))
@@ -39,7 +39,7 @@ loop-rest-preserved g c =
     let source = g.D.BidiDataSource.source c.args.data_source.now in
     let rest = c.loop-rest.rest.now in
     let front = c.text_front-front.result.now in
-    let searched = simp c.new.ensures at (sym c.search_direction.ensures ∙ c.in-Open.is) in
+    let searched = simp c.new.ensures at (sym c.search_direction.ensures.search ∙ c.in-Open.is) in
     let few = search_in-le c.args.full c.loop-rest.depth (map source.class_of (chars front)) c.in-Open.now searched in
     let within = piece_within source c.args.full c.loop-rest.depth rest c.min.result front c.text_front-front.ensures in
     let shorter : c.in-Open.now + length (drop (length front) rest) ≤ length c.args.text.now =

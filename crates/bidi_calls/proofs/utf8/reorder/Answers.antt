@@ -1,11 +1,60 @@
-use Rattle.bidi_base.proofs.Common.{arith}
-use Rattle.bidi_calls.specs.Shown.{reordered}
+use Rattle.bidi_base.proofs.Common.{◌≡◌, ◌+◌, true, false, sym, refl, ap, ◌∙◌, arith, length, length-take-le, chars}
+use Rattle.std.specs.Char.{encode_utf8, len_utf8}
+use Rattle.std.proofs.lemmas.Str.{length-encode}
+use Rattle.bidi_text.proofs.StrLemmas.{has_units, text_len-chars}
+use Rattle.bidi_calls.proofs.KeptText.{kept-text, length-kept, told-uneven, told-room}
+use Rattle.bidi_calls.specs.Shown.{is_even}
 use Rattle.bidi_calls.proofs.utf8.reorder.Goals as goal
 
-pub returns-in_err-check-2-clause-fault : goal.returns-in_err-check-2-clause-fault
-unfolding reordered
-returns-in_err-check-2-clause-fault c = grind arith
+pub write_text-requires-clause-even : goal.write_text-requires-clause-even
+write_text-requires-clause-even c =
+    let even = rw (c.class_numbers.ensures, c.level_numbers.ensures) at c.is_even_utf8-even.ensures in
+    rw c.new.ensures (grind arith)
 
-pub returns : goal.returns
-unfolding reordered
-returns c = grind arith
+pub write_text-requires-clause-units : goal.write_text-requires-clause-units
+write_text-requires-clause-units c = rw c.new.ensures (ap (λ n. n + c.args.line.now.start) (text_len-chars c.args.text.now c.utf8.text) ∙ c.requires.units)
+
+pub write_text-requires-clause-room : goal.write_text-requires-clause-room
+write_text-requires-clause-room c = rw c.new.ensures (length-take-le (length c.args.text.now) c.args.out.now (grind arith) ∙ sym (text_len-chars c.args.text.now c.utf8.text))
+
+pub returns-in_err-check-clause-fault : goal.returns-in_err-check-clause-fault
+returns-in_err-check-clause-fault c =
+    let even = rw (c.class_numbers.ensures, c.level_numbers.ensures) at c.is_even_utf8-even.ensures in
+    let fails : is_even len_utf8 (chars c.args.text.now) c.args.line.now ≡ false = grind arith in
+    rw (told-uneven len_utf8 encode_utf8 (chars c.args.text.now) c.args.text.now c.args.line.now (length c.args.out.now) fails) (grind arith)
+
+pub returns-in_err-check-2-clause-fault : goal.returns-in_err-check-2-clause-fault
+returns-in_err-check-2-clause-fault c =
+    let even = rw (c.class_numbers.ensures, c.level_numbers.ensures) at c.is_even_utf8-even.ensures in
+    let holds : is_even len_utf8 (chars c.args.text.now) c.args.line.now ≡ true = grind arith in
+    let long = text_len-chars c.args.text.now c.utf8.text in
+    let units = ap (λ n. n + c.args.line.now.start) long ∙ c.requires.units in
+    rw (told-room len_utf8 encode_utf8 (chars c.args.text.now) c.args.text.now c.args.line.now (length c.args.out.now) (length c.args.text.now) holds (length-kept len_utf8 has_units (chars c.args.text.now) c.args.line.now c.requires.sound holds units encode_utf8 c.args.text.now (sym long) length-encode)) (grind arith)
+
+pub returns-in_err-write_text-clause-fault : goal.returns-in_err-write_text-clause-fault
+returns-in_err-write_text-clause-fault c = grind arith
+
+pub returns-clause-fault : goal.returns-clause-fault
+returns-clause-fault c =
+    let even = rw (c.class_numbers.ensures, c.level_numbers.ensures) at c.is_even_utf8-even.ensures in
+    let holds : is_even len_utf8 (chars c.args.text.now) c.args.line.now ≡ true = grind arith in
+    let long = text_len-chars c.args.text.now c.utf8.text in
+    let units = ap (λ n. n + c.args.line.now.start) long ∙ c.requires.units in
+    rw (told-room len_utf8 encode_utf8 (chars c.args.text.now) c.args.text.now c.args.line.now (length c.args.out.now) (length c.args.text.now) holds (length-kept len_utf8 has_units (chars c.args.text.now) c.args.line.now c.requires.sound holds units encode_utf8 c.args.text.now (sym long) length-encode)) (grind arith)
+
+pub returns-clause-text : goal.returns-clause-text
+returns-clause-text c =
+    let even = rw (c.class_numbers.ensures, c.level_numbers.ensures) at c.is_even_utf8-even.ensures in
+    let holds : is_even len_utf8 (chars c.args.text.now) c.args.line.now ≡ true = grind arith in
+    let long = text_len-chars c.args.text.now c.utf8.text in
+    let units = ap (λ n. n + c.args.line.now.start) long ∙ c.requires.units in
+    let text = (rw c.new.ensures at c.in_ok-write_text.ensures.text) ∙ kept-text len_utf8 has_units (chars c.args.text.now) c.args.line.now c.requires.sound holds units encode_utf8 c.args.text.now (sym long) in
+    rw (text, length-kept len_utf8 has_units (chars c.args.text.now) c.args.line.now c.requires.sound holds units encode_utf8 c.args.text.now (sym long) length-encode) refl
+
+pub returns-clause-count : goal.returns-clause-count
+returns-clause-count c =
+    let even = rw (c.class_numbers.ensures, c.level_numbers.ensures) at c.is_even_utf8-even.ensures in
+    let holds : is_even len_utf8 (chars c.args.text.now) c.args.line.now ≡ true = grind arith in
+    let long = text_len-chars c.args.text.now c.utf8.text in
+    let units = ap (λ n. n + c.args.line.now.start) long ∙ c.requires.units in
+    sym (length-kept len_utf8 has_units (chars c.args.text.now) c.args.line.now c.requires.sound holds units encode_utf8 c.args.text.now (sym long) length-encode)

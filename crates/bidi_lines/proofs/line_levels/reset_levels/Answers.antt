@@ -1,5 +1,9 @@
 use Rattle.bidi_base.proofs.Common.{ℕ, ◌-◌, ◌<◌, ◌≡◌, true, false, get_or, sym, ◌∙◌, arith, inl, inr, cases_lt, get_or_default, is_removed, class_at}
+use Rattle.bidi_base.proofs.Common.{ap, List}
+use Rattle.std.proofs.Common.{true≢false}
+use Rattle.bidi_base.specs.declared.char_data.BidiClass.{BidiClass}
 use Rattle.bidi_base.specs.Classes.{is_separator}
+use Rattle.bidi_base.specs.Search.{IsFirst}
 use Rattle.bidi_lines.specs.Stops.{is_stop}
 use Rattle.bidi_lines.proofs.LineLevels.{IsResetTo-start, IsResetTo-removed, IsResetTo-blanks, IsResetTo-others, IsResetTo-separator, IsResetTo-end, AreLastBlanks, ArePlain, level_before}
 use Rattle.bidi_lines.proofs.line_levels.reset_levels.Goals as goal
@@ -28,6 +32,15 @@ loop-at-preserved-then-is_removed g c =
 level_before-at : (level : ℕ) (levels : _) (i read : ℕ) → 0 < i → read ≡ get_or levels (i - 1) 0 → read ≡ level_before level levels i
 level_before-at level levels i read some e = grind arith
 
+-- a unit that is no stop is not the first stop
+stop_behind : (classes : List BidiClass) (to at u : ℕ) → at < to → is_stop (class_at classes at) ≡ false → IsFirst is_stop classes at to u → at < u
+stop_behind classes to at u fits here first = elim (cases_lt at u) [
+  | inl past ↦ past
+  | inr same ↦
+      let e : u ≡ at = omega (arith, first.begins) in
+      absurd (true≢false (sym (first.at (omega (arith, e))) ∙ ap (λ k. is_stop (class_at classes k)) e ∙ here))
+]
+
 pub loop-at-preserved : goal.loop-at-preserved
 loop-at-preserved g c =
     let inv = c.loop-at.invariant.reset in
@@ -35,16 +48,14 @@ loop-at-preserved g c =
     let b : AreLastBlanks (g.C.ClassList.classes c.args.classes) c.loop-at.at c.next_stop-next.result c.blanks_start-start.result = grind arith in
     let here : is_stop (class_at (g.C.ClassList.classes c.args.classes) c.loop-at.at) ≡ false =
     rw (← c.class_at-class.ensures) (simp (sym c.is_separator.ensures ∙ c.if-is_separator.false, sym c.is_removed.ensures ∙ c.if-is_removed.false)) in
-    let plain : ArePlain (g.C.ClassList.classes c.args.classes) c.loop-at.at c.next_stop-next.result = λ k from below. elim (cases_lt c.loop-at.at k) [
-      | inl past ↦ f.before k (omega arith) below
-      | inr same ↦ let e : k ≡ c.loop-at.at = omega arith in simp (e, here)
-    ] in
-    let read = level_before-at c.args.level c.loop-at.levels c.next_stop-next.result c.index-levels-next.result (omega (arith, f.begins))
-    (c.index-levels-next.is ∙ get_or_default c.loop-at.levels (c.next_stop-next.result - 1) c.index-levels-next.result 0 (omega (arith, f.begins, f.ends, c.requires, c.loop-at.auto.levels))) in
+    let more : c.loop-at.at < c.next_stop-next.result = stop_behind (g.C.ClassList.classes c.args.classes) _ c.loop-at.at _ (omega (arith, c.loop-at-test.true)) here f in
+    let plain : ArePlain (g.C.ClassList.classes c.args.classes) c.loop-at.at c.next_stop-next.result = λ k from below. f.before k from below in
+    let read = level_before-at c.args.level c.loop-at.levels c.next_stop-next.result c.index-levels-next.result (omega (arith, more))
+    (c.index-levels-next.is ∙ get_or_default c.loop-at.levels (c.next_stop-next.result - 1) c.index-levels-next.result 0 (omega (arith, more, f.ends, c.requires, c.loop-at.auto.levels))) in
     record {
       reset = elim c.if-start-at.branch [
-        | then-start-at w ↦ rw (w.blank_start-is, read) (IsResetTo-others _ _ _ _ _ _ _ _ _ f.ends (omega (arith, f.begins)) plain b inv w.if-start-at.true)
-        | else-start-at w ↦ rw (w.blank_start-is, read) (IsResetTo-blanks _ _ _ _ _ _ _ _ _ f.ends (omega (arith, f.begins)) plain b inv (omega (arith, w.if-start-at.false)))
+        | then-start-at w ↦ rw (w.blank_start-is, read) (IsResetTo-others _ _ _ _ _ _ _ _ _ f.ends more plain b inv w.if-start-at.true)
+        | else-start-at w ↦ rw (w.blank_start-is, read) (IsResetTo-blanks _ _ _ _ _ _ _ _ _ f.ends more plain b inv (omega (arith, w.if-start-at.false)))
       ];
       ends = f.ends;
     }

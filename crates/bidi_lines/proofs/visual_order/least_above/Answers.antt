@@ -1,4 +1,3 @@
-use Rattle.bidi_base.proofs.Common.{arith}
 use Rattle.bidi_lines.proofs.visual_order.least_above.Goals as goal
 
 pub returns-clause-above : goal.returns-clause-above

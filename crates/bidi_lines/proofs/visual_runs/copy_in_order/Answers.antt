@@ -1,4 +1,4 @@
-use Rattle.bidi_base.proofs.Common.{◌≡◌, ℕ, ◌+◌, ◌<◌, ◌++◌, List, [], ◌∷◌, length, get_or, take, map, refl, ap, ◌∙◌, length_push, arith, common_steps, map-append, append_assoc, get_or-map, length-map, Range, run_of, at_places}
+use Rattle.bidi_base.proofs.Common.{◌≡◌, ℕ, ◌+◌, ◌<◌, ◌++◌, List, [], ◌∷◌, length, get_or, take, map, refl, ap, ◌∙◌, length_push, arith, common_steps, append_assoc, Range, run_of, at_places}
 use Rattle.bidi_laws.proofs.StoredLemmas.{at_places-append}
 use Rattle.bidi_lines.proofs.visual_runs.copy_in_order.Goals as goal
 

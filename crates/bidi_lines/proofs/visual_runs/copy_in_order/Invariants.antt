@@ -1,4 +1,4 @@
-use Rattle.bidi_base.proofs.Common.{◌≡◌, ◌≤◌, ◌-◌, ◌++◌, length, take, map, run_of, at_places}
+use Rattle.bidi_base.proofs.Common.{◌≡◌, ◌-◌, ◌++◌, length, take, map, run_of, at_places}
 use Rattle.smallvec.specs.SmallVec.{HasRoomFor}
 use Rattle.bidi_lines.proofs.visual_runs.copy_in_order.Given as goal
 

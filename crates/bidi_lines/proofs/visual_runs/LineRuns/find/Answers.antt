@@ -1,6 +1,6 @@
-use Rattle.bidi_base.proofs.Common.{◌≡◌, ap, sym, subst, ◌∙◌, arith, length, length-map, map, run_of, visual_runs, AreVisualRuns}
+use Rattle.bidi_base.proofs.Common.{◌≡◌, ap, sym, ◌∙◌, arith, length, length-map, map, run_of, level_runs}
 use Rattle.std.proofs.Common.{Ok, Err, Result, OnOk}
-use Rattle.bidi_lines.proofs.FoundRuns.{visual_runs-found, AreVisualRuns-from_same}
+use Rattle.bidi_lines.proofs.FoundRuns.{visual_runs-found, visual_runs-whole, AreVisualRuns-from_same}
 use Rattle.bidi_lines.proofs.VisualRuns.{order_below}
 use Rattle.bidi_lines.proofs.visual_runs.LineRuns.find.Goals as goal
 
@@ -22,3 +22,12 @@ returns-clause-visual c = found c.copy_in_order.result (λ same. AreVisualRuns-f
 
 pub returns-clause-none : goal.returns-clause-none
 returns-clause-none c = grind arith
+
+pub returns-then-len-eq1-clause-runs : goal.returns-then-len-eq1-clause-runs
+returns-then-len-eq1-clause-runs c =
+    let one : length (level_runs c.args.start c.args.levels.now) ≡ 1 =
+    ap length (sym c.in_ok-cut_runs.ensures.runs) ∙ length-map c.cut_runs.new.runs.items run_of ∙ grind arith in
+    simp (c.in_ok-push.ensures.ok, c.clear.ensures.items, visual_runs-whole c.args.start c.args.levels.now one)
+
+pub returns-then-len-eq1-clause-visual : goal.returns-then-len-eq1-clause-visual
+returns-then-len-eq1-clause-visual c = AreVisualRuns-from_same c.args.start c.args.levels.now (map run_of c.push.new.self.items) (returns-then-len-eq1-clause-runs c)

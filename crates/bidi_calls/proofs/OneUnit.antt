@@ -1,0 +1,31 @@
+-- Lists of characters, each one unit long.
+use Rattle.bidi_base.proofs.Common.{◌≡◌, ℕ, ◌+◌, ◌-◌, List, visual_order, length, sym, ap, ◌∙◌, arith, one_unit, per_char}
+use Rattle.bidi_base.proofs.PerUnit.{per_unit-one_unit, per_char-per_unit}
+use Rattle.bidi_base.proofs.TextLemmas.{HasUnits}
+use Rattle.bidi_lines.proofs.LineInText.{length-part}
+use Rattle.bidi_calls.proofs.KeptLines.{length-shown_levels, length-visual_order}
+use Rattle.bidi_calls.specs.declared.line.KeptLine.{KeptLine}
+use Rattle.bidi_calls.specs.Lines.{IsSound, shown_levels}
+use Rattle.bidi_calls.specs.Shown.{own_units, order_of_line}
+
+has_units : HasUnits one_unit
+has_units c = omega arith
+
+-- one level a unit is one a character
+pub per_char-one_unit : (chars levels : List ℕ) → length levels ≡ length chars → per_char 0 one_unit chars levels ≡ levels
+per_char-one_unit chars levels e =
+    ap (per_char 0 one_unit chars) (sym (per_unit-one_unit chars levels e)) ∙ per_char-per_unit one_unit has_units 0 chars levels e
+
+-- the order of a line is that of its units
+pub order_of_line-one_unit : (chars : List ℕ) (l : KeptLine) → IsSound l → length chars + l.start ≡ l.end → order_of_line one_unit chars l ≡ visual_order (shown_levels l)
+unfolding order_of_line
+order_of_line-one_unit chars l sound long = ap visual_order (per_char-one_unit chars (shown_levels l) (omega (arith, length-shown_levels l sound, long)))
+
+pub length-order_of_line : (chars : List ℕ) (l : KeptLine) → IsSound l → length chars + l.start ≡ l.end → length (order_of_line one_unit chars l) ≡ l.end - l.start
+length-order_of_line chars l sound long =
+    ap length (order_of_line-one_unit chars l sound long) ∙ length-visual_order (shown_levels l)
+    ∙ (let shown : length (shown_levels l) ≡ l.end - l.start = omega (arith, length-shown_levels l sound) in shown)
+
+-- a line has as many characters as entries
+pub length-own_units : (text : List ℕ) (l : KeptLine) → IsSound l → length text ≡ length l.levels.now → length (own_units text l) + l.start ≡ l.end
+length-own_units text l sound same = omega (arith, length-part text l.start l.end (omega (arith, sound.within, same)), sound.ordered)
