@@ -12,6 +12,10 @@ mod levels;
 #[cfg(test)]
 mod pairs;
 #[cfg(test)]
+mod shown_chars;
+#[cfg(test)]
+mod shown_line;
+#[cfg(test)]
 mod source;
 #[cfg(test)]
 mod utf16;
