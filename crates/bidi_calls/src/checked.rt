@@ -1,5 +1,5 @@
 //! The calls over a whole text, with every condition tested.
-ghost use Rattle.std.specs.Prelude.{◌≡◌, ◌<◌, ◌&&◌, nat_le, length, map, slice_index, IsTrue, OnOk, OnErr, IfOk};
+ghost use Rattle.std.specs.Prelude.{◌≡◌, ◌<◌, ◌≤◌, ◌&&◌, nat_le, length, map, slice_index, IsTrue, OnOk, OnErr, IfOk, IfSome};
 ghost use Rattle.bidi_base.specs.Classes.{class_number};
 ghost use Rattle.bidi_base.specs.Text.{text_len};
 ghost use Rattle.std.specs.Result.{result_err};
@@ -13,10 +13,14 @@ use bidi_numbers::fault::{Fault, check, check_room_or_none};
 use bidi_numbers::numbers::{base_level, number_of, split_rule};
 use bidi_numbers::rows::Paragraph;
 use std::alloc::Global;
+use unicode_bidi::engine::Analyser;
 use unicode_bidi::{
-    BidiClass, BidiDataSource, Direction, Level, ParagraphInfo, TextSource, engine,
+    BidiClass, BidiDataSource, Direction, LTR_LEVEL, Level, ParagraphInfo, SplitRule, TextSource,
     get_base_direction_full_with_data_source, get_base_direction_with_data_source,
 };
+
+// Up to how many units of a text the lists of classes and levels need no allocation.
+const FEW_UNITS: usize = 256;
 
 // Writes the numbers of classes.
 fn write_classes(out: &mut [u8], classes: &[BidiClass])
@@ -87,8 +91,69 @@ fn check_room(units: usize, class_room: usize, level_room: usize) -> Result<(), 
     check(units <= class_room && units <= level_room, Fault::NoRoom)
 }
 
-/// The classes and the levels of a text's units, and its paragraphs, of which it answers the number.
-/// Where `paragraphs` has no room at all, they are only counted.
+// A text, and what a call asks of it.
+#[derive(Drop)]
+struct AskedText<'a, D: BidiDataSource, T: TextSource> {
+    data_source: &'a D,
+    text: T,
+    base: Option<Level>,
+    split: Option<SplitRule>,
+    ghost low: { IfSome base (λ level. level ≤ 125) },
+}
+
+// Analyses a text into lists of ours, and then writes what was found to the caller's buffers. So a fault
+// that comes late leaves those as they are.
+fn write_analysis<D: BidiDataSource, T: TextSource>(
+    alloc: Global,
+    asked: &AskedText<D, T>,
+    own_classes: &mut [BidiClass],
+    own_levels: &mut [Level],
+    classes: &mut [u8],
+    levels: &mut [u8],
+    paragraphs: &mut [Paragraph],
+) -> Result<usize, Fault>
+    requires own_classes { length own_classes.old ≡ text_len T.units (T.characters asked.now.text) }
+    requires own_levels { length own_levels.old ≡ text_len T.units (T.characters asked.now.text) }
+    requires class_room { text_len T.units (T.characters asked.now.text) ≤ length classes.old }
+    requires level_room { text_len T.units (T.characters asked.now.text) ≤ length levels.old }
+    ensures fault { let rows = paragraphs_in (D.source asked.now.data_source.now) asked.now.base asked.now.split T.units
+        (T.characters asked.now.text) in
+        FaultsAs result (fault_unless (has_room_or_none (length rows) (length paragraphs.old)) Fault.NoRoom) }
+    ensures kept { OnErr result ((classes.new ≡ classes.old) × (levels.new ≡ levels.old) × (paragraphs.new ≡ paragraphs.old)) }
+    ensures classes { OnOk result (classes.new
+        ≡ written (class_numbers (D.source asked.now.data_source.now) asked.now.split T.units
+        (T.characters asked.now.text)) classes.old) }
+    ensures levels { OnOk result (levels.new
+        ≡ written (level_numbers (D.source asked.now.data_source.now) asked.now.base asked.now.split T.units
+        (T.characters asked.now.text)) levels.old) }
+    ensures paragraphs { let rows = paragraphs_in (D.source asked.now.data_source.now) asked.now.base asked.now.split
+        T.units (T.characters asked.now.text) in
+        OnOk result (paragraphs.new ≡ written_if_room rows paragraphs.old) }
+    ensures count { let rows = paragraphs_in (D.source asked.now.data_source.now) asked.now.base asked.now.split T.units
+        (T.characters asked.now.text) in
+        IfOk result (λ count. count ≡ length rows) }
+{
+    let len = own_classes.len();
+    let mut analyser = Analyser::new(alloc);
+    analyser.analyse(
+        alloc,
+        asked.data_source,
+        asked.text,
+        asked.base,
+        asked.split,
+        own_classes,
+        own_levels,
+    )?;
+    let found = analyser.paragraphs();
+    check_room_or_none(found.len(), paragraphs.len())?;
+    write_classes(&mut classes[..len], own_classes);
+    write_levels(&mut levels[..len], own_levels);
+    put_paragraphs(paragraphs, found);
+    Ok(found.len())
+}
+
+/// Writes the classes and the levels of a text's units, and its paragraphs, and returns the number of the
+/// paragraphs. Where `paragraphs` has no room at all, they are only counted.
 pub fn analyse<D: BidiDataSource, T: TextSource>(
     alloc: Global,
     data_source: &D,
@@ -123,13 +188,37 @@ pub fn analyse<D: BidiDataSource, T: TextSource>(
     let split = split_rule(split)?;
     let len = text.len();
     check_room(len, classes.len(), levels.len())?;
-    let found = engine::analyse_with_rule(alloc, data_source, text, base, split)?;
-    let count = found.paragraphs().len();
-    check_room_or_none(count, paragraphs.len())?;
-    write_classes(&mut classes[..len], found.original_classes());
-    write_levels(&mut levels[..len], found.levels());
-    put_paragraphs(paragraphs, found.paragraphs());
-    Ok(count)
+    let asked = AskedText {
+        data_source,
+        text,
+        base,
+        split,
+    };
+    if len <= FEW_UNITS {
+        let mut few_classes = [BidiClass::L; FEW_UNITS];
+        let mut few_levels = [LTR_LEVEL; FEW_UNITS];
+        write_analysis(
+            alloc,
+            &asked,
+            &mut few_classes[..len],
+            &mut few_levels[..len],
+            classes,
+            levels,
+            paragraphs,
+        )
+    } else {
+        let mut many_classes = vec![in alloc; BidiClass::L; len]?;
+        let mut many_levels = vec![in alloc; LTR_LEVEL; len]?;
+        write_analysis(
+            alloc,
+            &asked,
+            many_classes.as_mut_slice(),
+            many_levels.as_mut_slice(),
+            classes,
+            levels,
+            paragraphs,
+        )
+    }
 }
 
 // The number of a direction.

@@ -22,7 +22,11 @@ use bidi_rules::implicit::{NeutralResolver, resolve_levels, resolve_weak, resolv
 use bidi_rules::prepare::{IsolatingRunSequenceVec, LentSequence, LevelRunVec, join_level_runs};
 use bidi_text::text::TextSource;
 use bidi_walk::paragraph_flags::ParagraphFlags;
+use smallvec::SmallVec;
 use std::alloc::{AllocError, Global};
+
+/// Up to how many units of a paragraph the classes need no allocation.
+pub const FEW_UNITS: usize = 256;
 
 /// A paragraph whose stored classes are known, and whose levels are sought.
 #[derive(Drop)]
@@ -49,7 +53,7 @@ pub struct ClassifiedParagraph<'a, D: BidiDataSource, T: TextSource> {
 #[derive(Drop)]
 pub struct LevelResolver {
     /// The class of each unit, as far as the passes have resolved it.
-    classes: Vec<BidiClass>,
+    classes: SmallVec<BidiClass, FEW_UNITS>,
     /// The level runs.
     runs: LevelRunVec,
     /// The isolating run sequences. The runs of each that has three or more take memory anew.
@@ -61,7 +65,7 @@ impl LevelResolver {
     /// A resolver that holds no memory yet.
     pub fn new(alloc: Global) -> LevelResolver {
         LevelResolver {
-            classes: Vec::new(alloc),
+            classes: SmallVec::new(alloc),
             runs: Vec::new(alloc),
             sequences: Vec::new(alloc),
             neutrals: NeutralResolver::new(alloc),

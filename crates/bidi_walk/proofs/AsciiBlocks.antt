@@ -1,5 +1,5 @@
 -- A block of ASCII characters whose classes are looked up and written one after another.
-use Rattle.bidi_base.proofs.Common.{◌≡◌, ◌∙◌, ℕ, ◌+◌, ◌<◌, true, List, length, take, get_or, set, inl, inr, arith, cases_eq, class_at}
+use Rattle.bidi_base.proofs.Common.{◌≡◌, ◌∙◌, ℕ, ◌+◌, ◌<◌, true, List, length, take, get_or, set, inl, inr, arith, cases_eq, class_at, Source}
 use Rattle.std.proofs.lemmas.List.{take-set-le, get_or-set_other, get_or-set_same}
 use Rattle.bidi_base.specs.declared.char_data.BidiClass.{BidiClass}
 use Rattle.bidi_base.specs.declared.char_data.BidiClass.TheVariants.{L}
@@ -14,17 +14,17 @@ has_more : (set : ClassSet) (c d : BidiClass) → has set d ≡ true → has (wi
 has_more set c d there = grind (arith, has-with)
 
 -- the first i of the bytes of a block are written from `start` on, and the set has their classes
-pub record IsWritten (known : List BidiClass) (block : List ℕ) (start : ℕ) (old : List BidiClass) (i : ℕ) (new : List BidiClass) (found : ClassSet) : Type 0 where
+pub record IsWritten (source : Source) (block : List ℕ) (start : ℕ) (old : List BidiClass) (i : ℕ) (new : List BidiClass) (found : ClassSet) : Type 0 where
   pub kept : take start new ≡ take start old
-  pub written : (k : ℕ) → k < i → class_at new (start + k) ≡ class_at known (get_or block k 0)
-  pub has_each : (k : ℕ) → k < i → has found (class_at known (get_or block k 0)) ≡ true
+  pub written : (k : ℕ) → k < i → class_at new (start + k) ≡ source.class_of (get_or block k 0)
+  pub has_each : (k : ℕ) → k < i → has found (source.class_of (get_or block k 0)) ≡ true
 
-module _ (known : List BidiClass) (block : List ℕ) (start : ℕ) (old : List BidiClass) where
-  pub IsWritten-none : (found : ClassSet) → IsWritten known block start old 0 old found
+module _ (source : Source) (block : List ℕ) (start : ℕ) (old : List BidiClass) where
+  pub IsWritten-none : (found : ClassSet) → IsWritten source block start old 0 old found
   IsWritten-none found = record { kept = grind arith; written = λ k none. absurd (omega (arith, none)); has_each = λ k none. absurd (omega (arith, none)) }
 
-  module _ (i : ℕ) (new : List BidiClass) (found : ClassSet) (h : IsWritten known block start old i new found) (within : start + i < length new) (class : BidiClass) (is : class ≡ class_at known (get_or block i 0)) where
-    pub IsWritten-more : IsWritten known block start old (i + 1) (set new (start + i) class) (with found class)
+  module _ (i : ℕ) (new : List BidiClass) (found : ClassSet) (h : IsWritten source block start old i new found) (within : start + i < length new) (class : BidiClass) (is : class ≡ source.class_of (get_or block i 0)) where
+    pub IsWritten-more : IsWritten source block start old (i + 1) (set new (start + i) class) (with found class)
     IsWritten-more = record {
       kept = take-set-le start new (start + i) class (omega arith) ∙ h.kept;
       written = λ k below. elim (cases_eq k i) [

@@ -2,7 +2,6 @@ pub mod AsciiBlocks
 pub mod ClassSets
 pub mod FlagsLemmas
 pub mod IdleClasses
-pub mod KnownClasses
 pub mod LowBlocks
 pub mod PutUnits
 pub mod Skimmed

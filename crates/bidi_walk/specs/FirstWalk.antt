@@ -81,10 +81,6 @@ pub record IsClosed (base : Option ℕ) (r : Reading) (end : ℕ) (old : List Pa
   pub levels : levels_of new ≡ levels_of old ++ unwrap_or base (level_by r.deciding) ∷ []
   pub flags : new_flags ≡ old_flags ++ r.flags ∷ []
 
--- what is known of the classes of the first characters is what the source says; where FSI stands, nothing is known
-abbrev pub AreKnown : Source → List BidiClass → Type 0
-AreKnown source known = (k : ℕ) → k < length known → is_fsi (class_at known k) ≡ false → class_at known k ≡ source.class_of k
-
 -- the characters from a boundary on
 abbrev pub ahead : (ℕ → ℕ) → List ℕ → ℕ → List ℕ
 ahead len_of chars u = drop (char_index len_of chars u) chars

@@ -1,6 +1,6 @@
 //! One walk over a text: the class of each character, with each FSI resolved (X5c), and the
 //! paragraphs (P1) with their levels (P2, P3).
-ghost use Rattle.std.specs.Prelude.{◌≡◌, ℕ, ◌+◌, ◌<◌, ◌≤◌, ◌&&◌, if◌then◌else◌, true, false, ◌++◌, length, get_or, take, drop, replicate, OnOk, IfOk, MatchOption, IsTrue, All, Some, None};
+ghost use Rattle.std.specs.Prelude.{◌≡◌, ℕ, ◌+◌, ◌<◌, ◌≤◌, ◌&&◌, if◌then◌else◌, true, false, [], ◌++◌, length, get_or, take, drop, replicate, OnOk, IfOk, MatchOption, IsTrue, All, Some, None};
 ghost use Rattle.std.specs.Option.{is_some};
 ghost use Rattle.bidi_base.specs.declared.char_data.BidiClass.{BidiClass};
 ghost use Rattle.bidi_base.specs.declared.char_data.BidiClass.TheVariants.{FSI};
@@ -12,7 +12,7 @@ ghost use Rattle.bidi_base.specs.Paragraphs.{begins_with_line_feed, ranges_from}
 ghost use Rattle.bidi_base.specs.Stored.{text_classes, paragraph_levels};
 ghost use Rattle.bidi_base.specs.Text.{place as place_of, text_len, per_unit, is_boundary as is_boundary_of};
 ghost use Rattle.bidi_walk.specs.ClassSet.{has, with};
-ghost use Rattle.bidi_walk.specs.FirstWalk.{waiting, deciding_after, classes_after, wants_strong, minds, ahead, IsFresh, IsReadBy, IsClosed, IsSkimmed, IsMet, AreKnown};
+ghost use Rattle.bidi_walk.specs.FirstWalk.{waiting, deciding_after, classes_after, wants_strong, minds, ahead, IsFresh, IsReadBy, IsClosed, IsSkimmed, IsMet};
 ghost use Rattle.bidi_walk.specs.declared.first_walk.Reading.{Reading};
 ghost use Rattle.bidi_walk.specs.ParagraphInfo.{ranges_of, levels_of};
 ghost use Rattle.bidi_walk.specs.ParagraphFlags.{paragraph_flags};
@@ -27,6 +27,7 @@ use bidi_base::classes::{is_initiator, is_paragraph_separator, is_pdi, is_strong
 use bidi_base::data_source::BidiDataSource;
 use bidi_base::level::{LTR_LEVEL, Level, RTL_LEVEL};
 use bidi_text::text::TextSource;
+use smallvec::SmallVec;
 use std::alloc::{AllocError, Global};
 use std::ops::Range;
 
@@ -208,15 +209,23 @@ impl Reading {
     }
 }
 
-/// What one walk over a text finds out.
-#[derive(Drop)]
-pub struct Found {
-    /// The stored class of each unit.
-    pub original_classes: Vec<BidiClass>,
+/// The paragraphs that the walk over a text finds. One paragraph allocates nothing.
+#[derive(PartialEq, Debug, Drop)]
+pub struct FoundParagraphs {
     /// The paragraphs, in order.
-    pub paragraphs: Vec<ParagraphInfo>,
+    pub paragraphs: SmallVec<ParagraphInfo, 1>,
     /// One entry a paragraph.
-    pub flags: Vec<ParagraphFlags>,
+    pub flags: SmallVec<ParagraphFlags, 1>,
+}
+
+impl FoundParagraphs {
+    /// No paragraphs.
+    pub fn new(alloc: Global) -> FoundParagraphs {
+        FoundParagraphs {
+            paragraphs: SmallVec::new(alloc),
+            flags: SmallVec::new(alloc),
+        }
+    }
 }
 
 // One paragraph after another, as they are read.
@@ -224,11 +233,30 @@ pub struct Found {
 struct TextReading {
     base: Option<Level>,
     reading: Reading,
-    paragraphs: Vec<ParagraphInfo>,
-    flags: Vec<ParagraphFlags>,
+    paragraphs: SmallVec<ParagraphInfo, 1>,
+    flags: SmallVec<ParagraphFlags, 1>,
 }
 
 impl TextReading {
+    // Nothing is read of a text. The paragraphs will be kept in the memory of others.
+    fn new(alloc: Global, base: Option<Level>, memory: FoundParagraphs) -> TextReading
+        ensures base { result.base ≡ base }
+        ensures reading { IsFresh result.reading 0 }
+        ensures paragraphs { result.paragraphs.items ≡ [] }
+        ensures flags { result.flags.items ≡ [] }
+    {
+        let mut paragraphs = memory.paragraphs;
+        paragraphs.clear();
+        let mut flags = memory.flags;
+        flags.clear();
+        TextReading {
+            base,
+            reading: Reading::new(alloc),
+            paragraphs,
+            flags,
+        }
+    }
+
     // Ends the paragraph that was read at a unit.
     fn close(&mut self, end: usize) -> Result<(), AllocError>
         requires { self.old.reading.start ≤ end }
@@ -330,73 +358,37 @@ struct Met {
     class: BidiClass,
 }
 
-// The classes of the characters below 0x100 that the data source was asked for, and FSI for each other.
-// Something depends on an FSI wherever it comes, so one look finds both what was not asked and what has
-// to be read.
-type KnownClasses = [BidiClass; 256];
-
-// A closer look at a character below 0x100 at which skimming stops: its class, and whether something may
-// depend on it. Where its class was known, skimming stopped since something does.
-fn look_closer<D: BidiDataSource>(
-    data_source: &D,
-    known: &mut KnownClasses,
-    byte: u8,
-    minded: ClassSet,
-) -> (BidiClass, bool)
-    requires { AreKnown (D.source data_source.now) known.old }
-    ensures class { result.0 ≡ (D.source data_source.now).class_of byte }
-    ensures idle { result.1 ≡ false → has minded result.0 ≡ false }
-    ensures known { AreKnown (D.source data_source.now) known.new }
-{
-    let at = usize::from(byte);
-    if known[at] != BidiClass::FSI {
-        return (known[at], true);
-    }
-    let class = data_source.bidi_class(char::from(byte));
-    known[at] = class;
-    (class, minded.has(class))
-}
-
 // Writes the classes of ASCII characters, each one unit long, that come one after another from a place
 // on and before a limit, up to one on which something depends, and answers it. Where none comes, the place
 // goes on to the first other character, or to the limit.
 #[inline(never)]
 fn skim_each<D: BidiDataSource, T: TextSource>(
     data_source: &D,
-    known: &mut KnownClasses,
     text: T,
     classes: &mut [BidiClass],
     at: &mut usize,
     limit: usize,
     minded: ClassSet,
 ) -> Option<Met>
-    requires known { AreKnown (D.source data_source.now) known.old }
     requires sized { length classes.old ≡ text_len T.units (T.characters text) }
     requires begins { IsTrue (is_boundary_of T.units (T.characters text) at.old) }
-    ensures met { MatchOption result
+    ensures { MatchOption result
         (IsSkimmed (D.source data_source.now) T.units minded (ahead T.units (T.characters text) at.old) at.old at.new
         classes.old classes.new)
         (λ met. IsMet (D.source data_source.now) T.units minded (ahead T.units (T.characters text) at.old) at.old met
         classes.old classes.new) }
-    ensures known { AreKnown (D.source data_source.now) known.new }
 {
-    let stops = minded.with(BidiClass::FSI);
     let mut start = *at;
     while start < limit {
         let Some(byte) = text.ascii_at(start) else {
             break;
         };
-        let mut class = known[usize::from(byte)];
-        if stops.has(class) {
-            let (asked, is_minded) = look_closer(data_source, known, byte, minded);
-            class = asked;
-            if is_minded {
-                classes[start] = class;
-                let c = char::from(byte);
-                return Some(Met { start, c, class });
-            }
-        }
+        let c = char::from(byte);
+        let class = data_source.bidi_class(c);
         classes[start] = class;
+        if minded.has(class) {
+            return Some(Met { start, c, class });
+        }
         start += 1;
     }
     *at = start;
@@ -410,10 +402,10 @@ const ASCII_BLOCK: usize = 16;
 // shorter, and where it ends a block would be read in vain.
 const ONE_BY_ONE: usize = 64;
 
-// Writes the classes of sixteen ASCII characters from a place on, and answers whether all are known and
-// nothing depends on them. Else what stands from the place on does not count.
-fn write_block(
-    known: &KnownClasses,
+// Writes the classes of sixteen ASCII characters from a place on, and returns whether nothing depends on
+// them. Else what stands from the place on does not count.
+fn write_block<D: BidiDataSource>(
+    data_source: &D,
     block: [u8; 16],
     classes: &mut [BidiClass],
     start: usize,
@@ -422,34 +414,32 @@ fn write_block(
     requires { start + 16 ≤ length classes.old }
     ensures kept { take start classes.new ≡ take start classes.old }
     ensures written { result ≡ true → (k : ℕ) → k < 16
-        → class_at classes.new (start + k) ≡ class_at known.now (get_or block k 0) }
+        → class_at classes.new (start + k) ≡ (D.source data_source.now).class_of (get_or block k 0) }
     ensures idle { result ≡ true → (k : ℕ) → k < 16
-        → has (with minded FSI) (class_at known.now (get_or block k 0)) ≡ false }
+        → has minded ((D.source data_source.now).class_of (get_or block k 0)) ≡ false }
 {
     let mut found = ClassSet::NONE;
     for i in 0..ASCII_BLOCK {
-        let class = known[usize::from(block[i])];
+        let class = data_source.bidi_class(char::from(block[i]));
         classes[start + i] = class;
         found = found.with(class);
     }
-    found.is_apart(minded.with(BidiClass::FSI))
+    found.is_apart(minded)
 }
 
 // Writes the classes of ASCII characters that come one after another from a place on by sixteens, as long
-// as all are known and nothing depends on them. The place goes on. The contract alone asks for the source.
+// as nothing depends on them. The place goes on.
 #[inline(never)]
 fn skim_blocks<D: BidiDataSource, T: TextSource>(
-    _data_source: &D,
-    known: &KnownClasses,
+    data_source: &D,
     text: T,
     classes: &mut [BidiClass],
     at: &mut usize,
     minded: ClassSet,
 )
-    requires known { AreKnown (D.source _data_source.now) known.now }
     requires sized { length classes.old ≡ text_len T.units (T.characters text) }
     requires begins { IsTrue (is_boundary_of T.units (T.characters text) at.old) }
-    ensures read { IsSkimmed (D.source _data_source.now) T.units minded (ahead T.units (T.characters text) at.old)
+    ensures read { IsSkimmed (D.source data_source.now) T.units minded (ahead T.units (T.characters text) at.old)
         at.old at.new classes.old classes.new }
     ensures order { at.old ≤ at.new }
 {
@@ -459,7 +449,7 @@ fn skim_blocks<D: BidiDataSource, T: TextSource>(
         // Read before this one is written: some processors let a read wait for a write before it whose
         // address ends in the same twelve bits.
         next = text.ascii_block_at(start + ASCII_BLOCK);
-        if !write_block(known, block, classes, start, minded) {
+        if !write_block(data_source, block, classes, start, minded) {
             break;
         }
         start += ASCII_BLOCK;
@@ -473,31 +463,28 @@ fn skim_blocks<D: BidiDataSource, T: TextSource>(
 // one by one.
 fn skim<D: BidiDataSource, T: TextSource>(
     data_source: &D,
-    known: &mut KnownClasses,
     text: T,
     classes: &mut [BidiClass],
     at: &mut usize,
     minded: ClassSet,
 ) -> Option<Met>
-    requires known { AreKnown (D.source data_source.now) known.old }
     requires sized { length classes.old ≡ text_len T.units (T.characters text) }
     requires begins { IsTrue (is_boundary_of T.units (T.characters text) at.old) }
-    ensures met { MatchOption result
+    ensures { MatchOption result
         (IsSkimmed (D.source data_source.now) T.units minded (ahead T.units (T.characters text) at.old) at.old at.new
         classes.old classes.new)
         (λ met. IsMet (D.source data_source.now) T.units minded (ahead T.units (T.characters text) at.old) at.old met
         classes.old classes.new) }
-    ensures known { AreKnown (D.source data_source.now) known.new }
 {
     while *at < classes.len() {
         let limit = *at + (classes.len() - *at).min(ONE_BY_ONE);
-        if let Some(met) = skim_each(data_source, known, text, classes, at, limit, minded) {
+        if let Some(met) = skim_each(data_source, text, classes, at, limit, minded) {
             return Some(met);
         }
         if *at < limit {
             return None;
         }
-        skim_blocks(data_source, known, text, classes, at, minded);
+        skim_blocks(data_source, text, classes, at, minded);
     }
     None
 }
@@ -731,7 +718,6 @@ fn read_on<D: BidiDataSource, T: TextSource>(
 // answers it.
 fn next_minded<D: BidiDataSource, T: TextSource>(
     data_source: &D,
-    known: &mut KnownClasses,
     text: T,
     classes: &mut [BidiClass],
     from: usize,
@@ -739,17 +725,15 @@ fn next_minded<D: BidiDataSource, T: TextSource>(
 ) -> Option<Met>
     requires sized { length classes.old ≡ text_len T.units (T.characters text) }
     requires begins { IsTrue (is_boundary_of T.units (T.characters text) from) }
-    requires known { AreKnown (D.source data_source.now) known.old }
-    ensures met { MatchOption result
+    ensures { MatchOption result
         (IsSkimmed (D.source data_source.now) T.units minded (ahead T.units (T.characters text) from) from
         (text_len T.units (T.characters text)) classes.old classes.new)
         (λ met. IsMet (D.source data_source.now) T.units minded (ahead T.units (T.characters text) from) from met
         classes.old classes.new) }
-    ensures known { AreKnown (D.source data_source.now) known.new }
 {
     let mut at = from;
     while at < classes.len() {
-        if let Some(met) = skim(data_source, known, text, classes, &mut at, minded) {
+        if let Some(met) = skim(data_source, text, classes, &mut at, minded) {
             return Some(met);
         }
         if let Some(met) = read_on(data_source, text, classes, &mut at, minded) {
@@ -798,19 +782,25 @@ fn ends_paragraph<D: BidiDataSource, T: TextSource>(
     }
 }
 
-/// The stored classes (X5c) of a text, one a code unit, and its paragraphs (P1) with the levels that
-/// `base` or their characters (P2, P3) give them. Without a rule the whole text is one paragraph, even
-/// an empty one. Any base level will do. One walk; memory is taken for the answer and for the FSI that
-/// are open at once and that nothing decided.
+/// Writes the stored classes (X5c) of a text, one a code unit, and returns its paragraphs (P1) with the
+/// levels that `base` or their characters (P2, P3) give them.
+///
+/// Without a rule the whole text is one paragraph, even an empty one. Any base level will do. The
+/// paragraphs are kept in the memory of `memory`. It allocates for more than one paragraph, and for the
+/// FSI that are open at once and that nothing decided. If an allocation fails, `classes` may hold
+/// anything.
 pub fn walk<D: BidiDataSource, T: TextSource>(
     alloc: Global,
     data_source: &D,
     text: T,
     base: Option<Level>,
     split: Option<SplitRule>,
-) -> Result<Found, AllocError>
+    classes: &mut [BidiClass],
+    memory: FoundParagraphs,
+) -> Result<FoundParagraphs, AllocError>
+    requires { length classes.old ≡ text_len T.units (T.characters text) }
     ensures classes { let pieces = pieces_by split (D.source data_source.now) (T.characters text) in
-        IfOk result (λ i. i.original_classes.items
+        OnOk result (classes.new
         ≡ per_unit T.units (T.characters text) (text_classes (D.source data_source.now) pieces)) }
     ensures ranges { let pieces = pieces_by split (D.source data_source.now) (T.characters text) in
         IfOk result (λ i. ranges_of i.paragraphs.items ≡ ranges_from T.units 0 pieces) }
@@ -819,18 +809,10 @@ pub fn walk<D: BidiDataSource, T: TextSource>(
     ensures flags { let pieces = pieces_by split (D.source data_source.now) (T.characters text) in
         IfOk result (λ i. i.flags.items ≡ paragraph_flags (D.source data_source.now) pieces) }
 {
-    let mut original_classes = vec![in alloc; BidiClass::L; text.len()]?;
-    let classes = original_classes.as_mut_slice();
-    let mut walk = TextReading {
-        base,
-        reading: Reading::new(alloc),
-        paragraphs: Vec::new(alloc),
-        flags: Vec::new(alloc),
-    };
+    let mut walk = TextReading::new(alloc, base, memory);
     let mut minded = walk.reading.minded();
-    let mut known = [BidiClass::FSI; 256];
     let mut at = 0;
-    while let Some(met) = next_minded(data_source, &mut known, text, classes, at, minded) {
+    while let Some(met) = next_minded(data_source, text, classes, at, minded) {
         at = met.start + T::char_len(met.c);
         let ends = ends_paragraph(data_source, text, split, met.c, met.class, at);
         minded = walk.meet(classes, met.class, met.start..at, ends)?;
@@ -839,8 +821,7 @@ pub fn walk<D: BidiDataSource, T: TextSource>(
     if split.is_none() || walk.reading.start < end {
         walk.close(end)?;
     }
-    Ok(Found {
-        original_classes,
+    Ok(FoundParagraphs {
         paragraphs: walk.paragraphs,
         flags: walk.flags,
     })

@@ -9,12 +9,21 @@ ghost use Rattle.bidi_walk.specs.ParagraphFlags.{with_class};
 use crate::class_set::ClassSet;
 use bidi_base::char_data::BidiClass;
 use bidi_base::level::Level;
+use std::alloc::Global;
+use std::default::MadeWith;
 
 /// Which classes stand in a paragraph, as the data source gives them, of those that the later steps
 /// tell apart.
 #[derive(Clone, Copy, PartialEq, Debug)]
 pub struct ParagraphFlags {
     pub(crate) met: ClassSet,
+}
+
+// What stands in the places of a `SmallVec` that are free.
+impl MadeWith<Global> for ParagraphFlags {
+    fn made_with(_alloc: Global) -> ParagraphFlags {
+        ParagraphFlags::NONE
+    }
 }
 
 impl ParagraphFlags {

@@ -1,9 +1,10 @@
 //! A paragraph of a text.
 ghost use Rattle.std.specs.Prelude.{◌≡◌, ◌-◌, ◌≤◌, ◌↔◌, IsSome, IfSome};
 
-use bidi_base::level::Level;
-use std::alloc::AllocError;
+use bidi_base::level::{LTR_LEVEL, Level};
+use std::alloc::{AllocError, Global};
 use std::clone::Clone;
+use std::default::MadeWith;
 use std::ops::Range;
 
 /// Where a paragraph stands in a text, and its level.
@@ -58,6 +59,13 @@ impl ParagraphInfo {
         ensures { result ≡ (range_of self.now).end - (range_of self.now).start }
     {
         self.range.end - self.range.start
+    }
+}
+
+// What stands in the places of a `SmallVec` that are free.
+impl MadeWith<Global> for ParagraphInfo {
+    fn made_with(_alloc: Global) -> ParagraphInfo {
+        ParagraphInfo::from_range(0..0, LTR_LEVEL)
     }
 }
 

@@ -7,6 +7,7 @@ use Rattle.bidi_base.specs.Source.{Source}
 use Rattle.bidi_base.specs.Stored.{levels_in}
 use Rattle.bidi_base.specs.Text.{subrange, per_unit, IsLine}
 use Rattle.bidi_walk.specs.ParagraphFlags.{flags_of}
+use Rattle.unicode_bidi.specs.declared.engine.Analyser.{Analyser}
 use Rattle.unicode_bidi.specs.declared.engine.Analysis.{Analysis}
 use Rattle.bidi_walk.specs.declared.paragraph_flags.ParagraphFlags.{ParagraphFlags}
 use Rattle.bidi_walk.specs.declared.paragraph_info.ParagraphInfo.{ParagraphInfo}
@@ -25,9 +26,17 @@ paragraphs a = a.paragraphs.items
 abbrev pub flags : Analysis → List ParagraphFlags
 flags a = a.flags.items
 
--- a text of these characters, with what was found
+-- `a.paragraphs()` of an analyser
+abbrev pub found_paragraphs : Analyser → List ParagraphInfo
+found_paragraphs a = a.found.paragraphs.items
+
+-- a text of these characters, with a class and a level for each of its units
+abbrev pub with_lists : (ℕ → ℕ) → List ℕ → List BidiClass → List ℕ → AnalysedText
+with_lists len_of chars classes levels = record { len_of = len_of; chars = chars; classes = classes; levels = levels }
+
+-- the same, with what was found
 abbrev pub with_analysis : (ℕ → ℕ) → List ℕ → Analysis → AnalysedText
-with_analysis len_of chars a = record { len_of = len_of; chars = chars; classes = original_classes a; levels = levels a }
+with_analysis len_of chars a = with_lists len_of chars (original_classes a) (levels a)
 
 -- the characters of a paragraph
 abbrev pub chars_of : (ℕ → ℕ) → List ℕ → ParagraphInfo → List ℕ

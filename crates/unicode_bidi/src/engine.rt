@@ -7,7 +7,7 @@ ghost use Rattle.bidi_base.specs.Line.{levels_with_line as levels_with_line_of};
 ghost use Rattle.bidi_base.specs.declared.char_data.BidiClass.TheVariants.{L};
 ghost use Rattle.bidi_base.specs.Paragraphs.{AreParagraphRanges};
 ghost use Rattle.bidi_base.specs.Text.{text_len, is_per_char, per_char, char_index, IsLine};
-ghost use Rattle.unicode_bidi.specs.Engine.{with_analysis, original_classes as original_classes_of, levels as stored_levels_of, paragraphs as paragraphs_of_analysis, flags as flags_of_analysis, unit_levels, own_flags, CanWrite, Follow};
+ghost use Rattle.unicode_bidi.specs.Engine.{with_analysis, with_lists, found_paragraphs, original_classes as original_classes_of, levels as stored_levels_of, paragraphs as paragraphs_of_analysis, flags as flags_of_analysis, unit_levels, own_flags, CanWrite, Follow};
 ghost use Rattle.bidi_walk.specs.ParagraphFlags.{paragraph_flags};
 ghost use Rattle.bidi_walk.specs.ParagraphInfo.{level_of, range_of, ranges_of, levels_of};
 ghost use Rattle.bidi_walk.specs.SplitRule.{pieces_by, IsAnalysisBy};
@@ -16,13 +16,15 @@ use bidi_base::char_data::BidiClass;
 use bidi_base::data_source::BidiDataSource;
 use bidi_base::level::{LTR_LEVEL, Level};
 use bidi_lines::line_levels::levels_with_line;
-use bidi_paragraphs::first_walk;
+use bidi_paragraphs::first_walk::{self, FoundParagraphs};
 use bidi_paragraphs::paragraph_flags::ParagraphFlags;
 use bidi_paragraphs::paragraph_info::ParagraphInfo;
 use bidi_paragraphs::paragraph_levels::{ClassifiedParagraph, LevelResolver};
 use bidi_paragraphs::split_rule::SplitRule;
 use bidi_text::text::TextSource;
+use smallvec::SmallVec;
 use std::alloc::{AllocError, Global};
+use std::mem;
 use std::ops::Range;
 
 /// What the algorithm finds out about a text. It doesn't hold the text.
@@ -30,9 +32,9 @@ use std::ops::Range;
 pub struct Analysis {
     pub(crate) original_classes: Vec<BidiClass>,
     pub(crate) levels: Vec<Level>,
-    pub(crate) paragraphs: Vec<ParagraphInfo>,
+    pub(crate) paragraphs: SmallVec<ParagraphInfo, 1>,
     // One entry a paragraph.
-    pub(crate) flags: Vec<ParagraphFlags>,
+    pub(crate) flags: SmallVec<ParagraphFlags, 1>,
 }
 
 impl Analysis {
@@ -102,6 +104,7 @@ fn write_paragraph<D: BidiDataSource, T: TextSource>(
 
 // Writes the stored levels of a text, paragraph by paragraph.
 fn write_paragraphs<D: BidiDataSource, T: TextSource>(
+    resolver: &mut LevelResolver,
     alloc: Global,
     text: &ClassifiedText<D, T>,
     paragraphs: &[ParagraphInfo],
@@ -120,11 +123,79 @@ fn write_paragraphs<D: BidiDataSource, T: TextSource>(
         ≡ flat_map (unit_levels (D.source text.now.data_source.now) T.units (T.characters text.now.text))
         paragraphs.now) }
 {
-    let mut resolver = LevelResolver::new(alloc);
     for (index, paragraph) in paragraphs.iter().enumerate() {
-        write_paragraph(&mut resolver, alloc, text, paragraph, flags[index], levels)?;
+        write_paragraph(resolver, alloc, text, paragraph, flags[index], levels)?;
     }
     Ok(())
+}
+
+/// Analyses one text after another, and keeps the memory of its lists from each to the next.
+///
+/// The caller has the lists of classes and levels. A text of up to 256 code units that is one paragraph
+/// allocates nothing if no character of it opens an embedding or an isolate, and none is a bracket.
+#[derive(Drop)]
+pub struct Analyser {
+    found: FoundParagraphs,
+    resolver: LevelResolver,
+}
+
+impl Analyser {
+    /// An analyser that has read no text. Nothing is allocated.
+    pub fn new(alloc: Global) -> Analyser {
+        Analyser {
+            found: FoundParagraphs::new(alloc),
+            resolver: LevelResolver::new(alloc),
+        }
+    }
+
+    /// The paragraphs of the text that was analysed last, in order. Together they take the whole text.
+    pub fn paragraphs(&self) -> &[ParagraphInfo]
+        ensures { result.now ≡ found_paragraphs self.now }
+    {
+        self.found.paragraphs.as_slice()
+    }
+
+    /// Finds what [`analyse_with_rule`] finds. Writes the class of each code unit to `classes` and its level
+    /// to `levels`, which both have one entry a code unit; [`Analyser::paragraphs`] then returns the
+    /// paragraphs. If an allocation fails, all three may be anything.
+    pub fn analyse<D: BidiDataSource, T: TextSource>(
+        &mut self,
+        alloc: Global,
+        data_source: &D,
+        text: T,
+        base: Option<Level>,
+        rule: Option<SplitRule>,
+        classes: &mut [BidiClass],
+        levels: &mut [Level],
+    ) -> Result<(), AllocError>
+        requires low { IfSome base (λ level. level ≤ 125) }
+        requires class_room { length classes.old ≡ text_len T.units (T.characters text) }
+        requires level_room { length levels.old ≡ text_len T.units (T.characters text) }
+        ensures analysis { OnOk result (IsAnalysisBy (D.source data_source.now) base rule
+            (with_lists T.units (T.characters text) classes.new levels.new) (ranges_of (found_paragraphs self.new))
+            (levels_of (found_paragraphs self.new))) }
+        ensures per_char { OnOk result (IsPerCharText (with_lists T.units (T.characters text) classes.new levels.new)) }
+        ensures bounded { OnOk result (All (λ p. AreLevelsFrom (level_of p)
+            (slice_range levels.new (range_of p).start (range_of p).end)) (found_paragraphs self.new)) }
+        ensures flags { let pieces = pieces_by rule (D.source data_source.now) (T.characters text) in
+            OnOk result (self.new.found.flags.items ≡ paragraph_flags (D.source data_source.now) pieces) }
+    {
+        let memory = mem::replace(&mut self.found, FoundParagraphs::new(alloc));
+        self.found = first_walk::walk(alloc, data_source, text, base, rule, classes, memory)?;
+        let classified = ClassifiedText {
+            data_source,
+            text,
+            original_classes: classes,
+        };
+        write_paragraphs(
+            &mut self.resolver,
+            alloc,
+            &classified,
+            self.found.paragraphs.as_slice(),
+            self.found.flags.as_slice(),
+            levels,
+        )
+    }
 }
 
 // What `analyse` finds of a text that a rule cuts into paragraphs. Without one the whole text is one
@@ -146,22 +217,21 @@ pub(crate) fn analyse_by<D: BidiDataSource, T: TextSource>(
     ensures flags { let pieces = pieces_by split (D.source data_source.now) (T.characters text) in
         IfOk result (λ a. flags_of_analysis a ≡ paragraph_flags (D.source data_source.now) pieces) }
 {
-    let found = first_walk::walk(alloc, data_source, text, base, split)?;
+    let mut original_classes = vec![in alloc; BidiClass::L; text.len()]?;
     let mut levels = vec![in alloc; LTR_LEVEL; text.len()]?;
-    let classified = ClassifiedText {
+    let mut analyser = Analyser::new(alloc);
+    analyser.analyse(
+        alloc,
         data_source,
         text,
-        original_classes: found.original_classes.as_slice(),
-    };
-    write_paragraphs(
-        alloc,
-        &classified,
-        found.paragraphs.as_slice(),
-        found.flags.as_slice(),
+        base,
+        split,
+        original_classes.as_mut_slice(),
         levels.as_mut_slice(),
     )?;
+    let found = analyser.found;
     Ok(Analysis {
-        original_classes: found.original_classes,
+        original_classes,
         levels,
         paragraphs: found.paragraphs,
         flags: found.flags,

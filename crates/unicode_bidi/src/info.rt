@@ -21,6 +21,7 @@ use bidi_paragraphs::split_rule::SplitRule;
 use bidi_text::text::TextSource;
 use bidi_text_lines::analysed::Analysed;
 use bidi_text_lines::shown_line::ShownLine;
+use smallvec::SmallVec;
 use std::alloc::{AllocError, Global};
 use std::ops::Range;
 
@@ -33,7 +34,7 @@ use std::ops::Range;
 #[derive(PartialEq, Debug, Drop)]
 pub struct BidiInfo<T: TextSource> {
     pub(crate) analysed: Analysed<T>,
-    paragraphs: Vec<ParagraphInfo>,
+    paragraphs: SmallVec<ParagraphInfo, 1>,
     ghost paragraphs_are_lines: { All
         (λ p. IsLine T.units (T.characters analysed.text) (range_of p).start (range_of p).end) paragraphs.items },
 }

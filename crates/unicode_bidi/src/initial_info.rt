@@ -8,10 +8,11 @@ ghost use Rattle.bidi_walk.specs.ParagraphInfo.{ranges_of, levels_of};
 use bidi_base::char_data::BidiClass;
 use bidi_base::data_source::BidiDataSource;
 use bidi_base::level::Level;
-use bidi_paragraphs::first_walk;
+use bidi_paragraphs::first_walk::{FoundParagraphs, walk};
 use bidi_paragraphs::paragraph_info::ParagraphInfo;
 use bidi_paragraphs::split_rule::SplitRule;
 use bidi_text::text::TextSource;
+use smallvec::SmallVec;
 use std::alloc::{AllocError, Global};
 
 /// The paragraphs of a text and the classes of its characters: what there is before any level is
@@ -20,7 +21,7 @@ use std::alloc::{AllocError, Global};
 pub struct InitialInfo<T: TextSource> {
     pub(crate) text: T,
     original_classes: Vec<BidiClass>,
-    paragraphs: Vec<ParagraphInfo>,
+    paragraphs: SmallVec<ParagraphInfo, 1>,
     ghost classes_per_char: { IsTrue
         (is_per_char ⟦<BidiClass as PartialEq>⟧.eq T.units (T.characters text) original_classes.items) },
 }
@@ -48,10 +49,13 @@ impl<T: TextSource> InitialInfo<T> {
             (is_per_char ⟦<BidiClass as PartialEq>⟧.eq (len_of i) (chars_of i) (original_classes i))) }
     {
         let split = Some(SplitRule::EachSeparator);
-        let found = first_walk::walk(alloc, data_source, text, default_para_level, split)?;
+        let mut original_classes = vec![in alloc; BidiClass::L; text.len()]?;
+        let memory = FoundParagraphs::new(alloc);
+        let classes = original_classes.as_mut_slice();
+        let found = walk(alloc, data_source, text, default_para_level, split, classes, memory)?;
         Ok(InitialInfo {
             text,
-            original_classes: found.original_classes,
+            original_classes,
             paragraphs: found.paragraphs,
         })
     }

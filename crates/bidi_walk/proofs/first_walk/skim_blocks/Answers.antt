@@ -1,7 +1,6 @@
 use Rattle.bidi_base.proofs.Common.{◌≡◌, ◌∙◌, ℕ, ◌<◌, ◌≤◌, ◌+◌, length, get_or, class_at, false, Some, ascii_at, ap, arith}
 use Rattle.bidi_walk.specs.ClassSet.{has}
-use Rattle.bidi_walk.proofs.KnownClasses.{known_idle}
-use Rattle.bidi_walk.proofs.Skimmed.{ascii-inside, ascii-small, IsSkimmed-start, IsSkimmed-kept, IsSkimmed-ascii_block}
+use Rattle.bidi_walk.proofs.Skimmed.{ascii-inside, IsSkimmed-start, IsSkimmed-kept, IsSkimmed-ascii_block}
 use Rattle.bidi_walk.proofs.first_walk.skim_blocks.Given.{Over}
 use Rattle.bidi_walk.proofs.first_walk.skim_blocks.Goals as goal
 use Rattle.bidi_walk.proofs.first_walk.skim_blocks.Goals.{In-Some, Else-not-write_block}
@@ -33,15 +32,12 @@ loop-next-smaller g c = omega (arith, room g (goal.at.loop-next-smaller g c).In-
 
 -- each class that was written is that of its character, and nothing depends on it
 classes : (g : Over) (c : Else-not-write_block g) (k : ℕ) → k < 16
-    → (class_at c.write_block.new.classes (c.loop-next.start + k) ≡ (g.D.BidiDataSource.source c.args._data_source.now).class_of (get_or c.in-Some.block k 0))
+    → (class_at c.write_block.new.classes (c.loop-next.start + k) ≡ (g.D.BidiDataSource.source c.args.data_source.now).class_of (get_or c.in-Some.block k 0))
     × (has c.args.minded (class_at c.write_block.new.classes (c.loop-next.start + k)) ≡ false)
 classes g c k below =
-    let byte : ℕ = get_or c.in-Some.block k 0 in
-    let small = ascii-small g.T.TextSource.units (g.T.TextSource.characters c.args.text) (c.loop-next.start + k) byte (bytes g (goal.at.loop-next-preserved g c).In-Some k below) in
-    let within : byte < length c.args.known.now = omega (arith, small, c.told-known) in
-    let known = known_idle (g.D.BidiDataSource.source c.args._data_source.now) c.args.known.now byte c.args.minded c.requires.known within (c.write_block.ensures.idle c.if-not-write_block.false k below) in
-    let written = c.write_block.ensures.written c.if-not-write_block.false k below in
-    (written ∙ known.0, ap (has c.args.minded) written ∙ known.1)
+    let holds = c.if-not-write_block.false in
+    let written = c.write_block.ensures.written holds k below in
+    (written, ap (has c.args.minded) written ∙ c.write_block.ensures.idle holds k below)
 
 pub loop-next-preserved : goal.loop-next-preserved
 loop-next-preserved g c =
@@ -49,7 +45,7 @@ loop-next-preserved g c =
     let kept = IsSkimmed-kept _ _ _ _ _ _ _ _ c.loop-next.invariant.2 c.write_block.new.classes c.write_block.ensures.kept in (
       omega (arith, c.loop-next.invariant.0),
       c.ascii_block_at-next-in-Some.ensures,
-      IsSkimmed-ascii_block (g.D.BidiDataSource.source c.args._data_source.now) g.T.TextSource.units c.args.minded g.met.T.TextSource.has_units (g.T.TextSource.characters c.args.text) c.args.at.now c.loop-next.start c.requires.begins
+      IsSkimmed-ascii_block (g.D.BidiDataSource.source c.args.data_source.now) g.T.TextSource.units c.args.minded g.met.T.TextSource.has_units (g.T.TextSource.characters c.args.text) c.args.at.now c.loop-next.start c.requires.begins
           c.args.classes.now c.write_block.new.classes kept c.in-Some.block (omega (arith, fits, c.write_block.auto.classes)) (bytes g (goal.at.loop-next-preserved g c).In-Some) (λ k below. (classes g c k below).0) (λ k below. (classes g c k below).1),
     )
 

@@ -1,7 +1,6 @@
 use Rattle.bidi_base.proofs.Common.{not, ◌≡◌, ◌∙◌, ◌+◌, ℕ, ◌<◌, List, ◌⊎◌, inl, inr, length, true, refl, sym, ap, arith, common_steps, is_none, cases_Bool, place}
 use Rattle.std.proofs.lemmas.List.{with_items_is}
 use Rattle.bidi_base.proofs.PlaceLemmas.{is_boundary-place, place-end}
-use Rattle.bidi_walk.proofs.KnownClasses.{AreKnown-none}
 use Rattle.bidi_walk.proofs.TextRead.{seen, same_range, open_within, depth-le, drawn-is, IsTextRead-more, IsTextDone-close, IsRead, IsRead-start, IsRead-on, IsRead-stop, IsRead-last, IsRead-none, IsTextDone-none, IsAnswer, IsTextDone-answer}
 use Rattle.bidi_walk.proofs.WalkSteps.{IsAt, IsAt-met, IsRead-end}
 use Rattle.bidi_walk.proofs.first_walk.walk.Goals as goal
@@ -14,11 +13,10 @@ loop-met-init g c = (
     index = 0;
     within = omega arith;
     here = refl;
-    read = IsRead-start _ _ _ c.args.split c.args.base _ c.new.result (ap length c.as_mut_slice-classes.ensures.value ∙ sym c.in_ok-original_classes.original_classes.ok.0 ∙ c.in_ok-original_classes.ensures.len ∙ c.len.ensures) c.new-2.ensures.items c.new-3.ensures.items c.new.ensures;
+    read = IsRead-start _ _ _ c.args.split c.args.base _ c.new-walk.result.reading c.requires c.new-walk.ensures.paragraphs c.new-walk.ensures.flags c.new-walk.ensures.reading;
   },
   c.minded-minded.ensures,
-  refl,
-  AreKnown-none (g.D.BidiDataSource.source c.args.data_source.now) 256,
+  c.new-walk.ensures.base,
 )
 
 pub next_minded-requires-clause-begins : goal.next_minded-requires-clause-begins
@@ -28,10 +26,10 @@ next_minded-requires-clause-begins g c = grind (arith, is_boundary-place)
 met_at : (g : Over) (c : In-Some g)
     → IsAt (g.D.BidiDataSource.source c.args.data_source.now) g.T.TextSource.units (g.T.TextSource.characters c.args.text) c.args.split c.args.base c.in-Some.met (seen c.next_minded.new.classes c.loop-met.walk) c.loop-met.walk.reading
 met_at g c =
-    IsAt-met _ _ _ g.met.T.TextSource.has_units _ _ _ _ _ _ _ c.loop-met.invariant.0 c.loop-met.invariant.1 c.next_minded.auto.classes c.in-Some.met c.in-Some.ensures.met
+    IsAt-met _ _ _ g.met.T.TextSource.has_units _ _ _ _ _ _ _ c.loop-met.invariant.0 c.loop-met.invariant.1 c.next_minded.auto.classes c.in-Some.met c.in-Some.ensures
 
 pub overflow_add-at : goal.overflow_add-at
-overflow_add-at g c = omega (arith, (met_at g (goal.at.overflow_add-at g c).In-Some).turn.fits, c.len.ensures, c.char_len.ensures)
+overflow_add-at g c = omega (arith, (met_at g (goal.at.overflow_add-at g c).In-Some).turn.fits, c.well_formed, c.requires, c.char_len.ensures)
 
 pub meet-requires : goal.meet-requires
 meet-requires g c =
@@ -39,14 +37,14 @@ meet-requires g c =
     let m = met_at g (goal.at.meet-requires g c).In-Some in
     record {
       within = open_within _ _ _ units _ _ _ _ _ _ m.turn.within m.read.read;
-      few = omega (arith, depth-le _ _ _ units _ _ _ _ _ _ m.turn.within m.read.read, m.turn.fits, c.len.ensures, m.turn.at_place, units c.in-Some.met.c);
+      few = omega (arith, depth-le _ _ _ units _ _ _ _ _ _ m.turn.within m.read.read, m.turn.fits, c.well_formed, c.requires, m.turn.at_place, units c.in-Some.met.c);
       follows = grind (arith, common_steps);
     }
 
 pub loop-met-smaller : goal.loop-met-smaller
 loop-met-smaller g c =
     let w = (met_at g (goal.at.loop-met-smaller g c).In-Some).turn in
-    omega (arith, w.fits, g.met.T.TextSource.has_units c.in-Some.met.c, c.char_len.ensures, c.in-Some.ensures.met.begins, c.loop-met.invariant.0.read.read.sized, c.loop-met.auto.classes)
+    omega (arith, w.fits, g.met.T.TextSource.has_units c.in-Some.met.c, c.char_len.ensures, c.in-Some.ensures.begins, c.loop-met.invariant.0.read.read.sized, c.loop-met.auto.classes)
 
 pub loop-met-preserved : goal.loop-met-preserved
 loop-met-preserved g c =
@@ -77,7 +75,6 @@ loop-met-preserved g c =
       record { index = n + 1; within = omega (arith, w.within); here = end; read = read },
       c.in_ok-minded.ensures.minded,
       c.meet.ensures.base ∙ c.loop-met.invariant.2,
-      c.in-Some.ensures.known,
     )
 
 pub close-requires : goal.close-requires
@@ -89,7 +86,7 @@ answered g c =
     let old = seen c.next_minded.new.classes c.loop-met.walk in
     let cs : List ℕ = g.T.TextSource.characters c.args.text in
     let n : ℕ = length cs in
-    let h = IsRead-end _ _ _ g.met.T.TextSource.has_units _ _ _ _ _ _ _ c.loop-met.invariant.0 c.loop-met.invariant.1 c.next_minded.auto.classes c.in_default.ensures.met in
+    let h = IsRead-end _ _ _ g.met.T.TextSource.has_units _ _ _ _ _ _ _ c.loop-met.invariant.0 c.loop-met.invariant.1 c.next_minded.auto.classes c.in_default.ensures in
     let end : c.len-end.result ≡ place g.T.TextSource.units cs n = c.len-end.ensures ∙ sym (place-end _ cs n (omega arith)) in
     elim c.if-is_none.branch [
       | then-is_none+in_ok-close w ↦

@@ -3,15 +3,15 @@ use Rattle.bidi_laws.proofs.ParagraphsLemmas.{length-text_classes}
 use Rattle.bidi_base.proofs.PerUnit.{length-per_unit}
 use Rattle.unicode_bidi.proofs.FoundLaws.{analysis-IsPerCharText, bounded-found, pieces_by-joined}
 use Rattle.unicode_bidi.proofs.ParagraphUnits.{paragraphs-Follow, paragraphs-flags, paragraphs-CanWrite, paragraphs-levels}
-use Rattle.unicode_bidi.proofs.engine.analyse_by.Goals as goal
+use Rattle.unicode_bidi.proofs.engine.Analyser.analyse.Goals as goal
 
 pub write_paragraphs-requires-clause-paragraphs : goal.write_paragraphs-requires-clause-paragraphs
 write_paragraphs-requires-clause-paragraphs g c =
     let source = g.D.BidiDataSource.source c.args.data_source.now in
     let cs : List ℕ = g.T.TextSource.characters c.args.text in
-    rw c.as_slice-2.ensures.value
-    (paragraphs-CanWrite source c.args.base _ g.met.T.TextSource.has_units _ _ (pieces_by-joined c.args.split source cs)
-    c.in_ok-found.found.paragraphs.items c.in_ok-found.ensures.ranges c.in_ok-found.ensures.levels _ (c.as_slice.ensures.value ∙ c.in_ok-found.ensures.classes) c.requires)
+    rw c.as_slice.ensures.value
+    (paragraphs-CanWrite source c.args.base _ g.met.T.TextSource.has_units _ _ (pieces_by-joined c.args.rule source cs)
+    c.in_ok-walk.walk.paragraphs.items c.in_ok-walk.ensures.ranges c.in_ok-walk.ensures.levels _ c.in_ok-walk.ensures.classes c.requires.low)
 
 pub write_paragraphs-requires-clause-flags : goal.write_paragraphs-requires-clause-flags
 write_paragraphs-requires-clause-flags g c = grind (arith, paragraphs-flags, pieces_by-joined)
@@ -20,9 +20,9 @@ pub write_paragraphs-requires-clause-follow : goal.write_paragraphs-requires-cla
 write_paragraphs-requires-clause-follow g c =
     let source = g.D.BidiDataSource.source c.args.data_source.now in
     let cs : List ℕ = g.T.TextSource.characters c.args.text in
-    rw c.as_slice-2.ensures.value
-    (paragraphs-Follow source c.args.base _ g.met.T.TextSource.has_units _ _ (pieces_by-joined c.args.split source cs)
-    c.in_ok-found.found.paragraphs.items c.in_ok-found.ensures.ranges c.in_ok-found.ensures.levels)
+    rw c.as_slice.ensures.value
+    (paragraphs-Follow source c.args.base _ g.met.T.TextSource.has_units _ _ (pieces_by-joined c.args.rule source cs)
+    c.in_ok-walk.walk.paragraphs.items c.in_ok-walk.ensures.ranges c.in_ok-walk.ensures.levels)
 
 pub invariant_of-classified : goal.invariant_of-classified
 invariant_of-classified g c = grind (arith, length-per_unit, length-text_classes, pieces_by-joined)
@@ -34,11 +34,11 @@ pub returns-clause-per_char : goal.returns-clause-per_char
 returns-clause-per_char g c =
     let source = g.D.BidiDataSource.source c.args.data_source.now in
     let cs : List ℕ = g.T.TextSource.characters c.args.text in
-    analysis-IsPerCharText _ c.args.base _ _ (pieces_by-joined c.args.split source cs) _ _ (returns-clause-analysis g c)
+    analysis-IsPerCharText _ c.args.base _ _ (pieces_by-joined c.args.rule source cs) _ _ (returns-clause-analysis g c)
 
 pub returns-clause-bounded : goal.returns-clause-bounded
 returns-clause-bounded g c =
     let source = g.D.BidiDataSource.source c.args.data_source.now in
     let cs : List ℕ = g.T.TextSource.characters c.args.text in
-    bounded-found source c.args.base _ _ (pieces_by-joined c.args.split source cs) g.met.T.TextSource.has_units
-    c.in_ok-found.found.paragraphs.items (returns-clause-analysis g c) c.requires
+    bounded-found source c.args.base _ _ (pieces_by-joined c.args.rule source cs) g.met.T.TextSource.has_units
+    c.in_ok-walk.walk.paragraphs.items (returns-clause-analysis g c) c.requires
