@@ -157,7 +157,7 @@ impl Analyser {
 
     /// Finds what [`analyse_with_rule`] finds. Writes the class of each code unit to `classes` and its level
     /// to `levels`, which both have one entry a code unit; [`Analyser::paragraphs`] then returns the
-    /// paragraphs. If an allocation fails, all three may be anything.
+    /// paragraphs. If an allocation fails, the two lists hold anything, and there are no paragraphs.
     pub fn analyse<D: BidiDataSource, T: TextSource>(
         &mut self,
         alloc: Global,
@@ -181,7 +181,7 @@ impl Analyser {
             OnOk result (self.new.found.flags.items ≡ paragraph_flags (D.source data_source.now) pieces) }
     {
         let memory = mem::replace(&mut self.found, FoundParagraphs::new(alloc));
-        self.found = first_walk::walk(alloc, data_source, text, base, rule, classes, memory)?;
+        let found = first_walk::walk(alloc, data_source, text, base, rule, classes, memory)?;
         let classified = ClassifiedText {
             data_source,
             text,
@@ -191,10 +191,12 @@ impl Analyser {
             &mut self.resolver,
             alloc,
             &classified,
-            self.found.paragraphs.as_slice(),
-            self.found.flags.as_slice(),
+            found.paragraphs.as_slice(),
+            found.flags.as_slice(),
             levels,
-        )
+        )?;
+        self.found = found;
+        Ok(())
     }
 }
 

@@ -54,10 +54,12 @@ impl<T: TextSource> ParagraphBidiInfo<T> {
         ensures stays_left_to_right { StaysLeftToRight (D.source data_source.now) default_para_level }
     {
         let found = engine::analyse_by(alloc, data_source, text, default_para_level, None)?;
+        let paragraph_level = found.paragraphs.as_slice()[0].level();
+        let is_pure_ltr = found.flags.as_slice()[0].is_pure_ltr();
         Ok(ParagraphBidiInfo {
             paragraph: Analysed::new(text, found.original_classes, found.levels),
-            paragraph_level: found.paragraphs[0].level(),
-            is_pure_ltr: found.flags[0].is_pure_ltr(),
+            paragraph_level,
+            is_pure_ltr,
         })
     }
 

@@ -1,4 +1,4 @@
-use Rattle.bidi_base.proofs.Common.{◌∙◌, List, ℕ, arith, take-append_seam}
+use Rattle.bidi_base.proofs.Common.{◌∙◌, List, ℕ, arith}
 use Rattle.bidi_laws.proofs.ParagraphsLemmas.{length-text_classes}
 use Rattle.bidi_base.proofs.PerUnit.{length-per_unit}
 use Rattle.unicode_bidi.proofs.FoundLaws.{analysis-IsPerCharText, bounded-found, pieces_by-joined}
@@ -9,26 +9,43 @@ pub write_paragraphs-requires-clause-paragraphs : goal.write_paragraphs-requires
 write_paragraphs-requires-clause-paragraphs g c =
     let source = g.D.BidiDataSource.source c.args.data_source.now in
     let cs : List ℕ = g.T.TextSource.characters c.args.text in
-    rw c.as_slice.ensures.value
+    rw c.as_slice.ensures
     (paragraphs-CanWrite source c.args.base _ g.met.T.TextSource.has_units _ _ (pieces_by-joined c.args.rule source cs)
-    c.in_ok-walk.walk.paragraphs.items c.in_ok-walk.ensures.ranges c.in_ok-walk.ensures.levels _ c.in_ok-walk.ensures.classes c.requires.low)
+    c.in_ok-found.found.paragraphs.items c.in_ok-found.ensures.ranges c.in_ok-found.ensures.levels _ c.in_ok-found.ensures.classes c.requires.low)
 
 pub write_paragraphs-requires-clause-flags : goal.write_paragraphs-requires-clause-flags
-write_paragraphs-requires-clause-flags g c = grind (arith, paragraphs-flags, pieces_by-joined)
+write_paragraphs-requires-clause-flags g c =
+    let source = g.D.BidiDataSource.source c.args.data_source.now in
+    let cs : List ℕ = g.T.TextSource.characters c.args.text in
+    rw (c.as_slice.ensures, c.as_slice-2.ensures)
+    (c.in_ok-found.ensures.flags
+    ∙ paragraphs-flags source c.args.base _ g.met.T.TextSource.has_units _ _ (pieces_by-joined c.args.rule source cs)
+    c.in_ok-found.found.paragraphs.items c.in_ok-found.ensures.ranges c.in_ok-found.ensures.levels)
 
 pub write_paragraphs-requires-clause-follow : goal.write_paragraphs-requires-clause-follow
 write_paragraphs-requires-clause-follow g c =
     let source = g.D.BidiDataSource.source c.args.data_source.now in
     let cs : List ℕ = g.T.TextSource.characters c.args.text in
-    rw c.as_slice.ensures.value
+    rw c.as_slice.ensures
     (paragraphs-Follow source c.args.base _ g.met.T.TextSource.has_units _ _ (pieces_by-joined c.args.rule source cs)
-    c.in_ok-walk.walk.paragraphs.items c.in_ok-walk.ensures.ranges c.in_ok-walk.ensures.levels)
+    c.in_ok-found.found.paragraphs.items c.in_ok-found.ensures.ranges c.in_ok-found.ensures.levels)
 
 pub invariant_of-classified : goal.invariant_of-classified
 invariant_of-classified g c = grind (arith, length-per_unit, length-text_classes, pieces_by-joined)
 
 pub returns-clause-analysis : goal.returns-clause-analysis
-returns-clause-analysis g c = grind (arith, take-append_seam, paragraphs-levels, pieces_by-joined)
+returns-clause-analysis g c =
+    let source = g.D.BidiDataSource.source c.args.data_source.now in
+    let cs : List ℕ = g.T.TextSource.characters c.args.text in
+    record {
+      classes = c.in_ok-found.ensures.classes;
+      levels =
+          (rw c.as_slice.ensures at c.in_ok-write_paragraphs.ensures)
+          ∙ paragraphs-levels source c.args.base _ g.met.T.TextSource.has_units _ _ (pieces_by-joined c.args.rule source cs)
+          c.in_ok-found.found.paragraphs.items c.in_ok-found.ensures.ranges c.in_ok-found.ensures.levels;
+      ranges = c.in_ok-found.ensures.ranges;
+      paragraph_levels = c.in_ok-found.ensures.levels;
+    }
 
 pub returns-clause-per_char : goal.returns-clause-per_char
 returns-clause-per_char g c =
@@ -41,4 +58,4 @@ returns-clause-bounded g c =
     let source = g.D.BidiDataSource.source c.args.data_source.now in
     let cs : List ℕ = g.T.TextSource.characters c.args.text in
     bounded-found source c.args.base _ _ (pieces_by-joined c.args.rule source cs) g.met.T.TextSource.has_units
-    c.in_ok-walk.walk.paragraphs.items (returns-clause-analysis g c) c.requires
+    c.in_ok-found.found.paragraphs.items (returns-clause-analysis g c) c.requires.low

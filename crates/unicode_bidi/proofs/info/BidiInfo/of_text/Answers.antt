@@ -22,7 +22,9 @@ returns g c =
     record {
       text = first_of (search rules, grind arith);
       analysis = first_of (search rules, grind arith);
-      parted = grind (arith, rule-AreParagraphRanges);
+      parted =
+          rw (c.new.ensures.text, c.in_ok-found.ensures.analysis.ranges)
+          (rule-AreParagraphRanges source g.T.TextSource.units g.met.T.TextSource.has_units (g.T.TextSource.characters c.args.text) c.args.rule);
       per_char = first_of (search rules, grind arith);
       bounded =
           bounded-found source c.args.default_para_level (pieces_by (Some c.args.rule) source (analysed c.new.result).chars) (analysed c.new.result) (pieces_by-joined (Some c.args.rule) source _)

@@ -1,11 +1,12 @@
 use Rattle.bidi_base.proofs.Common.{arith}
+use Rattle.std.proofs.lemmas.List.{with_items_is}
 use Rattle.bidi_text.proofs.PerCharTests.{class_test}
 use Rattle.bidi_base.proofs.UnitsLemmas.{is_per_char-per_unit}
 use Rattle.bidi_laws.proofs.ParagraphsLemmas.{length-paragraph_classes, paragraphs-AreParagraphRanges}
 use Rattle.unicode_bidi.proofs.initial_info.InitialInfo.of_text.Goals as goal
 
 pub invariant_of-result : goal.invariant_of-result
-invariant_of-result g c = grind (arith, is_per_char-per_unit, class_test, length-paragraph_classes)
+invariant_of-result g c = grind (arith, with_items_is, is_per_char-per_unit, class_test, length-paragraph_classes)
 
 pub returns-clause-parted : goal.returns-clause-parted
 returns-clause-parted g c =

@@ -12,8 +12,8 @@ use Rattle.unicode_bidi.proofs.paragraph_bidi_info.ParagraphBidiInfo.of_text.Goa
 pub returns-in_err-found : goal.returns-in_err-found
 returns-in_err-found g c = search (rules, BoundaryNeutralsAreAlike-all, StaysLeftToRight-all)
 
-pub index-requires-2 : goal.index-requires-2
-index-requires-2 g c = grind (arith, flags-one)
+pub bounds-as_slice-0-2 : goal.bounds-as_slice-0-2
+bounds-as_slice-0-2 g c = grind (arith, flags-one)
 
 pub returns : goal.returns
 returns g c =
@@ -22,8 +22,9 @@ returns g c =
     let cs : List ℕ = g.T.TextSource.characters c.args.text in
     let found = with_analysis g.T.TextSource.units cs c.in_ok-found.found in
     let one : c.in_ok-found.found.flags.items ≡ flags_of (map source.class_of cs) ∷ [] = rw (← flags-one) c.in_ok-found.ensures.flags in
-    let level : c.level.result ≡ paragraph_level base (map source.class_of cs) =
-    c.level.ensures ∙ only level_of _ c.index.result.now _ (paragraph_level-one source base found _ _ c.in_ok-found.ensures.analysis) c.index.ensures in
+    let level : c.level-paragraph_level.result ≡ paragraph_level base (map source.class_of cs) =
+    c.level-paragraph_level.ensures
+    ∙ only level_of _ c.index-as_slice-0.result _ (paragraph_level-one source base found _ _ c.in_ok-found.ensures.analysis) (rw c.as_slice.ensures at c.index-as_slice-0.is) in
     record {
       text = first_of (search rules, grind arith);
       analysis = record {
@@ -31,8 +32,8 @@ returns g c =
         levels = c.new.ensures.levels ∙ rw c.new.ensures.text (levels-one source base found _ _ c.in_ok-found.ensures.analysis);
         paragraph_level = level ∙ rw c.new.ensures.text refl;
         pure_ltr =
-            c.is_pure_ltr.ensures
-            ∙ is_pure_ltr-flags c.index-2.result.now (map source.class_of cs) (only (λ (f : ParagraphFlags). f) _ c.index-2.result.now _ (ap (map (λ (f : ParagraphFlags). f)) one) c.index-2.ensures)
+            c.is_pure_ltr-is_pure_ltr.ensures
+            ∙ is_pure_ltr-flags _ (map source.class_of cs) (rw (c.as_slice-2.ensures, one) refl)
             ∙ rw c.new.ensures.text refl;
       };
       per_char = first_of (search rules, grind arith);
