@@ -98,7 +98,6 @@ struct AskedText<'a, D: BidiDataSource, T: TextSource> {
     text: T,
     base: Option<Level>,
     split: Option<SplitRule>,
-    ghost low: { IfSome base (λ level. level ≤ 125) },
 }
 
 // Analyses a text into lists of ours, and then writes what was found to the caller's buffers. So a fault
@@ -112,6 +111,7 @@ fn write_analysis<D: BidiDataSource, T: TextSource>(
     levels: &mut [u8],
     paragraphs: &mut [Paragraph],
 ) -> Result<usize, Fault>
+    requires low { IfSome asked.now.base (λ level. level ≤ 125) }
     requires own_classes { length own_classes.old ≡ text_len T.units (T.characters asked.now.text) }
     requires own_levels { length own_levels.old ≡ text_len T.units (T.characters asked.now.text) }
     requires class_room { text_len T.units (T.characters asked.now.text) ≤ length classes.old }
