@@ -13,6 +13,10 @@ pair_char u v = 0x10000 + ((u - 0xD800) * 0x400 + (v - 0xDC00))
 abbrev pub lone_char : ℕ → ℕ
 lone_char u = if nat_lt u 0xD800 || (nat_le 0xE000 u && nat_lt u 0x10000) then u else 0xFFFD
 
+-- a unit is no surrogate, and so a character
+abbrev pub is_character : ℕ → Bool
+is_character u = nat_lt u 0xD800 || nat_le 0xE000 u
+
 -- a high surrogate directly followed by a low one is one character
 abbrev pub utf16_text : List ℕ → List ℕ
 utf16_text [] = []

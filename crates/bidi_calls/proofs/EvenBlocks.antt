@@ -5,7 +5,7 @@ use Rattle.std.proofs.lemmas.Simd.{get_or-chunk, get_or-zip2, length-zip2, mask_
 use lib.Lanes.{chunk, mask_l, top, zip2}
 use Rattle.bidi_numbers.specs.Texts.{goes_on}
 use Rattle.bidi_numbers.proofs.BlockLemmas.{empty_mask}
-use Rattle.bidi_calls.specs.Even.{IsEvenBetween, HasNoSurrogate}
+use Rattle.bidi_calls.specs.Even.{IsEvenBetween}
 
 -- ---- the lanes of a vector, one by one
 
@@ -127,25 +127,3 @@ module _ (bs cs ls : List ℕ) (at : ℕ) (shr eq ne : ℕ → ℕ → ℕ) (bef
         ∙ lane_at k (omega arith) (omega arith)
         ∙ from_equal (get_or bs k 0) _ _ _ _ (λ on. even k (omega arith) (omega arith) (on_is k (omega arith) ∙ on)))),
   )
-
--- ---- units of UTF-16
-
-no_surrogate : (x : ℕ) → eqb (x / 2048) 27 ≡ false → (x < 0xD800) ⊎ (0xE000 ≤ x)
-no_surrogate x e = elim (cases_lt x 0xD800) [
-  | inl low ↦ inl low
-  | inr high ↦ inr (grind (arith, nat_tests))
-]
-
-pub surrogate_top : (x : ℕ) → top 15 (cond (eqb (x / 2048) 27) 65535 0) ≡ eqb (x / 2048) 27
-surrogate_top x = elim (cases_Bool (eqb (x / 2048) 27)) [
-  | inl inside ↦ rw (inside) refl
-  | inr outside ↦ rw (outside) refl
-]
-
-module _ (us : List ℕ) (at : ℕ) (shr eq : ℕ → ℕ → ℕ) (within : at + 16 ≤ length us) (tops : (x : ℕ) → top 15 (eq (shr x 11) 27) ≡ eqb (x / 2048) 27) where
-  pub sixteen_plain : IsTrue (eqb (mask_l (map (top 15) (zip2 eq (zip2 shr (chunk at 16 us) (replicate 16 11)) (replicate 16 27))) % 2 ^ 64) 0) → HasNoSurrogate us at (at + 16)
-  sixteen_plain none k from to =
-      let lanes = lanes_zip2 eq _ _ _ _ (lanes_zip2 shr _ _ _ _ (lanes_chunk at us within) (lanes_splat 11)) (lanes_splat 27) in
-      let here : at + (k - at) ≡ k = omega arith in
-      let clear = lanes_from_mask 15 _ _ lanes none (k - at) (omega arith) in
-      no_surrogate (get_or us k 0) (ap (λ i. eqb (get_or us i 0 / 2048) 27) (sym here) ∙ sym (tops (get_or us (at + (k - at)) 0)) ∙ clear)

@@ -9,7 +9,8 @@ use Rattle.bidi_text.proofs.StrLemmas.{has_units as utf8_has_units, text_len-cha
 use Rattle.bidi_text.proofs.Utf16Lemmas.{has_units as utf16_has_units, text_len-utf16, utf16_text-cut, is_boundary-inside, pair_at, NoPairAt-from_splits_pair}
 use Rattle.bidi_numbers.specs.Numbers.{class_numbered, is_class}
 use Rattle.bidi_numbers.specs.Texts.{goes_on}
-use Rattle.bidi_calls.specs.Even.{IsEvenBetween, HasNoSurrogate}
+use Rattle.bidi_base.specs.Utf16.{is_character}
+use Rattle.bidi_calls.specs.Even.{IsEvenBetween}
 use Rattle.bidi_calls.proofs.EvenBlocks.{list_all_each}
 use Rattle.bidi_calls.proofs.EvenChars.{steady_from_test, test_from_steady, boundary_zero}
 
@@ -128,8 +129,5 @@ even-utf16 us ns ls r classes levels below e =
     even_result utf16_len utf16_has_units (utf16_text us) ns ls (splits_pair us) (length us) (text_len-utf16 us) classes levels below (inner-utf16 us) r e
 
 -- a text without surrogates is even
-pub even_plain : (us ns ls : List ℕ) → HasNoSurrogate us 0 (length us) → IsEvenBetween (splits_pair us) ns ls 1 (length us)
-even_plain us ns ls plain k from to pair = elim (plain k (omega arith) to) [
-  | inl low ↦ absurd (grind (arith, nat_tests))
-  | inr high ↦ absurd (grind (arith, nat_tests))
-]
+pub even_plain : (us ns ls : List ℕ) → list_all is_character us ≡ true → IsEvenBetween (splits_pair us) ns ls 1 (length us)
+even_plain us ns ls plain k from to pair = let here = list_all_each is_character us 0 k to plain in absurd (grind (arith, nat_tests))

@@ -1,5 +1,5 @@
 -- Classes and levels that are equal along each character of a text.
-use Rattle.std.specs.Prelude.{◌≡◌, ℕ, ◌-◌, ◌<◌, ◌≤◌, ◌⊎◌, Bool, true, List, slice_index}
+use Rattle.std.specs.Prelude.{◌≡◌, ℕ, ◌-◌, ◌<◌, ◌≤◌, Bool, true, List, slice_index}
 
 -- the unit k has the class and the level of the unit before it, if it goes on with a character
 abbrev pub IsEvenAt : Bool → List ℕ → List ℕ → ℕ → Type 0
@@ -10,7 +10,3 @@ IsEvenAt goes_on classes levels k =
 -- and so have the units from a on and below b
 abbrev pub IsEvenBetween : (ℕ → Bool) → List ℕ → List ℕ → ℕ → ℕ → Type 0
 IsEvenBetween goes_on classes levels a b = (k : ℕ) → a ≤ k → k < b → IsEvenAt (goes_on k) classes levels k
-
--- none of the units from a on and below b is a surrogate
-abbrev pub HasNoSurrogate : List ℕ → ℕ → ℕ → Type 0
-HasNoSurrogate units a b = (k : ℕ) → a ≤ k → k < b → slice_index units k < 0xD800 ⊎ 0xE000 ≤ slice_index units k

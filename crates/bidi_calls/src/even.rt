@@ -7,11 +7,12 @@ ghost use Rattle.bidi_base.specs.contracts.char_data.BidiClassPartialEq.TheImpl.
 ghost use Rattle.bidi_base.specs.contracts.level.LevelPartialEq.TheImpl.{ghosts as level_test};
 ghost use Rattle.bidi_base.specs.Text.{is_per_char};
 ghost use Rattle.bidi_base.specs.Utf16.{is_pair as is_pair_of, splits_pair, utf16_text, utf16_len};
-ghost use Rattle.bidi_calls.specs.Even.{IsEvenAt, IsEvenBetween, HasNoSurrogate};
+ghost use Rattle.bidi_calls.specs.Even.{IsEvenAt, IsEvenBetween};
 ghost use Rattle.bidi_numbers.specs.Numbers.{class_numbered, is_class};
 ghost use Rattle.bidi_numbers.specs.Texts.{goes_on as goes_on_at};
 
 use bidi_numbers::texts::goes_on;
+use bidi_text::text::are_characters;
 use std::simd::prelude::*;
 
 // Whether a unit has the class and the level of the unit before it, if it goes on with a character.
@@ -114,37 +115,12 @@ fn is_even_by_units(units: &[u16], classes: &[u8], levels: &[u8]) -> bool
     even
 }
 
-// Whether none of the sixteen units from `at` on is a surrogate.
-fn sixteen_have_no_surrogate(units: &[u16], at: usize) -> bool
-    requires { at + 16 ≤ length units.now }
-    ensures { IsTrue result → HasNoSurrogate units.now at (at + 16) }
-{
-    let top_bits = u16x16::from_slice(&units[at..]) >> 11;
-    top_bits.simd_eq(u16x16::splat(0xD800 >> 11)).to_bitmask() == 0
-}
-
-// Whether sixteen units or more have no surrogate among them. The last block may overlap the one before it.
-fn have_no_surrogate(units: &[u16]) -> bool
-    requires { 16 ≤ length units.now }
-    ensures { IsTrue result → HasNoSurrogate units.now 0 (length units.now) }
-{
-    let last = units.len() - 16;
-    let mut at = 0;
-    while at < last {
-        if !sixteen_have_no_surrogate(units, at) {
-            return false;
-        }
-        at += 16;
-    }
-    sixteen_have_no_surrogate(units, last)
-}
-
 /// Returns whether the classes and the levels of the units of a text of UTF-16 are equal within each
 /// character.
 ///
 /// There is one class and one level for each unit, and each class is a number below 23. Only a low
 /// surrogate directly behind a high one goes on with a character. Most texts have no surrogates, and the
-/// function finds that sixteen units at a time.
+/// function finds that first.
 pub fn is_even_utf16(units: &[u16], classes: &[u8], levels: &[u8]) -> bool
     requires classes { length classes.now ≡ length units.now }
     requires levels { length levels.now ≡ length units.now }
@@ -153,7 +129,7 @@ pub fn is_even_utf16(units: &[u16], classes: &[u8], levels: &[u8]) -> bool
         ≡ (is_per_char class_test.eq utf16_len (utf16_text units.now) (map class_numbered classes.now)
         && is_per_char level_test.eq utf16_len (utf16_text units.now) levels.now) }
 {
-    if units.len() >= 16 && have_no_surrogate(units) {
+    if are_characters(units) {
         return true;
     }
     is_even_by_units(units, classes, levels)

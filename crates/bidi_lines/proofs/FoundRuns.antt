@@ -1,11 +1,12 @@
 -- What a program's list of runs is: runs are ranges there.
-use Rattle.bidi_base.proofs.Common.{◌≡◌, ℕ, ◌+◌, ◌<◌, ◌≤◌, ◌++◌, false, List, [], ◌∷◌, map, length, get_or, take, sym, subst, ◌∙◌, arith, rules, common_steps, Range, get_or-map, length-map, length-range_with_len, IsPermutation-refl, has_rtl, indexes, at_places, visual_order, IsVisualOrder, Run, run_of, level_runs, run_level, visual_runs, AreVisualRuns}
+use Rattle.bidi_base.proofs.Common.{◌≡◌, ℕ, ◌+◌, ◌<◌, ◌≤◌, ◌++◌, false, List, [], ◌∷◌, map, length, get_or, take, sym, subst, le_refl, ◌∙◌, arith, rules, common_steps, Range, get_or-map, length-map, length-range_with_len, IsPermutation-refl, has_rtl, indexes, at_places, visual_order, IsVisualOrder, Run, run_of, level_runs, run_level, visual_runs, AreVisualRuns}
 use Rattle.std.proofs.Common.{All}
 use Rattle.bidi_lines.proofs.Ordered.{visual_order-still, none_odd}
 use Rattle.bidi_laws.proofs.VisualOrderLemmas.{visual_order-unique}
 use Rattle.bidi_laws.proofs.StoredLemmas.{at_places-append}
 use Rattle.bidi_lines.proofs.Pieces.{at_places-map}
-use Rattle.bidi_lines.proofs.RunsLemmas.{Follow, level_runs-each, level_runs-follow}
+use Rattle.std.proofs.lemmas.List.{drop_all}
+use Rattle.bidi_lines.proofs.RunsLemmas.{Follow, level_runs-each, level_runs-follow, level_runs-more}
 use Rattle.bidi_lines.proofs.VisualRuns.{all-runs, visual_runs-are}
 
 -- each begins within the line
@@ -45,6 +46,13 @@ one_is_whole a b (run ∷ next ∷ more) one follows = absurd (omega (arith, one
 pub visual_runs-whole : (start : ℕ) (levels : List ℕ) → length (level_runs start levels) ≡ 1 → visual_runs start levels ≡ (start, start + length levels) ∷ []
 visual_runs-whole start levels one =
     sym (visual_runs-one start levels (omega (arith, one))) ∙ one_is_whole start (start + length levels) (level_runs start levels) one (level_runs-follow start levels)
+
+-- if all units have one level, there is one run
+pub visual_runs-same : (start : ℕ) (levels : List ℕ) → 0 < length levels → ((p : ℕ) → 0 ≤ p → p < length levels → get_or levels p 0 ≡ get_or levels 0 0)
+    → visual_runs start levels ≡ (start, start + length levels) ∷ []
+visual_runs-same start levels some same =
+    let step = level_runs-more start levels 0 (length levels) some (le_refl _) same (λ more. absurd (omega (arith, more))) in
+    visual_runs-whole start levels (grind (arith, step, drop_all))
 
 -- and otherwise in the order of their levels
 pub visual_runs-found : (start : ℕ) (levels of_runs order : List ℕ) (runs : List Run) → runs ≡ level_runs start levels → of_runs ≡ map (run_level start levels) runs → order ≡ visual_order of_runs

@@ -1,6 +1,6 @@
 //! The visual runs of a line (L2).
 
-ghost use Rattle.std.specs.Prelude.{◌≡◌, ◌+◌, ◌<◌, ◌≤◌, ◌++◌, [], length, IfOk, OnOk, OnErr, All, map};
+ghost use Rattle.std.specs.Prelude.{◌≡◌, ℕ, IsTrue, ◌∷◌, ◌+◌, ◌<◌, ◌≤◌, ◌++◌, [], length, IfOk, OnOk, OnErr, All, map};
 ghost use Rattle.bidi_base.specs.Display.{run_of, level_runs, run_level, visual_runs, AreVisualRuns};
 ghost use Rattle.bidi_base.specs.Line.{levels_of_line, levels_with_line};
 ghost use Rattle.bidi_base.specs.Order.{visual_order, IsVisualOrder};
@@ -16,6 +16,14 @@ use std::ops::Range;
 
 /// How many runs of a line are kept without an allocation.
 const FEW_RUNS: usize = 16;
+
+/// Returns whether all units of a line have one level, so that the line is one level run (BD7). `levels` are
+/// those of its units after L1. An empty line has no run.
+pub fn is_one_run(levels: &[Level]) -> bool
+    ensures { IsTrue result → (start : ℕ) → visual_runs start levels.now ≡ (start, start + length levels.now) ∷ [] }
+{
+    !levels.is_empty() && run_end(levels, 0) == levels.len()
+}
 
 // Cuts a line that starts at the unit `start` into its level runs.
 fn cut_runs(
@@ -47,31 +55,6 @@ fn write_numbers(numbers: &mut [u8], levels: &[Level], start: usize, runs: &[Ran
     }
 }
 
-// Finds the number of the level of each run.
-fn find_numbers(
-    numbers: &mut SmallVec<u8, FEW_RUNS>,
-    levels: &[Level],
-    start: usize,
-    runs: &[Range<usize>],
-) -> Result<(), AllocError>
-    requires { All (λ r. start ≤ r.start × r.start < start + length levels.now) runs.now }
-    ensures { OnOk result (numbers.new.items ≡ map (run_level start levels.now) (map run_of runs.now)) }
-{
-    numbers.resize(runs.len(), 0)?;
-    write_numbers(numbers.as_mut_slice(), levels, start, runs);
-    Ok(())
-}
-
-// Finds the order of runs from left to right, from the number of the level of each.
-fn order_runs(order: &mut SmallVec<usize, FEW_RUNS>, numbers: &[u8]) -> Result<(), AllocError>
-    ensures order { OnOk result (order.new.items ≡ visual_order numbers.now) }
-    ensures visual { OnOk result (IsVisualOrder numbers.now order.new.items) }
-{
-    order.resize(numbers.len(), 0)?;
-    write_visual_order(numbers, order.as_mut_slice());
-    Ok(())
-}
-
 // Copies runs in this order. If an allocation fails, nothing is copied.
 fn copy_in_order(
     ordered: &mut SmallVec<Range<usize>, FEW_RUNS>,
@@ -90,18 +73,41 @@ fn copy_in_order(
     Ok(())
 }
 
+// Copies the level runs of a line, which starts at the unit `start`, from left to right (L2). `numbers` and
+// `order` have room for one entry a run, for the number of its level and its place. If an allocation fails,
+// nothing is copied.
+fn copy_visual(
+    ordered: &mut SmallVec<Range<usize>, FEW_RUNS>,
+    levels: &[Level],
+    start: usize,
+    runs: &[Range<usize>],
+    numbers: &mut [u8],
+    order: &mut [usize],
+) -> Result<(), AllocError>
+    requires empty { ordered.old.items ≡ [] }
+    requires runs { map run_of runs.now ≡ level_runs start levels.now }
+    requires numbers { length numbers.old ≡ length runs.now }
+    requires order { length order.old ≡ length runs.now }
+    ensures runs { OnOk result (map run_of ordered.new.items ≡ visual_runs start levels.now) }
+    ensures none { OnErr result (ordered.new.items ≡ []) }
+{
+    write_numbers(numbers, levels, start, runs);
+    write_visual_order(&*numbers, order);
+    copy_in_order(ordered, runs, order)
+}
+
 /// The visual runs of a line: its level runs (BD7), from left to right (L2).
 ///
 /// A line of up to 16 runs needs no allocation. What a longer one allocates is used again for the next
 /// line.
 #[derive(Drop)]
 pub struct LineRuns {
-    // In the order of the text, with the number of the level of each.
+    // In the order of the text, and from left to right.
     runs: SmallVec<Range<usize>, FEW_RUNS>,
-    numbers: SmallVec<u8, FEW_RUNS>,
-    // From left to right, as indexes of `runs` and as runs.
-    order: SmallVec<usize, FEW_RUNS>,
     ordered: SmallVec<Range<usize>, FEW_RUNS>,
+    // Of a line with more runs: the number of the level of each run, and their order.
+    numbers: Vec<u8>,
+    order: Vec<usize>,
 }
 
 impl LineRuns {
@@ -113,9 +119,9 @@ impl LineRuns {
     {
         LineRuns {
             runs: SmallVec::new(alloc),
-            numbers: SmallVec::new(alloc),
-            order: SmallVec::new(alloc),
             ordered: SmallVec::new(alloc),
+            numbers: Vec::new(alloc),
+            order: Vec::new(alloc),
         }
     }
 
@@ -129,16 +135,26 @@ impl LineRuns {
     {
         self.ordered.clear();
         cut_runs(&mut self.runs, levels, start)?;
-        if self.runs.len() == 1 {
+        let runs = self.runs.as_slice();
+        let count = runs.len();
+        if count == 1 {
             self.ordered.push(start..start + levels.len())?;
             return Ok(());
         }
-        find_numbers(&mut self.numbers, levels, start, self.runs.as_slice())?;
-        order_runs(&mut self.order, self.numbers.as_slice())?;
-        copy_in_order(
+        if count <= FEW_RUNS {
+            let numbers = &mut [0; FEW_RUNS][..count];
+            let order = &mut [0; FEW_RUNS][..count];
+            return copy_visual(&mut self.ordered, levels, start, runs, numbers, order);
+        }
+        self.numbers.resize(count, 0)?;
+        self.order.resize(count, 0)?;
+        copy_visual(
             &mut self.ordered,
-            self.runs.as_slice(),
-            self.order.as_slice(),
+            levels,
+            start,
+            runs,
+            self.numbers.as_mut_slice(),
+            self.order.as_mut_slice(),
         )
     }
 

@@ -16,7 +16,9 @@ mod utf16_text;
 
 pub use chars_text::{CharsCharIndexIter, CharsCharIter, CharsIndexLenIter, CharsText};
 pub use str_text::{StrText, Utf8IndexLenIter};
-pub use utf16_text::{Utf16CharIndexIter, Utf16CharIter, Utf16IndexLenIter, Utf16Text};
+pub use utf16_text::{
+    Utf16CharIndexIter, Utf16CharIter, Utf16IndexLenIter, Utf16Text, are_characters,
+};
 
 /// A text: a list of characters, each at least one unit long.
 pub trait TextSource: Copy {

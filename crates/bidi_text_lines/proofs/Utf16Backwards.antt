@@ -2,7 +2,7 @@
 use Rattle.bidi_base.proofs.Common.{◌≡◌, ℕ, ◌<◌, ◌^◌, true, false, List, [], ◌∷◌, ◌++◌, suc, get_or, reverse, flat_map, refl, sym, ap, ap₂, ◌∙◌, arith, and_parts, append-nil, list_all, utf16_text, flat_map-append, reverse-append}
 use Rattle.std.specs.Char.Escape.{encode_utf16}
 use Rattle.bidi_base.specs.Utf16.{is_pair, lone_char}
-use Rattle.bidi_text_lines.specs.Turned.{is_character}
+use Rattle.bidi_base.specs.Utf16.{is_character}
 
 lone_char-character : (u : ℕ) → u < 2 ^ 16 → is_character u ≡ true → lone_char u ≡ u
 lone_char-character u fits h = grind arith

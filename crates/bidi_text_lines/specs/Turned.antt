@@ -19,9 +19,3 @@ turned_at bytes j =
 -- the bytes of a text, before which two others stand
 abbrev pub behind_two : List ℕ → List ℕ
 behind_two bytes = 0 ∷ 0 ∷ bytes
-
--- ---- UTF-16
-
--- the unit is no surrogate, and so a character
-abbrev pub is_character : ℕ → Bool
-is_character unit = nat_lt unit 0xD800 || nat_le 0xE000 unit

@@ -11,7 +11,7 @@ use bidi_base::level::Level;
 use bidi_lines::line_levels::line_has_rtl;
 use bidi_lines::shown_levels::ShownLevels;
 use bidi_lines::stored::{ClassList, LevelList};
-use bidi_lines::visual_runs::LineRuns;
+use bidi_lines::visual_runs::{LineRuns, is_one_run};
 use bidi_text::text::TextSource;
 use std::alloc::{AllocError, Global};
 use std::ops::Range;
@@ -80,6 +80,33 @@ pub fn write_runs<T: LineText>(
     }
 }
 
+// Writes the text of a line, whose levels after L1 are given, from left to right (L2). If an allocation fails,
+// nothing is written.
+fn write_shown<T: LineText>(
+    alloc: Global,
+    text: T,
+    line: Range<usize>,
+    levels: &[Level],
+    out: &mut [T::Unit],
+) -> Result<(), AllocError>
+    requires is_line { IsLine T.units (T.characters text) line.start line.end }
+    requires levels { length levels.now + line.start ≡ line.end }
+    requires room { length out.old ≡ length levels.now }
+    requires runs { AreRunsOfChars T.units (T.characters text) line.start levels.now }
+    ensures text { OnOk result (out.new ≡ shown_units T.units T.encode (T.characters text) (T.units_of text) line.start levels.now) }
+    ensures kept { OnErr result (out.new ≡ out.old) }
+{
+    let start = line.start;
+    if is_one_run(levels) {
+        write_runs(text, start, levels, &[line], out);
+        return Ok(());
+    }
+    let mut runs = LineRuns::new(alloc);
+    runs.find(levels, start)?;
+    write_runs(text, start, levels, runs.as_slice(), out);
+    Ok(())
+}
+
 /// Writes the text of a line from left to right (L2). The line is a range of code units of the text.
 ///
 /// `classes` and `levels` are those stored for its code units, and `level` is the paragraph's. A line of up
@@ -109,10 +136,7 @@ pub fn write_line<T: LineText, C: ClassList, L: LevelList>(
     }
     let mut shown = ShownLevels::new(alloc);
     shown.show(level, classes, levels)?;
-    let mut runs = LineRuns::new(alloc);
-    runs.find(shown.as_slice(), line.start)?;
-    write_runs(text, line.start, shown.as_slice(), runs.as_slice(), out);
-    Ok(())
+    write_shown(alloc, text, line, shown.as_slice(), out)
 }
 
 impl<T: LineText> Analysed<T> {

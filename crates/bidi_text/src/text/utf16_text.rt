@@ -1,9 +1,10 @@
 //! Texts of UTF-16, whose units are those of UTF-16.
 
 ghost use Rattle.std.specs.Prelude.{◌≡◌, ℕ, ◌+◌, ◌-◌, ◌<◌, ◌≤◌, ◌^◌, length, get_or, [], true, IsTrue, ◌↔◌, MatchOption, IfSome};
+ghost use Rattle.std.specs.List.{list_all};
 ghost use Rattle.std.specs.Iterator.{YieldsFirst, YieldsLast, item_count};
 ghost use Rattle.bidi_base.specs.Text.{char_indices_from, indices_lengths_from};
-ghost use Rattle.bidi_base.specs.Utf16.{is_pair as is_pair_of, splits_pair as splits_pair_of, pair_char, lone_char, utf16_text, utf16_len, IsFirst, IsLast};
+ghost use Rattle.bidi_base.specs.Utf16.{is_character, is_pair as is_pair_of, splits_pair as splits_pair_of, pair_char, lone_char, utf16_text, utf16_len, IsFirst, IsLast};
 
 use super::{TextSource, char_of_code};
 use std::ops::Range;
@@ -37,6 +38,21 @@ fn is_surrogate(unit: u16) -> bool
     ensures { IsTrue result ↔ ((0xD800 ≤ unit) × (unit < 0xE000)) }
 {
     0xD800 <= unit && unit < 0xE000
+}
+
+/// Returns whether no unit is a surrogate, so that each is a character.
+///
+/// Takes time linear in the units, whatever they are.
+pub fn are_characters(units: &[u16]) -> bool
+    ensures { result ≡ list_all is_character units.now }
+{
+    // How far above 0xD800 a unit is, where those below come behind all others. A loop without a branch finds
+    // the least of many units at once.
+    let mut least = u16::MAX;
+    for unit in units {
+        least = least.min(unit.wrapping_sub(0xD800));
+    }
+    least >= 0x800
 }
 
 // Whether two units are a high surrogate and a low one.

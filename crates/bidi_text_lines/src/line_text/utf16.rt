@@ -1,17 +1,15 @@
 // The text of a line of UTF-16.
 ghost use Rattle.std.specs.Prelude.{◌≡◌, length, reverse, flat_map, IfOk, ◌↔◌};
 ghost use Rattle.std.specs.Char.Escape.{encode_utf16};
-ghost use Rattle.std.specs.List.{list_all};
 ghost use Rattle.std.specs.Cow.{cow_slice_items, IsBorrowedSlice};
 ghost use Rattle.bidi_base.specs.Analysed.{IsLineOf, IsTextOfLine, StaysInOrder};
 ghost use Rattle.bidi_base.specs.Utf16.{utf16_text};
-ghost use Rattle.bidi_text_lines.specs.Turned.{is_character};
 
 use super::LineText;
 use super::reversed::write_reversed;
 use crate::analysed::Analysed;
 use bidi_base::level::Level;
-use bidi_text::text::{TextSource, Utf16CharIter, Utf16Text};
+use bidi_text::text::{TextSource, Utf16CharIter, Utf16Text, are_characters};
 use std::alloc::{AllocError, Global};
 use std::borrow::CowSlice;
 use std::ops::Range;
@@ -27,17 +25,6 @@ fn write_chars_reversed(units: &[u16], out: &mut [u16])
         out[at..end].copy_from_slice(c.encode_utf16(&mut [0; 2]));
         at = end;
     }
-}
-
-// Whether each unit is a character. The test has no branch, so that a loop tests many units at once.
-fn are_characters(units: &[u16]) -> bool
-    ensures { result ≡ list_all is_character units.now }
-{
-    let mut all = true;
-    for unit in units {
-        all &= (*unit < 0xD800) | (*unit >= 0xE000);
-    }
-    all
 }
 
 impl<'t> LineText for Utf16Text<'t> {

@@ -1,14 +1,14 @@
-use Rattle.bidi_base.proofs.Common.{true, refl}
+use Rattle.bidi_base.proofs.Common.{true, refl, sym, ◌∙◌}
 use Rattle.bidi_calls.proofs.EvenText.{even-utf16, even_plain}
 use Rattle.bidi_calls.proofs.even.is_even_utf16.Goals as goal
 
-pub returns-then-have_no_surrogate : goal.returns-then-have_no_surrogate
-returns-then-have_no_surrogate c =
+pub returns-then-are_characters : goal.returns-then-are_characters
+returns-then-are_characters c =
     let us = c.args.units.now in
     let ns = c.args.classes.now in
     let ls = c.args.levels.now in
     even-utf16 us ns ls true c.requires.classes c.requires.levels c.requires.numbers (
-      (λ _. even_plain us ns ls (c.have_no_surrogate.ensures c.if-have_no_surrogate.true)),
+      (λ _. even_plain us ns ls (sym c.are_characters.ensures ∙ c.if-are_characters.true)),
       (λ _. refl),
     )
 

@@ -7,41 +7,23 @@ use Rattle.bidi_text_lines.proofs.TextOfLine.{runs_begin}
 use Rattle.bidi_text_lines.proofs.RunLengths.{visual_runs-whole}
 use Rattle.bidi_text_lines.proofs.line_text.write_line.Goals as goal
 
-pub find-requires : goal.find-requires
-find-requires g c =
+pub write_shown-requires-clause-levels : goal.write_shown-requires-clause-levels
+write_shown-requires-clause-levels g c =
     let shown = c.as_slice.ensures ∙ c.in_ok-show.ensures.levels in
     let long = ap length shown ∙ length-line_levels c.args.level (g.C.ClassList.classes c.args.classes) (g.L.LevelList.numbers c.args.levels) (sym c.requires.classes) ∙ c.requires.classes in
-    grind (arith, long, c.requires.levels)
+    omega (arith, long, c.requires.levels)
 
-pub write_runs-requires-clause-room : goal.write_runs-requires-clause-room
-write_runs-requires-clause-room g c =
-    let shown = c.as_slice-2.ensures ∙ c.in_ok-show.ensures.levels in
+pub write_shown-requires-clause-room : goal.write_shown-requires-clause-room
+write_shown-requires-clause-room g c =
+    let shown = c.as_slice.ensures ∙ c.in_ok-show.ensures.levels in
     let long = ap length shown ∙ length-line_levels c.args.level (g.C.ClassList.classes c.args.classes) (g.L.LevelList.numbers c.args.levels) (sym c.requires.classes) ∙ c.requires.classes in
     c.requires.room ∙ sym long
 
-pub write_runs-requires-clause-within : goal.write_runs-requires-clause-within
-write_runs-requires-clause-within g c =
-    let visual : AreVisualRuns c.args.line.start c.as_slice-2.result.now (map run_of c.as_slice-3.result.now) =
-    rw (c.as_slice-3.ensures, c.as_slice-2.ensures, ← c.as_slice.ensures) c.in_ok-find.ensures.visual in
-    runs_begin c.args.line.start c.as_slice-2.result.now c.as_slice-3.result.now visual
-
-pub write_runs-requires-clause-whole : goal.write_runs-requires-clause-whole
-write_runs-requires-clause-whole g c =
-    let visual : AreVisualRuns c.args.line.start c.as_slice-2.result.now (map run_of c.as_slice-3.result.now) =
-    rw (c.as_slice-3.ensures, c.as_slice-2.ensures, ← c.as_slice.ensures) c.in_ok-find.ensures.visual in
-    visual_runs-whole c.args.line.start c.as_slice-2.result.now c.as_slice-3.result.now visual
-
-pub write_runs-requires-clause-boundaries : goal.write_runs-requires-clause-boundaries
-write_runs-requires-clause-boundaries g c =
-    let shown = c.as_slice.ensures ∙ c.in_ok-show.ensures.levels in
-    ranges_at_boundaries g.T.TextSource.units (g.T.TextSource.characters c.args.text) c.as_slice-3.result.now _ (c.as_slice-3.ensures ∙ c.in_ok-find.ensures.runs ∙ ap (visual_runs c.args.line.start) shown) c.requires.runs
+pub write_shown-requires-clause-runs : goal.write_shown-requires-clause-runs
+write_shown-requires-clause-runs g c = rw (c.as_slice.ensures ∙ c.in_ok-show.ensures.levels) c.requires.runs
 
 pub returns-clause-text : goal.returns-clause-text
-returns-clause-text g c =
-    let shown = c.as_slice.ensures ∙ c.in_ok-show.ensures.levels in
-    let again = c.as_slice-2.ensures ∙ c.in_ok-show.ensures.levels in
-    let runs = c.as_slice-3.ensures ∙ c.in_ok-find.ensures.runs ∙ ap (visual_runs c.args.line.start) shown in
-    rw (c.write_runs.ensures, again, runs) refl
+returns-clause-text g c = rw (c.as_slice.ensures ∙ c.in_ok-show.ensures.levels) at c.write_shown.ensures.text
 
 pub returns-then-not-has_rtl-clause-text : goal.returns-then-not-has_rtl-clause-text
 returns-then-not-has_rtl-clause-text g c =

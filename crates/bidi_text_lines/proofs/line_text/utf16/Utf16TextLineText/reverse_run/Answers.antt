@@ -2,7 +2,7 @@ use Rattle.bidi_base.proofs.Common.{◌≡◌, ℕ, ◌+◌, ◌<◌, ◌^◌, t
 use Rattle.std.specs.Char.Escape.{encode_utf16}
 use Rattle.bidi_base.proofs.PlaceLemmas.{text_len-subrange}
 use Rattle.bidi_text.proofs.Utf16Lemmas.{has_units, text_len-utf16}
-use Rattle.bidi_text_lines.specs.Turned.{is_character}
+use Rattle.bidi_base.specs.Utf16.{is_character}
 use Rattle.bidi_text_lines.proofs.Utf16Backwards.{utf16_text-characters, backwards-characters}
 use Rattle.bidi_text_lines.proofs.line_text.utf16.Utf16TextLineText.reverse_run.Goals as goal
 
