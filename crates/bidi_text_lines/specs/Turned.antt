@@ -1,5 +1,5 @@
 -- The units of a text whose characters stand last first, each with its units in their own order.
-use Rattle.std.specs.Prelude.{ℕ, Bool, ◌+◌, ◌&&◌, ◌||◌, nat_le, nat_lt, if◌then◌else◌, List, ◌∷◌, slice_index_or}
+use Rattle.std.specs.Prelude.{ℕ, ◌+◌, ◌&&◌, nat_le, nat_lt, if◌then◌else◌, List, ◌∷◌, slice_index_or}
 
 -- what stands in the place of a byte when the list is turned round: the byte itself, or the one with which it changes
 -- places, which is one or two before or behind it. `far` and `near` stand before it, `next` and `later` behind it

@@ -1,4 +1,4 @@
-use Rattle.bidi_base.proofs.Common.{◌≡◌, ap, ◌∙◌, arith, length, length-map, map, run_of}
+use Rattle.bidi_base.proofs.Common.{ap, ◌∙◌, arith, length, length-map}
 use Rattle.std.proofs.Common.{Ok, Err, Result, OnOk}
 use Rattle.bidi_lines.proofs.FoundRuns.{runs_within, visual_runs-found}
 use Rattle.bidi_lines.proofs.VisualRuns.{order_below}

@@ -1,10 +1,7 @@
-use Rattle.bidi_base.proofs.Common.{◌≡◌, ◌+◌, false, is_odd, has_rtl, line_levels, map, length, ap, sym, ◌∙◌, refl, arith, run_of, visual_runs, AreVisualRuns}
+use Rattle.bidi_base.proofs.Common.{◌≡◌, ◌+◌, false, is_odd, has_rtl, line_levels, length, ap, sym, ◌∙◌, arith}
 use Rattle.std.proofs.Common.{slice_range}
 use Rattle.bidi_lines.proofs.LineLevels.{length-line_levels, has_rtl-even}
-use Rattle.bidi_text_lines.proofs.WrittenRuns.{ranges_at_boundaries}
 use Rattle.bidi_text_lines.proofs.StillLine.{shown_units-still}
-use Rattle.bidi_text_lines.proofs.TextOfLine.{runs_begin}
-use Rattle.bidi_text_lines.proofs.RunLengths.{visual_runs-whole}
 use Rattle.bidi_text_lines.proofs.line_text.write_line.Goals as goal
 
 pub write_shown-requires-clause-levels : goal.write_shown-requires-clause-levels

@@ -1,4 +1,4 @@
-use Rattle.bidi_base.proofs.Common.{◌≡◌, ◌+◌, List, [], ◌∷◌, map, flat_map, length, ap, ap₂, sym, ◌∙◌, refl, arith, run_of, visual_runs, AreVisualRuns, Range, ℕ}
+use Rattle.bidi_base.proofs.Common.{◌≡◌, ◌+◌, [], ◌∷◌, map, flat_map, length, ap, sym, ◌∙◌, arith, run_of, visual_runs}
 use Rattle.bidi_lines.proofs.FoundRuns.{AreVisualRuns-from_same}
 use Rattle.bidi_text_lines.proofs.WrittenRuns.{ranges_at_boundaries}
 use Rattle.bidi_text_lines.proofs.TextOfLine.{runs_begin}

@@ -33,4 +33,4 @@ loop-start-preserved g c =
     let source = g.D.BidiDataSource.source c.args.data_source.now in
     let is_byte = sym c.in-Some.is ∙ c.ascii_at.ensures in
     IsSkimmed-ascii _ _ _ _ _ _ _ _ c.loop-start.invariant g.met.T.TextSource.has_units (g.T.TextSource.characters c.args.text) c.requires.begins refl c.in-Some.byte is_byte c.bidi_class-class.result
-        (c.bidi_class-class.ensures ∙ ap source.class_of c.from-c.ensures) (c.loop-start.auto.classes ∙ c.requires.sized) (sym c.has.ensures ∙ c.if-has.false)
+    (c.bidi_class-class.ensures ∙ ap source.class_of c.from-c.ensures) (c.loop-start.auto.classes ∙ c.requires.sized) (sym c.has.ensures ∙ c.if-has.false)
