@@ -5,13 +5,14 @@ ghost use Rattle.bidi_base.specs.Analysed.{AnalysedText, IsLineOf, AreLevelsOfLi
 ghost use Rattle.bidi_base.specs.Display.{run_of, visual_runs};
 ghost use Rattle.bidi_base.specs.Levels.{has_rtl as has_rtl_of};
 ghost use Rattle.bidi_base.specs.Order.{visual_order};
-ghost use Rattle.bidi_base.specs.Text.{text_len, per_char, IsLine};
+ghost use Rattle.bidi_base.specs.Text.{text_len, per_char, is_per_char, IsLine};
 ghost use Rattle.bidi_lines.specs.LineRuns.{runs as kept_runs};
 ghost use Rattle.bidi_lines.specs.ShownLevels.{levels as kept_levels};
 ghost use Rattle.bidi_text_lines.specs.Written.{shown_units, AreRunsOfChars};
 
 use crate::analysed::Analysed;
 use crate::line_text::{LineText, write_runs};
+use bidi_base::char_data::BidiClass;
 use bidi_base::level::{Level, has_rtl};
 use bidi_lines::line_levels::first_units;
 use bidi_lines::shown_levels::ShownLevels;
@@ -77,7 +78,7 @@ pub struct ShownLine<T: TextSource> {
 }
 
 impl<T: TextSource> ShownLine<T> {
-    ghost use Rattle.bidi_text_lines.specs.Analysed.{analysed as analysed_of, text_of as analysed_text};
+    ghost use Rattle.bidi_text_lines.specs.Analysed.{analysed as analysed_of, text_of as analysed_text, with_lists};
     ghost use Rattle.bidi_text_lines.specs.ShownLine.{text_of, levels as levels_of, runs as runs_of, Shows};
 
     /// Shows the empty line at the start of a text. Nothing is allocated.
@@ -127,11 +128,34 @@ impl<T: TextSource> ShownLine<T> {
         ensures shows { OnOk result (Shows self.new (analysed_of analysed.now) level line) }
         ensures empty { OnErr result (Shows self.new (analysed_of analysed.now) level (record { start = 0; end = 0 })) }
     {
+        let classes = analysed.original_classes();
+        self.show_lists(analysed.text(), classes, analysed.levels(), level, line)
+    }
+
+    /// Shows a line of a text, as [`ShownLine::show`] does.
+    ///
+    /// `classes` and `levels` have the stored class and the stored level of each code unit of the whole text,
+    /// the same for all units of a character.
+    pub fn show_lists(
+        &mut self,
+        text: T,
+        classes: &[BidiClass],
+        levels: &[Level],
+        level: Level,
+        line: Range<usize>,
+    ) -> Result<(), AllocError>
+        requires line { IsLine T.units (T.characters text) line.start line.end }
+        requires classes { IsTrue (is_per_char ⟦<BidiClass as PartialEq>⟧.eq T.units (T.characters text) classes.now) }
+        requires levels { IsTrue (is_per_char ⟦<Level as PartialEq>⟧.eq T.units (T.characters text) levels.now) }
+        ensures text { text_of self.new ≡ text }
+        ensures shows { OnOk result (Shows self.new (with_lists T.units (T.characters text) classes.now levels.now) level line) }
+        ensures empty { OnErr result (Shows self.new (with_lists T.units (T.characters text) classes.now levels.now) level
+            (record { start = 0; end = 0 })) }
+    {
         let (start, end) = (line.start, line.end);
-        self.clear(analysed.text());
-        let classes = &analysed.original_classes()[start..end];
+        self.clear(text);
         self.levels
-            .show(level, classes, &analysed.levels()[start..end])?;
+            .show(level, &classes[start..end], &levels[start..end])?;
         self.runs.find(self.levels.as_slice(), start)?;
         self.has_rtl = has_rtl(self.levels.as_slice());
         self.start = start;

@@ -5,6 +5,7 @@ use bidi_base::char_data::BidiClass;
 use bidi_base::data_source::TableBidiData;
 use bidi_base::level::Level;
 use bidi_text::text::{CharsText, StrText, TextSource, Utf16Text, is_line, is_per_char};
+use bidi_text_lines::shown_line::ShownLine;
 use bidi_vectors_format::answer::{
     char_words, flag_word, level_words, levels_in, places_of, ranges_in, unit_words,
 };
@@ -303,7 +304,8 @@ impl Asked<'_> {
         self.check_paragraph(&info, tally)
     }
 
-    // The levels of all characters after L1, by the engine.
+    // The levels of all characters after L1, by the engine, and the levels and the runs of the line as it is
+    // shown.
     fn check_engine<T: TextSource>(
         &self,
         text: T,
@@ -316,11 +318,31 @@ impl Asked<'_> {
         if !fits || !is_line(text, &(start..end)) {
             return Err(NO_LINE);
         }
+        let (alloc, row) = (self.alloc, self.row);
         let level = self.paragraph(analysis.paragraphs())?.level();
-        let levels = line_levels(self.alloc, text, analysis, level, start..end);
-        let words = all_levels(self.alloc, text, levels);
-        tally.agree(self.row, "after", "engine::line_levels", words);
+        let levels = line_levels(alloc, text, analysis, level, start..end)?;
+        let words = levels_in(alloc, text, levels.as_slice());
+        tally.agree(row, "after", "engine::line_levels", words);
+        let mut shown = ShownLine::of_text(alloc, text);
+        let (classes, stored) = (analysis.original_classes(), analysis.levels());
+        shown.show_lists(text, classes, stored, level, start..end)?;
+        let words = ranges_in(alloc, text, shown.runs());
+        tally.agree(row, "runs", "ShownLine::runs", words);
+        let wanted = levels_between(alloc, Ok(levels), (start, end));
+        let came = level_words(alloc, shown.levels());
+        tally.same(row, "ShownLine::levels", wanted, came);
         Ok(())
+    }
+
+    // The same of a text in any encoding.
+    fn check_text<T: TextSource>(
+        &self,
+        source: &TableBidiData<'_>,
+        text: T,
+        tally: &mut Tally,
+    ) -> Result<(), RowFault> {
+        let analysis = analyse(self.alloc, source, text, base_of(self.row)?, true)?;
+        self.check_engine(text, &analysis, tally)
     }
 }
 
@@ -391,13 +413,13 @@ fn check_infos(
     let (alloc, row, units) = (asked.alloc, asked.row, text.utf16.as_slice());
     let info = utf16::BidiInfo::new_with_data_source(alloc, source, units, base_of(row)?)?;
     asked.check_utf16(&info, tally)?;
+    asked.check_text(source, Utf16Text::new(units), tally)?;
     if text.is_unicode {
         let units = text.utf8.as_str();
         let info = BidiInfo::new_with_data_source(alloc, source, units, base_of(row)?)?;
         asked.check_utf8(&info, tally)?;
-        let chars = CharsText::new(text.chars.as_slice());
-        let analysis = analyse(alloc, source, chars, base_of(row)?, true)?;
-        asked.check_engine(chars, &analysis, tally)?;
+        asked.check_text(source, StrText::new(units), tally)?;
+        asked.check_text(source, CharsText::new(text.chars.as_slice()), tally)?;
     }
     Ok(())
 }

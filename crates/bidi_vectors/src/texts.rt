@@ -18,7 +18,7 @@ use bidi_vectors_format::tally::Tally;
 use bidi_vectors_format::text::RowText;
 use bidi_vectors_rules::resolve;
 use std::alloc::Global;
-use unicode_bidi::engine::{Analysis, analyse, analyse_with_rule};
+use unicode_bidi::engine::{Analyser, Analysis, analyse, analyse_with_rule};
 use unicode_bidi::{BidiInfo, InitialInfo, ParagraphBidiInfo, ParagraphInfo, SplitRule, utf16};
 
 // What is found in a text without its levels: a class on each unit, and the paragraphs.
@@ -161,11 +161,48 @@ impl Asked<'_> {
         let (base, rule) = (base_of(self.row)?, self.split.rule());
         let analysis = analyse_with_rule(self.alloc, self.source, text, base, rule)?;
         self.check_analysis(text, &analysis, tally, "engine::analyse_with_rule");
+        self.check_analyser(text, tally)?;
         if self.split != Split::CrLfTogether {
             let split = self.split == Split::EachSeparator;
             let analysis = analyse(self.alloc, self.source, text, base_of(self.row)?, split)?;
             self.check_analysis(text, &analysis, tally, "engine::analyse");
         }
+        Ok(())
+    }
+
+    // Holds what an analyser writes to lists of ours against the row, when it reads the text a second time.
+    fn check_analyser<T: TextSource>(&self, text: T, tally: &mut Tally) -> Result<(), RowFault> {
+        let (alloc, base, rule) = (self.alloc, base_of(self.row)?, self.split.rule());
+        let mut classes = vec![in alloc; BidiClass::B; text.len()]?;
+        let mut levels = vec![in alloc; Level::rtl(); text.len()]?;
+        let (own_classes, own_levels) = (classes.as_mut_slice(), levels.as_mut_slice());
+        let mut analyser = Analyser::new(alloc);
+        analyser.analyse(
+            alloc,
+            self.source,
+            text,
+            base,
+            rule,
+            own_classes,
+            own_levels,
+        )?;
+        analyser.analyse(
+            alloc,
+            self.source,
+            text,
+            base,
+            rule,
+            own_classes,
+            own_levels,
+        )?;
+        let call = "Analyser::analyse";
+        Found {
+            text,
+            classes: own_classes,
+            paragraphs: analyser.paragraphs(),
+        }
+        .check(self, tally, call);
+        self.check_levels(text, own_levels, tally, call);
         Ok(())
     }
 

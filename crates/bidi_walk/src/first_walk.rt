@@ -220,7 +220,10 @@ pub struct FoundParagraphs {
 
 impl FoundParagraphs {
     /// No paragraphs.
-    pub fn new(alloc: Global) -> FoundParagraphs {
+    pub fn new(alloc: Global) -> FoundParagraphs
+        ensures paragraphs { result.paragraphs.items ≡ [] }
+        ensures flags { result.flags.items ≡ [] }
+    {
         FoundParagraphs {
             paragraphs: SmallVec::new(alloc),
             flags: SmallVec::new(alloc),

@@ -6,6 +6,7 @@ use Rattle.bidi_base.specs.Isolates.{stored_classes}
 use Rattle.bidi_base.specs.Source.{Source}
 use Rattle.bidi_base.specs.Stored.{levels_in}
 use Rattle.bidi_base.specs.Text.{subrange, per_unit, IsLine}
+use Rattle.bidi_text_lines.specs.Analysed.{with_lists}
 use Rattle.bidi_walk.specs.ParagraphFlags.{flags_of}
 use Rattle.unicode_bidi.specs.declared.engine.Analyser.{Analyser}
 use Rattle.unicode_bidi.specs.declared.engine.Analysis.{Analysis}
@@ -30,11 +31,7 @@ flags a = a.flags.items
 abbrev pub found_paragraphs : Analyser → List ParagraphInfo
 found_paragraphs a = a.found.paragraphs.items
 
--- a text of these characters, with a class and a level for each of its units
-abbrev pub with_lists : (ℕ → ℕ) → List ℕ → List BidiClass → List ℕ → AnalysedText
-with_lists len_of chars classes levels = record { len_of = len_of; chars = chars; classes = classes; levels = levels }
-
--- the same, with what was found
+-- a text of these characters, with what was found
 abbrev pub with_analysis : (ℕ → ℕ) → List ℕ → Analysis → AnalysedText
 with_analysis len_of chars a = with_lists len_of chars (original_classes a) (levels a)
 

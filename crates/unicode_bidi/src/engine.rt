@@ -7,7 +7,8 @@ ghost use Rattle.bidi_base.specs.Line.{levels_with_line as levels_with_line_of};
 ghost use Rattle.bidi_base.specs.declared.char_data.BidiClass.TheVariants.{L};
 ghost use Rattle.bidi_base.specs.Paragraphs.{AreParagraphRanges};
 ghost use Rattle.bidi_base.specs.Text.{text_len, is_per_char, per_char, char_index, IsLine};
-ghost use Rattle.unicode_bidi.specs.Engine.{with_analysis, with_lists, found_paragraphs, original_classes as original_classes_of, levels as stored_levels_of, paragraphs as paragraphs_of_analysis, flags as flags_of_analysis, unit_levels, own_flags, CanWrite, Follow};
+ghost use Rattle.bidi_text_lines.specs.Analysed.{with_lists};
+ghost use Rattle.unicode_bidi.specs.Engine.{with_analysis, found_paragraphs, original_classes as original_classes_of, levels as stored_levels_of, paragraphs as paragraphs_of_analysis, flags as flags_of_analysis, unit_levels, own_flags, CanWrite, Follow};
 ghost use Rattle.bidi_walk.specs.ParagraphFlags.{paragraph_flags};
 ghost use Rattle.bidi_walk.specs.ParagraphInfo.{level_of, range_of, ranges_of, levels_of};
 ghost use Rattle.bidi_walk.specs.SplitRule.{pieces_by, IsAnalysisBy};
@@ -141,7 +142,9 @@ pub struct Analyser {
 
 impl Analyser {
     /// An analyser that has read no text. Nothing is allocated.
-    pub fn new(alloc: Global) -> Analyser {
+    pub fn new(alloc: Global) -> Analyser
+        ensures { found_paragraphs result ≡ [] }
+    {
         Analyser {
             found: FoundParagraphs::new(alloc),
             resolver: LevelResolver::new(alloc),

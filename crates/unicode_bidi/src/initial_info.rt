@@ -52,7 +52,15 @@ impl<T: TextSource> InitialInfo<T> {
         let mut original_classes = vec![in alloc; BidiClass::L; text.len()]?;
         let memory = FoundParagraphs::new(alloc);
         let classes = original_classes.as_mut_slice();
-        let found = walk(alloc, data_source, text, default_para_level, split, classes, memory)?;
+        let found = walk(
+            alloc,
+            data_source,
+            text,
+            default_para_level,
+            split,
+            classes,
+            memory,
+        )?;
         Ok(InitialInfo {
             text,
             original_classes,
