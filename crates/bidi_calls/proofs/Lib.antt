@@ -7,4 +7,6 @@ pub mod FoundText
 pub mod KeptLines
 pub mod KeptText
 pub mod OneUnit
+pub mod ShownLine
+pub mod ShownRuns
 pub mod Utf8Fronts

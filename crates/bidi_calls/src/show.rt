@@ -1,0 +1,207 @@
+//! Everything about a line in one call: its levels, its visual runs, the order of its characters and its
+//! text from left to right.
+ghost use Rattle.std.specs.Prelude.{◌≡◌, ℕ, ◌+◌, ◌<◌, ◌≤◌, ◌&&◌, if◌then◌else◌, IsTrue, true, length, map, flat_map, reverse, slice_index, get_or, sum_by, OnOk, OnErr, IfOk, All};
+ghost use Rattle.bidi_base.specs.Display.{run_of, visual_runs, AreVisualRuns};
+ghost use Rattle.bidi_base.specs.Levels.{is_odd};
+ghost use Rattle.bidi_base.specs.Order.{visual_order as visual_order_of};
+ghost use Rattle.bidi_base.specs.Text.{text_len, one_unit, IsLine};
+ghost use Rattle.bidi_calls.specs.Everything.{buffers, line_shown, run_rows, room_fault, IsWritten, IsKept};
+ghost use Rattle.bidi_calls.specs.Kept.{written_if_room};
+ghost use Rattle.bidi_calls.specs.Lines.{IsSound, shown_levels};
+ghost use Rattle.bidi_calls.specs.Shown.{is_even, order_of_line, reordered_chars};
+ghost use Rattle.bidi_numbers.specs.Faults.{FaultsAs, has_room_or_none};
+ghost use Rattle.bidi_numbers.specs.Rows.{run_row};
+ghost use Rattle.bidi_text_lines.specs.Written.{run_units, shown_units};
+
+use crate::checked::write_levels;
+use crate::line::KeptLine;
+use bidi_lines::visual_order::write_visual_order;
+use bidi_lines::visual_runs::LineRuns;
+use bidi_numbers::fault::{Fault, check};
+use bidi_numbers::rows::Run;
+use bidi_text_lines::line_text::{LineText, write_runs};
+use std::alloc::Global;
+use std::ops::Range;
+use unicode_bidi::{Level, TextSource};
+
+// Writes levels to the front of a buffer that is not empty.
+fn put_levels(out: &mut [u8], levels: &[Level])
+    requires { IsTrue (has_room_or_none (length levels.now) (length out.old)) }
+    ensures { out.new ≡ written_if_room levels.now out.old }
+{
+    if !out.is_empty() {
+        write_levels(&mut out[..levels.len()], levels);
+    }
+}
+
+// A run of a line as a row. The line begins at the unit `start` of the text, and the run's units are counted from
+// there.
+fn row_of(levels: &[Level], start: usize, run: &Range<usize>) -> Run
+    requires begins { run.now.start < length levels.now }
+    requires ends { run.now.end ≤ length levels.now }
+    requires whole { start + length levels.now ≤ usize.MAX }
+    ensures { result ≡ run_row start levels.now (start + run.now.start, start + run.now.end) }
+{
+    Run {
+        start: start + run.start,
+        end: start + run.end,
+        level: levels[run.start].number(),
+    }
+}
+
+// Writes runs as rows.
+fn write_rows(out: &mut [Run], levels: &[Level], start: usize, runs: &[Range<usize>])
+    requires same_len { length out.old ≡ length runs.now }
+    requires within { All (λ r. r.start < length levels.now × r.end ≤ length levels.now) runs.now }
+    requires whole { start + length levels.now ≤ usize.MAX }
+    ensures { out.new ≡ map (λ r. run_row start levels.now (start + r.start, start + r.end)) runs.now }
+{
+    for i in 0..runs.len() {
+        out[i] = row_of(levels, start, &runs[i]);
+    }
+}
+
+// Writes the runs of a line as rows to the front of a buffer that is not empty.
+fn put_runs(out: &mut [Run], levels: &[Level], start: usize, runs: &[Range<usize>])
+    requires room { IsTrue (has_room_or_none (length runs.now) (length out.old)) }
+    requires visual { AreVisualRuns 0 levels.now (map run_of runs.now) }
+    requires runs { map run_of runs.now ≡ visual_runs 0 levels.now }
+    requires whole { start + length levels.now ≤ usize.MAX }
+    ensures { out.new ≡ written_if_room (map (run_row start levels.now) (visual_runs start levels.now)) out.old }
+{
+    if !out.is_empty() {
+        write_rows(&mut out[..runs.len()], levels, start, runs);
+    }
+}
+
+// Writes the text of a line, run by run, to the front of a buffer that is not empty.
+fn put_text<T: LineText>(text: T, levels: &[Level], runs: &[Range<usize>], out: &mut [T::Unit])
+    requires room { IsTrue (has_room_or_none (length levels.now) (length out.old)) }
+    requires visual { AreVisualRuns 0 levels.now (map run_of runs.now) }
+    requires boundaries { All (λ r. IsLine T.units (T.characters text) r.start r.end) runs.now }
+    ensures { out.new
+        ≡ written_if_room
+        (flat_map (run_units T.units T.encode (T.characters text) (T.units_of text) 0 levels.now) (map run_of runs.now))
+        out.old }
+{
+    if !out.is_empty() {
+        write_runs(text, 0, levels, runs, &mut out[..levels.len()]);
+    }
+}
+
+// Writes the visual order of levels to the front of a buffer that is not empty.
+fn put_order(out: &mut [usize], levels: &[Level])
+    requires { IsTrue (has_room_or_none (length levels.now) (length out.old)) }
+    ensures { out.new ≡ written_if_room (visual_order_of levels.now) out.old }
+{
+    if !out.is_empty() {
+        write_visual_order(levels, &mut out[..levels.len()]);
+    }
+}
+
+// Whether a buffer has room for so many entries, or is empty.
+fn has_room(count: usize, room: usize) -> bool
+    ensures { result ≡ has_room_or_none count room }
+{
+    room == 0 || count <= room
+}
+
+// How many characters a text of so many units has.
+fn count_characters<T: TextSource>(text: T, units: usize) -> usize
+    requires { units ≡ text_len T.units (T.characters text) }
+    ensures { result ≡ length (T.characters text) }
+{
+    let mut count = 0;
+    for (at, _) in text.indices_lengths() {
+        count += 1;
+    }
+    count
+}
+
+// Whether a buffer has room for one entry for each character of a text, or is empty. The characters are
+// counted only if the buffer has less room than one entry for each unit.
+fn has_room_for_order<T: TextSource>(text: T, units: usize, room: usize) -> bool
+    requires { units ≡ text_len T.units (T.characters text) }
+    ensures { result ≡ has_room_or_none (length (T.characters text)) room }
+{
+    has_room(units, room) || count_characters(text, units) <= room
+}
+
+// Whether each buffer has room for its part of a line of so many units and runs, or is empty.
+fn have_room<T: TextSource>(
+    text: T,
+    units: usize,
+    runs: usize,
+    level_room: usize,
+    run_room: usize,
+    order_room: usize,
+    text_room: usize,
+) -> bool
+    requires { units ≡ text_len T.units (T.characters text) }
+    ensures { result
+        ≡ (has_room_or_none units level_room
+        && (has_room_or_none runs run_room
+        && (has_room_or_none (length (T.characters text)) order_room && has_room_or_none units text_room))) }
+{
+    has_room(units, level_room)
+        && has_room(runs, run_room)
+        && has_room_for_order(text, units, order_room)
+        && has_room(units, text_room)
+}
+
+/// Shows a line of a text: writes its levels after L1, its visual runs (L2), the order of its characters
+/// and its text from left to right, each to a buffer that is not empty, and to `characters` how many
+/// characters it has. Returns the number of runs.
+///
+/// `text` is the line's, and has one class and one level for each of its characters. A line of up to 256
+/// units with up to 16 runs needs no allocation. After a fault nothing is written.
+pub fn show_text<T: LineText>(
+    alloc: Global,
+    text: T,
+    line: &KeptLine<'_>,
+    levels: &mut [u8],
+    runs: &mut [Run],
+    order: &mut [usize],
+    out: &mut [T::Unit],
+    characters: &mut usize,
+) -> Result<usize, Fault>
+    requires sound { IsSound line.now }
+    requires even { is_even T.units (T.characters text) line.now ≡ true }
+    requires units { text_len T.units (T.characters text) + line.now.start ≡ line.now.end }
+    requires one_a_unit { length (T.units_of text) ≡ text_len T.units (T.characters text) }
+    requires encoded { (c : ℕ) → length (T.encode c) ≡ T.units c }
+    ensures fault { let shown = line_shown T.units (T.characters text) line.now
+        (shown_units T.units T.encode (T.characters text) (T.units_of text) 0 (shown_levels line.now)) in
+        FaultsAs result (room_fault shown (buffers levels.old runs.old order.old out.old)) }
+    ensures kept { OnErr result
+        (IsKept (buffers levels.old runs.old order.old out.old) (buffers levels.new runs.new order.new out.new)
+        × (characters.new ≡ characters.old)) }
+    ensures shown { let shown = line_shown T.units (T.characters text) line.now
+        (shown_units T.units T.encode (T.characters text) (T.units_of text) 0 (shown_levels line.now)) in
+        OnOk result (IsWritten shown (buffers levels.old runs.old order.old out.old) (buffers levels.new runs.new order.new out.new)) }
+    ensures characters { OnOk result (characters.new ≡ length (order_of_line T.units (T.characters text) line.now)) }
+    ensures count { IfOk result (λ count. count ≡ length (run_rows line.now)) }
+{
+    let mut shown = line.shown(alloc)?;
+    let mut found = LineRuns::new(alloc);
+    found.find(shown.as_slice(), 0)?;
+    let units = shown.as_slice().len();
+    let count = found.as_slice().len();
+    let fits = have_room(
+        text,
+        units,
+        count,
+        levels.len(),
+        runs.len(),
+        order.len(),
+        out.len(),
+    );
+    check(fits, Fault::NoRoom)?;
+    put_levels(levels, shown.as_slice());
+    put_runs(runs, shown.as_slice(), line.start, found.as_slice());
+    put_text(text, shown.as_slice(), found.as_slice(), out);
+    shown.keep_first_units(text);
+    put_order(order, shown.as_slice());
+    *characters = shown.as_slice().len();
+    Ok(count)
+}
