@@ -10,3 +10,4 @@ pub mod OneUnit
 pub mod ShownLine
 pub mod ShownRuns
 pub mod Utf8Fronts
+pub mod WrittenChars

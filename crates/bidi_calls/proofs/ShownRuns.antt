@@ -52,3 +52,6 @@ length-rows by levels ranges e = ap length (sym (rows-moved by levels ranges e))
 -- each run lies in the line
 pub runs_within : (levels : List ℕ) (ranges : List (Range ℕ)) → AreVisualRuns 0 levels (map run_of ranges) → All (λ r. (r.start < length levels) × (r.end ≤ length levels)) ranges
 runs_within levels ranges h k d fits = grind (arith, get_or-map run_of ranges k d (0, 0), length-map, h.are_runs k (0, 0))
+
+pub runs_ordered : (levels : List ℕ) (ranges : List (Range ℕ)) → AreVisualRuns 0 levels (map run_of ranges) → All (λ r. r.start ≤ r.end) ranges
+runs_ordered levels ranges h k d fits = grind (arith, get_or-map run_of ranges k d (0, 0), length-map, h.are_runs k (0, 0))

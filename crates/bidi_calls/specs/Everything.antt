@@ -1,12 +1,14 @@
 -- Everything about a line: what one call writes of it, and which buffers have room for that.
 use Rattle.std.specs.Prelude.{◌≡◌, ℕ, Bool, ◌&&◌, List, length, map, Option}
+use Rattle.std.specs.Option.{option_or}
 use Rattle.bidi_base.specs.Display.{visual_runs}
+use Rattle.bidi_base.specs.Text.{one_unit}
 use Rattle.bidi_calls.specs.declared.line.KeptLine.{KeptLine}
 use Rattle.bidi_calls.specs.Kept.{written_if_room}
 use Rattle.bidi_calls.specs.Lines.{shown_levels}
-use Rattle.bidi_calls.specs.Shown.{order_of_line}
+use Rattle.bidi_calls.specs.Shown.{is_even, order_of_line, reordered, reordered_chars}
 use Rattle.bidi_numbers.specs.declared.fault.Fault.{Fault}
-use Rattle.bidi_numbers.specs.declared.fault.Fault.TheVariants.{NoRoom}
+use Rattle.bidi_numbers.specs.declared.fault.Fault.TheVariants.{UnevenCharacter, NoRoom}
 use Rattle.bidi_numbers.specs.declared.rows.Run.{Run}
 use Rattle.bidi_numbers.specs.Faults.{fault_unless, has_room_or_none}
 use Rattle.bidi_numbers.specs.Rows.{run_row}
@@ -55,3 +57,17 @@ pub record IsKept {X : Type 0} (before after : LineShown X) : Type 0 where
   pub runs : after.runs ≡ before.runs
   pub order : after.order ≡ before.order
   pub text : after.text ≡ before.text
+
+-- a line of UTF-8 or UTF-16 with these characters and units, and its text from left to right
+abbrev pub everything : (ℕ → ℕ) → (ℕ → List ℕ) → List ℕ → List ℕ → KeptLine → LineShown ℕ
+everything len_of encode chars units l = line_shown len_of chars l (reordered len_of encode chars units l)
+
+-- what is wrong with the units of that line, and with the room for all of it
+abbrev pub everything_fault : (ℕ → ℕ) → (ℕ → List ℕ) → List ℕ → List ℕ → KeptLine → LineShown ℕ → Option Fault
+everything_fault len_of encode chars units l before =
+    option_or (fault_unless (is_even len_of chars l) UnevenCharacter)
+    (room_fault (everything len_of encode chars units l) before)
+
+-- a line of characters of one unit each
+abbrev pub everything_of_chars : List ℕ → KeptLine → LineShown ℕ
+everything_of_chars chars l = line_shown one_unit chars l (reordered_chars chars l)

@@ -1,11 +1,11 @@
 //! Everything about a line in one call: its levels, its visual runs, the order of its characters and its
 //! text from left to right.
-ghost use Rattle.std.specs.Prelude.{◌≡◌, ℕ, ◌+◌, ◌<◌, ◌≤◌, ◌&&◌, if◌then◌else◌, IsTrue, true, length, map, flat_map, reverse, slice_index, get_or, sum_by, OnOk, OnErr, IfOk, All};
+ghost use Rattle.std.specs.Prelude.{◌≡◌, ℕ, ◌+◌, ◌-◌, ◌<◌, ◌≤◌, ◌&&◌, if◌then◌else◌, IsTrue, true, length, map, flat_map, reverse, slice_index, get_or, sum_by, OnOk, OnErr, IfOk, All};
 ghost use Rattle.bidi_base.specs.Display.{run_of, visual_runs, AreVisualRuns};
 ghost use Rattle.bidi_base.specs.Levels.{is_odd};
 ghost use Rattle.bidi_base.specs.Order.{visual_order as visual_order_of};
 ghost use Rattle.bidi_base.specs.Text.{text_len, one_unit, IsLine};
-ghost use Rattle.bidi_calls.specs.Everything.{buffers, line_shown, run_rows, room_fault, IsWritten, IsKept};
+ghost use Rattle.bidi_calls.specs.Everything.{buffers, everything_of_chars, line_shown, run_rows, room_fault, IsWritten, IsKept};
 ghost use Rattle.bidi_calls.specs.Kept.{written_if_room};
 ghost use Rattle.bidi_calls.specs.Lines.{IsSound, shown_levels};
 ghost use Rattle.bidi_calls.specs.Shown.{is_even, order_of_line, reordered_chars};
@@ -149,6 +149,26 @@ fn have_room<T: TextSource>(
         && has_room(units, text_room)
 }
 
+// The same where each unit is a character.
+fn chars_have_room(
+    units: usize,
+    runs: usize,
+    level_room: usize,
+    run_room: usize,
+    order_room: usize,
+    text_room: usize,
+) -> bool
+    ensures { result
+        ≡ (has_room_or_none units level_room
+        && (has_room_or_none runs run_room
+        && (has_room_or_none units order_room && has_room_or_none units text_room))) }
+{
+    has_room(units, level_room)
+        && has_room(runs, run_room)
+        && has_room(units, order_room)
+        && has_room(units, text_room)
+}
+
 /// Shows a line of a text: writes its levels after L1, its visual runs (L2), the order of its characters
 /// and its text from left to right, each to a buffer that is not empty, and to `characters` how many
 /// characters it has. Returns the number of runs.
@@ -203,5 +223,108 @@ pub fn show_text<T: LineText>(
     shown.keep_first_units(text);
     put_order(order, shown.as_slice());
     *characters = shown.as_slice().len();
+    Ok(count)
+}
+
+// Writes a run of a line. At an odd level its characters, one unit each, are reversed.
+fn write_run(chars: &[u32], is_rtl: bool, out: &mut [u32])
+    requires { length out.old ≡ length chars.now }
+    ensures { out.new ≡ (if is_rtl then reverse chars.now else chars.now) }
+{
+    out.copy_from_slice(chars);
+    if is_rtl {
+        out.reverse();
+    }
+}
+
+// Writes the runs of a line, one after the other.
+fn write_each_run(chars: &[u32], levels: &[Level], runs: &[Range<usize>], out: &mut [u32])
+    requires one_a_unit { length chars.now ≡ length levels.now }
+    requires room { length out.old ≡ length levels.now }
+    requires visual { AreVisualRuns 0 levels.now (map run_of runs.now) }
+    requires within { All (λ r. r.start < length levels.now × r.end ≤ length levels.now) runs.now }
+    requires ordered { All (λ r. r.start ≤ r.end) runs.now }
+    requires whole { sum_by (λ r. r.end - r.start) runs.now ≡ length levels.now }
+    ensures { out.new ≡ map (λ k. get_or chars.now k 0) (visual_order_of levels.now) }
+{
+    let mut at = 0;
+    for run in runs {
+        let end = at + (run.end - run.start);
+        let is_rtl = levels[run.start].is_rtl();
+        let own = &chars[run.start..run.end];
+        write_run(own, is_rtl, &mut out[at..end]);
+        at = end;
+    }
+}
+
+/// Writes the characters of a line from left to right (L2), where each unit is a character.
+///
+/// `levels` are those of the line's units after L1, and `runs` its visual runs, counted from its first
+/// unit. Takes time linear in the line, and does not allocate.
+pub fn write_chars(chars: &[u32], levels: &[Level], runs: &[Range<usize>], out: &mut [u32])
+    requires one_a_unit { length chars.now ≡ length levels.now }
+    requires room { length out.old ≡ length levels.now }
+    requires visual { AreVisualRuns 0 levels.now (map run_of runs.now) }
+    ensures { out.new ≡ map (λ k. get_or chars.now k 0) (visual_order_of levels.now) }
+{
+    write_each_run(chars, levels, runs, out);
+}
+
+// Writes the characters of a line from left to right to the front of a buffer that is not empty.
+fn put_chars(chars: &[u32], levels: &[Level], runs: &[Range<usize>], out: &mut [u32])
+    requires one_a_unit { length chars.now ≡ length levels.now }
+    requires room { IsTrue (has_room_or_none (length levels.now) (length out.old)) }
+    requires visual { AreVisualRuns 0 levels.now (map run_of runs.now) }
+    ensures { out.new ≡ written_if_room (map (λ k. get_or chars.now k 0) (visual_order_of levels.now)) out.old }
+{
+    if !out.is_empty() {
+        write_chars(chars, levels, runs, &mut out[..levels.len()]);
+    }
+}
+
+/// Shows a line as [`show_text`] does, where each unit is a character.
+///
+/// A line of up to 256 units with up to 16 runs needs no allocation. After a fault nothing is written.
+pub fn show_chars(
+    alloc: Global,
+    chars: &[u32],
+    line: &KeptLine<'_>,
+    levels: &mut [u8],
+    runs: &mut [Run],
+    order: &mut [usize],
+    out: &mut [u32],
+    characters: &mut usize,
+) -> Result<usize, Fault>
+    requires sound { IsSound line.now }
+    requires units { length chars.now + line.now.start ≡ line.now.end }
+    ensures fault { FaultsAs result
+        (room_fault (everything_of_chars chars.now line.now) (buffers levels.old runs.old order.old out.old)) }
+    ensures kept { OnErr result
+        (IsKept (buffers levels.old runs.old order.old out.old) (buffers levels.new runs.new order.new out.new)
+        × (characters.new ≡ characters.old)) }
+    ensures shown { OnOk result (IsWritten (everything_of_chars chars.now line.now)
+        (buffers levels.old runs.old order.old out.old) (buffers levels.new runs.new order.new out.new)) }
+    ensures characters { OnOk result (characters.new ≡ length (order_of_line one_unit chars.now line.now)) }
+    ensures count { IfOk result (λ count. count ≡ length (run_rows line.now)) }
+{
+    let shown = line.shown(alloc)?;
+    let mut found = LineRuns::new(alloc);
+    found.find(shown.as_slice(), 0)?;
+    let units = chars.len();
+    let count = found.as_slice().len();
+    let fits = chars_have_room(
+        units,
+        count,
+        levels.len(),
+        runs.len(),
+        order.len(),
+        out.len(),
+    );
+    check(fits, Fault::NoRoom)?;
+    put_levels(levels, shown.as_slice());
+    put_runs(runs, shown.as_slice(), line.start, found.as_slice());
+    put_chars(chars, shown.as_slice(), found.as_slice(), out);
+    put_order(order, shown.as_slice());
+    *characters = units;
     Ok(count)
 }
