@@ -1,3 +1,4 @@
+pub mod Counted
 pub mod EvenBlocks
 pub mod EvenChars
 pub mod EvenSteps

@@ -15,13 +15,13 @@ unfolding order_of_line
 length-order len_of chars l = length-visual_order (per_char 0 len_of chars (shown_levels l)) ∙ length-per_char 0 len_of chars (shown_levels l)
 
 -- what the call tells of the room, by the lengths that it finds
-pub told-room : {X : Type 0} (len_of : ℕ → ℕ) (chars : List ℕ) (l : KeptLine) (text : List X) (before : LineShown X) (units runs : ℕ) (fits : Bool)
-    → length (shown_levels l) ≡ units → length (run_rows l) ≡ runs → length text ≡ units
+pub told-room : {X : Type 0} (len_of : ℕ → ℕ) (chars : List ℕ) (l : KeptLine) (text : List X) (before : LineShown X) (units runs many : ℕ) (fits : Bool)
+    → length (shown_levels l) ≡ units → length (run_rows l) ≡ runs → length text ≡ units → many ≡ length chars
     → fits ≡ (has_room_or_none units (length before.levels)
     && (has_room_or_none runs (length before.runs)
-    && (has_room_or_none (length chars) (length before.order) && has_room_or_none units (length before.text))))
+    && (has_room_or_none many (length before.order) && has_room_or_none units (length before.text))))
     → room_fault (line_shown len_of chars l text) before ≡ fault_unless fits NoRoom
-told-room len_of chars l text before units runs fits of_levels of_runs of_text e = simp (of_levels, of_runs, of_text, length-order len_of chars l, e) refl
+told-room len_of chars l text before units runs many fits of_levels of_runs of_text of_chars e = simp (of_levels, of_runs, of_text, length-order len_of chars l, ← of_chars, e) refl
 
 -- what the call tells of a line whose units are equal within each character
 pub told-even : (len_of : ℕ → ℕ) (encode : ℕ → List ℕ) (chars units : List ℕ) (l : KeptLine) (before : LineShown ℕ) → is_even len_of chars l ≡ true

@@ -1,5 +1,5 @@
 -- Everything about a line: what one call writes of it, and which buffers have room for that.
-use Rattle.std.specs.Prelude.{◌≡◌, ℕ, Bool, ◌&&◌, List, length, map, Option}
+use Rattle.std.specs.Prelude.{◌≡◌, ℕ, Bool, ◌&&◌, ◌||◌, nat_le, nat_lt, List, length, map, Option}
 use Rattle.std.specs.Option.{option_or}
 use Rattle.bidi_base.specs.Display.{visual_runs}
 use Rattle.bidi_base.specs.Text.{one_unit}
@@ -71,3 +71,7 @@ everything_fault len_of encode chars units l before =
 -- a line of characters of one unit each
 abbrev pub everything_of_chars : List ℕ → KeptLine → LineShown ℕ
 everything_of_chars chars l = line_shown one_unit chars l (reordered_chars chars l)
+
+-- a byte of UTF-8 begins a character
+abbrev pub begins_character : ℕ → Bool
+begins_character byte = nat_lt byte 0x80 || nat_le 0xC0 byte

@@ -123,8 +123,10 @@ fn sixteen_have_no_surrogate(units: &[u16], at: usize) -> bool
     top_bits.simd_eq(u16x16::splat(0xD800 >> 11)).to_bitmask() == 0
 }
 
-// Whether sixteen units or more have no surrogate among them. The last block may overlap the one before it.
-fn have_no_surrogate(units: &[u16]) -> bool
+/// Returns whether sixteen units or more have no surrogate among them.
+///
+/// The last block may overlap the one before it.
+pub(crate) fn have_no_surrogate(units: &[u16]) -> bool
     requires { 16 ≤ length units.now }
     ensures { IsTrue result → HasNoSurrogate units.now 0 (length units.now) }
 {

@@ -4,17 +4,19 @@ ghost use Rattle.std.specs.Prelude.{◌≡◌, ℕ, ◌+◌, ◌-◌, ◌<◌, �
 ghost use Rattle.bidi_base.specs.Display.{run_of, visual_runs, AreVisualRuns};
 ghost use Rattle.bidi_base.specs.Levels.{is_odd};
 ghost use Rattle.bidi_base.specs.Order.{visual_order as visual_order_of};
-ghost use Rattle.bidi_base.specs.Text.{text_len, one_unit, IsLine};
+ghost use Rattle.bidi_base.specs.Text.{text_len, per_char, one_unit, IsLine};
 ghost use Rattle.bidi_calls.specs.Everything.{buffers, everything_of_chars, line_shown, run_rows, room_fault, IsWritten, IsKept};
 ghost use Rattle.bidi_calls.specs.Kept.{written_if_room};
 ghost use Rattle.bidi_calls.specs.Lines.{IsSound, shown_levels};
 ghost use Rattle.bidi_calls.specs.Shown.{is_even, order_of_line, reordered_chars};
 ghost use Rattle.bidi_numbers.specs.Faults.{FaultsAs, has_room_or_none};
 ghost use Rattle.bidi_numbers.specs.Rows.{run_row};
+ghost use Rattle.bidi_lines.specs.ShownLevels.{levels as levels_of};
 ghost use Rattle.bidi_text_lines.specs.Written.{run_units, shown_units};
 
 use crate::checked::write_levels;
 use crate::line::KeptLine;
+use bidi_lines::shown_levels::ShownLevels;
 use bidi_lines::visual_order::write_visual_order;
 use bidi_lines::visual_runs::LineRuns;
 use bidi_numbers::fault::{Fault, check};
@@ -106,8 +108,8 @@ fn has_room(count: usize, room: usize) -> bool
     room == 0 || count <= room
 }
 
-// How many characters a text of so many units has.
-fn count_characters<T: TextSource>(text: T, units: usize) -> usize
+/// Returns how many characters a text of so many units has.
+pub(crate) fn count_characters<T: TextSource>(text: T, units: usize) -> usize
     requires { units ≡ text_len T.units (T.characters text) }
     ensures { result ≡ length (T.characters text) }
 {
@@ -118,41 +120,11 @@ fn count_characters<T: TextSource>(text: T, units: usize) -> usize
     count
 }
 
-// Whether a buffer has room for one entry for each character of a text, or is empty. The characters are
-// counted only if the buffer has less room than one entry for each unit.
-fn has_room_for_order<T: TextSource>(text: T, units: usize, room: usize) -> bool
-    requires { units ≡ text_len T.units (T.characters text) }
-    ensures { result ≡ has_room_or_none (length (T.characters text)) room }
-{
-    has_room(units, room) || count_characters(text, units) <= room
-}
-
-// Whether each buffer has room for its part of a line of so many units and runs, or is empty.
-fn have_room<T: TextSource>(
-    text: T,
+// Whether each buffer has room for its part of a line of so many units, runs and characters, or is empty.
+fn have_room(
     units: usize,
     runs: usize,
-    level_room: usize,
-    run_room: usize,
-    order_room: usize,
-    text_room: usize,
-) -> bool
-    requires { units ≡ text_len T.units (T.characters text) }
-    ensures { result
-        ≡ (has_room_or_none units level_room
-        && (has_room_or_none runs run_room
-        && (has_room_or_none (length (T.characters text)) order_room && has_room_or_none units text_room))) }
-{
-    has_room(units, level_room)
-        && has_room(runs, run_room)
-        && has_room_for_order(text, units, order_room)
-        && has_room(units, text_room)
-}
-
-// The same where each unit is a character.
-fn chars_have_room(
-    units: usize,
-    runs: usize,
+    characters: usize,
     level_room: usize,
     run_room: usize,
     order_room: usize,
@@ -161,23 +133,50 @@ fn chars_have_room(
     ensures { result
         ≡ (has_room_or_none units level_room
         && (has_room_or_none runs run_room
-        && (has_room_or_none units order_room && has_room_or_none units text_room))) }
+        && (has_room_or_none characters order_room && has_room_or_none units text_room))) }
 {
     has_room(units, level_room)
         && has_room(runs, run_room)
-        && has_room(units, order_room)
+        && has_room(characters, order_room)
         && has_room(units, text_room)
+}
+
+// Keeps one level for each of a line's `len` characters. Where each character is one unit, there is nothing to do.
+fn keep_characters<T: TextSource>(text: T, len: usize, shown: &mut ShownLevels)
+    requires units { length (levels_of shown.old) ≡ text_len T.units (T.characters text) }
+    requires len { len ≡ length (T.characters text) }
+    ensures { levels_of shown.new ≡ per_char 0 T.units (T.characters text) (levels_of shown.old) }
+{
+    if len < shown.as_slice().len() {
+        shown.keep_first_units(text);
+    }
+}
+
+// Writes the order of a line's `len` characters to the front of a buffer that is not empty. `shown` has one level for
+// each unit before, and may have one for each character behind.
+fn put_order_of<T: TextSource>(out: &mut [usize], text: T, len: usize, shown: &mut ShownLevels)
+    requires units { length (levels_of shown.old) ≡ text_len T.units (T.characters text) }
+    requires len { len ≡ length (T.characters text) }
+    requires room { IsTrue (has_room_or_none len (length out.old)) }
+    ensures { out.new
+        ≡ written_if_room (visual_order_of (per_char 0 T.units (T.characters text) (levels_of shown.old))) out.old }
+{
+    if !out.is_empty() {
+        keep_characters(text, len, shown);
+        write_visual_order(shown.as_slice(), &mut out[..len]);
+    }
 }
 
 /// Shows a line of a text: writes its levels after L1, its visual runs (L2), the order of its characters
 /// and its text from left to right, each to a buffer that is not empty, and to `characters` how many
 /// characters it has. Returns the number of runs.
 ///
-/// `text` is the line's, and has one class and one level for each of its characters. A line of up to 256
-/// units with up to 16 runs needs no allocation. After a fault nothing is written.
+/// `text` is the line's, has `len` characters, and has one class and one level for each of them. A line of
+/// up to 256 units with up to 16 runs needs no allocation. After a fault nothing is written.
 pub fn show_text<T: LineText>(
     alloc: Global,
     text: T,
+    len: usize,
     line: &KeptLine<'_>,
     levels: &mut [u8],
     runs: &mut [Run],
@@ -188,6 +187,7 @@ pub fn show_text<T: LineText>(
     requires sound { IsSound line.now }
     requires even { is_even T.units (T.characters text) line.now ≡ true }
     requires units { text_len T.units (T.characters text) + line.now.start ≡ line.now.end }
+    requires len { len ≡ length (T.characters text) }
     requires one_a_unit { length (T.units_of text) ≡ text_len T.units (T.characters text) }
     requires encoded { (c : ℕ) → length (T.encode c) ≡ T.units c }
     ensures fault { let shown = line_shown T.units (T.characters text) line.now
@@ -208,9 +208,9 @@ pub fn show_text<T: LineText>(
     let units = shown.as_slice().len();
     let count = found.as_slice().len();
     let fits = have_room(
-        text,
         units,
         count,
+        len,
         levels.len(),
         runs.len(),
         order.len(),
@@ -220,9 +220,8 @@ pub fn show_text<T: LineText>(
     put_levels(levels, shown.as_slice());
     put_runs(runs, shown.as_slice(), line.start, found.as_slice());
     put_text(text, shown.as_slice(), found.as_slice(), out);
-    shown.keep_first_units(text);
-    put_order(order, shown.as_slice());
-    *characters = shown.as_slice().len();
+    put_order_of(order, text, len, &mut shown);
+    *characters = len;
     Ok(count)
 }
 
@@ -312,9 +311,10 @@ pub fn show_chars(
     found.find(shown.as_slice(), 0)?;
     let units = chars.len();
     let count = found.as_slice().len();
-    let fits = chars_have_room(
+    let fits = have_room(
         units,
         count,
+        units,
         levels.len(),
         runs.len(),
         order.len(),

@@ -13,9 +13,9 @@ ghost use Rattle.std.specs.Option.{option_or};
 ghost use Rattle.std.specs.Result.{result_err};
 
 use crate::checked;
-use crate::even::is_even_utf16;
+use crate::even::{have_no_surrogate, is_even_utf16};
 use crate::line::{KeptLine, map_characters, write_text};
-use crate::show::show_text;
+use crate::show::{count_characters, show_text};
 use bidi_numbers::fault::{Fault, check};
 use bidi_numbers::rows::{Paragraph, Run};
 use std::alloc::Global;
@@ -163,6 +163,16 @@ pub fn line_map(
     map_characters(alloc, own, line, out)
 }
 
+// How many characters a text has. Most texts have no surrogates.
+fn count(text: &[u16]) -> usize
+    ensures { result ≡ length (utf16_text text.now) }
+{
+    if text.len() >= 16 && have_no_surrogate(text) {
+        return text.len();
+    }
+    count_characters(Utf16Text::new(text), text.len())
+}
+
 // Shows a line whose text is this, and returns the number of its runs.
 fn show(
     alloc: Global,
@@ -188,8 +198,9 @@ fn show(
 {
     let even = is_even_utf16(text, line.class_numbers(), line.level_numbers());
     check(even, Fault::UnevenCharacter)?;
+    let len = count(text);
     let own = Utf16Text::new(text);
-    show_text(alloc, own, line, levels, runs, order, out, characters)
+    show_text(alloc, own, len, line, levels, runs, order, out, characters)
 }
 
 /// Writes everything that a line shows, each part to a buffer that is not empty: its levels after L1, its

@@ -1,4 +1,4 @@
-use Rattle.bidi_base.proofs.Common.{◌≡◌, map, get_or, length, length-map, sym, ap, ◌∙◌, arith, run_of, visual_runs, visual_order}
+use Rattle.bidi_base.proofs.Common.{◌≡◌, map, get_or, length, length-map, refl, sym, ap, ◌∙◌, arith, run_of, visual_runs, visual_order}
 use Rattle.bidi_base.specs.Text.{one_unit}
 use Rattle.bidi_calls.proofs.OneUnit.{order_of_line-one_unit, length-shown_chars, length-reordered_chars}
 use Rattle.bidi_calls.proofs.ShownLine.{length-order, told-room}
@@ -16,8 +16,8 @@ returns-in_err-check-clause-fault c =
     let cs = c.args.chars.now in
     let runs = c.as_slice-count.ensures ∙ c.in_ok-find.ensures.runs ∙ ap (visual_runs 0) (c.as_slice.ensures ∙ c.in_ok-shown.ensures.levels) in
     let count = length-rows l.start (shown_levels l) c.as_slice-count.result.now runs in
-    rw (told-room one_unit cs l (reordered_chars cs l) (buffers c.args.levels.now c.args.runs.now c.args.order.now c.args.out.now) (length cs) (length c.as_slice-count.result.now) c.chars_have_room-fits.result
-    (length-shown_chars cs l c.requires.sound c.requires.units) count (length-reordered_chars cs l c.requires.sound c.requires.units) c.chars_have_room-fits.ensures)
+    rw (told-room one_unit cs l (reordered_chars cs l) (buffers c.args.levels.now c.args.runs.now c.args.order.now c.args.out.now) (length cs) (length c.as_slice-count.result.now) (length cs) c.have_room-fits.result
+    (length-shown_chars cs l c.requires.sound c.requires.units) count (length-reordered_chars cs l c.requires.sound c.requires.units) refl c.have_room-fits.ensures)
     (grind arith)
 
 pub put_runs-requires-clause-room : goal.put_runs-requires-clause-room
@@ -32,8 +32,8 @@ returns-clause-fault c =
     let cs = c.args.chars.now in
     let runs = c.as_slice-count.ensures ∙ c.in_ok-find.ensures.runs ∙ ap (visual_runs 0) (c.as_slice.ensures ∙ c.in_ok-shown.ensures.levels) in
     let count = length-rows l.start (shown_levels l) c.as_slice-count.result.now runs in
-    rw (told-room one_unit cs l (reordered_chars cs l) (buffers c.args.levels.now c.args.runs.now c.args.order.now c.args.out.now) (length cs) (length c.as_slice-count.result.now) c.chars_have_room-fits.result
-    (length-shown_chars cs l c.requires.sound c.requires.units) count (length-reordered_chars cs l c.requires.sound c.requires.units) c.chars_have_room-fits.ensures)
+    rw (told-room one_unit cs l (reordered_chars cs l) (buffers c.args.levels.now c.args.runs.now c.args.order.now c.args.out.now) (length cs) (length c.as_slice-count.result.now) (length cs) c.have_room-fits.result
+    (length-shown_chars cs l c.requires.sound c.requires.units) count (length-reordered_chars cs l c.requires.sound c.requires.units) refl c.have_room-fits.ensures)
     (grind arith)
 
 pub returns-clause-shown : goal.returns-clause-shown

@@ -1,5 +1,4 @@
 use Rattle.bidi_base.proofs.Common.{◌≡◌, List, ℕ, map, length, sym, ap, ap₂, ◌∙◌, flat_map, length-map, arith, run_of, visual_runs, visual_order, per_char}
-use Rattle.bidi_base.proofs.PerUnit.{length-per_char}
 use Rattle.bidi_text_lines.proofs.WrittenRuns.{ranges_at_boundaries}
 use Rattle.bidi_text_lines.specs.Written.{run_units, shown_units}
 use Rattle.bidi_calls.proofs.KeptText.{kept-runs, length-shown}
@@ -22,8 +21,8 @@ returns-in_err-check-clause-fault g c =
     let count = length-rows l.start (shown_levels l) c.as_slice-count.result.now runs in
     let text = shown_units len g.T.LineText.encode cs (g.T.LineText.units_of c.args.text) 0 (shown_levels l) in
     let long = length-shown len g.met.T.TextSource.has_units cs l c.requires.sound c.requires.even c.requires.units g.T.LineText.encode (g.T.LineText.units_of c.args.text) c.requires.one_a_unit c.requires.encoded in
-    rw (told-room len cs l text (buffers c.args.levels.now c.args.runs.now c.args.order.now c.args.out.now) (length c.as_slice-units.result.now) (length c.as_slice-count.result.now) c.have_room-fits.result
-    (ap length (sym levels)) count (long ∙ ap length (sym levels)) c.have_room-fits.ensures)
+    rw (told-room len cs l text (buffers c.args.levels.now c.args.runs.now c.args.order.now c.args.out.now) (length c.as_slice-units.result.now) (length c.as_slice-count.result.now) c.args.len c.have_room-fits.result
+    (ap length (sym levels)) count (long ∙ ap length (sym levels)) c.requires.len c.have_room-fits.ensures)
     (grind arith)
 
 pub put_runs-requires-clause-room : goal.put_runs-requires-clause-room
@@ -40,15 +39,6 @@ put_text-requires-clause-boundaries g c =
     let runs = c.as_slice-6.ensures ∙ c.in_ok-find.ensures.runs ∙ ap (visual_runs 0) (c.as_slice.ensures ∙ c.in_ok-shown.ensures.levels) in
     ranges_at_boundaries len cs c.as_slice-6.result.now _ runs (kept-runs len g.met.T.TextSource.has_units cs l c.requires.sound c.requires.even c.requires.units)
 
-pub put_order-requires : goal.put_order-requires
-put_order-requires g c =
-    let len = g.T.TextSource.units in
-    let cs : List ℕ = g.T.TextSource.characters c.args.text in
-    let l = c.args.line.now in
-    let order = c.as_slice-7.ensures ∙ c.keep_first_units.ensures ∙ ap (per_char 0 len cs) c.in_ok-shown.ensures.levels in
-    let long = ap length order ∙ length-per_char 0 len cs (shown_levels l) in
-    rw long (grind arith)
-
 pub returns-clause-fault : goal.returns-clause-fault
 returns-clause-fault g c =
     let len = g.T.TextSource.units in
@@ -59,8 +49,8 @@ returns-clause-fault g c =
     let count = length-rows l.start (shown_levels l) c.as_slice-count.result.now runs in
     let text = shown_units len g.T.LineText.encode cs (g.T.LineText.units_of c.args.text) 0 (shown_levels l) in
     let long = length-shown len g.met.T.TextSource.has_units cs l c.requires.sound c.requires.even c.requires.units g.T.LineText.encode (g.T.LineText.units_of c.args.text) c.requires.one_a_unit c.requires.encoded in
-    rw (told-room len cs l text (buffers c.args.levels.now c.args.runs.now c.args.order.now c.args.out.now) (length c.as_slice-units.result.now) (length c.as_slice-count.result.now) c.have_room-fits.result
-    (ap length (sym levels)) count (long ∙ ap length (sym levels)) c.have_room-fits.ensures)
+    rw (told-room len cs l text (buffers c.args.levels.now c.args.runs.now c.args.order.now c.args.out.now) (length c.as_slice-units.result.now) (length c.as_slice-count.result.now) c.args.len c.have_room-fits.result
+    (ap length (sym levels)) count (long ∙ ap length (sym levels)) c.requires.len c.have_room-fits.ensures)
     (grind arith)
 
 pub returns-clause-shown : goal.returns-clause-shown
@@ -69,24 +59,19 @@ returns-clause-shown g c =
     let len = g.T.TextSource.units in
     let cs : List ℕ = g.T.TextSource.characters c.args.text in
     let l = c.args.line.now in
-    let order = c.as_slice-7.ensures ∙ c.keep_first_units.ensures ∙ ap (per_char 0 len cs) c.in_ok-shown.ensures.levels in
+    let order = ap (per_char 0 len cs) c.in_ok-shown.ensures.levels in
     let runs = c.as_slice-6.ensures ∙ c.in_ok-find.ensures.runs ∙ ap (visual_runs 0) (c.as_slice.ensures ∙ c.in_ok-shown.ensures.levels) in
     let shown = c.in_ok-shown.ensures.levels in
     record {
       levels = c.put_levels.ensures ∙ ap (λ xs. written_if_room xs c.args.levels.now) (c.as_slice-2.ensures ∙ shown);
       runs = c.put_runs.ensures ∙ ap (λ xs. written_if_room (map (run_row l.start xs) (visual_runs l.start xs)) c.args.runs.now) (c.as_slice-3.ensures ∙ shown);
-      order = c.put_order.ensures ∙ ap (λ xs. written_if_room (visual_order xs) c.args.order.now) order;
+      order = c.put_order_of.ensures ∙ ap (λ xs. written_if_room (visual_order xs) c.args.order.now) order;
       text = c.put_text.ensures
           ∙ ap₂ (λ xs rs. written_if_room (flat_map (run_units len g.T.LineText.encode cs (g.T.LineText.units_of c.args.text) 0 xs) rs) c.args.out.now) (c.as_slice-5.ensures ∙ shown) runs;
     }
 
 pub returns-clause-characters : goal.returns-clause-characters
-returns-clause-characters g c =
-    let len = g.T.TextSource.units in
-    let cs : List ℕ = g.T.TextSource.characters c.args.text in
-    let l = c.args.line.now in
-    let order = c.as_slice-8.ensures ∙ c.keep_first_units.ensures ∙ ap (per_char 0 len cs) c.in_ok-shown.ensures.levels in
-    ap length order ∙ length-per_char 0 len cs (shown_levels l) ∙ sym (length-order len cs l)
+returns-clause-characters g c = c.requires.len ∙ sym (length-order g.T.TextSource.units (g.T.TextSource.characters c.args.text) c.args.line.now)
 
 pub returns-clause-count : goal.returns-clause-count
 returns-clause-count g c =
