@@ -218,8 +218,7 @@ int64_t unicode_bidi_base_direction_by_tables_utf32(
  * ends, so each costs the line. These calls ask not where the numbers come from: any that pass the tests
  * will do.
  *
- * A line of up to 256 units and 16 visual runs needs no allocation, except in reorder_line_utf32, which
- * allocates a list of one index for each character.
+ * A line of up to 256 units and 16 visual runs needs no allocation.
  *
  * Faults of every line call, first of all: UNEQUAL_LENGTHS of classes and levels, BAD_LINE, BAD_CLASS and
  * BAD_LEVEL in the line, BAD_LEVEL of the paragraph. */
@@ -284,6 +283,42 @@ int64_t unicode_bidi_reorder_line_utf32(const uint32_t *text, size_t text_len,
                                         const uint8_t *levels, size_t levels_len,
                                         const unicode_bidi_paragraph *paragraph, size_t start, size_t end,
                                         uint32_t *out, size_t out_len);
+
+/* Everything that a line shows, in one call: its levels after L1, its visual runs, the order of its characters and
+ * its text from left to right (L2). Returns the number of runs, and writes the number of the line's characters to
+ * *characters, which must be aligned and not null. The buffers get what unicode_bidi_line_levels,
+ * unicode_bidi_line_runs, unicode_bidi_line_map_* and unicode_bidi_reorder_line_* write. Each buffer is optional:
+ * pass a length of 0 for a part that is not needed. After a fault nothing is written, *characters included.
+ * Faults   further: UNEQUAL_LENGTHS of the text, CUT_CHARACTER (utf8, utf16), NOT_UTF8, NOT_SCALAR (by the
+ *          encoding), UNEVEN_CHARACTER (utf8, utf16), NO_ROOM of any buffer whose length is not 0
+ * Room     end - start entries are enough in each buffer
+ * Cost     the line, once. A line of up to 256 units and 16 visual runs needs no allocation.
+ * Proved   the levels (line_levels), the runs (visual_runs), the order (visual_order) and the text (line_text; in
+ *          utf32 the characters in their visual_order). */
+int64_t unicode_bidi_show_line_utf8(const uint8_t *text, size_t text_len,
+                                    const uint8_t *classes, size_t classes_len,
+                                    const uint8_t *levels, size_t levels_len,
+                                    const unicode_bidi_paragraph *paragraph, size_t start, size_t end,
+                                    uint8_t *line_levels, size_t line_levels_len,
+                                    unicode_bidi_run *runs, size_t runs_len,
+                                    size_t *order, size_t order_len,
+                                    uint8_t *out, size_t out_len, size_t *characters);
+int64_t unicode_bidi_show_line_utf16(const uint16_t *text, size_t text_len,
+                                     const uint8_t *classes, size_t classes_len,
+                                     const uint8_t *levels, size_t levels_len,
+                                     const unicode_bidi_paragraph *paragraph, size_t start, size_t end,
+                                     uint8_t *line_levels, size_t line_levels_len,
+                                     unicode_bidi_run *runs, size_t runs_len,
+                                     size_t *order, size_t order_len,
+                                     uint16_t *out, size_t out_len, size_t *characters);
+int64_t unicode_bidi_show_line_utf32(const uint32_t *text, size_t text_len,
+                                     const uint8_t *classes, size_t classes_len,
+                                     const uint8_t *levels, size_t levels_len,
+                                     const unicode_bidi_paragraph *paragraph, size_t start, size_t end,
+                                     uint8_t *line_levels, size_t line_levels_len,
+                                     unicode_bidi_run *runs, size_t runs_len,
+                                     size_t *order, size_t order_len,
+                                     uint32_t *out, size_t out_len, size_t *characters);
 
 /* The visual order of any items (L2): for each place from the left the index of the item that stands
  * there, by their levels after L1. Answers levels_len. Does not allocate.

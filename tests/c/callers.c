@@ -190,6 +190,24 @@ static int64_t reorder_line(int e, const void *text, size_t n, const uint8_t *c,
     return unicode_bidi_reorder_line_utf32(text, n, c, nc, l, nl, p, start, end, out, room);
 }
 
+/* The buffers of unicode_bidi_show_line_*: the length of each, and where it is. */
+typedef struct {
+    size_t levels_len, runs_len, order_len, out_len;
+    uint8_t *levels;
+    unicode_bidi_run *runs;
+    size_t *order;
+    void *out;
+} shown_line;
+
+static int64_t show_line(int e, const void *text, size_t n, const uint8_t *c, size_t nc, const uint8_t *l, size_t nl,
+                         const unicode_bidi_paragraph *p, size_t start, size_t end, const shown_line *s, size_t *characters) {
+    if (e == UTF8)
+        return unicode_bidi_show_line_utf8(text, n, c, nc, l, nl, p, start, end, s->levels, s->levels_len, s->runs, s->runs_len, s->order, s->order_len, s->out, s->out_len, characters);
+    if (e == UTF16)
+        return unicode_bidi_show_line_utf16(text, n, c, nc, l, nl, p, start, end, s->levels, s->levels_len, s->runs, s->runs_len, s->order, s->order_len, s->out, s->out_len, characters);
+    return unicode_bidi_show_line_utf32(text, n, c, nc, l, nl, p, start, end, s->levels, s->levels_len, s->runs, s->runs_len, s->order, s->order_len, s->out, s->out_len, characters);
+}
+
 /* ---- texts: characters, and in each encoding their units and places ---- */
 
 enum { MOST = 512 };
@@ -234,7 +252,7 @@ static void read_utf8(text *t, const char *from) {
     }
 }
 
-static arena texts, classes_at, levels_at, rows_at, out_at, order_at;
+static arena texts, classes_at, levels_at, rows_at, out_at, order_at, shown_at;
 
 /* Whether a list is one entry a character, on each of its units. A dash fits any entry. */
 static void see_list(const char *name, int e, const text *t, const list *wanted, const uint8_t *found, const char *const *names) {
@@ -337,6 +355,83 @@ static void see_runs(const row *r, int e, const text *t, const unicode_bidi_run 
     }
 }
 
+/* ---- all that a line shows, in one call ---- */
+
+/* Buffers of so many entries, each byte with this value. */
+static shown_line shown_buffers(int e, size_t levels, size_t runs, size_t order, size_t out, unsigned char value) {
+    return (shown_line){levels, runs, order, out, buffer(shown_at, levels, value), buffer(rows_at, runs * sizeof(unicode_bidi_run), value),
+                        buffer(order_at, order * sizeof(size_t), value), buffer(out_at, out * SIZES[e], value)};
+}
+
+static void watch_shown(int e, const shown_line *s, const char *what) {
+    watch(shown_at, s->levels_len, what), watch(rows_at, s->runs_len * sizeof *s->runs, what);
+    watch(order_at, s->order_len * sizeof *s->order, what), watch(out_at, s->out_len * SIZES[e], what);
+}
+
+static bool all_are(const void *from, size_t bytes, unsigned char value) {
+    for (size_t i = 0; i < bytes; i++)
+        if (((const unsigned char *)from)[i] != value) return false;
+    return true;
+}
+
+/* A call that tells a fault has written nothing. */
+static void see_unwritten(int e, const shown_line *s, size_t characters, unsigned char value, const char *what) {
+    if (!all_are(s->levels, s->levels_len, value) || !all_are(s->runs, s->runs_len * sizeof *s->runs, value)
+        || !all_are(s->order, s->order_len * sizeof *s->order, value) || !all_are(s->out, s->out_len * SIZES[e], value) || characters != 99)
+        FAIL("%s in %s: a fault of show_line that wrote", what, NAMES[e]);
+}
+
+/* One call, with each choice of buffers, writes what the calls for each part write. Too little room in any of them is a fault. */
+static void see_shown(const char *what, int e, const void *in, size_t n, const uint8_t *c, const uint8_t *l,
+                      const unicode_bidi_paragraph *p, size_t start, size_t end) {
+    static uint8_t levels[4 * MOST];
+    static unicode_bidi_run runs[4 * MOST];
+    static size_t order[4 * MOST];
+    static uint32_t out[4 * MOST];
+    size_t len = end - start, characters;
+    int64_t some = unicode_bidi_line_runs(c, n, l, n, p, start, end, runs, len), map = line_map(e, in, n, c, n, l, n, p, start, end, order, len);
+    if (unicode_bidi_line_levels(c, n, l, n, p, start, end, levels, len) != (int64_t)len || some < 0 || map < 0
+        || reorder_line(e, in, n, c, n, l, n, p, start, end, out, len) != (int64_t)len)
+        FAIL("%s: a line in %s", what, NAMES[e]);
+    for (int wanted = 0; wanted < 16; wanted++)
+        for (size_t more = 0; more < 2; more++) {
+            shown_line s = shown_buffers(e, wanted & 1 ? len + more : 0, wanted & 2 ? some + more : 0, wanted & 4 ? map + more : 0, wanted & 8 ? len + more : 0, 0x77);
+            characters = 99;
+            if (show_line(e, in, n, c, n, l, n, p, start, end, &s, &characters) != some || characters != (size_t)map)
+                FAIL("%s: show_line in %s, buffers %d", what, NAMES[e], wanted);
+            if (s.levels_len && (memcmp(s.levels, levels, len) || !all_are(s.levels + len, more, 0x77))) FAIL("%s: shown levels in %s", what, NAMES[e]);
+            for (size_t k = 0; s.runs_len && k < (size_t)some; k++)
+                if (s.runs[k].start != runs[k].start || s.runs[k].end != runs[k].end || s.runs[k].level != runs[k].level) FAIL("%s: shown runs in %s", what, NAMES[e]);
+            if (s.runs_len && !all_are(s.runs + some, more * sizeof *s.runs, 0x77)) FAIL("%s: shown runs in %s", what, NAMES[e]);
+            if (s.order_len && (memcmp(s.order, order, map * sizeof *order) || !all_are(s.order + map, more * sizeof *order, 0x77))) FAIL("%s: shown order in %s", what, NAMES[e]);
+            if (s.out_len && (memcmp(s.out, out, len * SIZES[e]) || !all_are((unsigned char *)s.out + len * SIZES[e], more * SIZES[e], 0x77))) FAIL("%s: shown text in %s", what, NAMES[e]);
+            watch_shown(e, &s, what);
+        }
+    for (int part = 0; part < 4; part++) { /* one entry too few, where that is not none */
+        size_t rooms[4] = {len, some, map, len};
+        if (rooms[part] < 2) continue;
+        rooms[part]--;
+        shown_line s = shown_buffers(e, rooms[0], rooms[1], rooms[2], rooms[3], 0x77);
+        characters = 99;
+        if (show_line(e, in, n, c, n, l, n, p, start, end, &s, &characters) != UNICODE_BIDI_NO_ROOM) FAIL("%s: show_line in %s with little room", what, NAMES[e]);
+        see_unwritten(e, &s, characters, 0x77, what);
+    }
+}
+
+/* The same call with each of its requests for memory refused in turn. */
+static long see_shown_refused(int e, const void *in, size_t n, const uint8_t *c, const uint8_t *l, const unicode_bidi_paragraph *p, size_t start, size_t end) {
+    for (long k = 0;; k++) {
+        shown_line s = shown_buffers(e, n, n, n, n, 0x77);
+        size_t characters = 99;
+        until_refusal = k, was_refused = false;
+        int64_t found = show_line(e, in, n, c, n, l, n, p, start, end, &s, &characters);
+        until_refusal = -1;
+        if (!was_refused) return k;
+        if (found != UNICODE_BIDI_NO_MEMORY) FAIL("show_line: request %ld refused: %lld", k, (long long)found);
+        see_unwritten(e, &s, characters, 0x77, "request refused");
+    }
+}
+
 static void try_line(const row *r) {
     if (strcmp(r->kind, "line")) return;
     static text t, shown;
@@ -370,6 +465,7 @@ static void try_line(const row *r) {
         if (line_map(e, t.in[e], n, c, n, l, n, p, start, end, order, b - a) != (int64_t)(b - a)) BAD_ROW(r, "its map");
         for (size_t v = 0; v < b - a && !t.is_utf16_alone; v++)
             if (order[v] >= b - a || t.chars[a + order[v]] != shown.chars[v]) BAD_ROW(r, "%s: place %zu", NAMES[e], v);
+        see_shown(r->name, e, t.in[e], n, c, l, p, start, end);
     }
 }
 
@@ -434,6 +530,8 @@ static void try_each_call(void) {
         if (reorder_line(e, t.in[e], n, c, n, l, n, p, 0, n, out, n) != (int64_t)n || memcmp(out, shown.in[e], n * SIZES[e]))
             FAIL("text of a line in %s", NAMES[e]);
         if (line_map(e, t.in[e], n, c, n, l, n, p, 0, n, found, 5) != 5 || memcmp(found, order, sizeof order)) FAIL("map of a line in %s", NAMES[e]);
+        see_shown("each call", e, t.in[e], n, c, l, p, 0, n);
+        see_shown("an empty line", e, t.in[e], n, c, l, p, t.at[e][2], t.at[e][2]);
     }
     size_t found[5];
     if (unicode_bidi_reorder_visual(levels, 5, found, 5) != 5 || memcmp(found, order, sizeof order)) FAIL("order of levels");
@@ -540,6 +638,31 @@ static void try_faults(void) {
     expect("a line of no scalar value", unicode_bidi_reorder_line_utf32(half, 2, c, 2, l, 2, &two, 0, 2, out32, 2), UNICODE_BIDI_NOT_SCALAR);
     expect("an uneven character", unicode_bidi_reorder_line_utf8(hebrew, 4, odd, 4, l, 4, &p, 0, 4, out, 4), UNICODE_BIDI_UNEVEN_CHARACTER);
     expect("an uneven pair", unicode_bidi_reorder_line_utf16(pair, 2, c, 2, (const uint8_t[]){1, 2}, 2, &two, 0, 2, out16, 2), UNICODE_BIDI_UNEVEN_CHARACTER);
+    const uint8_t two_levels[] = {1, 2};
+    const struct { const char *what; int e; const void *in; size_t n; const uint8_t *c; size_t nc; const uint8_t *l; size_t nl; const unicode_bidi_paragraph *p; size_t start, end; int64_t wanted; } shown[] = {
+        {"lengths", UTF8, hebrew, 4, c, 3, l, 4, &p, 0, 4, UNICODE_BIDI_UNEQUAL_LENGTHS},
+        {"a reversed line", UTF8, hebrew, 4, c, 4, l, 4, &p, 3, 2, UNICODE_BIDI_BAD_LINE},
+        {"a paragraph past its text", UTF8, hebrew, 4, c, 4, l, 4, &far, 0, 2, UNICODE_BIDI_BAD_LINE},
+        {"class", UTF8, hebrew, 4, bad_class, 4, l, 4, &p, 0, 4, UNICODE_BIDI_BAD_CLASS},
+        {"level", UTF8, hebrew, 4, c, 4, high, 4, &p, 0, 4, UNICODE_BIDI_BAD_LEVEL},
+        {"level of a paragraph", UTF8, hebrew, 4, c, 4, l, 4, &deep, 0, 4, UNICODE_BIDI_BAD_LEVEL},
+        {"length of a text", UTF8, hebrew, 3, c, 4, l, 4, &p, 0, 4, UNICODE_BIDI_UNEQUAL_LENGTHS},
+        {"length of a text", UTF16, pair, 1, c, 2, l, 2, &two, 0, 2, UNICODE_BIDI_UNEQUAL_LENGTHS},
+        {"length of a list", UTF32, half, 1, c, 2, l, 2, &two, 0, 2, UNICODE_BIDI_UNEQUAL_LENGTHS},
+        {"a cut character", UTF8, hebrew, 4, c, 4, l, 4, &p, 1, 4, UNICODE_BIDI_CUT_CHARACTER},
+        {"a cut character at the end", UTF8, hebrew, 4, c, 4, l, 4, &p, 0, 1, UNICODE_BIDI_CUT_CHARACTER},
+        {"a cut pair", UTF16, pair, 2, c, 2, l, 2, &two, 0, 1, UNICODE_BIDI_CUT_CHARACTER},
+        {"a line that is not UTF-8", UTF8, broken, 2, c, 2, l, 2, &two, 0, 2, UNICODE_BIDI_NOT_UTF8},
+        {"a line of no scalar value", UTF32, half, 2, c, 2, l, 2, &two, 0, 2, UNICODE_BIDI_NOT_SCALAR},
+        {"an uneven character", UTF8, hebrew, 4, odd, 4, l, 4, &p, 0, 4, UNICODE_BIDI_UNEVEN_CHARACTER},
+        {"an uneven pair", UTF16, pair, 2, c, 2, two_levels, 2, &two, 0, 2, UNICODE_BIDI_UNEVEN_CHARACTER},
+    };
+    for (size_t i = 0; i < COUNT(shown); i++) {
+        shown_line s = shown_buffers(shown[i].e, 1, 1, 1, 1, 0x77); /* too little room, which is tested last */
+        size_t characters = 99;
+        expect(shown[i].what, show_line(shown[i].e, shown[i].in, shown[i].n, shown[i].c, shown[i].nc, shown[i].l, shown[i].nl, shown[i].p, shown[i].start, shown[i].end, &s, &characters), shown[i].wanted);
+        see_unwritten(shown[i].e, &s, characters, 0x77, shown[i].what);
+    }
     static const struct { unicode_bidi_class_range rows[2]; unicode_bidi_bracket_pair pair; int64_t wanted; } tables[] = {
         {{{'b', 'a', 0}, {'c', 'c', 0}}, {'(', ')', '('}, UNICODE_BIDI_BAD_RANGES},
         {{{'a', 'b', 0}, {'b', 'c', 0}}, {'(', ')', '('}, UNICODE_BIDI_BAD_RANGES},
@@ -599,6 +722,27 @@ static void try_refusals(void) {
         SWEEP("line_map", order_at, n * sizeof *order, line_map(e, in, n, c, n, l, n, p, 0, end, order, n));
         SWEEP("reorder_line", out_at, n * SIZES[e], reorder_line(e, in, n, c, n, l, n, p, 0, end, out_at.end - n * SIZES[e], n));
         SWEEP("reorder_visual", order_at, n * sizeof *order, unicode_bidi_reorder_visual(l, n, order, n));
+        long shown = see_shown_refused(e, in, n, c, l, p, 0, end);
+        if (!shown) FAIL("a line of many runs is shown without memory in %s", NAMES[e]);
+        refusals += shown;
+        if (see_shown_refused(e, in, n, c, l, p, 0, t.at[e][16])) FAIL("a line of few runs takes memory in %s", NAMES[e]);
+    }
+}
+
+/* A line of more units than are kept without memory, and of few runs and of many. */
+static void try_long_lines(void) {
+    for (size_t piece = 1; piece < 100; piece += 49) {
+        static text t;
+        static uint8_t c[4 * MOST], l[4 * MOST];
+        unicode_bidi_paragraph p[1];
+        memset(&t, 0, sizeof t);
+        while (t.len < 300) push(&t, t.len / piece % 2 ? 0x5D0 + t.len % 20 : t.len % 7 ? 'a' + t.len % 20 : 0x10000 + t.len);
+        for (int e = UTF8; e <= UTF32; e++) {
+            size_t n = t.units[e];
+            if (analyse(e, false, t.in[e], n, AUTO, SPLIT, c, n, l, n, p, 1) != 1) FAIL("a long line in %s", NAMES[e]);
+            see_shown("a long line", e, t.in[e], n, c, l, p, 0, n);
+            refusals += see_shown_refused(e, t.in[e], n, c, l, p, 0, n);
+        }
     }
 }
 
@@ -663,7 +807,7 @@ static void call_at_random(void) {
     if (start > end && below(8)) { size_t s = start; start = end, end = s; }
     uint8_t base = below(2) ? AUTO : below(8) ? below(126) : next() >> 56, split = below(9) ? below(3) : next() >> 56;
     int64_t answer;
-    switch (below(7)) {
+    switch (below(8)) {
     case 0: case 1: {
         unicode_bidi_paragraph *ps = copied(rows_at, seed, np * sizeof p);
         answer = analyse(e, below(2), in, m, base, split, c, nc, l, nl, ps, np);
@@ -693,6 +837,27 @@ static void call_at_random(void) {
         answer = reorder_line(e, in, m, c, nc, l, nl, &p, start, end, out_at.end - room * SIZES[e], room);
         unchanged(answer, out_at, seed, room * SIZES[e], "reorder_line");
         break;
+    case 6: {
+        size_t rooms[4], characters = 99;
+        for (int i = 0; i < 4; i++) rooms[i] = below(3) ? near(n) : 0;
+        shown_line s = shown_buffers(e, rooms[0], rooms[1], rooms[2], rooms[3], 0x77);
+        answer = show_line(e, in, m, c, nc, l, nl, &p, start, end, &s, &characters);
+        watch_shown(e, &s, "show_line");
+        if (answer < 0) see_unwritten(e, &s, characters, 0x77, "at random");
+        static uint32_t out[4096];
+        static size_t order[4096];
+        int64_t wanted = reorder_line(e, in, m, c, nc, l, nl, &p, start, end, out, COUNT(out));
+        if (wanted >= 0) {
+            int64_t some = unicode_bidi_line_runs(c, nc, l, nl, &p, start, end, (unicode_bidi_run *)rows_at.end, 0), map = line_map(e, in, m, c, nc, l, nl, &p, start, end, order, COUNT(order));
+            int64_t parts[4] = {end - start, some, map, end - start};
+            wanted = some;
+            for (int i = 0; i < 4; i++)
+                if (rooms[i] && rooms[i] < (size_t)parts[i]) wanted = UNICODE_BIDI_NO_ROOM;
+            if (answer >= 0 && characters != (size_t)map) FAIL("show_line: %zu characters", characters);
+        }
+        expect("show_line at random", answer, wanted);
+        break;
+    }
     default: {
         size_t *order = copied(order_at, seed, room * sizeof *order);
         answer = unicode_bidi_reorder_visual(l, nl, order, room);
@@ -773,6 +938,7 @@ static void compare_at_random(void) {
                 v++, j += units, at += units;
             }
         if (v != b - a) FAIL("runs differ in %s", NAMES[e]);
+        see_shown("at random", e, t.in[e], n, c[e], l[e], &p[e][q], start, end);
     }
 }
 
@@ -782,7 +948,7 @@ int main(int argc, char **argv) {
     long calls = argc > 2 ? atol(argv[2]) : 20000;
     state = argc > 3 ? strtoull(argv[3], NULL, 10) | 1 : 88172645463325252u;
     texts = new_arena(), classes_at = new_arena(), levels_at = new_arena();
-    rows_at = new_arena(), out_at = new_arena(), order_at = new_arena();
+    rows_at = new_arena(), out_at = new_arena(), order_at = new_arena(), shown_at = new_arena();
     each_row(folder, "sources.rows", read_source);
     each_row(folder, "texts.rows", try_text);
     each_row(folder, "limits.rows", try_text);
@@ -795,6 +961,7 @@ int main(int argc, char **argv) {
     try_faults();
     try_first_direction();
     try_refusals();
+    try_long_lines();
     for (long i = 0; i < calls; i++) {
         if (i % 4) call_at_random();
         else compare_at_random();

@@ -1,9 +1,9 @@
 //! The exports over lists of numbers of characters.
 use bidi_calls::by_tables::{analyse_utf32, base_direction_utf32};
 use bidi_calls::line::KeptLine;
-use bidi_calls::utf32::{analyse, base_direction, line_map, reorder_line};
+use bidi_calls::utf32::{analyse, base_direction, line_map, reorder_line, show_line};
 use bidi_numbers::fault::answer;
-use bidi_numbers::rows::{BracketPair, ClassRange, Paragraph};
+use bidi_numbers::rows::{BracketPair, ClassRange, Paragraph, Run};
 use bidi_unicode::UnicodeData;
 use std::alloc::Global;
 
@@ -102,4 +102,29 @@ pub extern "C" fn unicode_bidi_reorder_line_utf32(
         end,
     };
     answer(reorder_line(alloc, text, line, out))
+}
+
+#[unsafe(no_mangle)]
+pub extern "C" fn unicode_bidi_show_line_utf32(
+    alloc: Global,
+    text: &[u32],
+    classes: &[u8],
+    levels: &[u8],
+    paragraph: &Paragraph,
+    start: usize,
+    end: usize,
+    line_levels: &mut [u8],
+    runs: &mut [Run],
+    order: &mut [usize],
+    out: &mut [u32],
+    characters: &mut usize,
+) -> i64 {
+    let line = &KeptLine {
+        classes,
+        levels,
+        paragraph,
+        start,
+        end,
+    };
+    answer(show_line(alloc, text, line, line_levels, runs, order, out, characters))
 }

@@ -46,6 +46,13 @@ module _ (len_of : ℕ → ℕ) (some : HasUnits len_of) (chars : List ℕ) (l :
       ∙ length-shown_units len_of some encode each chars units 0 (shown_levels l) kept-runs (omega (arith, e, long, shown))
       ∙ (let same : length (shown_levels l) ≡ length units = omega (arith, e, long, shown) in same)
 
+  -- the same in units of any type, before they are put in the order of the characters
+  pub length-shown : {X : Type 0} (encode : ℕ → List X) (units : List X) → length units ≡ text_len len_of chars → ((c : ℕ) → length (encode c) ≡ len_of c)
+      → length (shown_units len_of encode chars units 0 (shown_levels l)) ≡ length (shown_levels l)
+  length-shown encode units e each =
+      let shown = length-shown_levels l sound in
+      length-shown_units len_of some encode each chars units 0 (shown_levels l) kept-runs (omega (arith, e, long, shown))
+
 -- what a call for the text of a line tells, by what it finds
 module _ (len_of : ℕ → ℕ) (encode : ℕ → List ℕ) (chars units : List ℕ) (l : KeptLine) (room : ℕ) where
   pub told-uneven : is_even len_of chars l ≡ false → shown_fault len_of encode chars units l room ≡ Some UnevenCharacter

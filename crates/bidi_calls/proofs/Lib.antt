@@ -1,3 +1,4 @@
+pub mod Counted
 pub mod EvenBlocks
 pub mod EvenChars
 pub mod EvenSteps
@@ -7,4 +8,7 @@ pub mod FoundText
 pub mod KeptLines
 pub mod KeptText
 pub mod OneUnit
+pub mod ShownLine
+pub mod ShownRuns
 pub mod Utf8Fronts
+pub mod WrittenChars

@@ -1,12 +1,12 @@
 -- Lists of characters, each one unit long.
-use Rattle.bidi_base.proofs.Common.{◌≡◌, ℕ, ◌+◌, ◌-◌, List, visual_order, length, sym, ap, ◌∙◌, arith, one_unit, per_char}
+use Rattle.bidi_base.proofs.Common.{◌≡◌, ℕ, ◌+◌, ◌-◌, List, visual_order, length, length-map, sym, ap, ◌∙◌, arith, one_unit, per_char}
 use Rattle.bidi_base.proofs.PerUnit.{per_unit-one_unit, per_char-per_unit}
 use Rattle.bidi_base.proofs.TextLemmas.{HasUnits}
 use Rattle.bidi_lines.proofs.LineInText.{length-part}
 use Rattle.bidi_calls.proofs.KeptLines.{length-shown_levels, length-visual_order}
 use Rattle.bidi_calls.specs.declared.line.KeptLine.{KeptLine}
 use Rattle.bidi_calls.specs.Lines.{IsSound, shown_levels}
-use Rattle.bidi_calls.specs.Shown.{own_units, order_of_line}
+use Rattle.bidi_calls.specs.Shown.{own_units, order_of_line, reordered_chars}
 
 has_units : HasUnits one_unit
 has_units c = omega arith
@@ -29,3 +29,11 @@ length-order_of_line chars l sound long =
 -- a line has as many characters as entries
 pub length-own_units : (text : List ℕ) (l : KeptLine) → IsSound l → length text ≡ length l.levels.now → length (own_units text l) + l.start ≡ l.end
 length-own_units text l sound same = omega (arith, length-part text l.start l.end (omega (arith, sound.within, same)), sound.ordered)
+
+pub length-shown_chars : (chars : List ℕ) (l : KeptLine) → IsSound l → length chars + l.start ≡ l.end → length (shown_levels l) ≡ length chars
+length-shown_chars chars l sound long = omega (arith, length-shown_levels l sound, long)
+
+-- and it shows as many
+pub length-reordered_chars : (chars : List ℕ) (l : KeptLine) → IsSound l → length chars + l.start ≡ l.end → length (reordered_chars chars l) ≡ length chars
+unfolding reordered_chars
+length-reordered_chars chars l sound long = length-map _ _ ∙ length-visual_order (shown_levels l) ∙ length-shown_chars chars l sound long

@@ -1,4 +1,5 @@
 pub mod Even
+pub mod Everything
 pub mod FirstDirection
 pub mod Kept
 pub mod Lines

@@ -12,7 +12,7 @@ ghost use Rattle.bidi_numbers.specs.Numbers.{class_numbered, is_class};
 ghost use Rattle.bidi_numbers.specs.Texts.{goes_on as goes_on_at};
 
 use bidi_numbers::texts::goes_on;
-use bidi_text::text::are_characters;
+use unicode_bidi::text::are_characters;
 use std::simd::prelude::*;
 
 // Whether a unit has the class and the level of the unit before it, if it goes on with a character.

@@ -4,6 +4,7 @@ ghost use Rattle.std.specs.Char.Escape.{encode_utf16};
 ghost use Rattle.bidi_base.specs.Text.{is_boundary};
 ghost use Rattle.bidi_base.specs.Utf16.{utf16_text, utf16_len};
 ghost use Rattle.bidi_numbers.specs.Faults.{FaultsAs};
+ghost use Rattle.bidi_calls.specs.Everything.{buffers, everything, everything_fault, run_rows, IsWritten, IsKept};
 ghost use Rattle.bidi_calls.specs.Kept.{written, written_if_room, class_numbers, level_numbers, paragraphs_in, analysis_fault};
 ghost use Rattle.bidi_calls.specs.Lines.{IsSound, line_fault};
 ghost use Rattle.bidi_numbers.specs.Numbers.{base_of, split_of, direction_in};
@@ -14,11 +15,12 @@ ghost use Rattle.std.specs.Result.{result_err};
 use crate::checked;
 use crate::even::is_even_utf16;
 use crate::line::{KeptLine, map_characters, write_text};
+use crate::show::{count_characters, show_text};
 use bidi_numbers::fault::{Fault, check};
-use bidi_numbers::rows::Paragraph;
+use bidi_numbers::rows::{Paragraph, Run};
 use std::alloc::Global;
 use unicode_bidi::BidiDataSource;
-use unicode_bidi::text::{TextSource, Utf16Text};
+use unicode_bidi::text::{TextSource, Utf16Text, are_characters};
 
 /// The classes and the levels of a text's units, and its paragraphs, of which it answers the number.
 pub fn analyse<D: BidiDataSource>(
@@ -159,4 +161,80 @@ pub fn line_map(
     check_text(text, line)?;
     let own = Utf16Text::new(&text[line.start..line.end]);
     map_characters(alloc, own, line, out)
+}
+
+// How many characters a text has. Most texts have no surrogates.
+fn count(text: &[u16]) -> usize
+    ensures { result ≡ length (utf16_text text.now) }
+{
+    if are_characters(text) {
+        return text.len();
+    }
+    count_characters(Utf16Text::new(text), text.len())
+}
+
+// Shows a line whose text is this, and returns the number of its runs.
+fn show(
+    alloc: Global,
+    text: &[u16],
+    line: &KeptLine<'_>,
+    levels: &mut [u8],
+    runs: &mut [Run],
+    order: &mut [usize],
+    out: &mut [u16],
+    characters: &mut usize,
+) -> Result<usize, Fault>
+    requires sound { IsSound line.now }
+    requires units { length text.now + line.now.start ≡ line.now.end }
+    ensures fault { FaultsAs result (everything_fault utf16_len encode_utf16 (utf16_text text.now) text.now line.now
+        (buffers levels.old runs.old order.old out.old)) }
+    ensures kept { OnErr result
+        (IsKept (buffers levels.old runs.old order.old out.old) (buffers levels.new runs.new order.new out.new)
+        × (characters.new ≡ characters.old)) }
+    ensures shown { OnOk result (IsWritten (everything utf16_len encode_utf16 (utf16_text text.now) text.now line.now)
+        (buffers levels.old runs.old order.old out.old) (buffers levels.new runs.new order.new out.new)) }
+    ensures characters { OnOk result (characters.new ≡ length (order_of_line utf16_len (utf16_text text.now) line.now)) }
+    ensures count { IfOk result (λ count. count ≡ length (run_rows line.now)) }
+{
+    let even = is_even_utf16(text, line.class_numbers(), line.level_numbers());
+    check(even, Fault::UnevenCharacter)?;
+    let len = count(text);
+    let own = Utf16Text::new(text);
+    show_text(alloc, own, len, line, levels, runs, order, out, characters)
+}
+
+/// Writes everything that a line shows, each part to a buffer that is not empty: its levels after L1, its
+/// visual runs, the order of its characters and its text from left to right (L2).
+///
+/// Also writes the number of the line's characters, and returns the number of its runs. After a fault
+/// nothing is written.
+pub fn show_line(
+    alloc: Global,
+    text: &[u16],
+    line: &KeptLine<'_>,
+    levels: &mut [u8],
+    runs: &mut [Run],
+    order: &mut [usize],
+    out: &mut [u16],
+    characters: &mut usize,
+) -> Result<usize, Fault>
+    ensures fault { let units = own_units text.now line.now in
+        let told = option_or (line_fault line.now)
+        (option_or (text_fault text.now line.now (cuts_utf16 text.now line.now))
+        (everything_fault utf16_len encode_utf16 (utf16_text units) units line.now (buffers levels.old runs.old order.old out.old))) in
+        FaultsAs result told }
+    ensures kept { OnErr result
+        (IsKept (buffers levels.old runs.old order.old out.old) (buffers levels.new runs.new order.new out.new)
+        × (characters.new ≡ characters.old)) }
+    ensures shown { let units = own_units text.now line.now in
+        OnOk result (IsWritten (everything utf16_len encode_utf16 (utf16_text units) units line.now)
+        (buffers levels.old runs.old order.old out.old) (buffers levels.new runs.new order.new out.new)) }
+    ensures characters { OnOk result (characters.new
+        ≡ length (order_of_line utf16_len (utf16_text (own_units text.now line.now)) line.now)) }
+    ensures count { IfOk result (λ count. count ≡ length (run_rows line.now)) }
+{
+    line.check()?;
+    check_text(text, line)?;
+    let own = &text[line.start..line.end];
+    show(alloc, own, line, levels, runs, order, out, characters)
 }

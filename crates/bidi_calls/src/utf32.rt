@@ -4,6 +4,7 @@ ghost use Rattle.std.specs.List.{list_all};
 ghost use Rattle.std.specs.Option.{option_or};
 ghost use Rattle.bidi_base.specs.Text.{one_unit};
 ghost use Rattle.bidi_numbers.specs.Faults.{FaultsAs, fault_unless};
+ghost use Rattle.bidi_calls.specs.Everything.{buffers, everything_of_chars, run_rows, room_fault, IsWritten, IsKept};
 ghost use Rattle.bidi_calls.specs.Kept.{written, written_if_room, class_numbers, level_numbers, paragraphs_in, analysis_fault};
 ghost use Rattle.bidi_calls.specs.Lines.{IsSound, line_fault};
 ghost use Rattle.bidi_numbers.specs.Numbers.{base_of, split_of, direction_in};
@@ -12,9 +13,10 @@ ghost use Rattle.bidi_numbers.specs.Texts.{is_scalar};
 
 use crate::checked;
 use crate::line::{KeptLine, order_units};
-use bidi_lines::visual_order::reorder_visual;
+use crate::show::{show_chars, write_chars};
+use bidi_lines::visual_runs::LineRuns;
 use bidi_numbers::fault::{Fault, check};
-use bidi_numbers::rows::Paragraph;
+use bidi_numbers::rows::{Paragraph, Run};
 use bidi_numbers::texts::{all_scalar, chars_of};
 use std::alloc::Global;
 use unicode_bidi::BidiDataSource;
@@ -78,17 +80,6 @@ pub fn base_direction<D: BidiDataSource>(
     Ok(checked::base_direction(data_source, CharsText::new(chars.as_slice()), full))
 }
 
-// Writes the characters at these indexes.
-fn write_chars(out: &mut [u32], chars: &[u32], order: &[usize])
-    requires same_len { length out.old ≡ length order.now }
-    requires within { All (λ k. k < length chars.now) order.now }
-    ensures { out.new ≡ map (λ k. get_or chars.now k 0) order.now }
-{
-    for i in 0..order.len() {
-        out[i] = chars[order[i]];
-    }
-}
-
 // Writes the characters of a line from left to right, and returns their number.
 fn reorder(
     alloc: Global,
@@ -106,8 +97,14 @@ fn reorder(
     check(all_scalar(chars), Fault::NotScalar)?;
     check(chars.len() <= out.len(), Fault::NoRoom)?;
     let shown = line.shown(alloc)?;
-    let order = reorder_visual(alloc, shown.as_slice())?;
-    write_chars(&mut out[..chars.len()], chars, order.as_slice());
+    let mut runs = LineRuns::new(alloc);
+    runs.find(shown.as_slice(), 0)?;
+    write_chars(
+        chars,
+        shown.as_slice(),
+        runs.as_slice(),
+        &mut out[..chars.len()],
+    );
     Ok(chars.len())
 }
 
@@ -149,4 +146,38 @@ pub fn line_map(
     check(text.len() == line.levels.len(), Fault::UnequalLengths)?;
     check(all_scalar(&text[line.start..line.end]), Fault::NotScalar)?;
     order_units(alloc, line, out)
+}
+
+/// Writes everything that a line shows, each part to a buffer that is not empty: its levels after L1, its
+/// visual runs, and the order and the text of its characters from left to right (L2).
+///
+/// Also writes the number of the line's characters, and returns the number of its runs. After a fault
+/// nothing is written.
+pub fn show_line(
+    alloc: Global,
+    text: &[u32],
+    line: &KeptLine<'_>,
+    levels: &mut [u8],
+    runs: &mut [Run],
+    order: &mut [usize],
+    out: &mut [u32],
+    characters: &mut usize,
+) -> Result<usize, Fault>
+    ensures fault { let chars = own_units text.now line.now in
+        FaultsAs result (option_or (line_fault line.now) (option_or (text_fault text.now line.now false)
+        (option_or (fault_unless (list_all is_scalar chars) Fault.NotScalar)
+        (room_fault (everything_of_chars chars line.now) (buffers levels.old runs.old order.old out.old))))) }
+    ensures kept { OnErr result
+        (IsKept (buffers levels.old runs.old order.old out.old) (buffers levels.new runs.new order.new out.new)
+        × (characters.new ≡ characters.old)) }
+    ensures shown { OnOk result (IsWritten (everything_of_chars (own_units text.now line.now) line.now)
+        (buffers levels.old runs.old order.old out.old) (buffers levels.new runs.new order.new out.new)) }
+    ensures characters { OnOk result (characters.new ≡ length (order_of_line one_unit (own_units text.now line.now) line.now)) }
+    ensures count { IfOk result (λ count. count ≡ length (run_rows line.now)) }
+{
+    line.check()?;
+    check(text.len() == line.levels.len(), Fault::UnequalLengths)?;
+    let chars = &text[line.start..line.end];
+    check(all_scalar(chars), Fault::NotScalar)?;
+    show_chars(alloc, chars, line, levels, runs, order, out, characters)
 }

@@ -3,6 +3,7 @@ ghost use Rattle.std.specs.Prelude.{◌≡◌, ◌+◌, ◌-◌, ◌≤◌, nat_
 ghost use Rattle.std.specs.Char.{len_utf8};
 ghost use Rattle.std.specs.Str.{chars};
 ghost use Rattle.bidi_numbers.specs.Faults.{FaultsAs};
+ghost use Rattle.bidi_calls.specs.Everything.{begins_character, buffers, everything, everything_fault, run_rows, IsWritten, IsKept};
 ghost use Rattle.bidi_calls.specs.Kept.{written, written_if_room, class_numbers, level_numbers, paragraphs_in, analysis_fault};
 ghost use Rattle.bidi_calls.specs.Lines.{IsSound, line_fault};
 ghost use Rattle.bidi_numbers.specs.Numbers.{base_of, split_of, direction_in};
@@ -13,8 +14,9 @@ ghost use Rattle.std.specs.Result.{result_err};
 use crate::checked;
 use crate::even::is_even_utf8;
 use crate::line::{KeptLine, map_characters, write_text};
+use crate::show::show_text;
 use bidi_numbers::fault::{Fault, check};
-use bidi_numbers::rows::Paragraph;
+use bidi_numbers::rows::{Paragraph, Run};
 use bidi_numbers::texts::{goes_on, utf8};
 use std::alloc::Global;
 use unicode_bidi::BidiDataSource;
@@ -158,4 +160,92 @@ pub fn line_map(
     check_text(text, line)?;
     let own = StrText::new(utf8(&text[line.start..line.end])?);
     map_characters(alloc, own, line, out)
+}
+
+// Whether a byte of UTF-8 begins a character.
+fn begins(byte: u8) -> bool
+    ensures { result ≡ begins_character byte }
+{
+    byte < 0x80 || 0xC0 <= byte
+}
+
+// How many characters a text has. The loop has no branch, so that it reads many bytes at once.
+fn count_characters(text: &str) -> usize
+    ensures { result ≡ length (chars text.now) }
+{
+    let bytes = text.as_bytes();
+    let mut count = 0;
+    for byte in bytes {
+        count += usize::from(begins(*byte));
+    }
+    count
+}
+
+// Shows a line whose text is this, and returns the number of its runs.
+fn show(
+    alloc: Global,
+    text: &str,
+    line: &KeptLine<'_>,
+    levels: &mut [u8],
+    runs: &mut [Run],
+    order: &mut [usize],
+    out: &mut [u8],
+    characters: &mut usize,
+) -> Result<usize, Fault>
+    requires sound { IsSound line.now }
+    requires units { length text.now + line.now.start ≡ line.now.end }
+    ensures fault { FaultsAs result (everything_fault len_utf8 encode_utf8 (chars text.now) text.now line.now
+        (buffers levels.old runs.old order.old out.old)) }
+    ensures kept { OnErr result
+        (IsKept (buffers levels.old runs.old order.old out.old) (buffers levels.new runs.new order.new out.new)
+        × (characters.new ≡ characters.old)) }
+    ensures shown { OnOk result (IsWritten (everything len_utf8 encode_utf8 (chars text.now) text.now line.now)
+        (buffers levels.old runs.old order.old out.old) (buffers levels.new runs.new order.new out.new)) }
+    ensures characters { OnOk result (characters.new ≡ length (order_of_line len_utf8 (chars text.now) line.now)) }
+    ensures count { IfOk result (λ count. count ≡ length (run_rows line.now)) }
+{
+    let even = is_even_utf8(text, line.class_numbers(), line.level_numbers());
+    check(even, Fault::UnevenCharacter)?;
+    let len = count_characters(text);
+    let own = StrText::new(text);
+    show_text(alloc, own, len, line, levels, runs, order, out, characters)
+}
+
+/// Writes everything that a line shows, each part to a buffer that is not empty: its levels after L1, its
+/// visual runs, the order of its characters and its text from left to right (L2).
+///
+/// Also writes the number of the line's characters, and returns the number of its runs. After a fault
+/// nothing is written.
+pub fn show_line(
+    alloc: Global,
+    text: &[u8],
+    line: &KeptLine<'_>,
+    levels: &mut [u8],
+    runs: &mut [Run],
+    order: &mut [usize],
+    out: &mut [u8],
+    characters: &mut usize,
+) -> Result<usize, Fault>
+    ensures not_utf8 { let told = option_or (line_fault line.now)
+        (option_or (text_fault text.now line.now (cuts_utf8 text.now line.now)) (Some Fault.NotUtf8)) in
+        ¬ (IsUtf8 (own_units text.now line.now)) → FaultsAs result told }
+    ensures fault { let units = own_units text.now line.now in
+        let told = option_or (line_fault line.now)
+        (option_or (text_fault text.now line.now (cuts_utf8 text.now line.now))
+        (everything_fault len_utf8 encode_utf8 (chars units) units line.now (buffers levels.old runs.old order.old out.old))) in
+        IsUtf8 units → FaultsAs result told }
+    ensures kept { OnErr result
+        (IsKept (buffers levels.old runs.old order.old out.old) (buffers levels.new runs.new order.new out.new)
+        × (characters.new ≡ characters.old)) }
+    ensures shown { let units = own_units text.now line.now in
+        OnOk result (IsWritten (everything len_utf8 encode_utf8 (chars units) units line.now)
+        (buffers levels.old runs.old order.old out.old) (buffers levels.new runs.new order.new out.new)) }
+    ensures characters { OnOk result (characters.new
+        ≡ length (order_of_line len_utf8 (chars (own_units text.now line.now)) line.now)) }
+    ensures count { IfOk result (λ count. count ≡ length (run_rows line.now)) }
+{
+    line.check()?;
+    check_text(text, line)?;
+    let own = utf8(&text[line.start..line.end])?;
+    show(alloc, own, line, levels, runs, order, out, characters)
 }

@@ -1,0 +1,83 @@
+use Rattle.bidi_base.proofs.Common.{◌≡◌, List, ℕ, map, length, sym, ap, ap₂, ◌∙◌, flat_map, length-map, arith, run_of, visual_runs, visual_order, per_char}
+use Rattle.bidi_text_lines.proofs.WrittenRuns.{ranges_at_boundaries}
+use Rattle.bidi_text_lines.specs.Written.{run_units, shown_units}
+use Rattle.bidi_calls.proofs.KeptText.{kept-runs, length-shown}
+use Rattle.bidi_calls.proofs.ShownLine.{length-order, told-room}
+use Rattle.bidi_calls.proofs.ShownRuns.{length-rows}
+use Rattle.bidi_calls.specs.Everything.{buffers}
+use Rattle.bidi_calls.specs.Kept.{written_if_room}
+use Rattle.bidi_calls.specs.Lines.{shown_levels}
+use Rattle.bidi_calls.specs.Shown.{order_of_line}
+use Rattle.bidi_numbers.specs.Rows.{run_row}
+use Rattle.bidi_calls.proofs.show.show_text.Goals as goal
+
+pub returns-in_err-check-clause-fault : goal.returns-in_err-check-clause-fault
+returns-in_err-check-clause-fault g c =
+    let len = g.T.TextSource.units in
+    let cs : List ℕ = g.T.TextSource.characters c.args.text in
+    let l = c.args.line.now in
+    let levels = c.as_slice-units.ensures ∙ c.in_ok-shown.ensures.levels in
+    let runs = c.as_slice-count.ensures ∙ c.in_ok-find.ensures.runs ∙ ap (visual_runs 0) (c.as_slice.ensures ∙ c.in_ok-shown.ensures.levels) in
+    let count = length-rows l.start (shown_levels l) c.as_slice-count.result.now runs in
+    let text = shown_units len g.T.LineText.encode cs (g.T.LineText.units_of c.args.text) 0 (shown_levels l) in
+    let long = length-shown len g.met.T.TextSource.has_units cs l c.requires.sound c.requires.even c.requires.units g.T.LineText.encode (g.T.LineText.units_of c.args.text) c.requires.one_a_unit c.requires.encoded in
+    rw (told-room len cs l text (buffers c.args.levels.now c.args.runs.now c.args.order.now c.args.out.now) (length c.as_slice-units.result.now) (length c.as_slice-count.result.now) c.args.len c.have_room-fits.result
+    (ap length (sym levels)) count (long ∙ ap length (sym levels)) c.requires.len c.have_room-fits.ensures)
+    (grind arith)
+
+pub put_runs-requires-clause-room : goal.put_runs-requires-clause-room
+put_runs-requires-clause-room g c =
+    let same = c.as_slice-4.ensures ∙ sym c.as_slice-count.ensures in
+    let long : length c.as_slice-4.result.now ≡ length c.as_slice-count.result.now = sym (length-map c.as_slice-4.result.now run_of) ∙ ap length same ∙ length-map c.as_slice-count.result.now run_of in
+    rw long (grind arith)
+
+pub put_text-requires-clause-boundaries : goal.put_text-requires-clause-boundaries
+put_text-requires-clause-boundaries g c =
+    let len = g.T.TextSource.units in
+    let cs : List ℕ = g.T.TextSource.characters c.args.text in
+    let l = c.args.line.now in
+    let runs = c.as_slice-6.ensures ∙ c.in_ok-find.ensures.runs ∙ ap (visual_runs 0) (c.as_slice.ensures ∙ c.in_ok-shown.ensures.levels) in
+    ranges_at_boundaries len cs c.as_slice-6.result.now _ runs (kept-runs len g.met.T.TextSource.has_units cs l c.requires.sound c.requires.even c.requires.units)
+
+pub returns-clause-fault : goal.returns-clause-fault
+returns-clause-fault g c =
+    let len = g.T.TextSource.units in
+    let cs : List ℕ = g.T.TextSource.characters c.args.text in
+    let l = c.args.line.now in
+    let levels = c.as_slice-units.ensures ∙ c.in_ok-shown.ensures.levels in
+    let runs = c.as_slice-count.ensures ∙ c.in_ok-find.ensures.runs ∙ ap (visual_runs 0) (c.as_slice.ensures ∙ c.in_ok-shown.ensures.levels) in
+    let count = length-rows l.start (shown_levels l) c.as_slice-count.result.now runs in
+    let text = shown_units len g.T.LineText.encode cs (g.T.LineText.units_of c.args.text) 0 (shown_levels l) in
+    let long = length-shown len g.met.T.TextSource.has_units cs l c.requires.sound c.requires.even c.requires.units g.T.LineText.encode (g.T.LineText.units_of c.args.text) c.requires.one_a_unit c.requires.encoded in
+    rw (told-room len cs l text (buffers c.args.levels.now c.args.runs.now c.args.order.now c.args.out.now) (length c.as_slice-units.result.now) (length c.as_slice-count.result.now) c.args.len c.have_room-fits.result
+    (ap length (sym levels)) count (long ∙ ap length (sym levels)) c.requires.len c.have_room-fits.ensures)
+    (grind arith)
+
+pub returns-clause-shown : goal.returns-clause-shown
+unfolding order_of_line
+returns-clause-shown g c =
+    let len = g.T.TextSource.units in
+    let cs : List ℕ = g.T.TextSource.characters c.args.text in
+    let l = c.args.line.now in
+    let order = ap (per_char 0 len cs) c.in_ok-shown.ensures.levels in
+    let runs = c.as_slice-6.ensures ∙ c.in_ok-find.ensures.runs ∙ ap (visual_runs 0) (c.as_slice.ensures ∙ c.in_ok-shown.ensures.levels) in
+    let shown = c.in_ok-shown.ensures.levels in
+    record {
+      levels = c.put_levels.ensures ∙ ap (λ xs. written_if_room xs c.args.levels.now) (c.as_slice-2.ensures ∙ shown);
+      runs = c.put_runs.ensures ∙ ap (λ xs. written_if_room (map (run_row l.start xs) (visual_runs l.start xs)) c.args.runs.now) (c.as_slice-3.ensures ∙ shown);
+      order = c.put_order_of.ensures ∙ ap (λ xs. written_if_room (visual_order xs) c.args.order.now) order;
+      text = c.put_text.ensures
+          ∙ ap₂ (λ xs rs. written_if_room (flat_map (run_units len g.T.LineText.encode cs (g.T.LineText.units_of c.args.text) 0 xs) rs) c.args.out.now) (c.as_slice-5.ensures ∙ shown) runs;
+    }
+
+pub returns-clause-characters : goal.returns-clause-characters
+returns-clause-characters g c = c.requires.len ∙ sym (length-order g.T.TextSource.units (g.T.TextSource.characters c.args.text) c.args.line.now)
+
+pub returns-clause-count : goal.returns-clause-count
+returns-clause-count g c =
+    let len = g.T.TextSource.units in
+    let cs : List ℕ = g.T.TextSource.characters c.args.text in
+    let l = c.args.line.now in
+    let runs = c.as_slice-count.ensures ∙ c.in_ok-find.ensures.runs ∙ ap (visual_runs 0) (c.as_slice.ensures ∙ c.in_ok-shown.ensures.levels) in
+    let count = length-rows l.start (shown_levels l) c.as_slice-count.result.now runs in
+    sym count

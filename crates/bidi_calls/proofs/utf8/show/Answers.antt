@@ -1,0 +1,37 @@
+use Rattle.bidi_base.proofs.Common.{◌≡◌, ◌+◌, true, sym, ap, ◌∙◌, arith, chars}
+use Rattle.std.specs.Char.{encode_utf8, len_utf8}
+use Rattle.std.proofs.lemmas.Str.{length-encode}
+use Rattle.bidi_text.proofs.StrLemmas.{has_units, text_len-chars}
+use Rattle.bidi_calls.proofs.KeptText.{kept-text}
+use Rattle.bidi_calls.proofs.ShownLine.{told-even}
+use Rattle.bidi_calls.specs.Everything.{buffers}
+use Rattle.bidi_calls.specs.Shown.{is_even}
+use Rattle.bidi_calls.proofs.utf8.show.Goals as goal
+
+pub show_text-requires-clause-units : goal.show_text-requires-clause-units
+show_text-requires-clause-units c = rw c.new-own.ensures (ap (λ n. n + c.args.line.now.start) (text_len-chars c.args.text.now c.utf8.text) ∙ c.requires.units)
+
+pub show_text-requires-clause-one_a_unit : goal.show_text-requires-clause-one_a_unit
+show_text-requires-clause-one_a_unit c = rw c.new-own.ensures (sym (text_len-chars c.args.text.now c.utf8.text))
+
+pub show_text-requires-clause-encoded : goal.show_text-requires-clause-encoded
+show_text-requires-clause-encoded c = length-encode
+
+pub returns-clause-fault : goal.returns-clause-fault
+returns-clause-fault c =
+    let even = rw (c.class_numbers.ensures, c.level_numbers.ensures) at c.is_even_utf8-even.ensures in
+    let holds : is_even len_utf8 (chars c.args.text.now) c.args.line.now ≡ true = grind arith in
+    let long = text_len-chars c.args.text.now c.utf8.text in
+    let units = ap (λ n. n + c.args.line.now.start) long ∙ c.requires.units in
+    let text = kept-text len_utf8 has_units (chars c.args.text.now) c.args.line.now c.requires.sound holds units encode_utf8 c.args.text.now (sym long) in
+    let found = rw (c.new-own.ensures, text) at c.show_text.ensures.fault in
+    rw (told-even len_utf8 encode_utf8 (chars c.args.text.now) c.args.text.now c.args.line.now (buffers c.args.levels.now c.args.runs.now c.args.order.now c.args.out.now) holds) found
+
+pub returns-clause-shown : goal.returns-clause-shown
+returns-clause-shown c =
+    let even = rw (c.class_numbers.ensures, c.level_numbers.ensures) at c.is_even_utf8-even.ensures in
+    let holds : is_even len_utf8 (chars c.args.text.now) c.args.line.now ≡ true = grind arith in
+    let long = text_len-chars c.args.text.now c.utf8.text in
+    let units = ap (λ n. n + c.args.line.now.start) long ∙ c.requires.units in
+    let text = kept-text len_utf8 has_units (chars c.args.text.now) c.args.line.now c.requires.sound holds units encode_utf8 c.args.text.now (sym long) in
+    rw (c.new-own.ensures, text) at c.show_text.ensures.shown

@@ -1,0 +1,77 @@
+-- Everything about a line: what one call writes of it, and which buffers have room for that.
+use Rattle.std.specs.Prelude.{◌≡◌, ℕ, Bool, ◌&&◌, ◌||◌, nat_le, nat_lt, List, length, map, Option}
+use Rattle.std.specs.Option.{option_or}
+use Rattle.bidi_base.specs.Display.{visual_runs}
+use Rattle.bidi_base.specs.Text.{one_unit}
+use Rattle.bidi_calls.specs.declared.line.KeptLine.{KeptLine}
+use Rattle.bidi_calls.specs.Kept.{written_if_room}
+use Rattle.bidi_calls.specs.Lines.{shown_levels}
+use Rattle.bidi_calls.specs.Shown.{is_even, order_of_line, reordered, reordered_chars}
+use Rattle.bidi_numbers.specs.declared.fault.Fault.{Fault}
+use Rattle.bidi_numbers.specs.declared.fault.Fault.TheVariants.{UnevenCharacter, NoRoom}
+use Rattle.bidi_numbers.specs.declared.rows.Run.{Run}
+use Rattle.bidi_numbers.specs.Faults.{fault_unless, has_room_or_none}
+use Rattle.bidi_numbers.specs.Rows.{run_row}
+
+-- what a line shows, one list for each buffer of the call. The units of the text may have any type.
+pub record LineShown (X : Type 0) : Type 0 where
+  pub levels : List ℕ
+  pub runs : List Run
+  pub order : List ℕ
+  pub text : List X
+
+-- the four buffers of a call
+abbrev pub buffers : {X : Type 0} → List ℕ → List Run → List ℕ → List X → LineShown X
+buffers levels runs order text = record { levels = levels; runs = runs; order = order; text = text }
+
+-- the visual runs of a line as rows
+abbrev pub run_rows : KeptLine → List Run
+run_rows l = map (run_row l.start (shown_levels l)) (visual_runs l.start (shown_levels l))
+
+-- a line with these characters: its levels after L1, its visual runs, the order of its characters, and this text
+abbrev pub line_shown : {X : Type 0} → (ℕ → ℕ) → List ℕ → KeptLine → List X → LineShown X
+line_shown len_of chars l text = buffers (shown_levels l) (run_rows l) (order_of_line len_of chars l) text
+
+-- each buffer has room for its part, or is empty
+abbrev pub has_room_for : {X : Type 0} → LineShown X → LineShown X → Bool
+has_room_for shown before =
+    has_room_or_none (length shown.levels) (length before.levels)
+    && (has_room_or_none (length shown.runs) (length before.runs)
+    && (has_room_or_none (length shown.order) (length before.order)
+    && has_room_or_none (length shown.text) (length before.text)))
+
+-- what is wrong with the room for all of it
+abbrev pub room_fault : {X : Type 0} → LineShown X → LineShown X → Option Fault
+room_fault shown before = fault_unless (has_room_for shown before) NoRoom
+
+-- the call has written its part to each buffer that is not empty
+pub record IsWritten {X : Type 0} (shown before after : LineShown X) : Type 0 where
+  pub levels : after.levels ≡ written_if_room shown.levels before.levels
+  pub runs : after.runs ≡ written_if_room shown.runs before.runs
+  pub order : after.order ≡ written_if_room shown.order before.order
+  pub text : after.text ≡ written_if_room shown.text before.text
+
+-- the call has written nothing
+pub record IsKept {X : Type 0} (before after : LineShown X) : Type 0 where
+  pub levels : after.levels ≡ before.levels
+  pub runs : after.runs ≡ before.runs
+  pub order : after.order ≡ before.order
+  pub text : after.text ≡ before.text
+
+-- a line of UTF-8 or UTF-16 with these characters and units, and its text from left to right
+abbrev pub everything : (ℕ → ℕ) → (ℕ → List ℕ) → List ℕ → List ℕ → KeptLine → LineShown ℕ
+everything len_of encode chars units l = line_shown len_of chars l (reordered len_of encode chars units l)
+
+-- what is wrong with the units of that line, and with the room for all of it
+abbrev pub everything_fault : (ℕ → ℕ) → (ℕ → List ℕ) → List ℕ → List ℕ → KeptLine → LineShown ℕ → Option Fault
+everything_fault len_of encode chars units l before =
+    option_or (fault_unless (is_even len_of chars l) UnevenCharacter)
+    (room_fault (everything len_of encode chars units l) before)
+
+-- a line of characters of one unit each
+abbrev pub everything_of_chars : List ℕ → KeptLine → LineShown ℕ
+everything_of_chars chars l = line_shown one_unit chars l (reordered_chars chars l)
+
+-- a byte of UTF-8 begins a character
+abbrev pub begins_character : ℕ → Bool
+begins_character byte = nat_lt byte 0x80 || nat_le 0xC0 byte

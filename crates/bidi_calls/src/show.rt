@@ -1,0 +1,330 @@
+//! Everything about a line in one call: its levels, its visual runs, the order of its characters and its
+//! text from left to right.
+ghost use Rattle.std.specs.Prelude.{◌≡◌, ℕ, ◌+◌, ◌-◌, ◌<◌, ◌≤◌, ◌&&◌, if◌then◌else◌, IsTrue, true, length, map, flat_map, reverse, slice_index, get_or, sum_by, OnOk, OnErr, IfOk, All};
+ghost use Rattle.bidi_base.specs.Display.{run_of, visual_runs, AreVisualRuns};
+ghost use Rattle.bidi_base.specs.Levels.{is_odd};
+ghost use Rattle.bidi_base.specs.Order.{visual_order as visual_order_of};
+ghost use Rattle.bidi_base.specs.Text.{text_len, per_char, one_unit, IsLine};
+ghost use Rattle.bidi_calls.specs.Everything.{buffers, everything_of_chars, line_shown, run_rows, room_fault, IsWritten, IsKept};
+ghost use Rattle.bidi_calls.specs.Kept.{written_if_room};
+ghost use Rattle.bidi_calls.specs.Lines.{IsSound, shown_levels};
+ghost use Rattle.bidi_calls.specs.Shown.{is_even, order_of_line, reordered_chars};
+ghost use Rattle.bidi_numbers.specs.Faults.{FaultsAs, has_room_or_none};
+ghost use Rattle.bidi_numbers.specs.Rows.{run_row};
+ghost use Rattle.bidi_lines.specs.ShownLevels.{levels as levels_of};
+ghost use Rattle.bidi_text_lines.specs.Written.{run_units, shown_units};
+
+use crate::checked::write_levels;
+use crate::line::KeptLine;
+use bidi_lines::shown_levels::ShownLevels;
+use bidi_lines::visual_order::write_visual_order;
+use bidi_lines::visual_runs::LineRuns;
+use bidi_numbers::fault::{Fault, check};
+use bidi_numbers::rows::Run;
+use bidi_text_lines::line_text::{LineText, write_runs};
+use std::alloc::Global;
+use std::ops::Range;
+use unicode_bidi::{Level, TextSource};
+
+// Writes levels to the front of a buffer that is not empty.
+fn put_levels(out: &mut [u8], levels: &[Level])
+    requires { IsTrue (has_room_or_none (length levels.now) (length out.old)) }
+    ensures { out.new ≡ written_if_room levels.now out.old }
+{
+    if !out.is_empty() {
+        write_levels(&mut out[..levels.len()], levels);
+    }
+}
+
+// A run of a line as a row. The line begins at the unit `start` of the text, and the run's units are counted from
+// there.
+fn row_of(levels: &[Level], start: usize, run: &Range<usize>) -> Run
+    requires begins { run.now.start < length levels.now }
+    requires ends { run.now.end ≤ length levels.now }
+    requires whole { start + length levels.now ≤ usize.MAX }
+    ensures { result ≡ run_row start levels.now (start + run.now.start, start + run.now.end) }
+{
+    Run {
+        start: start + run.start,
+        end: start + run.end,
+        level: levels[run.start].number(),
+    }
+}
+
+// Writes runs as rows.
+fn write_rows(out: &mut [Run], levels: &[Level], start: usize, runs: &[Range<usize>])
+    requires same_len { length out.old ≡ length runs.now }
+    requires within { All (λ r. r.start < length levels.now × r.end ≤ length levels.now) runs.now }
+    requires whole { start + length levels.now ≤ usize.MAX }
+    ensures { out.new ≡ map (λ r. run_row start levels.now (start + r.start, start + r.end)) runs.now }
+{
+    for i in 0..runs.len() {
+        out[i] = row_of(levels, start, &runs[i]);
+    }
+}
+
+// Writes the runs of a line as rows to the front of a buffer that is not empty.
+fn put_runs(out: &mut [Run], levels: &[Level], start: usize, runs: &[Range<usize>])
+    requires room { IsTrue (has_room_or_none (length runs.now) (length out.old)) }
+    requires visual { AreVisualRuns 0 levels.now (map run_of runs.now) }
+    requires runs { map run_of runs.now ≡ visual_runs 0 levels.now }
+    requires whole { start + length levels.now ≤ usize.MAX }
+    ensures { out.new ≡ written_if_room (map (run_row start levels.now) (visual_runs start levels.now)) out.old }
+{
+    if !out.is_empty() {
+        write_rows(&mut out[..runs.len()], levels, start, runs);
+    }
+}
+
+// Writes the text of a line, run by run, to the front of a buffer that is not empty.
+fn put_text<T: LineText>(text: T, levels: &[Level], runs: &[Range<usize>], out: &mut [T::Unit])
+    requires room { IsTrue (has_room_or_none (length levels.now) (length out.old)) }
+    requires visual { AreVisualRuns 0 levels.now (map run_of runs.now) }
+    requires boundaries { All (λ r. IsLine T.units (T.characters text) r.start r.end) runs.now }
+    ensures { out.new
+        ≡ written_if_room
+        (flat_map (run_units T.units T.encode (T.characters text) (T.units_of text) 0 levels.now) (map run_of runs.now))
+        out.old }
+{
+    if !out.is_empty() {
+        write_runs(text, 0, levels, runs, &mut out[..levels.len()]);
+    }
+}
+
+// Writes the visual order of levels to the front of a buffer that is not empty.
+fn put_order(out: &mut [usize], levels: &[Level])
+    requires { IsTrue (has_room_or_none (length levels.now) (length out.old)) }
+    ensures { out.new ≡ written_if_room (visual_order_of levels.now) out.old }
+{
+    if !out.is_empty() {
+        write_visual_order(levels, &mut out[..levels.len()]);
+    }
+}
+
+// Whether a buffer has room for so many entries, or is empty.
+fn has_room(count: usize, room: usize) -> bool
+    ensures { result ≡ has_room_or_none count room }
+{
+    room == 0 || count <= room
+}
+
+/// Returns how many characters a text of so many units has.
+pub(crate) fn count_characters<T: TextSource>(text: T, units: usize) -> usize
+    requires { units ≡ text_len T.units (T.characters text) }
+    ensures { result ≡ length (T.characters text) }
+{
+    let mut count = 0;
+    for (at, _) in text.indices_lengths() {
+        count += 1;
+    }
+    count
+}
+
+// Whether each buffer has room for its part of a line of so many units, runs and characters, or is empty.
+fn have_room(
+    units: usize,
+    runs: usize,
+    characters: usize,
+    level_room: usize,
+    run_room: usize,
+    order_room: usize,
+    text_room: usize,
+) -> bool
+    ensures { result
+        ≡ (has_room_or_none units level_room
+        && (has_room_or_none runs run_room
+        && (has_room_or_none characters order_room && has_room_or_none units text_room))) }
+{
+    has_room(units, level_room)
+        && has_room(runs, run_room)
+        && has_room(characters, order_room)
+        && has_room(units, text_room)
+}
+
+// Keeps one level for each of a line's `len` characters. Where each character is one unit, there is nothing to do.
+fn keep_characters<T: TextSource>(text: T, len: usize, shown: &mut ShownLevels)
+    requires units { length (levels_of shown.old) ≡ text_len T.units (T.characters text) }
+    requires len { len ≡ length (T.characters text) }
+    ensures { levels_of shown.new ≡ per_char 0 T.units (T.characters text) (levels_of shown.old) }
+{
+    if len < shown.as_slice().len() {
+        shown.keep_first_units(text);
+    }
+}
+
+// Writes the order of a line's `len` characters to the front of a buffer that is not empty. `shown` has one level for
+// each unit before, and may have one for each character behind.
+fn put_order_of<T: TextSource>(out: &mut [usize], text: T, len: usize, shown: &mut ShownLevels)
+    requires units { length (levels_of shown.old) ≡ text_len T.units (T.characters text) }
+    requires len { len ≡ length (T.characters text) }
+    requires room { IsTrue (has_room_or_none len (length out.old)) }
+    ensures { out.new
+        ≡ written_if_room (visual_order_of (per_char 0 T.units (T.characters text) (levels_of shown.old))) out.old }
+{
+    if !out.is_empty() {
+        keep_characters(text, len, shown);
+        write_visual_order(shown.as_slice(), &mut out[..len]);
+    }
+}
+
+/// Shows a line of a text: writes its levels after L1, its visual runs (L2), the order of its characters
+/// and its text from left to right, each to a buffer that is not empty, and to `characters` how many
+/// characters it has. Returns the number of runs.
+///
+/// `text` is the line's, has `len` characters, and has one class and one level for each of them. A line of
+/// up to 256 units with up to 16 runs needs no allocation. After a fault nothing is written.
+pub fn show_text<T: LineText>(
+    alloc: Global,
+    text: T,
+    len: usize,
+    line: &KeptLine<'_>,
+    levels: &mut [u8],
+    runs: &mut [Run],
+    order: &mut [usize],
+    out: &mut [T::Unit],
+    characters: &mut usize,
+) -> Result<usize, Fault>
+    requires sound { IsSound line.now }
+    requires even { is_even T.units (T.characters text) line.now ≡ true }
+    requires units { text_len T.units (T.characters text) + line.now.start ≡ line.now.end }
+    requires len { len ≡ length (T.characters text) }
+    requires one_a_unit { length (T.units_of text) ≡ text_len T.units (T.characters text) }
+    requires encoded { (c : ℕ) → length (T.encode c) ≡ T.units c }
+    ensures fault { let shown = line_shown T.units (T.characters text) line.now
+        (shown_units T.units T.encode (T.characters text) (T.units_of text) 0 (shown_levels line.now)) in
+        FaultsAs result (room_fault shown (buffers levels.old runs.old order.old out.old)) }
+    ensures kept { OnErr result
+        (IsKept (buffers levels.old runs.old order.old out.old) (buffers levels.new runs.new order.new out.new)
+        × (characters.new ≡ characters.old)) }
+    ensures shown { let shown = line_shown T.units (T.characters text) line.now
+        (shown_units T.units T.encode (T.characters text) (T.units_of text) 0 (shown_levels line.now)) in
+        OnOk result (IsWritten shown (buffers levels.old runs.old order.old out.old) (buffers levels.new runs.new order.new out.new)) }
+    ensures characters { OnOk result (characters.new ≡ length (order_of_line T.units (T.characters text) line.now)) }
+    ensures count { IfOk result (λ count. count ≡ length (run_rows line.now)) }
+{
+    let mut shown = line.shown(alloc)?;
+    let mut found = LineRuns::new(alloc);
+    found.find(shown.as_slice(), 0)?;
+    let units = shown.as_slice().len();
+    let count = found.as_slice().len();
+    let fits = have_room(
+        units,
+        count,
+        len,
+        levels.len(),
+        runs.len(),
+        order.len(),
+        out.len(),
+    );
+    check(fits, Fault::NoRoom)?;
+    put_levels(levels, shown.as_slice());
+    put_runs(runs, shown.as_slice(), line.start, found.as_slice());
+    put_text(text, shown.as_slice(), found.as_slice(), out);
+    put_order_of(order, text, len, &mut shown);
+    *characters = len;
+    Ok(count)
+}
+
+// Writes a run of a line. At an odd level its characters, one unit each, are reversed.
+fn write_run(chars: &[u32], is_rtl: bool, out: &mut [u32])
+    requires { length out.old ≡ length chars.now }
+    ensures { out.new ≡ (if is_rtl then reverse chars.now else chars.now) }
+{
+    out.copy_from_slice(chars);
+    if is_rtl {
+        out.reverse();
+    }
+}
+
+// Writes the runs of a line, one after the other.
+fn write_each_run(chars: &[u32], levels: &[Level], runs: &[Range<usize>], out: &mut [u32])
+    requires one_a_unit { length chars.now ≡ length levels.now }
+    requires room { length out.old ≡ length levels.now }
+    requires visual { AreVisualRuns 0 levels.now (map run_of runs.now) }
+    requires within { All (λ r. r.start < length levels.now × r.end ≤ length levels.now) runs.now }
+    requires ordered { All (λ r. r.start ≤ r.end) runs.now }
+    requires whole { sum_by (λ r. r.end - r.start) runs.now ≡ length levels.now }
+    ensures { out.new ≡ map (λ k. get_or chars.now k 0) (visual_order_of levels.now) }
+{
+    let mut at = 0;
+    for run in runs {
+        let end = at + (run.end - run.start);
+        let is_rtl = levels[run.start].is_rtl();
+        let own = &chars[run.start..run.end];
+        write_run(own, is_rtl, &mut out[at..end]);
+        at = end;
+    }
+}
+
+/// Writes the characters of a line from left to right (L2), where each unit is a character.
+///
+/// `levels` are those of the line's units after L1, and `runs` its visual runs, counted from its first
+/// unit. Takes time linear in the line, and does not allocate.
+pub fn write_chars(chars: &[u32], levels: &[Level], runs: &[Range<usize>], out: &mut [u32])
+    requires one_a_unit { length chars.now ≡ length levels.now }
+    requires room { length out.old ≡ length levels.now }
+    requires visual { AreVisualRuns 0 levels.now (map run_of runs.now) }
+    ensures { out.new ≡ map (λ k. get_or chars.now k 0) (visual_order_of levels.now) }
+{
+    write_each_run(chars, levels, runs, out);
+}
+
+// Writes the characters of a line from left to right to the front of a buffer that is not empty.
+fn put_chars(chars: &[u32], levels: &[Level], runs: &[Range<usize>], out: &mut [u32])
+    requires one_a_unit { length chars.now ≡ length levels.now }
+    requires room { IsTrue (has_room_or_none (length levels.now) (length out.old)) }
+    requires visual { AreVisualRuns 0 levels.now (map run_of runs.now) }
+    ensures { out.new ≡ written_if_room (map (λ k. get_or chars.now k 0) (visual_order_of levels.now)) out.old }
+{
+    if !out.is_empty() {
+        write_chars(chars, levels, runs, &mut out[..levels.len()]);
+    }
+}
+
+/// Shows a line as [`show_text`] does, where each unit is a character.
+///
+/// A line of up to 256 units with up to 16 runs needs no allocation. After a fault nothing is written.
+pub fn show_chars(
+    alloc: Global,
+    chars: &[u32],
+    line: &KeptLine<'_>,
+    levels: &mut [u8],
+    runs: &mut [Run],
+    order: &mut [usize],
+    out: &mut [u32],
+    characters: &mut usize,
+) -> Result<usize, Fault>
+    requires sound { IsSound line.now }
+    requires units { length chars.now + line.now.start ≡ line.now.end }
+    ensures fault { FaultsAs result
+        (room_fault (everything_of_chars chars.now line.now) (buffers levels.old runs.old order.old out.old)) }
+    ensures kept { OnErr result
+        (IsKept (buffers levels.old runs.old order.old out.old) (buffers levels.new runs.new order.new out.new)
+        × (characters.new ≡ characters.old)) }
+    ensures shown { OnOk result (IsWritten (everything_of_chars chars.now line.now)
+        (buffers levels.old runs.old order.old out.old) (buffers levels.new runs.new order.new out.new)) }
+    ensures characters { OnOk result (characters.new ≡ length (order_of_line one_unit chars.now line.now)) }
+    ensures count { IfOk result (λ count. count ≡ length (run_rows line.now)) }
+{
+    let shown = line.shown(alloc)?;
+    let mut found = LineRuns::new(alloc);
+    found.find(shown.as_slice(), 0)?;
+    let units = chars.len();
+    let count = found.as_slice().len();
+    let fits = have_room(
+        units,
+        count,
+        units,
+        levels.len(),
+        runs.len(),
+        order.len(),
+        out.len(),
+    );
+    check(fits, Fault::NoRoom)?;
+    put_levels(levels, shown.as_slice());
+    put_runs(runs, shown.as_slice(), line.start, found.as_slice());
+    put_chars(chars, shown.as_slice(), found.as_slice(), out);
+    put_order(order, shown.as_slice());
+    *characters = units;
+    Ok(count)
+}
