@@ -163,7 +163,7 @@ int64_t unicode_bidi_base_direction_utf32(const uint32_t *text, size_t text_len,
 /* The base direction, by the first character that decides it: UNICODE_BIDI_LTR, _RTL or _MIXED. For a text without
  * a fault this is what unicode_bidi_base_direction_* returns. The call stops at the deciding character, and with
  * full 0 also at the end of the first paragraph. It reports a fault only if the fault comes before that; what follows
- * does not matter. So a front of a long text is enough if it decides. An empty text is _MIXED.
+ * does not matter. So the first characters of a long text are enough if they decide. An empty text is _MIXED.
  * Faults   NOT_UTF8, NOT_SCALAR (by the encoding), in the characters that are read
  * Cost     the text up to the deciding character; utf8 tests up to 64 bytes at a time, so at most that many more.
  *          The calls do not allocate.

@@ -126,7 +126,7 @@ pub fn write_text<T: LineText>(
     write_line(alloc, text, units, line.level(), classes, levels, out)
 }
 
-/// The levels of a line's units after L1, of which it answers the number.
+/// Writes the levels of a line's units after L1, and returns their number.
 pub fn line_levels(alloc: Global, line: &KeptLine<'_>, out: &mut [u8]) -> Result<usize, Fault>
     ensures fault { FaultsAs result (levels_fault line.now (length out.old)) }
     ensures kept { OnErr result (out.new ≡ out.old) }
@@ -175,7 +175,7 @@ fn put_runs(out: &mut [Run], levels: &[Level], start: usize, runs: &[Range<usize
     }
 }
 
-/// The visual runs of a line, of which it answers the number. Where `out` has no room at all, they are
+/// Writes the visual runs of a line, and returns their number. Where `out` has no room at all, they are
 /// only counted.
 pub fn line_runs(alloc: Global, line: &KeptLine<'_>, out: &mut [Run]) -> Result<usize, Fault>
     ensures fault { FaultsAs result (runs_fault line.now (length out.old)) }
@@ -197,7 +197,7 @@ pub fn line_runs(alloc: Global, line: &KeptLine<'_>, out: &mut [Run]) -> Result<
     Ok(runs.len())
 }
 
-/// The order of a line's characters from left to right, of which it answers the number. `text` is the
+/// Writes the order of a line's characters from left to right, and returns their number. `text` is the
 /// line's.
 pub fn map_characters<T: TextSource>(
     alloc: Global,
@@ -236,7 +236,7 @@ pub fn order_units(alloc: Global, line: &KeptLine<'_>, out: &mut [usize]) -> Res
     Ok(units)
 }
 
-/// The visual order of levels, of which it answers the number.
+/// Writes the visual order of levels, and returns their number.
 pub fn visual_order(levels: &[u8], out: &mut [usize]) -> Result<usize, Fault>
     ensures fault { FaultsAs result (order_fault levels.now (length out.old)) }
     ensures kept { OnErr result (out.new ≡ out.old) }

@@ -22,7 +22,8 @@ use std::alloc::Global;
 use unicode_bidi::BidiDataSource;
 use unicode_bidi::text::{TextSource, Utf16Text, are_characters};
 
-/// The classes and the levels of a text's units, and its paragraphs, of which it answers the number.
+/// Writes the classes and the levels of a text's units, and its paragraphs, and returns the number of the
+/// paragraphs.
 pub fn analyse<D: BidiDataSource>(
     alloc: Global,
     data_source: &D,
@@ -116,7 +117,7 @@ fn reorder(
     Ok(count)
 }
 
-/// Writes the text of a line from left to right, and answers its length.
+/// Writes the text of a line from left to right, and returns its length.
 pub fn reorder_line(
     alloc: Global,
     text: &[u16],
@@ -139,7 +140,7 @@ pub fn reorder_line(
     reorder(alloc, &text[line.start..line.end], line, out)
 }
 
-/// The order of a line's characters from left to right, of which it answers the number.
+/// Writes the order of a line's characters from left to right, and returns their number.
 pub fn line_map(
     alloc: Global,
     text: &[u16],

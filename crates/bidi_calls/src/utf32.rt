@@ -22,8 +22,8 @@ use std::alloc::Global;
 use unicode_bidi::BidiDataSource;
 use unicode_bidi::text::CharsText;
 
-/// The classes and the levels of a text's characters, and its paragraphs, of which it answers the
-/// number.
+/// Writes the classes and the levels of a text's characters, and its paragraphs, and returns the number of
+/// the paragraphs.
 pub fn analyse<D: BidiDataSource>(
     alloc: Global,
     data_source: &D,
@@ -108,7 +108,7 @@ fn reorder(
     Ok(chars.len())
 }
 
-/// Writes the characters of a line from left to right, and answers their number.
+/// Writes the characters of a line from left to right, and returns their number.
 pub fn reorder_line(
     alloc: Global,
     text: &[u32],
@@ -127,7 +127,7 @@ pub fn reorder_line(
     reorder(alloc, &text[line.start..line.end], line, out)
 }
 
-/// The order of a line's characters from left to right, of which it answers the number.
+/// Writes the order of a line's characters from left to right, and returns their number.
 pub fn line_map(
     alloc: Global,
     text: &[u32],

@@ -22,7 +22,8 @@ use std::alloc::Global;
 use unicode_bidi::BidiDataSource;
 use unicode_bidi::text::StrText;
 
-/// The classes and the levels of a text's bytes, and its paragraphs, of which it answers the number.
+/// Writes the classes and the levels of a text's bytes, and its paragraphs, and returns the number of the
+/// paragraphs.
 pub fn analyse<D: BidiDataSource>(
     alloc: Global,
     data_source: &D,
@@ -109,7 +110,7 @@ fn reorder(alloc: Global, text: &str, line: &KeptLine<'_>, out: &mut [u8]) -> Re
     Ok(count)
 }
 
-/// Writes the text of a line from left to right, and answers its length.
+/// Writes the text of a line from left to right, and returns its length.
 pub fn reorder_line(
     alloc: Global,
     text: &[u8],
@@ -136,7 +137,7 @@ pub fn reorder_line(
     reorder(alloc, own, line, out)
 }
 
-/// The order of a line's characters from left to right, of which it answers the number.
+/// Writes the order of a line's characters from left to right, and returns their number.
 pub fn line_map(
     alloc: Global,
     text: &[u8],

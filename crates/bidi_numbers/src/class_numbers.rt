@@ -31,7 +31,7 @@ fn is_stop(number: u8) -> bool
     (9 <= number) & (number <= 11) | (14 <= number) & (number <= 18)
 }
 
-// Writes 1 for each such number, and 0 for each other.
+// Writes 1 for each number of a separator or of a class that X9 removes, and 0 for each other.
 fn mark_stops(numbers: &[u8], marks: &mut [u8])
     requires { length marks.old ≡ length numbers.now }
     ensures { marks.new ≡ map (λ n. if is_stop (class_numbered n) then 1 else 0) numbers.now }
@@ -41,7 +41,8 @@ fn mark_stops(numbers: &[u8], marks: &mut [u8])
     }
 }
 
-// How many of the sixteen numbers from `at` on come before the first such number.
+// How many of the sixteen numbers from `at` on come before the first of a separator or of a class that X9
+// removes.
 fn numbers_before_stop(numbers: &[u8], at: usize) -> usize
     requires { at + 16 ≤ length numbers.now }
     ensures { IsFirst is_stop (map class_numbered numbers.now) at (at + 16) (at + result) }
@@ -58,8 +59,8 @@ fn numbers_before_stop(numbers: &[u8], at: usize) -> usize
     }
 }
 
-// The index of the first such number from `from` on, or else how many numbers there are. The last block may
-// overlap the one before it: lines are short, and reading the rest one by one would cost more than the blocks.
+// The index of the first number from `from` on of a separator or of a class that X9 removes, or else how many
+// numbers there are. The last block may overlap the one before it: lines are short, and reading the rest one by one would cost more than the blocks.
 fn first_stop(numbers: &[u8], from: usize) -> usize
     requires { from ≤ length numbers.now }
     ensures { IsFirst is_stop (map class_numbered numbers.now) from (length numbers.now) result }

@@ -11,7 +11,6 @@ use crate::fault::{Fault, check};
 use bidi_base::char_data::BidiClass;
 use bidi_base::level::Level;
 use bidi_walk::split_rule::SplitRule;
-use std::alloc::{AllocError, Global};
 use std::simd::prelude::*;
 
 /// The number that stands for no base level.
@@ -125,17 +124,6 @@ pub fn check_classes(numbers: &[u8]) -> Result<(), Fault>
     ensures { result_err result ≡ fault_unless (list_all is_class numbers.now) Fault.BadClass }
 {
     check(all_below(numbers, CLASSES), Fault::BadClass)
-}
-
-/// The classes of numbers below 23.
-pub fn classes_of(alloc: Global, numbers: &[u8]) -> Result<Vec<BidiClass>, AllocError>
-    ensures { IfOk result (λ v. v.items ≡ map class_numbered numbers.now) }
-{
-    let mut classes = Vec::with_capacity(alloc, numbers.len())?;
-    for number in numbers {
-        classes.push(class_of(*number))?;
-    }
-    Ok(classes)
 }
 
 /// The base level that a number asks for.

@@ -31,7 +31,7 @@ fn direction_of(class: BidiClass) -> Direction
     }
 }
 
-// The number of isolates that are depth after a character.
+// How many isolates are open behind a character of this class.
 fn depth_after(depth: usize, class: BidiClass) -> usize
     requires { depth + 1 < 2 ^ 64 }
     ensures { result ≡ depth_after depth class }

@@ -1,7 +1,0 @@
-use Rattle.bidi_base.proofs.Common.{◌≡◌, map, take}
-use Rattle.bidi_numbers.specs.Numbers.{class_numbered}
-use Rattle.bidi_numbers.proofs.numbers.classes_of.Given as goal
-
--- the classes so far
-abbrev pub invariant-loop-number : goal.invariant-loop-number
-invariant-loop-number l = l.classes.items ≡ map class_numbered (take l.number-index l.numbers)
