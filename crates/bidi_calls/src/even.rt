@@ -12,8 +12,8 @@ ghost use Rattle.bidi_numbers.specs.Numbers.{class_numbered, is_class};
 ghost use Rattle.bidi_numbers.specs.Texts.{goes_on as goes_on_at};
 
 use bidi_numbers::texts::goes_on;
-use unicode_bidi::text::are_characters;
 use std::simd::prelude::*;
+use unicode_bidi::text::are_characters;
 
 // Whether a unit has the class and the level of the unit before it, if it goes on with a character.
 fn is_even_at(goes_on: bool, classes: &[u8], levels: &[u8], at: usize) -> bool

@@ -1,9 +1,8 @@
-use Rattle.bidi_base.proofs.Common.{◌≡◌, ◌∙◌, ℕ, List, [], ◌∷◌, map, ap, arith, refl, rules, paragraph_level}
+use Rattle.bidi_base.proofs.Common.{◌≡◌, ◌∙◌, ℕ, List, [], ◌∷◌, map, arith, refl, rules, paragraph_level}
 use Rattle.bidi_laws.proofs.LevelLaws.{BoundaryNeutralsAreAlike-all, StaysLeftToRight-all}
 use Rattle.unicode_bidi.specs.Engine.{with_analysis}
 use Rattle.bidi_walk.specs.ParagraphFlags.{flags_of}
 use Rattle.bidi_walk.specs.ParagraphInfo.{level_of}
-use Rattle.bidi_walk.specs.declared.paragraph_flags.ParagraphFlags.{ParagraphFlags}
 use Rattle.bidi_walk.proofs.FlagsLemmas.{is_pure_ltr-flags}
 use Rattle.unicode_bidi.proofs.FoundLaws.{classes-one, levels-one, paragraph_level-one, bounded-one}
 use Rattle.unicode_bidi.proofs.ParagraphUnits.{only, flags-one}
