@@ -1,20 +1,45 @@
 //! The calls over any text, and those over levels of one's own.
 
+use bidi_base::char_data::BidiClass;
 use bidi_base::data_source::TableBidiData;
 use bidi_base::level::Level;
 use bidi_text::text::{CharsText, StrText, TextSource, Utf16Text, is_line, is_per_char};
+use bidi_text_lines::shown_line::ShownLine;
 use bidi_trials::texts::{CHARACTERS, LONG_TEXT, UNITS};
-use bidi_trials::trial::Fault;
+use bidi_trials::trial::{Fault, NoAnswer};
 use bidi_trials::tried;
+use std::alloc::Global;
 use unicode_bidi::deprecated::visual_runs;
-use unicode_bidi::engine::{analyse, line_levels};
+use unicode_bidi::engine::{Analyser, analyse, line_levels};
 
 // Levels as a line has them that is cut in the middle of isolates.
 const NUMBERS: [u8; 24] = [
     1, 2, 1, 3, 126, 125, 4, 1, 0, 1, 2, 0, 1, 0, 3, 1, 2, 1, 0, 1, 0, 1, 0, 5,
 ];
 
-// Both calls of the engine over a text, split into paragraphs or taken as one.
+// The order of a text as one line, by an analyser and a line that is shown.
+fn shown_order<T: TextSource>(
+    alloc: Global,
+    source: &TableBidiData<'_>,
+    text: T,
+) -> Result<Vec<usize>, NoAnswer> {
+    let mut classes = vec![in alloc; BidiClass::L; text.len()]?;
+    let mut levels = vec![in alloc; Level::ltr(); text.len()]?;
+    let (own_classes, own_levels) = (classes.as_mut_slice(), levels.as_mut_slice());
+    let mut analyser = Analyser::new(alloc);
+    analyser.analyse(alloc, source, text, None, None, own_classes, own_levels)?;
+    let line = 0..text.len();
+    if !is_line(text, &line) {
+        return Err(NoAnswer::Wrong);
+    }
+    let mut shown = ShownLine::of_text(alloc, text);
+    shown.show_lists(text, own_classes, own_levels, Level::rtl(), line)?;
+    let mut order = Vec::new(alloc);
+    shown.write_order(&mut order)?;
+    Ok(order)
+}
+
+// The calls of the engine over a text, split into paragraphs or taken as one.
 fn try_text<T: TextSource>(
     rt: &(impl Print + AllocGlobal),
     source: &TableBidiData<'_>,
@@ -37,6 +62,11 @@ fn try_text<T: TextSource>(
         rt,
         "engine::line_levels",
         line_levels(alloc, text, &analysis, Level::rtl(), 0..end)
+    );
+    tried!(
+        rt,
+        "engine::Analyser and ShownLine",
+        shown_order(alloc, source, text)
     );
     Ok(())
 }
