@@ -137,7 +137,8 @@ int64_t unicode_bidi_unicode_version(void);
  *                           split, and otherwise 1; or 0, and then they are only counted
  * Faults   NOT_UTF8, NOT_SCALAR (by the encoding), BAD_BASE_LEVEL, BAD_SPLIT, NO_ROOM for classes and
  *          levels, NO_ROOM for paragraphs
- * Cost     the text. Memory: some bytes a unit.
+ * Cost     the text. Memory: some bytes a unit. A text of UTF-8 or UTF-16 of up to 256 units that is one paragraph
+ *          needs no allocation if no character opens an embedding or an isolate, and none is a bracket.
  * Proved   the classes, the levels and the paragraphs are those of the definitions (text_classes,
  *          text_levels, ranges_from and paragraph_levels of bidi_base), each repeated on the units of
  *          its character. */
