@@ -1,8 +1,9 @@
 -- A pass that brings the value of each character's first unit to the character's index.
-use Rattle.bidi_base.proofs.Common.{◌≡◌, ℕ, ◌+◌, ◌<◌, ◌≤◌, List, length, get_or, take, set, arith, get_or-set_other, take_more, take_more_set, take_all, place, text_len, per_char}
+use Rattle.bidi_base.proofs.Common.{◌≡◌, ◌≢◌, ◌∙◌, ℕ, ◌+◌, ◌-◌, ◌<◌, ◌≤◌, List, length, get_or, take, set, arith, true, false, refl, sym, ap, char_index, get_or-set_other, take_more, take_more_set, take_all, place, text_len, per_char, is_boundary}
 use Rattle.std.proofs.Common.{length-set, length-take-le}
+use Rattle.std.proofs.lemmas.List.{take-set}
 use Rattle.bidi_base.proofs.TextLemmas.{HasUnits, length-le-text_len}
-use Rattle.bidi_base.proofs.PlaceLemmas.{place-more, place-more-le}
+use Rattle.bidi_base.proofs.PlaceLemmas.{place-zero, place-more, place-more-le, place-le-back, place-lt, place-end, is_boundary-place, place-char_index, char_index-le}
 use Rattle.bidi_base.proofs.PerUnit.{length-per_char, get_or-per_char}
 
 module _ (len_of : ℕ → ℕ) (chars old : List ℕ) where
@@ -24,3 +25,58 @@ module _ (len_of : ℕ → ℕ) (chars old : List ℕ) where
 
   pub IsGathered-end : (new : List ℕ) (n : ℕ) → n ≡ length chars → IsGathered new n → take n new ≡ per_char 0 len_of chars old
   IsGathered-end new n e g = grind (arith, take_all, length-per_char)
+
+  -- the pass stands at the unit `at`: the n characters that begin before it are gathered
+  pub record IsSwept (new : List ℕ) (n at : ℕ) : Type 0 where
+    pub gathered : IsGathered new n
+    pub few : n ≤ length chars
+    pub ahead : at ≤ place len_of chars n
+    pub behind : (k : ℕ) → k < n → place len_of chars k < at
+
+  pub IsSwept-start : length old ≡ text_len len_of chars → IsSwept old 0 0
+  IsSwept-start same = record {
+    gathered = record { long = refl; front = refl; rest = λ u le. refl };
+    few = omega arith;
+    ahead = omega arith;
+    behind = λ k lt. omega (arith, lt);
+  }
+
+  pub IsSwept-le : HasUnits len_of → (new : List ℕ) (n at : ℕ) → IsSwept new n at → n ≤ at
+  IsSwept-le h new n at s = grind (arith, s.few, s.behind (n - 1), index-le-place h (n - 1))
+
+  -- no character begins here
+  pub IsSwept-inside : HasUnits len_of → (new : List ℕ) (n at x : ℕ) → is_boundary len_of chars at ≡ false → IsSwept new n at → IsSwept (set new n x) n (at + 1)
+  IsSwept-inside h new n at x inside s =
+      let apart : at ≢ place len_of chars n = grind (arith, is_boundary-place len_of chars n, inside) in
+      let before : at < place len_of chars n = omega (arith, apart, s.ahead) in
+      let later : n < place len_of chars n = omega (arith, before, IsSwept-le h new n at s) in
+      let g = s.gathered in
+      record {
+        gathered = record {
+          long = length-set new n x ∙ g.long;
+          front = take-set new n x ∙ g.front;
+          rest = λ u le. get_or-set_other new n u x 0 (omega (arith, le, later)) ∙ g.rest u le;
+        };
+        few = s.few;
+        ahead = omega (arith, before);
+        behind = λ k lt. omega (arith, s.behind k lt);
+      }
+
+  -- the next character begins here
+  pub IsSwept-more : HasUnits len_of → (new : List ℕ) (n at x : ℕ) → is_boundary len_of chars at ≡ true → at < text_len len_of chars → length old ≡ text_len len_of chars → x ≡ get_or new at 0 → IsSwept new n at → IsSwept (set new n x) (n + 1) (at + 1)
+  IsSwept-more h new n at x begins within same is s =
+      let m = char_index len_of chars at in
+      let place_m : place len_of chars m ≡ at = place-char_index len_of h chars at begins in
+      let le : m ≤ n = place-le-back len_of chars h m n (char_index-le len_of chars at) (omega (arith, place_m, s.ahead)) in
+      let same_index : m ≡ n = grind (arith, le, place_m, s.behind m) in
+      let here : at ≡ place len_of chars n = sym place_m ∙ ap (place len_of chars) same_index in
+      let short : n < length chars = grind (arith, s.few, here, within, place-end len_of chars n) in
+      record {
+        gathered = IsGathered-more h new n x short same (is ∙ ap (λ u. get_or new u 0) here) s.gathered;
+        few = omega (arith, short);
+        ahead = omega (arith, here, place-more len_of chars n 0 short, h (get_or chars n 0));
+        behind = λ k lt. grind (arith, lt, here, s.behind k);
+      }
+
+  pub IsSwept-end : HasUnits len_of → (new : List ℕ) (n : ℕ) → IsSwept new n (text_len len_of chars) → n ≡ length chars
+  IsSwept-end h new n s = grind (arith, s.few, s.ahead, place-lt len_of chars h n (length chars), place-end len_of chars (length chars))

@@ -182,16 +182,17 @@ pub fn levels_with_line(
     Ok(shown)
 }
 
-// Brings the level of each character's first unit to the character's index, and counts the characters.
+// Brings the level of each character's first unit to the character's index, and counts the characters. The
+// loop has no branch: to follow the lengths of the characters costs more, since they are hard to predict.
 pub(crate) fn gather<T: TextSource>(text: T, levels: &mut [Level]) -> usize
     requires { length levels.old ≡ text_len T.units (T.characters text) }
     ensures count { result ≡ length (T.characters text) }
     ensures gathered { take result levels.new ≡ per_char 0 T.units (T.characters text) levels.old }
 {
     let mut count = 0;
-    for (at, _) in text.indices_lengths() {
+    for at in 0..levels.len() {
         levels[count] = levels[at];
-        count += 1;
+        count += usize::from(text.is_boundary(at));
     }
     count
 }
