@@ -10,7 +10,7 @@ use Rattle.bidi_base.proofs.PlaceLemmas.{text_len-subrange}
 use Rattle.bidi_base.proofs.PerUnit.{per_unit-push, per_unit-append}
 use Rattle.bidi_base.proofs.TextLemmas.{cut_at, HasUnits, char_at-append, char_at-end, char_index-append, is_boundary-append, is_boundary-le}
 use Rattle.bidi_walk.specs.declared.class_set.ClassSet.{ClassSet}
-use Rattle.bidi_walk.specs.declared.first_walk.Met.{Met}
+use Rattle.bidi_walk.specs.declared.first_walk.met.Met.{Met}
 use Rattle.bidi_walk.specs.ClassSet.{has}
 use Rattle.bidi_walk.specs.FirstWalk.{ahead, AreWritten, IsSkimmed, IsMet}
 
