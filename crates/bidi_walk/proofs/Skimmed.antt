@@ -41,18 +41,10 @@ char-inside len_of units chars u c n is = elim (cases_lt u (text_len len_of char
   | inr past ↦ absurd (cc (is, char_at-end len_of units chars u past))
 ]
 
--- and an ASCII one is below 128
-below_128 : (found : Option (ℕ × ℕ)) (c : ℕ) → Some c ≡ ascii_of found → c < 128
-below_128 None c is = absurd (cc is)
-below_128 (Some p) c is = grind (arith, nat_tests)
-
--- and one unit long
+-- and an ASCII one is one unit long
 char-from_ascii : (found : Option (ℕ × ℕ)) (c : ℕ) → Some c ≡ ascii_of found → Some (c, 1) ≡ found
 char-from_ascii None c is = absurd (cc is)
 char-from_ascii (Some p) c is = grind (arith, nat_tests)
-
-pub ascii-small : (len_of : ℕ → ℕ) (chars : List ℕ) (u c : ℕ) → Some c ≡ ascii_at len_of chars u → c < 128
-ascii-small len_of chars u c is = below_128 (char_at len_of chars u) c is
 
 -- a character, n units long, begins what comes
 record CharNext (len_of : ℕ → ℕ) (coming : List ℕ) (c n : ℕ) : Type 0 where

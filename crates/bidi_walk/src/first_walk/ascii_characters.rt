@@ -77,7 +77,7 @@ fn write_block<D: BidiDataSource>(
         classes[start + i] = class;
         found = found.with(class);
     }
-    found.is_apart(minded)
+    !minded.meets(found)
 }
 
 // Writes the classes of the ASCII characters that come one after another from a place on, by sixteens, as
