@@ -4,6 +4,7 @@ ghost use Rattle.bidi_base.specs.Places.{class_at};
 ghost use Rattle.bidi_base.specs.Text.{text_len, is_boundary as is_boundary_of};
 ghost use Rattle.bidi_walk.specs.ClassSet.{has};
 ghost use Rattle.bidi_walk.specs.FirstWalk.{ahead, IsSkimmed, IsMet};
+ghost use Rattle.bidi_walk.specs.declared.first_walk.ascii_characters.TheConstants.{ASCII_BLOCK};
 
 use super::met::Met;
 use crate::class_set::ClassSet;
@@ -48,7 +49,7 @@ fn skim_each<D: BidiDataSource, T: TextSource>(
     None
 }
 
-// How many ASCII characters are read at once. The contracts say 16.
+// How many ASCII characters are read at once.
 const ASCII_BLOCK: usize = 16;
 
 // How many are passed over one by one before others are read at once. A paragraph of one line is mostly
@@ -59,16 +60,16 @@ const ONE_BY_ONE: usize = 64;
 // If something does, what stands from the place on does not count.
 fn write_block<D: BidiDataSource>(
     data_source: &D,
-    block: [u8; 16],
+    block: [u8; ASCII_BLOCK],
     classes: &mut [BidiClass],
     start: usize,
     minded: ClassSet,
 ) -> bool
-    requires { start + 16 ≤ length classes.old }
+    requires { start + ASCII_BLOCK ≤ length classes.old }
     ensures kept { take start classes.new ≡ take start classes.old }
-    ensures written { result ≡ true → (k : ℕ) → k < 16
+    ensures written { result ≡ true → (k : ℕ) → k < ASCII_BLOCK
         → class_at classes.new (start + k) ≡ (D.source data_source.now).class_of (get_or block k 0) }
-    ensures idle { result ≡ true → (k : ℕ) → k < 16
+    ensures idle { result ≡ true → (k : ℕ) → k < ASCII_BLOCK
         → has minded ((D.source data_source.now).class_of (get_or block k 0)) ≡ false }
 {
     let mut found = ClassSet::NONE;

@@ -1,9 +1,11 @@
 //! Characters of any kind, read by sixteens, place by place, or by the iterator.
-ghost use Rattle.std.specs.Prelude.{◌≡◌, ℕ, ◌+◌, ◌<◌, ◌≤◌, true, false, length, get_or, take, MatchOption, IsTrue, None};
+ghost use Rattle.std.specs.Prelude.{◌≡◌, ℕ, ◌+◌, ◌-◌, ◌<◌, ◌≤◌, true, false, length, get_or, take, MatchOption, IsTrue, None};
 ghost use Rattle.bidi_base.specs.Places.{class_at};
 ghost use Rattle.bidi_base.specs.Text.{text_len, is_boundary as is_boundary_of};
 ghost use Rattle.bidi_walk.specs.ClassSet.{has};
 ghost use Rattle.bidi_walk.specs.FirstWalk.{ahead, IsSkimmed, IsMet};
+ghost use Rattle.bidi_walk.specs.declared.first_walk.unit_classes.TheConstants.{AT_ONCE};
+ghost use Rattle.bidi_walk.specs.declared.first_walk.other_characters.TheConstants.{LOW_BLOCK, LOW_LIMIT};
 
 use super::met::Met;
 use super::unit_classes::{AT_ONCE, write, write_at_once};
@@ -12,16 +14,19 @@ use bidi_base::char_data::BidiClass;
 use bidi_base::data_source::BidiDataSource;
 use bidi_text::text::TextSource;
 
-// How many characters below U+0800 are read at once. The contracts say 16.
+// How many characters below U+0800 are read at once.
 const LOW_BLOCK: usize = 16;
+
+// The first code above those characters.
+const LOW_LIMIT: u16 = 0x800;
 
 // A character below U+0800 by its code. The remainder shows the compiler that the code is a character's, so
 // that it makes no test for that.
 fn char_of_low(code: u16) -> char
-    requires { code < 0x800 }
+    requires { code < LOW_LIMIT }
     ensures { result ≡ code }
 {
-    match char::from_u32(u32::from(code % 0x800)) {
+    match char::from_u32(u32::from(code % LOW_LIMIT)) {
         Some(c) => c,
         None => unreachable!(),
     }
@@ -31,19 +36,19 @@ fn char_of_low(code: u16) -> char
 // something depends. Returns how many come before that one: sixteen where there is none.
 fn write_low_block<D: BidiDataSource>(
     data_source: &D,
-    block: [u16; 16],
+    block: [u16; LOW_BLOCK],
     classes: &mut [BidiClass],
     start: usize,
     minded: ClassSet,
 ) -> usize
-    requires room { start + 16 ≤ length classes.old }
-    requires low { (k : ℕ) → k < 16 → get_or block k 0 < 0x800 }
+    requires room { start + LOW_BLOCK ≤ length classes.old }
+    requires low { (k : ℕ) → k < LOW_BLOCK → get_or block k 0 < LOW_LIMIT }
     ensures kept { take start classes.new ≡ take start classes.old }
-    ensures written { (k : ℕ) → k < 16 → k ≤ result
+    ensures written { (k : ℕ) → k < LOW_BLOCK → k ≤ result
         → class_at classes.new (start + k) ≡ (D.source data_source.now).class_of (get_or block k 0) }
-    ensures few { result ≤ 16 }
+    ensures few { result ≤ LOW_BLOCK }
     ensures idle { (k : ℕ) → k < result → has minded (class_at classes.new (start + k)) ≡ false }
-    ensures stops { result < 16 → has minded (class_at classes.new (start + result)) ≡ true }
+    ensures stops { result < LOW_BLOCK → has minded (class_at classes.new (start + result)) ≡ true }
 {
     for i in 0..LOW_BLOCK {
         let class = data_source.bidi_class(char_of_low(block[i]));
@@ -147,7 +152,7 @@ fn read_in_place<D: BidiDataSource, T: TextSource>(
 ) -> Option<Met>
     requires sized { length classes.old ≡ text_len T.units (T.characters text) }
     requires begins { IsTrue (is_boundary_of T.units (T.characters text) at.old) }
-    requires room { limit + 3 ≤ length classes.old }
+    requires room { limit + (AT_ONCE - 1) ≤ length classes.old }
     ensures met { MatchOption result
         (IsSkimmed (D.source data_source.now) T.units minded (ahead T.units (T.characters text) at.old) at.old at.new
         classes.old classes.new)
@@ -208,7 +213,7 @@ fn read_low_blocks<D: BidiDataSource, T: TextSource>(
 /// Writes the classes of some characters from a place on, up to the first one on which something depends.
 /// Returns that one. Where there is none, the place moves behind them. They are read by sixteens as long as
 /// the text has such, and then place by place. A text that is not read in place is read by the iterator, and
-/// so are a text's last three units.
+/// so is a text's end, where fewer units are left than are written at once.
 pub(super) fn read_on<D: BidiDataSource, T: TextSource>(
     data_source: &D,
     text: T,

@@ -1,5 +1,6 @@
 //! A character's class, written to each of its units.
 ghost use Rattle.std.specs.Prelude.{◌≡◌, ◌+◌, ◌≤◌, ◌++◌, length, take, replicate};
+ghost use Rattle.bidi_walk.specs.declared.first_walk.unit_classes.TheConstants.{AT_ONCE};
 
 use bidi_base::char_data::BidiClass;
 use bidi_text::text::TextSource;
@@ -12,7 +13,7 @@ fn write_each<T: TextSource>(classes: &mut [BidiClass], start: usize, c: char, c
     classes[start..start + T::char_len(c)].fill(class);
 }
 
-/// How many units are written at once, where there are as many. The contracts say 4, and 3 for one less.
+/// How many units are written at once, where there are as many.
 pub(super) const AT_ONCE: usize = 4;
 
 /// The same, where so many units stand from the first one on. Units behind the character may get the class
@@ -24,7 +25,7 @@ pub(super) fn write_at_once<T: TextSource>(
     class: BidiClass,
 )
     requires fits { start + T.units c ≤ length classes.old }
-    requires room { start + 4 ≤ length classes.old }
+    requires room { start + AT_ONCE ≤ length classes.old }
     ensures { take (start + T.units c) classes.new ≡ take start classes.old ++ replicate (T.units c) class }
 {
     if T::char_len(c) <= AT_ONCE {
