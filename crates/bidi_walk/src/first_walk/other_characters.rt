@@ -1,4 +1,4 @@
-//! Characters of any kind, read by sixteens, place by place, or by the iterator.
+//! The characters from where no ASCII comes on, read by sixteens, place by place, or by the iterator.
 ghost use Rattle.std.specs.Prelude.{◌≡◌, ℕ, ◌+◌, ◌-◌, ◌<◌, ◌≤◌, true, false, length, get_or, take, MatchOption, IsTrue, None};
 ghost use Rattle.bidi_base.specs.Places.{class_at};
 ghost use Rattle.bidi_base.specs.Text.{text_len, is_boundary as is_boundary_of};
