@@ -16,8 +16,8 @@ fn write_each<T: TextSource>(classes: &mut [BidiClass], start: usize, c: char, c
 /// How many units are written at once, where there are as many.
 pub(super) const AT_ONCE: usize = 4;
 
-/// The same, where so many units stand from the first one on. Units behind the character may get the class
-/// too, since what comes next writes over them.
+/// Writes a character's class to each of its units, where `AT_ONCE` units stand from the first one on. Units
+/// behind the character may get the class too, since what comes next writes over them.
 pub(super) fn write_at_once<T: TextSource>(
     classes: &mut [BidiClass],
     start: usize,
@@ -38,7 +38,7 @@ pub(super) fn write_at_once<T: TextSource>(
     }
 }
 
-/// The same, wherever it stands.
+/// Writes a character's class to each of its units, wherever it stands.
 pub(super) fn write<T: TextSource>(
     classes: &mut [BidiClass],
     start: usize,
