@@ -4,6 +4,7 @@ use Rattle.std.proofs.Common.{bit_and, bit_xor}
 use Rattle.std.specs.Int.{bit_at}
 use Rattle.std.proofs.Math.Nat.{min-zero}
 use Rattle.std.proofs.lemmas.Nat.Bits.{bit_at_or, bit_at_and, bit_at_xor, bit_at-zero, bit_at-pow_other, bit_at_above, bit_at-lt, same_from_bits}
+use Rattle.std.proofs.lemmas.Nat.{or_lt}
 use Rattle.bidi_base.specs.declared.char_data.BidiClass.{BidiClass}
 use Rattle.bidi_base.specs.declared.char_data.BidiClass.TheVariants.{L}
 use Rattle.bidi_walk.specs.declared.class_set.ClassSet.{ClassSet}
@@ -48,9 +49,6 @@ module _ (a b : ClassSet) where
   none_of : bit_and a.bits b.bits ≡ 0 → (c : BidiClass) → (has a c && has b c) ≡ false
   none_of none c = simp (← bit_of_both c, none, bit_at-zero)
 
-  pub has_apart : bit_and a.bits b.bits ≡ 0 → (c : BidiClass) → has a c ≡ true → has b c ≡ false
-  has_apart none c there = grind (arith, none_of none c)
-
 module _ (a b : ClassSet) (small : b.bits < 2 ^ 23) where
   -- a bit of both is that of a class
   no_bit : list_any (λ c. has a c && has b c) every_class ≡ false → (k : ℕ) → bit_at (bit_and a.bits b.bits) k ≡ bit_at 0 k
@@ -80,6 +78,14 @@ union_has a b c = grind (arith, bit_at_or)
 pub without_has : (a b : ClassSet) (c : BidiClass) → (bit_at (bit_xor a.bits (bit_and a.bits b.bits)) (class_number c) == 1) ≡ (has a c && not (has b c))
 without_has a b c = grind (arith, bit_at_xor, bit_at_and)
 
+-- one more class keeps the bits below those of other classes
+pub with-small : (set : ClassSet) (c : BidiClass) → set.bits < 2 ^ 23 → (with set c).bits < 2 ^ 23
+with-small set c small = or_lt 23 set.bits (2 ^ class_number c) small (grind arith)
+
 -- a class that is there already
 pub with-same : (set : ClassSet) (c : BidiClass) → has set c ≡ true → with set c ≡ set
 with-same set c there = λ i. record { bits = same_from_bits (bit_or set.bits (2 ^ class_number c)) set.bits (λ k. grind (arith, bit_at_or, bit_at-lt, bit_at-pow_other)) i }
+
+-- if none of the set passes the test, what passes is not in the set
+pub any_of-apart : (set : ClassSet) (test : BidiClass → Bool) → any_of set test ≡ false → (c : BidiClass) → test c ≡ true → has set c ≡ false
+any_of-apart set test none c passes = grind (arith, any_of-with set c test, with-same set c)

@@ -10,7 +10,7 @@ use Rattle.bidi_base.proofs.PlaceLemmas.{text_len-subrange}
 use Rattle.bidi_base.proofs.PerUnit.{per_unit-push, per_unit-append}
 use Rattle.bidi_base.proofs.TextLemmas.{cut_at, HasUnits, char_at-append, char_at-end, char_index-append, is_boundary-append, is_boundary-le}
 use Rattle.bidi_walk.specs.declared.class_set.ClassSet.{ClassSet}
-use Rattle.bidi_walk.specs.declared.first_walk.Met.{Met}
+use Rattle.bidi_walk.specs.declared.first_walk.met.Met.{Met}
 use Rattle.bidi_walk.specs.ClassSet.{has}
 use Rattle.bidi_walk.specs.FirstWalk.{ahead, AreWritten, IsSkimmed, IsMet}
 
@@ -41,18 +41,10 @@ char-inside len_of units chars u c n is = elim (cases_lt u (text_len len_of char
   | inr past ↦ absurd (cc (is, char_at-end len_of units chars u past))
 ]
 
--- and an ASCII one is below 128
-below_128 : (found : Option (ℕ × ℕ)) (c : ℕ) → Some c ≡ ascii_of found → c < 128
-below_128 None c is = absurd (cc is)
-below_128 (Some p) c is = grind (arith, nat_tests)
-
--- and one unit long
+-- and an ASCII one is one unit long
 char-from_ascii : (found : Option (ℕ × ℕ)) (c : ℕ) → Some c ≡ ascii_of found → Some (c, 1) ≡ found
 char-from_ascii None c is = absurd (cc is)
 char-from_ascii (Some p) c is = grind (arith, nat_tests)
-
-pub ascii-small : (len_of : ℕ → ℕ) (chars : List ℕ) (u c : ℕ) → Some c ≡ ascii_at len_of chars u → c < 128
-ascii-small len_of chars u c is = below_128 (char_at len_of chars u) c is
 
 -- a character, n units long, begins what comes
 record CharNext (len_of : ℕ → ℕ) (coming : List ℕ) (c n : ℕ) : Type 0 where

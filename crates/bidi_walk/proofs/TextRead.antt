@@ -12,9 +12,9 @@ use Rattle.bidi_laws.proofs.ParagraphsLemmas.{IsCut, IsCut-start, IsCut-more, Is
 use Rattle.bidi_laws.proofs.ReadingLemmas.{char_units, char_units-take, met_units-char, innermost-All}
 use Rattle.bidi_laws.proofs.StoredSteps.{stored_classes-nil, deciding_class-push, deciding_class-nil, open_initiators, open_initiators-push, met_by, stored_classes-push, length-stored_classes, length-met_by, open_initiators-below}
 use Rattle.bidi_walk.specs.declared.paragraph_flags.ParagraphFlags.{ParagraphFlags}
-use Rattle.bidi_walk.specs.declared.first_walk.Reading.{Reading}
+use Rattle.bidi_walk.specs.declared.first_walk.reading.Reading.{Reading}
 use Rattle.bidi_walk.specs.declared.first_walk.TextReading.{TextReading}
-use Rattle.bidi_walk.specs.declared.first_walk.Undecided.{Undecided}
+use Rattle.bidi_walk.specs.declared.first_walk.reading.Undecided.{Undecided}
 use Rattle.bidi_walk.specs.declared.paragraph_info.ParagraphInfo.{ParagraphInfo}
 use Rattle.bidi_walk.specs.FirstWalk.{waiting, classes_after, IsFresh, IsReadBy, IsClosed}
 use Rattle.bidi_walk.specs.ParagraphInfo.{ranges_of, levels_of}

@@ -7,7 +7,7 @@ use Rattle.bidi_laws.proofs.ReadingLemmas.{outer-take, innermost-All}
 use Rattle.bidi_laws.proofs.StoredSteps.{onto_later, resolved-strong, open_initiators, open_initiators-push, open_initiators-below, met_by, length-met_by, stored_classes-push, length-stored_classes}
 use Rattle.bidi_walk.proofs.ClassSets.{apart_eqb}
 use Rattle.bidi_walk.specs.FirstWalk.{waiting, depth_after, undecided_after, deciding_after}
-use Rattle.bidi_walk.specs.declared.first_walk.Undecided.{Undecided}
+use Rattle.bidi_walk.specs.declared.first_walk.reading.Undecided.{Undecided}
 
 -- of the open initiators those that are FSI by their stored class so far, where k isolates stand around them
 abbrev pub undecided_from : (ℕ → Range ℕ) → ℕ → List BidiClass → List ℕ → List Undecided

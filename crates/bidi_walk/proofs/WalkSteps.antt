@@ -8,8 +8,8 @@ use Rattle.bidi_base.proofs.TextLemmas.{HasUnits}
 use Rattle.bidi_base.proofs.PerUnit.{per_unit-append, length-per_unit}
 use Rattle.bidi_base.proofs.PlaceLemmas.{char_turn_of, CharTurn, char_index-place, place-le, place-le-back, place-end}
 use Rattle.bidi_walk.specs.declared.class_set.ClassSet.{ClassSet}
-use Rattle.bidi_walk.specs.declared.first_walk.Met.{Met}
-use Rattle.bidi_walk.specs.declared.first_walk.Reading.{Reading}
+use Rattle.bidi_walk.specs.declared.first_walk.met.Met.{Met}
+use Rattle.bidi_walk.specs.declared.first_walk.reading.Reading.{Reading}
 use Rattle.bidi_walk.specs.declared.split_rule.SplitRule.{SplitRule}
 use Rattle.bidi_walk.specs.ClassSet.{has}
 use Rattle.bidi_walk.specs.FirstWalk.{minds, ahead, AreIdle, AreWritten, IsSkimmed, IsMet}

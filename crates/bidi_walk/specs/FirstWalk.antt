@@ -12,9 +12,9 @@ use Rattle.bidi_walk.specs.ClassSet.{has}
 use Rattle.bidi_walk.specs.ParagraphFlags.{is_counted, with_class, flags_of}
 use Rattle.bidi_walk.specs.ParagraphInfo.{ranges_of, levels_of}
 use Rattle.bidi_walk.specs.declared.class_set.ClassSet.{ClassSet}
-use Rattle.bidi_walk.specs.declared.first_walk.Met.{Met}
-use Rattle.bidi_walk.specs.declared.first_walk.Reading.{Reading}
-use Rattle.bidi_walk.specs.declared.first_walk.Undecided.{Undecided}
+use Rattle.bidi_walk.specs.declared.first_walk.met.Met.{Met}
+use Rattle.bidi_walk.specs.declared.first_walk.reading.Reading.{Reading}
+use Rattle.bidi_walk.specs.declared.first_walk.reading.Undecided.{Undecided}
 use Rattle.bidi_walk.specs.declared.paragraph_flags.ParagraphFlags.{ParagraphFlags}
 use Rattle.bidi_walk.specs.declared.paragraph_info.ParagraphInfo.{ParagraphInfo}
 

@@ -121,13 +121,6 @@ impl ClassSet {
         if holds { self } else { ClassSet::NONE }
     }
 
-    /// Whether no class is in both sets.
-    pub(crate) fn is_apart(self, other: ClassSet) -> bool
-        ensures { result ≡ true → (c : BidiClass) → has self c ≡ true → has other c ≡ false }
-    {
-        self.bits & other.bits == 0
-    }
-
     /// Whether some class is in both sets.
     #[tactic(auto, using(crate::proofs::ClassSets::meets_any))]
     pub(crate) fn meets(self, other: ClassSet) -> bool

@@ -1,0 +1,41 @@
+use Rattle.bidi_base.proofs.Common.{◌+◌, ◌≤◌, length, get_or, arith}
+use Rattle.bidi_walk.proofs.Skimmed.{char-inside, IsSkimmed-start, IsSkimmed-kept, IsSkimmed-part, IsMet-part}
+use Rattle.bidi_walk.proofs.first_walk.other_characters.read_low_blocks.Given.{Over}
+use Rattle.bidi_walk.proofs.first_walk.other_characters.read_low_blocks.Goals as goal
+use Rattle.bidi_walk.proofs.first_walk.other_characters.read_low_blocks.Goals.{In-Some, After-write_low_block-idle}
+
+pub loop-start-init : goal.loop-start-init
+loop-start-init g c = IsSkimmed-start _ _ _ _ _ _
+
+-- a block is within the text
+room : (g : Over) (c : In-Some g) → c.loop-start.start + 16 ≤ length c.loop-start.classes
+room g c =
+    let last = char-inside g.T.TextSource.units g.met.T.TextSource.has_units (g.T.TextSource.characters c.args.text) (c.loop-start.start + 15) (get_or c.in-Some.block 15 0) 1 (c.in-Some.ensures.characters 15 (omega arith)) in
+    omega (arith, last, c.loop-start.auto.classes, c.requires.sized)
+
+pub write_low_block-idle-requires-clause-room : goal.write_low_block-idle-requires-clause-room
+write_low_block-idle-requires-clause-room g c = room g (goal.at.write_low_block-idle-requires-clause-room g c).In-Some
+
+pub overflow_add-start : goal.overflow_add-start
+overflow_add-start g c = omega (arith, room g (goal.at.overflow_add-start g c).In-Some, c.write_low_block-idle.ensures.few, c.well_formed, c.loop-start.auto.classes)
+
+pub slice_copy_out-class : goal.slice_copy_out-class
+slice_copy_out-class g c = omega (arith, room g (goal.at.slice_copy_out-class g c).In-Some, c.if-idle-lt-LOW_BLOCK.true, c.write_low_block-idle.auto.classes)
+
+pub returns-then-idle-lt-LOW_BLOCK : goal.returns-then-idle-lt-LOW_BLOCK
+returns-then-idle-lt-LOW_BLOCK g c =
+    let fits = room g (goal.at.returns-then-idle-lt-LOW_BLOCK g c).In-Some in
+    let kept = IsSkimmed-kept _ _ _ _ _ _ _ _ c.loop-start.invariant c.write_low_block-idle.new.classes c.write_low_block-idle.ensures.kept in
+    let met = IsMet-part (g.D.BidiDataSource.source c.args.data_source.now) g.T.TextSource.units c.args.minded g.met.T.TextSource.has_units (g.T.TextSource.characters c.args.text) c.args.at.now c.loop-start.start c.requires.begins
+    c.args.classes.now c.write_low_block-idle.new.classes kept c.in-Some.block (omega (arith, fits, c.write_low_block-idle.auto.classes)) c.in-Some.ensures.characters c.write_low_block-idle.result c.if-idle-lt-LOW_BLOCK.true c.write_low_block-idle.ensures.written c.write_low_block-idle.ensures.idle in
+    record { met = rw c.char_of_low-c.ensures met }
+
+pub loop-start-smaller : goal.loop-start-smaller
+loop-start-smaller g c = omega (arith, room g (goal.at.loop-start-smaller g c).In-Some, c.if-idle-lt-LOW_BLOCK.false, c.write_low_block-idle.ensures.few, c.loop-start.auto.classes)
+
+pub loop-start-preserved : goal.loop-start-preserved
+loop-start-preserved g c =
+    let fits = room g (goal.at.loop-start-preserved g c).In-Some in
+    let kept = IsSkimmed-kept _ _ _ _ _ _ _ _ c.loop-start.invariant c.write_low_block-idle.new.classes c.write_low_block-idle.ensures.kept in
+    IsSkimmed-part (g.D.BidiDataSource.source c.args.data_source.now) g.T.TextSource.units c.args.minded g.met.T.TextSource.has_units (g.T.TextSource.characters c.args.text) c.args.at.now c.loop-start.start c.requires.begins
+    c.args.classes.now c.write_low_block-idle.new.classes kept c.in-Some.block (omega (arith, fits, c.write_low_block-idle.auto.classes)) c.in-Some.ensures.characters c.write_low_block-idle.result c.write_low_block-idle.ensures.few c.write_low_block-idle.ensures.written c.write_low_block-idle.ensures.idle

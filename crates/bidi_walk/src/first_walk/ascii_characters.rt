@@ -1,0 +1,144 @@
+//! ASCII characters, read one by one or by sixteens.
+ghost use Rattle.std.specs.Prelude.{◌≡◌, ℕ, ◌+◌, ◌<◌, ◌≤◌, true, false, length, get_or, take, MatchOption, IsTrue};
+ghost use Rattle.bidi_base.specs.Places.{class_at};
+ghost use Rattle.bidi_base.specs.Text.{text_len, is_boundary as is_boundary_of};
+ghost use Rattle.bidi_walk.specs.ClassSet.{has};
+ghost use Rattle.bidi_walk.specs.FirstWalk.{ahead, IsSkimmed, IsMet};
+ghost use Rattle.bidi_walk.specs.declared.first_walk.ascii_characters.TheConstants.{ASCII_BLOCK};
+
+use super::met::Met;
+use crate::class_set::ClassSet;
+use bidi_base::char_data::BidiClass;
+use bidi_base::data_source::BidiDataSource;
+use bidi_text::text::TextSource;
+
+// Writes the classes of the ASCII characters, each one unit long, that come one after another from a place
+// on and before a limit, up to the first one on which something depends. Returns that one. Where there is
+// none, the place moves to the first other character, or to the limit.
+#[inline(never)]
+fn skim_each<D: BidiDataSource, T: TextSource>(
+    data_source: &D,
+    text: T,
+    classes: &mut [BidiClass],
+    at: &mut usize,
+    limit: usize,
+    minded: ClassSet,
+) -> Option<Met>
+    requires sized { length classes.old ≡ text_len T.units (T.characters text) }
+    requires begins { IsTrue (is_boundary_of T.units (T.characters text) at.old) }
+    ensures { MatchOption result
+        (IsSkimmed (D.source data_source.now) T.units minded (ahead T.units (T.characters text) at.old) at.old at.new
+        classes.old classes.new)
+        (λ met. IsMet (D.source data_source.now) T.units minded (ahead T.units (T.characters text) at.old) at.old met
+        classes.old classes.new) }
+{
+    let mut start = *at;
+    while start < limit {
+        let Some(byte) = text.ascii_at(start) else {
+            break;
+        };
+        let c = char::from(byte);
+        let class = data_source.bidi_class(c);
+        classes[start] = class;
+        if minded.has(class) {
+            return Some(Met { start, c, class });
+        }
+        start += 1;
+    }
+    *at = start;
+    None
+}
+
+// How many ASCII characters are read at once.
+const ASCII_BLOCK: usize = 16;
+
+// How many are passed over one by one before others are read at once. A paragraph of one line is mostly
+// shorter, and where it ends a block would be read in vain.
+const ONE_BY_ONE: usize = 64;
+
+// Writes the classes of sixteen ASCII characters from a place on. Returns whether nothing depends on them.
+// If something does, what stands from the place on does not count.
+fn write_block<D: BidiDataSource>(
+    data_source: &D,
+    block: [u8; ASCII_BLOCK],
+    classes: &mut [BidiClass],
+    start: usize,
+    minded: ClassSet,
+) -> bool
+    requires { start + ASCII_BLOCK ≤ length classes.old }
+    ensures kept { take start classes.new ≡ take start classes.old }
+    ensures written { result ≡ true → (k : ℕ) → k < ASCII_BLOCK
+        → class_at classes.new (start + k) ≡ (D.source data_source.now).class_of (get_or block k 0) }
+    ensures idle { result ≡ true → (k : ℕ) → k < ASCII_BLOCK
+        → has minded ((D.source data_source.now).class_of (get_or block k 0)) ≡ false }
+{
+    let mut found = ClassSet::NONE;
+    for i in 0..ASCII_BLOCK {
+        let class = data_source.bidi_class(char::from(block[i]));
+        classes[start + i] = class;
+        found = found.with(class);
+    }
+    !minded.meets(found)
+}
+
+// Writes the classes of the ASCII characters that come one after another from a place on, by sixteens, as
+// long as nothing depends on them. The place moves behind them.
+#[inline(never)]
+fn skim_blocks<D: BidiDataSource, T: TextSource>(
+    data_source: &D,
+    text: T,
+    classes: &mut [BidiClass],
+    at: &mut usize,
+    minded: ClassSet,
+)
+    requires sized { length classes.old ≡ text_len T.units (T.characters text) }
+    requires begins { IsTrue (is_boundary_of T.units (T.characters text) at.old) }
+    ensures read { IsSkimmed (D.source data_source.now) T.units minded (ahead T.units (T.characters text) at.old)
+        at.old at.new classes.old classes.new }
+    ensures order { at.old ≤ at.new }
+{
+    let mut start = *at;
+    let mut next = text.ascii_block_at(start);
+    while let Some(block) = next {
+        // The next block is read before this one is written. Some processors let a read wait for an
+        // earlier write whose address ends in the same twelve bits.
+        next = text.ascii_block_at(start + ASCII_BLOCK);
+        if !write_block(data_source, block, classes, start, minded) {
+            break;
+        }
+        start += ASCII_BLOCK;
+    }
+    *at = start;
+}
+
+/// Writes the classes of the ASCII characters, each one unit long, that come one after another from a place
+/// on, up to the first one on which something depends. Returns that one. Where there is none, the place
+/// moves to the first other character, or to the end. They are read by sixteens only behind many that were
+/// passed over one by one.
+pub(super) fn skim<D: BidiDataSource, T: TextSource>(
+    data_source: &D,
+    text: T,
+    classes: &mut [BidiClass],
+    at: &mut usize,
+    minded: ClassSet,
+) -> Option<Met>
+    requires sized { length classes.old ≡ text_len T.units (T.characters text) }
+    requires begins { IsTrue (is_boundary_of T.units (T.characters text) at.old) }
+    ensures { MatchOption result
+        (IsSkimmed (D.source data_source.now) T.units minded (ahead T.units (T.characters text) at.old) at.old at.new
+        classes.old classes.new)
+        (λ met. IsMet (D.source data_source.now) T.units minded (ahead T.units (T.characters text) at.old) at.old met
+        classes.old classes.new) }
+{
+    while *at < classes.len() {
+        let limit = *at + (classes.len() - *at).min(ONE_BY_ONE);
+        if let Some(met) = skim_each(data_source, text, classes, at, limit, minded) {
+            return Some(met);
+        }
+        if *at < limit {
+            return None;
+        }
+        skim_blocks(data_source, text, classes, at, minded);
+    }
+    None
+}

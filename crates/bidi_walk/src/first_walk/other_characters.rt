@@ -1,0 +1,244 @@
+//! The characters from where no ASCII comes on, read by sixteens, place by place, or by the iterator.
+ghost use Rattle.std.specs.Prelude.{◌≡◌, ℕ, ◌+◌, ◌-◌, ◌<◌, ◌≤◌, true, false, length, get_or, take, MatchOption, IsTrue, None};
+ghost use Rattle.bidi_base.specs.Places.{class_at};
+ghost use Rattle.bidi_base.specs.Text.{text_len, is_boundary as is_boundary_of};
+ghost use Rattle.bidi_walk.specs.ClassSet.{has};
+ghost use Rattle.bidi_walk.specs.FirstWalk.{ahead, IsSkimmed, IsMet};
+ghost use Rattle.bidi_walk.specs.declared.first_walk.unit_classes.TheConstants.{AT_ONCE};
+ghost use Rattle.bidi_walk.specs.declared.first_walk.other_characters.TheConstants.{LOW_BLOCK, LOW_LIMIT};
+
+use super::met::Met;
+use super::unit_classes::{AT_ONCE, write, write_at_once};
+use crate::class_set::ClassSet;
+use bidi_base::char_data::BidiClass;
+use bidi_base::data_source::BidiDataSource;
+use bidi_text::text::TextSource;
+
+// How many characters below U+0800 are read at once.
+const LOW_BLOCK: usize = 16;
+
+// The first code above those characters.
+const LOW_LIMIT: u16 = 0x800;
+
+// A character below U+0800 by its code. The remainder shows the compiler that the code is a character's, so
+// that it makes no test for that.
+fn char_of_low(code: u16) -> char
+    requires { code < LOW_LIMIT }
+    ensures { result ≡ code }
+{
+    match char::from_u32(u32::from(code % LOW_LIMIT)) {
+        Some(c) => c,
+        None => unreachable!(),
+    }
+}
+
+// Writes the classes of sixteen characters below U+0800 from a place on, up to the first one on which
+// something depends. Returns how many come before that one: sixteen where there is none.
+fn write_low_block<D: BidiDataSource>(
+    data_source: &D,
+    block: [u16; LOW_BLOCK],
+    classes: &mut [BidiClass],
+    start: usize,
+    minded: ClassSet,
+) -> usize
+    requires room { start + LOW_BLOCK ≤ length classes.old }
+    requires low { (k : ℕ) → k < LOW_BLOCK → get_or block k 0 < LOW_LIMIT }
+    ensures kept { take start classes.new ≡ take start classes.old }
+    ensures written { (k : ℕ) → k < LOW_BLOCK → k ≤ result
+        → class_at classes.new (start + k) ≡ (D.source data_source.now).class_of (get_or block k 0) }
+    ensures few { result ≤ LOW_BLOCK }
+    ensures idle { (k : ℕ) → k < result → has minded (class_at classes.new (start + k)) ≡ false }
+    ensures stops { result < LOW_BLOCK → has minded (class_at classes.new (start + result)) ≡ true }
+{
+    for i in 0..LOW_BLOCK {
+        let class = data_source.bidi_class(char_of_low(block[i]));
+        classes[start + i] = class;
+        if minded.has(class) {
+            return i;
+        }
+    }
+    LOW_BLOCK
+}
+
+// How many units are read without another look at what is ASCII.
+const BLOCK: usize = 256;
+
+// The end of the block of characters that begins at a place.
+fn block_end<T: TextSource>(text: T, from: usize) -> usize
+    requires { from ≤ text_len T.units (T.characters text) }
+    ensures order { from ≤ result }
+    ensures goes_on { from < text_len T.units (T.characters text) → from < result }
+    ensures boundary { IsTrue (is_boundary_of T.units (T.characters text) result) }
+{
+    let len = text.len();
+    if len - from <= BLOCK {
+        return len;
+    }
+    let mut end = from + BLOCK;
+    while !text.is_boundary(end) {
+        end += 1;
+    }
+    end
+}
+
+// Writes the classes of a text's characters, up to the first one on which something depends. Returns that
+// one.
+#[inline(never)]
+fn read_to_minded<D: BidiDataSource, T: TextSource>(
+    data_source: &D,
+    block: T,
+    classes: &mut [BidiClass],
+    minded: ClassSet,
+) -> Option<Met>
+    requires { text_len T.units (T.characters block) ≤ length classes.old }
+    ensures { MatchOption result
+        (IsSkimmed (D.source data_source.now) T.units minded (T.characters block) 0
+        (text_len T.units (T.characters block)) classes.old classes.new)
+        (λ met. IsMet (D.source data_source.now) T.units minded (T.characters block) 0 met classes.old classes.new) }
+{
+    for (start, c) in block.char_indices() {
+        let class = data_source.bidi_class(c);
+        write::<T>(classes, start, c, class);
+        if minded.has(class) {
+            return Some(Met { start, c, class });
+        }
+    }
+    None
+}
+
+// Writes the classes of the characters of the block that begins at a place, up to the first one on which
+// something depends. Returns that one. Where there is none, the place moves to the block's end.
+fn read_block<D: BidiDataSource, T: TextSource>(
+    data_source: &D,
+    text: T,
+    classes: &mut [BidiClass],
+    at: &mut usize,
+    minded: ClassSet,
+) -> Option<Met>
+    requires sized { length classes.old ≡ text_len T.units (T.characters text) }
+    requires begins { IsTrue (is_boundary_of T.units (T.characters text) at.old) }
+    ensures met { MatchOption result
+        (IsSkimmed (D.source data_source.now) T.units minded (ahead T.units (T.characters text) at.old) at.old at.new
+        classes.old classes.new)
+        (λ met. IsMet (D.source data_source.now) T.units minded (ahead T.units (T.characters text) at.old) at.old met
+        classes.old classes.new) }
+    ensures passed { result ≡ None → at.old < length classes.new → at.old < at.new }
+{
+    let start = *at;
+    let end = block_end(text, start);
+    let block = text.subrange(start..end);
+    if let Some(met) = read_to_minded(data_source, block, &mut classes[start..], minded) {
+        let place = start + met.start;
+        return Some(Met {
+            start: place,
+            ..met
+        });
+    }
+    *at = end;
+    None
+}
+
+// The same, place by place, of the characters that begin before a limit. From each of these places on
+// there are as many units as are written at once. Where there is none on which something depends, the place
+// moves to the first character that begins at the limit or behind it.
+#[inline(never)]
+fn read_in_place<D: BidiDataSource, T: TextSource>(
+    data_source: &D,
+    text: T,
+    classes: &mut [BidiClass],
+    at: &mut usize,
+    limit: usize,
+    minded: ClassSet,
+) -> Option<Met>
+    requires sized { length classes.old ≡ text_len T.units (T.characters text) }
+    requires begins { IsTrue (is_boundary_of T.units (T.characters text) at.old) }
+    requires room { limit + (AT_ONCE - 1) ≤ length classes.old }
+    ensures met { MatchOption result
+        (IsSkimmed (D.source data_source.now) T.units minded (ahead T.units (T.characters text) at.old) at.old at.new
+        classes.old classes.new)
+        (λ met. IsMet (D.source data_source.now) T.units minded (ahead T.units (T.characters text) at.old) at.old met
+        classes.old classes.new) }
+    ensures passed { result ≡ None → limit ≤ at.new }
+{
+    let mut start = *at;
+    while start < limit {
+        let (c, len) = text.next_at(start);
+        let class = data_source.bidi_class(c);
+        write_at_once::<T>(classes, start, c, class);
+        if minded.has(class) {
+            return Some(Met { start, c, class });
+        }
+        start += len;
+    }
+    *at = start;
+    None
+}
+
+// Writes the classes of the characters below U+0800, each one unit long, that come one after another from a
+// place on, by sixteens, up to the first one on which something depends. Returns that one. Where there is
+// none, the place moves to where the text has no such sixteen, or by `BLOCK` units.
+fn read_low_blocks<D: BidiDataSource, T: TextSource>(
+    data_source: &D,
+    text: T,
+    classes: &mut [BidiClass],
+    at: &mut usize,
+    minded: ClassSet,
+) -> Option<Met>
+    requires sized { length classes.old ≡ text_len T.units (T.characters text) }
+    requires begins { IsTrue (is_boundary_of T.units (T.characters text) at.old) }
+    ensures met { MatchOption result
+        (IsSkimmed (D.source data_source.now) T.units minded (ahead T.units (T.characters text) at.old) at.old at.new
+        classes.old classes.new)
+        (λ met. IsMet (D.source data_source.now) T.units minded (ahead T.units (T.characters text) at.old) at.old met
+        classes.old classes.new) }
+{
+    let mut start = *at;
+    let limit = start.saturating_add(BLOCK);
+    while start < limit {
+        let Some(block) = text.low_block_at(start) else {
+            break;
+        };
+        let idle = write_low_block(data_source, block, classes, start, minded);
+        start += idle;
+        if idle < LOW_BLOCK {
+            let c = char_of_low(block[idle]);
+            let class = classes[start];
+            return Some(Met { start, c, class });
+        }
+    }
+    *at = start;
+    None
+}
+
+/// Writes the classes of some characters from a place on, up to the first one on which something depends.
+/// Returns that one. Where there is none, the place moves behind them. They are read by sixteens as long as
+/// the text has such, and then place by place. A text that is not read in place is read by the iterator, and
+/// so is a text's end, where fewer units are left than are written at once.
+pub(super) fn read_on<D: BidiDataSource, T: TextSource>(
+    data_source: &D,
+    text: T,
+    classes: &mut [BidiClass],
+    at: &mut usize,
+    minded: ClassSet,
+) -> Option<Met>
+    requires sized { length classes.old ≡ text_len T.units (T.characters text) }
+    requires begins { IsTrue (is_boundary_of T.units (T.characters text) at.old) }
+    ensures met { MatchOption result
+        (IsSkimmed (D.source data_source.now) T.units minded (ahead T.units (T.characters text) at.old) at.old at.new
+        classes.old classes.new)
+        (λ met. IsMet (D.source data_source.now) T.units minded (ahead T.units (T.characters text) at.old) at.old met
+        classes.old classes.new) }
+    ensures passed { result ≡ None → at.old < length classes.new → at.old < at.new }
+{
+    let end = at.saturating_add(BLOCK);
+    if let Some(met) = read_low_blocks(data_source, text, classes, at, minded) {
+        return Some(met);
+    }
+    let left = classes.len() - *at;
+    if T::READS_IN_PLACE && left >= AT_ONCE {
+        let limit = end.min(classes.len() - (AT_ONCE - 1));
+        read_in_place(data_source, text, classes, at, limit, minded)
+    } else {
+        read_block(data_source, text, classes, at, minded)
+    }
+}

@@ -1,0 +1,195 @@
+//! What is read of a paragraph: its open isolates, and the character that decides its level.
+ghost use Rattle.std.specs.Prelude.{◌≡◌, ◌<◌, ◌≤◌, if◌then◌else◌, true, length, OnOk, All, Some};
+ghost use Rattle.std.specs.Option.{is_some};
+ghost use Rattle.bidi_base.specs.declared.char_data.BidiClass.{BidiClass};
+ghost use Rattle.bidi_base.specs.Classes.{is_strong as is_strong_class};
+ghost use Rattle.bidi_base.specs.Isolates.{level_by, resolved_fsi};
+ghost use Rattle.bidi_base.specs.Reading.{outer, filled};
+ghost use Rattle.bidi_walk.specs.ClassSet.{has};
+ghost use Rattle.bidi_walk.specs.FirstWalk.{waiting, deciding_after, classes_after, wants_strong, minds, IsFresh, IsReadBy};
+
+use crate::class_set::ClassSet;
+use crate::paragraph_flags::ParagraphFlags;
+use bidi_base::char_data::BidiClass;
+use bidi_base::classes::{is_initiator, is_pdi, is_strong};
+use bidi_base::level::{LTR_LEVEL, Level, RTL_LEVEL};
+use std::alloc::{AllocError, Global};
+use std::ops::Range;
+
+// What an FSI becomes whose isolate has a deciding character of this class.
+fn resolved_by(class: BidiClass) -> BidiClass
+    ensures { result ≡ resolved_fsi (Some class) }
+{
+    match class {
+        BidiClass::R | BidiClass::AL => BidiClass::RLI,
+        BidiClass::L => BidiClass::LRI,
+        _ => BidiClass::FSI,
+    }
+}
+
+/// The level of a paragraph whose deciding character has this class (P3).
+pub(super) fn level_of_class(deciding: Option<BidiClass>) -> Level
+    ensures { result ≡ level_by deciding }
+{
+    match deciding {
+        Some(BidiClass::R | BidiClass::AL) => RTL_LEVEL,
+        _ => LTR_LEVEL,
+    }
+}
+
+// Gives the FSI with these units the direction of a strong character.
+fn resolve(classes: &mut [BidiClass], initiator: &Range<usize>, class: BidiClass)
+    requires begins { initiator.now.start ≤ initiator.now.end }
+    requires ends { initiator.now.end ≤ length classes.old }
+    ensures { classes.new ≡ filled initiator.now (resolved_fsi (Some class)) classes.old }
+{
+    let start = initiator.start;
+    let end = initiator.end;
+    classes[start..end].fill(resolved_by(class));
+}
+
+// An open isolate of an FSI that no character decided yet.
+#[derive(Drop)]
+struct Undecided {
+    // The initiator's units.
+    units: Range<usize>,
+    // How many isolates are open up to it, itself among them.
+    depth: usize,
+}
+
+/// The paragraph that is being read.
+#[derive(Drop)]
+pub(super) struct Reading {
+    /// The unit at which it begins.
+    pub(super) start: usize,
+    // How many isolates are open.
+    depth: usize,
+    // Those of an FSI that no character decided yet, outermost first.
+    undecided: Vec<Undecided>,
+    /// The class of the character that decides its level, once there is one.
+    pub(super) deciding: Option<BidiClass>,
+    pub(super) flags: ParagraphFlags,
+}
+
+impl Reading {
+    /// Nothing is read of a text.
+    pub(super) fn new(alloc: Global) -> Reading
+        ensures { IsFresh result 0 }
+    {
+        Reading {
+            start: 0,
+            depth: 0,
+            undecided: Vec::new(alloc),
+            deciding: None,
+            flags: ParagraphFlags::NONE,
+        }
+    }
+
+    /// Begins the next paragraph.
+    pub(super) fn restart(&mut self, start: usize)
+        ensures { IsFresh self.new start }
+    {
+        self.start = start;
+        self.depth = 0;
+        self.undecided.clear();
+        self.deciding = None;
+        self.flags = ParagraphFlags::NONE;
+    }
+
+    // Whether the innermost open isolate is of an FSI that no character decided yet.
+    fn is_waiting(&self) -> bool
+        ensures { result ≡ is_some (waiting self.now.depth self.now.undecided.items) }
+    {
+        match self.undecided.last() {
+            Some(innermost) => innermost.depth == self.depth,
+            None => false,
+        }
+    }
+
+    // Whether a strong character, if it came next, would decide something.
+    fn wants_strong(&self) -> bool
+        ensures { result ≡ wants_strong self.now }
+    {
+        self.is_waiting() || (self.depth == 0 && self.deciding.is_none())
+    }
+
+    /// The classes of those characters that would change something here if they came next.
+    pub(super) fn minded(&self) -> ClassSet
+        ensures { (c : BidiClass) → has result c ≡ minds self.now c }
+    {
+        ClassSet::BOUNDS
+            .union(ClassSet::COUNTED.without(self.flags.met))
+            .union(ClassSet::STRONG.when(self.wants_strong()))
+            .union(ClassSet::CLOSING.when(self.depth > 0))
+    }
+
+    /// Reads the next character, whose units are given. `classes` has those of the units before it.
+    pub(super) fn read(
+        &mut self,
+        classes: &mut [BidiClass],
+        class: BidiClass,
+        units: Range<usize>,
+    ) -> Result<(), AllocError>
+        requires within { All (λ u. (u.units.start ≤ u.units.end) × (u.units.end ≤ length classes.old)) self.old.undecided.items }
+        requires few { self.old.depth < usize.MAX }
+        ensures classes { OnOk result (classes.new
+            ≡ classes_after class (waiting self.old.depth self.old.undecided.items) classes.old) }
+        ensures reading { OnOk result (IsReadBy class units self.old self.new) }
+    {
+        self.flags = self.flags.with(class);
+        if is_strong(class) {
+            self.decide(classes, class);
+        } else if is_initiator(class) {
+            self.depth += 1;
+            if class == BidiClass::FSI {
+                self.undecided.push(Undecided {
+                    units,
+                    depth: self.depth,
+                })?;
+            }
+        } else if is_pdi(class) {
+            self.take_waiting();
+            self.depth = self.depth.saturating_sub(1);
+        }
+        Ok(())
+    }
+
+    // Takes the innermost open isolate from the undecided ones, if it is one of them.
+    fn take_waiting(&mut self) -> Option<Undecided>
+        ensures taken { result ≡ waiting self.old.depth self.old.undecided.items }
+        ensures rest { self.new.undecided.items
+            ≡ (if is_some (waiting self.old.depth self.old.undecided.items) then outer self.old.undecided.items
+            else self.old.undecided.items) }
+        ensures start { self.new.start ≡ self.old.start }
+        ensures depth { self.new.depth ≡ self.old.depth }
+        ensures deciding { self.new.deciding ≡ self.old.deciding }
+        ensures flags { self.new.flags ≡ self.old.flags }
+    {
+        if self.is_waiting() {
+            self.undecided.pop()
+        } else {
+            None
+        }
+    }
+
+    // A strong character decides the paragraph's level, or what the innermost FSI stands for.
+    fn decide(&mut self, classes: &mut [BidiClass], class: BidiClass)
+        requires within { All (λ u. (u.units.start ≤ u.units.end) × (u.units.end ≤ length classes.old)) self.old.undecided.items }
+        requires strong { is_strong_class class ≡ true }
+        ensures classes { classes.new ≡ classes_after class (waiting self.old.depth self.old.undecided.items) classes.old }
+        ensures rest { self.new.undecided.items
+            ≡ (if is_some (waiting self.old.depth self.old.undecided.items) then outer self.old.undecided.items
+            else self.old.undecided.items) }
+        ensures start { self.new.start ≡ self.old.start }
+        ensures depth { self.new.depth ≡ self.old.depth }
+        ensures deciding { self.new.deciding ≡ deciding_after class self.old.depth self.old.deciding }
+        ensures flags { self.new.flags ≡ self.old.flags }
+    {
+        if let Some(initiator) = self.take_waiting() {
+            resolve(classes, &initiator.units, class);
+        }
+        if self.depth == 0 && self.deciding.is_none() {
+            self.deciding = Some(class);
+        }
+    }
+}

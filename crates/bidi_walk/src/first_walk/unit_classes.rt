@@ -1,0 +1,56 @@
+//! A character's class, written to each of its units.
+ghost use Rattle.std.specs.Prelude.{◌≡◌, ◌+◌, ◌≤◌, ◌++◌, length, take, replicate};
+ghost use Rattle.bidi_walk.specs.declared.first_walk.unit_classes.TheConstants.{AT_ONCE};
+
+use bidi_base::char_data::BidiClass;
+use bidi_text::text::TextSource;
+
+// Writes a character's class to each of its units, of which the first is given.
+fn write_each<T: TextSource>(classes: &mut [BidiClass], start: usize, c: char, class: BidiClass)
+    requires { start + T.units c ≤ length classes.old }
+    ensures { take (start + T.units c) classes.new ≡ take start classes.old ++ replicate (T.units c) class }
+{
+    classes[start..start + T::char_len(c)].fill(class);
+}
+
+/// How many units are written at once, where there are as many.
+pub(super) const AT_ONCE: usize = 4;
+
+/// Writes a character's class to each of its units, where `AT_ONCE` units stand from the first one on. Units
+/// behind the character may get the class too, since what comes next writes over them.
+pub(super) fn write_at_once<T: TextSource>(
+    classes: &mut [BidiClass],
+    start: usize,
+    c: char,
+    class: BidiClass,
+)
+    requires fits { start + T.units c ≤ length classes.old }
+    requires room { start + AT_ONCE ≤ length classes.old }
+    ensures { take (start + T.units c) classes.new ≡ take start classes.old ++ replicate (T.units c) class }
+{
+    if T::char_len(c) <= AT_ONCE {
+        classes[start] = class;
+        classes[start + 1] = class;
+        classes[start + 2] = class;
+        classes[start + 3] = class;
+    } else {
+        write_each::<T>(classes, start, c, class);
+    }
+}
+
+/// Writes a character's class to each of its units, wherever it stands.
+pub(super) fn write<T: TextSource>(
+    classes: &mut [BidiClass],
+    start: usize,
+    c: char,
+    class: BidiClass,
+)
+    requires { start + T.units c ≤ length classes.old }
+    ensures { take (start + T.units c) classes.new ≡ take start classes.old ++ replicate (T.units c) class }
+{
+    if classes.len() - start >= AT_ONCE {
+        write_at_once::<T>(classes, start, c, class);
+    } else {
+        write_each::<T>(classes, start, c, class);
+    }
+}
