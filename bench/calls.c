@@ -15,6 +15,7 @@ typedef enum {
   LINE_RUNS,
   LINE_MAP,
   REORDER_LINE,
+  SHOW_LINE,
   REORDER_VISUAL,
   SHORT_TEXTS,
   CALLS
@@ -28,13 +29,13 @@ typedef struct {
   size_t start, end;
 } text_piece;
 
-static uint8_t *text, *classes, *levels, *bytes;
+static uint8_t *text, *classes, *levels, *line_levels, *bytes;
 static size_t *places;
 static unicode_bidi_run *runs;
 static unicode_bidi_paragraph *paragraphs;
 static text_line *lines;
 static text_piece *pieces;
-static size_t length, lines_len, pieces_len;
+static size_t length, lines_len, pieces_len, characters_len;
 
 static double now(void) {
   struct timespec time;
@@ -75,6 +76,9 @@ static int64_t call_line(call call, const text_line *line) {
                                                   length);
     case LINE_MAP: return unicode_bidi_line_map_utf8(text, length, classes, length, levels, length, paragraph, start,
                                                      end, places, length);
+    case SHOW_LINE: return unicode_bidi_show_line_utf8(text, length, classes, length, levels, length, paragraph, start,
+                                                       end, line_levels, length, runs, length, places, length, bytes,
+                                                       length, &characters_len);
     default: return unicode_bidi_reorder_line_utf8(text, length, classes, length, levels, length, paragraph, start,
                                                    end, bytes, length);
   }
@@ -131,7 +135,7 @@ static void cut_pieces(size_t paragraphs_len) {
   }
 }
 
-static int is_by_lines(call call) { return call >= LINE_LEVELS && call <= REORDER_LINE; }
+static int is_by_lines(call call) { return call >= LINE_LEVELS && call <= SHOW_LINE; }
 
 static void print_time(const char *name, call call, double nanoseconds, double characters) {
   if (call == SHORT_TEXTS) printf("%s: %.0f ns a text\n", name, nanoseconds / (double)pieces_len);
@@ -148,8 +152,9 @@ static void *room(size_t size) {
 }
 
 int main(int count, char **words) {
-  static const char *const names[CALLS] = {"analyse",  "base_direction, full", "line_levels",    "line_runs",
-                                           "line_map", "reorder_line",         "reorder_visual", "short texts"};
+  static const char *const names[CALLS] = {"analyse",      "base_direction, full", "line_levels",
+                                           "line_runs",    "line_map",             "reorder_line",
+                                           "show_line",    "reorder_visual",       "short texts"};
   FILE *file = count == 2 ? fopen(words[1], "rb") : NULL;
   if (!file || fseek(file, 0, SEEK_END)) return 2;
   length = (size_t)ftell(file);
@@ -158,6 +163,7 @@ int main(int count, char **words) {
   if (fread(text, 1, length, file) != length) return 4;
   classes = room(1);
   levels = room(1);
+  line_levels = room(1);
   bytes = room(1);
   places = room(sizeof *places);
   runs = room(sizeof *runs);

@@ -9,6 +9,7 @@ ghost use Rattle.bidi_numbers.specs.Numbers.{base_of, split_of, direction_number
 ghost use Rattle.bidi_numbers.specs.Rows.{paragraph_row};
 ghost use Rattle.unicode_bidi.specs.ParagraphInfo.{range_of, level_of};
 
+use bidi_lines::shown_levels::FEW_UNITS;
 use bidi_numbers::fault::{Fault, check, check_room_or_none};
 use bidi_numbers::numbers::{base_level, number_of, split_rule};
 use bidi_numbers::rows::Paragraph;
@@ -18,9 +19,6 @@ use unicode_bidi::{
     BidiClass, BidiDataSource, Direction, LTR_LEVEL, Level, ParagraphInfo, SplitRule, TextSource,
     get_base_direction_full_with_data_source, get_base_direction_with_data_source,
 };
-
-// Up to how many units of a text the lists of classes and levels need no allocation.
-const FEW_UNITS: usize = 256;
 
 // Writes the numbers of classes.
 fn write_classes(out: &mut [u8], classes: &[BidiClass])

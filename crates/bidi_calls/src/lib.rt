@@ -6,6 +6,7 @@ pub mod checked;
 pub mod even;
 pub mod first_direction;
 pub mod line;
+pub mod run_rows;
 pub mod show;
 pub mod utf16;
 pub mod utf32;

@@ -15,6 +15,7 @@ ghost use Rattle.bidi_text_lines.specs.Written.{shown_units};
 ghost use Rattle.bidi_numbers.specs.Rows.{run_row};
 
 use crate::checked::write_levels;
+use crate::run_rows::put_runs;
 use bidi_lines::shown_levels::ShownLevels;
 use bidi_lines::visual_order::write_visual_order;
 use bidi_lines::visual_runs::LineRuns;
@@ -141,40 +142,6 @@ pub fn line_levels(alloc: Global, line: &KeptLine<'_>, out: &mut [u8]) -> Result
     Ok(count)
 }
 
-// A run as a row. The line begins at the unit `start`.
-fn row_of(levels: &[Level], start: usize, run: &Range<usize>) -> Run
-    requires { start ≤ run.now.start × run.now.start < start + length levels.now }
-    ensures { result ≡ run_row start levels.now (run_of run.now) }
-{
-    Run {
-        start: run.start,
-        end: run.end,
-        level: levels[run.start - start].number(),
-    }
-}
-
-// Writes runs as rows.
-fn write_runs(out: &mut [Run], levels: &[Level], start: usize, runs: &[Range<usize>])
-    requires same_len { length out.old ≡ length runs.now }
-    requires within { All (λ r. start ≤ r.start × r.start < start + length levels.now) runs.now }
-    ensures { out.new ≡ map (run_row start levels.now) (map run_of runs.now) }
-{
-    for i in 0..runs.len() {
-        out[i] = row_of(levels, start, &runs[i]);
-    }
-}
-
-// Writes runs as rows to the front of a buffer, unless that has no room at all.
-fn put_runs(out: &mut [Run], levels: &[Level], start: usize, runs: &[Range<usize>])
-    requires room { IsTrue (has_room_or_none (length runs.now) (length out.old)) }
-    requires within { All (λ r. start ≤ r.start × r.start < start + length levels.now) runs.now }
-    ensures { out.new ≡ written_if_room (map (run_row start levels.now) (map run_of runs.now)) out.old }
-{
-    if !out.is_empty() {
-        write_runs(&mut out[..runs.len()], levels, start, runs);
-    }
-}
-
 /// Writes the visual runs of a line, and returns their number. Where `out` has no room at all, they are
 /// only counted.
 pub fn line_runs(alloc: Global, line: &KeptLine<'_>, out: &mut [Run]) -> Result<usize, Fault>
@@ -190,7 +157,7 @@ pub fn line_runs(alloc: Global, line: &KeptLine<'_>, out: &mut [Run]) -> Result<
     line.check()?;
     let shown = line.shown(alloc)?;
     let mut found = LineRuns::new(alloc);
-    found.find(shown.as_slice(), line.start)?;
+    found.find(shown.as_slice(), 0)?;
     let runs = found.as_slice();
     check_room_or_none(runs.len(), out.len())?;
     put_runs(out, shown.as_slice(), line.start, runs);

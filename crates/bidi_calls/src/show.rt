@@ -16,6 +16,7 @@ ghost use Rattle.bidi_text_lines.specs.Written.{run_units, shown_units};
 
 use crate::checked::write_levels;
 use crate::line::KeptLine;
+use crate::run_rows::put_runs;
 use bidi_lines::shown_levels::ShownLevels;
 use bidi_lines::visual_order::write_visual_order;
 use bidi_lines::visual_runs::LineRuns;
@@ -33,46 +34,6 @@ fn put_levels(out: &mut [u8], levels: &[Level])
 {
     if !out.is_empty() {
         write_levels(&mut out[..levels.len()], levels);
-    }
-}
-
-// A run of a line as a row. The line begins at the unit `start` of the text, and the run's units are counted from
-// there.
-fn row_of(levels: &[Level], start: usize, run: &Range<usize>) -> Run
-    requires begins { run.now.start < length levels.now }
-    requires ends { run.now.end ≤ length levels.now }
-    requires whole { start + length levels.now ≤ usize.MAX }
-    ensures { result ≡ run_row start levels.now (start + run.now.start, start + run.now.end) }
-{
-    Run {
-        start: start + run.start,
-        end: start + run.end,
-        level: levels[run.start].number(),
-    }
-}
-
-// Writes runs as rows.
-fn write_rows(out: &mut [Run], levels: &[Level], start: usize, runs: &[Range<usize>])
-    requires same_len { length out.old ≡ length runs.now }
-    requires within { All (λ r. r.start < length levels.now × r.end ≤ length levels.now) runs.now }
-    requires whole { start + length levels.now ≤ usize.MAX }
-    ensures { out.new ≡ map (λ r. run_row start levels.now (start + r.start, start + r.end)) runs.now }
-{
-    for i in 0..runs.len() {
-        out[i] = row_of(levels, start, &runs[i]);
-    }
-}
-
-// Writes the runs of a line as rows to the front of a buffer that is not empty.
-fn put_runs(out: &mut [Run], levels: &[Level], start: usize, runs: &[Range<usize>])
-    requires room { IsTrue (has_room_or_none (length runs.now) (length out.old)) }
-    requires visual { AreVisualRuns 0 levels.now (map run_of runs.now) }
-    requires runs { map run_of runs.now ≡ visual_runs 0 levels.now }
-    requires whole { start + length levels.now ≤ usize.MAX }
-    ensures { out.new ≡ written_if_room (map (run_row start levels.now) (visual_runs start levels.now)) out.old }
-{
-    if !out.is_empty() {
-        write_rows(&mut out[..runs.len()], levels, start, runs);
     }
 }
 

@@ -1,6 +1,6 @@
 //! The classes, the paragraphs and the levels of a whole text, whatever its encoding.
 
-ghost use Rattle.std.specs.Prelude.{◌≡◌, [], ◌∷◌, true, false, IsTrue, ◌≤◌, ◌++◌, length, map, take, drop, flat_map, slice_range, All, OnOk, IfOk, IfSome};
+ghost use Rattle.std.specs.Prelude.{◌≡◌, [], ◌∷◌, true, false, IsTrue, ◌≤◌, ◌++◌, length, map, take, drop, flat_map, slice_range, All, OnOk, OnErr, IfOk, IfSome};
 ghost use Rattle.bidi_base.specs.Analysed.{IsAnalysis, IsPerCharText, HasCharValues, AreLevelsWithLine, classes_of_chars, levels_of_chars};
 ghost use Rattle.bidi_base.specs.Laws.{AreLevelsFrom};
 ghost use Rattle.bidi_base.specs.Line.{levels_with_line as levels_with_line_of};
@@ -182,6 +182,7 @@ impl Analyser {
             (slice_range levels.new (range_of p).start (range_of p).end)) (found_paragraphs self.new)) }
         ensures flags { let pieces = pieces_by rule (D.source data_source.now) (T.characters text) in
             OnOk result (self.new.found.flags.items ≡ paragraph_flags (D.source data_source.now) pieces) }
+        ensures none { OnErr result (found_paragraphs self.new ≡ []) }
     {
         let memory = mem::replace(&mut self.found, FoundParagraphs::new(alloc));
         let found = first_walk::walk(alloc, data_source, text, base, rule, classes, memory)?;

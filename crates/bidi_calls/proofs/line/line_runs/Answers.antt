@@ -1,6 +1,9 @@
-use Rattle.bidi_base.proofs.Common.{arith}
-use Rattle.bidi_text_lines.proofs.TextOfLine.{runs_begin}
+use Rattle.bidi_base.proofs.Common.{◌≡◌, ◌∙◌, arith, common_steps}
+use Rattle.bidi_calls.proofs.ShownRuns.{length-moved}
 use Rattle.bidi_calls.proofs.line.line_runs.Goals as goal
 
-pub put_runs-requires-clause-within : goal.put_runs-requires-clause-within
-put_runs-requires-clause-within c = grind (arith, runs_begin)
+pub returns-in_err-check_room_or_none-clause-fault : goal.returns-in_err-check_room_or_none-clause-fault
+returns-in_err-check_room_or_none-clause-fault c = grind (arith, common_steps, length-moved)
+
+pub returns-clause-count : goal.returns-clause-count
+returns-clause-count c = grind (arith, common_steps, length-moved)

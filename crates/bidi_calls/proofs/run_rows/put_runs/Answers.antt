@@ -1,6 +1,6 @@
 use Rattle.bidi_base.proofs.Common.{◌∙◌, arith}
 use Rattle.bidi_calls.proofs.ShownRuns.{rows-moved, length-rows, runs_within}
-use Rattle.bidi_calls.proofs.show.put_runs.Goals as goal
+use Rattle.bidi_calls.proofs.run_rows.put_runs.Goals as goal
 
 pub write_rows-requires-clause-within : goal.write_rows-requires-clause-within
 write_rows-requires-clause-within c = runs_within c.args.levels.now c.args.runs.now c.requires.visual

@@ -1,6 +1,6 @@
 use Rattle.bidi_base.proofs.Common.{◌≡◌, ◌+◌, map, take}
 use Rattle.bidi_numbers.specs.Rows.{run_row}
-use Rattle.bidi_calls.proofs.show.write_rows.Given as goal
+use Rattle.bidi_calls.proofs.run_rows.write_rows.Given as goal
 
 -- the rows so far
 abbrev pub invariant-loop-i : goal.invariant-loop-i

@@ -1,0 +1,53 @@
+//! The visual runs of a line as the rows that a caller reads.
+ghost use Rattle.std.specs.Prelude.{◌≡◌, ◌+◌, ◌<◌, ◌≤◌, IsTrue, length, map, All};
+ghost use Rattle.bidi_base.specs.Display.{run_of, visual_runs, AreVisualRuns};
+ghost use Rattle.bidi_calls.specs.Kept.{written_if_room};
+ghost use Rattle.bidi_numbers.specs.Faults.{has_room_or_none};
+ghost use Rattle.bidi_numbers.specs.Rows.{run_row};
+
+use bidi_numbers::rows::Run;
+use std::ops::Range;
+use unicode_bidi::Level;
+
+// A run of a line as a row. The line begins at the unit `start` of the text, and the run's units are counted from
+// there.
+fn row_of(levels: &[Level], start: usize, run: &Range<usize>) -> Run
+    requires begins { run.now.start < length levels.now }
+    requires ends { run.now.end ≤ length levels.now }
+    requires whole { start + length levels.now ≤ usize.MAX }
+    ensures { result ≡ run_row start levels.now (start + run.now.start, start + run.now.end) }
+{
+    Run {
+        start: start + run.start,
+        end: start + run.end,
+        level: levels[run.start].number(),
+    }
+}
+
+// Writes runs as rows.
+fn write_rows(out: &mut [Run], levels: &[Level], start: usize, runs: &[Range<usize>])
+    requires same_len { length out.old ≡ length runs.now }
+    requires within { All (λ r. r.start < length levels.now × r.end ≤ length levels.now) runs.now }
+    requires whole { start + length levels.now ≤ usize.MAX }
+    ensures { out.new ≡ map (λ r. run_row start levels.now (start + r.start, start + r.end)) runs.now }
+{
+    for i in 0..runs.len() {
+        out[i] = row_of(levels, start, &runs[i]);
+    }
+}
+
+/// Writes the visual runs of a line as rows to the front of a buffer that is not empty.
+///
+/// `levels` are those of the line's units after L1, and `runs` its visual runs, counted from its first unit.
+/// The rows count from the text's first unit: the line begins at the unit `start`.
+pub fn put_runs(out: &mut [Run], levels: &[Level], start: usize, runs: &[Range<usize>])
+    requires room { IsTrue (has_room_or_none (length runs.now) (length out.old)) }
+    requires visual { AreVisualRuns 0 levels.now (map run_of runs.now) }
+    requires runs { map run_of runs.now ≡ visual_runs 0 levels.now }
+    requires whole { start + length levels.now ≤ usize.MAX }
+    ensures { out.new ≡ written_if_room (map (run_row start levels.now) (visual_runs start levels.now)) out.old }
+{
+    if !out.is_empty() {
+        write_rows(&mut out[..runs.len()], levels, start, runs);
+    }
+}
