@@ -1,5 +1,5 @@
 -- What a program's list of runs is: runs are ranges there.
-use Rattle.bidi_base.proofs.Common.{◌≡◌, ℕ, ◌+◌, ◌<◌, ◌≤◌, ◌++◌, false, List, [], ◌∷◌, map, length, get_or, take, sym, subst, le_refl, ◌∙◌, arith, rules, common_steps, Range, get_or-map, length-map, length-range_with_len, IsPermutation-refl, has_rtl, indexes, at_places, visual_order, IsVisualOrder, Run, run_of, level_runs, run_level, visual_runs, AreVisualRuns}
+use Rattle.bidi_base.proofs.Common.{◌≡◌, ℕ, ◌+◌, ◌<◌, ◌≤◌, ◌++◌, false, List, [], ◌∷◌, map, length, get_or, take, refl, sym, subst, le_refl, ◌∙◌, arith, rules, common_steps, Range, get_or-map, length-map, length-range_with_len, IsPermutation-refl, has_rtl, indexes, at_places, visual_order, IsVisualOrder, Run, run_of, level_runs, run_level, visual_runs, AreVisualRuns}
 use Rattle.std.proofs.Common.{All}
 use Rattle.bidi_lines.proofs.Ordered.{visual_order-still, none_odd}
 use Rattle.bidi_laws.proofs.VisualOrderLemmas.{visual_order-unique}
@@ -62,3 +62,9 @@ visual_runs-found start levels of_runs order runs e f g = grind arith
 
 pub AreVisualRuns-from_same : (start : ℕ) (levels : List ℕ) (runs : List Run) → runs ≡ visual_runs start levels → AreVisualRuns start levels runs
 AreVisualRuns-from_same start levels runs e = subst (AreVisualRuns start levels) (sym e) (visual_runs-are start levels)
+
+-- an empty line has no run
+pub visual_runs-nil : (start : ℕ) (levels : List ℕ) → length levels ≡ 0 → visual_runs start levels ≡ []
+unfolding visual_runs visual_order
+visual_runs-nil start [] none = refl
+visual_runs-nil start (level ∷ levels) none = absurd (omega (arith, none))

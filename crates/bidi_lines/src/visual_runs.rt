@@ -1,6 +1,6 @@
 //! The visual runs of a line (L2).
 
-ghost use Rattle.std.specs.Prelude.{◌≡◌, ℕ, IsTrue, ◌∷◌, ◌+◌, ◌<◌, ◌≤◌, ◌++◌, [], length, IfOk, OnOk, OnErr, All, map};
+ghost use Rattle.std.specs.Prelude.{◌≡◌, ℕ, ◌∷◌, ◌+◌, ◌<◌, ◌≤◌, ◌++◌, [], length, drop, IfOk, OnOk, OnErr, All, map};
 ghost use Rattle.bidi_base.specs.Display.{run_of, level_runs, run_level, visual_runs, AreVisualRuns};
 ghost use Rattle.bidi_base.specs.Line.{levels_of_line, levels_with_line};
 ghost use Rattle.bidi_base.specs.Order.{visual_order, IsVisualOrder};
@@ -17,25 +17,36 @@ use std::ops::Range;
 /// How many runs of a line are kept without an allocation.
 const FEW_RUNS: usize = 16;
 
-/// Returns whether all units of a line have one level, so that the line is one level run (BD7). `levels` are
-/// those of its units after L1. An empty line has no run.
-pub fn is_one_run(levels: &[Level]) -> bool
-    ensures { IsTrue result → (start : ℕ) → visual_runs start levels.now ≡ (start, start + length levels.now) ∷ [] }
+/// Returns the end of the first level run (BD7) of a line. If that is the line's length, the run is the whole line.
+///
+/// `levels` are those of the line's units after L1. The line is not empty.
+pub fn first_run_end(levels: &[Level]) -> usize
+    requires { 0 < length levels.now }
+    ensures some { 0 < result }
+    ensures within { result ≤ length levels.now }
+    ensures first { (start : ℕ) → level_runs start levels.now
+        ≡ (start, start + result) ∷ level_runs (start + result) (drop result levels.now) }
+    ensures whole { result ≡ length levels.now → (start : ℕ) → visual_runs start levels.now ≡ (start, start + result) ∷ [] }
 {
-    !levels.is_empty() && run_end(levels, 0) == levels.len()
+    run_end(levels, 0)
 }
 
-// Cuts a line that starts at the unit `start` into its level runs.
+// Cuts a line that starts at the unit `start` into its level runs, the first of which ends at the line's unit
+// `first`.
 fn cut_runs(
     runs: &mut SmallVec<Range<usize>, FEW_RUNS>,
     levels: &[Level],
     start: usize,
+    first: usize,
 ) -> Result<(), AllocError>
-    requires { start + length levels.now ≤ usize.MAX }
+    requires fits { start + length levels.now ≤ usize.MAX }
+    requires within { first ≤ length levels.now }
+    requires first { level_runs start levels.now ≡ (start, start + first) ∷ level_runs (start + first) (drop first levels.now) }
     ensures { OnOk result (map run_of runs.new.items ≡ level_runs start levels.now) }
 {
     runs.clear();
-    let mut at = 0;
+    runs.push(start..start + first)?;
+    let mut at = first;
     while at < levels.len() {
         let end = run_end(levels, at);
         runs.push(start + at..start + end)?;
@@ -133,8 +144,30 @@ impl LineRuns {
         ensures visual { OnOk result (AreVisualRuns start levels.now (runs_of self.new)) }
         ensures none { OnErr result (runs_of self.new ≡ []) }
     {
+        if levels.is_empty() {
+            self.ordered.clear();
+            return Ok(());
+        }
+        self.find_behind(levels, start, first_run_end(levels))
+    }
+
+    /// Finds the runs of a line as [`LineRuns::find`] does, where the end of the first level run is known: see
+    /// [`first_run_end`].
+    pub fn find_behind(
+        &mut self,
+        levels: &[Level],
+        start: usize,
+        first: usize,
+    ) -> Result<(), AllocError>
+        requires fits { start + length levels.now ≤ usize.MAX }
+        requires within { first ≤ length levels.now }
+        requires first { level_runs start levels.now ≡ (start, start + first) ∷ level_runs (start + first) (drop first levels.now) }
+        ensures runs { OnOk result (runs_of self.new ≡ visual_runs start levels.now) }
+        ensures visual { OnOk result (AreVisualRuns start levels.now (runs_of self.new)) }
+        ensures none { OnErr result (runs_of self.new ≡ []) }
+    {
         self.ordered.clear();
-        cut_runs(&mut self.runs, levels, start)?;
+        cut_runs(&mut self.runs, levels, start, first)?;
         let runs = self.runs.as_slice();
         let count = runs.len();
         if count == 1 {

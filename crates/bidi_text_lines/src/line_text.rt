@@ -11,7 +11,7 @@ use bidi_base::level::Level;
 use bidi_lines::line_levels::line_has_rtl;
 use bidi_lines::shown_levels::ShownLevels;
 use bidi_lines::stored::{ClassList, LevelList};
-use bidi_lines::visual_runs::{LineRuns, is_one_run};
+use bidi_lines::visual_runs::{LineRuns, first_run_end};
 use bidi_text::text::TextSource;
 use std::alloc::{AllocError, Global};
 use std::ops::Range;
@@ -97,12 +97,16 @@ fn write_shown<T: LineText>(
     ensures kept { OnErr result (out.new ≡ out.old) }
 {
     let start = line.start;
-    if is_one_run(levels) {
+    if levels.is_empty() {
+        return Ok(());
+    }
+    let first = first_run_end(levels);
+    if first == levels.len() {
         write_runs(text, start, levels, &[line], out);
         return Ok(());
     }
     let mut runs = LineRuns::new(alloc);
-    runs.find(levels, start)?;
+    runs.find_behind(levels, start, first)?;
     write_runs(text, start, levels, runs.as_slice(), out);
     Ok(())
 }
