@@ -3,7 +3,7 @@ use Rattle.bidi_base.proofs.Common.{◌≡◌, ◌≢◌, ◌∙◌, ℕ, ◌+�
 use Rattle.std.proofs.Common.{length-set, length-take-le}
 use Rattle.std.proofs.lemmas.List.{take-set}
 use Rattle.bidi_base.proofs.TextLemmas.{HasUnits, length-le-text_len}
-use Rattle.bidi_base.proofs.PlaceLemmas.{place-zero, place-more, place-more-le, place-le-back, place-lt, place-end, is_boundary-place, place-char_index, char_index-le}
+use Rattle.bidi_base.proofs.PlaceLemmas.{place-more, place-more-le, place-le-back, place-lt, place-end, is_boundary-place, place-char_index, char_index-le}
 use Rattle.bidi_base.proofs.PerUnit.{length-per_char, get_or-per_char}
 
 module _ (len_of : ℕ → ℕ) (chars old : List ℕ) where

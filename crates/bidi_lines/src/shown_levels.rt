@@ -25,7 +25,7 @@ fn write_levels<C: ClassList, L: LevelList>(level: Level, classes: C, levels: L,
     reset_levels(level, classes, out);
 }
 
-// Makes room for so many levels, which hold any values. If an allocation fails, the list is unchanged.
+// Makes a list `len` levels long. The levels that it gets are any. If an allocation fails, it is unchanged.
 fn resize(levels: &mut Vec<Level>, len: usize) -> Result<(), AllocError>
     ensures len { OnOk result (vec_len levels.new ≡ len) }
     ensures kept { OnErr result (levels.new.items ≡ levels.old.items) }

@@ -56,8 +56,8 @@ fn replace_order(levels: &[Level], order: &mut Vec<usize>) -> Result<(), AllocEr
 
 /// A line of a text as it is shown: its levels after L1 and its visual runs (L2).
 ///
-/// A value shows one line after another, of one text or of several. The memory of one line is used again for
-/// the next. A line of up to 256 code units with up to 16 runs allocates nothing.
+/// Shows one line after another, of one text or of several, and reuses its memory. A line of up to 256 code
+/// units with up to 16 runs allocates nothing.
 #[derive(Drop)]
 pub struct ShownLine<T: TextSource> {
     // The whole text, and the line as a range of its code units.

@@ -141,7 +141,7 @@ pub struct Analyser {
 }
 
 impl Analyser {
-    /// An analyser that has read no text. Nothing is allocated.
+    /// Returns an analyser that has read no text. Allocates nothing.
     pub fn new(alloc: Global) -> Analyser
         ensures { found_paragraphs result ≡ [] }
     {
@@ -151,7 +151,7 @@ impl Analyser {
         }
     }
 
-    /// The paragraphs of the text that was analysed last, in order. Together they take the whole text.
+    /// Returns the paragraphs of the text that was analysed last, in order. Together they are the whole text.
     pub fn paragraphs(&self) -> &[ParagraphInfo]
         ensures { result.now ≡ found_paragraphs self.now }
     {

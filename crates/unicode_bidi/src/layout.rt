@@ -193,10 +193,11 @@ impl LineMap {
         Ok(LineMap { len, order, places })
     }
 
-    /// The map of a line, which goes from one byte of the text up to another, both of which have to
-    /// begin a character or be the text's length (see `is_line`). Its levels are those after L1, with
-    /// the level of the paragraph handed in, whichever that is. It costs the line. A line of up to 256
-    /// bytes allocates the two lists of the map alone, and none if its characters stay in order.
+    /// Returns the map of a line.
+    ///
+    /// The line is a range of bytes of the text that cuts no character (see `is_line`). Its levels are those
+    /// after L1 with the level of `para`. Takes time linear in the line. A line of up to 256 bytes allocates
+    /// only the two lists of the map, and neither if its characters stay in order.
     pub fn new(
         alloc: Global,
         info: &BidiInfo<'_>,

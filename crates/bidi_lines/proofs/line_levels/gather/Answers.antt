@@ -1,7 +1,7 @@
 use Rattle.bidi_base.proofs.Common.{◌≡◌, ◌∙◌, ℕ, ◌+◌, ◌<◌, List, length, inl, inr, subst, arith, rules, common_steps, cases_Bool, get_or_default, text_len, is_boundary}
 use Rattle.std.specs.Prelude.{slice_set}
 use Rattle.bidi_base.proofs.TextLemmas.{HasUnits}
-use Rattle.bidi_lines.proofs.Gathered.{IsSwept, IsSwept-start, IsSwept-inside, IsSwept-more, IsSwept-end, IsSwept-le, IsGathered-end}
+use Rattle.bidi_lines.proofs.Gathered.{IsSwept, IsSwept-inside, IsSwept-more, IsSwept-end, IsSwept-le, IsGathered-end}
 use Rattle.bidi_lines.proofs.line_levels.gather.Goals as goal
 
 -- no more characters have begun than units were passed

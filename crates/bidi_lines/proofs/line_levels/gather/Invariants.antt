@@ -1,4 +1,3 @@
-use Rattle.bidi_base.proofs.Common.{◌≡◌}
 use Rattle.bidi_lines.proofs.Gathered.{IsSwept}
 use Rattle.bidi_lines.proofs.line_levels.gather.Given as goal
 

@@ -1,4 +1,4 @@
-use Rattle.bidi_base.proofs.Common.{◌≡◌, ◌+◌, [], ◌∷◌, ◌∙◌, length, drop, ap, sym, arith, level_runs}
+use Rattle.bidi_base.proofs.Common.{◌+◌, [], ◌∷◌, ◌∙◌, ap, sym, arith}
 use Rattle.bidi_lines.proofs.FoundRuns.{visual_runs-same}
 use Rattle.bidi_lines.proofs.RunsLemmas.{level_runs-more}
 use Rattle.bidi_lines.proofs.visual_runs.first_run_end.Goals as goal

@@ -1,4 +1,4 @@
-use Rattle.bidi_base.proofs.Common.{◌≡◌, ◌∙◌, sym, map, length, arith, common_steps, run_of}
+use Rattle.bidi_base.proofs.Common.{◌≡◌, map, length, arith, common_steps, run_of}
 use Rattle.bidi_lines.proofs.FoundRuns.{visual_runs-nil, AreVisualRuns-from_same}
 use Rattle.bidi_lines.proofs.visual_runs.LineRuns.find.Goals as goal
 
