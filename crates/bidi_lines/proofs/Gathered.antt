@@ -1,5 +1,5 @@
 -- A pass that brings the value of each character's first unit to the character's index.
-use Rattle.bidi_base.proofs.Common.{◌≡◌, ◌≢◌, ◌∙◌, ℕ, ◌+◌, ◌-◌, ◌<◌, ◌≤◌, List, length, get_or, take, set, arith, true, false, refl, sym, ap, char_index, get_or-set_other, take_more, take_more_set, take_all, place, text_len, per_char, is_boundary}
+use Rattle.bidi_base.proofs.Common.{◌≡◌, ◌≢◌, ◌∙◌, ℕ, ◌+◌, ◌-◌, ◌<◌, ◌≤◌, List, length, get_or, take, set, arith, true, false, sym, ap, char_index, get_or-set_other, take_more, take_more_set, take_all, place, text_len, per_char, is_boundary}
 use Rattle.std.proofs.Common.{length-set, length-take-le}
 use Rattle.std.proofs.lemmas.List.{take-set}
 use Rattle.bidi_base.proofs.TextLemmas.{HasUnits, length-le-text_len}
@@ -32,14 +32,6 @@ module _ (len_of : ℕ → ℕ) (chars old : List ℕ) where
     pub few : n ≤ length chars
     pub ahead : at ≤ place len_of chars n
     pub behind : (k : ℕ) → k < n → place len_of chars k < at
-
-  pub IsSwept-start : length old ≡ text_len len_of chars → IsSwept old 0 0
-  IsSwept-start same = record {
-    gathered = record { long = refl; front = refl; rest = λ u le. refl };
-    few = omega arith;
-    ahead = omega arith;
-    behind = λ k lt. omega (arith, lt);
-  }
 
   pub IsSwept-le : HasUnits len_of → (new : List ℕ) (n at : ℕ) → IsSwept new n at → n ≤ at
   IsSwept-le h new n at s = grind (arith, s.few, s.behind (n - 1), index-le-place h (n - 1))

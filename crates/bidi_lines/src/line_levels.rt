@@ -44,9 +44,11 @@ fn blanks_start<C: ClassList>(classes: C, from: usize, to: usize) -> usize
     start
 }
 
-/// Applies L1 to the levels of a line: separators, and blanks before them or at the line's end, take
-/// the paragraph's level. Any other unit that X9 removes takes the level before it. `classes` has the
-/// stored class of each unit, `levels` the stored level, and `level` is the paragraph's.
+/// Applies L1 to the levels of a line.
+///
+/// Separators, and blanks before them or at the line's end, take the level of the paragraph, which is
+/// `level`. Any other unit that X9 removes takes the level before it. `classes` has the stored class of each
+/// unit, `levels` the stored level.
 pub fn reset_levels<C: ClassList>(level: Level, classes: C, levels: &mut [Level])
     requires { length levels.old ≡ length (C.classes classes) }
     ensures { levels.new ≡ line_levels level (C.classes classes) levels.old }
@@ -107,8 +109,10 @@ fn starts_removed(classes: &[BidiClass]) -> bool
     }
 }
 
-/// Whether some unit of a line has an odd level after L1. `classes` and `levels` are those stored for
-/// the line's units, and `level` is that of the line's paragraph. It takes no memory.
+/// Returns whether some unit of a line has an odd level after L1.
+///
+/// `classes` and `levels` are those stored for the line's units, and `level` is that of the line's
+/// paragraph. Does not allocate.
 pub fn line_has_rtl(level: Level, classes: &[BidiClass], levels: &[Level]) -> bool
     requires { length levels.now ≡ length classes.now }
     ensures { result ≡ has_rtl (line_levels level classes.now levels.now) }
@@ -143,8 +147,10 @@ fn reset_line(level: Level, classes: &[BidiClass], levels: &mut [Level], line: R
     );
 }
 
-/// The levels of a line's units after L1. `classes` and `levels` are those stored for the units of the
-/// whole text, of which the line is the range `line`, and `level` is that of the line's paragraph.
+/// Returns the levels of a line's units after L1.
+///
+/// `classes` and `levels` are those stored for the units of the whole text. The line is the range `line` of
+/// it, and `level` is the level of the line's paragraph.
 pub fn levels_of_line(
     alloc: Global,
     level: Level,
@@ -162,9 +168,10 @@ pub fn levels_of_line(
     Ok(shown)
 }
 
-/// The level of each unit of a text, where those of the line are as L1 leaves them and all others are
-/// the stored ones. `classes` and `levels` are those stored for the units of the whole text, of which
-/// the line is the range `line`, and `level` is that of the line's paragraph.
+/// Returns the level of each unit of a text: after L1 in the line, and as stored outside it.
+///
+/// `classes` and `levels` are those stored for the units of the whole text. The line is the range `line` of
+/// it, and `level` is the level of the line's paragraph.
 pub fn levels_with_line(
     alloc: Global,
     level: Level,
@@ -197,8 +204,9 @@ pub(crate) fn gather<T: TextSource>(text: T, levels: &mut [Level]) -> usize
     count
 }
 
-/// The level of each character of a text, that of its first unit, from one level a unit. It takes no
-/// memory.
+/// Returns the level of each character of a text, which is that of its first unit.
+///
+/// `levels` has one level a unit. Does not allocate.
 pub fn first_units<T: TextSource>(text: T, mut levels: Vec<Level>) -> Vec<Level>
     requires { length levels.items ≡ text_len T.units (T.characters text) }
     ensures { result.items ≡ per_char 0 T.units (T.characters text) levels.items }
@@ -208,8 +216,9 @@ pub fn first_units<T: TextSource>(text: T, mut levels: Vec<Level>) -> Vec<Level>
     levels
 }
 
-/// The levels of `levels_with_line`, one for each character of the text: that of the character's first
-/// unit. `line` is a range of units too.
+/// Returns what [`levels_with_line`] returns, one level for each character: that of its first unit.
+///
+/// `line` is a range of units too.
 pub fn levels_per_char<T: TextSource>(
     alloc: Global,
     text: T,

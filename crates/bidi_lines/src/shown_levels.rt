@@ -25,7 +25,7 @@ fn write_levels<C: ClassList, L: LevelList>(level: Level, classes: C, levels: L,
     reset_levels(level, classes, out);
 }
 
-// Makes a list `len` levels long. The levels that it gets are any. If an allocation fails, it is unchanged.
+// Makes a list `len` levels long. New entries hold any level. If an allocation fails, the list is unchanged.
 fn resize(levels: &mut Vec<Level>, len: usize) -> Result<(), AllocError>
     ensures len { OnOk result (vec_len levels.new ≡ len) }
     ensures kept { OnErr result (levels.new.items ≡ levels.old.items) }
@@ -64,7 +64,7 @@ pub struct ShownLevels {
 impl ShownLevels {
     ghost use Rattle.bidi_lines.specs.ShownLevels.{levels as levels_of};
 
-    /// The levels of an empty line. Nothing is allocated.
+    /// Returns the levels of an empty line. Allocates nothing.
     pub fn new(alloc: Global) -> ShownLevels
         ensures { levels_of result ≡ [] }
     {
@@ -115,7 +115,7 @@ impl ShownLevels {
         }
     }
 
-    /// The level of each unit of the line.
+    /// Returns the level of each unit of the line.
     pub fn as_slice(&self) -> &[Level]
         ensures { result.now ≡ levels_of self.now }
     {

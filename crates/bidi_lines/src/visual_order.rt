@@ -212,9 +212,10 @@ fn put_in_visual_order<L: LevelList>(levels: L, order: &mut [usize])
     }
 }
 
-/// Writes the visual order of a line (L2): for each place from left to right the index of the item that
-/// is shown there. `levels` has the level of each item after L1, and `order` has an entry for each. Each
-/// index is written once. An item may be a unit, a character or a level run. Nothing is allocated.
+/// Writes the visual order of a line (L2): for each place from left to right, the index of the item there.
+///
+/// `levels` has the level of each item after L1, and `order` has an entry for each. Each index is written
+/// once. An item may be a unit, a character or a level run. Does not allocate.
 pub fn write_visual_order<L: LevelList>(levels: L, order: &mut [usize])
     requires { length order.old ≡ length (L.numbers levels) }
     ensures order { order.new ≡ visual_order (L.numbers levels) }
@@ -239,8 +240,9 @@ pub fn reorder_visual(alloc: Global, levels: &[Level]) -> Result<Vec<usize>, All
     Ok(order)
 }
 
-/// The inverse of a list of indexes in which each stands once: of a visual order the visual place of
-/// each index. It costs the list.
+/// Returns the inverse of a list that has each index once.
+///
+/// The inverse of a visual order is the visual place of each index. Takes time linear in the list.
 pub fn inverse(alloc: Global, order: &[usize]) -> Result<Vec<usize>, AllocError>
     requires { IsPermutation (indexes order.now) order.now }
     ensures { IfOk result (λ v. AreInverse order.now v.items) }

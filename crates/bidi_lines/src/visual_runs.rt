@@ -124,7 +124,7 @@ pub struct LineRuns {
 impl LineRuns {
     ghost use Rattle.bidi_lines.specs.LineRuns.{runs as runs_of};
 
-    /// No runs, with nothing allocated.
+    /// Returns no runs. Allocates nothing.
     pub fn new(alloc: Global) -> LineRuns
         ensures { runs_of result ≡ [] }
     {
@@ -191,7 +191,7 @@ impl LineRuns {
         )
     }
 
-    /// The runs from left to right, as ranges of units of the text.
+    /// Returns the runs from left to right, as ranges of units of the text.
     pub fn as_slice(&self) -> &[Range<usize>]
         ensures { map run_of result.now ≡ runs_of self.now }
     {
@@ -210,9 +210,10 @@ fn copied(alloc: Global, runs: &[Range<usize>]) -> Result<Vec<Range<usize>>, All
     Ok(list)
 }
 
-/// The level runs (BD7) of a line, from left to right by L2: each a range of units of the text, in
-/// which the line starts at the unit `start`. `levels` are those of the line's units after L1. A line of
-/// up to 16 runs allocates the list of runs alone.
+/// Returns the level runs (BD7) of a line from left to right (L2).
+///
+/// Each is a range of units of the text, in which the line starts at the unit `start`. `levels` are those of
+/// the line's units after L1. A line of up to 16 runs allocates only the list that is returned.
 pub fn visual_runs_of(
     alloc: Global,
     levels: &[Level],
@@ -227,8 +228,8 @@ pub fn visual_runs_of(
     copied(alloc, runs.as_slice())
 }
 
-/// The level of each unit of a text, those of a line after L1 (see `levels_with_line`), and the level
-/// runs (BD7) of the line by them, in units of the text, from left to right by L2.
+/// Returns the level of each unit of a text as [`levels_with_line`] does, and the level runs (BD7) of the
+/// line from left to right (L2), in units of the text.
 pub fn levels_and_runs(
     alloc: Global,
     level: Level,

@@ -1,5 +1,5 @@
 -- A line of a text whose classes and levels are one a unit, equal within each character: its levels, its runs and its text are those of its characters.
-use Rattle.bidi_base.proofs.Common.{◌≡◌, ℕ, ◌+◌, ◌-◌, ◌<◌, ◌≤◌, List, [], length, get_or, map, flat_map, sym, ap, subst, ◌∙◌, arith, false, slice_range, Range, get_or-map, length-map, Run, run_of, run_text_in, visual_runs, reordered_text, line_text, IsLevelRun, AreVisualRuns, is_odd, has_rtl, line_levels, line_levels_after, levels_of_line, levels_with_line, visual_order, text_len, char_index, subrange, per_unit, per_char, IsLine, IsPerChar, char_levels_of_line, char_levels_with_line}
+use Rattle.bidi_base.proofs.Common.{◌≡◌, ℕ, ◌+◌, ◌-◌, ◌<◌, ◌≤◌, List, [], length, get_or, map, flat_map, sym, ap, ◌∙◌, arith, false, slice_range, Range, get_or-map, length-map, Run, run_of, run_text_in, visual_runs, reordered_text, line_text, IsLevelRun, AreVisualRuns, is_odd, has_rtl, line_levels, line_levels_after, levels_of_line, levels_with_line, visual_order, text_len, char_index, subrange, per_unit, per_char, IsLine, IsPerChar, char_levels_of_line, char_levels_with_line}
 use Rattle.std.proofs.Common.{All}
 use Rattle.bidi_base.specs.declared.char_data.BidiClass.{BidiClass}
 use Rattle.bidi_base.specs.declared.char_data.BidiClass.TheVariants.{L}
@@ -87,13 +87,6 @@ module _ (len_of : ℕ → ℕ) (h : HasUnits len_of) (chars : List ℕ) (level 
       let at = λ (n : ℕ). place-slice_range len_of chars (char_index len_of chars start) (char_index len_of chars end) n in
       let line = IsLine-places len_of chars (char_index len_of chars start + r.0) (char_index len_of chars start + r.1) (omega (arith, here.not_empty)) in
       grind (arith, there, at r.0, at r.1, here, length-of_chars, ends, line)
-
-  pub runs_at_boundaries : (ranges : List (Range ℕ)) → map run_of ranges ≡ visual_runs start (levels_of_line level classes levels start end) → All (λ r. IsLine len_of chars r.start r.end) ranges
-  runs_at_boundaries ranges e k d fits =
-      let same : get_or (visual_runs start (levels_of_line level classes levels start end)) k (0, 0) ≡ run_of (get_or ranges k d) =
-      ap (λ runs. get_or runs k (0, 0)) (sym e) ∙ get_or-map run_of ranges k d (0, 0) fits in
-      let line = visual_runs_at_boundaries k (0, 0) (omega (arith, fits, ap length e, length-map ranges run_of)) in
-      subst (λ (r : Run). IsLine len_of chars r.0 r.1) same line
 
   -- the runs, written one after the other, are the text of the line
   pub flat_map-runs : (encode : ℕ → List ℕ) (units : List ℕ) (runs : List Run) → length units ≡ text_len len_of chars → runs ≡ visual_runs start (levels_of_line level classes levels start end)

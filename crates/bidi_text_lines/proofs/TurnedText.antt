@@ -1,8 +1,7 @@
 -- The bytes of a text, turned round one by one, are its characters last first.
 use Rattle.bidi_base.proofs.Common.{◌≡◌, ℕ, zero, suc, ◌+◌, ◌-◌, ◌/◌, ◌%◌, ◌<◌, ◌≤◌, Bool, true, nat_lt, List, [], ◌∷◌, ◌++◌, length, get_or, reverse, flat_map, refl, sym, ap, subst, ◌∙◌, arith, inl, inr, cases_lt, and_parts, append-nil, list_all, chars, encode_utf8_all, IsUtf8, flat_map-append, get_or-reverse, reverse-append, reverse-reverse, length-reverse, same_number_lists}
 use Rattle.std.specs.Char.{encode_utf8}
-use Rattle.std.proofs.lemmas.Str.{encode_ascii, encodes-chars, is_utf8-from_IsUtf8, IsUtf8-from_is_utf8, IsUtf8-nil, IsUtf8-append, IsUtf8-encode}
-use Rattle.std.specs.Str.{is_utf8}
+use Rattle.std.proofs.lemmas.Str.{encode_ascii, encodes-chars, IsUtf8-nil, IsUtf8-append, IsUtf8-encode}
 use lib.Utf8.{scalar, scalars}
 use Rattle.bidi_text_lines.specs.Turned.{turned_byte, turned_at, behind_two}
 
@@ -131,11 +130,7 @@ reverse-flat_map (c ∷ cs) =
     simp (reverse-append (reverse (encode_utf8 c)) (flat_map (λ d. reverse (encode_utf8 d)) cs), reverse-flat_map cs, reverse-reverse (encode_utf8 c))
     (sym (ap (flat_map encode_utf8) (reverse-append (c ∷ []) cs) ∙ flat_map-append encode_utf8 (reverse cs) (c ∷ []) ∙ ap (λ bs. flat_map encode_utf8 (reverse cs) ++ bs) (append-nil (encode_utf8 c))))
 
--- a text behind a text
-pub is_utf8-append : (xs ys : List ℕ) → is_utf8 xs ≡ true → IsUtf8 ys → is_utf8 (xs ++ ys) ≡ true
-is_utf8-append xs ys u v = is_utf8-from_IsUtf8 (xs ++ ys) (IsUtf8-append xs ys (IsUtf8-from_is_utf8 xs u) v)
-
--- which are a text too
+-- a text with its characters last first is a text
 pub backwards-utf8 : (cs : List ℕ) → scalars cs ≡ true → IsUtf8 (flat_map encode_utf8 (reverse cs))
 backwards-utf8 [] h = IsUtf8-nil
 backwards-utf8 (c ∷ cs) h =
