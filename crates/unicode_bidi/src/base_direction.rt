@@ -11,8 +11,10 @@ use bidi_base::char_data::Direction;
 use bidi_base::data_source::BidiDataSource;
 use bidi_text::text::TextSource;
 
-/// The base direction of a text: that of its first paragraph's first strong character outside
-/// isolates (P2), `Mixed` where there is none. It stops there, and takes no memory.
+/// Returns the base direction of a text: that of the first strong character outside isolates in its first
+/// paragraph (P2).
+///
+/// Returns `Mixed` if there is none. Stops at the character that decides, and does not allocate.
 pub fn get_base_direction_with_data_source<D: BidiDataSource, T: TextSource>(
     data_source: &D,
     text: T,
@@ -29,8 +31,9 @@ pub fn get_base_direction_with_data_source<D: BidiDataSource, T: TextSource>(
     find_direction(data_source, text, false)
 }
 
-/// The direction of a text by its first paragraph that has a strong character outside isolates (P2, P3):
-/// that of the first such character there, or mixed where no paragraph has one. It takes no memory.
+/// Returns the direction of the first strong character outside isolates in any paragraph of a text (P2, P3).
+///
+/// Returns `Mixed` if no paragraph has one. Does not allocate.
 pub fn get_base_direction_full_with_data_source<D: BidiDataSource, T: TextSource>(
     data_source: &D,
     text: T,

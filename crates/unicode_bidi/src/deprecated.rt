@@ -8,9 +8,10 @@ use bidi_lines::visual_runs::visual_runs_of;
 use std::alloc::{AllocError, Global};
 use std::ops::Range;
 
-/// The level runs of a line (BD7), in units of the text, from left to right by L2. `levels` has one
-/// level for each unit of the text, of which the line is a part that is not empty. They are taken as
-/// they are, without L1: `visual_runs` of `BidiInfo` applies it.
+/// Returns the level runs of a line (BD7) from left to right (L2), as ranges of code units of the text.
+///
+/// `levels` has one level for each code unit of the text. The line is a range of them that is not empty. The
+/// levels are used unchanged, without L1: `visual_runs` of `BidiInfo` applies L1.
 pub fn visual_runs(
     alloc: Global,
     line: Range<usize>,

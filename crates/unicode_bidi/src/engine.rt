@@ -28,7 +28,7 @@ use std::alloc::{AllocError, Global};
 use std::mem;
 use std::ops::Range;
 
-/// What the algorithm finds out about a text. It doesn't hold the text.
+/// What the algorithm finds out about a text, without the text.
 #[derive(PartialEq, Debug, Drop)]
 pub struct Analysis {
     pub(crate) original_classes: Vec<BidiClass>,
@@ -39,23 +39,26 @@ pub struct Analysis {
 }
 
 impl Analysis {
-    /// The class of each unit's character. An FSI whose isolate has a deciding character stands
-    /// here as RLI or LRI.
+    /// Returns the class of each code unit's character.
+    ///
+    /// An FSI whose isolate has a deciding character is RLI or LRI here (X5c).
     pub fn original_classes(&self) -> &[BidiClass]
         ensures { result.now ≡ original_classes_of self.now }
     {
         self.original_classes.as_slice()
     }
 
-    /// The level of each unit's character, before L1. A character that X9 removes has the level of
-    /// the character before it, the paragraph's first one the paragraph level.
+    /// Returns the level of each code unit's character, before L1.
+    ///
+    /// A character that X9 removes has the level of the character before it. At the start of a paragraph it has
+    /// the paragraph level.
     pub fn levels(&self) -> &[Level]
         ensures { result.now ≡ stored_levels_of self.now }
     {
         self.levels.as_slice()
     }
 
-    /// The paragraphs, in order. Together they take the whole text.
+    /// Returns the paragraphs in order. Together they are the whole text.
     pub fn paragraphs(&self) -> &[ParagraphInfo]
         ensures { result.now ≡ paragraphs_of_analysis self.now }
     {
@@ -158,9 +161,11 @@ impl Analyser {
         self.found.paragraphs.as_slice()
     }
 
-    /// Finds what [`analyse_with_rule`] finds. Writes the class of each code unit to `classes` and its level
-    /// to `levels`, which both have one entry a code unit; [`Analyser::paragraphs`] then returns the
-    /// paragraphs. If an allocation fails, the two lists hold anything, and there are no paragraphs.
+    /// Analyses a text as [`analyse_with_rule`] does, in the caller's lists.
+    ///
+    /// Writes the class of each code unit to `classes` and its level to `levels`, which both have one entry a
+    /// code unit. [`Analyser::paragraphs`] then returns the paragraphs. If an allocation fails, the two lists
+    /// hold anything, and there are no paragraphs.
     pub fn analyse<D: BidiDataSource, T: TextSource>(
         &mut self,
         alloc: Global,
@@ -244,10 +249,11 @@ pub(crate) fn analyse_by<D: BidiDataSource, T: TextSource>(
     })
 }
 
-/// Finds the paragraphs of a text (P1) with their levels (P2, P3), the class of each character, with
-/// each FSI resolved (X5c), and its level (X1 to I2). A base level that is given is the level of
-/// every paragraph. It must be at most 125. With `split` false the whole text is one paragraph, even
-/// an empty one.
+/// Finds the paragraphs of a text, and the class and the level of each character (P1 to I2).
+///
+/// `base` is the level of every paragraph, at most 125. If it is `None`, each paragraph gets its level from its
+/// characters (P2, P3). Each FSI is resolved (X5c). With `split` false the whole text is one paragraph, even an
+/// empty text.
 pub fn analyse<D: BidiDataSource, T: TextSource>(
     alloc: Global,
     data_source: &D,
@@ -286,8 +292,9 @@ pub fn analyse<D: BidiDataSource, T: TextSource>(
     analyse_by(alloc, data_source, text, base, split)
 }
 
-/// As [`analyse`], of a text whose paragraphs end where a rule says. Without a rule the whole text is one
-/// paragraph, even an empty one.
+/// Analyses a text as [`analyse`] does. `rule` says where its paragraphs end.
+///
+/// Without a rule the whole text is one paragraph, even an empty text.
 pub fn analyse_with_rule<D: BidiDataSource, T: TextSource>(
     alloc: Global,
     data_source: &D,
@@ -306,10 +313,10 @@ pub fn analyse_with_rule<D: BidiDataSource, T: TextSource>(
     analyse_by(alloc, data_source, text, base, rule)
 }
 
-/// The levels of a text's units, those of the line as L1 leaves them and all others as they are in
-/// the analysis. The line goes from one unit up to another, both of which have to begin a character
-/// or be the text's length (see `is_line`), and `level` is its paragraph's. The lists of the
-/// analysis have to be of this text: see `is_per_char`.
+/// Returns the level of each code unit of a text: after L1 in the line, and as analysed outside it.
+///
+/// The line is a range of code units that cuts no character (see `is_line`). `level` is the level of its
+/// paragraph. The analysis must be of this text (see `is_per_char`).
 pub fn line_levels<T: TextSource>(
     alloc: Global,
     text: T,

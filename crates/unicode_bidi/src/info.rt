@@ -25,12 +25,10 @@ use smallvec::SmallVec;
 use std::alloc::{AllocError, Global};
 use std::ops::Range;
 
-/// What the algorithm finds out about a text: its paragraphs, and the class and the level of each
-/// character.
+/// What the algorithm finds out about a text: its paragraphs, and the class and the level of each character.
 ///
-/// A line is a range of units of the text, each end of which begins a character or is the text's length
-/// (see `is_line`). Its levels after L1 take that of the paragraph that is handed in with it,
-/// whichever that is.
+/// A line is a range of code units of the text that cuts no character (see `is_line`). Its levels after L1
+/// depend on the level of the paragraph that is passed with it.
 #[derive(PartialEq, Debug, Drop)]
 pub struct BidiInfo<T: TextSource> {
     pub(crate) analysed: Analysed<T>,
@@ -77,8 +75,9 @@ impl<T: TextSource> BidiInfo<T> {
         })
     }
 
-    /// The class of each unit's character. An FSI whose isolate has a deciding character stands
-    /// here as RLI or LRI.
+    /// Returns the class of each code unit's character.
+    ///
+    /// An FSI whose isolate has a deciding character is RLI or LRI here (X5c).
     pub fn original_classes(&self) -> &[BidiClass]
         ensures classes { result.now ≡ original_classes self.now }
         ensures per_char { let a = analysed_of self.now in
@@ -87,8 +86,10 @@ impl<T: TextSource> BidiInfo<T> {
         self.analysed.original_classes()
     }
 
-    /// The level of each unit's character, before L1. A character that X9 removes has the level of
-    /// the character before it, the paragraph's first one the paragraph level.
+    /// Returns the level of each code unit's character, before L1.
+    ///
+    /// A character that X9 removes has the level of the character before it. At the start of a paragraph it has
+    /// the paragraph level.
     pub fn levels(&self) -> &[Level]
         ensures levels { result.now ≡ levels_of_info self.now }
         ensures per_char { let a = analysed_of self.now in
@@ -97,7 +98,7 @@ impl<T: TextSource> BidiInfo<T> {
         self.analysed.levels()
     }
 
-    /// The paragraphs, in order. Together they take the whole text.
+    /// Returns the paragraphs in order. Together they are the whole text.
     pub fn paragraphs(&self) -> &[ParagraphInfo]
         ensures paragraphs { result.now ≡ paragraphs self.now }
         ensures lines { All (λ p. IsLineOf (analysed_of self.now) (range_of p)) result.now }
@@ -105,15 +106,14 @@ impl<T: TextSource> BidiInfo<T> {
         self.paragraphs.as_slice()
     }
 
-    /// Whether some level is odd, and so from right to left.
+    /// Returns whether some level is odd, and so right-to-left.
     pub fn has_rtl(&self) -> bool
         ensures { result ≡ has_rtl_of (levels_of_info self.now) }
     {
         self.analysed.has_rtl()
     }
 
-    /// The level of each unit of the whole text, where those of the line are as L1 leaves them and
-    /// all others are the stored ones.
+    /// Returns the level of each code unit of the whole text: after L1 in the line, and before L1 outside it.
     pub fn reordered_levels(
         &self,
         alloc: Global,
@@ -126,7 +126,7 @@ impl<T: TextSource> BidiInfo<T> {
         self.analysed.reordered_levels(alloc, para.level(), line)
     }
 
-    /// As `reordered_levels`, with one level for each character of the whole text.
+    /// Returns what `reordered_levels` returns, one level for each character of the whole text.
     pub fn reordered_levels_per_char(
         &self,
         alloc: Global,
@@ -140,8 +140,9 @@ impl<T: TextSource> BidiInfo<T> {
             .reordered_levels_per_char(alloc, para.level(), line)
     }
 
-    /// The levels of `reordered_levels`, and the level runs (BD7) of the line by them, in units of
-    /// the text, from left to right by L2. The line must not be empty.
+    /// Returns the levels of `reordered_levels`, and the level runs (BD7) of the line from left to right (L2).
+    ///
+    /// Runs are ranges of code units of the text. The line must not be empty.
     pub fn visual_runs(
         &self,
         alloc: Global,
@@ -156,8 +157,9 @@ impl<T: TextSource> BidiInfo<T> {
         self.analysed.visual_runs(alloc, para.level(), line)
     }
 
-    /// The level of each unit of the line after L1, that of the unit `line.start` first. It costs
-    /// the line alone, where `reordered_levels` costs the text.
+    /// Returns the level of each code unit of the line after L1, that of `line.start` first.
+    ///
+    /// Takes time linear in the line. `reordered_levels` takes time linear in the text.
     pub fn line_levels(
         &self,
         alloc: Global,
@@ -170,9 +172,10 @@ impl<T: TextSource> BidiInfo<T> {
         self.analysed.line_levels(alloc, para.level(), line)
     }
 
-    /// The runs of `visual_runs` alone: the level runs (BD7) of the line after L1, in units of the
-    /// text, from left to right by L2. An empty line has none. It costs the line alone, where
-    /// `visual_runs` costs the text. `line_levels` has the level of each.
+    /// Returns the level runs (BD7) of the line after L1, from left to right (L2).
+    ///
+    /// Runs are ranges of code units of the text. An empty line has none. `line_levels` has the level of each.
+    /// Takes time linear in the line. `visual_runs` takes time linear in the text.
     pub fn line_runs(
         &self,
         alloc: Global,
@@ -206,9 +209,10 @@ impl<T: TextSource> BidiInfo<T> {
         shown.show(&self.analysed, para.level(), line)
     }
 
-    /// The visual order of a line's items by L2: at each place from the left, the index in `levels`
-    /// of the item that stands there. The levels are those after L1, one an item, whatever the
-    /// items are.
+    /// Returns the visual order of a line's items (L2): for each place from the left, the index of the item
+    /// there.
+    ///
+    /// `levels` has the level of each item after L1. An item may be a code unit, a character or a run.
     pub fn reorder_visual(alloc: Global, levels: &[Level]) -> Result<Vec<usize>, AllocError>
         ensures order { IfOk result (λ v. v.items ≡ visual_order levels.now) }
         ensures visual { IfOk result (λ v. IsVisualOrder levels.now v.items) }

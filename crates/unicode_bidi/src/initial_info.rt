@@ -15,8 +15,7 @@ use bidi_text::text::TextSource;
 use smallvec::SmallVec;
 use std::alloc::{AllocError, Global};
 
-/// The paragraphs of a text and the classes of its characters: what there is before any level is
-/// resolved.
+/// The paragraphs of a text and the classes of its characters, before any level is resolved.
 #[derive(PartialEq, Debug, Drop)]
 pub struct InitialInfo<T: TextSource> {
     pub(crate) text: T,
@@ -68,8 +67,9 @@ impl<T: TextSource> InitialInfo<T> {
         })
     }
 
-    /// The class of each unit's character. An FSI whose isolate has a deciding character stands
-    /// here as RLI or LRI.
+    /// Returns the class of each code unit's character.
+    ///
+    /// An FSI whose isolate has a deciding character is RLI or LRI here (X5c).
     pub fn original_classes(&self) -> &[BidiClass]
         ensures classes { result.now ≡ original_classes self.now }
         ensures per_char { IsTrue (is_per_char ⟦<BidiClass as PartialEq>⟧.eq (len_of self.now) (chars_of self.now) result.now) }
@@ -77,7 +77,7 @@ impl<T: TextSource> InitialInfo<T> {
         self.original_classes.as_slice()
     }
 
-    /// The paragraphs, in order. Together they take the whole text.
+    /// Returns the paragraphs in order. Together they are the whole text.
     pub fn paragraphs(&self) -> &[ParagraphInfo]
         ensures { result.now ≡ paragraphs self.now }
     {

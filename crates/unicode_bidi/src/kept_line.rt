@@ -16,10 +16,11 @@ use bidi_text_lines::analysed::Analysed;
 use std::alloc::{AllocError, Global};
 use std::borrow::{CowSlice, CowStr};
 
-/// The text of a line of UTF-8 from left to right (L2). `text` is the line, `classes` and `levels` are
-/// those stored for its bytes, one a byte and equal within each character (see `is_per_char`), and
-/// `level` is that of its paragraph. The answer is borrowed exactly where no level of the line is odd
-/// after L1.
+/// Returns the text of a line of UTF-8 from left to right (L2).
+///
+/// `text` is the line. `classes` and `levels` have the stored class and level of each byte, equal within each
+/// character (see `is_per_char`). `level` is the level of its paragraph. The result is borrowed exactly if no
+/// level of the line is odd after L1.
 pub fn reorder_utf8<'t>(
     alloc: Global,
     text: &'t str,
@@ -40,8 +41,10 @@ pub fn reorder_utf8<'t>(
     analysed.reorder_line(alloc, level, 0..text.len())
 }
 
-/// As [`reorder_utf8`], of a line of UTF-16, one class and one level a code unit. A surrogate in no pair
-/// stays as it is at an even level, and is 0xFFFD at an odd one.
+/// Returns the text of a line of UTF-16 from left to right, as [`reorder_utf8`] does of UTF-8.
+///
+/// There is one class and one level for each code unit. A surrogate in no pair is unchanged at an even level,
+/// and 0xFFFD at an odd level.
 pub fn reorder_utf16<'t>(
     alloc: Global,
     text: &'t [u16],

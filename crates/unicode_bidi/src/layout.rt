@@ -24,12 +24,12 @@ use bidi_text::text::{StrText, TextSource};
 use std::alloc::{AllocError, Global};
 use std::ops::Range;
 
-/// How wide each character is shown.
+/// The width of each character on the display.
 pub trait CharWidth {
     /// The widths, as a function.
     ghost width_of: { Self → ℕ → ℕ };
 
-    /// The width of a character. A value answers a character always alike.
+    /// Returns the width of a character, each time the same.
     fn width(&self, c: char) -> usize
         ensures { result ≡ width_of self.now c };
 }
@@ -75,11 +75,11 @@ fn lines_of<T: TextSource, W: CharWidth>(
     Ok(lines)
 }
 
-/// The lines of a paragraph, as ranges of bytes of the text: each takes as many characters as have
-/// widths that add up to at most `limit`, and one where the first is wider than that. A character of
-/// width 0 stays in the line before it, unless a character that is too wide stands there alone. No
-/// sum wraps. Both ends of the paragraph's range must begin a character or be the text's length (see
-/// `is_line`). Each line is one to hand to `reorder_line`, with no test.
+/// Returns the lines of a paragraph, as ranges of bytes of the text.
+///
+/// Each line takes as many characters as fit in `limit` columns, and at least one. A character of width 0 stays
+/// in the line before it, unless that line is one character that is too wide. The paragraph's range must cut no
+/// character (see `is_line`). Each line can be passed to `reorder_line` without a test.
 pub fn lines<W: CharWidth>(
     alloc: Global,
     info: &BidiInfo<'_>,
@@ -148,8 +148,9 @@ fn entry_at(list: &[usize], len: usize, index: usize) -> Option<usize>
     }
 }
 
-/// Where each character of a line stands on the screen, and which one stands at each place there, by
-/// L2. Characters and visual places are counted from 0, those from the left.
+/// Where each character of a line is displayed, and which character is displayed at each place (L2).
+///
+/// Characters and visual places are counted from 0, visual places from the left.
 #[derive(PartialEq, Debug, Drop)]
 pub struct LineMap {
     len: usize,
@@ -214,7 +215,7 @@ impl LineMap {
         LineMap::of_levels(alloc, levels.as_slice())
     }
 
-    /// The number of characters, which is that of visual places.
+    /// Returns the number of characters, which is the number of visual places.
     pub fn len(&self) -> usize
         ensures order { result ≡ length (order_of self.now) }
         ensures places { result ≡ length (places_of self.now) }
@@ -222,7 +223,7 @@ impl LineMap {
         self.len
     }
 
-    /// The character at a visual place. `None` from `len()` on.
+    /// Returns the character at a visual place, or `None` from `len()` on.
     pub fn visual_to_logical(&self, visual: usize) -> Option<usize>
         ensures found { result ≡ slice_get (order_of self.now) visual }
         ensures back { IfSome result (λ logical. slice_get (places_of self.now) logical ≡ Some visual) }
@@ -230,7 +231,7 @@ impl LineMap {
         entry_at(self.order.as_slice(), self.len, visual)
     }
 
-    /// The visual place of a character. `None` from `len()` on.
+    /// Returns the visual place of a character, or `None` from `len()` on.
     pub fn logical_to_visual(&self, logical: usize) -> Option<usize>
         ensures found { result ≡ slice_get (places_of self.now) logical }
         ensures back { IfSome result (λ visual. slice_get (order_of self.now) visual ≡ Some logical) }

@@ -11,7 +11,7 @@ use bidi_paragraphs::paragraph_info::ParagraphInfo;
 use bidi_text::text::TextSource;
 use bidi_text_lines::level_direction::direction_of;
 
-/// A paragraph together with what was found out about its text.
+/// A paragraph, and what was found out about its text.
 #[derive(Debug, Drop)]
 pub struct Paragraph<'a, T: TextSource> {
     info: &'a BidiInfo<T>,
@@ -21,7 +21,7 @@ pub struct Paragraph<'a, T: TextSource> {
 impl<'a, T: TextSource> Paragraph<'a, T> {
     ghost use Rattle.unicode_bidi.specs.Paragraph.{info_of, para_of};
 
-    /// A paragraph of this text, or any range of it with a level.
+    /// Returns a paragraph of this text, or any range of it with a level.
     pub fn new(info: &'a BidiInfo<T>, para: &'a ParagraphInfo) -> Paragraph<'a, T>
         ensures info { info_of result ≡ info.now }
         ensures para { para_of result ≡ para.now }
@@ -36,15 +36,17 @@ impl<'a, T: TextSource> Paragraph<'a, T> {
         self.info
     }
 
-    /// The paragraph's range and level.
+    /// Returns the range and the level of the paragraph.
     pub fn para(&self) -> &'a ParagraphInfo
         ensures { result.now ≡ para_of self.now }
     {
         self.para
     }
 
-    /// The direction of the paragraph's levels: left to right if there are some and all are even,
-    /// right to left if none is even, else mixed. Its range must lie in the text.
+    /// Returns the direction of the paragraph's levels.
+    ///
+    /// It is left-to-right if there are levels and all are even, right-to-left if none is even, and mixed
+    /// otherwise. The range must be inside the text.
     pub fn direction(&self) -> Direction
         requires { (range_of (para_of self.now)).end ≤ length (levels_of_info (info_of self.now)) }
         ensures { let range = range_of (para_of self.now) in
@@ -54,8 +56,9 @@ impl<'a, T: TextSource> Paragraph<'a, T> {
         direction_of(&info.levels()[para.range()])
     }
 
-    /// The level of the character at a unit, counted from the paragraph's start. The unit must lie
-    /// in the text.
+    /// Returns the level of the character at a code unit, counted from the paragraph's start.
+    ///
+    /// The code unit must be inside the text.
     pub fn level_at(&self, pos: usize) -> Level
         requires { (range_of (para_of self.now)).start + pos < length (levels_of_info (info_of self.now)) }
         ensures { result ≡ slice_index (levels_of_info (info_of self.now)) ((range_of (para_of self.now)).start + pos) }

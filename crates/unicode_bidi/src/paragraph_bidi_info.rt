@@ -20,11 +20,9 @@ use bidi_text_lines::shown_line::ShownLine;
 use std::alloc::{AllocError, Global};
 use std::ops::Range;
 
-/// What the algorithm finds out about a text that is taken as one paragraph, whatever separators
-/// stand in it.
+/// What the algorithm finds out about a text that is one paragraph, whatever separators it has.
 ///
-/// A line is a range of units of the text, each end of which begins a character or is the text's length
-/// (see `is_line`).
+/// A line is a range of code units of the text that cuts no character (see `is_line`).
 #[derive(PartialEq, Debug, Drop)]
 pub struct ParagraphBidiInfo<T: TextSource> {
     pub(crate) paragraph: Analysed<T>,
@@ -63,8 +61,9 @@ impl<T: TextSource> ParagraphBidiInfo<T> {
         })
     }
 
-    /// The class of each unit's character. An FSI whose isolate has a deciding character stands
-    /// here as RLI or LRI.
+    /// Returns the class of each code unit's character.
+    ///
+    /// An FSI whose isolate has a deciding character is RLI or LRI here (X5c).
     pub fn original_classes(&self) -> &[BidiClass]
         ensures classes { result.now ≡ original_classes self.now }
         ensures per_char { let a = analysed_of self.now in
@@ -73,8 +72,10 @@ impl<T: TextSource> ParagraphBidiInfo<T> {
         self.paragraph.original_classes()
     }
 
-    /// The level of each unit's character, before L1. A character that X9 removes has the level of
-    /// the character before it, the text's first one the paragraph level.
+    /// Returns the level of each code unit's character, before L1.
+    ///
+    /// A character that X9 removes has the level of the character before it. At the start of the text it has
+    /// the paragraph level.
     pub fn levels(&self) -> &[Level]
         ensures levels { result.now ≡ levels_of_info self.now }
         ensures per_char { let a = analysed_of self.now in
@@ -83,38 +84,40 @@ impl<T: TextSource> ParagraphBidiInfo<T> {
         self.paragraph.levels()
     }
 
-    /// The paragraph level (BD4).
+    /// Returns the paragraph level (BD4).
     pub fn paragraph_level(&self) -> Level
         ensures { result ≡ paragraph_level self.now }
     {
         self.paragraph_level
     }
 
-    /// Whether no character can turn anything: whether none has the class R, AL, AN, LRE, RLE, LRO,
-    /// RLO, LRI, RLI or FSI. A base level does not count.
+    /// Returns whether no character has the class R, AL, AN, LRE, RLE, LRO, RLO, LRI, RLI or FSI.
+    ///
+    /// The base level does not matter.
     pub fn is_pure_ltr(&self) -> bool
         ensures { result ≡ is_pure_ltr self.now }
     {
         self.is_pure_ltr
     }
 
-    /// Whether some level is odd, and so from right to left.
+    /// Returns whether some level is odd, and so right-to-left.
     pub fn has_rtl(&self) -> bool
         ensures { result ≡ has_rtl_of (levels_of_info self.now) }
     {
         self.paragraph.has_rtl()
     }
 
-    /// The direction of the levels: left to right if there are some and all are even, right to left
-    /// if none is even, else mixed.
+    /// Returns the direction of the levels.
+    ///
+    /// It is left-to-right if there are levels and all are even, right-to-left if none is even, and mixed
+    /// otherwise.
     pub fn direction(&self) -> Direction
         ensures { result ≡ direction_of_levels (levels_of_info self.now) }
     {
         self.paragraph.direction()
     }
 
-    /// The level of each unit of the whole text, where those of the line are as L1 leaves them and
-    /// all others are the stored ones.
+    /// Returns the level of each code unit of the whole text: after L1 in the line, and before L1 outside it.
     pub fn reordered_levels(
         &self,
         alloc: Global,
@@ -127,7 +130,7 @@ impl<T: TextSource> ParagraphBidiInfo<T> {
             .reordered_levels(alloc, self.paragraph_level, line)
     }
 
-    /// As `reordered_levels`, with one level for each character of the whole text.
+    /// Returns what `reordered_levels` returns, one level for each character of the whole text.
     pub fn reordered_levels_per_char(
         &self,
         alloc: Global,
@@ -140,8 +143,9 @@ impl<T: TextSource> ParagraphBidiInfo<T> {
             .reordered_levels_per_char(alloc, self.paragraph_level, line)
     }
 
-    /// The levels of `reordered_levels`, and the level runs (BD7) of the line by them, in units of
-    /// the text, from left to right by L2. The line must not be empty.
+    /// Returns the levels of `reordered_levels`, and the level runs (BD7) of the line from left to right (L2).
+    ///
+    /// Runs are ranges of code units of the text. The line must not be empty.
     pub fn visual_runs(
         &self,
         alloc: Global,
@@ -157,8 +161,9 @@ impl<T: TextSource> ParagraphBidiInfo<T> {
             .visual_runs(alloc, self.paragraph_level, line)
     }
 
-    /// The level of each unit of the line after L1, that of the unit `line.start` first. It costs
-    /// the line alone, where `reordered_levels` costs the text.
+    /// Returns the level of each code unit of the line after L1, that of `line.start` first.
+    ///
+    /// Takes time linear in the line. `reordered_levels` takes time linear in the text.
     pub fn line_levels(&self, alloc: Global, line: Range<usize>) -> Result<Vec<Level>, AllocError>
         requires { IsLineOf (analysed_of self.now) line }
         ensures { IfOk result (λ v. AreLevelsOfLine (analysed_of self.now) (paragraph_level self.now) line v.items) }
@@ -167,9 +172,10 @@ impl<T: TextSource> ParagraphBidiInfo<T> {
             .line_levels(alloc, self.paragraph_level, line)
     }
 
-    /// The runs of `visual_runs` alone: the level runs (BD7) of the line after L1, in units of the
-    /// text, from left to right by L2. An empty line has none. It costs the line alone, where
-    /// `visual_runs` costs the text. `line_levels` has the level of each.
+    /// Returns the level runs (BD7) of the line after L1, from left to right (L2).
+    ///
+    /// Runs are ranges of code units of the text. An empty line has none. `line_levels` has the level of each.
+    /// Takes time linear in the line. `visual_runs` takes time linear in the text.
     pub fn line_runs(
         &self,
         alloc: Global,
@@ -197,9 +203,10 @@ impl<T: TextSource> ParagraphBidiInfo<T> {
         shown.show(&self.paragraph, self.paragraph_level, line)
     }
 
-    /// The visual order of a line's items by L2: at each place from the left, the index in `levels`
-    /// of the item that stands there. The levels are those after L1, one an item, whatever the
-    /// items are.
+    /// Returns the visual order of a line's items (L2): for each place from the left, the index of the item
+    /// there.
+    ///
+    /// `levels` has the level of each item after L1. An item may be a code unit, a character or a run.
     pub fn reorder_visual(alloc: Global, levels: &[Level]) -> Result<Vec<usize>, AllocError>
         ensures order { IfOk result (λ v. v.items ≡ visual_order levels.now) }
         ensures visual { IfOk result (λ v. IsVisualOrder levels.now v.items) }

@@ -22,34 +22,36 @@ use std::alloc::{AllocError, Global};
 use std::borrow::CowStr;
 use std::ops::Range;
 
-/// What the algorithm finds out about a text: its paragraphs, and the class and the level of each
-/// character. Units are bytes. A line is a range of them that cuts no character (see `is_line`), and
-/// takes its level after L1 from the paragraph that is handed in with it.
+/// What the algorithm finds out about a text: its paragraphs, and the class and the level of each character.
+///
+/// A line is a range of bytes that cuts no character (see `is_line`). Its levels after L1 depend on the level
+/// of the paragraph that is passed with it.
 pub type BidiInfo<'t> = info::BidiInfo<StrText<'t>>;
 
-/// What the algorithm finds out about a text that is taken as one paragraph, whatever separators stand in
-/// it. Units are bytes, and a line is a range of them that cuts no character (see `is_line`).
+/// What the algorithm finds out about a text that is one paragraph, whatever separators it has.
+///
+/// A line is a range of bytes that cuts no character (see `is_line`).
 pub type ParagraphBidiInfo<'t> = paragraph_bidi_info::ParagraphBidiInfo<StrText<'t>>;
 
 /// The paragraphs of a text and the classes of its characters.
 pub type InitialInfo<'t> = initial_info::InitialInfo<StrText<'t>>;
 
-/// A paragraph together with what was found out about its text.
+/// A paragraph, and what was found out about its text.
 pub type Paragraph<'a, 't> = paragraph::Paragraph<'a, StrText<'t>>;
 
-/// A line of a text as it is shown: its levels after L1, its visual runs (L2), the order of its characters,
-/// and its text from left to right. Units are bytes.
+/// A line as it is shown: its levels after L1, its visual runs (L2), the order of its characters, and its text.
 ///
-/// A value shows one line after another (see `show_line` of the info types), and keeps its memory for the
-/// next line.
+/// Shows one line after another (see `show_line` of the info types), and reuses its memory. Runs are ranges of
+/// bytes.
 pub type ShownLine<'t> = shown_line::ShownLine<StrText<'t>>;
 
 impl<'t> info::BidiInfo<StrText<'t>> {
     ghost use Rattle.unicode_bidi.specs.BidiInfo.{text as text_of, analysed as analysed_of, paragraphs};
 
-    /// Finds the paragraphs of a text (P1) with their levels (P2, P3), the class of each character,
-    /// with each FSI resolved (X5c), and its level (X1 to I2). A base level that is given is the
-    /// level of every paragraph. It must be at most 125.
+    /// Finds the paragraphs of a text, and the class and the level of each character (P1 to I2).
+    ///
+    /// A base level, at most 125, is the level of every paragraph. Without one, each paragraph gets its level
+    /// from its characters (P2, P3). Each FSI is resolved (X5c).
     pub fn new_with_data_source<D: BidiDataSource>(
         alloc: Global,
         data_source: &D,
@@ -90,9 +92,10 @@ impl<'t> info::BidiInfo<StrText<'t>> {
         BidiInfo::new_with_rule(alloc, data_source, text, default_para_level, rule)
     }
 
-    /// The same as `new_with_data_source`, but where paragraphs end is for a rule to say. With
-    /// `CrLfTogether` a U+000D of class B directly before a U+000A of class B stays with it: the
-    /// U+000D has the paragraph level, and closes nothing.
+    /// Analyses a text as `new_with_data_source` does. A rule says where its paragraphs end.
+    ///
+    /// With `CrLfTogether` a U+000D of class B directly before a U+000A of class B stays with it: the U+000D
+    /// has the paragraph level, and closes nothing.
     pub fn new_with_rule<D: BidiDataSource>(
         alloc: Global,
         data_source: &D,
@@ -135,16 +138,18 @@ impl<'t> info::BidiInfo<StrText<'t>> {
         info::BidiInfo::of_text(alloc, data_source, text, default_para_level, rule)
     }
 
-    /// The text.
+    /// Returns the text.
     pub fn text(&self) -> &'t str
         ensures { result.now ≡ text_of self.now }
     {
         self.analysed.text().as_str()
     }
 
-    /// The text of the line from left to right: its characters in the order of L2, by their levels
-    /// after L1. Neither combining marks (L3) nor mirrored characters (L4) are seen to. The text is
-    /// borrowed, and takes no memory, exactly where no level of the line is odd after L1.
+    /// Returns the text of the line from left to right: its characters in the order of L2, by their levels
+    /// after L1.
+    ///
+    /// Combining marks (L3) are not moved, and characters are not mirrored (L4). The text is borrowed, and
+    /// nothing is allocated for it, exactly if no level of the line is odd after L1.
     pub fn reorder_line(
         &self,
         alloc: Global,
@@ -163,9 +168,11 @@ impl<'t> info::BidiInfo<StrText<'t>> {
 impl<'t> paragraph_bidi_info::ParagraphBidiInfo<StrText<'t>> {
     ghost use Rattle.unicode_bidi.specs.ParagraphBidiInfo.{text as text_of, analysed as analysed_of, levels as levels_of_info, paragraph_level, is_pure_ltr};
 
-    /// Finds the level of a text that is one paragraph (P2, P3), the class of each character, with
-    /// each FSI resolved (X5c), and its level (X1 to I2). A base level that is given is the level
-    /// of the paragraph. It must be at most 125.
+    /// Finds the level of a text that is one paragraph, and the class and the level of each character (P2 to
+    /// I2).
+    ///
+    /// A base level, at most 125, is the level of the paragraph. Without one, the characters decide (P2, P3).
+    /// Each FSI is resolved (X5c).
     pub fn new_with_data_source<D: BidiDataSource>(
         alloc: Global,
         data_source: &D,
@@ -197,16 +204,18 @@ impl<'t> paragraph_bidi_info::ParagraphBidiInfo<StrText<'t>> {
         )
     }
 
-    /// The text.
+    /// Returns the text.
     pub fn text(&self) -> &'t str
         ensures { result.now ≡ text_of self.now }
     {
         self.paragraph.text().as_str()
     }
 
-    /// The text of the line from left to right: its characters in the order of L2, by their levels
-    /// after L1. Neither combining marks (L3) nor mirrored characters (L4) are seen to. The text is
-    /// borrowed, and takes no memory, exactly where no level of the line is odd after L1.
+    /// Returns the text of the line from left to right: its characters in the order of L2, by their levels
+    /// after L1.
+    ///
+    /// Combining marks (L3) are not moved, and characters are not mirrored (L4). The text is borrowed, and
+    /// nothing is allocated for it, exactly if no level of the line is odd after L1.
     pub fn reorder_line(&self, alloc: Global, line: Range<usize>) -> Result<CowStr<'t>, AllocError>
         requires { IsLineOf (analysed_of self.now) line }
         ensures text { IfOk result (λ c. IsTextOfLine encode_utf8 (text_of self.now) (analysed_of self.now)
@@ -222,9 +231,9 @@ impl<'t> paragraph_bidi_info::ParagraphBidiInfo<StrText<'t>> {
 impl<'t> initial_info::InitialInfo<StrText<'t>> {
     ghost use Rattle.unicode_bidi.specs.InitialInfo.{text as text_of, len_of, chars_of, original_classes, paragraphs};
 
-    /// Finds the paragraphs of a text (P1) with their levels (P2, P3), and the class of each
-    /// character, with each FSI resolved (X5c). A base level that is given, which may be any, is
-    /// the level of every paragraph.
+    /// Finds the paragraphs of a text with their levels (P1 to P3), and the class of each character.
+    ///
+    /// A base level, which may be any, is the level of every paragraph. Each FSI is resolved (X5c).
     pub fn new_with_data_source<D: BidiDataSource>(
         alloc: Global,
         data_source: &D,
@@ -253,7 +262,7 @@ impl<'t> initial_info::InitialInfo<StrText<'t>> {
         )
     }
 
-    /// The text.
+    /// Returns the text.
     pub fn text(&self) -> &'t str
         ensures { result.now ≡ text_of self.now }
     {
