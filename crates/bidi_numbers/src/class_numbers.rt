@@ -59,8 +59,9 @@ fn numbers_before_stop(numbers: &[u8], at: usize) -> usize
     }
 }
 
-// The index of the first number from `from` on of a separator or of a class that X9 removes, or else how many
-// numbers there are. The last block may overlap the one before it: lines are short, and reading the rest one by one would cost more than the blocks.
+// Returns the index of the first number from `from` on of a separator or of a class that X9 removes, or else the
+// number of numbers. The last block may overlap the one before it: lines are short, and reading the rest one by
+// one would cost more than the blocks.
 fn first_stop(numbers: &[u8], from: usize) -> usize
     requires { from ≤ length numbers.now }
     ensures { IsFirst is_stop (map class_numbered numbers.now) from (length numbers.now) result }
