@@ -290,7 +290,7 @@ int64_t unicode_bidi_reorder_line_utf32(const uint32_t *text, size_t text_len,
  * and unicode_bidi_reorder_line_* write. Each buffer is optional: pass a length of 0 for a part that is not needed.
  * After a fault nothing is written, *characters included.
  * Faults   further: UNEQUAL_LENGTHS of the text, CUT_CHARACTER (utf8, utf16), NOT_UTF8, NOT_SCALAR (by the
- *          encoding), UNEVEN_CHARACTER (utf8, utf16), NO_ROOM of any buffer whose length is not 0
+ *          encoding), UNEVEN_CHARACTER (utf8, utf16), NO_ROOM of any buffer with a length that is not 0
  * Room     end - start entries are enough in each buffer
  * Cost     the line, once. For a line of up to 256 units and 16 visual runs, the call does not allocate.
  * Proved   the levels (line_levels), the runs (visual_runs), the order (visual_order) and the text (line_text; in

@@ -1,8 +1,8 @@
 // Links the two static libraries: libbidi_c.a, and the kit's liblibc_c.a.
 //
 // UNICODE_BIDI_LIB and RATTLE_C_LIB name their folders; ../build sets both. A variable that is not set has a default:
-// the folder in which `rt lib` leaves the library in this repository, and the folder of the kit whose `rt` is installed.
-// So a copy of this package outside the repository must set UNICODE_BIDI_LIB.
+// the folder in which `rt lib` leaves the library in this repository, and the folder of the installed kit. So a
+// copy of this package outside the repository must set UNICODE_BIDI_LIB.
 use std::env;
 use std::path::{Path, PathBuf};
 use std::process::{exit, Command};
