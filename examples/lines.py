@@ -1,8 +1,10 @@
-"""Prints the paragraphs of a text in lines of at most so many characters, each line as a terminal that
-knows no Hebrew has to be given it: lines.py [LIBRARY]
+"""Prints the paragraphs of a text in lines of at most eight characters. Each line is in visual order, for a terminal
+that does not know the algorithm.
 
-LIBRARY is the static library as a shared object, as `build` makes one. Where none is named, one is made here: that
-needs cc, the kit's command rt, and the static library, which `build`, or `rt lib` in crates/bidi_c, makes."""
+usage: lines.py [LIBRARY]
+
+LIBRARY is a shared object made of the static library, as `build` makes it. Without it, this program makes one. That
+needs cc, the kit's command rt, and the static library: `build`, or `rt lib` in crates/bidi_c, makes it."""
 import ctypes
 import pathlib
 import subprocess
@@ -19,7 +21,7 @@ class Paragraph(ctypes.Structure):
 
 
 def loaded(archive):
-    """The static library, loaded as a shared object that is made of it."""
+    """Makes a shared object of the static library, and loads it."""
     if not archive.exists():
         sys.exit(f"lines.py: there is no {archive}: `(cd crates/bidi_c && rt lib)` makes it")
     page = subprocess.run(["rt", "doc"], check=True, capture_output=True, text=True).stdout.strip()
@@ -45,23 +47,23 @@ reorder_line.restype = ctypes.c_int64
 reorder_line.argtypes = [Chars, Size, Bytes, Size, Bytes, Size, ctypes.POINTER(Paragraph), Size, Size, Chars, Size]
 
 
-def right(answer):
-    if answer < 0:
-        sys.exit(f"unicode_bidi: fault {answer}")
-    return answer
+def checked(result):
+    if result < 0:
+        sys.exit(f"unicode_bidi: fault {result}")
+    return result
 
 
-# A Python string is a list of characters, so its indexes are units of utf32.
+# A Python string is a list of characters, so its indexes are indexes of the utf32 calls.
 n = len(TEXT)
 text = (ctypes.c_uint32 * n)(*map(ord, TEXT))
 classes, levels = (ctypes.c_uint8 * n)(), (ctypes.c_uint8 * n)()
 paragraphs, shown = (Paragraph * n)(), (ctypes.c_uint32 * n)()
 
-count = right(analyse(text, n, AUTO, EACH_SEPARATOR, classes, n, levels, n, paragraphs, n))
+count = checked(analyse(text, n, AUTO, EACH_SEPARATOR, classes, n, levels, n, paragraphs, n))
 for paragraph in paragraphs[:count]:
     last = paragraph.end
-    while last > paragraph.start and classes[last - 1] == CLASS_B:  # without its separator
+    while last > paragraph.start and classes[last - 1] == CLASS_B:  # the end without the separator
         last -= 1
     for start in range(paragraph.start, last, MOST):
-        length = right(reorder_line(text, n, classes, n, levels, n, paragraph, start, min(start + MOST, last), shown, n))
+        length = checked(reorder_line(text, n, classes, n, levels, n, paragraph, start, min(start + MOST, last), shown, n))
         print("".join(map(chr, shown[:length])))

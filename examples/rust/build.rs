@@ -1,46 +1,68 @@
-// Where the two libraries are: ../build sets both variables. Where one is not set, its library is looked for where
-// `rt lib` in crates/bidi_c leaves it, or in the kit, whose command rt then has to be there.
+// Links the two static libraries: libbidi_c.a, and the kit's liblibc_c.a.
+//
+// UNICODE_BIDI_LIB and RATTLE_C_LIB name their folders; ../build sets both. A variable that is not set has a default:
+// the folder in which `rt lib` leaves the library in this repository, and the folder of the installed kit. So a
+// copy of this package outside the repository must set UNICODE_BIDI_LIB.
 use std::env;
 use std::path::{Path, PathBuf};
 use std::process::{exit, Command};
 
-fn folder(variable: &str, other: impl Fn() -> Option<PathBuf>) -> Option<PathBuf> {
-    println!("cargo:rerun-if-env-changed={variable}");
-    env::var_os(variable).map(PathBuf::from).or_else(other)
+struct Library {
+    file: &'static str,
+    variable: &'static str,
+    help: &'static str,
+    default: fn() -> Option<PathBuf>,
 }
+
+const LIBRARIES: [Library; 2] = [
+    Library {
+        file: "libbidi_c.a",
+        variable: "UNICODE_BIDI_LIB",
+        help: "In the repository, `(cd crates/bidi_c && rt lib)` builds it in crates/bidi_c/out",
+        default: built,
+    },
+    Library {
+        file: "liblibc_c.a",
+        variable: "RATTLE_C_LIB",
+        help: "With the kit installed, the folder is $(dirname \"$(rt doc)\")/c",
+        default: kit,
+    },
+];
 
 fn built() -> Option<PathBuf> {
     let own = env::var_os("CARGO_MANIFEST_DIR")?;
     Some(Path::new(&own).join("../../crates/bidi_c/out"))
 }
 
-// The folder `c` beside the page that `rt doc` names.
+// The folder `c` next to the page that `rt doc` names.
 fn kit() -> Option<PathBuf> {
     let page = Command::new("rt").arg("doc").output().ok()?.stdout;
     let page = String::from_utf8(page).ok()?;
     Some(Path::new(page.trim()).parent()?.join("c"))
 }
 
-fn link(folder: Option<PathBuf>, library: &str, variable: &str, made_by: &str) {
-    match folder {
-        Some(folder) if folder.join(library).exists() => {
-            println!("cargo:rustc-link-search=native={}", folder.display());
-        }
-        _ => {
-            eprintln!("there is no {library}: {made_by}, or name its folder by {variable}");
-            exit(1);
+fn main() {
+    for library in LIBRARIES {
+        let Library {
+            file,
+            variable,
+            help,
+            default,
+        } = library;
+        println!("cargo:rerun-if-env-changed={variable}");
+        let set = env::var_os(variable).map(PathBuf::from);
+        let state = match &set {
+            Some(folder) => format!("{variable} is {}, which has no {file}", folder.display()),
+            None => format!("{variable} is not set, and {file} is not in its default folder"),
+        };
+        match set.or_else(default) {
+            Some(folder) if folder.join(file).exists() => {
+                println!("cargo:rustc-link-search=native={}", folder.display());
+            }
+            _ => {
+                eprintln!("{state}.\nSet {variable} to the folder that has {file}. {help}.");
+                exit(1);
+            }
         }
     }
-}
-
-fn main() {
-    let library = folder("UNICODE_BIDI_LIB", built);
-    link(
-        library,
-        "libbidi_c.a",
-        "UNICODE_BIDI_LIB",
-        "make it by (cd crates/bidi_c && rt lib)",
-    );
-    let malloc = folder("RATTLE_C_LIB", kit);
-    link(malloc, "liblibc_c.a", "RATTLE_C_LIB", "install the kit");
 }

@@ -1,4 +1,4 @@
-//! Callers of `unicode_bidi` with contracts of their own: see its CALLING.md.
+//! Callers of `unicode_bidi` with their own contracts: see its CALLING.md.
 ghost use Rattle.std.specs.Prelude.{◌≡◌, IfOk, None, map};
 ghost use Rattle.std.specs.Str.{chars};
 ghost use Rattle.bidi_base.specs.Isolates.{paragraph_level};
@@ -10,7 +10,7 @@ use unicode_bidi::data_source::BidiDataSource;
 use unicode_bidi::level::Level;
 use unicode_bidi::{BidiInfo, ParagraphBidiInfo};
 
-/// Whether a caption begins at the right, by its first strong character.
+/// Returns whether a caption is right-to-left, by its first strong character.
 pub fn begins_right<D: BidiDataSource>(
     alloc: Global,
     source: &D,
@@ -23,7 +23,7 @@ pub fn begins_right<D: BidiDataSource>(
     Ok(info.paragraph_level().is_rtl())
 }
 
-/// In which order the cells of a row are shown from left to right, by their levels.
+/// Returns the order in which the cells of a row are shown from left to right, by their levels.
 pub fn columns(alloc: Global, levels: &[Level]) -> Result<Vec<usize>, AllocError>
     ensures { IfOk result (λ order. IsVisualOrder levels.now order.items) }
 {

@@ -1,8 +1,9 @@
-//! Prints the lines of a text as a terminal that knows no Hebrew has to be given them.
+//! Prints lines of a text by a table of classes and brackets.
 #![tactic(auto)]
 
 mod callers;
 mod real;
+mod runs;
 mod wrapped;
 
 use std::io;
@@ -12,7 +13,7 @@ use unicode_bidi::char_data::BidiClass::{self, B, EN, ON, R, WS};
 use unicode_bidi::data_source::TableBidiData;
 use unicode_bidi::text::{StrText, is_line};
 
-// Ranges of characters with their classes; every other character is L.
+// Ranges of characters with their classes. Every other character has class L.
 const RANGES: [(char, char, BidiClass); 5] = [
     ('\n', '\n', B),
     (' ', ' ', WS),
@@ -24,8 +25,7 @@ const RANGES: [(char, char, BidiClass); 5] = [
 // Each opening bracket with its closing one.
 const BRACKETS: [(char, char, Option<char>); 1] = [('(', ')', None)];
 
-// Prints those of the ranges of bytes that cut no character, each as a line of the paragraph that it
-// begins in.
+// Prints each range that cuts no character, as a line of the paragraph that it begins in.
 fn print_lines(
     rt: &(impl Print + AllocGlobal),
     info: &BidiInfo<'_>,
@@ -53,6 +53,7 @@ fn main(rt: HostRuntime) -> io::Result<()> {
     let info = BidiInfo::new_with_data_source(rt.alloc(), &source, text, None)?;
     print_lines(&rt, &info, &[0..4, 4..21, 22..32])?;
     real::print_shown(&rt, "car (מכונית) 12")?;
+    runs::print_runs(&rt, "car (מכונית) 12")?;
     let text = "car (מכונית) 12 אבג";
     let info = BidiInfo::new_with_data_source(rt.alloc(), &source, text, None)?;
     wrapped::write_wrapped(rt.alloc(), &mut io::writer(&rt), &info, 8)

@@ -1,4 +1,4 @@
-//! Shows a text in lines of at most so many columns of a terminal.
+//! Prints a text in lines of at most eight columns of a terminal.
 
 use std::alloc::Global;
 use std::io::{self, Write};
@@ -6,7 +6,7 @@ use unicode_bidi::BidiInfo;
 use unicode_bidi::layout::{CharWidth, lines};
 use unicode_width::UnicodeWidthChar;
 
-/// The columns that characters take in a terminal. A control takes none.
+/// The number of columns that a character takes in a terminal. A control takes none.
 struct Columns;
 
 impl CharWidth for Columns {
@@ -20,7 +20,7 @@ impl CharWidth for Columns {
     }
 }
 
-/// Writes a text without line feeds in lines of at most `columns` columns, each from left to right.
+/// Writes a text in lines of at most `columns` columns, each from left to right. The text has no line feeds.
 pub fn write_wrapped<W: Write>(
     alloc: Global,
     out: &mut W,

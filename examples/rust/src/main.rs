@@ -1,5 +1,5 @@
-//! Prints the paragraphs of a text in lines of at most so many characters, each line as a terminal that
-//! knows no Hebrew has to be given it.
+//! Prints the paragraphs of a text in lines of at most eight characters. Each line is in visual order, for a
+//! terminal that does not know the algorithm.
 
 mod unicode_bidi;
 
@@ -11,9 +11,10 @@ const MOST: usize = 8;
 
 fn main() -> Result<(), Box<dyn Error>> {
     let analysis = Analysis::new(TEXT)?;
-    for (range, paragraph) in analysis.paragraphs() {
-        let end = range.start + TEXT[range.clone()].trim_end_matches('\n').len();
-        let mut start = range.start;
+    for paragraph in &analysis.paragraphs {
+        let text = TEXT[paragraph.start..paragraph.end].trim_end_matches('\n');
+        let end = paragraph.start + text.len();
+        let mut start = paragraph.start;
         while start < end {
             let line = &TEXT[start..end];
             let len = line

@@ -1,33 +1,42 @@
-//! The calls of `unicode_bidi.h` that this example makes, with slices for pointers and lengths.
-//! A slice's pointer is never null and its buffers never overlap, so nothing is left to the caller.
+//! Safe wrappers of two calls of `unicode_bidi.h`: slices take the place of pointers and lengths.
+//!
+//! The pointer of a slice is never null, and a mutable slice overlaps no other. So callers owe nothing.
 
 use std::error::Error;
 use std::fmt;
 use std::ops::Range;
 
+/// `UNICODE_BIDI_AUTO`: each paragraph finds its own base level (P2, P3).
+const AUTO: u8 = 255;
+
+/// `UNICODE_BIDI_EACH_SEPARATOR`: a paragraph ends after each character of class B (P1).
+const EACH_SEPARATOR: u8 = 1;
+
 /// A paragraph: its bytes, and its level.
 #[repr(C)]
-#[derive(Clone, Copy, Default)]
+#[derive(Clone, Copy, Debug, Default)]
 pub struct Paragraph {
-    start: usize,
-    end: usize,
-    level: u8,
+    pub start: usize,
+    pub end: usize,
+    pub level: u8,
 }
 
-/// A negative answer: see the header.
-#[derive(Debug)]
-pub struct Fault(i64);
+/// A negative result of a call. The header lists the codes.
+#[derive(Clone, Copy, Debug)]
+pub struct Fault {
+    pub code: i64,
+}
 
 impl fmt::Display for Fault {
     fn fmt(&self, f: &mut fmt::Formatter) -> fmt::Result {
-        write!(f, "fault {}", self.0)
+        write!(f, "unicode_bidi: fault {}", self.code)
     }
 }
 
 impl Error for Fault {}
 
 #[link(name = "bidi_c", kind = "static")]
-extern "C" {
+unsafe extern "C" {
     fn unicode_bidi_analyse_utf8(
         text: *const u8,
         text_len: usize,
@@ -56,22 +65,22 @@ extern "C" {
 }
 
 #[link(name = "libc_c", kind = "static")]
-extern "C" {}
+unsafe extern "C" {}
 
-fn count(answer: i64) -> Result<usize, Fault> {
-    usize::try_from(answer).map_err(|_| Fault(answer))
+fn checked(result: i64) -> Result<usize, Fault> {
+    usize::try_from(result).map_err(|_| Fault { code: result })
 }
 
-/// A text with what the algorithm finds out about it.
+/// The classes and levels of a text, one a byte, and its paragraphs.
 pub struct Analysis<'t> {
-    text: &'t str,
-    classes: Vec<u8>,
-    levels: Vec<u8>,
-    paragraphs: Vec<Paragraph>,
+    pub text: &'t str,
+    pub classes: Vec<u8>,
+    pub levels: Vec<u8>,
+    pub paragraphs: Vec<Paragraph>,
 }
 
 impl<'t> Analysis<'t> {
-    /// Each paragraph finds its own level, and ends after each separator.
+    /// Analyses a text by Unicode's data. Each paragraph finds its own level, and ends after a separator.
     pub fn new(text: &'t str) -> Result<Self, Fault> {
         let len = text.len();
         let (mut classes, mut levels) = (vec![0; len], vec![0; len]);
@@ -80,8 +89,8 @@ impl<'t> Analysis<'t> {
             unicode_bidi_analyse_utf8(
                 text.as_ptr(),
                 len,
-                255,
-                1,
+                AUTO,
+                EACH_SEPARATOR,
                 classes.as_mut_ptr(),
                 len,
                 levels.as_mut_ptr(),
@@ -90,7 +99,7 @@ impl<'t> Analysis<'t> {
                 len,
             )
         };
-        paragraphs.truncate(count(found)?);
+        paragraphs.truncate(checked(found)?);
         Ok(Analysis {
             text,
             classes,
@@ -99,11 +108,7 @@ impl<'t> Analysis<'t> {
         })
     }
 
-    pub fn paragraphs(&self) -> impl Iterator<Item = (Range<usize>, &Paragraph)> {
-        self.paragraphs.iter().map(|p| (p.start..p.end, p))
-    }
-
-    /// A line of a paragraph from left to right.
+    /// Returns the text of a line of a paragraph, from left to right.
     pub fn reorder_line(&self, paragraph: &Paragraph, line: Range<usize>) -> Result<String, Fault> {
         let mut out = vec![0; line.len()];
         let written = unsafe {
@@ -121,7 +126,7 @@ impl<'t> Analysis<'t> {
                 out.len(),
             )
         };
-        out.truncate(count(written)?);
-        Ok(String::from_utf8(out).expect("the line's own characters"))
+        out.truncate(checked(written)?);
+        Ok(String::from_utf8(out).expect("the characters of the line"))
     }
 }
