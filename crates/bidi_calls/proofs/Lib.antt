@@ -1,4 +1,4 @@
-pub mod Counted
+pub mod CountLemmas
 pub mod EvenBlocks
 pub mod EvenChars
 pub mod EvenSteps

@@ -3,6 +3,7 @@
 
 pub mod by_tables;
 pub mod checked;
+pub mod counted;
 pub mod even;
 pub mod first_direction;
 pub mod line;

@@ -15,6 +15,7 @@ ghost use Rattle.bidi_lines.specs.ShownLevels.{levels as levels_of};
 ghost use Rattle.bidi_text_lines.specs.Written.{run_units, shown_units};
 
 use crate::checked::write_levels;
+use crate::counted::CountedText;
 use crate::line::KeptLine;
 use crate::run_rows::put_runs;
 use bidi_lines::shown_levels::ShownLevels;
@@ -69,18 +70,6 @@ fn has_room(count: usize, room: usize) -> bool
     room == 0 || count <= room
 }
 
-/// Returns how many characters a text of so many units has.
-pub(crate) fn count_characters<T: TextSource>(text: T, units: usize) -> usize
-    requires { units ≡ text_len T.units (T.characters text) }
-    ensures { result ≡ length (T.characters text) }
-{
-    let mut count = 0;
-    for (at, _) in text.indices_lengths() {
-        count += 1;
-    }
-    count
-}
-
 // Whether each buffer has room for its part of a line of so many units, runs and characters, or is empty.
 fn have_room(
     units: usize,
@@ -132,12 +121,11 @@ fn put_order_of<T: TextSource>(out: &mut [usize], text: T, len: usize, shown: &m
 /// and its text from left to right, each to a buffer that is not empty, and to `characters` how many
 /// characters it has. Returns the number of runs.
 ///
-/// `text` is the line's, has `len` characters, and has one class and one level for each of them. A line of
-/// up to 256 units with up to 16 runs needs no allocation. After a fault nothing is written.
-pub fn show_text<T: LineText>(
+/// `text` is the line's, and has one class and one level for each of its characters. A line of up to 256
+/// units with up to 16 runs needs no allocation. After a fault nothing is written.
+pub fn show_text<T: CountedText>(
     alloc: Global,
     text: T,
-    len: usize,
     line: &KeptLine<'_>,
     levels: &mut [u8],
     runs: &mut [Run],
@@ -148,7 +136,6 @@ pub fn show_text<T: LineText>(
     requires sound { IsSound line.now }
     requires even { is_even T.units (T.characters text) line.now ≡ true }
     requires units { text_len T.units (T.characters text) + line.now.start ≡ line.now.end }
-    requires len { len ≡ length (T.characters text) }
     requires one_a_unit { length (T.units_of text) ≡ text_len T.units (T.characters text) }
     requires encoded { (c : ℕ) → length (T.encode c) ≡ T.units c }
     ensures fault { let shown = line_shown T.units (T.characters text) line.now
@@ -168,6 +155,7 @@ pub fn show_text<T: LineText>(
     found.find(shown.as_slice(), 0)?;
     let units = shown.as_slice().len();
     let count = found.as_slice().len();
+    let len = text.count_characters();
     let fits = have_room(
         units,
         count,

@@ -21,8 +21,8 @@ returns-in_err-check-clause-fault g c =
     let count = length-rows l.start (shown_levels l) c.as_slice-count.result.now runs in
     let text = shown_units len g.T.LineText.encode cs (g.T.LineText.units_of c.args.text) 0 (shown_levels l) in
     let long = length-shown len g.met.T.TextSource.has_units cs l c.requires.sound c.requires.even c.requires.units g.T.LineText.encode (g.T.LineText.units_of c.args.text) c.requires.one_a_unit c.requires.encoded in
-    rw (told-room len cs l text (buffers c.args.levels.now c.args.runs.now c.args.order.now c.args.out.now) (length c.as_slice-units.result.now) (length c.as_slice-count.result.now) c.args.len c.have_room-fits.result
-    (ap length (sym levels)) count (long ∙ ap length (sym levels)) c.requires.len c.have_room-fits.ensures)
+    rw (told-room len cs l text (buffers c.args.levels.now c.args.runs.now c.args.order.now c.args.out.now) (length c.as_slice-units.result.now) (length c.as_slice-count.result.now) c.count_characters-len.result c.have_room-fits.result
+    (ap length (sym levels)) count (long ∙ ap length (sym levels)) c.count_characters-len.ensures c.have_room-fits.ensures)
     (grind arith)
 
 pub put_runs-requires-clause-room : goal.put_runs-requires-clause-room
@@ -49,8 +49,8 @@ returns-clause-fault g c =
     let count = length-rows l.start (shown_levels l) c.as_slice-count.result.now runs in
     let text = shown_units len g.T.LineText.encode cs (g.T.LineText.units_of c.args.text) 0 (shown_levels l) in
     let long = length-shown len g.met.T.TextSource.has_units cs l c.requires.sound c.requires.even c.requires.units g.T.LineText.encode (g.T.LineText.units_of c.args.text) c.requires.one_a_unit c.requires.encoded in
-    rw (told-room len cs l text (buffers c.args.levels.now c.args.runs.now c.args.order.now c.args.out.now) (length c.as_slice-units.result.now) (length c.as_slice-count.result.now) c.args.len c.have_room-fits.result
-    (ap length (sym levels)) count (long ∙ ap length (sym levels)) c.requires.len c.have_room-fits.ensures)
+    rw (told-room len cs l text (buffers c.args.levels.now c.args.runs.now c.args.order.now c.args.out.now) (length c.as_slice-units.result.now) (length c.as_slice-count.result.now) c.count_characters-len.result c.have_room-fits.result
+    (ap length (sym levels)) count (long ∙ ap length (sym levels)) c.count_characters-len.ensures c.have_room-fits.ensures)
     (grind arith)
 
 pub returns-clause-shown : goal.returns-clause-shown
@@ -71,7 +71,7 @@ returns-clause-shown g c =
     }
 
 pub returns-clause-characters : goal.returns-clause-characters
-returns-clause-characters g c = c.requires.len ∙ sym (length-order g.T.TextSource.units (g.T.TextSource.characters c.args.text) c.args.line.now)
+returns-clause-characters g c = c.count_characters-len.ensures ∙ sym (length-order g.T.TextSource.units (g.T.TextSource.characters c.args.text) c.args.line.now)
 
 pub returns-clause-count : goal.returns-clause-count
 returns-clause-count g c =

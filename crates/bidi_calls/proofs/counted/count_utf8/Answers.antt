@@ -1,8 +1,8 @@
 use Rattle.bidi_base.proofs.Common.{◌∙◌, ap, take_all}
 use Rattle.std.specs.List.{count_by}
-use Rattle.bidi_calls.proofs.Counted.{count-utf8}
+use Rattle.bidi_calls.proofs.CountLemmas.{count-utf8}
 use Rattle.bidi_calls.specs.Everything.{begins_character}
-use Rattle.bidi_calls.proofs.utf8.count_characters.Goals as goal
+use Rattle.bidi_calls.proofs.counted.count_utf8.Goals as goal
 
 pub returns : goal.returns
 returns c =
