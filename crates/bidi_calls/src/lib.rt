@@ -2,6 +2,7 @@
 #![tactic(auto)]
 
 pub mod by_tables;
+pub mod char_order;
 pub mod checked;
 pub mod counted;
 pub mod even;

@@ -4,7 +4,7 @@ ghost use Rattle.std.specs.Prelude.{◌≡◌, ℕ, ◌+◌, ◌-◌, ◌<◌, �
 ghost use Rattle.bidi_base.specs.Display.{run_of, visual_runs, AreVisualRuns};
 ghost use Rattle.bidi_base.specs.Levels.{is_odd};
 ghost use Rattle.bidi_base.specs.Order.{visual_order as visual_order_of};
-ghost use Rattle.bidi_base.specs.Text.{text_len, per_char, one_unit, IsLine};
+ghost use Rattle.bidi_base.specs.Text.{text_len, per_char, one_unit, IsLine, IsPerChar};
 ghost use Rattle.bidi_calls.specs.Everything.{buffers, everything_of_chars, line_shown, run_rows, room_fault, IsWritten, IsKept};
 ghost use Rattle.bidi_calls.specs.Kept.{written_if_room};
 ghost use Rattle.bidi_calls.specs.Lines.{IsSound, shown_levels};
@@ -14,6 +14,7 @@ ghost use Rattle.bidi_numbers.specs.Rows.{run_row};
 ghost use Rattle.bidi_lines.specs.ShownLevels.{levels as levels_of};
 ghost use Rattle.bidi_text_lines.specs.Written.{run_units, shown_units};
 
+use crate::char_order::{COUNTED_RUNS, write_char_order};
 use crate::checked::write_levels;
 use crate::counted::CountedText;
 use crate::line::KeptLine;
@@ -102,18 +103,44 @@ fn keep_characters<T: TextSource>(text: T, len: usize, shown: &mut ShownLevels)
     }
 }
 
-// Writes the order of a line's `len` characters to the front of a buffer that is not empty. `shown` has one level for
-// each unit before, and may have one for each character behind.
-fn put_order_of<T: TextSource>(out: &mut [usize], text: T, len: usize, shown: &mut ShownLevels)
-    requires units { length (levels_of shown.old) ≡ text_len T.units (T.characters text) }
+// Writes the order of a line's characters. `shown` has one level for each unit before, and may have one for each
+// character behind. In a line of many runs, the order comes from one level a character.
+fn write_order<T: CountedText>(
+    text: T,
+    runs: &[Range<usize>],
+    shown: &mut ShownLevels,
+    out: &mut [usize],
+)
+    requires even { IsPerChar T.units (T.characters text) (levels_of shown.old) }
+    requires runs { map run_of runs.now ≡ visual_runs 0 (levels_of shown.old) }
+    requires room { length out.old ≡ length (T.characters text) }
+    ensures { out.new ≡ visual_order_of (per_char 0 T.units (T.characters text) (levels_of shown.old)) }
+{
+    if runs.len() <= COUNTED_RUNS {
+        write_char_order(text, shown.as_slice(), runs, out);
+    } else {
+        keep_characters(text, out.len(), shown);
+        write_visual_order(shown.as_slice(), out);
+    }
+}
+
+// Writes the order of a line's `len` characters to the front of a buffer that is not empty, as `write_order` does.
+fn put_order_of<T: CountedText>(
+    out: &mut [usize],
+    text: T,
+    len: usize,
+    runs: &[Range<usize>],
+    shown: &mut ShownLevels,
+)
+    requires even { IsPerChar T.units (T.characters text) (levels_of shown.old) }
+    requires runs { map run_of runs.now ≡ visual_runs 0 (levels_of shown.old) }
     requires len { len ≡ length (T.characters text) }
     requires room { IsTrue (has_room_or_none len (length out.old)) }
     ensures { out.new
         ≡ written_if_room (visual_order_of (per_char 0 T.units (T.characters text) (levels_of shown.old))) out.old }
 {
     if !out.is_empty() {
-        keep_characters(text, len, shown);
-        write_visual_order(shown.as_slice(), &mut out[..len]);
+        write_order(text, runs, shown, &mut out[..len]);
     }
 }
 
@@ -169,7 +196,7 @@ pub fn show_text<T: CountedText>(
     put_levels(levels, shown.as_slice());
     put_runs(runs, shown.as_slice(), line.start, found.as_slice());
     put_text(text, shown.as_slice(), found.as_slice(), out);
-    put_order_of(order, text, len, &mut shown);
+    put_order_of(order, text, len, found.as_slice(), &mut shown);
     *characters = len;
     Ok(count)
 }

@@ -1,7 +1,7 @@
-use Rattle.bidi_base.proofs.Common.{◌≡◌, List, ℕ, map, length, sym, ap, ap₂, ◌∙◌, flat_map, length-map, arith, run_of, visual_runs, visual_order, per_char}
+use Rattle.bidi_base.proofs.Common.{◌≡◌, List, ℕ, map, length, sym, ap, ap₂, ◌∙◌, flat_map, length-map, arith, run_of, visual_runs, visual_order, subst, per_char, IsPerChar}
 use Rattle.bidi_text_lines.proofs.WrittenRuns.{ranges_at_boundaries}
 use Rattle.bidi_text_lines.specs.Written.{run_units, shown_units}
-use Rattle.bidi_calls.proofs.KeptText.{kept-runs, length-shown}
+use Rattle.bidi_calls.proofs.KeptText.{kept-runs, kept-even, length-shown}
 use Rattle.bidi_calls.proofs.ShownLine.{length-order, told-room}
 use Rattle.bidi_calls.proofs.ShownRuns.{length-rows}
 use Rattle.bidi_calls.specs.Everything.{buffers}
@@ -38,6 +38,12 @@ put_text-requires-clause-boundaries g c =
     let l = c.args.line.now in
     let runs = c.as_slice-6.ensures ∙ c.in_ok-find.ensures.runs ∙ ap (visual_runs 0) (c.as_slice.ensures ∙ c.in_ok-shown.ensures.levels) in
     ranges_at_boundaries len cs c.as_slice-6.result.now _ runs (kept-runs len g.met.T.TextSource.has_units cs l c.requires.sound c.requires.even c.requires.units)
+
+pub put_order_of-requires-clause-even : goal.put_order_of-requires-clause-even
+put_order_of-requires-clause-even g c =
+    let len = g.T.TextSource.units in
+    let cs : List ℕ = g.T.TextSource.characters c.args.text in
+    subst (IsPerChar len cs) (sym c.in_ok-shown.ensures.levels) (kept-even len g.met.T.TextSource.has_units cs c.args.line.now c.requires.sound c.requires.even c.requires.units)
 
 pub returns-clause-fault : goal.returns-clause-fault
 returns-clause-fault g c =
