@@ -1,9 +1,11 @@
 //! Texts whose characters are counted.
-ghost use Rattle.std.specs.Prelude.{◌≡◌, length};
+ghost use Rattle.std.specs.Prelude.{◌≡◌, ◌≤◌, length};
+ghost use Rattle.std.specs.List.{count_by};
 ghost use Rattle.std.specs.Str.{chars};
 ghost use Rattle.bidi_base.specs.Text.{text_len};
 ghost use Rattle.bidi_base.specs.Utf16.{utf16_text};
 ghost use Rattle.bidi_calls.specs.Everything.{begins_character};
+ghost use Rattle.bidi_calls.specs.declared.counted.TheConstants.{FEW_BYTES};
 
 use bidi_text_lines::line_text::LineText;
 use unicode_bidi::text::{StrText, TextSource, Utf16Text, are_characters};
@@ -22,16 +24,34 @@ fn begins(byte: u8) -> bool
     byte < 0x80 || 0xC0 <= byte
 }
 
-// Returns how many characters a text has. The loop has no branch, so that it reads many bytes at once.
+// Up to how many bytes have a count that is a byte.
+const FEW_BYTES: usize = 255;
+
+// Returns how many of a few bytes begin a character. The loop has no branch and counts in a byte, so that it reads
+// sixteen bytes at once.
+fn count_few(bytes: &[u8]) -> u8
+    requires { length bytes.now ≤ FEW_BYTES }
+    ensures { result ≡ count_by begins_character bytes.now }
+{
+    let mut count = 0;
+    for byte in bytes {
+        count += u8::from(begins(*byte));
+    }
+    count
+}
+
+// Returns how many characters a text has.
 fn count_utf8(text: &str) -> usize
     ensures { result ≡ length (chars text.now) }
 {
-    let bytes = text.as_bytes();
+    let mut rest = text.as_bytes();
     let mut count = 0;
-    for byte in bytes {
-        count += usize::from(begins(*byte));
+    while rest.len() > FEW_BYTES {
+        let (front, back) = rest.split_at(FEW_BYTES);
+        count += usize::from(count_few(front));
+        rest = back;
     }
-    count
+    count + usize::from(count_few(rest))
 }
 
 impl<'t> CountedText for StrText<'t> {
