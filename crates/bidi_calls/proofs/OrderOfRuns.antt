@@ -1,11 +1,11 @@
 -- The order of a line's characters, from the visual runs of its units.
-use Rattle.bidi_base.proofs.Common.{◌≡◌, ℕ, ◌+◌, ◌-◌, ◌<◌, ◌≤◌, Bool, List, length, length-reverse, get_or, subst, Range, run_of, map, flat_map, reverse, if◌then◌else◌, refl, sym, ap, ◌∙◌, arith, map-id, le_refl, length-take-le, slice_range, take, take_all, get_or-map, length-map, flat_map-map, zero-add, between, is_odd, char_index, place, subrange, per_char, per_unit, text_len, IsLine, IsPerChar, Run, run_level, visual_order, visual_runs, written_run, written_runs, IsLevelRun, AreVisualRuns}
+use Rattle.bidi_base.proofs.Common.{◌≡◌, ℕ, ◌+◌, ◌-◌, ◌<◌, ◌≤◌, Bool, List, length, length-reverse, get_or, subst, Range, run_of, map, flat_map, reverse, if◌then◌else◌, refl, sym, ap, ◌∙◌, arith, map-id, le_refl, length-take-le, slice_range, take, take_all, get_or-map, length-map, flat_map-map, zero-add, between, is_odd, true, is_boundary, char_index, place, subrange, per_char, per_unit, text_len, IsLine, IsPerChar, Run, run_level, visual_order, visual_runs, written_run, written_runs, IsLevelRun, AreVisualRuns}
 use Rattle.std.proofs.Common.{All}
 use Rattle.std.proofs.lemmas.List.Concat.{length-flat_map}
 use Rattle.std.proofs.lemmas.List.Folds.{length-flat_map-take}
 use Rattle.std.proofs.lemmas.List.Sums.{sum_by_more}
 use Rattle.bidi_base.proofs.PerUnit.{length-per_char}
-use Rattle.bidi_base.proofs.PlaceLemmas.{place-zero, place-end, place-sum, is_boundary-place, char_index-place, IsLine-places, line_places}
+use Rattle.bidi_base.proofs.PlaceLemmas.{place-zero, place-end, place-sum, is_boundary-place, char_index-le, char_index-place, place-char_index, IsLine-places, line_places}
 use Rattle.bidi_base.proofs.TextLemmas.{HasUnits, length-le-text_len}
 use Rattle.bidi_base.proofs.UnitsLemmas.{per_unit-from_IsPerChar}
 use Rattle.bidi_lines.proofs.LineInText.{length-part}
@@ -27,22 +27,32 @@ same_indexes : (x y a b c d : ℕ) → x ≡ y → a ≡ c → b ≡ d → (if i
 same_indexes x y a b c d e f g = simp (e, f, g) refl
 
 module _ (len_of : ℕ → ℕ) (some : HasUnits len_of) (chars : List ℕ) where
-  -- the characters before a run, and its own
-  pub front-IsLine : (start end : ℕ) → IsLine len_of chars start end → IsLine len_of chars 0 start
-  front-IsLine start end line = grind (arith, place-zero len_of chars, is_boundary-place len_of chars 0, line.begins)
-
+  -- the characters of a range
   length-subrange : (start end : ℕ) → IsLine len_of chars start end → length (subrange len_of chars start end) ≡ char_index len_of chars end - char_index len_of chars start
   length-subrange start end line = length-part chars (char_index len_of chars start) (char_index len_of chars end) (line_places len_of some chars start end line).within
 
-  length-front : (start end : ℕ) → IsLine len_of chars start end → length (subrange len_of chars 0 start) ≡ char_index len_of chars start
-  length-front start end line = grind (arith, length-subrange 0 start (front-IsLine start end line), place-zero len_of chars, char_index-place len_of chars some 0)
-
   -- the same as counted
-  pub front-is : (start end n : ℕ) → IsLine len_of chars start end → n ≡ length (subrange len_of chars 0 start) → n ≡ char_index len_of chars start
-  front-is start end n line e = e ∙ length-front start end line
-
   pub count-is : (start end n : ℕ) → IsLine len_of chars start end → n ≡ length (subrange len_of chars start end) → n ≡ char_index len_of chars end - char_index len_of chars start
   count-is start end n line e = e ∙ length-subrange start end line
+
+  -- the characters before one end of a range, from those before the other
+  pub index-after : (start end before n : ℕ) → IsLine len_of chars start end → before ≡ char_index len_of chars start → n ≡ length (subrange len_of chars start end) → before + n ≡ char_index len_of chars end
+  index-after start end before n line e f = omega (arith, e, count-is start end n line f, (line_places len_of some chars start end line).ordered)
+
+  pub index-before : (start end behind n : ℕ) → IsLine len_of chars start end → behind ≡ char_index len_of chars end → n ≡ length (subrange len_of chars start end) → behind - n ≡ char_index len_of chars start
+  index-before start end behind n line e f = omega (arith, e, count-is start end n line f, (line_places len_of some chars start end line).ordered)
+
+  -- no more than units
+  pub char_index-le-unit : (u : ℕ) → is_boundary len_of chars u ≡ true → char_index len_of chars u ≤ u
+  char_index-le-unit u e =
+      let k = char_index len_of chars u in
+      omega (arith, place-char_index len_of some chars u e, length-le-text_len len_of some (take k chars), length-take-le k chars (char_index-le len_of chars u))
+
+  pub char_index-zero : char_index len_of chars 0 ≡ 0
+  char_index-zero = grind (arith, place-zero len_of chars, char_index-place len_of chars some 0)
+
+  pub zero-boundary : is_boundary len_of chars 0 ≡ true
+  zero-boundary = grind (arith, place-zero len_of chars, is_boundary-place len_of chars 0)
 
   -- where each unit is a character, the characters of a range are its units
   place-plain : text_len len_of chars ≡ length chars → (k : ℕ) → k ≤ length chars → place len_of chars k ≡ k
