@@ -1,10 +1,14 @@
 -- The text of a line whose classes and levels are kept, and equal within each character.
-use Rattle.bidi_base.proofs.Common.{◌≡◌, ℕ, ◌+◌, true, false, Some, nat_le, List, length, refl, sym, ap, subst, ◌∙◌, arith, text_len, per_char, line_text, levels_of_line, IsLine, IsPerChar}
+use Rattle.bidi_base.proofs.Common.{◌≡◌, ℕ, ◌+◌, true, false, Some, nat_le, List, length, refl, sym, ap, subst, ◌∙◌, arith, take_all, le_refl, char_index, subrange, text_len, per_char, per_unit, line_text, levels_of_line, IsLine, IsPerChar}
+use Rattle.std.proofs.Math.Nat.{sub-zero}
 use Rattle.bidi_base.specs.declared.char_data.BidiClass.TheVariants.{L}
+use Rattle.bidi_base.proofs.PerUnit.{length-per_char}
+use Rattle.bidi_base.proofs.PlaceLemmas.{place-zero, place-end, char_index-place}
 use Rattle.bidi_base.proofs.TextLemmas.{HasUnits}
+use Rattle.bidi_lines.proofs.LineInText.{length-line}
 use Rattle.bidi_text_lines.proofs.ShownUnits.{length-shown_units}
 use Rattle.bidi_text_lines.proofs.StoredLine.{classes_IsPerChar, levels_IsPerChar}
-use Rattle.bidi_text_lines.proofs.TextOfLine.{flat_map-runs, visual_runs_at_boundaries}
+use Rattle.bidi_text_lines.proofs.TextOfLine.{flat_map-runs, levels_of_line-per_unit, visual_runs_at_boundaries}
 use Rattle.bidi_text_lines.specs.Written.{shown_units, AreRunsOfChars}
 use Rattle.unicode_bidi.proofs.WholeText.{whole-IsLine}
 use Rattle.bidi_calls.proofs.KeptLines.{length-own_levels, length-shown_levels, shown_levels-own}
@@ -31,6 +35,20 @@ module _ (len_of : ℕ → ℕ) (some : HasUnits len_of) (chars : List ℕ) (l :
   pub kept-runs : AreRunsOfChars len_of chars 0 (shown_levels l)
   kept-runs = subst (AreRunsOfChars len_of chars 0) shown-is
       (visual_runs_at_boundaries len_of some chars l.paragraph.now.level (line_classes l) (own_levels l) 0 (text_len len_of chars) of_classes of_levels kept-is_line)
+
+  -- the levels after L1 are equal within each character too
+  pub kept-even : IsPerChar len_of chars (shown_levels l)
+  kept-even =
+      let level : ℕ = l.paragraph.now.level in
+      let n : ℕ = text_len len_of chars in
+      let first : char_index len_of chars 0 ≡ 0 = grind (arith, place-zero len_of chars, char_index-place len_of chars some 0) in
+      let last : char_index len_of chars n ≡ length chars = grind (arith, place-end len_of chars (length chars), char_index-place len_of chars some (length chars)) in
+      let whole : subrange len_of chars 0 n ≡ chars = simp (first, last, sub-zero) (take_all (length chars) chars (le_refl (length chars))) in
+      let classes = per_char L len_of chars (line_classes l) in
+      let levels = per_char 0 len_of chars (own_levels l) in
+      let of_chars : List ℕ = levels_of_line level classes levels (char_index len_of chars 0) (char_index len_of chars n) in
+      let long : length of_chars ≡ length chars = grind (arith, length-line, length-per_char, first, last) in
+      (of_chars, long, sym shown-is ∙ levels_of_line-per_unit len_of some chars level (line_classes l) (own_levels l) 0 n of_classes of_levels kept-is_line ∙ ap (λ cs. per_unit len_of cs of_chars) whole)
 
   pub kept-text : (encode : ℕ → List ℕ) (units : List ℕ) → length units ≡ text_len len_of chars → shown_units len_of encode chars units 0 (shown_levels l) ≡ reordered len_of encode chars units l
   unfolding reordered

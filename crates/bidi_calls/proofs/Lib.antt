@@ -1,4 +1,4 @@
-pub mod Counted
+pub mod CountLemmas
 pub mod EvenBlocks
 pub mod EvenChars
 pub mod EvenSteps
@@ -8,6 +8,7 @@ pub mod FoundText
 pub mod KeptLines
 pub mod KeptText
 pub mod OneUnit
+pub mod OrderOfRuns
 pub mod ShownLine
 pub mod ShownRuns
 pub mod Utf8Fronts

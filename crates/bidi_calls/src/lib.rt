@@ -2,7 +2,9 @@
 #![tactic(auto)]
 
 pub mod by_tables;
+pub mod char_order;
 pub mod checked;
+pub mod counted;
 pub mod even;
 pub mod first_direction;
 pub mod line;

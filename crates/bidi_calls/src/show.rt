@@ -4,7 +4,7 @@ ghost use Rattle.std.specs.Prelude.{◌≡◌, ℕ, ◌+◌, ◌-◌, ◌<◌, �
 ghost use Rattle.bidi_base.specs.Display.{run_of, visual_runs, AreVisualRuns};
 ghost use Rattle.bidi_base.specs.Levels.{is_odd};
 ghost use Rattle.bidi_base.specs.Order.{visual_order as visual_order_of};
-ghost use Rattle.bidi_base.specs.Text.{text_len, per_char, one_unit, IsLine};
+ghost use Rattle.bidi_base.specs.Text.{text_len, per_char, one_unit, IsLine, IsPerChar};
 ghost use Rattle.bidi_calls.specs.Everything.{buffers, everything_of_chars, line_shown, run_rows, room_fault, IsWritten, IsKept};
 ghost use Rattle.bidi_calls.specs.Kept.{written_if_room};
 ghost use Rattle.bidi_calls.specs.Lines.{IsSound, shown_levels};
@@ -14,7 +14,9 @@ ghost use Rattle.bidi_numbers.specs.Rows.{run_row};
 ghost use Rattle.bidi_lines.specs.ShownLevels.{levels as levels_of};
 ghost use Rattle.bidi_text_lines.specs.Written.{run_units, shown_units};
 
+use crate::char_order::{COUNTED_RUNS, write_char_order};
 use crate::checked::write_levels;
+use crate::counted::CountedText;
 use crate::line::KeptLine;
 use crate::run_rows::put_runs;
 use bidi_lines::shown_levels::ShownLevels;
@@ -69,18 +71,6 @@ fn has_room(count: usize, room: usize) -> bool
     room == 0 || count <= room
 }
 
-/// Returns how many characters a text of so many units has.
-pub(crate) fn count_characters<T: TextSource>(text: T, units: usize) -> usize
-    requires { units ≡ text_len T.units (T.characters text) }
-    ensures { result ≡ length (T.characters text) }
-{
-    let mut count = 0;
-    for (at, _) in text.indices_lengths() {
-        count += 1;
-    }
-    count
-}
-
 // Whether each buffer has room for its part of a line of so many units, runs and characters, or is empty.
 fn have_room(
     units: usize,
@@ -113,18 +103,44 @@ fn keep_characters<T: TextSource>(text: T, len: usize, shown: &mut ShownLevels)
     }
 }
 
-// Writes the order of a line's `len` characters to the front of a buffer that is not empty. `shown` has one level for
-// each unit before, and may have one for each character behind.
-fn put_order_of<T: TextSource>(out: &mut [usize], text: T, len: usize, shown: &mut ShownLevels)
-    requires units { length (levels_of shown.old) ≡ text_len T.units (T.characters text) }
+// Writes the order of a line's characters. `shown` has one level for each unit before, and may have one for each
+// character behind. In a line of many runs, the order comes from one level a character.
+fn write_order<T: CountedText>(
+    text: T,
+    runs: &[Range<usize>],
+    shown: &mut ShownLevels,
+    out: &mut [usize],
+)
+    requires even { IsPerChar T.units (T.characters text) (levels_of shown.old) }
+    requires runs { map run_of runs.now ≡ visual_runs 0 (levels_of shown.old) }
+    requires room { length out.old ≡ length (T.characters text) }
+    ensures { out.new ≡ visual_order_of (per_char 0 T.units (T.characters text) (levels_of shown.old)) }
+{
+    if runs.len() <= COUNTED_RUNS {
+        write_char_order(text, shown.as_slice(), runs, out);
+    } else {
+        keep_characters(text, out.len(), shown);
+        write_visual_order(shown.as_slice(), out);
+    }
+}
+
+// Writes the order of a line's `len` characters to the front of a buffer that is not empty, as `write_order` does.
+fn put_order_of<T: CountedText>(
+    out: &mut [usize],
+    text: T,
+    len: usize,
+    runs: &[Range<usize>],
+    shown: &mut ShownLevels,
+)
+    requires even { IsPerChar T.units (T.characters text) (levels_of shown.old) }
+    requires runs { map run_of runs.now ≡ visual_runs 0 (levels_of shown.old) }
     requires len { len ≡ length (T.characters text) }
     requires room { IsTrue (has_room_or_none len (length out.old)) }
     ensures { out.new
         ≡ written_if_room (visual_order_of (per_char 0 T.units (T.characters text) (levels_of shown.old))) out.old }
 {
     if !out.is_empty() {
-        keep_characters(text, len, shown);
-        write_visual_order(shown.as_slice(), &mut out[..len]);
+        write_order(text, runs, shown, &mut out[..len]);
     }
 }
 
@@ -132,12 +148,11 @@ fn put_order_of<T: TextSource>(out: &mut [usize], text: T, len: usize, shown: &m
 /// and its text from left to right, each to a buffer that is not empty, and to `characters` how many
 /// characters it has. Returns the number of runs.
 ///
-/// `text` is the line's, has `len` characters, and has one class and one level for each of them. A line of
-/// up to 256 units with up to 16 runs needs no allocation. After a fault nothing is written.
-pub fn show_text<T: LineText>(
+/// `text` is the line's, and has one class and one level for each of its characters. A line of up to 256
+/// units with up to 16 runs needs no allocation. After a fault nothing is written.
+pub fn show_text<T: CountedText>(
     alloc: Global,
     text: T,
-    len: usize,
     line: &KeptLine<'_>,
     levels: &mut [u8],
     runs: &mut [Run],
@@ -148,7 +163,6 @@ pub fn show_text<T: LineText>(
     requires sound { IsSound line.now }
     requires even { is_even T.units (T.characters text) line.now ≡ true }
     requires units { text_len T.units (T.characters text) + line.now.start ≡ line.now.end }
-    requires len { len ≡ length (T.characters text) }
     requires one_a_unit { length (T.units_of text) ≡ text_len T.units (T.characters text) }
     requires encoded { (c : ℕ) → length (T.encode c) ≡ T.units c }
     ensures fault { let shown = line_shown T.units (T.characters text) line.now
@@ -168,6 +182,7 @@ pub fn show_text<T: LineText>(
     found.find(shown.as_slice(), 0)?;
     let units = shown.as_slice().len();
     let count = found.as_slice().len();
+    let len = text.count_characters();
     let fits = have_room(
         units,
         count,
@@ -181,7 +196,7 @@ pub fn show_text<T: LineText>(
     put_levels(levels, shown.as_slice());
     put_runs(runs, shown.as_slice(), line.start, found.as_slice());
     put_text(text, shown.as_slice(), found.as_slice(), out);
-    put_order_of(order, text, len, &mut shown);
+    put_order_of(order, text, len, found.as_slice(), &mut shown);
     *characters = len;
     Ok(count)
 }

@@ -15,12 +15,12 @@ ghost use Rattle.std.specs.Result.{result_err};
 use crate::checked;
 use crate::even::is_even_utf16;
 use crate::line::{KeptLine, map_characters, write_text};
-use crate::show::{count_characters, show_text};
+use crate::show::show_text;
 use bidi_numbers::fault::{Fault, check};
 use bidi_numbers::rows::{Paragraph, Run};
 use std::alloc::Global;
 use unicode_bidi::BidiDataSource;
-use unicode_bidi::text::{TextSource, Utf16Text, are_characters};
+use unicode_bidi::text::{TextSource, Utf16Text};
 
 /// Writes the classes and the levels of a text's units, and its paragraphs, and returns the number of the
 /// paragraphs.
@@ -164,16 +164,6 @@ pub fn line_map(
     map_characters(alloc, own, line, out)
 }
 
-// How many characters a text has. Most texts have no surrogates.
-fn count(text: &[u16]) -> usize
-    ensures { result ≡ length (utf16_text text.now) }
-{
-    if are_characters(text) {
-        return text.len();
-    }
-    count_characters(Utf16Text::new(text), text.len())
-}
-
 // Shows a line whose text is this, and returns the number of its runs.
 fn show(
     alloc: Global,
@@ -199,9 +189,8 @@ fn show(
 {
     let even = is_even_utf16(text, line.class_numbers(), line.level_numbers());
     check(even, Fault::UnevenCharacter)?;
-    let len = count(text);
     let own = Utf16Text::new(text);
-    show_text(alloc, own, len, line, levels, runs, order, out, characters)
+    show_text(alloc, own, line, levels, runs, order, out, characters)
 }
 
 /// Writes everything that a line shows, each part to a buffer that is not empty: its levels after L1, its

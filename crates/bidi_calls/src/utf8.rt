@@ -3,7 +3,7 @@ ghost use Rattle.std.specs.Prelude.{◌≡◌, ◌+◌, ◌-◌, ◌≤◌, nat_
 ghost use Rattle.std.specs.Char.{len_utf8};
 ghost use Rattle.std.specs.Str.{chars};
 ghost use Rattle.bidi_numbers.specs.Faults.{FaultsAs};
-ghost use Rattle.bidi_calls.specs.Everything.{begins_character, buffers, everything, everything_fault, run_rows, IsWritten, IsKept};
+ghost use Rattle.bidi_calls.specs.Everything.{buffers, everything, everything_fault, run_rows, IsWritten, IsKept};
 ghost use Rattle.bidi_calls.specs.Kept.{written, written_if_room, class_numbers, level_numbers, paragraphs_in, analysis_fault};
 ghost use Rattle.bidi_calls.specs.Lines.{IsSound, line_fault};
 ghost use Rattle.bidi_numbers.specs.Numbers.{base_of, split_of, direction_in};
@@ -163,25 +163,6 @@ pub fn line_map(
     map_characters(alloc, own, line, out)
 }
 
-// Whether a byte of UTF-8 begins a character.
-fn begins(byte: u8) -> bool
-    ensures { result ≡ begins_character byte }
-{
-    byte < 0x80 || 0xC0 <= byte
-}
-
-// How many characters a text has. The loop has no branch, so that it reads many bytes at once.
-fn count_characters(text: &str) -> usize
-    ensures { result ≡ length (chars text.now) }
-{
-    let bytes = text.as_bytes();
-    let mut count = 0;
-    for byte in bytes {
-        count += usize::from(begins(*byte));
-    }
-    count
-}
-
 // Shows a line whose text is this, and returns the number of its runs.
 fn show(
     alloc: Global,
@@ -207,9 +188,8 @@ fn show(
 {
     let even = is_even_utf8(text, line.class_numbers(), line.level_numbers());
     check(even, Fault::UnevenCharacter)?;
-    let len = count_characters(text);
     let own = StrText::new(text);
-    show_text(alloc, own, len, line, levels, runs, order, out, characters)
+    show_text(alloc, own, line, levels, runs, order, out, characters)
 }
 
 /// Writes everything that a line shows, each part to a buffer that is not empty: its levels after L1, its

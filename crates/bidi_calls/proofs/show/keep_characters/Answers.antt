@@ -1,6 +1,6 @@
 use Rattle.bidi_base.proofs.Common.{◌≤◌, length, ap, arith, text_len}
 use Rattle.bidi_lines.specs.ShownLevels.{levels as levels_of}
-use Rattle.bidi_calls.proofs.Counted.{per_char-plain}
+use Rattle.bidi_calls.proofs.CountLemmas.{per_char-plain}
 use Rattle.bidi_calls.proofs.show.keep_characters.Goals as goal
 
 pub returns-else-len-as_slice : goal.returns-else-len-as_slice

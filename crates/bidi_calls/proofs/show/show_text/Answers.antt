@@ -1,7 +1,7 @@
-use Rattle.bidi_base.proofs.Common.{◌≡◌, List, ℕ, map, length, sym, ap, ap₂, ◌∙◌, flat_map, length-map, arith, run_of, visual_runs, visual_order, per_char}
+use Rattle.bidi_base.proofs.Common.{◌≡◌, List, ℕ, map, length, sym, ap, ap₂, ◌∙◌, flat_map, length-map, arith, run_of, visual_runs, visual_order, subst, per_char, IsPerChar}
 use Rattle.bidi_text_lines.proofs.WrittenRuns.{ranges_at_boundaries}
 use Rattle.bidi_text_lines.specs.Written.{run_units, shown_units}
-use Rattle.bidi_calls.proofs.KeptText.{kept-runs, length-shown}
+use Rattle.bidi_calls.proofs.KeptText.{kept-runs, kept-even, length-shown}
 use Rattle.bidi_calls.proofs.ShownLine.{length-order, told-room}
 use Rattle.bidi_calls.proofs.ShownRuns.{length-rows}
 use Rattle.bidi_calls.specs.Everything.{buffers}
@@ -21,8 +21,8 @@ returns-in_err-check-clause-fault g c =
     let count = length-rows l.start (shown_levels l) c.as_slice-count.result.now runs in
     let text = shown_units len g.T.LineText.encode cs (g.T.LineText.units_of c.args.text) 0 (shown_levels l) in
     let long = length-shown len g.met.T.TextSource.has_units cs l c.requires.sound c.requires.even c.requires.units g.T.LineText.encode (g.T.LineText.units_of c.args.text) c.requires.one_a_unit c.requires.encoded in
-    rw (told-room len cs l text (buffers c.args.levels.now c.args.runs.now c.args.order.now c.args.out.now) (length c.as_slice-units.result.now) (length c.as_slice-count.result.now) c.args.len c.have_room-fits.result
-    (ap length (sym levels)) count (long ∙ ap length (sym levels)) c.requires.len c.have_room-fits.ensures)
+    rw (told-room len cs l text (buffers c.args.levels.now c.args.runs.now c.args.order.now c.args.out.now) (length c.as_slice-units.result.now) (length c.as_slice-count.result.now) c.count_characters-len.result c.have_room-fits.result
+    (ap length (sym levels)) count (long ∙ ap length (sym levels)) c.count_characters-len.ensures c.have_room-fits.ensures)
     (grind arith)
 
 pub put_runs-requires-clause-room : goal.put_runs-requires-clause-room
@@ -39,6 +39,12 @@ put_text-requires-clause-boundaries g c =
     let runs = c.as_slice-6.ensures ∙ c.in_ok-find.ensures.runs ∙ ap (visual_runs 0) (c.as_slice.ensures ∙ c.in_ok-shown.ensures.levels) in
     ranges_at_boundaries len cs c.as_slice-6.result.now _ runs (kept-runs len g.met.T.TextSource.has_units cs l c.requires.sound c.requires.even c.requires.units)
 
+pub put_order_of-requires-clause-even : goal.put_order_of-requires-clause-even
+put_order_of-requires-clause-even g c =
+    let len = g.T.TextSource.units in
+    let cs : List ℕ = g.T.TextSource.characters c.args.text in
+    subst (IsPerChar len cs) (sym c.in_ok-shown.ensures.levels) (kept-even len g.met.T.TextSource.has_units cs c.args.line.now c.requires.sound c.requires.even c.requires.units)
+
 pub returns-clause-fault : goal.returns-clause-fault
 returns-clause-fault g c =
     let len = g.T.TextSource.units in
@@ -49,8 +55,8 @@ returns-clause-fault g c =
     let count = length-rows l.start (shown_levels l) c.as_slice-count.result.now runs in
     let text = shown_units len g.T.LineText.encode cs (g.T.LineText.units_of c.args.text) 0 (shown_levels l) in
     let long = length-shown len g.met.T.TextSource.has_units cs l c.requires.sound c.requires.even c.requires.units g.T.LineText.encode (g.T.LineText.units_of c.args.text) c.requires.one_a_unit c.requires.encoded in
-    rw (told-room len cs l text (buffers c.args.levels.now c.args.runs.now c.args.order.now c.args.out.now) (length c.as_slice-units.result.now) (length c.as_slice-count.result.now) c.args.len c.have_room-fits.result
-    (ap length (sym levels)) count (long ∙ ap length (sym levels)) c.requires.len c.have_room-fits.ensures)
+    rw (told-room len cs l text (buffers c.args.levels.now c.args.runs.now c.args.order.now c.args.out.now) (length c.as_slice-units.result.now) (length c.as_slice-count.result.now) c.count_characters-len.result c.have_room-fits.result
+    (ap length (sym levels)) count (long ∙ ap length (sym levels)) c.count_characters-len.ensures c.have_room-fits.ensures)
     (grind arith)
 
 pub returns-clause-shown : goal.returns-clause-shown
@@ -71,7 +77,7 @@ returns-clause-shown g c =
     }
 
 pub returns-clause-characters : goal.returns-clause-characters
-returns-clause-characters g c = c.requires.len ∙ sym (length-order g.T.TextSource.units (g.T.TextSource.characters c.args.text) c.args.line.now)
+returns-clause-characters g c = c.count_characters-len.ensures ∙ sym (length-order g.T.TextSource.units (g.T.TextSource.characters c.args.text) c.args.line.now)
 
 pub returns-clause-count : goal.returns-clause-count
 returns-clause-count g c =

@@ -1,7 +1,7 @@
 use Rattle.bidi_base.proofs.Common.{◌≡◌, take}
 use Rattle.std.specs.List.{count_by}
 use Rattle.bidi_calls.specs.Everything.{begins_character}
-use Rattle.bidi_calls.proofs.utf8.count_characters.Given as goal
+use Rattle.bidi_calls.proofs.counted.count_few.Given as goal
 
 -- the characters that have begun so far
 abbrev pub invariant-loop-byte : goal.invariant-loop-byte

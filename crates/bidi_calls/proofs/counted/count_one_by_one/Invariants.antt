@@ -1,5 +1,5 @@
 use Rattle.bidi_base.proofs.Common.{◌≡◌, length}
-use Rattle.bidi_calls.proofs.show.count_characters.Given as goal
+use Rattle.bidi_calls.proofs.counted.count_one_by_one.Given as goal
 
 abbrev pub invariant-loop-at : goal.invariant-loop-at
 invariant-loop-at g l =

@@ -1,0 +1,135 @@
+//! The order of a line's characters from left to right (L2), written from its visual runs.
+ghost use Rattle.std.specs.Prelude.{◌≡◌, ◌+◌, ◌≤◌, if◌then◌else◌, IsTrue, length, map, reverse};
+ghost use Rattle.bidi_base.specs.Display.{run_of, visual_runs};
+ghost use Rattle.bidi_base.specs.Order.{visual_order};
+ghost use Rattle.bidi_base.specs.Places.{between};
+ghost use Rattle.bidi_base.specs.Text.{text_len, char_index, is_boundary, subrange, per_char, IsLine, IsPerChar};
+
+use crate::counted::CountedText;
+use std::ops::Range;
+use unicode_bidi::Level;
+
+/// Up to how many runs a line's order is quicker written by `write_char_order` than found from its levels.
+pub const COUNTED_RUNS: usize = 16;
+
+// Writes the indexes from `first` on. The loop has no branch, so that it writes many indexes at once.
+fn write_upwards(first: usize, out: &mut [usize])
+    requires { first + length out.old ≤ usize.MAX }
+    ensures { out.new ≡ between first (first + length out.old) }
+{
+    for k in 0..out.len() {
+        out[k] = first + k;
+    }
+}
+
+// Writes as many indexes from `first` on, the last one first. This loop has no branch either.
+fn write_downwards(first: usize, out: &mut [usize])
+    requires { first + length out.old ≤ usize.MAX }
+    ensures { out.new ≡ reverse (between first (first + length out.old)) }
+{
+    let count = out.len();
+    for k in 0..count {
+        out[k] = first + (count - 1 - k);
+    }
+}
+
+// Writes the indexes of a run's characters from left to right. Its first character has the index `first`.
+fn write_indexes(first: usize, is_rtl: bool, out: &mut [usize])
+    requires { first + length out.old ≤ usize.MAX }
+    ensures { let own = between first (first + length out.old) in out.new ≡ (if is_rtl then reverse own else own) }
+{
+    if is_rtl {
+        write_downwards(first, out);
+    } else {
+        write_upwards(first, out);
+    }
+}
+
+// Returns how many characters a range of units has. Where each unit of the text is a character, none is counted.
+fn count_in<T: CountedText>(text: T, units: Range<usize>, are_chars: bool) -> usize
+    requires is_line { IsLine T.units (T.characters text) units.start units.end }
+    requires are_chars { IsTrue are_chars → text_len T.units (T.characters text) ≡ length (T.characters text) }
+    ensures { result ≡ length (subrange T.units (T.characters text) units.start units.end) }
+{
+    if are_chars {
+        return units.end - units.start;
+    }
+    text.subrange(units).count_characters()
+}
+
+// Returns how many characters stand before the unit `at`, where `before` stand before the unit `near`.
+fn index_at<T: CountedText>(
+    text: T,
+    at: usize,
+    near: usize,
+    before: usize,
+    are_chars: bool,
+) -> usize
+    requires at { IsTrue (is_boundary T.units (T.characters text) at) }
+    requires near { IsTrue (is_boundary T.units (T.characters text) near) }
+    requires before { before ≡ char_index T.units (T.characters text) near }
+    requires are_chars { IsTrue are_chars → text_len T.units (T.characters text) ≡ length (T.characters text) }
+    ensures { result ≡ char_index T.units (T.characters text) at }
+{
+    if near <= at {
+        before + count_in(text, near..at, are_chars)
+    } else {
+        before - count_in(text, at..near, are_chars)
+    }
+}
+
+// Returns the index of the first of a run's `count` characters, from the run that is left of it and the indexes of
+// that one's characters. Mostly the two runs touch, and then no character is counted.
+fn first_index<T: CountedText>(
+    text: T,
+    run: &Range<usize>,
+    count: usize,
+    left: &Range<usize>,
+    indexes: &Range<usize>,
+    are_chars: bool,
+) -> usize
+    requires is_line { IsLine T.units (T.characters text) run.now.start run.now.end }
+    requires count { count ≡ length (subrange T.units (T.characters text) run.now.start run.now.end) }
+    requires left { IsTrue (is_boundary T.units (T.characters text) left.now.end) }
+    requires begins { indexes.now.start ≡ char_index T.units (T.characters text) left.now.start }
+    requires ends { indexes.now.end ≡ char_index T.units (T.characters text) left.now.end }
+    requires are_chars { IsTrue are_chars → text_len T.units (T.characters text) ≡ length (T.characters text) }
+    ensures { result ≡ char_index T.units (T.characters text) run.now.start }
+{
+    if run.end == left.start {
+        return indexes.start - count;
+    }
+    index_at(text, run.start, left.end, indexes.end, are_chars)
+}
+
+/// Writes the visual order of a line's characters, run by run.
+///
+/// `levels` are those of the line's units after L1, equal within each character, and `runs` its visual
+/// runs, counted from its first unit. Takes time linear in the line for each run, and less where runs that
+/// touch stay side by side. Does not allocate.
+pub fn write_char_order<T: CountedText>(
+    text: T,
+    levels: &[Level],
+    runs: &[Range<usize>],
+    out: &mut [usize],
+)
+    requires even { IsPerChar T.units (T.characters text) levels.now }
+    requires runs { map run_of runs.now ≡ visual_runs 0 levels.now }
+    requires room { length out.old ≡ length (T.characters text) }
+    ensures { out.new ≡ visual_order (per_char 0 T.units (T.characters text) levels.now) }
+{
+    let are_chars = out.len() == levels.len();
+    let mut left = 0..0;
+    let mut indexes = 0..0;
+    let mut at = 0;
+    for run in runs {
+        let count = count_in(text, run.start..run.end, are_chars);
+        let first = first_index(text, run, count, &left, &indexes, are_chars);
+        let end = at + count;
+        let is_rtl = levels[run.start].is_rtl();
+        write_indexes(first, is_rtl, &mut out[at..end]);
+        left = run.start..run.end;
+        indexes = first..first + count;
+        at = end;
+    }
+}

@@ -1,0 +1,89 @@
+//! Texts whose characters are counted.
+ghost use Rattle.std.specs.Prelude.{◌≡◌, ◌≤◌, length};
+ghost use Rattle.std.specs.List.{count_by};
+ghost use Rattle.std.specs.Str.{chars};
+ghost use Rattle.bidi_base.specs.Text.{text_len};
+ghost use Rattle.bidi_base.specs.Utf16.{utf16_text};
+ghost use Rattle.bidi_calls.specs.Everything.{begins_character};
+ghost use Rattle.bidi_calls.specs.declared.counted.TheConstants.{FEW_BYTES};
+
+use bidi_text_lines::line_text::LineText;
+use unicode_bidi::text::{StrText, TextSource, Utf16Text, are_characters};
+
+/// A text that counts its characters.
+pub trait CountedText: LineText {
+    /// Returns how many characters the text has.
+    fn count_characters(self) -> usize
+        ensures { result ≡ length (Self.characters self) };
+}
+
+// Whether a byte of UTF-8 begins a character.
+fn begins(byte: u8) -> bool
+    ensures { result ≡ begins_character byte }
+{
+    byte < 0x80 || 0xC0 <= byte
+}
+
+// Up to how many bytes have a count that is a byte.
+const FEW_BYTES: usize = 255;
+
+// Returns how many of a few bytes begin a character. The loop has no branch and counts in a byte, so that it reads
+// sixteen bytes at once.
+fn count_few(bytes: &[u8]) -> u8
+    requires { length bytes.now ≤ FEW_BYTES }
+    ensures { result ≡ count_by begins_character bytes.now }
+{
+    let mut count = 0;
+    for byte in bytes {
+        count += u8::from(begins(*byte));
+    }
+    count
+}
+
+// Returns how many characters a text has.
+fn count_utf8(text: &str) -> usize
+    ensures { result ≡ length (chars text.now) }
+{
+    let mut rest = text.as_bytes();
+    let mut count = 0;
+    while rest.len() > FEW_BYTES {
+        let (front, back) = rest.split_at(FEW_BYTES);
+        count += usize::from(count_few(front));
+        rest = back;
+    }
+    count + usize::from(count_few(rest))
+}
+
+impl<'t> CountedText for StrText<'t> {
+    fn count_characters(self) -> usize {
+        count_utf8(self.as_str())
+    }
+}
+
+// Returns how many characters a text of so many units has, counted one by one.
+fn count_one_by_one<T: TextSource>(text: T, units: usize) -> usize
+    requires { units ≡ text_len T.units (T.characters text) }
+    ensures { result ≡ length (T.characters text) }
+{
+    let mut count = 0;
+    for (at, _) in text.indices_lengths() {
+        count += 1;
+    }
+    count
+}
+
+// Returns how many characters a text has. Most texts have no surrogates.
+fn count_utf16(units: &[u16]) -> usize
+    ensures { result ≡ length (utf16_text units.now) }
+{
+    if are_characters(units) {
+        return units.len();
+    }
+    count_one_by_one(Utf16Text::new(units), units.len())
+}
+
+impl<'t> CountedText for Utf16Text<'t> {
+    fn count_characters(self) -> usize {
+        count_utf16(self.units())
+    }
+}
