@@ -1,4 +1,4 @@
-use Rattle.bidi_base.proofs.Common.{◌≡◌, ◌∙◌, arith, common_steps}
+use Rattle.bidi_base.proofs.Common.{arith, common_steps}
 use Rattle.bidi_calls.proofs.ShownRuns.{length-moved}
 use Rattle.bidi_calls.proofs.line.line_runs.Goals as goal
 
