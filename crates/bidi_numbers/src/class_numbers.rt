@@ -70,10 +70,11 @@ fn first_stop(numbers: &[u8], from: usize) -> usize
     let mut at = from;
     while len - at >= 16 {
         let before = numbers_before_stop(numbers, at);
-        at += before;
         if before < 16 {
-            return at;
+            return at + before;
         }
+        // The next block is read without waiting for `before`.
+        at += 16;
     }
     if len - from >= 16 {
         return len - 16 + numbers_before_stop(numbers, len - 16);
