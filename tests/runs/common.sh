@@ -19,3 +19,8 @@ ended() { # NAME, the status that it had, the status and the line that are wante
     [ "$2" = "$3" ] || why="status $3 is wanted, not $2"
     tell "$1" "$why"
 }
+
+# Whether a built program is older than the source of some crate, so that it may be of another source.
+is_older() { # PROGRAM
+    [ -n "$(find crates/*/src -name '*.rt' -newer "$1" | head -n 1)" ]
+}
