@@ -17,6 +17,12 @@ module _ (len_of : ℕ → ℕ) (chars old : List ℕ) where
   index-le-place : HasUnits len_of → (n : ℕ) → n ≤ length chars → n ≤ place len_of chars n
   index-le-place h n fits = grind (arith, length-le-text_len, length-take-le)
 
+  -- one value more at the front
+  front-more : HasUnits len_of → (new : List ℕ) (n x : ℕ) → n < length chars → length old ≡ text_len len_of chars → length new ≡ length old → x ≡ get_or old (place len_of chars n) 0 → take n new ≡ take n (per_char 0 len_of chars old) → take (n + 1) (set new n x) ≡ take (n + 1) (per_char 0 len_of chars old)
+  front-more h new n x fits same long is front =
+      let ahead = index-le-place h n (omega arith) in
+      grind (arith, take_more_set new n x, take_more (per_char 0 len_of chars old) n 0, get_or-per_char 0 len_of chars old n 0, length-per_char 0 len_of chars old, place-more-le len_of chars n 0, h (get_or chars n 0))
+
   pub IsGathered-more : HasUnits len_of → (new : List ℕ) (n x : ℕ) → n < length chars → length old ≡ text_len len_of chars → x ≡ get_or new (place len_of chars n) 0 → IsGathered new n → IsGathered (set new n x) (n + 1)
   IsGathered-more h new n x fits same is g =
       let ahead = index-le-place h n (omega arith) in
@@ -26,37 +32,32 @@ module _ (len_of : ℕ → ℕ) (chars old : List ℕ) where
   pub IsGathered-end : (new : List ℕ) (n : ℕ) → n ≡ length chars → IsGathered new n → take n new ≡ per_char 0 len_of chars old
   IsGathered-end new n e g = grind (arith, take_all, length-per_char)
 
-  -- the pass stands at the unit `at`: the n characters that begin before it are gathered
-  pub record IsSwept (new : List ℕ) (n at : ℕ) : Type 0 where
-    pub gathered : IsGathered new n
+  -- the values of the n characters that begin before the unit `at` stand at the front of `new`, and no other one begins before it
+  pub record IsTaken (new : List ℕ) (n at : ℕ) : Type 0 where
+    pub long : length new ≡ length old
+    pub front : take n new ≡ take n (per_char 0 len_of chars old)
     pub few : n ≤ length chars
     pub ahead : at ≤ place len_of chars n
     pub behind : (k : ℕ) → k < n → place len_of chars k < at
 
-  pub IsSwept-le : HasUnits len_of → (new : List ℕ) (n at : ℕ) → IsSwept new n at → n ≤ at
-  IsSwept-le h new n at s = grind (arith, s.few, s.behind (n - 1), index-le-place h (n - 1))
+  pub IsTaken-le : HasUnits len_of → (new : List ℕ) (n at : ℕ) → IsTaken new n at → n ≤ at
+  IsTaken-le h new n at s = grind (arith, s.few, s.behind (n - 1), index-le-place h (n - 1))
 
   -- no character begins here
-  pub IsSwept-inside : HasUnits len_of → (new : List ℕ) (n at x : ℕ) → is_boundary len_of chars at ≡ false → IsSwept new n at → IsSwept (set new n x) n (at + 1)
-  IsSwept-inside h new n at x inside s =
+  pub IsTaken-inside : HasUnits len_of → (new : List ℕ) (n at x : ℕ) → is_boundary len_of chars at ≡ false → IsTaken new n at → IsTaken (set new n x) n (at + 1)
+  IsTaken-inside h new n at x inside s =
       let apart : at ≢ place len_of chars n = grind (arith, is_boundary-place len_of chars n, inside) in
-      let before : at < place len_of chars n = omega (arith, apart, s.ahead) in
-      let later : n < place len_of chars n = omega (arith, before, IsSwept-le h new n at s) in
-      let g = s.gathered in
       record {
-        gathered = record {
-          long = length-set new n x ∙ g.long;
-          front = take-set new n x ∙ g.front;
-          rest = λ u le. get_or-set_other new n u x 0 (omega (arith, le, later)) ∙ g.rest u le;
-        };
+        long = length-set new n x ∙ s.long;
+        front = take-set new n x ∙ s.front;
         few = s.few;
-        ahead = omega (arith, before);
+        ahead = omega (arith, apart, s.ahead);
         behind = λ k lt. omega (arith, s.behind k lt);
       }
 
   -- the next character begins here
-  pub IsSwept-more : HasUnits len_of → (new : List ℕ) (n at x : ℕ) → is_boundary len_of chars at ≡ true → at < text_len len_of chars → length old ≡ text_len len_of chars → x ≡ get_or new at 0 → IsSwept new n at → IsSwept (set new n x) (n + 1) (at + 1)
-  IsSwept-more h new n at x begins within same is s =
+  pub IsTaken-more : HasUnits len_of → (new : List ℕ) (n at x : ℕ) → is_boundary len_of chars at ≡ true → at < text_len len_of chars → length old ≡ text_len len_of chars → x ≡ get_or old at 0 → IsTaken new n at → IsTaken (set new n x) (n + 1) (at + 1)
+  IsTaken-more h new n at x begins within same is s =
       let m = char_index len_of chars at in
       let place_m : place len_of chars m ≡ at = place-char_index len_of h chars at begins in
       let le : m ≤ n = place-le-back len_of chars h m n (char_index-le len_of chars at) (omega (arith, place_m, s.ahead)) in
@@ -64,11 +65,27 @@ module _ (len_of : ℕ → ℕ) (chars old : List ℕ) where
       let here : at ≡ place len_of chars n = sym place_m ∙ ap (place len_of chars) same_index in
       let short : n < length chars = grind (arith, s.few, here, within, place-end len_of chars n) in
       record {
-        gathered = IsGathered-more h new n x short same (is ∙ ap (λ u. get_or new u 0) here) s.gathered;
+        long = length-set new n x ∙ s.long;
+        front = front-more h new n x short same s.long (is ∙ ap (λ u. get_or old u 0) here) s.front;
         few = omega (arith, short);
         ahead = omega (arith, here, place-more len_of chars n 0 short, h (get_or chars n 0));
         behind = λ k lt. grind (arith, lt, here, s.behind k);
       }
 
-  pub IsSwept-end : HasUnits len_of → (new : List ℕ) (n : ℕ) → IsSwept new n (text_len len_of chars) → n ≡ length chars
-  IsSwept-end h new n s = grind (arith, s.few, s.ahead, place-lt len_of chars h n (length chars), place-end len_of chars (length chars))
+  pub IsTaken-end : HasUnits len_of → (new : List ℕ) (n : ℕ) → IsTaken new n (text_len len_of chars) → n ≡ length chars
+  IsTaken-end h new n s = grind (arith, s.few, s.ahead, place-lt len_of chars h n (length chars), place-end len_of chars (length chars))
+
+  pub taken-all : (new : List ℕ) (n at : ℕ) → n ≡ length chars → IsTaken new n at → take n new ≡ per_char 0 len_of chars old
+  taken-all new n at e s = grind (arith, s.front, take_all, length-per_char)
+
+  -- the same within one list: its values from `at` on are as they were
+  pub record IsSwept (new : List ℕ) (n at : ℕ) : Type 0 where
+    pub taken : IsTaken new n at
+    pub rest : (u : ℕ) → at ≤ u → get_or new u 0 ≡ get_or old u 0
+
+  -- one value moved, whether or not a character begins here
+  pub IsSwept-next : HasUnits len_of → (new : List ℕ) (n at x m : ℕ) → IsSwept new n at → IsTaken (set new n x) m (at + 1) → IsSwept (set new n x) m (at + 1)
+  IsSwept-next h new n at x m s next = record {
+    taken = next;
+    rest = λ u le. get_or-set_other new n u x 0 (omega (arith, le, IsTaken-le h new n at s.taken)) ∙ s.rest u (omega (arith, le));
+  }

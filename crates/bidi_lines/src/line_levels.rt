@@ -189,9 +189,24 @@ pub fn levels_with_line(
     Ok(shown)
 }
 
-// Brings the level of each character's first unit to the character's index, and counts the characters. The
-// loop has no branch: to follow the lengths of the characters costs more, since they are hard to predict.
-pub(crate) fn gather<T: TextSource>(text: T, levels: &mut [Level]) -> usize
+// Brings the level of each character's first unit to the character's index, and counts the characters. Follows the
+// lengths of the characters.
+fn gather_by_characters<T: TextSource>(text: T, levels: &mut [Level]) -> usize
+    requires { length levels.old ≡ text_len T.units (T.characters text) }
+    ensures count { result ≡ length (T.characters text) }
+    ensures gathered { take result levels.new ≡ per_char 0 T.units (T.characters text) levels.old }
+{
+    let mut count = 0;
+    for (at, _) in text.indices_lengths() {
+        levels[count] = levels[at];
+        count += 1;
+    }
+    count
+}
+
+// Brings the level of each character's first unit to the character's index, and counts the characters. Tests each
+// unit, with no branch in the loop.
+fn gather_by_units<T: TextSource>(text: T, levels: &mut [Level]) -> usize
     requires { length levels.old ≡ text_len T.units (T.characters text) }
     ensures count { result ≡ length (T.characters text) }
     ensures gathered { take result levels.new ≡ per_char 0 T.units (T.characters text) levels.old }
@@ -202,6 +217,53 @@ pub(crate) fn gather<T: TextSource>(text: T, levels: &mut [Level]) -> usize
         count += usize::from(text.is_boundary(at));
     }
     count
+}
+
+// Brings the level of each character's first unit to the character's index, and counts the characters. The lengths
+// of characters are hard to predict, so it is quicker to test each unit, if the text looks one up at once.
+pub(crate) fn gather<T: TextSource>(text: T, levels: &mut [Level]) -> usize
+    requires { length levels.old ≡ text_len T.units (T.characters text) }
+    ensures count { result ≡ length (T.characters text) }
+    ensures gathered { take result levels.new ≡ per_char 0 T.units (T.characters text) levels.old }
+{
+    if T::READS_IN_PLACE {
+        gather_by_units(text, levels)
+    } else {
+        gather_by_characters(text, levels)
+    }
+}
+
+// Writes the level of each character's first unit, and counts the characters.
+fn copy_by_units<T: TextSource>(text: T, levels: &[Level], out: &mut [Level]) -> usize
+    requires one_a_unit { length levels.now ≡ text_len T.units (T.characters text) }
+    requires room { length out.old ≡ length levels.now }
+    ensures count { result ≡ length (T.characters text) }
+    ensures copied { take result out.new ≡ per_char 0 T.units (T.characters text) levels.now }
+{
+    let mut count = 0;
+    for at in 0..levels.len() {
+        out[count] = levels[at];
+        count += usize::from(text.is_boundary(at));
+    }
+    count
+}
+
+/// Writes the level of each character of a text, which is that of its first unit, and returns the number of
+/// characters.
+///
+/// `levels` has one level a unit, and `out` is as long. The entries of `out` behind the last character hold any
+/// levels.
+pub fn write_first_units<T: TextSource>(text: T, levels: &[Level], out: &mut [Level]) -> usize
+    requires one_a_unit { length levels.now ≡ text_len T.units (T.characters text) }
+    requires room { length out.old ≡ length levels.now }
+    ensures count { result ≡ length (T.characters text) }
+    ensures written { take result out.new ≡ per_char 0 T.units (T.characters text) levels.now }
+{
+    if T::READS_IN_PLACE {
+        return copy_by_units(text, levels, out);
+    }
+    out.copy_from_slice(levels);
+    gather_by_characters(text, out)
 }
 
 /// Returns the level of each character of a text, which is that of its first unit.

@@ -68,10 +68,10 @@ pub(crate) fn run_end<L: LevelList>(levels: L, from: usize) -> usize
     }
     while len - at >= 16 {
         let count = first_other(levels, at, level);
-        at += count;
         if count < 16 {
-            return at;
+            return at + count;
         }
+        at += 16;
     }
     // Of the last 16 items, those before `at` have this level too.
     if len - from >= 16 {
@@ -109,10 +109,10 @@ fn stretch_end<L: LevelList>(levels: L, from: usize, base: u8) -> usize
     let mut at = from;
     while len - at >= 16 {
         let count = first_at_most(levels, at, base);
-        at += count;
         if count < 16 {
-            return at;
+            return at + count;
         }
+        at += 16;
     }
     while at < len && levels.number_at(at) > base {
         at += 1;
@@ -227,16 +227,23 @@ pub fn write_visual_order<L: LevelList>(levels: L, order: &mut [usize])
     put_in_visual_order(levels, order);
 }
 
-/// Returns the visual order of a line (L2), as [`write_visual_order`] writes it. Only the list that is
-/// returned is allocated.
+// Returns the indexes below `n`, upwards.
+fn indexes_below(alloc: Global, n: usize) -> Result<Vec<usize>, AllocError>
+    ensures { IfOk result (λ v. v.items ≡ range_with_len 0 n) }
+{
+    (0..n).collect(alloc)
+}
+
+/// Returns the visual order of a line (L2), as [`write_visual_order`] writes it. Allocates only the list that it
+/// returns.
 pub fn reorder_visual(alloc: Global, levels: &[Level]) -> Result<Vec<usize>, AllocError>
     ensures order { IfOk result (λ v. v.items ≡ visual_order levels.now) }
     ensures visual { IfOk result (λ v. IsVisualOrder levels.now v.items) }
     ensures still { has_rtl levels.now ≡ false → IfOk result (λ v. v.items ≡ indexes levels.now) }
     ensures reversals { IfOk result (λ v. v.items ≡ order_by_reversals levels.now) }
 {
-    let mut order = vec![in alloc; 0; levels.len()]?;
-    write_visual_order(levels, order.as_mut_slice());
+    let mut order = indexes_below(alloc, levels.len())?;
+    put_in_visual_order(levels, order.as_mut_slice());
     Ok(order)
 }
 

@@ -197,17 +197,17 @@ impl LineRuns {
     {
         self.ordered.as_slice()
     }
-}
 
-// A list of the same runs.
-fn copied(alloc: Global, runs: &[Range<usize>]) -> Result<Vec<Range<usize>>, AllocError>
-    ensures { IfOk result (λ v. map run_of v.items ≡ map run_of runs.now) }
-{
-    let mut list = Vec::with_capacity(alloc, runs.len())?;
-    for run in runs {
-        list.push(run.start..run.end)?;
+    /// Returns the runs from left to right as a list. Those of a line of up to 16 runs are copied to it.
+    pub fn into_vec(self) -> Result<Vec<Range<usize>>, AllocError>
+        ensures { IfOk result (λ v. map run_of v.items ≡ runs_of self) }
+    {
+        let LineRuns { ordered, .. } = self;
+        match ordered.into_vec() {
+            Ok(list) => Ok(list),
+            Err(failed) => Err(failed.error),
+        }
     }
-    Ok(list)
 }
 
 /// Returns the level runs (BD7) of a line from left to right (L2).
@@ -225,7 +225,7 @@ pub fn visual_runs_of(
 {
     let mut runs = LineRuns::new(alloc);
     runs.find(levels, start)?;
-    copied(alloc, runs.as_slice())
+    runs.into_vec()
 }
 
 /// Returns the level of each unit of a text as [`levels_with_line`] does, and the level runs (BD7) of the
