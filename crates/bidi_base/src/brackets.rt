@@ -1,5 +1,6 @@
-//! The bracket pairs of an isolating run sequence (BD14 to BD16), over its kept characters alone: an
-//! index counts the characters that X9 leaves.
+//! Finds the bracket pairs of an isolating run sequence (BD14 to BD16).
+//!
+//! An index counts only the characters of the sequence that X9 leaves.
 
 ghost use Rattle.std.specs.Prelude.{◌≡◌, ◌==◌, ◌<◌, nat_lt, true, false, List, [], ◌∷◌, ◌++◌, length, filter, slice_get, Option, IsTrue, OnOk, IfOk, IfSome, IfNone};
 ghost use Rattle.bidi_base.specs.declared.data_source.BidiMatchedOpeningBracket.{BidiMatchedOpeningBracket};
@@ -12,29 +13,29 @@ ghost use Rattle.bidi_base.specs.FoundBrackets.{ArePairsOf};
 use arrayvec::ArrayVec;
 use std::alloc::{AllocError, Global};
 
-/// How many openings may wait for their closings at once (BD16).
+/// The size of the stack of opening brackets (BD16).
 const MAX_OPEN_BRACKETS: usize = 63;
 
-/// A bracket that counts: its class after W7 is ON (BD14, BD15).
+/// A bracket that can be part of a pair: its class after W7 is ON (BD14, BD15).
 #[derive(Clone, Copy, Debug)]
 pub struct Bracket {
-    /// Its index among the kept characters of its sequence.
+    /// Its index among the characters of its sequence that X9 leaves.
     pub index: usize,
-    /// The opening bracket of its pair. Brackets pair only where these are equal.
+    /// The opening bracket of its pair. Two brackets pair only if these are equal.
     pub opening: char,
     /// Whether it is an opening bracket.
     pub is_open: bool,
 }
 
-/// An opening that waits for its closing.
+/// An opening bracket on the stack. It has no closing bracket yet.
 #[derive(Clone, Copy, Debug)]
 struct Waiting {
     opening: char,
-    /// Where its pair stands in the list of pairs.
+    /// The index of its pair in the list of pairs.
     pair: usize,
 }
 
-// The entry that fills a new stack. It is all zeros, so that the stack is cleared at once.
+// Fills the entries of a new stack. It is all zeros, so the whole stack is cleared at once.
 impl Default for Waiting {
     fn default() -> Waiting {
         Waiting {
@@ -44,13 +45,18 @@ impl Default for Waiting {
     }
 }
 
-/// Puts the bracket pairs of a sequence (BD16) in place of what `pairs` holds: the indexes of opening
-/// and closing, in the order of their openings. `brackets` are those of the sequence that count, in
-/// their order.
+/// Replaces the contents of `pairs` with the bracket pairs of a sequence (BD16).
 ///
-/// The search ends at the first opening that finds 63 others waiting, and the pairs so far stay.
-/// Each bracket is read once, and a closing looks at those openings alone that wait. Refused only
-/// where there is no memory for a pair for each opening; `pairs` may then hold anything.
+/// `brackets` must be the brackets of the sequence with class ON after W7, in order. A pair is the
+/// index of its opening bracket and that of its closing bracket. Pairs are in the order of their
+/// opening brackets.
+///
+/// The search ends at the first opening bracket that finds 63 others on the stack. It keeps the
+/// pairs found before. Each bracket is read once, and a closing bracket is compared only with the
+/// brackets on the stack.
+///
+/// Returns an error only if it cannot allocate a pair for each opening bracket. `pairs` may then
+/// hold anything.
 pub fn find_pairs(brackets: &[Bracket], pairs: &mut Vec<(usize, usize)>) -> Result<(), AllocError>
     ensures { OnOk result (ArePairsOf brackets.now pairs.new.items) }
 {
@@ -61,8 +67,10 @@ pub fn find_pairs(brackets: &[Bracket], pairs: &mut Vec<(usize, usize)>) -> Resu
     search(brackets, pairs)
 }
 
-/// The same, with a stack of the openings that wait. A pair stands in the list from its opening on,
-/// with that as its closing as long as it has none.
+/// Finds the bracket pairs with a stack of opening brackets. `pairs` must be empty.
+///
+/// Each opening bracket adds a pair to the list. Until its closing bracket is found, both indexes
+/// of the pair are those of the opening bracket.
 fn search(brackets: &[Bracket], pairs: &mut Vec<(usize, usize)>) -> Result<(), AllocError>
     requires { pairs.old.items ≡ [] }
     ensures { OnOk result (ArePairsOf brackets.now pairs.new.items) }
@@ -78,20 +86,23 @@ fn search(brackets: &[Bracket], pairs: &mut Vec<(usize, usize)>) -> Result<(), A
     Ok(())
 }
 
-/// A search for the bracket pairs of a sequence (BD16) that takes one bracket after another, and keeps its
-/// memory from sequence to sequence.
+/// A search for the bracket pairs of a sequence (BD16) that reads one bracket at a time.
+///
+/// It reuses its memory from sequence to sequence.
 #[derive(Debug, Drop)]
 pub struct PairSearch {
     waiting: ArrayVec<Waiting, MAX_OPEN_BRACKETS>,
     pairs: Vec<(usize, usize)>,
-    /// Whether an opening found no room on the stack.
+    /// Whether an opening bracket found the stack full, which ends the search.
     is_over: bool,
 }
 
 impl PairSearch {
     ghost use Rattle.bidi_base.specs.PairSearch.{HasRead};
 
-    /// A search that has read no bracket yet. No memory is taken.
+    /// Returns a search that has read no bracket.
+    ///
+    /// Does not allocate.
     pub fn new(alloc: Global) -> PairSearch
         ensures { HasRead result [] }
     {
@@ -102,7 +113,7 @@ impl PairSearch {
         }
     }
 
-    /// Begins anew.
+    /// Forgets the brackets read, to begin a new sequence.
     pub fn clear(&mut self)
         ensures { HasRead self.new [] }
     {
@@ -111,8 +122,10 @@ impl PairSearch {
         self.is_over = false;
     }
 
-    /// Reads the next bracket of the sequence that counts. Refused only where there is no memory for a
-    /// pair; the search may then have read anything.
+    /// Reads the next bracket of the sequence with class ON after W7.
+    ///
+    /// Returns an error only if it cannot allocate a pair. The search must then be cleared before
+    /// it reads again.
     pub fn read(&mut self, bracket: &Bracket) -> Result<(), AllocError>
         requires { (before : List Bracket) × HasRead self.old before }
         ensures { (before : List Bracket) → HasRead self.old before → OnOk result (HasRead self.new (before ++ bracket.now ∷ [])) }
@@ -124,8 +137,9 @@ impl PairSearch {
         Ok(())
     }
 
-    /// The pairs of the brackets that were read, as [`find_pairs`] finds them. Nothing may be read behind it
-    /// until the search begins anew.
+    /// Returns the pairs of the brackets read, as [`find_pairs`] finds them.
+    ///
+    /// The search must then be cleared before it reads again.
     pub fn finish(&mut self) -> &[(usize, usize)]
         ensures { (all : List Bracket) → HasRead self.old all → ArePairsOf all result.now }
     {
@@ -134,7 +148,7 @@ impl PairSearch {
     }
 }
 
-/// Reads a bracket. Answers whether the search goes on behind it.
+/// Reads a bracket. Returns whether the search continues after it.
 fn read(
     bracket: &Bracket,
     waiting: &mut ArrayVec<Waiting, MAX_OPEN_BRACKETS>,
@@ -161,8 +175,9 @@ fn read(
     Ok(true)
 }
 
-/// An opening comes, if there is room for it on the stack. Answers whether there is: the search ends
-/// at the first opening for which there is none (BD16).
+/// Pushes an opening bracket and adds its pair, if the stack has room. Returns whether it has.
+///
+/// The search ends at the first opening bracket that finds the stack full (BD16).
 fn open(
     bracket: &Bracket,
     waiting: &mut ArrayVec<Waiting, MAX_OPEN_BRACKETS>,
@@ -187,7 +202,7 @@ fn open(
     Ok(true)
 }
 
-/// The topmost entry of the stack with this opening character.
+/// Returns the index of the topmost entry with this opening character.
 fn topmost(waiting: &[Waiting], opening: char) -> Option<usize>
     ensures found { IfSome result (λ k. (k < length waiting.now)
         × (find_last (λ e. e.opening == opening) waiting.now ≡ slice_get waiting.now k)) }
@@ -201,7 +216,7 @@ fn topmost(waiting: &[Waiting], opening: char) -> Option<usize>
     None
 }
 
-/// Leaves out the openings that have no closing.
+/// Removes the pairs that have no closing bracket.
 fn drop_unclosed(pairs: &mut Vec<(usize, usize)>)
     ensures { pairs.new.items ≡ filter (λ p. nat_lt p.0 p.1) pairs.old.items }
 {

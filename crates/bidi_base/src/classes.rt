@@ -1,4 +1,4 @@
-//! The groups of classes that the rules name, one function a group.
+//! The groups of classes that the rules name, with one function for each group.
 
 ghost use Rattle.std.specs.Prelude.{◌≡◌};
 ghost use Rattle.bidi_base.specs.Classes.{is_strong, is_initiator, is_embedding, is_pdi, is_nsm, is_paragraph_separator, is_separator, is_removed, is_neutral, as_direction, stands_for};
@@ -7,21 +7,23 @@ ghost use Rattle.bidi_base.specs.Line.{is_blank};
 
 use crate::char_data::BidiClass;
 
-/// A strong class: L, R or AL.
+/// Returns whether a class is strong: L, R or AL.
 pub fn is_strong(class: BidiClass) -> bool
     ensures { result ≡ is_strong class }
 {
     matches!(class, BidiClass::L | BidiClass::R | BidiClass::AL)
 }
 
-/// An isolate initiator (BD8).
+/// Returns whether a class is an isolate initiator: LRI, RLI or FSI (BD8).
 pub fn is_initiator(class: BidiClass) -> bool
     ensures { result ≡ is_initiator class }
 {
     matches!(class, BidiClass::LRI | BidiClass::RLI | BidiClass::FSI)
 }
 
-/// An embedding initiator (BD10), of an embedding or an override: what a PDF closes.
+/// Returns whether a class is an embedding initiator: LRE, RLE, LRO or RLO (BD10).
+///
+/// Such a character opens an embedding or an override, which a PDF closes.
 pub fn is_embedding(class: BidiClass) -> bool
     ensures { result ≡ is_embedding class }
 {
@@ -31,35 +33,37 @@ pub fn is_embedding(class: BidiClass) -> bool
     )
 }
 
-/// What closes an isolate.
+/// Returns whether a class is PDI, which closes an isolate.
 pub fn is_pdi(class: BidiClass) -> bool
     ensures { result ≡ is_pdi class }
 {
     matches!(class, BidiClass::PDI)
 }
 
-/// A nonspacing mark.
+/// Returns whether a class is NSM, a nonspacing mark.
 pub fn is_nsm(class: BidiClass) -> bool
     ensures { result ≡ is_nsm class }
 {
     matches!(class, BidiClass::NSM)
 }
 
-/// A paragraph separator.
+/// Returns whether a class is B, a paragraph separator.
 pub fn is_paragraph_separator(class: BidiClass) -> bool
     ensures { result ≡ is_paragraph_separator class }
 {
     matches!(class, BidiClass::B)
 }
 
-/// A segment separator or a paragraph separator (L1).
+/// Returns whether a class is S or B, a segment or paragraph separator (L1).
 pub fn is_separator(class: BidiClass) -> bool
     ensures { result ≡ is_separator class }
 {
     matches!(class, BidiClass::B | BidiClass::S)
 }
 
-/// What X9 removes. The test has no branch, so that a loop tests many units at once.
+/// Returns whether X9 removes characters of a class: LRE, RLE, LRO, RLO, PDF or BN.
+///
+/// The test has no branch, so a loop can test many code units at once.
 pub fn is_removed(class: BidiClass) -> bool
     ensures { result ≡ is_removed class }
 {
@@ -71,8 +75,9 @@ pub fn is_removed(class: BidiClass) -> bool
         | (class == BidiClass::RLO)
 }
 
-/// White space, an isolate formatting character, or what X9 removes: what takes the paragraph level
-/// before a separator and at a line's end (L1).
+/// Returns whether a class takes the paragraph level before a separator and at a line's end (L1).
+///
+/// These are WS, the isolate formatting characters, and the classes that X9 removes.
 pub fn is_blank(class: BidiClass) -> bool
     ensures { result ≡ is_blank class }
 {
@@ -82,8 +87,9 @@ pub fn is_blank(class: BidiClass) -> bool
     ) || is_removed(class)
 }
 
-/// NI: the neutrals and isolate formatting characters of N1. The test has no branch, so that a loop
-/// tests many units at once.
+/// Returns whether a class is NI: a neutral or an isolate formatting character (N1).
+///
+/// The test has no branch, so a loop can test many code units at once.
 pub fn is_neutral(class: BidiClass) -> bool
     ensures { result ≡ is_neutral class }
 {
@@ -97,7 +103,9 @@ pub fn is_neutral(class: BidiClass) -> bool
         | (class == BidiClass::PDI)
 }
 
-/// What can make a paragraph of level 0 other than left to right throughout.
+/// Returns whether a class can keep a paragraph of level 0 from being all left to right.
+///
+/// Without such a class, the whole paragraph is left to right.
 pub fn may_turn(class: BidiClass) -> bool
     ensures { result ≡ may_turn class }
 {
@@ -116,7 +124,9 @@ pub fn may_turn(class: BidiClass) -> bool
     )
 }
 
-/// The direction that a class stands for in N0 and N1, where numbers stand for R.
+/// Returns the direction, L or R, that a class counts as in N0 and N1, if any.
+///
+/// Numbers (EN and AN) count as R.
 pub fn as_direction(class: BidiClass) -> Option<BidiClass>
     ensures { result ≡ as_direction class }
 {
@@ -127,7 +137,7 @@ pub fn as_direction(class: BidiClass) -> Option<BidiClass>
     }
 }
 
-/// Whether a class stands for a direction, L or R, in N0 and N1.
+/// Returns whether a class counts as this direction, L or R, in N0 and N1.
 pub fn stands_for(class: BidiClass, direction: BidiClass) -> bool
     ensures { result ≡ stands_for direction class }
 {

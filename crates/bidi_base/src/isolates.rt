@@ -1,4 +1,4 @@
-//! The isolates that are open while an isolating run sequence is put together (BD13).
+//! The stack of open isolates, used to build isolating run sequences (BD13).
 
 ghost use Rattle.std.specs.Prelude.{◌≡◌, OnOk};
 ghost use Rattle.bidi_base.specs.SequencePass.{read_class, waiting_for};
@@ -6,12 +6,15 @@ ghost use Rattle.bidi_base.specs.SequencePass.{read_class, waiting_for};
 use crate::char_data::BidiClass;
 use std::alloc::AllocError;
 
-/// For each isolate that is open, the innermost last, the sequence that waits for its PDI: that of
-/// its initiator, or none where the level run goes on after the initiator.
+/// For each open isolate, the index of the sequence that its PDI continues. The innermost is last.
+///
+/// This is the sequence of the initiator, or `None` if the level run continues after the initiator.
 pub type WaitingSequences = Vec<Option<usize>>;
 
-/// Reads a character for what is open. If it is an initiator, `wait` waits for its PDI. Refused only for
-/// want of memory.
+/// Updates the open isolates for a character of this class.
+///
+/// An isolate initiator pushes `wait`, and a PDI pops the innermost isolate. Returns an error only
+/// if an allocation fails. `waiting` may then hold anything.
 pub fn read_class(
     waiting: &mut WaitingSequences,
     class: BidiClass,
@@ -29,7 +32,9 @@ pub fn read_class(
     Ok(())
 }
 
-/// The sequence that waits for a character of this class, where that begins a level run.
+/// Returns the sequence that a character of this class continues if it begins a level run.
+///
+/// Only a PDI continues a sequence: the one stored for the innermost open isolate.
 pub fn waiting_for(waiting: &[Option<usize>], class: BidiClass) -> Option<usize>
     ensures { result ≡ waiting_for class waiting.now }
 {

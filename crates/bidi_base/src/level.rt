@@ -11,14 +11,15 @@ use std::marker::Model;
 use std::mem::size_of;
 use std::{error, fmt};
 
-/// The greatest explicit level (BD2).
+/// The maximum explicit level (BD2).
 pub const MAX_EXPLICIT_DEPTH: u8 = 125;
 
-/// The greatest level: I1 and I2 add at most one to an explicit level of 125.
+/// The maximum level: I1 and I2 add at most one to an explicit level of 125.
 pub const MAX_IMPLICIT_DEPTH: u8 = 126;
 
-/// An embedding level (BD2): a number from 0 to 126. Even levels are left to right, odd ones
-/// right to left. Levels are equal and ordered as their numbers.
+/// An embedding level (BD2): a number from 0 to 126.
+///
+/// Even levels are left to right, odd levels right to left. Levels compare as their numbers.
 #[derive(Clone, Copy, Debug, PartialEq, Eq, PartialOrd, Ord)]
 pub struct Level(u8);
 
@@ -42,10 +43,10 @@ pub const LTR_LEVEL: Level = Level(0);
 /// Level 1, right to left.
 pub const RTL_LEVEL: Level = Level(1);
 
-/// Why a level was refused.
+/// The error for a level out of range.
 #[derive(Debug, PartialEq, Drop)]
 pub enum Error {
-    /// The number is none of a level, or of an explicit level where one was asked for.
+    /// The number is not a level, or not an explicit level if the call requires one.
     OutOfRangeNumber,
 }
 
@@ -64,12 +65,12 @@ impl fmt::Display for Error {
 
 impl error::Error for Error {}
 
-/// Why a list of levels was refused.
+/// The error for a list of levels.
 #[derive(Debug, PartialEq, Drop)]
 pub enum VecError {
-    /// Some number is above 126.
+    /// A number is above 126.
     OutOfRangeNumber,
-    /// Memory was refused.
+    /// An allocation failed.
     Memory,
 }
 
@@ -106,35 +107,35 @@ impl From<AllocFailed<Level>> for VecError {
 }
 
 impl Level {
-    /// Level 0, left to right.
+    /// Returns level 0, left to right.
     pub fn ltr() -> Level
         ensures { result ≡ 0 }
     {
         LTR_LEVEL
     }
 
-    /// Level 1, right to left.
+    /// Returns level 1, right to left.
     pub fn rtl() -> Level
         ensures { result ≡ 1 }
     {
         RTL_LEVEL
     }
 
-    /// The greatest explicit level, 125.
+    /// Returns the maximum explicit level, 125.
     pub fn max_explicit_depth() -> u8
         ensures { result ≡ 125 }
     {
         MAX_EXPLICIT_DEPTH
     }
 
-    /// The greatest level, 126.
+    /// Returns the maximum level, 126.
     pub fn max_implicit_depth() -> u8
         ensures { result ≡ 126 }
     {
         MAX_IMPLICIT_DEPTH
     }
 
-    /// The level of a number. Refused exactly above 126.
+    /// Returns the level with this number, or an error if the number is above 126.
     pub fn new(number: u8) -> Result<Level, Error>
         ensures { OkIff result (number ≤ 126) number }
     {
@@ -145,7 +146,7 @@ impl Level {
         }
     }
 
-    /// The explicit level of a number. Refused exactly above 125.
+    /// Returns the explicit level with this number, or an error if the number is above 125.
     pub fn new_explicit(number: u8) -> Result<Level, Error>
         ensures { OkIff result (number ≤ 125) number }
     {
@@ -156,7 +157,7 @@ impl Level {
         }
     }
 
-    /// The level's number, from 0 to 126.
+    /// Returns the level's number, from 0 to 126.
     pub fn number(&self) -> u8
         ensures number { result ≡ self.now }
         ensures in_range { self.now ≤ 126 }
@@ -164,21 +165,21 @@ impl Level {
         self.0
     }
 
-    /// Whether the level is even.
+    /// Returns whether the level is even, that is left to right.
     pub fn is_ltr(&self) -> bool
         ensures { result ≡ is_even self.now }
     {
         self.number() % 2 == 0
     }
 
-    /// Whether the level is odd.
+    /// Returns whether the level is odd, that is right to left.
     pub fn is_rtl(&self) -> bool
         ensures { result ≡ is_odd self.now }
     {
         self.number() % 2 == 1
     }
 
-    // The level that many above this one, if it is at most `limit`.
+    // Returns the sum of the level and `amount`, or an error if the sum is above `limit`.
     fn raised(self, amount: u8, limit: u8) -> Result<Level, Error>
         requires { limit ≤ 126 }
         ensures { OkIff result (self + amount ≤ limit) (self + amount) }
@@ -189,7 +190,9 @@ impl Level {
         }
     }
 
-    /// Adds to the level. Refused exactly where the sum passes 126, and then the level stays.
+    /// Adds `amount` to the level.
+    ///
+    /// Returns an error exactly if the sum is above 126. The level is then unchanged.
     pub fn raise(&mut self, amount: u8) -> Result<(), Error>
         ensures ok { IsOk result ↔ (self.old + amount ≤ 126) }
         ensures raised { OnOk result (self.new ≡ self.old + amount) }
@@ -199,7 +202,9 @@ impl Level {
         Ok(())
     }
 
-    /// Adds to the level. Refused exactly where the sum passes 125, and then the level stays.
+    /// Adds `amount` to the level, up to the maximum explicit level.
+    ///
+    /// Returns an error exactly if the sum is above 125. The level is then unchanged.
     pub fn raise_explicit(&mut self, amount: u8) -> Result<(), Error>
         ensures ok { IsOk result ↔ (self.old + amount ≤ 125) }
         ensures raised { OnOk result (self.new ≡ self.old + amount) }
@@ -209,7 +214,9 @@ impl Level {
         Ok(())
     }
 
-    /// Subtracts from the level. Refused exactly where that would pass 0, and then the level stays.
+    /// Subtracts `amount` from the level.
+    ///
+    /// Returns an error exactly if `amount` is above the level. The level is then unchanged.
     pub fn lower(&mut self, amount: u8) -> Result<(), Error>
         ensures ok { IsOk result ↔ (amount ≤ self.old) }
         ensures lowered { OnOk result (self.new + amount ≡ self.old) }
@@ -224,28 +231,34 @@ impl Level {
         }
     }
 
-    /// The least even level greater than this (X3, X5, X5b). Refused exactly where it passes 125.
+    /// Returns the lowest even level above this one (X3, X5, X5b).
+    ///
+    /// Returns an error exactly if that level is above 125.
     pub fn new_explicit_next_ltr(&self) -> Result<Level, Error>
         ensures { OkIff result (next_even self.now ≤ 125) (next_even self.now) }
     {
         Level::new_explicit(self.number() + if self.is_rtl() { 1 } else { 2 })
     }
 
-    /// The least odd level greater than this (X2, X4, X5a). Refused exactly where it passes 125.
+    /// Returns the lowest odd level above this one (X2, X4, X5a).
+    ///
+    /// Returns an error exactly if that level is above 125.
     pub fn new_explicit_next_rtl(&self) -> Result<Level, Error>
         ensures { OkIff result (next_odd self.now ≤ 125) (next_odd self.now) }
     {
         Level::new_explicit(self.number() + if self.is_rtl() { 2 } else { 1 })
     }
 
-    /// The least odd level at or above this. Refused exactly for 126.
+    /// Returns the lowest odd level at or above this one.
+    ///
+    /// Returns an error exactly for level 126.
     pub fn new_lowest_ge_rtl(&self) -> Result<Level, Error>
         ensures { OkIff result (odd_from self.now ≤ 126) (odd_from self.now) }
     {
         Level::new(self.number() + if self.is_rtl() { 0 } else { 1 })
     }
 
-    /// The level's direction as a class (BD3): R if it is odd, else L.
+    /// Returns the level's direction as a class (BD3): R if it is odd, else L.
     pub fn bidi_class(&self) -> BidiClass
         ensures { result ≡ direction_of self.now }
     {
@@ -256,8 +269,10 @@ impl Level {
         }
     }
 
-    /// The levels of these numbers, in order. `OutOfRangeNumber` exactly where a number is above
-    /// 126, which is looked at before any memory is taken.
+    /// Returns the levels with these numbers, in order.
+    ///
+    /// Returns `OutOfRangeNumber` exactly if a number is above 126, and checks this before it
+    /// allocates. Returns `Memory` if an allocation fails.
     pub fn vec(alloc: Global, numbers: &[u8]) -> Result<Vec<Level>, VecError>
         ensures ok { IfOk result (λ v. v.items ≡ numbers.now) }
         ensures refused { IsErrOf result OutOfRangeNumber ↔ Any (λ n. 126 < n) numbers.now }
@@ -272,8 +287,9 @@ impl Level {
         Ok(levels)
     }
 
-    /// Whether a text names this level, as the files of conformance tests do: `x`, which stands for
-    /// any level, or the number in decimal without leading zeros.
+    /// Returns whether a text names this level, as files of conformance tests do.
+    ///
+    /// The text is the number in decimal without leading zeros, or `x`, which names any level.
     pub fn matches_text(&self, text: &str) -> bool
         ensures { IsTrue result ↔ ((text.now ≡ codes "x") ⊎ (text.now ≡ decimal self.now)) }
     {
@@ -289,7 +305,9 @@ impl From<Level> for u8 {
     }
 }
 
-/// Whether some level is odd: where none is, a line is shown as it is stored.
+/// Returns whether any level is odd.
+///
+/// If none is, a line is displayed in the order in which it is stored.
 pub fn has_rtl(levels: &[Level]) -> bool
     ensures { result ≡ has_rtl_of levels.now }
 {

@@ -1,6 +1,8 @@
-//! The words that every layer of the bidirectional algorithm speaks: classes, levels and data
-//! sources, and the steps that the rules over lists and the passes in place share. Its folder
-//! `specs` has the definitions that contracts of the public surface cite, one module a topic.
+//! The classes, levels and data sources that every layer of the bidirectional algorithm uses.
+//!
+//! The crate also has the steps that the rules over lists share with the passes in place. Its
+//! folder `specs` has the definitions that the contracts of public calls cite, one module per
+//! topic.
 #![tactic(auto)]
 
 pub mod brackets;

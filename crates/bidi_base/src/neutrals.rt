@@ -1,4 +1,4 @@
-//! The steps of N0 to N2 over the classes of a sequence's characters.
+//! Steps of N0 to N2 over the classes of a sequence's characters.
 
 ghost use Rattle.std.specs.Prelude.{◌≡◌, ◌==◌, ◌||◌, ◌<◌, ◌≤◌, length, reverse, map, if◌then◌else◌};
 ghost use Rattle.std.specs.List.{list_any, prefix_len};
@@ -9,22 +9,23 @@ ghost use Rattle.bidi_base.specs.Places.{class_at, indexes};
 use crate::char_data::BidiClass;
 use crate::classes::{as_direction, stands_for};
 
-/// Whether one of the classes stands for this direction, L or R.
+/// Returns whether one of the classes counts as this direction, L or R.
 pub fn contains_direction(classes: &[BidiClass], direction: BidiClass) -> bool
     ensures { result ≡ list_any (stands_for direction) classes.now }
 {
     classes.iter().any(|class| stands_for(*class, direction))
 }
 
-/// Whether one of the classes stands for any direction.
+/// Returns whether one of the classes counts as a direction.
 pub fn contains_any_direction(classes: &[BidiClass]) -> bool
     ensures { result ≡ list_any has_direction classes.now }
 {
     classes.iter().any(|class| as_direction(*class).is_some())
 }
 
-/// The nearest direction in these classes, looked for backwards, or else the one given: the context
-/// before a bracket pair (N0 c).
+/// Returns the last direction in these classes, or `before` if there is none.
+///
+/// This is the context before a bracket pair (N0 c).
 pub fn nearest_direction(before: BidiClass, classes: &[BidiClass]) -> BidiClass
     ensures { result ≡ nearest_direction before (reverse classes.now) }
 {
@@ -36,8 +37,10 @@ pub fn nearest_direction(before: BidiClass, classes: &[BidiClass]) -> BidiClass
     before
 }
 
-/// Gives a bracket a direction, and the characters directly after it that are nonspacing marks by
-/// their original classes (N0).
+/// Sets the direction of a bracket and of the nonspacing marks directly after it (N0).
+///
+/// The original classes decide which characters are marks. Both lists must have the same length,
+/// and `bracket` must be an index in them.
 pub fn set_direction(
     original_classes: &[BidiClass],
     classes: &mut [BidiClass],
@@ -53,7 +56,7 @@ pub fn set_direction(
     classes[bracket..end].fill(direction);
 }
 
-/// How many nonspacing marks the list begins with.
+/// Returns the number of nonspacing marks at the start of the list.
 fn marks(original_classes: &[BidiClass]) -> usize
     ensures count { result ≡ prefix_len is_nsm original_classes.now }
     ensures within { result ≤ length original_classes.now }
@@ -64,7 +67,9 @@ fn marks(original_classes: &[BidiClass]) -> usize
         .count()
 }
 
-/// What neutrals between two directions take (N1, N2).
+/// Returns the direction of neutrals between two directions (N1, N2).
+///
+/// It is their direction if they are equal, or else the embedding direction.
 pub fn common_direction(
     embedding_direction: BidiClass,
     left: BidiClass,

@@ -1,9 +1,12 @@
-//! A small table of classes and brackets for examples and tests. It claims nothing about Unicode's
-//! data.
+//! A small table of classes and brackets for examples and tests.
+//!
+//! It does not claim to match Unicode's data.
 
 use crate::char_data::BidiClass;
 
-/// Ranges of characters, each as its first and last one and their class. Any other character is L.
+/// Ranges of characters: the first character, the last character and their class.
+///
+/// All other characters have class L.
 pub static RANGES: [(char, char, BidiClass); 36] = [
     ('\u{0009}', '\u{0009}', BidiClass::S),
     ('\u{000A}', '\u{000A}', BidiClass::B),
@@ -43,8 +46,8 @@ pub static RANGES: [(char, char, BidiClass); 36] = [
     ('\u{FFFD}', '\u{FFFD}', BidiClass::ON),
 ];
 
-/// Pairs of brackets, each as its opening and closing one and the opening one's normal form, if it
-/// has another.
+/// Bracket pairs: the opening bracket, the closing bracket, and the normal form of the opening
+/// bracket if it differs.
 pub static BRACKETS: [(char, char, Option<char>); 5] = [
     ('\u{0028}', '\u{0029}', None),
     ('\u{005B}', '\u{005D}', None),

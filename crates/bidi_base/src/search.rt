@@ -1,4 +1,6 @@
-//! The next unit whose class passes a test. What is rare is looked for sixteen units at a time.
+//! Finds the next code unit with a class that passes a test.
+//!
+//! The search tests sixteen code units at a time, which suits rare classes.
 
 ghost use Rattle.std.specs.Prelude.{◌≡◌, ℕ, ◌+◌, ◌<◌, ◌≤◌, Bool, true, false, length, map, if◌then◌else◌, MatchOption};
 ghost use lib.Lanes.{chunk};
@@ -11,15 +13,15 @@ use std::simd::prelude::*;
 
 /// A test of classes.
 pub trait ClassTest: Copy {
-    /// Which classes pass.
+    /// The classes that pass.
     ghost test: { Self → BidiClass → Bool };
 
-    /// Whether a class passes.
+    /// Returns whether a class passes.
     fn passes(self, class: BidiClass) -> bool
         ensures { result ≡ test self class };
 }
 
-// Writes 1 for each class that passes, and 0 for each other.
+// Writes 1 for each class that passes, and 0 for the others.
 fn mark<T: ClassTest>(test: T, classes: &[BidiClass], marks: &mut [u8])
     requires { length marks.old ≡ length classes.now }
     ensures { marks.new ≡ map (λ c. if T.test test c then 1 else 0) classes.now }
@@ -29,7 +31,7 @@ fn mark<T: ClassTest>(test: T, classes: &[BidiClass], marks: &mut [u8])
     }
 }
 
-// The same for the sixteen classes from `at` on.
+// Returns a mark for each of the sixteen classes from `at` on: 1 if it passes, else 0.
 fn sixteen_marks<T: ClassTest>(test: T, classes: &[BidiClass], at: usize) -> u8x16
     requires { at + 16 ≤ length classes.now }
     ensures { result ≡ map (λ c. if T.test test c then 1 else 0) (chunk at 16 classes.now) }
@@ -39,7 +41,7 @@ fn sixteen_marks<T: ClassTest>(test: T, classes: &[BidiClass], at: usize) -> u8x
     u8x16::from_array(marks)
 }
 
-// The first of the sixteen units from `at` on that passes.
+// Returns the first of the sixteen indexes from `at` on with a class that passes, if any.
 fn first_of_sixteen<T: ClassTest>(test: T, classes: &[BidiClass], at: usize) -> Option<usize>
     requires { at + 16 ≤ length classes.now }
     ensures { MatchOption result
@@ -56,18 +58,19 @@ fn first_of_sixteen<T: ClassTest>(test: T, classes: &[BidiClass], at: usize) -> 
     }
 }
 
-/// The first unit from `from` on and below `to` whose class passes a test, or else `to`. `from` is at
-/// most `to`, and `to` at most the number of classes.
+/// Returns the first index in `from..to` with a class that passes a test, or else `to`.
+///
+/// `from` must be at most `to`, and `to` at most the number of classes.
 pub fn first_passing<T: ClassTest>(test: T, classes: &[BidiClass], from: usize, to: usize) -> usize
     requires ordered { from ≤ to }
     requires inside { to ≤ length classes.now }
     ensures { IsFirst (T.test test) classes.now from to result }
 {
-    // Most often it is near.
+    // Most often the next one is near.
     if from < to && test.passes(classes[from]) {
         return from;
     }
-    // Units from `to` on are tested with the others, and never answered.
+    // The last sixteen may reach past `to`. Indexes from `to` on are tested, but never returned.
     let mut at = from;
     while at < to && classes.len() - at >= 16 {
         if let Some(found) = first_of_sixteen(test, classes, at) {

@@ -1,3 +1,5 @@
-//! Laws of the definitions that more than one of the crates above rests on: of stacks, sequences,
-//! stored levels, neutrals and lines. It has no function; its folder `proofs` has a module a topic.
+//! Laws of the definitions that more than one of the crates above uses.
+//!
+//! They are about stacks, sequences, stored levels, neutrals and lines. The crate has no functions.
+//! Its folder `proofs` has one module per topic.
 #![tactic(auto)]
