@@ -203,10 +203,7 @@ impl LineRuns {
         ensures { IfOk result (λ v. map run_of v.items ≡ runs_of self) }
     {
         let LineRuns { ordered, .. } = self;
-        match ordered.into_vec() {
-            Ok(list) => Ok(list),
-            Err(failed) => Err(failed.error),
-        }
+        Ok(ordered.into_vec()?)
     }
 }
 

@@ -13,14 +13,13 @@ ghost use Rattle.bidi_text_lines.specs.Written.{shown_units, AreRunsOfChars};
 use crate::analysed::Analysed;
 use crate::line_text::{LineText, write_runs};
 use bidi_base::char_data::BidiClass;
-use bidi_base::level::{Level, has_rtl};
-use bidi_lines::line_levels::first_units;
+use bidi_base::level::{LTR_LEVEL, Level, has_rtl};
+use bidi_lines::line_levels::write_first_units;
 use bidi_lines::shown_levels::ShownLevels;
 use bidi_lines::visual_order::write_visual_order;
 use bidi_lines::visual_runs::LineRuns;
 use bidi_text::text::TextSource;
 use std::alloc::{AllocError, Global};
-use std::mem;
 use std::ops::Range;
 
 mod chars;
@@ -36,11 +35,9 @@ fn gather_levels<T: TextSource>(
     requires { length levels.now ≡ text_len T.units (T.characters text) }
     ensures { OnOk result (of_chars.new.items ≡ per_char 0 T.units (T.characters text) levels.now) }
 {
-    of_chars.clear();
-    of_chars.extend_from_slice(levels)?;
-    let alloc = *of_chars.allocator();
-    let of_units = mem::replace(of_chars, Vec::new(alloc));
-    *of_chars = first_units(text, of_units);
+    of_chars.resize(levels.len(), LTR_LEVEL)?;
+    let count = write_first_units(text, levels, of_chars.as_mut_slice());
+    of_chars.truncate(count);
     Ok(())
 }
 
