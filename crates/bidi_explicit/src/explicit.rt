@@ -1,4 +1,4 @@
-//! Explicit levels and directions (X1 to X8), and level runs (BD7), in place over the units of one
+//! Explicit levels and directions (X1 to X8), and level runs (BD7), in place over the code units of one
 //! paragraph.
 
 ghost use Rattle.std.specs.Prelude.{◌≡◌, ℕ, ◌+◌, ◌*◌, ◌-◌, ◌≤◌, ◌||◌, [], if◌then◌else◌, length, map, unwrap_or, IsTrue, OnOk, IfOk};
@@ -23,7 +23,7 @@ use std::marker::Brand;
 use std::sync::ledger::{Blank, Ledger};
 use stretches::{OpenRun, Paragraph, is_control};
 
-// The level of a character, where `level` holds at its place (X8).
+// The level of a character: the paragraph level for a paragraph separator, otherwise `level` (X8).
 fn own_level(para_level: Level, class: BidiClass, level: Level) -> Level
     ensures { result ≡ (if is_paragraph_separator class then para_level else level) }
 {
@@ -33,7 +33,7 @@ fn own_level(para_level: Level, class: BidiClass, level: Level) -> Level
     }
 }
 
-// The class of a character under an override (X6), and BN for what X9 removes.
+// The class of a character under an override (X6), or BN if X9 removes it.
 fn own_class(class: BidiClass, override_class: Option<BidiClass>) -> BidiClass
     ensures { result
         ≡ (if is_removed class then BN
@@ -46,7 +46,7 @@ fn own_class(class: BidiClass, override_class: Option<BidiClass>) -> BidiClass
     }
 }
 
-// Writes a value to `len` units from `start` on, three at most.
+// Writes a value to `len` code units from `start` on. `len` is at most three.
 fn fill_few<X: Copy>(units: &mut [X], start: usize, len: usize, value: X)
     requires few { len ≤ 3 }
     requires within { start + len ≤ length units.old }
@@ -67,7 +67,7 @@ fn fill_few<X: Copy>(units: &mut [X], start: usize, len: usize, value: X)
     }
 }
 
-// Writes a level to the units from one up to another. A few are written one by one.
+// Writes a level to the code units from `from` up to `to`. Up to three are written one by one.
 fn write_level(levels: &mut [Level], from: usize, to: usize, level: Level)
     requires ordered { from ≤ to }
     requires within { to ≤ length levels.old }
@@ -80,7 +80,7 @@ fn write_level(levels: &mut [Level], from: usize, to: usize, level: Level)
     }
 }
 
-// The same of a class.
+// Writes a class to the code units from `from` up to `to`. Up to three are written one by one.
 fn write_class(classes: &mut [BidiClass], from: usize, to: usize, class: BidiClass)
     requires ordered { from ≤ to }
     requires within { to ≤ length classes.old }
@@ -93,8 +93,8 @@ fn write_class(classes: &mut [BidiClass], from: usize, to: usize, class: BidiCla
     }
 }
 
-// Ends the level run that began at `run_start`, where the kept character at `start` has another
-// level than the kept one before it. Answers where the run of that character starts.
+// Ends the level run that began at `run_start` if the kept character at `start` has another level than the
+// kept one before it. Returns where the run of that character starts.
 fn cut_run(
     runs: &mut LevelRunVec,
     run_start: usize,
@@ -115,17 +115,20 @@ fn cut_run(
     }
 }
 
-/// The explicit levels of a paragraph, its classes under overrides, and its level runs.
+/// Finds the explicit levels of a paragraph, its classes under overrides, and its level runs (X1 to X8,
+/// BD7).
 ///
-/// `original_classes` has the stored classes. Each unit of `levels` gets the explicit level of its
-/// character, whatever it held, and each unit of `processing_classes` the class, which is BN for
-/// what X9 removes. A new run begins exactly at a character that X9 keeps and whose level differs
-/// from that of the kept character before it; the runs cover the text.
+/// `para_level` is at most 125. The three slices have one entry for each code unit. `original_classes` has
+/// the stored classes, which are equal within each character. `levels` may hold anything, and gets the
+/// explicit level of each code unit's character. `processing_classes` must be a copy of `original_classes`,
+/// and gets the classes under overrides, with BN for characters that X9 removes.
 ///
-/// `para_level` is at most 125, and there is one entry a unit in each list, in `original_classes` the
-/// same for all units of a character. `processing_classes` comes as a copy of them, and `runs` empty.
-/// Refused only where `runs`, which brings its own memory, cannot grow; the slices and the runs hold
-/// any values then. Nothing else takes memory: `alloc` is there as in all passes.
+/// `runs` must be empty. A new run begins exactly at a character that X9 keeps and whose level differs from
+/// that of the kept character before it. The runs cover the text.
+///
+/// Returns an error only if `runs`, which has its own allocator, cannot grow. The slices and the runs may
+/// then hold anything. Nothing else allocates: `alloc` is a parameter of all passes, and this one does not
+/// use it.
 pub fn compute<T: TextSource>(
     alloc: Global,
     text: T,
@@ -161,7 +164,7 @@ pub fn compute<T: TextSource>(
     )
 }
 
-// The same by a new count of steps.
+// Calls [`compute_counted`] with a new count of steps.
 fn compute_fresh<T: TextSource, S: Ledger>(
     alloc: Global,
     text: T,
@@ -202,10 +205,11 @@ fn compute_fresh<T: TextSource, S: Ledger>(
     )
 }
 
-/// The same as [`compute`], where each turn of a loop, here and in what is called, counts in `steps`: at
-/// least one for each character of the paragraph, and at most four. The turns that empty the status
-/// stack at a PDI are paid by the openers that filled it. Calls of the text and of the library have no
-/// turns. After a refusal nothing is said of the count.
+/// Like [`compute`], and counts each loop iteration in `steps`, including those of the functions it calls.
+///
+/// There is at least one iteration for each character of the paragraph, and at most four. The iterations
+/// that pop the status stack at a PDI are charged to the initiators that filled it. Calls of the text and
+/// of the library count as no iterations. After an error nothing is promised about the count.
 pub fn compute_counted<T: TextSource, S: Ledger>(
     _alloc: Global,
     text: T,

@@ -1,7 +1,7 @@
 //! The neutrals in place (N0 to N2).
 //!
-//! In a sequence with one direction alone N2 is all there is to do. Of others the brackets are found, and
-//! then all is resolved where it stands. So all memory is taken before the first class is written.
+//! A sequence with a single direction needs only N2. For other sequences the pass finds the brackets first,
+//! and then resolves all classes in place. So it makes all allocations before it writes the first class.
 
 ghost use Rattle.std.specs.Prelude.{◌≡◌, ℕ, List, [], ◌∷◌, ◌++◌, false, length, map, IsTrue, OnOk, OnErr, Option};
 ghost use Rattle.std.specs.List.{list_all};
@@ -41,15 +41,15 @@ use one_direction::stands_alone;
 use pairs::resolve_pairs;
 use std::alloc::{AllocError, Global};
 
-/// Resolves the neutrals of one sequence after another, and keeps its memory from each to the next.
+/// Resolves the neutrals of one sequence after another, and reuses its memory for each.
 #[derive(Debug, Drop)]
 pub struct NeutralResolver {
-    /// The brackets of a sequence that count, and their pairs, by the units at which they begin.
+    /// The brackets of a sequence that count, and their pairs, by the indices at which they begin.
     search: PairSearch,
 }
 
 impl NeutralResolver {
-    /// A resolver that has gathered nothing yet. No memory is taken.
+    /// Creates a resolver that has read nothing yet. Does not allocate.
     pub fn new(alloc: Global) -> NeutralResolver
         ensures { HasGatheredNothing result }
     {
@@ -58,7 +58,7 @@ impl NeutralResolver {
         }
     }
 
-    /// The neutrals of a sequence, in place, as [`resolve_neutral`] says.
+    /// Resolves the neutrals of a sequence in place, see [`resolve_neutral`].
     pub fn resolve<D: BidiDataSource, T: TextSource>(
         &mut self,
         text: T,
@@ -100,7 +100,7 @@ impl NeutralResolver {
         )
     }
 
-    /// As [`NeutralResolver::resolve`], of a sequence whose runs are lent.
+    /// Like [`NeutralResolver::resolve`], for a sequence that borrows its runs.
     pub fn resolve_lent<D: BidiDataSource, T: TextSource>(
         &mut self,
         text: T,
@@ -149,8 +149,10 @@ impl NeutralResolver {
         Ok(())
     }
 
-    /// As [`NeutralResolver::resolve_lent`], but for N2: what it would give the embedding direction stays
-    /// a neutral. The levels are the same, since neither adds to them (I1, I2).
+    /// Like [`NeutralResolver::resolve_lent`], but without N2.
+    ///
+    /// Neutrals to which N2 would give the embedding direction stay neutral. The levels are the same, since
+    /// I1 and I2 add nothing to either.
     pub fn resolve_up_to_n1<D: BidiDataSource, T: TextSource>(
         &mut self,
         text: T,
@@ -210,7 +212,7 @@ impl NeutralResolver {
         Ok(())
     }
 
-    /// N0 over the characters of a sequence that are not BN.
+    /// Applies N0 to the characters of a sequence that are not BN.
     fn resolve_brackets<D: BidiDataSource, T: TextSource>(
         &mut self,
         text: T,
@@ -234,7 +236,7 @@ impl NeutralResolver {
         Ok(())
     }
 
-    /// Reads the brackets of a sequence that count, by the units at which they begin.
+    /// Reads the brackets of a sequence that count, by the indices at which they begin.
     fn gather<D: BidiDataSource, T: TextSource>(
         &mut self,
         text: T,
@@ -255,7 +257,7 @@ impl NeutralResolver {
         Ok(())
     }
 
-    /// Reads those of a run behind what was read before.
+    /// Reads the brackets of one run, after those read before.
     fn gather_run<D: BidiDataSource, T: TextSource>(
         &mut self,
         text: T,
@@ -282,7 +284,7 @@ impl NeutralResolver {
         Ok(())
     }
 
-    /// Reads a character that begins at a unit, of class ON, if it is a bracket.
+    /// Reads the character `c` of class ON, which begins at `at`, if it is a bracket.
     fn push<D: BidiDataSource>(
         &mut self,
         data_source: &D,
@@ -304,19 +306,19 @@ impl NeutralResolver {
     }
 }
 
-/// The neutrals of a sequence, in place: N0 to N2 over its characters that are not BN.
+/// Resolves the neutrals of a sequence in place: N0 to N2 over its characters that are not BN.
 ///
-/// Each unit of `processing_classes` has the class of its character: those of the sequence the one
-/// after W7, or BN for what X9 removed. `levels` and `original_classes` have an entry for each unit
-/// too, and the latter the stored classes. The sequence fits the text. The embedding direction is
-/// that of the level at the sequence's first unit that is not BN; no other level is read.
+/// Each code unit of `processing_classes` has the class of its character. In the sequence this is the class
+/// after W7, or BN if X9 removes the character. `levels` and `original_classes` also have one entry for
+/// each code unit, and `original_classes` has the stored classes. The sequence fits the text. The embedding
+/// direction comes from the level at the sequence's first code unit that is not BN. No other level is read.
 ///
-/// BN stays, and so do the units outside the sequence. After a refusal, which comes for want of
-/// memory alone, all classes are as they were. [`NeutralResolver`] does the same for many sequences
-/// with the same memory.
+/// BN stays BN, and code units outside the sequence do not change. Returns an error only if an allocation
+/// fails, and all classes are then unchanged. [`NeutralResolver`] does the same for many sequences with the
+/// same memory.
 ///
-/// The cost is linear in the sequence. Where the data source calls brackets themselves nonspacing
-/// marks, a row of marks is gone over a few times for each of the 63 pairs that can be open at once.
+/// The cost is linear in the sequence. If the data source says that brackets themselves are nonspacing
+/// marks, a series of marks is passed over a few times for each of the 63 pairs that can be open at once.
 pub fn resolve_neutral<D: BidiDataSource, T: TextSource>(
     alloc: Global,
     text: T,

@@ -1,5 +1,5 @@
-//! The paragraphs of a text: the walk that finds them with their classes and base levels, and the
-//! levels of the units of each.
+//! The paragraphs of a text. The pass of `bidi_walk` finds them with their classes and base levels, and
+//! [`paragraph_levels`] finds the levels of each paragraph's code units.
 #![tactic(auto)]
 
 pub mod paragraph_levels;

@@ -1,5 +1,5 @@
-//! The levels of one paragraph after another (X1 to I2), by passes in place over its units, and those
-//! of the characters that X9 removes.
+//! The levels of one paragraph after another (X1 to I2), by passes in place over its code units. Characters
+//! that X9 removes get levels too.
 ghost use Rattle.std.specs.Prelude.{◌≡◌, ℕ, ◌+◌, ◌<◌, ◌≤◌, true, false, length, map, slice_index, All, IsTrue, OnOk};
 ghost use Rattle.bidi_base.specs.declared.char_data.BidiClass.TheVariants.{L};
 ghost use Rattle.bidi_base.specs.Explicit.{explicit_levels, explicit_classes, processing_classes};
@@ -25,21 +25,21 @@ use bidi_walk::paragraph_flags::ParagraphFlags;
 use smallvec::SmallVec;
 use std::alloc::{AllocError, Global};
 
-/// Up to how many units of a paragraph the classes need no allocation.
+/// The classes of a paragraph of up to this many code units need no allocation.
 pub const FEW_UNITS: usize = 256;
 
-/// A paragraph whose stored classes are known, and whose levels are sought.
+/// A paragraph with its stored classes, from which its levels can be found.
 #[derive(Drop)]
 pub struct ClassifiedParagraph<'a, D: BidiDataSource, T: TextSource> {
-    /// Where its classes and brackets come from.
+    /// The source of its classes and brackets.
     pub data_source: &'a D,
-    /// Its own text.
+    /// The text of this paragraph only.
     pub text: T,
     /// Its level, at most 125.
     pub level: Level,
-    /// Those of its own characters.
+    /// The flags of this paragraph's characters only.
     pub flags: ParagraphFlags,
-    /// The stored classes (X5c) of its own text, one a unit.
+    /// The stored classes (X5c) of its text, one for each code unit.
     pub original_classes: &'a [BidiClass],
     ghost low: { level ≤ 125 },
     ghost own_flags: { flags ≡ flags_of (map (D.source data_source.now).class_of (T.characters text)) },
@@ -48,21 +48,20 @@ pub struct ClassifiedParagraph<'a, D: BidiDataSource, T: TextSource> {
         (stored_classes (map (D.source data_source.now).class_of (T.characters text))) },
 }
 
-/// Finds the levels (X1 to I2) of one paragraph after another, and keeps the memory of its lists from
-/// each to the next.
+/// Finds the levels (X1 to I2) of one paragraph after another, and reuses the memory of its lists for each.
 #[derive(Drop)]
 pub struct LevelResolver {
-    /// The class of each unit, as far as the passes have resolved it.
+    /// The class of each code unit, as far as the passes have resolved it.
     classes: SmallVec<BidiClass, FEW_UNITS>,
     /// The level runs.
     runs: LevelRunVec,
-    /// The isolating run sequences. The runs of each that has three or more take memory anew.
+    /// The isolating run sequences. A sequence of three or more runs allocates each time.
     sequences: IsolatingRunSequenceVec,
     neutrals: NeutralResolver,
 }
 
 impl LevelResolver {
-    /// A resolver that holds no memory yet.
+    /// Creates a resolver. Does not allocate.
     pub fn new(alloc: Global) -> LevelResolver {
         LevelResolver {
             classes: SmallVec::new(alloc),
@@ -122,7 +121,8 @@ impl LevelResolver {
         )
     }
 
-    /// Takes the classes of a paragraph in which nothing opens a level, with BN for what X9 removes.
+    /// Copies the classes of a paragraph in which nothing opens a level, with BN for characters that X9
+    /// removes.
     fn copy_flat<D: BidiDataSource, T: TextSource>(
         &mut self,
         paragraph: &ClassifiedParagraph<D, T>,
@@ -137,8 +137,8 @@ impl LevelResolver {
         Ok(())
     }
 
-    /// Finds the levels of all characters that X9 keeps, in a paragraph that is not empty and in which
-    /// nothing opens a level. It is one level run, and one sequence. N2 is left out, as its levels are the
+    /// Finds the levels of all characters that X9 keeps, in a non-empty paragraph in which nothing opens a
+    /// level. The paragraph is one level run, and one sequence. N2 is left out, since the levels are the
     /// same with and without it.
     fn resolve_flat<D: BidiDataSource, T: TextSource>(
         &mut self,
@@ -178,7 +178,7 @@ impl LevelResolver {
         Ok(())
     }
 
-    /// The same of any paragraph, by X1 to X10.
+    /// Finds the levels of all characters that X9 keeps, in any paragraph, by X1 to I2 without N2.
     fn resolve_nested<D: BidiDataSource, T: TextSource>(
         &mut self,
         alloc: Global,
@@ -214,7 +214,7 @@ impl LevelResolver {
         Ok(())
     }
 
-    /// The same of a paragraph that is not empty.
+    /// Finds the levels of all characters that X9 keeps, in a paragraph that is not empty.
     fn resolve<D: BidiDataSource, T: TextSource>(
         &mut self,
         alloc: Global,
@@ -241,8 +241,10 @@ impl LevelResolver {
         }
     }
 
-    /// Writes the stored levels of a paragraph, one for each of its units. What `levels` holds
-    /// before doesn't count; where memory is refused it may hold anything.
+    /// Writes the stored levels of a paragraph, one for each of its code units.
+    ///
+    /// `levels` may hold anything before. If an allocation fails, returns an error, and `levels` may hold
+    /// anything.
     pub fn write_levels<D: BidiDataSource, T: TextSource>(
         &mut self,
         alloc: Global,
@@ -266,7 +268,7 @@ impl LevelResolver {
     }
 }
 
-// The class that the passes take a class for.
+// The class that the passes use for a class: BN for what X9 removes.
 fn hidden(class: BidiClass) -> BidiClass
     ensures { result ≡ hidden class }
 {
@@ -277,7 +279,7 @@ fn hidden(class: BidiClass) -> BidiClass
     }
 }
 
-// Gives each unit of a removed character the class BN, by which the passes know it.
+// Gives the class BN to each code unit of a character that X9 removes, so that the passes recognize it.
 fn hide_removed(classes: &mut [BidiClass])
     ensures { classes.new ≡ map hidden classes.old }
 {
@@ -286,7 +288,7 @@ fn hide_removed(classes: &mut [BidiClass])
     }
 }
 
-// The level before a unit, at the front the paragraph level.
+// The level of the code unit before `unit`, or the paragraph level at the start.
 fn level_before(para_level: Level, levels: &[Level], unit: usize) -> Level
     requires { unit ≤ length levels.now }
     ensures front { unit ≡ 0 → result ≡ para_level }
@@ -313,8 +315,8 @@ impl ClassTest for Removed {
     }
 }
 
-// Gives each unit of a removed character the level of the unit before it, those at the front the
-// paragraph level.
+// Gives each code unit of a character that X9 removes the level of the code unit before it. At the start it
+// gets the paragraph level.
 fn fill_removed(para_level: Level, classes: &[BidiClass], levels: &mut [Level])
     requires lengths { length levels.old ≡ length classes.now }
     ensures kept { (u : ℕ) → u < length classes.now → is_kept_at classes.now u ≡ true

@@ -1,4 +1,4 @@
-//! The rules over lists of characters. Each call answers fresh vectors.
+//! The rules over lists of characters. Each call returns new vectors.
 
 mod bracket_pairs;
 mod embeddings;

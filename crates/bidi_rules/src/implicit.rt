@@ -1,5 +1,5 @@
-//! What is resolved within an isolating run sequence (W1 to W7, N0 to N2), and the levels of the
-//! characters (I1, I2), in place over the units of one paragraph.
+//! The rules within an isolating run sequence (W1 to W7, N0 to N2), and the levels of the characters (I1,
+//! I2), in place over the code units of one paragraph.
 
 mod levels;
 

@@ -1,5 +1,5 @@
-//! The rules of the bidirectional algorithm as passes in place, over the code units of one
-//! paragraph: explicit levels, isolating run sequences, and what is resolved within each.
+//! The rules of the bidirectional algorithm as passes in place, over the code units of one paragraph:
+//! explicit levels, isolating run sequences, and the rules within each sequence.
 #![tactic(auto)]
 
 pub mod implicit;

@@ -1,11 +1,11 @@
-//! The characters of a text, by the units at which they begin.
+//! Steps from one character of a text to the next, by index.
 
 ghost use Rattle.std.specs.Prelude.{◌≡◌, ℕ, ◌<◌, ◌≤◌, ◌+◌, length, IsTrue};
 ghost use Rattle.bidi_base.specs.Text.{is_boundary, place, text_len};
 
 use bidi_text::text::TextSource;
 
-/// The unit behind the character that begins at `start`, which is the place of a character.
+/// Returns the index after the character that begins at `start`. A character must begin there.
 pub fn end_of<T: TextSource>(text: T, start: usize) -> usize
     requires begins { IsTrue (is_boundary T.units (T.characters text) start) }
     requires inside { start < text_len T.units (T.characters text) }
@@ -19,8 +19,10 @@ pub fn end_of<T: TextSource>(text: T, start: usize) -> usize
     }
 }
 
-/// The unit behind the character that begins at `start`, in a text of `len` units. `start` is the place
-/// of a character. The text is asked by `next_at`, and not at all where `start` is its last unit.
+/// Returns the index after the character that begins at `start`, in a text of `len` code units.
+///
+/// A character must begin at `start`. Reads the text with `next_at`, and does not read it at all if `start`
+/// is the last code unit.
 pub fn end_within<T: TextSource>(text: T, start: usize, len: usize) -> usize
     requires begins { IsTrue (is_boundary T.units (T.characters text) start) }
     requires inside { start < len }

@@ -1,5 +1,5 @@
-//! The isolating run sequences of one paragraph, as passes over its code units, and what passes over
-//! level runs share.
+//! The isolating run sequences of one paragraph, as passes over its code units, and the helpers that passes
+//! over level runs share.
 #![tactic(auto)]
 
 pub mod characters;

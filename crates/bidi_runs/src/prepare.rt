@@ -1,5 +1,5 @@
-//! What X9 removes, level runs, and isolating run sequences (BD7, BD13, X9, X10); and the count of
-//! loop turns that passes take.
+//! Characters that X9 removes, level runs, and isolating run sequences (BD7, BD13, X9, X10). Also the count
+//! of loop iterations of the passes.
 
 ghost use Rattle.std.specs.Prelude.{◌≡◌};
 ghost use Rattle.bidi_base.specs.Classes.{is_removed, is_kept};
@@ -17,7 +17,7 @@ pub use sequence::{BackwardsFrom, ForwardsFrom, IsolatingRunSequence};
 use std::ops::Range;
 pub use steps::Steps;
 
-/// A level run (BD7), as the units from its start to its end.
+/// A level run (BD7), as the range of its code units.
 pub type LevelRun = Range<usize>;
 
 /// The level runs of a paragraph, in text order.
@@ -26,14 +26,14 @@ pub type LevelRunVec = Vec<LevelRun>;
 /// The isolating run sequences of a paragraph.
 pub type IsolatingRunSequenceVec = Vec<IsolatingRunSequence>;
 
-/// Whether X9 removes characters of this class.
+/// Returns whether X9 removes characters of this class.
 pub fn removed_by_x9(class: BidiClass) -> bool
     ensures { result ≡ is_removed class }
 {
     is_removed(class)
 }
 
-/// Whether X9 keeps characters of this class.
+/// Returns whether X9 keeps characters of this class.
 pub fn not_removed_by_x9(class: &BidiClass) -> bool
     ensures { result ≡ is_kept class.now }
 {

@@ -1,4 +1,5 @@
-//! The units of level runs that the passes within a sequence read, and a class written over them.
+//! The code units of level runs that the passes over a sequence read, and functions that write a class to
+//! them.
 
 ghost use Rattle.std.specs.Prelude.{◌≡◌, ◌+◌, ◌-◌, ◌*◌, ◌<◌, ◌≤◌, ◌&&◌, nat_lt, length, map, get_or, if◌then◌else◌, IsTrue};
 ghost use Rattle.bidi_base.specs.Classes.{is_kept_in_place};
@@ -11,15 +12,15 @@ use bidi_base::char_data::BidiClass::{self, BN};
 use std::marker::Brand;
 use std::sync::ledger::{Blank, Ledger};
 
-/// Whether the passes in place take characters of this class as kept: all but BN, which stands for
-/// what X9 removed.
+/// Returns whether the passes treat characters of this class as kept. These are all classes but BN, which
+/// marks the characters that X9 removes.
 pub fn is_kept_in_place(class: BidiClass) -> bool
     ensures { result ≡ is_kept_in_place class }
 {
     !matches!(class, BN)
 }
 
-/// What is in the place of a class once another is written over it.
+/// The class of a code unit of class `before` after `class` is written over it. BN stays.
 fn written_over(before: BidiClass, class: BidiClass) -> BidiClass
     ensures { result ≡ (if is_kept_in_place before then class else before) }
 {
@@ -30,7 +31,7 @@ fn written_over(before: BidiClass, class: BidiClass) -> BidiClass
     }
 }
 
-/// Writes the class over those units from `from` up to `to` that are not BN.
+/// Writes `class` to the code units from `from` up to `to`, except to those with BN.
 fn write_over<S: Ledger>(
     classes: &mut [BidiClass],
     from: usize,
@@ -48,7 +49,7 @@ fn write_over<S: Ledger>(
     }
 }
 
-/// The same, of the units of some runs.
+/// Writes `class` to the code units of `runs` from `from` up to `to`, except to those with BN.
 pub fn write_over_runs(
     runs: &[LevelRun],
     classes: &mut [BidiClass],
@@ -63,7 +64,7 @@ pub fn write_over_runs(
     write_over_runs_fresh::<Brand>(runs, classes, from, to, class, Blank::new(1));
 }
 
-/// The same by a new count of steps.
+/// Calls [`write_over_runs_counted`] with a new count of steps.
 fn write_over_runs_fresh<S: Ledger>(
     runs: &[LevelRun],
     classes: &mut [BidiClass],
@@ -83,8 +84,10 @@ fn write_over_runs_fresh<S: Ledger>(
     write_over_runs_counted(runs, classes, from, to, class, &mut steps);
 }
 
-/// The same with each turn counted. Where each run ends behind `from`, those that begin below `to` have
-/// a unit between the two, so there are no more turns than two for each of these units.
+/// Like [`write_over_runs`], and counts each loop iteration in `steps`.
+///
+/// If every run ends after `from`, each run that begins before `to` has a code unit between `from` and
+/// `to`. So there are at most two iterations for each of these code units.
 pub fn write_over_runs_counted<S: Ledger>(
     runs: &[LevelRun],
     classes: &mut [BidiClass],
@@ -110,7 +113,7 @@ pub fn write_over_runs_counted<S: Ledger>(
     }
 }
 
-/// Whether there is a run at an index, and it begins below a unit.
+/// Whether there is a run at `index`, and it begins before `unit`.
 fn begins_below(runs: &[LevelRun], index: usize, unit: usize) -> bool
     ensures { result ≡ (nat_lt index (length runs.now) && nat_lt (get_or (map bounds runs.now) index (0, 0)).0 unit) }
 {

@@ -1,4 +1,5 @@
-//! What a text is to the algorithm, and the texts of UTF-8, of UTF-16 and of a list of characters.
+//! `TextSource`, the trait through which the algorithm reads a text, and its implementations for UTF-8,
+//! UTF-16 and lists of characters.
 #![tactic(auto)]
 
 pub mod text;

@@ -1,7 +1,8 @@
-//! Texts: lists of characters, each some code units long.
+//! Texts: lists of characters, each one or more code units long.
 //!
-//! A *unit* is what an encoding counts, as a byte of UTF-8. The *place* of a character is the number
-//! of units before it. Every call of a text agrees with its list of characters.
+//! A *code unit*, or *unit*, is the element of an encoding: a byte in UTF-8, a `u16` in UTF-16. The *index*
+//! of a character is the number of code units before it. The contract of each method is stated on the
+//! text's list of characters.
 
 ghost use Rattle.std.specs.Prelude.{◌≡◌, ℕ, ◌+◌, ◌<◌, ◌≤◌, ◌↔◌, true, List, get_or, Some, IfSome, IsTrue};
 ghost use Rattle.std.specs.List.{list_all};
@@ -20,68 +21,76 @@ pub use utf16_text::{
     Utf16CharIndexIter, Utf16CharIter, Utf16IndexLenIter, Utf16Text, are_characters,
 };
 
-/// A text: a list of characters, each at least one unit long.
+/// A text: a list of characters, each at least one code unit long.
+///
+/// All indices, lengths and ranges count code units.
 pub trait TextSource: Copy {
-    /// Gives the characters.
+    /// The iterator over the characters.
     type CharIter: Iterator<Item = char>;
 
-    /// Gives each character with its place.
+    /// The iterator over each character with its index.
     type CharIndexIter: Iterator<Item = (usize, char)>;
 
-    /// Gives the place and the length of each character.
+    /// The iterator over the index and the length of each character.
     type IndexLenIter: Iterator<Item = (usize, usize)>;
 
-    /// Whether `next_at` takes no longer than a step of `char_indices`, as where the units stand in one
-    /// list. Such a text is read place by place where that is quicker. The answers are the same.
+    /// Whether `next_at` is as fast as a step of `char_indices`, for example because the code units are in
+    /// one slice. If so, such a text is read by index where that is faster. The results are the same either
+    /// way.
     const READS_IN_PLACE: bool = false;
 
-    /// The characters that the text means.
+    /// The characters of the text.
     ghost characters: { Self → List ℕ };
 
-    /// The length of a character in units.
+    /// The length of a character in code units.
     ghost units: { ℕ → ℕ };
 
-    /// The number of units.
+    /// Returns the number of code units.
     fn len(&self) -> usize
         ensures { result ≡ text_len units (characters self.now) };
 
-    /// The character that begins at a unit, with its length in units. `None` where no character
-    /// begins: inside one, and from the text's length on.
+    /// Returns the character that begins at an index, and its length in code units.
+    ///
+    /// Returns `None` if no character begins there: the index is inside a character, or it is the text's
+    /// length or more.
     fn char_at(&self, index: usize) -> Option<(char, usize)>
         ensures { result ≡ char_at units (characters self.now) index };
 
-    /// The text of a range of units. Both ends must be boundaries, in order: see [`is_line`].
+    /// Returns the text of a range of code units.
+    ///
+    /// Both ends must be boundaries, and the start at most the end: see [`is_line`].
     fn subrange(self, range: Range<usize>) -> Self
         requires { IsLine units (characters self) range.start range.end }
         ensures { characters result ≡ subrange units (characters self) range.start range.end };
 
-    /// The characters in order, each once.
+    /// Iterates over the characters in order, each once.
     fn chars(self) -> Self::CharIter
         ensures { Gives Self.CharIter.can_next Self.CharIter.next_gives Self.CharIter.remaining result (characters self) };
 
-    /// Each character with its place, in order.
+    /// Iterates over each character with its index, in order.
     fn char_indices(self) -> Self::CharIndexIter
         ensures { Gives Self.CharIndexIter.can_next Self.CharIndexIter.next_gives Self.CharIndexIter.remaining result
             (char_indices units (characters self)) };
 
-    /// The place and the length of each character, in order.
+    /// Iterates over the index and the length of each character, in order.
     fn indices_lengths(self) -> Self::IndexLenIter
         ensures { Gives Self.IndexLenIter.can_next Self.IndexLenIter.next_gives Self.IndexLenIter.remaining result
             (indices_lengths units (characters self)) };
 
-    /// The length of a character in units, at least 1.
+    /// Returns the length of a character in code units, at least 1.
     fn char_len(c: char) -> usize
         ensures { result ≡ units c };
 
-    /// Whether a unit is the place of a character, or the text's length.
+    /// Returns whether a character begins at an index, or the index is the text's length.
     fn is_boundary(&self, index: usize) -> bool
         ensures { result ≡ is_boundary units (characters self.now) index }
     {
         index == self.len() || self.char_at(index).is_some()
     }
 
-    /// The ASCII character that begins at a unit, if it is one unit long. `None` where none begins or
-    /// another one does.
+    /// Returns the ASCII character that begins at an index, if it is one code unit long.
+    ///
+    /// Returns `None` if no character or another one begins there.
     fn ascii_at(&self, index: usize) -> Option<u8>
         ensures { result ≡ ascii_at units (characters self.now) index }
     {
@@ -91,10 +100,12 @@ pub trait TextSource: Copy {
         }
     }
 
-    /// The ASCII characters that begin at a unit and at the fifteen behind it, each one unit long, where such
-    /// stand there and the text has them at hand, as UTF-8 and UTF-16 have. Any index may be asked, also from
-    /// the text's length on. `None` says nothing of the text: one that has no quicker way than `ascii_at` need
-    /// not write this.
+    /// Returns the ASCII characters that begin at an index and at the next fifteen indices, if the text can
+    /// read them at once.
+    ///
+    /// Each of the sixteen is one code unit long. UTF-8 and UTF-16 implement this. The index may be any
+    /// number, even the text's length or more. `None` says nothing about the text. A text without a faster
+    /// way than `ascii_at` can keep this default.
     fn ascii_block_at(&self, index: usize) -> Option<[u8; 16]>
         ensures { IfSome result (λ block. (k : ℕ) → k < 16
             → Some (get_or block k 0) ≡ ascii_at units (characters self.now) (index + k)) }
@@ -102,10 +113,12 @@ pub trait TextSource: Copy {
         None
     }
 
-    /// The characters below U+0800 that begin at a unit and at the fifteen behind it, each one unit long, where
-    /// such stand there and the text has them at hand, as UTF-16 has. Any index may be asked, also from the
-    /// text's length on. `None` says nothing of the text: one that has no quicker way than `next_at` need not
-    /// write this.
+    /// Returns the characters below U+0800 that begin at an index and at the next fifteen indices, if the
+    /// text can read them at once.
+    ///
+    /// Each of the sixteen is one code unit long. UTF-16 implements this. The index may be any number, even
+    /// the text's length or more. `None` says nothing about the text. A text without a faster way than
+    /// `next_at` can keep this default.
     fn low_block_at(&self, index: usize) -> Option<[u16; 16]>
         ensures low { IfSome result (λ block. (k : ℕ) → k < 16 → get_or block k 0 < 0x800) }
         ensures characters { IfSome result (λ block. (k : ℕ) → k < 16
@@ -114,8 +127,10 @@ pub trait TextSource: Copy {
         None
     }
 
-    /// The character that begins at a unit, with its length in units. The unit must be the place of a
-    /// character, and not the text's last unit, so that the next unit can be read with it.
+    /// Returns the character that begins at an index, and its length in code units.
+    ///
+    /// A character must begin at the index. It must not begin at the text's last code unit, so that an
+    /// implementation can read the next unit too.
     fn next_at(&self, index: usize) -> (char, usize)
         requires begins { IsTrue (is_boundary units (characters self.now) index) }
         requires before_last { index + 1 < text_len units (characters self.now) }
@@ -127,19 +142,20 @@ pub trait TextSource: Copy {
         }
     }
 
-    /// A character is at least one unit long.
+    /// A character is at least one code unit long.
     ghost has_units: { (c : ℕ) → 1 ≤ units c };
 }
 
-/// Whether a range of units lies in the text and cuts no character: its start is at most its end,
-/// and both are places or the text's length.
+/// Returns whether a range of code units is in the text and splits no character.
+///
+/// This holds if the start is at most the end and both are boundaries.
 pub fn is_line<T: TextSource>(text: T, line: &Range<usize>) -> bool
     ensures { IsTrue result ↔ IsLine T.units (T.characters text) line.now.start line.now.end }
 {
     line.start <= line.end && text.is_boundary(line.start) && text.is_boundary(line.end)
 }
 
-// The character of a code.
+// Returns the character of a code point.
 fn char_of_code(code: u32) -> char
     requires { scalar code ≡ true }
     ensures { result ≡ code }
@@ -150,14 +166,14 @@ fn char_of_code(code: u32) -> char
     }
 }
 
-// Whether all entries equal one.
+// Whether all entries equal `one`.
 fn all_equal_to<E: Copy + Eq>(entries: &[E], one: E) -> bool
     ensures { result ≡ list_all (λ x. E.eq x one) entries.now }
 {
     entries.iter().all(|entry| *entry == one)
 }
 
-// Whether all entries equal the first.
+// Whether all entries equal the first one.
 fn all_equal<E: Copy + Eq>(entries: &[E]) -> bool
     ensures { result ≡ all_same E.eq entries.now }
 {
@@ -167,7 +183,8 @@ fn all_equal<E: Copy + Eq>(entries: &[E]) -> bool
     }
 }
 
-/// Whether there is one entry a unit of the text, and the entries of each character are equal.
+/// Returns whether `units` has one entry for each code unit of the text, and equal entries within each
+/// character.
 pub fn is_per_char<T: TextSource, E: Copy + Eq>(text: T, units: &[E]) -> bool
     ensures { result ≡ is_per_char_of E.eq T.units (T.characters text) units.now }
 {

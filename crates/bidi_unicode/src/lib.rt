@@ -1,5 +1,7 @@
 //! Unicode's own classes, brackets and mirrored characters, as a data source of the bidirectional
-//! algorithm. The classes are those of the kit's `ucd_bidi`, of the version that `UNICODE_VERSION` names.
+//! algorithm.
+//!
+//! The classes come from the kit's `ucd_bidi`. `UNICODE_VERSION` names their version.
 #![tactic(auto)]
 
 mod low_classes;

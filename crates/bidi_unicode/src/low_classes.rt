@@ -7,8 +7,8 @@ use bidi_base::char_data::BidiClass::{self, AL, AN, B, BN, CS, EN, ES, ET, L, NS
 /// How many characters the table has.
 pub(crate) const LOW: usize = 0x800;
 
-/// The class of each character below `LOW`, sixteen a line. That they are those of the property
-/// Bidi_Class is proved.
+/// The class of each character below `LOW`, sixteen a line. They are proved to be the values of the
+/// property Bidi_Class.
 #[rattlefmt::skip]
 pub(crate) static LOW_CLASSES: [BidiClass; LOW] = [
     BN, BN, BN, BN, BN, BN, BN, BN, BN, S, B, S, WS, B, BN, BN,

@@ -1,4 +1,5 @@
-//! The classes of the characters of the first plane, in blocks of 32, of which equal ones are kept once.
+//! The classes of the characters of the Basic Multilingual Plane, in blocks of 32. Equal blocks are stored
+//! once.
 //!
 //! They are Unicode's data, under the licence in LICENSE-UNICODE at the top of the repository.
 
@@ -7,15 +8,15 @@ use bidi_base::char_data::BidiClass::{
     RLO, S, WS,
 };
 
-/// How many characters a block has.
+/// The number of characters in a block.
 pub(crate) const BLOCK: usize = 32;
 
-/// How many blocks there are in the plane, and how many that differ.
+/// The number of blocks in the plane, and the number of different ones.
 const BLOCKS: usize = 2048;
 
 const DIFFERENT: usize = 186;
 
-/// Which block of classes each block of characters has, sixteen a line.
+/// For each block of characters, the number of its block in `BLOCK_CLASSES`, sixteen a line.
 #[rattlefmt::skip]
 pub(crate) static BLOCK_OF: [u8; BLOCKS] = [
     0, 1, 2, 3, 4, 5, 6, 6, 7, 7, 7, 7, 7, 7, 7, 7,
@@ -148,8 +149,8 @@ pub(crate) static BLOCK_OF: [u8; BLOCKS] = [
     178, 179, 180, 181, 21, 21, 21, 182, 183, 2, 2, 184, 7, 7, 7, 185,
 ];
 
-/// The classes of the blocks, one block behind another, sixteen a line. That they are those of the
-/// property Bidi_Class is proved.
+/// The classes of the different blocks, one block after another, sixteen a line. They are proved to be the
+/// values of the property Bidi_Class.
 #[rattlefmt::skip]
 pub(crate) static BLOCK_CLASSES: [BidiClass; DIFFERENT * BLOCK] = [
     BN, BN, BN, BN, BN, BN, BN, BN, BN, S, B, S, WS, B, BN, BN,

@@ -1,8 +1,8 @@
-//! The look-up in a table whose rows ascend.
+//! Search in a sorted table.
 ghost use Rattle.std.specs.Prelude.{◌≡◌, true, IfSome, IfNone, None};
 ghost use Rattle.bidi_unicode.specs.Rows.{row_value, rows_rise, IsRowOf};
 
-/// The index of the row of a character, by binary search.
+/// Returns the index of a character's row, by binary search.
 pub(crate) fn index_of<T>(rows: &[(char, T)], c: char) -> Option<usize>
     requires { rows_rise 0 rows.now ≡ true }
     ensures found { IfSome result (IsRowOf rows.now c) }

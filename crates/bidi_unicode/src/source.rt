@@ -1,4 +1,4 @@
-//! Unicode's data as the algorithm asks for it.
+//! Unicode's data as a `BidiDataSource`.
 ghost use Rattle.std.specs.Prelude.{◌≡◌, ◌<◌, Some, option_map, option_and_then, None, IsSome, IfSome, IfNone, IsTrue};
 ghost use Rattle.bidi_unicode.specs.Unicode.{class_named, bracket_of, bracket_in, normal_form, mirrored_of, unicode_source, is_opening, is_closing, other_bracket, is_mirrored_in};
 ghost use Rattle.bidi_unicode.specs.Rows.{row_value, IsRowOf};
@@ -14,9 +14,10 @@ use bidi_base::char_data::BidiClass;
 use bidi_base::data_source::{BidiDataSource, BidiMatchedOpeningBracket};
 use ucd_bidi::BidiClass as Property;
 
-/// The data source over Unicode's own data: the Bidi_Class of every character, also of those that are
-/// not assigned, and Unicode's pairs of brackets. U+2329 and U+232A are taken as U+3008 and U+3009,
-/// whose canonical equivalents they are (BD16).
+/// The data source over Unicode's own data.
+///
+/// It has the Bidi_Class of every character, unassigned ones included, and Unicode's bracket pairs. U+2329
+/// and U+232A count as U+3008 and U+3009, their canonical equivalents (BD16).
 #[derive(Clone, Copy, Debug, Default)]
 pub struct UnicodeData;
 
@@ -39,8 +40,8 @@ impl BidiDataSource for UnicodeData {
 
     fn bidi_matched_opening_bracket(&self, c: char) -> Option<BidiMatchedOpeningBracket>
         ensures bracket { result ≡ unicode_source.bracket_of c }
-        // The opening brackets are the mirrored characters of general category Ps, and the closing
-        // ones those of Pe.
+        // The opening brackets are the mirrored characters of general category Ps. The closing ones are
+        // those of category Pe.
         ensures opening { is_opening result ≡ is_mirrored_in OpenPunctuation c }
         ensures closing { is_closing result ≡ is_mirrored_in ClosePunctuation c }
         // The mirrored partner of a bracket is the other bracket of its pair.
@@ -50,14 +51,13 @@ impl BidiDataSource for UnicodeData {
     }
 }
 
-/// The partner of a character that is mirrored (L4): the one that is shown in its place at an odd
-/// level. `None` where the table names no such partner, also for some characters that Unicode calls
-/// mirrored.
+/// Returns the mirrored partner of a character (L4), which is displayed instead of it at an odd level.
 ///
-/// The table has the partners of Unicode 15.0, and the brackets U+2E62 and U+2E63, which are each
-/// other's. The other characters that have become mirrored since then, up to `UNICODE_VERSION`, have
-/// no partner here: U+226D, U+1CEDD to U+1CEDF, U+1DB03 to U+1DB09, U+1DB10, U+1DB17, U+1DB18 and
-/// U+1DB1B.
+/// Returns `None` if the table has no partner. Some characters that Unicode calls mirrored have none.
+///
+/// The table has the partners of Unicode 15.0, and the pair of brackets U+2E62 and U+2E63. The other
+/// characters that have become mirrored since then, up to `UNICODE_VERSION`, have no partner here: U+226D,
+/// U+1CEDD to U+1CEDF, U+1DB03 to U+1DB09, U+1DB10, U+1DB17, U+1DB18 and U+1DB1B.
 pub fn mirrored(c: char) -> Option<char>
     ensures partner { result ≡ mirrored_of c }
     ensures mirrored { IsSome result → IsTrue (is_bidi_mirrored c) }
@@ -67,7 +67,7 @@ pub fn mirrored(c: char) -> Option<char>
     Some(partner)
 }
 
-/// The class of a character of the first plane.
+/// Returns the class of a character of the Basic Multilingual Plane.
 fn class_in_plane(c: usize) -> BidiClass
     requires { c < 0x10000 }
     ensures { result ≡ unicode_source.class_of c }
@@ -75,7 +75,7 @@ fn class_in_plane(c: usize) -> BidiClass
     BLOCK_CLASSES[BLOCK_OF[c / BLOCK] as usize * BLOCK + c % BLOCK]
 }
 
-/// The class of a character behind the first plane, by the kit's tables.
+/// Returns the class of a character above U+FFFF, from the kit's tables.
 #[inline(never)]
 #[tactic(auto, unfolding(crate::specs::Unicode::unicode_source))]
 fn class_beyond(c: char) -> BidiClass
@@ -84,7 +84,7 @@ fn class_beyond(c: char) -> BidiClass
     class_named(Property::for_char(c))
 }
 
-/// The bracket that a character is by the table of brackets.
+/// Looks up a character in the table of brackets.
 fn bracket_of(c: char) -> Option<BidiMatchedOpeningBracket>
     ensures { result ≡ bracket_of c }
 {
@@ -97,8 +97,8 @@ fn bracket_of(c: char) -> Option<BidiMatchedOpeningBracket>
     Some(bracket_in(c, partner, side))
 }
 
-/// The index of the row of a character before U+0F3A in the table of brackets. Only ASCII has brackets
-/// there.
+/// Returns the index in the table of brackets of a character below U+0F3A. All brackets in that range are
+/// ASCII.
 fn early_row(c: char) -> Option<usize>
     requires { c < 0x0F3A }
     ensures found { IfSome result (IsRowOf BRACKETS c) }
@@ -115,7 +115,7 @@ fn early_row(c: char) -> Option<usize>
     }
 }
 
-/// The class that the property's value stands for.
+/// Returns the class for a value of the property.
 fn class_named(value: Property) -> BidiClass
     ensures { result ≡ class_named value }
 {
@@ -146,7 +146,7 @@ fn class_named(value: Property) -> BidiClass
     }
 }
 
-/// The bracket that a character of the table is.
+/// Returns the bracket for a row of the table.
 fn bracket_in(c: char, partner: char, side: Side) -> BidiMatchedOpeningBracket
     ensures { result ≡ bracket_in c partner side }
 {
@@ -162,7 +162,7 @@ fn bracket_in(c: char, partner: char, side: Side) -> BidiMatchedOpeningBracket
     }
 }
 
-/// The opening bracket that an opening bracket is canonically equivalent to, or itself.
+/// Returns the canonical equivalent of an opening bracket, or the bracket itself.
 fn normal_form(opening: char) -> char
     ensures { result ≡ normal_form opening }
 {

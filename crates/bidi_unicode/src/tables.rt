@@ -1,5 +1,6 @@
-//! Unicode's brackets and mirrored characters. The definitions in `specs` name both tables. They are
-//! Unicode's data, under the licence in LICENSE-UNICODE at the top of the repository.
+//! Unicode's brackets and mirrored characters. The definitions in `specs` name both tables.
+//!
+//! They are Unicode's data, under the licence in LICENSE-UNICODE at the top of the repository.
 
 /// Which bracket of its pair a character is.
 #[derive(Clone, Copy, Debug)]
@@ -10,12 +11,12 @@ pub(crate) enum Side {
     Close,
 }
 
-/// The brackets (BD14, BD15), in order: a character, the other bracket of its pair, and which of the
-/// two the character is.
+/// The brackets (BD14, BD15), in order: a character, the other bracket of its pair, and the side of the
+/// pair that the character is.
 ///
-/// From BidiBrackets.txt of Unicode 15.0.0, and the pair U+2E62 and U+2E63, which is new in Unicode 18.
-/// So the rows are those of `UNICODE_VERSION`: that they are its mirrored characters of general
-/// categories Ps and Pe is proved.
+/// The rows come from BidiBrackets.txt of Unicode 15.0.0, with the pair U+2E62 and U+2E63 added, which is
+/// new in Unicode 18. They are proved to be the mirrored characters of general categories Ps and Pe in
+/// `UNICODE_VERSION`.
 pub(crate) static BRACKETS: [(char, (char, Side)); 130] = [
     ('\u{0028}', ('\u{0029}', Side::Open)),
     ('\u{0029}', ('\u{0028}', Side::Close)),
@@ -151,7 +152,8 @@ pub(crate) static BRACKETS: [(char, (char, Side)); 130] = [
 
 /// The characters that have a mirrored partner (L4), in order, each with its partner.
 ///
-/// From BidiMirroring.txt of Unicode 15.0.0, and the pair of brackets that is new in Unicode 18.
+/// The rows come from BidiMirroring.txt of Unicode 15.0.0, with the pair of brackets added that is new in
+/// Unicode 18.
 pub(crate) static MIRRORED: [(char, char); 430] = [
     ('\u{0028}', '\u{0029}'),
     ('\u{0029}', '\u{0028}'),

@@ -1,8 +1,8 @@
 //! The version of Unicode's data.
 ghost use Rattle.std.specs.Prelude.{◌≡◌};
 
-/// The version of Unicode whose data `UnicodeData` answers by, of the classes and of the brackets: its
-/// major, minor and update number.
+/// The version of Unicode from which `UnicodeData` takes its classes and brackets: the major, minor and
+/// update number.
 pub const UNICODE_VERSION: (u64, u64, u64) = (18, 0, 0);
 
 const _: () = prove!(UNICODE_VERSION.0 == ucd_table::UNICODE_VERSION.0 as u64);

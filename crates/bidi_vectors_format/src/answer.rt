@@ -1,4 +1,4 @@
-//! What calls answered, in the words of a row.
+//! The results of calls as words of a row.
 
 use crate::fault::{RowFault, Why};
 use bidi_base::char_data::{BidiClass, Direction};
@@ -7,7 +7,7 @@ use bidi_text::text::{TextSource, is_per_char};
 use std::alloc::Global;
 use std::ops::Range;
 
-// Begins a further word.
+// Separates the next word from those before it.
 fn next_word(words: &mut String) -> Result<(), RowFault> {
     if !words.is_empty() {
         words.push(' ')?;
@@ -15,7 +15,7 @@ fn next_word(words: &mut String) -> Result<(), RowFault> {
     Ok(())
 }
 
-/// The names of classes.
+/// Returns the names of classes as words.
 pub fn class_words(alloc: Global, classes: &[BidiClass]) -> Result<String, RowFault> {
     let mut words = String::new(alloc);
     for class in classes {
@@ -25,7 +25,7 @@ pub fn class_words(alloc: Global, classes: &[BidiClass]) -> Result<String, RowFa
     Ok(words)
 }
 
-/// The numbers of levels.
+/// Returns the numbers of levels as words.
 pub fn level_words(alloc: Global, levels: &[Level]) -> Result<String, RowFault> {
     let mut words = String::new(alloc);
     for level in levels {
@@ -36,7 +36,7 @@ pub fn level_words(alloc: Global, levels: &[Level]) -> Result<String, RowFault> 
     Ok(words)
 }
 
-/// Numbers.
+/// Returns numbers as words.
 pub fn number_words(alloc: Global, numbers: &[usize]) -> Result<String, RowFault> {
     let mut words = String::new(alloc);
     for number in numbers {
@@ -46,7 +46,7 @@ pub fn number_words(alloc: Global, numbers: &[usize]) -> Result<String, RowFault
     Ok(words)
 }
 
-/// Ranges as `2..5`.
+/// Returns ranges as words such as `2..5`.
 pub fn range_words(alloc: Global, ranges: &[(usize, usize)]) -> Result<String, RowFault> {
     let mut words = String::new(alloc);
     for (start, end) in ranges {
@@ -56,7 +56,7 @@ pub fn range_words(alloc: Global, ranges: &[(usize, usize)]) -> Result<String, R
     Ok(words)
 }
 
-/// The same of ranges as the calls answer them.
+/// Returns ranges, given as `Range` values, as words such as `2..5`.
 pub fn run_words(alloc: Global, runs: &[Range<usize>]) -> Result<String, RowFault> {
     let mut words = String::new(alloc);
     for run in runs {
@@ -67,7 +67,7 @@ pub fn run_words(alloc: Global, runs: &[Range<usize>]) -> Result<String, RowFaul
     Ok(words)
 }
 
-/// Paragraphs as `2..5:1`, their level behind the colon.
+/// Returns paragraphs as words such as `2..5:1`, with the level after the colon.
 pub fn paragraph_words(
     alloc: Global,
     paragraphs: &[(usize, usize, u8)],
@@ -80,7 +80,7 @@ pub fn paragraph_words(
     Ok(words)
 }
 
-/// A code point: itself where it is a character of ASCII that can be seen, else `U+` and its number.
+/// Appends a code point: the character itself if it is visible ASCII, otherwise `U+` and its number.
 pub fn push_code(words: &mut String, code: u32) -> Result<(), RowFault> {
     next_word(words)?;
     match char::from_u32(code) {
@@ -90,7 +90,7 @@ pub fn push_code(words: &mut String, code: u32) -> Result<(), RowFault> {
     Ok(())
 }
 
-/// The characters of a text.
+/// Returns the characters of a text as words.
 pub fn char_words(alloc: Global, chars: &[char]) -> Result<String, RowFault> {
     let mut words = String::new(alloc);
     for c in chars {
@@ -99,7 +99,7 @@ pub fn char_words(alloc: Global, chars: &[char]) -> Result<String, RowFault> {
     Ok(words)
 }
 
-/// The code points of units of UTF-16. A surrogate in no pair stands by its own number.
+/// Returns the code points of UTF-16 code units as words. A lone surrogate has its own number.
 pub fn unit_words(alloc: Global, units: &[u16]) -> Result<String, RowFault> {
     let mut words = String::new(alloc);
     let mut waiting: Option<u16> = None;
@@ -112,7 +112,8 @@ pub fn unit_words(alloc: Global, units: &[u16]) -> Result<String, RowFault> {
     Ok(words)
 }
 
-// Reads a unit behind a high surrogate that waits for its other half, and answers the one that waits then.
+// Reads a code unit after a high surrogate that waits for its other half, if there is one. Returns the high
+// surrogate that waits then.
 fn push_unit(words: &mut String, waiting: Option<u16>, unit: u16) -> Result<Option<u16>, RowFault> {
     if let Some(high) = waiting {
         if (0xDC00..0xE000).contains(&unit) {
@@ -129,12 +130,12 @@ fn push_unit(words: &mut String, waiting: Option<u16>, unit: u16) -> Result<Opti
     Ok(None)
 }
 
-/// Yes or no.
+/// Returns `yes` or `no`.
 pub fn flag_word(flag: bool) -> &'static str {
     if flag { "yes" } else { "no" }
 }
 
-/// A direction.
+/// Returns the word for a direction.
 pub fn direction_word(direction: Direction) -> &'static str {
     match direction {
         Direction::Ltr => "ltr",
@@ -143,7 +144,7 @@ pub fn direction_word(direction: Direction) -> &'static str {
     }
 }
 
-/// The place of each character of a text, and behind them the text's length.
+/// Returns the index of each character of a text, and then the text's length.
 pub fn places_of<T: TextSource>(alloc: Global, text: T) -> Result<Vec<usize>, RowFault> {
     let mut places = Vec::new(alloc);
     for (place, _) in text.char_indices() {
@@ -153,7 +154,8 @@ pub fn places_of<T: TextSource>(alloc: Global, text: T) -> Result<Vec<usize>, Ro
     Ok(places)
 }
 
-/// Entries one a character, from entries one a unit that are alike on each character.
+/// Returns one entry for each character, from one entry for each code unit. Entries must be equal within
+/// each character.
 pub fn per_char<T: TextSource, X: Copy + Eq>(
     alloc: Global,
     text: T,
@@ -171,7 +173,7 @@ pub fn per_char<T: TextSource, X: Copy + Eq>(
     Ok(entries)
 }
 
-/// The levels of a text's characters, from levels one a unit.
+/// Returns the levels of a text's characters as words, from one level for each code unit.
 pub fn levels_in<T: TextSource>(
     alloc: Global,
     text: T,
@@ -181,7 +183,7 @@ pub fn levels_in<T: TextSource>(
     level_words(alloc, levels.as_slice())
 }
 
-/// The classes of a text's characters, from classes one a unit.
+/// Returns the classes of a text's characters as words, from one class for each code unit.
 pub fn classes_in<T: TextSource>(
     alloc: Global,
     text: T,
@@ -191,7 +193,7 @@ pub fn classes_in<T: TextSource>(
     class_words(alloc, classes.as_slice())
 }
 
-/// Ranges of a text's characters, from ranges of its units.
+/// Returns ranges of a text's characters as words, from ranges of its code units.
 pub fn ranges_in<T: TextSource>(
     alloc: Global,
     text: T,
@@ -206,8 +208,8 @@ pub fn ranges_in<T: TextSource>(
     range_words(alloc, ranges.as_slice())
 }
 
-/// The index of the character that begins at a unit, or the number of characters for the text's length.
-/// The unit itself where none begins there.
+/// Returns the index, in the list of characters, of the one that begins at `unit`, or the number of
+/// characters if `unit` is the text's length. If no character begins there, returns `unit` itself.
 pub fn index_at(places: &[usize], unit: usize) -> usize {
     places.binary_search(&unit).unwrap_or(unit)
 }

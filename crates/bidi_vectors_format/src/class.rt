@@ -46,7 +46,7 @@ pub fn character_of(name: &str, line: usize) -> Result<char, RowFault> {
     Ok(c)
 }
 
-/// The classes of a field.
+/// Reads the classes of a field.
 pub fn classes_of(alloc: Global, field: Field<'_>) -> Result<Vec<BidiClass>, RowFault> {
     let mut classes = Vec::new(alloc);
     for item in items_of(alloc, field)? {

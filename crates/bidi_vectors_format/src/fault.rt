@@ -2,7 +2,7 @@
 
 use std::alloc::{AllocError, AllocFailed};
 
-/// Why a line of a file is not what a row has there, or why the calls of a row could not be made.
+/// Why a line of a file is not valid in its row, or why the calls of a row could not be made.
 #[derive(Clone, Copy, Debug, PartialEq)]
 pub enum Why {
     ClassRange,
@@ -88,9 +88,9 @@ impl Why {
 /// Why rows were not run.
 #[derive(Clone, Copy, Debug, PartialEq)]
 pub enum RowFault {
-    /// Memory was refused.
+    /// Out of memory.
     Memory,
-    /// A line of the file, by its number from 1, or 0 for the row at hand.
+    /// An invalid line of the file, by its number from 1, or 0 for the current row.
     Line(usize, Why),
 }
 

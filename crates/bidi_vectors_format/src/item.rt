@@ -1,14 +1,14 @@
-//! What the words of a field say.
+//! Reads the words of a field.
 
 use crate::fault::{RowFault, Why};
 use crate::row::Field;
 use bidi_base::level::Level;
 use std::alloc::Global;
 
-/// The word that stands for an entry of which a row says nothing.
+/// The word for an entry that a row leaves open.
 pub const ANY: &str = "-";
 
-// The count and the rest of a word as `3*a`.
+// Splits a word such as `3*a` into the count and the rest.
 fn repeated(word: &str) -> Option<(&str, &str)> {
     let (count, item) = word.split_once("*")?;
     if count.is_empty() || item.is_empty() {
@@ -18,7 +18,7 @@ fn repeated(word: &str) -> Option<(&str, &str)> {
     }
 }
 
-// Adds what is repeated once: the parts between dots, or a dot.
+// Adds a repeated item once: its parts between dots, or a single dot.
 fn push_parts<'t>(items: &mut Vec<&'t str>, item: &'t str) -> Result<(), RowFault> {
     if item == "." {
         items.push(item)?;
@@ -41,7 +41,7 @@ fn push_word<'t>(items: &mut Vec<&'t str>, line: usize, word: &'t str) -> Result
     Ok(())
 }
 
-/// The items of a field, each as often as it says.
+/// Returns the items of a field, each repeated as often as the field says.
 pub fn items_of<'t>(alloc: Global, field: Field<'t>) -> Result<Vec<&'t str>, RowFault> {
     let mut items = Vec::new(alloc);
     for word in field.value.split_whitespace() {
@@ -50,7 +50,7 @@ pub fn items_of<'t>(alloc: Global, field: Field<'t>) -> Result<Vec<&'t str>, Row
     Ok(items)
 }
 
-/// The number that a word is.
+/// Parses a word as a number.
 pub fn number_of(word: &str, line: usize) -> Result<usize, RowFault> {
     match word.parse::<usize>() {
         Ok(number) => Ok(number),
@@ -75,7 +75,7 @@ pub fn numbers(alloc: Global, field: Field<'_>) -> Result<Vec<usize>, RowFault> 
     Ok(numbers)
 }
 
-/// The level that a word is.
+/// Parses a word as a level.
 pub fn level_of(word: &str, line: usize) -> Result<Level, RowFault> {
     let level = match word.parse::<u8>() {
         Ok(number) => Level::new(number).ok(),
@@ -95,7 +95,7 @@ pub fn levels(alloc: Global, field: Field<'_>) -> Result<Vec<Level>, RowFault> {
     Ok(levels)
 }
 
-/// The start and the end that a word as `2..5` is.
+/// Parses a word such as `2..5` as the start and the end of a range.
 pub fn range_of(word: &str, line: usize) -> Result<(usize, usize), RowFault> {
     match word.split_once("..") {
         Some((start, end)) => Ok((number_of(start, line)?, number_of(end, line)?)),

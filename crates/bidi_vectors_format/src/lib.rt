@@ -1,4 +1,5 @@
-//! Worked rows as text: what a file of rows says, and how what a call answered is held against it.
+//! Test vectors as text: the format of a file of rows, and how the results of calls are compared with it. A
+//! row is one test vector.
 //!
 //! `crates/bidi_vectors/data/README.md` describes the files.
 #![tactic(auto)]

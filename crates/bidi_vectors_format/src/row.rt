@@ -3,7 +3,7 @@
 use crate::fault::{RowFault, Why};
 use std::alloc::Global;
 
-/// A field of a row: what it is called, its text, and the line that it stands in.
+/// A field of a row: its key, its value, and its line number.
 #[derive(Clone, Copy)]
 pub struct Field<'t> {
     pub key: &'t str,
@@ -11,7 +11,7 @@ pub struct Field<'t> {
     pub line: usize,
 }
 
-/// A row: what kind of row it is, its name, the line that it begins at, and its fields.
+/// A row: its kind, its name, the number of its first line, and its fields.
 #[derive(Drop)]
 pub struct Row<'t> {
     pub kind: &'t str,
@@ -21,7 +21,7 @@ pub struct Row<'t> {
 }
 
 impl<'t> Row<'t> {
-    /// Its first field of this key.
+    /// Returns its first field with this key.
     pub fn get(&self, key: &str) -> Option<Field<'t>> {
         for field in &self.fields {
             if field.key == key {
@@ -31,7 +31,7 @@ impl<'t> Row<'t> {
         None
     }
 
-    /// Its first field of this key, which it must have.
+    /// Returns its first field with this key, or an error if there is none.
     pub fn field(&self, key: &str) -> Result<Field<'t>, RowFault> {
         match self.get(key) {
             Some(field) => Ok(field),
@@ -39,12 +39,12 @@ impl<'t> Row<'t> {
         }
     }
 
-    /// Sees that every field has one of these keys, and that none stands twice.
+    /// Checks that every field has one of these keys, and that none occurs twice.
     pub fn has_only(&self, keys: &[&str]) -> Result<(), RowFault> {
         self.has_only_or_many(keys, &[])
     }
 
-    /// Sees that every field has one of these keys, and that none of the first ones stands twice.
+    /// Checks that every field has a key of `keys` or `many`, and that none of `keys` occurs twice.
     pub fn has_only_or_many(&self, keys: &[&str], many: &[&str]) -> Result<(), RowFault> {
         for field in &self.fields {
             if is_among(many, field.key) {
@@ -71,7 +71,7 @@ fn is_among(keys: &[&str], key: &str) -> bool {
     false
 }
 
-// The kind and the name of a row, from its first line.
+// Splits a row's first line into its kind and its name.
 fn head_of(line: &str) -> Option<(&str, &str)> {
     let rest = line.strip_prefix("[")?;
     let (kind, name) = rest.split_once("] ")?;

@@ -15,7 +15,7 @@ pub struct Tables {
     pub brackets: Vec<(char, char, Option<char>)>,
 }
 
-// The range that a field as `a..z L` is.
+// Parses a field such as `a..z L` as a range with its class.
 fn range_of(field: Field<'_>) -> Result<(char, char, BidiClass), RowFault> {
     let wanted = RowFault::Line(field.line, Why::ClassRange);
     let (ends, class) = field.value.split_once(" ").ok_or(wanted)?;
@@ -27,7 +27,7 @@ fn range_of(field: Field<'_>) -> Result<(char, char, BidiClass), RowFault> {
     ))
 }
 
-// The triple that a field as `U+2329 U+232A U+3008` is.
+// Parses a field such as `U+2329 U+232A U+3008` as a bracket pair, with its normal form if it has one.
 fn bracket_of(field: Field<'_>) -> Result<(char, char, Option<char>), RowFault> {
     let wanted = RowFault::Line(field.line, Why::Brackets);
     let (opening, rest) = field.value.split_once(" ").ok_or(wanted)?;
@@ -43,7 +43,7 @@ fn bracket_of(field: Field<'_>) -> Result<(char, char, Option<char>), RowFault> 
 }
 
 impl Tables {
-    /// The tables that the fields `range` and `bracket` of a row are.
+    /// Reads the fields `range` and `bracket` of a row.
     pub fn of_row(alloc: Global, row: &Row<'_>) -> Result<Tables, RowFault> {
         let mut tables = Tables {
             ranges: Vec::new(alloc),
@@ -59,7 +59,7 @@ impl Tables {
         Ok(tables)
     }
 
-    /// The source over the tables.
+    /// Returns the data source over the tables.
     pub fn source(&self, line: usize) -> Result<TableBidiData<'_>, RowFault> {
         match TableBidiData::new(self.ranges.as_slice(), self.brackets.as_slice()) {
             Ok(source) => Ok(source),

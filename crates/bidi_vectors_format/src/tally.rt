@@ -1,11 +1,11 @@
-//! How often each call was held against a row, and what differed.
+//! How many rows each call was compared with, and the differences.
 
 use crate::fault::RowFault;
 use crate::item::{ANY, items_of};
 use crate::row::Row;
 use std::alloc::Global;
 
-/// How many rows each call was held against, and a line for each answer that differs.
+/// How many rows each call was compared with, and a line for each result that differs.
 #[derive(Drop)]
 pub struct Tally {
     pub calls: Vec<(&'static str, usize)>,
@@ -15,7 +15,7 @@ pub struct Tally {
     fault: Option<RowFault>,
 }
 
-// Whether words are the wanted ones, where those that say nothing fit any.
+// Whether the words are the wanted ones. The word [`ANY`] matches any word.
 fn are_words(wanted: &[&str], came: &str) -> bool {
     let mut words = came.split(" ");
     if wanted.is_empty() {
@@ -41,7 +41,7 @@ impl Tally {
         }
     }
 
-    /// Tells why a call of the row could not be made. The first such fault is kept.
+    /// Records why a call of the row could not be made. Only the first such fault is kept.
     pub fn refuse(&mut self, fault: RowFault) {
         if self.fault.is_none() {
             self.fault = Some(fault);
@@ -54,7 +54,7 @@ impl Tally {
         }
     }
 
-    /// Ends a row: the first fault in its answers, if there was one.
+    /// Ends a row. Returns the first fault recorded for it, if there was one.
     pub fn end_row(&mut self) -> Result<(), RowFault> {
         match self.fault.take() {
             Some(fault) => Err(fault),
@@ -62,7 +62,7 @@ impl Tally {
         }
     }
 
-    // Counts a row of a call.
+    // Counts one more comparison of a call.
     fn count(&mut self, call: &'static str) -> Result<(), RowFault> {
         self.compared = self.compared.saturating_add(1);
         for (name, rows) in self.calls.iter_mut() {
@@ -75,7 +75,7 @@ impl Tally {
         Ok(())
     }
 
-    // Holds words against a field of a row, where the row has it.
+    // Compares words with a field of a row, if the row has it.
     fn hold(
         &mut self,
         row: &Row<'_>,
@@ -95,7 +95,7 @@ impl Tally {
         self.differ(row, field.line, call, field.value, came)
     }
 
-    // Tells that a call answered something else.
+    // Reports that a call returned something else.
     fn differ(
         &mut self,
         row: &Row<'_>,
@@ -113,7 +113,7 @@ impl Tally {
         Ok(())
     }
 
-    /// Holds what a call answered against a field of a row, where the row has it.
+    /// Compares the result of a call with a field of a row, if the row has it.
     pub fn agree(
         &mut self,
         row: &Row<'_>,
@@ -127,13 +127,13 @@ impl Tally {
         }
     }
 
-    /// The same of an answer that is in words.
+    /// Compares words with a field of a row, if the row has it.
     pub fn agree_word(&mut self, row: &Row<'_>, key: &str, call: &'static str, came: &str) {
         let outcome = self.hold(row, key, call, came);
         self.keep(outcome);
     }
 
-    /// Holds two answers of a row that have to be the same against one another.
+    /// Compares two results of a row that must be equal.
     pub fn same(
         &mut self,
         row: &Row<'_>,
@@ -148,7 +148,7 @@ impl Tally {
         }
     }
 
-    /// The same of answers that are in words.
+    /// Compares two results in words that must be equal.
     pub fn same_word(&mut self, row: &Row<'_>, call: &'static str, wanted: &str, came: &str) {
         let mut outcome = self.count(call);
         if outcome.is_ok() && wanted != came {

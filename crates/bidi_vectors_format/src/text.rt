@@ -12,11 +12,11 @@ pub struct RowText {
     pub utf8: String,
     pub utf16: Vec<u16>,
     pub chars: Vec<char>,
-    /// False where a surrogate stands in no pair: then the text is one of UTF-16 alone.
+    /// False if there is a lone surrogate. The text is then only in UTF-16.
     pub is_unicode: bool,
 }
 
-/// The code point that a word is: one character of ASCII, or `U+` and hexadecimal digits.
+/// Parses a word as a code point: one ASCII character, or `U+` and hexadecimal digits.
 pub fn code_of(word: &str, line: usize) -> Result<u32, RowFault> {
     let code = match (word.strip_prefix("U+"), word.as_bytes()) {
         (Some(digits), _) => u32::from_str_radix(digits, 16).ok(),
@@ -29,7 +29,7 @@ pub fn code_of(word: &str, line: usize) -> Result<u32, RowFault> {
     }
 }
 
-/// The character that a word is.
+/// Parses a word as a character.
 pub fn char_of(word: &str, line: usize) -> Result<char, RowFault> {
     match char::from_u32(code_of(word, line)?) {
         Some(c) => Ok(c),
@@ -66,7 +66,7 @@ impl RowText {
         Ok(())
     }
 
-    /// The text of a field, by characters.
+    /// Reads the text of a field, by characters.
     pub fn by_characters(alloc: Global, field: Field<'_>) -> Result<RowText, RowFault> {
         let mut text = RowText::new(alloc);
         for item in items_of(alloc, field)? {
@@ -75,7 +75,7 @@ impl RowText {
         Ok(text)
     }
 
-    /// A text in which each character has the class that a field names there, over the sample table.
+    /// Makes a text whose characters have the classes that a field names, in the sample table.
     pub fn by_classes(alloc: Global, field: Field<'_>) -> Result<RowText, RowFault> {
         let mut text = RowText::new(alloc);
         for item in items_of(alloc, field)? {
@@ -84,7 +84,7 @@ impl RowText {
         Ok(text)
     }
 
-    /// The text of a row: of its field `text`, or of its field `types`.
+    /// Returns the text of a row, from its field `types` if there is one, otherwise from its field `text`.
     pub fn of_row(alloc: Global, row: &Row<'_>) -> Result<RowText, RowFault> {
         match row.get("types") {
             Some(field) => RowText::by_classes(alloc, field),

@@ -8,7 +8,7 @@ use bidi_base::char_data::BidiClass;
 /// A set of classes.
 #[derive(Clone, Copy, PartialEq, Debug)]
 pub(crate) struct ClassSet {
-    // The bit with a class's number tells whether the class is in the set.
+    // Each bit tells whether the class of that number is in the set.
     bits: u32,
 }
 
@@ -29,7 +29,7 @@ impl ClassSet {
             | 1 << BidiClass::RLO as u32,
     };
 
-    /// What closes an isolate.
+    /// The classes that close an isolate.
     pub(crate) const CLOSING: ClassSet = ClassSet {
         bits: 1 << BidiClass::PDI as u32,
     };
@@ -39,22 +39,22 @@ impl ClassSet {
         bits: 1 << BidiClass::L as u32 | 1 << BidiClass::R as u32 | 1 << BidiClass::AL as u32,
     };
 
-    /// What ends a paragraph or opens an isolate.
+    /// The classes that end a paragraph or open an isolate.
     pub(crate) const BOUNDS: ClassSet = ClassSet {
         bits: ClassSet::INITIATORS.bits | 1 << BidiClass::B as u32,
     };
 
-    /// What opens an embedding or an isolate.
+    /// The classes that open an embedding or an isolate.
     pub(crate) const OPENERS: ClassSet = ClassSet {
         bits: ClassSet::INITIATORS.bits | ClassSet::EMBEDDINGS.bits,
     };
 
-    /// What X9 removes.
+    /// The classes that X9 removes.
     pub(crate) const REMOVED: ClassSet = ClassSet {
         bits: ClassSet::EMBEDDINGS.bits | 1 << BidiClass::PDF as u32 | 1 << BidiClass::BN as u32,
     };
 
-    /// What takes or gives another level than an even one.
+    /// The classes that can give a character another level than the paragraph level, if that is even.
     pub(crate) const TURNING_EVEN: ClassSet = ClassSet {
         bits: ClassSet::OPENERS.bits
             | 1 << BidiClass::R as u32
@@ -62,7 +62,7 @@ impl ClassSet {
             | 1 << BidiClass::AN as u32,
     };
 
-    /// What takes or gives another level than an odd one.
+    /// The classes that can give a character another level than the paragraph level, if that is odd.
     pub(crate) const TURNING_ODD: ClassSet = ClassSet {
         bits: ClassSet::OPENERS.bits
             | 1 << BidiClass::L as u32
@@ -70,8 +70,8 @@ impl ClassSet {
             | 1 << BidiClass::AN as u32,
     };
 
-    /// What the later steps tell apart in a paragraph: all but the neutrals and the weak types that
-    /// are neither numbers nor removed.
+    /// The classes that the later steps tell apart: all but the neutrals and those weak types that are
+    /// neither numbers nor removed by X9.
     pub(crate) const COUNTED: ClassSet = ClassSet {
         bits: ClassSet::TURNING_EVEN.bits
             | ClassSet::TURNING_ODD.bits
@@ -114,7 +114,7 @@ impl ClassSet {
         }
     }
 
-    /// The set if the test holds, or else no class.
+    /// The set if `holds`, otherwise no class.
     pub(crate) fn when(self, holds: bool) -> ClassSet
         ensures { result ≡ (if holds then self else record { bits = 0 }) }
     {

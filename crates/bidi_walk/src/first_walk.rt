@@ -1,5 +1,5 @@
-//! One walk over a text: the class of each character, with each FSI resolved (X5c), and the
-//! paragraphs (P1) with their levels (P2, P3).
+//! A single pass over a text. It finds the class of each character, resolves each FSI (X5c), and finds the
+//! paragraphs (P1) and their levels (P2, P3).
 ghost use Rattle.std.specs.Prelude.{◌≡◌, ℕ, ◌<◌, ◌≤◌, true, false, [], length, drop, OnOk, IfOk, MatchOption, IsTrue, All};
 ghost use Rattle.bidi_base.specs.declared.char_data.BidiClass.{BidiClass};
 ghost use Rattle.bidi_base.specs.Paragraphs.{begins_with_line_feed, ranges_from};
@@ -36,17 +36,17 @@ use met::Met;
 use other_characters::read_on;
 use reading::{Reading, level_of_class};
 
-/// The paragraphs that the walk over a text finds. One paragraph allocates nothing.
+/// The paragraphs that the pass over a text finds. A single paragraph needs no allocation.
 #[derive(PartialEq, Debug, Drop)]
 pub struct FoundParagraphs {
     /// The paragraphs, in order.
     pub paragraphs: SmallVec<ParagraphInfo, 1>,
-    /// One entry a paragraph.
+    /// One entry for each paragraph.
     pub flags: SmallVec<ParagraphFlags, 1>,
 }
 
 impl FoundParagraphs {
-    /// No paragraphs.
+    /// Starts with no paragraphs.
     pub fn new(alloc: Global) -> FoundParagraphs
         ensures paragraphs { result.paragraphs.items ≡ [] }
         ensures flags { result.flags.items ≡ [] }
@@ -58,7 +58,7 @@ impl FoundParagraphs {
     }
 }
 
-// One paragraph after another, as they are read.
+// The state of the pass, which reads one paragraph after another.
 #[derive(Drop)]
 struct TextReading {
     base: Option<Level>,
@@ -68,7 +68,7 @@ struct TextReading {
 }
 
 impl TextReading {
-    // Nothing is read of a text. The paragraphs are kept in the memory of earlier ones.
+    // Starts before the text. The paragraphs reuse the memory of earlier ones.
     fn new(alloc: Global, base: Option<Level>, memory: FoundParagraphs) -> TextReading
         ensures base { result.base ≡ base }
         ensures reading { IsFresh result.reading 0 }
@@ -87,7 +87,7 @@ impl TextReading {
         }
     }
 
-    // Ends the paragraph that was read at a unit.
+    // Ends the current paragraph at a code unit.
     fn close(&mut self, end: usize) -> Result<(), AllocError>
         requires { self.old.reading.start ≤ end }
         ensures closed { OnOk result (IsClosed self.old.base self.old.reading end self.old.paragraphs.items
@@ -102,8 +102,9 @@ impl TextReading {
         Ok(())
     }
 
-    // Reads a character on whose class something depends. Its class is written to its units already.
-    // `ends` tells whether the paragraph ends with it. Returns the classes on which something depends next.
+    // Reads a character whose class matters to the paragraph. Its class must be written to its code units
+    // already. `ends` tells whether the paragraph ends with it. Returns the set of the classes that matter
+    // next.
     #[inline(never)]
     fn meet(
         &mut self,
@@ -140,8 +141,8 @@ impl TextReading {
     }
 }
 
-// Writes the classes of the characters from a place on, up to the first one on which something depends.
-// Returns that one, or nothing at the text's end.
+// Writes the classes of the characters from an index on, up to the first one whose class is in `minded`.
+// Returns that one, or `None` at the text's end.
 fn next_minded<D: BidiDataSource, T: TextSource>(
     data_source: &D,
     text: T,
@@ -169,8 +170,7 @@ fn next_minded<D: BidiDataSource, T: TextSource>(
     None
 }
 
-// Whether a text goes on, at a character's place or at its end, with a line feed that separates
-// paragraphs.
+// Whether a line feed that separates paragraphs begins at an index. The index must be a boundary.
 fn goes_on_with_line_feed<D: BidiDataSource, T: TextSource>(
     data_source: &D,
     text: T,
@@ -185,7 +185,7 @@ fn goes_on_with_line_feed<D: BidiDataSource, T: TextSource>(
     }
 }
 
-// Whether a paragraph ends after a character, whose class and whose end in the text are given.
+// Whether a paragraph ends after a character, given its class and its end in the text.
 fn ends_paragraph<D: BidiDataSource, T: TextSource>(
     data_source: &D,
     text: T,
@@ -208,13 +208,14 @@ fn ends_paragraph<D: BidiDataSource, T: TextSource>(
     }
 }
 
-/// Writes the stored classes (X5c) of a text, one a code unit, and returns its paragraphs (P1) with the
-/// levels that `base` or their characters (P2, P3) give them.
+/// Writes the stored classes (X5c) of a text, one for each code unit, and returns its paragraphs (P1).
+/// `base` or the characters (P2, P3) give their levels.
 ///
-/// Without a rule the whole text is one paragraph, even an empty one. Any base level will do. The
-/// paragraphs are kept in the memory of `memory`. It allocates for more than one paragraph, and for the
-/// FSI that are open at once and that nothing decided. If an allocation fails, `classes` may hold
-/// anything.
+/// If `split` is `None`, the whole text is one paragraph, even if it is empty. Any base level is accepted.
+/// The paragraphs reuse the memory of `memory`.
+///
+/// It allocates for more than one paragraph, and for undecided FSI that are open at the same time. If an
+/// allocation fails, `classes` may hold anything.
 pub fn walk<D: BidiDataSource, T: TextSource>(
     alloc: Global,
     data_source: &D,

@@ -1,5 +1,5 @@
-//! The walk over a text that finds its paragraphs with their base levels, and the stored class of each
-//! unit (P1 to P3, X5c).
+//! A single pass over a text that finds its paragraphs with their base levels, and the stored class of each
+//! code unit (P1 to P3, X5c).
 #![tactic(auto)]
 
 mod class_set;

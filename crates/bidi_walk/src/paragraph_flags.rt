@@ -1,4 +1,4 @@
-//! What the later steps ask of a paragraph's classes.
+//! What the later steps need to know of a paragraph's classes.
 ghost use Rattle.std.specs.Prelude.{◌≡◌, not};
 ghost use Rattle.bidi_base.specs.Classes.{is_initiator, is_opener, is_removed};
 ghost use Rattle.bidi_base.specs.Direction.{may_turn};
@@ -12,14 +12,14 @@ use bidi_base::level::Level;
 use std::alloc::Global;
 use std::default::MadeWith;
 
-/// Which classes stand in a paragraph, as the data source gives them, of those that the later steps
-/// tell apart.
+/// The classes in a paragraph, as the data source gives them. Only those are kept that the later steps tell
+/// apart.
 #[derive(Clone, Copy, PartialEq, Debug)]
 pub struct ParagraphFlags {
     pub(crate) met: ClassSet,
 }
 
-// What stands in the places of a `SmallVec` that are free.
+// The value of unused entries of a `SmallVec`.
 impl MadeWith<Global> for ParagraphFlags {
     fn made_with(_alloc: Global) -> ParagraphFlags {
         ParagraphFlags::NONE
@@ -27,12 +27,12 @@ impl MadeWith<Global> for ParagraphFlags {
 }
 
 impl ParagraphFlags {
-    /// The flags of no character.
+    /// The flags of a paragraph without characters.
     pub(crate) const NONE: ParagraphFlags = ParagraphFlags {
         met: ClassSet::NONE,
     };
 
-    /// The flags with those of one more character, of this class.
+    /// Adds one more character, of this class.
     pub(crate) fn with(self, class: BidiClass) -> ParagraphFlags
         ensures { result ≡ with_class self class }
     {
@@ -45,28 +45,30 @@ impl ParagraphFlags {
         }
     }
 
-    /// No character can make the paragraph other than left to right throughout, at level 0.
+    /// Returns whether no character can make the paragraph anything but left to right throughout, at level
+    /// 0.
     pub fn is_pure_ltr(self) -> bool
         ensures { result ≡ not (any_of self.met may_turn) }
     {
         !self.met.meets(ClassSet::TURNING_EVEN)
     }
 
-    /// Some character is an isolate initiator.
+    /// Returns whether some character is an isolate initiator.
     pub fn has_isolates(self) -> bool
         ensures { result ≡ any_of self.met is_initiator }
     {
         self.met.meets(ClassSet::INITIATORS)
     }
 
-    /// No embedding and no isolate begins.
+    /// Returns whether no character begins an embedding or an isolate.
     pub fn is_flat(self) -> bool
         ensures { result ≡ not (any_of self.met is_opener) }
     {
         !self.met.meets(ClassSet::OPENERS)
     }
 
-    /// No character can give the paragraph another level than this one, if it is the paragraph's.
+    /// Returns whether no character can give the paragraph a level other than this one, if it is the
+    /// paragraph level.
     pub fn keeps_to(self, level: Level) -> bool
         ensures { result ≡ not (any_of self.met (may_leave level)) }
     {
@@ -78,7 +80,7 @@ impl ParagraphFlags {
         !self.met.meets(turning)
     }
 
-    /// X9 removes some character.
+    /// Returns whether X9 removes some character.
     pub fn has_removed(self) -> bool
         ensures { result ≡ any_of self.met is_removed }
     {

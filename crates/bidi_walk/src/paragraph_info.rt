@@ -7,7 +7,7 @@ use std::clone::Clone;
 use std::default::MadeWith;
 use std::ops::Range;
 
-/// Where a paragraph stands in a text, and its level.
+/// The range of a paragraph in a text, and its level.
 #[derive(PartialEq, Debug, Drop)]
 pub struct ParagraphInfo {
     range: Range<usize>,
@@ -18,7 +18,7 @@ pub struct ParagraphInfo {
 impl ParagraphInfo {
     ghost use Rattle.bidi_walk.specs.ParagraphInfo.{range_of, level_of};
 
-    /// A paragraph that takes a range of code units. `None` exactly where the range is reversed.
+    /// Creates a paragraph of a range of code units. Returns `None` exactly if the range is reversed.
     pub fn new(range: Range<usize>, level: Level) -> Option<ParagraphInfo>
         ensures some { IsSome result ↔ (range.start ≤ range.end) }
         ensures range { IfSome result (λ p. range_of p ≡ range) }
@@ -31,7 +31,7 @@ impl ParagraphInfo {
         }
     }
 
-    /// The paragraph of a range that is known to be in order.
+    /// Creates a paragraph of a range whose start is at most its end.
     pub fn from_range(range: Range<usize>, level: Level) -> ParagraphInfo
         requires { range.start ≤ range.end }
         ensures range { range_of result ≡ range }
@@ -40,21 +40,21 @@ impl ParagraphInfo {
         ParagraphInfo { range, level }
     }
 
-    /// The code units of the text that the paragraph takes, its separator among them.
+    /// Returns the paragraph's code units in the text, with those of its separator.
     pub fn range(&self) -> Range<usize>
         ensures { result ≡ range_of self.now }
     {
         self.range.start..self.range.end
     }
 
-    /// The paragraph level (BD4).
+    /// Returns the paragraph level (BD4).
     pub fn level(&self) -> Level
         ensures { result ≡ level_of self.now }
     {
         self.level
     }
 
-    /// The number of code units.
+    /// Returns the number of code units.
     pub fn len(&self) -> usize
         ensures { result ≡ (range_of self.now).end - (range_of self.now).start }
     {
@@ -62,7 +62,7 @@ impl ParagraphInfo {
     }
 }
 
-// What stands in the places of a `SmallVec` that are free.
+// The value of unused entries of a `SmallVec`.
 impl MadeWith<Global> for ParagraphInfo {
     fn made_with(_alloc: Global) -> ParagraphInfo {
         ParagraphInfo::from_range(0..0, LTR_LEVEL)

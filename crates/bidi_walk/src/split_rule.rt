@@ -5,6 +5,7 @@
 pub enum SplitRule {
     /// After each character of class B.
     EachSeparator,
-    /// The same, but not after a U+000D of class B directly before a U+000A of class B.
+    /// After each character of class B, but not after a U+000D of class B directly before a U+000A of class
+    /// B.
     CrLfTogether,
 }

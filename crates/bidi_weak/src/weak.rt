@@ -26,7 +26,7 @@ use numbers::{is_number, resolve_numbers};
 use std::marker::Brand;
 use std::sync::ledger::{Blank, Ledger};
 
-/// The classes of a run's units, as far as there are any.
+/// The classes of a run's code units, as far as there are any.
 fn part_of<'c>(classes: &'c [BidiClass], run: &LevelRun) -> &'c [BidiClass]
     ensures { result.now ≡ part_of classes.now (bounds run.now) }
 {
@@ -34,13 +34,14 @@ fn part_of<'c>(classes: &'c [BidiClass], run: &LevelRun) -> &'c [BidiClass]
     &classes[run.start.min(end)..end]
 }
 
-/// The weak types of a sequence, in place: W1 to W7 over its characters that are not BN.
+/// Resolves the weak types of a sequence in place: W1 to W7 over its characters that are not BN.
 ///
-/// Each unit of `processing_classes` has the class of its character, and the sequence fits the
-/// text. BN stays, and so do the units outside the sequence. No memory is taken. Beside the looks that find
-/// out whether there are any, it goes over the units at most once for nonspacing marks, once for numbers,
-/// and once for what is left; the units of terminators and separators that wait for the character behind
-/// them are gone over once more.
+/// Each code unit of `processing_classes` has the class of its character, and the sequence fits the text.
+/// BN stays BN, and code units outside the sequence do not change. Does not allocate.
+///
+/// Tests whether there are any nonspacing marks and numbers. Besides these tests, it passes over the code
+/// units at most once for marks, once for numbers, and once for what is left. Terminators and separators
+/// that wait for the next character are passed over once more.
 pub fn resolve_weak<T: TextSource>(
     text: T,
     sequence: &IsolatingRunSequence,
@@ -60,10 +61,13 @@ pub fn resolve_weak<T: TextSource>(
     resolve_weak_lent(text, sequence.lend(), processing_classes)
 }
 
-/// The same as [`resolve_weak`], where each turn of a loop, here and in what is called, counts in
-/// `steps`: at least one for each character in the runs, and at most eight for each unit in them. What
-/// waits for a character behind it waits until that comes: nothing is looked for ahead, so no stretch of
-/// BN is gone over for each unit before it. Calls of the text and of the library have no turns.
+/// Like [`resolve_weak`], and counts each loop iteration in `steps`, including those of the functions it
+/// calls.
+///
+/// There is at least one iteration for each character in the runs, and at most eight for each code unit. A
+/// character that depends on a later one waits until that is read. The passes never search ahead, so they
+/// do not pass over a stretch of BN for each code unit before it. Calls of the text and of the library
+/// count as no iterations.
 pub fn resolve_weak_counted<T: TextSource, S: Ledger>(
     text: T,
     sequence: &IsolatingRunSequence,
@@ -88,7 +92,7 @@ pub fn resolve_weak_counted<T: TextSource, S: Ledger>(
     resolve_weak_lent_counted(text, sequence.lend(), processing_classes, steps)
 }
 
-/// As [`resolve_weak`], of a sequence whose runs are lent.
+/// Like [`resolve_weak`], for a sequence that borrows its runs.
 pub fn resolve_weak_lent<T: TextSource>(
     text: T,
     sequence: LentSequence<'_>,
@@ -108,7 +112,7 @@ pub fn resolve_weak_lent<T: TextSource>(
     resolve_weak_fresh::<T, Brand>(text, sequence, processing_classes, Blank::new(1))
 }
 
-// The same by a new count of steps.
+// Calls [`resolve_weak_lent_counted`] with a new count of steps.
 fn resolve_weak_fresh<T: TextSource, S: Ledger>(
     text: T,
     sequence: LentSequence<'_>,
@@ -133,7 +137,7 @@ fn resolve_weak_fresh<T: TextSource, S: Ledger>(
     resolve_weak_lent_counted(text, sequence, processing_classes, &mut steps)
 }
 
-// The same with each turn counted.
+// Like [`resolve_weak_lent`], and counts each loop iteration in `steps`.
 fn resolve_weak_lent_counted<T: TextSource, S: Ledger>(
     text: T,
     sequence: LentSequence<'_>,
@@ -161,7 +165,7 @@ fn resolve_weak_lent_counted<T: TextSource, S: Ledger>(
     change(runs, processing_classes, steps);
 }
 
-/// W1, and W2, W4, W5 and W7 behind it, which ask for nonspacing marks and numbers alone.
+/// Applies W1, and then W2, W4, W5 and W7. They matter only if there are nonspacing marks or numbers.
 fn resolve_marks_and_numbers<T: TextSource, S: Ledger>(
     text: T,
     runs: &[LevelRun],
@@ -184,7 +188,7 @@ fn resolve_marks_and_numbers<T: TextSource, S: Ledger>(
     }
 }
 
-/// Whether a nonspacing mark or a number stands in the runs, or a little behind one.
+/// Whether the runs have a nonspacing mark or a number. May also find one shortly after a run.
 fn has_marks_or_numbers(runs: &[LevelRun], classes: &[BidiClass]) -> bool
     ensures { result ≡ is_any_wide is_mark_or_number runs.now classes.now }
 {
@@ -192,11 +196,11 @@ fn has_marks_or_numbers(runs: &[LevelRun], classes: &[BidiClass]) -> bool
         .any(|run| is_mark_or_number_in(wide_part_of(classes, run)))
 }
 
-/// How many units are looked at together.
+/// How many code units are tested together.
 const WIDE: usize = 32;
 
-/// The classes of a run's units, as far as there are any, and of those behind it up to the next multiple
-/// of [`WIDE`] in all, so that no unit is looked at by itself.
+/// The classes of a run's code units, as far as there are any. Classes after the run are added up to the
+/// next multiple of [`WIDE`], so that no code unit is tested by itself.
 fn wide_part_of<'c>(classes: &'c [BidiClass], run: &LevelRun) -> &'c [BidiClass]
     ensures { result.now ≡ wide_part_of classes.now (bounds run.now) }
 {
@@ -207,8 +211,8 @@ fn wide_part_of<'c>(classes: &'c [BidiClass], run: &LevelRun) -> &'c [BidiClass]
     &classes[start..wide_end]
 }
 
-/// Whether one of the classes is that of a nonspacing mark or a number. All are looked at, many at once,
-/// which the compiler sees only where this stands by itself.
+/// Whether one of the classes is that of a nonspacing mark or a number. Tests all of them, many at once.
+/// The compiler vectorizes the loop only in a function of its own.
 #[inline(never)]
 fn is_mark_or_number_in(classes: &[BidiClass]) -> bool
     ensures { result ≡ is_any_of is_mark_or_number classes.now }

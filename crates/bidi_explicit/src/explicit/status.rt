@@ -14,7 +14,7 @@ use bidi_runs::prepare::Steps;
 use std::marker::Model;
 use std::sync::ledger::Ledger;
 
-/// What holds inside an opener that was taken.
+/// An entry of the directional status stack: the status inside an initiator that did not overflow.
 #[derive(Clone, Copy)]
 pub struct StatusEntry {
     pub level: Level,
@@ -32,8 +32,8 @@ impl Default for StatusEntry {
     }
 }
 
-/// The stack, and how many isolates and embeddings overflowed and how many isolates were taken.
-/// The levels on it ascend up to 125, so it holds at most 126 entries.
+/// The directional status stack, with the overflow isolate, overflow embedding and valid isolate counts.
+/// The levels on the stack ascend up to 125, so it has at most 126 entries.
 #[derive(Drop)]
 pub struct StatusStack {
     stack: ArrayVec<StatusEntry, 126>,
@@ -50,7 +50,7 @@ impl Model for StatusStack {
     ghost invariant = { λ s. 0 < length s.stack.items };
 }
 
-// The class that an opener puts on characters.
+// The class that an initiator gives to the characters inside it, if it is an override.
 fn override_class(class: BidiClass) -> Option<BidiClass>
     ensures { result ≡ override_of class }
 {
@@ -61,7 +61,7 @@ fn override_class(class: BidiClass) -> Option<BidiClass>
     }
 }
 
-// The level that an opener asks for. Refused exactly where it passes 125.
+// The level inside an initiator, or an error exactly if it would be above 125.
 fn asked(class: BidiClass, level: Level) -> Result<Level, Error>
     ensures { OkIff result (asked_level class level ≤ 125) (asked_level class level) }
 {
@@ -72,7 +72,7 @@ fn asked(class: BidiClass, level: Level) -> Result<Level, Error>
     }
 }
 
-// Pops down to the innermost isolate, and that. Each entry that is popped is a step.
+// Pops the entries above the innermost isolate, and the isolate itself. Counts one step for each entry.
 fn pop_isolate<S: Ledger>(stack: &mut ArrayVec<StatusEntry, 126>, steps: &mut Steps<S>)
     ensures stack { map seen (reverse stack.new.items) ≡ drop_isolate (map seen (reverse stack.old.items)) }
     ensures at_least { steps.old ≤ steps.new }
@@ -105,8 +105,8 @@ impl StatusStack {
         }
     }
 
-    /// Reads a character: closes what it closes, answers the status at it, and opens what it opens. The
-    /// steps that empty the stack are paid by the entries that they take away.
+    /// Reads a character: closes what it closes, returns the status at it, and opens what it opens. The
+    /// steps that pop the stack are charged to the popped entries.
     #[tactic(auto, using(crate::proofs::StackLemmas::entry_counts))]
     pub fn read<S: Ledger>(&mut self, class: BidiClass, steps: &mut Steps<S>) -> StatusEntry
         requires poppable { IsPoppable self.old }
@@ -123,7 +123,7 @@ impl StatusStack {
         status
     }
 
-    /// What holds where the stack stands.
+    /// Returns the status on top of the stack.
     pub fn top(&self) -> StatusEntry
         ensures { seen result ≡ self.now.top }
     {
@@ -131,7 +131,7 @@ impl StatusStack {
         stack[stack.len() - 1]
     }
 
-    // What a PDI closes (X6a).
+    // Closes the innermost isolate at a PDI (X6a).
     fn close_isolate<S: Ledger>(&mut self, steps: &mut Steps<S>)
         requires { IsPoppable self.old }
         ensures state { self.new ≡ close_isolate self.old }
@@ -147,7 +147,7 @@ impl StatusStack {
         }
     }
 
-    // What a PDF closes (X7).
+    // Closes the innermost embedding at a PDF (X7).
     fn close_embedding(&mut self)
         ensures { self.new ≡ close_embedding self.old }
     {
@@ -166,7 +166,7 @@ impl StatusStack {
         }
     }
 
-    // What a character closes.
+    // Closes what a character of this class closes.
     #[tactic(auto, using(crate::proofs::StackLemmas::entry_counts))]
     fn close<S: Ledger>(&mut self, class: BidiClass, steps: &mut Steps<S>)
         requires { IsPoppable self.old }
@@ -181,7 +181,8 @@ impl StatusStack {
         }
     }
 
-    // The level inside an opener that is taken here: its level fits, and nothing that is open overflowed.
+    // The level inside an initiator. `None` if it would be above 125, or if an open initiator has
+    // overflowed.
     fn taken_level(&self, class: BidiClass) -> Option<Level>
         ensures { result ≡ (if fits_in class self.now then Some (asked_level class self.now.top.status.level) else None) }
     {
@@ -193,7 +194,7 @@ impl StatusStack {
         }
     }
 
-    // What an opener does.
+    // Pushes an initiator's entry, or counts its overflow.
     fn enter(&mut self, class: BidiClass, is_isolate: bool)
         requires depth { (paragraph : ℕ) × IsWithinDepth paragraph self.old }
         requires counts { counted self.old + 1 < 2 ^ 64 }
@@ -216,7 +217,7 @@ impl StatusStack {
         }
     }
 
-    // What a character opens (X2 to X5c).
+    // Opens what a character of this class opens (X2 to X5c).
     fn open(&mut self, class: BidiClass)
         requires depth { (paragraph : ℕ) × IsWithinDepth paragraph self.old }
         requires counts { counted self.old + 1 < 2 ^ 64 }

@@ -1,5 +1,5 @@
-//! The explicit pass by stretches: between two controls the status stands still, so all units there
-//! get one level, and are under one override.
+//! The explicit pass by stretches. Between two controls the status does not change, so all code units there
+//! get the same level and the same override.
 
 ghost use Rattle.std.specs.Prelude.{◌≡◌, ℕ, ◌+◌, ◌*◌, ◌-◌, ◌<◌, ◌≤◌, false, List, None, Some, length, map, IsTrue, OnOk};
 ghost use Rattle.bidi_base.specs.Places.{class_at};
@@ -21,7 +21,7 @@ use bidi_text::text::TextSource;
 use std::alloc::AllocError;
 use std::sync::ledger::Ledger;
 
-/// Whether a class changes the status, or has another level than it.
+/// Returns whether characters of this class change the status, or have another level than the status.
 pub fn is_control(class: BidiClass) -> bool
     ensures { result ≡ is_control class }
 {
@@ -42,7 +42,7 @@ impl ClassTest for Control {
     }
 }
 
-/// Classes that X9 keeps, where there is no control: all but BN.
+/// Classes that X9 keeps, in a stretch without controls: all but BN.
 #[derive(Clone, Copy, Debug)]
 struct Kept;
 
@@ -56,20 +56,20 @@ impl ClassTest for Kept {
     }
 }
 
-/// How far the pass got with a stretch or a control, in which one level holds.
+/// The part of the paragraph just read: a stretch or a control, with one level.
 #[derive(Clone, Copy, Debug)]
 pub struct Progress {
-    /// The unit behind what was read.
+    /// The index after that part.
     pub end: usize,
     level: Level,
-    /// The first unit read that X9 keeps.
+    /// The first code unit of the part that X9 keeps.
     first_kept: Option<usize>,
 }
 
-/// The level run that no later one has ended yet.
+/// The current level run, which no later run has ended yet.
 #[derive(Clone, Copy, Debug)]
 pub struct OpenRun {
-    /// Its first unit.
+    /// Its first code unit.
     pub start: usize,
     /// The level of the last kept character.
     last_level: Option<Level>,
@@ -86,7 +86,7 @@ impl OpenRun {
         }
     }
 
-    /// Goes on with what was read, or ends before the first kept character in it.
+    /// Extends the run over the part just read, or ends it before the first kept character of that part.
     pub fn meet(&mut self, runs: &mut LevelRunVec, progress: &Progress) -> Result<(), AllocError>
         ensures runs { OnOk result (map bounds runs.new.items
             ≡ runs_met progress.now.first_kept progress.now.level self.old (map bounds runs.old.items)) }
@@ -105,7 +105,7 @@ impl OpenRun {
 pub struct Paragraph<'p, T: TextSource> {
     pub text: T,
     pub level: Level,
-    /// Its stored classes, one a unit.
+    /// Its stored classes, one for each code unit.
     pub original_classes: &'p [BidiClass],
     ghost low: { level ≤ 125 },
     ghost per_char: { IsTrue (is_per_char ⟦<BidiClass as PartialEq>⟧.eq T.units (T.characters text) original_classes.now) },
@@ -113,7 +113,7 @@ pub struct Paragraph<'p, T: TextSource> {
 }
 
 impl<T: TextSource> Paragraph<'_, T> {
-    // The unit behind the character that begins at a unit.
+    // The index after the character that begins at `start`.
     fn end_of(&self, start: usize) -> usize
         requires begins { IsTrue (is_boundary T.units (T.characters self.now.text) start) }
         requires inside { start < length self.now.original_classes.now }
@@ -124,7 +124,7 @@ impl<T: TextSource> Paragraph<'_, T> {
         end_within(self.text, start, self.original_classes.len())
     }
 
-    // The same. To go there is a step.
+    // Like `end_of`, and counts one step.
     fn step_over<S: Ledger>(&self, start: usize, steps: &mut Steps<S>) -> usize
         requires begins { IsTrue (is_boundary T.units (T.characters self.now.text) start) }
         requires inside { start < length self.now.original_classes.now }
@@ -137,8 +137,8 @@ impl<T: TextSource> Paragraph<'_, T> {
         self.end_of(start)
     }
 
-    // The next character from a unit on, and below another, whose class passes a test. Each character
-    // that is passed over is a step.
+    // The first character from `from` on and before `to` whose class passes a test, or else `to`. Counts
+    // one step for each character passed over.
     fn next_passing<C: ClassTest, S: Ledger>(
         &self,
         test: C,
@@ -162,8 +162,8 @@ impl<T: TextSource> Paragraph<'_, T> {
         at
     }
 
-    // Puts the class of an override on the characters of a stretch without controls, and spares BN
-    // (X6). Each of them is a step.
+    // Writes the class of an override to the characters of a stretch without controls, except to those with
+    // BN (X6). Counts one step for each character.
     fn put_override<S: Ledger>(
         &self,
         classes: &mut [BidiClass],
@@ -192,7 +192,7 @@ impl<T: TextSource> Paragraph<'_, T> {
         }
     }
 
-    // Writes the classes of a stretch without controls, if an override is over it.
+    // Writes the classes of a stretch without controls, if it is inside an override.
     fn write_override<S: Ledger>(
         &self,
         classes: &mut [BidiClass],
@@ -219,7 +219,7 @@ impl<T: TextSource> Paragraph<'_, T> {
         }
     }
 
-    /// Reads the characters from a unit up to the next control.
+    /// Reads the characters from an index up to the next control.
     pub fn read_stretch<S: Ledger>(
         &self,
         from: usize,
@@ -256,7 +256,7 @@ impl<T: TextSource> Paragraph<'_, T> {
         }
     }
 
-    /// Reads the control that begins at a unit.
+    /// Reads the control that begins at an index.
     pub fn read_control<S: Ledger>(
         &self,
         start: usize,

@@ -1,5 +1,5 @@
-//! What is looked for among the classes of a sequence. The tests have no branch, so that many units are
-//! tested at once.
+//! The tests that searches use on the classes of a sequence. They have no branch, so that many code units
+//! are tested at once.
 
 ghost use Rattle.std.specs.Prelude.{◌≡◌, not};
 ghost use Rattle.bidi_base.specs.Classes.{has_direction, same_class, stands_for};
@@ -53,7 +53,7 @@ impl ClassTest for For {
     }
 }
 
-/// Classes that don't.
+/// Classes that don't stand for this direction.
 #[derive(Clone, Copy, Debug)]
 pub struct NotFor(pub BidiClass);
 

@@ -1,4 +1,4 @@
-//! N1 and N2 over the units of a sequence.
+//! N1 and N2 over the code units of a sequence.
 
 ghost use Rattle.std.specs.Prelude.{◌≡◌, ◌⊎◌, ℕ, ◌<◌, ◌≤◌, true, false, length, map, get_or, drop, All, IsTrue};
 ghost use Rattle.bidi_base.specs.Classes.{is_l_or_r, is_weak_resolved, stands_for};
@@ -18,18 +18,18 @@ use bidi_base::search::first_passing;
 use bidi_runs::prepare::LevelRun;
 use bidi_runs::written::write_over_runs;
 
-/// The directions that neutrals of a sequence can take beside those among them.
+/// The directions of a sequence: the embedding direction, and those at its ends.
 #[derive(Clone, Copy, Debug)]
 pub struct Directions {
-    /// That of the sequence's level.
+    /// The direction of the sequence's level.
     pub embedding: BidiClass,
-    /// That before its first character.
+    /// The direction before its first character.
     pub sos: BidiClass,
-    /// That after its last character.
+    /// The direction after its last character.
     pub eos: BidiClass,
 }
 
-/// The direction other than this one.
+/// Returns the opposite direction.
 pub fn opposite_of(direction: BidiClass) -> BidiClass
     ensures { result ≡ opposite_of direction }
 {
@@ -39,9 +39,11 @@ pub fn opposite_of(direction: BidiClass) -> BidiClass
     }
 }
 
-/// N1 for the direction against the embedding one: neutrals that stand between two of it take it, where
-/// sos and eos stand at the ends. All others stay, for N2. Units count as characters would: a class that
-/// stands several times in a row is seen as one.
+/// Applies N1 for the direction opposite to the embedding direction.
+///
+/// Neutrals with that direction on both sides take it. At the ends of the sequence sos and eos count. All
+/// others stay, for N2. Code units can be read like characters, since several of one class in a row have
+/// the effect of one.
 pub fn resolve_opposite(directions: Directions, runs: &[LevelRun], classes: &mut [BidiClass])
     requires side { IsTrue (is_l_or_r directions.embedding) }
     requires sos { IsTrue (is_l_or_r directions.sos) }
@@ -75,21 +77,21 @@ pub fn resolve_opposite(directions: Directions, runs: &[LevelRun], classes: &mut
     }
 }
 
-/// What a walk for N1 knows of the units that it has read.
+/// What the pass for N1 knows of the code units that it has read.
 #[derive(Clone, Copy, Debug)]
 struct Join {
-    /// The direction against the embedding one.
+    /// The direction opposite to the embedding direction.
     opposite: BidiClass,
-    /// Whether nothing but neutrals came since this direction.
+    /// Whether only neutrals came since this direction.
     waits: bool,
-    /// The unit where they begin, if so.
+    /// The code unit where these neutrals begin, if so.
     first: usize,
-    /// The index of the run of that unit.
+    /// The index of that code unit's run.
     first_run: usize,
 }
 
 impl Join {
-    /// Reads the units of the run at the index `run`.
+    /// Reads the code units of the run at the index `run`.
     fn read_run(&mut self, runs: &[LevelRun], run: usize, classes: &mut [BidiClass])
         requires ordered { IsTrue (are_ordered (map bounds runs.now)) }
         requires first_run { self.old.first_run ≤ length runs.now }
@@ -111,8 +113,8 @@ impl Join {
         }
     }
 
-    /// Goes on to the next unit of the opposite direction, and settles what waits for it. Answers where
-    /// it is, or else `end`.
+    /// Goes on to the next code unit of the opposite direction, and settles the neutrals that wait for it.
+    /// Returns its index, or `end` if there is none.
     fn next_opposite(
         &mut self,
         runs: &[LevelRun],
@@ -149,7 +151,7 @@ impl Join {
         first_passing(For(self.opposite), classes, from, end)
     }
 
-    /// Passes over a stretch of the opposite direction, in the run at the index `run`. Answers where it
+    /// Passes over a stretch of the opposite direction, in the run at the index `run`. Returns where it
     /// ends, at most `end`.
     fn pass(&mut self, run: usize, classes: &[BidiClass], at: usize, end: usize) -> usize
         requires some { at < end }
@@ -170,7 +172,7 @@ impl Join {
         next
     }
 
-    /// Gives the opposite direction to what waits, if something does. It stands below the unit `to`.
+    /// Gives the opposite direction to the neutrals that wait, if there are any. They are before `to`.
     fn settle(&self, runs: &[LevelRun], classes: &mut [BidiClass], to: usize)
         requires ordered { IsTrue (are_ordered (map bounds runs.now)) }
         requires first_run { self.now.first_run ≤ length runs.now }
@@ -205,7 +207,7 @@ pub fn settle_rest(embedding: BidiClass, runs: &[LevelRun], classes: &mut [BidiC
     }
 }
 
-/// The same of one run.
+/// N2: the neutrals of one run take the embedding direction.
 fn settle_run(embedding: BidiClass, run: &LevelRun, classes: &mut [BidiClass])
     requires { run.now.end ≤ length classes.old }
     ensures changed { (u : ℕ) → run.now.start ≤ u → u < run.now.end

@@ -1,4 +1,4 @@
-//! The nonspacing marks behind a bracket.
+//! The nonspacing marks after a bracket.
 
 ghost use Rattle.std.specs.Prelude.{◌≡◌, ◌&&◌, not, ℕ, ◌<◌, ◌≤◌, ◌+◌, length, map, IsTrue};
 ghost use Rattle.bidi_base.specs.Classes.{is_kept_in_place, is_nsm};
@@ -19,8 +19,8 @@ fn ends_marks(class: BidiClass, original: BidiClass) -> bool
     is_kept_in_place(class) && original != NSM
 }
 
-/// Where the nonspacing marks end that stand in some runs from a unit on, BN among them: the place of
-/// the first character that is neither, or else the number of units.
+/// Returns where the nonspacing marks in some runs end, from an index on. BN among them is passed over.
+/// This is the index of the first character that is neither, or else the number of code units.
 pub fn marks_end<T: TextSource>(
     text: T,
     runs: &[LevelRun],

@@ -1,4 +1,4 @@
-//! What stands first in a sequence, and which directions stand next to a unit of it.
+//! Searches for the first kept code unit of a sequence, and for the directions next to a code unit.
 
 ghost use Rattle.std.specs.Prelude.{◌≡◌, ℕ, ◌+◌, ◌<◌, ◌≤◌, length, map, drop, take, find, All, IsTrue};
 ghost use Rattle.bidi_base.specs.Classes.{is_kept_in_place};
@@ -13,7 +13,7 @@ use bidi_base::search::first_passing;
 use bidi_runs::prepare::LevelRun;
 use bidi_runs::written::is_kept_in_place;
 
-/// The first unit of a sequence that is not BN.
+/// Returns the first code unit of a sequence that is not BN.
 pub fn first_kept(runs: &[LevelRun], classes: &[BidiClass]) -> Option<usize>
     requires { All (λ r. r.1 ≤ length classes.now) (map bounds runs.now) }
     ensures { result ≡ find (λ u. is_kept_in_place (class_at classes.now u)) (units_in_runs (map bounds runs.now)) }
@@ -28,7 +28,7 @@ pub fn first_kept(runs: &[LevelRun], classes: &[BidiClass]) -> Option<usize>
     None
 }
 
-/// The index of the first of some runs that does not end at or before a unit, or else their number.
+/// Returns the index of the first of some runs that ends after `unit`, or the number of runs.
 pub fn run_of(runs: &[LevelRun], unit: usize) -> usize
     requires { IsTrue (are_ordered (map bounds runs.now)) }
     ensures within { result ≤ length runs.now }
@@ -48,8 +48,8 @@ pub fn run_of(runs: &[LevelRun], unit: usize) -> usize
     low
 }
 
-/// The first unit of some runs from `from` on and below `to` whose class stands for a direction, or
-/// else `to`.
+/// Returns the first code unit of some runs, from `from` on and before `to`, whose class stands for a
+/// direction. Returns `to` if there is none.
 pub fn first_for(
     direction: BidiClass,
     runs: &[LevelRun],
@@ -72,7 +72,7 @@ pub fn first_for(
     to
 }
 
-/// The nearest direction at the units of some runs below `to`, or else the one given.
+/// Returns the nearest direction at the code units of some runs before `to`, or `before` if there is none.
 pub fn direction_before(
     before: BidiClass,
     runs: &[LevelRun],

@@ -1,4 +1,4 @@
-//! Sequences in which one direction stands alone: N0 to N2 give it to each character but BN.
+//! Sequences with a single direction: N0 to N2 give it to each character that is not BN.
 
 ghost use Rattle.std.specs.Prelude.{◌≡◌, ℕ, ◌<◌, ◌≤◌, true, false, length, map, All, IsTrue};
 ghost use Rattle.bidi_base.specs.Places.{class_at};
@@ -10,8 +10,8 @@ use bidi_base::char_data::BidiClass::{self, AN, EN, L, R};
 use bidi_base::search::{ClassTest, first_passing};
 use bidi_runs::prepare::LevelRun;
 
-/// Whether sos and eos are the embedding direction, and no class in the runs is a number or the other
-/// direction.
+/// Returns whether sos and eos are the embedding direction, and no class in the runs is a number or the
+/// other direction.
 pub fn stands_alone(directions: Directions, runs: &[LevelRun], classes: &[BidiClass]) -> bool
     requires { All (λ r. r.1 ≤ length classes.now) (map bounds runs.now) }
     ensures sos { IsTrue result → directions.sos ≡ directions.embedding }
@@ -27,7 +27,7 @@ pub fn stands_alone(directions: Directions, runs: &[LevelRun], classes: &[BidiCl
     sos == embedding && eos == embedding && keep_to(embedding, runs, classes)
 }
 
-/// Whether no class in the runs turns from a direction.
+/// Whether no class in the runs is a number or the direction other than `direction`.
 fn keep_to(direction: BidiClass, runs: &[LevelRun], classes: &[BidiClass]) -> bool
     requires { All (λ r. r.1 ≤ length classes.now) (map bounds runs.now) }
     ensures { IsTrue result → (u : ℕ) → in_runs (map bounds runs.now) u ≡ true
@@ -41,7 +41,7 @@ fn keep_to(direction: BidiClass, runs: &[LevelRun], classes: &[BidiClass]) -> bo
     true
 }
 
-/// Whether a class in the run turns from a direction.
+/// Whether a class in the run is a number or the direction other than `direction`.
 fn has_turn(direction: BidiClass, run: &LevelRun, classes: &[BidiClass]) -> bool
     requires { run.now.end ≤ length classes.now }
     ensures { result ≡ false → (u : ℕ) → run.now.start ≤ u → u < run.now.end
@@ -52,7 +52,7 @@ fn has_turn(direction: BidiClass, run: &LevelRun, classes: &[BidiClass]) -> bool
     first_passing(TurningFrom(direction), classes, start, end) < end
 }
 
-/// Numbers, and the direction other than this one. The test has no branch, so that many units are
+/// Numbers, and the direction other than this one. The test has no branch, so that many code units are
 /// tested at once.
 #[derive(Clone, Copy, Debug)]
 struct TurningFrom(BidiClass);

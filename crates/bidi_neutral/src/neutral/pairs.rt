@@ -1,4 +1,4 @@
-//! What the bracket pairs of an isolating run sequence take (N0), in place over its units.
+//! The directions of the bracket pairs of an isolating run sequence (N0), in place over its code units.
 
 ghost use Rattle.std.specs.Prelude.{◌≡◌, ℕ, ◌+◌, ◌<◌, ◌≤◌, List, length, map, All, IsTrue};
 ghost use Rattle.bidi_base.specs.Brackets.{AreNestedPairs};
@@ -18,15 +18,17 @@ use bidi_runs::prepare::LevelRun;
 use bidi_runs::written::write_over_runs;
 use bidi_text::text::TextSource;
 
-/// N0: the pairs one by one, in the order of their openings, each by the units at which its brackets
-/// begin. `original_classes` has the stored classes, and `classes` those after W7.
+/// Applies N0 to the bracket pairs one by one, in the order of their opening brackets.
 ///
-/// The context of a pair is looked for backwards from its opening, and only where the opposite
-/// direction stands inside: then the opening takes a direction, and no later search goes past it.
-/// What stands inside is known from two places that only go forwards. Only a pair whose opening is a
-/// nonspacing mark by its original class is looked through by itself, since it may stand among the
-/// marks that another pair changed. Brackets among marks that have their direction already are not
-/// written again, so a row of marks is not gone over for each bracket in it.
+/// Each pair is given by the indices at which its brackets begin. `original_classes` has the stored
+/// classes, and `classes` those after W7.
+///
+/// The context of a pair is searched backwards from its opening bracket, and only if the opposite direction
+/// is inside. The opening bracket then takes a direction, and no later search goes past it. Two positions
+/// that only move forwards tell which directions are inside. The exception is a pair whose opening bracket
+/// is a nonspacing mark by its original class: it may be among the marks that another pair changed, so the
+/// pair is searched by itself. Brackets among marks that already have their direction are not written
+/// again. So a series of marks is not passed over for each bracket in it.
 pub fn resolve_pairs<T: TextSource>(
     text: T,
     directions: Directions,
@@ -70,29 +72,29 @@ pub fn resolve_pairs<T: TextSource>(
     }
 }
 
-/// A pair of brackets, by the units at which they begin.
+/// A pair of brackets, by the indices at which they begin.
 #[derive(Clone, Copy, Debug)]
 struct Pair {
     opening: usize,
-    /// The unit behind the opening.
+    /// The index after the opening bracket.
     inside: usize,
     closing: usize,
-    /// Whether the opening is a nonspacing mark by its original class.
+    /// Whether the opening bracket is a nonspacing mark by its original class.
     is_marked: bool,
 }
 
-/// Where a direction stands next.
+/// The next code unit of a direction.
 #[derive(Clone, Copy, Debug)]
 struct Next {
     direction: BidiClass,
-    /// The first unit whose class stands for it, of those that do not lie before the opening asked
-    /// for last.
+    /// The first code unit whose class stands for the direction, not before the opening bracket asked for
+    /// last.
     unit: usize,
 }
 
 impl Next {
-    /// Whether it stands between the brackets of a pair. Openings come in order. A pair that opens at
-    /// a mark is looked through.
+    /// Whether the direction is between the brackets of a pair. Opening brackets come in order. A pair that
+    /// opens at a mark is searched by itself.
     fn is_inside(&mut self, runs: &[LevelRun], classes: &[BidiClass], pair: Pair) -> bool
         requires ordered { IsTrue (are_ordered (map bounds runs.now)) }
         requires closing { pair.closing ≤ length classes.now }
@@ -110,7 +112,7 @@ impl Next {
     }
 }
 
-/// What is known ahead while the pairs are gone through.
+/// The next code units of both directions, while the pass goes over the pairs.
 #[derive(Clone, Copy, Debug)]
 struct PairWalk {
     embedding: Next,
@@ -138,8 +140,9 @@ impl PairWalk {
         }
     }
 
-    /// What a pair takes: the embedding direction if it stands inside (N0 b), otherwise, if the
-    /// opposite one does, that of the context before the pair (N0 c), and else none (N0 d).
+    /// Returns the direction that a pair takes. This is the embedding direction if it is inside (N0 b).
+    /// Otherwise, if the opposite one is inside, it is that of the context before the pair (N0 c). If
+    /// neither is inside, returns `None` (N0 d).
     fn pair_direction(
         &mut self,
         sos: BidiClass,
@@ -168,7 +171,7 @@ impl PairWalk {
     }
 }
 
-/// A bracket and the nonspacing marks directly behind it, as they were written last.
+/// The bracket that was last written, and the nonspacing marks directly after it.
 #[derive(Clone, Copy, Debug)]
 struct Row {
     from: usize,
@@ -178,7 +181,7 @@ struct Row {
 }
 
 impl Row {
-    /// No row yet.
+    /// No bracket written yet.
     fn new(direction: BidiClass) -> Row
         ensures { result ≡ record { from = 0; end = 0; direction = direction } }
     {
@@ -189,8 +192,8 @@ impl Row {
         }
     }
 
-    /// Gives a bracket a direction, and the nonspacing marks directly behind it by their original
-    /// classes. They are the row from then on.
+    /// Gives a direction to a bracket, and to the nonspacing marks directly after it by their original
+    /// classes. Does nothing if the last write did that already.
     fn set_direction<T: TextSource>(
         &mut self,
         text: T,
@@ -224,8 +227,8 @@ impl Row {
     }
 }
 
-/// Gives a bracket a direction, and the nonspacing marks directly behind it by their original classes.
-/// Answers where the marks end.
+/// Gives a direction to a bracket, and to the nonspacing marks directly after it by their original classes.
+/// Returns where the marks end.
 fn set_direction<T: TextSource>(
     text: T,
     runs: &[LevelRun],

@@ -11,9 +11,11 @@ use bidi_base::char_data::BidiClass;
 use bidi_base::data_source::BidiMatchedOpeningBracket;
 use std::alloc::{AllocError, Global};
 
-/// The bracket pairs of a sequence as indexes of opening and closing, in the order of their openings,
-/// from the classes after W7 and the brackets that the data source gives. The search ends at the
-/// first opening that finds 63 others open, and the pairs so far stay.
+/// Returns the bracket pairs of a sequence, as indices of opening and closing bracket, in the order of the
+/// opening brackets.
+///
+/// Reads the classes after W7 and the brackets that the data source gives. The search ends at the first
+/// opening bracket that finds 63 others open. It keeps the pairs found so far.
 pub fn pairs(
     alloc: Global,
     classes: &[BidiClass],
@@ -30,7 +32,7 @@ pub fn pairs(
     Ok(pairs)
 }
 
-/// A bracket counts where the class is ON (BD14, BD15).
+/// The bracket of a character, if it counts. It counts if its class is ON (BD14, BD15).
 fn counted_bracket(
     class: BidiClass,
     bracket: Option<BidiMatchedOpeningBracket>,

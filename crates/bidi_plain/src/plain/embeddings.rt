@@ -12,7 +12,7 @@ use bidi_base::level::{Error, Level};
 use std::alloc::{AllocError, Global};
 use std::marker::Model;
 
-/// What X1 to X8 give the characters of a paragraph, one level and one class a character.
+/// The result of X1 to X8 for a paragraph: one level and one class for each character.
 #[derive(Debug, Drop)]
 pub struct Explicit {
     levels: Vec<Level>,
@@ -28,14 +28,14 @@ impl Model for Explicit {
 }
 
 impl Explicit {
-    /// The explicit levels.
+    /// Returns the explicit levels.
     pub fn levels(&self) -> &[Level]
         ensures { result.now ≡ self.now.levels }
     {
         self.levels.as_slice()
     }
 
-    /// The classes under overrides. What X9 removes keeps its class.
+    /// Returns the classes under overrides. Characters that X9 removes keep their class.
     pub fn classes(&self) -> &[BidiClass]
         ensures { result.now ≡ self.now.classes }
     {
@@ -43,7 +43,7 @@ impl Explicit {
     }
 }
 
-/// What holds inside open openers: a level, and the class that an override puts on characters.
+/// The status inside open initiators: a level, and the class that an override gives to characters.
 #[derive(Drop)]
 struct Status {
     level: Level,
@@ -58,7 +58,7 @@ impl Model for Status {
     ghost view = { λ s. record { level = s.level; override = s.override_class } };
 }
 
-/// The openers that are open at a place. In clauses they are a list, the innermost first.
+/// The initiators that are open at a character. In clauses they are a list, the innermost first.
 #[derive(Drop)]
 struct Openers {
     /// The outermost first.
@@ -79,7 +79,8 @@ impl Model for Openers {
     ghost invariant = { λ o. o.isolates ≡ count_by is_initiator (reverse o.classes.items) };
 }
 
-/// The level that an opener asks for, above the level of its place. Refused exactly above 125.
+/// The level inside an initiator, if `level` is the one before it. Returns an error exactly if it would be
+/// above 125.
 fn asked_level(opener: BidiClass, level: Level) -> Result<Level, Error>
     ensures { OkIff result (asked_level opener level ≤ 125) (asked_level opener level) }
 {
@@ -90,7 +91,7 @@ fn asked_level(opener: BidiClass, level: Level) -> Result<Level, Error>
     }
 }
 
-/// The class that an opener puts on characters, if it is an override.
+/// The class that an initiator gives to characters, if it is an override.
 fn override_of(opener: BidiClass) -> Option<BidiClass>
     ensures { result ≡ override_of opener }
 {
@@ -101,8 +102,8 @@ fn override_of(opener: BidiClass) -> Option<BidiClass>
     }
 }
 
-/// What holds inside openers, the outermost first: each takes the level that it asks for, up to the
-/// first whose level would pass 125 (X1 to X5c).
+/// The status inside open initiators, which are listed with the outermost first. Each sets its level, up to
+/// the first whose level would be above 125 (X1 to X5c).
 fn status_inside(status: Status, openers: &[BidiClass]) -> Status
     ensures { result ≡ status_inside status openers.now }
 {
@@ -121,7 +122,7 @@ fn status_inside(status: Status, openers: &[BidiClass]) -> Status
     }
 }
 
-/// Takes away the innermost isolate, and all that was opened inside it.
+/// Removes the innermost isolate, and everything that was opened inside it.
 fn close_isolate(classes: &mut Vec<BidiClass>)
     ensures { reverse classes.new.items ≡ outside_isolate (reverse classes.old.items) }
 {
@@ -142,8 +143,8 @@ impl Openers {
         }
     }
 
-    /// Closes what a character of this class closes: a PDI the innermost isolate with all inside
-    /// it, a PDF the innermost embedding, unless an isolate was opened inside that (X6a, X7).
+    /// Closes what a character of this class closes (X6a, X7). A PDI closes the innermost isolate with all
+    /// inside it. A PDF closes the innermost embedding, unless an isolate was opened inside that.
     fn close(&mut self, class: BidiClass)
         ensures { self.new ≡ left_open class self.old }
     {
@@ -178,7 +179,7 @@ impl Openers {
         Ok(())
     }
 
-    /// What holds inside them.
+    /// The status inside the open initiators.
     fn status(&self, para_level: Level) -> Status
         ensures { result
             ≡ status_inside (record { level = para_level; override = None }) (reverse self.now) }
@@ -193,7 +194,7 @@ impl Openers {
     }
 }
 
-/// The level of a character where a level holds: a separator has the paragraph level (X8).
+/// The level of a character: the paragraph level for a separator, otherwise `level` (X8).
 fn level_of(class: BidiClass, para_level: Level, level: Level) -> Level
     ensures { result ≡ (if is_paragraph_separator class then para_level else level) }
 {
@@ -204,8 +205,7 @@ fn level_of(class: BidiClass, para_level: Level, level: Level) -> Level
     }
 }
 
-/// The class of a character where an override holds (X6): separators and what X9 removes keep
-/// theirs.
+/// The class of a character under an override (X6). Separators and characters that X9 removes keep theirs.
 fn class_of(class: BidiClass, override_class: Option<BidiClass>) -> BidiClass
     ensures { result
         ≡ (if is_paragraph_separator class || is_removed class
@@ -219,9 +219,11 @@ fn class_of(class: BidiClass, override_class: Option<BidiClass>) -> BidiClass
     }
 }
 
-/// The explicit levels of a paragraph, and the classes under overrides, from its paragraph level
-/// (0 to 125) and its stored classes (X1 to X8). A paragraph separator has the paragraph level and
-/// closes nothing; what X9 removes has the level of its place. Refused only for want of memory.
+/// Returns the explicit levels of a paragraph, and its classes under overrides (X1 to X8).
+///
+/// Takes the paragraph level (0 to 125) and the stored classes. A paragraph separator gets the paragraph
+/// level and closes nothing. Characters that X9 removes get the level that is current there. Returns an
+/// error only if an allocation fails.
 pub fn explicit_levels(
     alloc: Global,
     para_level: Level,

@@ -9,8 +9,9 @@ use bidi_base::char_data::BidiClass::{self, AN, EN, L, R};
 use bidi_base::level::Level;
 use std::alloc::{AllocError, Global};
 
-/// The implicit levels of a sequence of this explicit level, which is at most 125, from its classes
-/// after N2: L, R, EN and AN.
+/// Returns the implicit levels of a sequence (I1, I2).
+///
+/// Takes its explicit level, which must be at most 125, and its classes after N2: L, R, EN and AN.
 pub fn implicit(
     alloc: Global,
     level: Level,

@@ -17,9 +17,10 @@ use bidi_base::neutrals::{
 };
 use std::alloc::{AllocError, Global};
 
-/// The classes of a sequence after N0 to N2, each of them L, R, EN or AN. `level` is the explicit
-/// level of the sequence, at most 125, `sos` and `eos` are L or R, `source` has the classes that the
-/// data source gives and `classes` those after W7.
+/// Returns the classes of a sequence after N0 to N2, each of them L, R, EN or AN.
+///
+/// `level` is the explicit level of the sequence, at most 125. `sos` and `eos` are L or R. `source` has the
+/// classes that the data source gives, and `classes` those after W7.
 #[tactic(auto, unfolding(bidi_base::specs::Neutral::neutral_classes))]
 pub fn neutral(
     alloc: Global,
@@ -76,7 +77,7 @@ fn apply_n0_to_n2(
     apply_n1_n2(embedding_direction, sos, eos, classes);
 }
 
-/// N0: the bracket pairs one by one, in the order of their openings.
+/// Applies N0 to the bracket pairs one by one, in the order of their opening brackets.
 fn apply_n0(
     embedding_direction: BidiClass,
     sos: BidiClass,
@@ -96,8 +97,9 @@ fn apply_n0(
     }
 }
 
-/// What a pair of brackets takes: the embedding direction if it stands inside (N0 b), otherwise,
-/// if the opposite one does, that of the context before the pair (N0 c), and else none (N0 d).
+/// The direction that a pair of brackets takes. This is the embedding direction if it is inside (N0 b).
+/// Otherwise, if the opposite one is inside, it is that of the context before the pair (N0 c). If neither
+/// is inside, it is `None` (N0 d).
 fn pair_direction(
     embedding_direction: BidiClass,
     sos: BidiClass,
@@ -117,8 +119,8 @@ fn pair_direction(
     }
 }
 
-/// N1 and N2: a sequence of neutrals takes the direction on both its sides, where sos and eos stand
-/// at the ends, and the embedding direction where the two differ.
+/// Applies N1 and N2. A sequence of neutrals takes the direction that is on both its sides, where sos and
+/// eos count at the ends. If the two sides differ, it takes the embedding direction.
 fn apply_n1_n2(
     embedding_direction: BidiClass,
     sos: BidiClass,
@@ -139,7 +141,7 @@ fn apply_n1_n2(
     }
 }
 
-/// How many neutrals the list begins with.
+/// The number of neutrals at the start of the list.
 fn neutrals(classes: &[BidiClass]) -> usize
     ensures count { result ≡ prefix_len is_neutral classes.now }
     ensures within { result ≤ length classes.now }
@@ -150,7 +152,7 @@ fn neutrals(classes: &[BidiClass]) -> usize
         .count()
 }
 
-/// The direction at a place, or eos past the end.
+/// The direction at an index, or eos past the end.
 fn direction_at(classes: &[BidiClass], place: usize, eos: BidiClass) -> BidiClass
     ensures { result
         ≡ unwrap_or (as_direction (slice_index_or classes.now place BidiClass.ON)) eos }

@@ -12,8 +12,8 @@ use bidi_base::level::Level;
 use std::alloc::{AllocError, Global};
 use std::marker::Model;
 
-/// An isolating run sequence: the indexes of its characters, none of which X9 removes, upwards, and
-/// the classes that stand before its first and after its last, each L or R.
+/// An isolating run sequence: the indices of its characters in ascending order, and the classes before its
+/// first and after its last, each L or R. X9 removes none of the characters.
 #[derive(Debug, Drop)]
 pub struct PlainSequence {
     places: Vec<usize>,
@@ -30,21 +30,21 @@ impl Model for PlainSequence {
 }
 
 impl PlainSequence {
-    /// The indexes of its characters.
+    /// Returns the indices of its characters.
     pub fn places(&self) -> &[usize]
         ensures { result.now ≡ self.now.places }
     {
         self.places.as_slice()
     }
 
-    /// The class that stands before its first character.
+    /// Returns the class before its first character.
     pub fn sos(&self) -> BidiClass
         ensures { result ≡ self.now.sos }
     {
         self.sos
     }
 
-    /// The class that stands after its last character.
+    /// Returns the class after its last character.
     pub fn eos(&self) -> BidiClass
         ensures { result ≡ self.now.eos }
     {
@@ -52,9 +52,9 @@ impl PlainSequence {
     }
 }
 
-/// Reads the last kept character before a place for what is open: `last` is its place and the
-/// sequence in which it stands, or none at the front. Finds the sequence that the character at the
-/// place goes on with, or none where it begins one.
+/// Returns the sequence that the character at `place` continues, or `None` if it begins one. Reads the last
+/// kept character before it to track what is open. `last` is the index of that character and of its
+/// sequence, or `None` at the start.
 fn go_on(
     waiting: &mut WaitingSequences,
     classes: &[BidiClass],
@@ -82,7 +82,7 @@ fn go_on(
     }
 }
 
-/// A character comes to the sequence at s, or begins a new one. Answers where it came.
+/// Adds a character to the sequence at `s`, or begins a new one. Returns the index of the sequence.
 fn put(
     alloc: Global,
     sequences: &mut Vec<Vec<usize>>,
@@ -110,7 +110,7 @@ fn put(
     }
 }
 
-/// The places of the sequences, in the order of their first characters.
+/// The character indices of each sequence, in the order of the first characters.
 fn sequence_places(
     alloc: Global,
     classes: &[BidiClass],
@@ -135,7 +135,7 @@ fn sequence_places(
     Ok(sequences)
 }
 
-/// The kept character before a place, if there is one.
+/// The kept character before an index, if there is one.
 fn kept_before(classes: &[BidiClass], place: usize) -> Option<usize>
     requires { place ≤ length classes.now }
     ensures kept { result ≡ kept_before classes.now place }
@@ -149,7 +149,7 @@ fn kept_before(classes: &[BidiClass], place: usize) -> Option<usize>
     None
 }
 
-/// The kept character after a place, if there is one.
+/// The kept character after an index, if there is one.
 fn next_kept(classes: &[BidiClass], place: usize) -> Option<usize>
     requires { place < length classes.now }
     ensures kept { result ≡ next_kept classes.now place }
@@ -163,7 +163,7 @@ fn next_kept(classes: &[BidiClass], place: usize) -> Option<usize>
     None
 }
 
-/// The level of a neighbor, or the paragraph level where there is none.
+/// The level of a neighbor, or the paragraph level if there is none.
 fn level_or(para_level: Level, levels: &[Level], neighbor: Option<usize>) -> Level
     requires { IfSome neighbor (λ p. p < length levels.now) }
     ensures { result ≡ level_or para_level levels.now neighbor }
@@ -190,7 +190,7 @@ fn start_class(
     levels[first].max(before).bidi_class()
 }
 
-/// The class after the last character of a sequence (X10). After an initiator the paragraph level
+/// The class after the last character of a sequence (X10). After an isolate initiator the paragraph level
 /// counts.
 #[tactic(auto, unfolding(bidi_base::specs::Sequences::end_class))]
 fn end_class(para_level: Level, classes: &[BidiClass], levels: &[Level], last: usize) -> BidiClass
@@ -207,7 +207,7 @@ fn end_class(para_level: Level, classes: &[BidiClass], levels: &[Level], last: u
     levels[last].max(after).bidi_class()
 }
 
-/// The sequence of these places.
+/// The sequence of the characters at these indices.
 fn with_ends(
     para_level: Level,
     classes: &[BidiClass],
@@ -223,9 +223,10 @@ fn with_ends(
     PlainSequence { places, sos, eos }
 }
 
-/// The isolating run sequences of a paragraph, in the order of their first characters, from its
-/// paragraph level (0 to 125), its stored classes and their explicit levels (BD13, X10). Levels of
-/// what X9 removes are not read. Refused only for want of memory.
+/// Returns the isolating run sequences of a paragraph, in the order of their first characters (BD13, X10).
+///
+/// Takes the paragraph level (0 to 125), the stored classes and their explicit levels. Levels of characters
+/// that X9 removes are not read. Returns an error only if an allocation fails.
 pub fn sequences(
     alloc: Global,
     para_level: Level,
@@ -234,7 +235,7 @@ pub fn sequences(
 ) -> Result<Vec<PlainSequence>, AllocError>
     requires { length levels.now ≡ length classes.now }
     ensures given { IfOk result (λ v. v.items ≡ sequences para_level classes.now levels.now) }
-    // Levels that are explicit ones where X9 keeps characters stand for all explicit levels.
+    // Only the levels of characters that X9 keeps need be the explicit ones.
     ensures explicit { IfOk result (λ v. HasExplicitLevels para_level classes.now levels.now →
         v.items ≡ sequences para_level classes.now (explicit_levels para_level classes.now)) }
 {

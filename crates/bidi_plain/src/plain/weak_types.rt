@@ -1,5 +1,5 @@
-//! The weak types of an isolating run sequence (W1 to W7), one function a rule. Each rule goes over
-//! the whole sequence before the next one begins.
+//! The weak types of an isolating run sequence (W1 to W7), one function for each rule. Each rule passes
+//! over the whole sequence before the next one begins.
 
 ghost use Rattle.std.specs.Prelude.{◌≡◌, ◌≤◌, [], ◌∷◌, length, vec_len, IsTrue, IfOk};
 ghost use Rattle.std.specs.List.{list_all, prefix_len};
@@ -12,7 +12,7 @@ use bidi_base::char_data::BidiClass::{
 };
 use std::alloc::{AllocError, Global};
 
-/// The classes of a sequence after W1 to W7. `sos` is L or R, and no class is one that X9 removes.
+/// Returns the classes of a sequence after W1 to W7. `sos` is L or R, and no class is one that X9 removes.
 pub fn weak(
     alloc: Global,
     sos: BidiClass,
@@ -59,7 +59,7 @@ fn apply_w1(sos: BidiClass, classes: &mut [BidiClass])
     }
 }
 
-/// What a nonspacing mark takes from the character before it.
+/// The class that a nonspacing mark takes from the character before it.
 fn mark_class(previous: BidiClass) -> BidiClass
     ensures { result ≡ carried previous }
 {
@@ -99,8 +99,9 @@ fn apply_w3(classes: &mut [BidiClass])
     }
 }
 
-/// W4: one European separator between two European numbers changes to a European number, and one
-/// common separator between two numbers of a kind to a number of that kind.
+/// W4: a European separator between two European numbers changes to a European number. A common separator
+/// between two numbers of one kind changes to a number of that kind. In both cases it must be a single
+/// separator.
 fn apply_w4(classes: &mut [BidiClass])
     ensures { classes.new ≡ w4 classes.old }
 {
@@ -120,7 +121,7 @@ fn separator_class(before: BidiClass, class: BidiClass, after: BidiClass) -> Bid
     }
 }
 
-/// W5: a sequence of European terminators beside a European number changes to European numbers.
+/// W5: a sequence of European terminators next to a European number changes to European numbers.
 fn apply_w5(classes: &mut [BidiClass])
     ensures { classes.new ≡ w5 classes.old }
 {
@@ -137,7 +138,7 @@ fn apply_w5(classes: &mut [BidiClass])
     }
 }
 
-/// How many European terminators the list begins with.
+/// The number of European terminators at the start of the list.
 fn terminators(classes: &[BidiClass]) -> usize
     ensures count { result ≡ prefix_len is_et classes.now }
     ensures within { result ≤ length classes.now }
@@ -145,7 +146,7 @@ fn terminators(classes: &[BidiClass]) -> usize
     classes.iter().take_while(|class| **class == ET).count()
 }
 
-/// Whether a European number stands at the place; none stands past the end.
+/// Whether a European number is at the index. False past the end.
 fn is_european_number(classes: &[BidiClass], place: usize) -> bool
     ensures { result ≡ is_en (class_at classes.now place) }
 {

@@ -7,9 +7,11 @@ ghost use Rattle.bidi_base.specs.Implicit.{implicit_level};
 use bidi_base::char_data::BidiClass::{self, AN, EN, L, R};
 use bidi_base::level::Level;
 
-/// The implicit level of each unit (I1, I2), from its class and its explicit level, which is at most
-/// 125. Classes other than L, R, EN and AN add nothing. Answers the greatest level after it, 0 if
-/// there is none. No memory is taken.
+/// Writes the implicit level of each code unit (I1, I2), and returns the maximum level, or 0 if there is no
+/// code unit.
+///
+/// The level comes from the class and the explicit level, which must be at most 125. Classes other than L,
+/// R, EN and AN add nothing. Does not allocate.
 pub fn resolve_levels(processing_classes: &[BidiClass], levels: &mut [Level]) -> Level
     requires lengths { length levels.old ≡ length processing_classes.now }
     requires explicit { All (λ level. level ≤ 125) levels.old }
@@ -25,7 +27,7 @@ pub fn resolve_levels(processing_classes: &[BidiClass], levels: &mut [Level]) ->
     Level::new(greatest).unwrap()
 }
 
-// Sums in place of branches, and no way out, so that a loop over it is done for many units at once.
+// Sums instead of branches, and no early return, so that a loop over it works on many code units at once.
 fn implicit_level(level: Level, class: BidiClass) -> Level
     requires { level ≤ 125 }
     ensures { result ≡ implicit_level level class }

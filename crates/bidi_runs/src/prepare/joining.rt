@@ -1,4 +1,4 @@
-//! Level runs as they are joined to isolating run sequences (BD13, X10).
+//! Joins level runs into isolating run sequences (BD13, X10).
 
 ghost use Rattle.std.specs.Prelude.{◌≡◌, ℕ, ◌<◌, ◌≤◌, max, [], length, map, flat_map, All, IsPermutation, IsTrue, IfSome, OnOk};
 ghost use Rattle.std.specs.List.{list_any};
@@ -24,7 +24,7 @@ use bidi_base::search::{ClassTest, first_passing};
 use bidi_text::text::TextSource;
 use std::alloc::{AllocError, Global};
 
-// The end of the last unit of a run whose class X9 keeps, or the run's start where there is none.
+// The end of the last code unit of a run whose class X9 keeps, or the run's start if there is none.
 fn kept_end(classes: &[BidiClass], run: &LevelRun) -> usize
     requires ordered { run.now.start ≤ run.now.end }
     requires inside { run.now.end ≤ length classes.now }
@@ -45,8 +45,8 @@ fn side(inner: Level, outer: Level) -> BidiClass
     inner.max(outer).bidi_class()
 }
 
-// The level beyond a run that ends at a unit and whose last kept character has this class: that of
-// the next run. After an initiator and at the end of the text the paragraph level counts.
+// The level after a run that ends at `end` and whose last kept character has this class. This is the level
+// of the next run. After an isolate initiator, and at the end of the text, it is the paragraph level.
 fn level_after(para_level: Level, class: BidiClass, levels: &[Level], end: usize) -> Level
     requires { end ≤ length levels.now }
     ensures { result ≡ level_after_run para_level class levels.now end }
@@ -58,9 +58,9 @@ fn level_after(para_level: Level, class: BidiClass, levels: &[Level], end: usize
     }
 }
 
-// Reads the characters of a run for what is open, those alone that open or close. The one that ends
-// at `kept_end` is the last that X9 keeps; if it opens an isolate, the sequence at `s` waits for the
-// PDI.
+// Reads those characters of a run that open or close an isolate, and tracks what is open. The character
+// that ends at `kept_end` is the last that X9 keeps. If it opens an isolate, the sequence at `s` waits for
+// the PDI.
 fn read_run<T: TextSource>(
     waiting: &mut WaitingSequences,
     text: T,
@@ -105,8 +105,8 @@ impl ClassTest for IsolateControl {
     }
 }
 
-// A run comes to the sequence at `s`, which then ends with the class `eos`, or begins one between
-// the classes `sos` and `eos`.
+// Adds a run to the sequence at `s`, which then ends with the class `eos`. Without `s`, begins a new
+// sequence between the classes `sos` and `eos`.
 fn put_run(
     alloc: Global,
     sequences: &mut IsolatingRunSequenceVec,
@@ -129,15 +129,17 @@ fn put_run(
     Ok(())
 }
 
-/// The isolating run sequences of a paragraph, in the order of their first characters (BD13, X10).
+/// Writes the isolating run sequences of a paragraph to `out`, in the order of their first characters
+/// (BD13, X10).
 ///
-/// `original_classes` has the stored classes and `levels` the explicit ones, one entry a unit;
-/// levels of what X9 removes are not read. `runs` are the level runs that
-/// [`compute`](crate::explicit::compute) cuts. `has_isolate_controls` may be false only where no
-/// class is LRI, RLI or FSI, and then each run is a sequence of its own. `out` comes empty, and gets
-/// each run in exactly one sequence. Where X9 removes the whole paragraph, its one run is a sequence
-/// without characters, between any classes out of L and R. After a refusal `out` holds any
-/// sequences.
+/// `original_classes` has the stored classes and `levels` the explicit levels, one entry for each code
+/// unit. Levels of characters that X9 removes are not read. `runs` are the level runs that `compute` of
+/// `bidi_explicit` finds. `has_isolate_controls` may be false only if no class is LRI, RLI or FSI. Each run
+/// is then a sequence of its own.
+///
+/// `out` must be empty, and gets each run in exactly one sequence. If X9 removes the whole paragraph, its
+/// one run is a sequence without characters, with L or R at each end. If an allocation fails, returns an
+/// error, and `out` may hold any sequences.
 pub fn isolating_run_sequences<T: TextSource>(
     alloc: Global,
     text: T,
@@ -158,7 +160,7 @@ pub fn isolating_run_sequences<T: TextSource>(
     ensures sequences { let stored = per_char L T.units (T.characters text) original_classes.now in
         OnOk result (sequences_in T.units (T.characters text) stored out.new.items
         ≡ sequences para_level stored (per_char 0 T.units (T.characters text) levels.now)) }
-    // Levels that are explicit ones where X9 keeps characters stand for all explicit levels.
+    // Only the levels of characters that X9 keeps need be the explicit ones.
     ensures explicit { let stored = per_char L T.units (T.characters text) original_classes.now in
         OnOk result (HasExplicitLevels para_level stored (per_char 0 T.units (T.characters text) levels.now)
         → sequences_in T.units (T.characters text) stored out.new.items
@@ -178,7 +180,7 @@ pub fn isolating_run_sequences<T: TextSource>(
     )
 }
 
-/// As [`isolating_run_sequences`], of level runs that the caller keeps.
+/// Like [`isolating_run_sequences`], but borrows the level runs.
 pub fn join_level_runs<T: TextSource>(
     alloc: Global,
     text: T,
@@ -199,7 +201,7 @@ pub fn join_level_runs<T: TextSource>(
     ensures sequences { let stored = per_char L T.units (T.characters text) original_classes.now in
         OnOk result (sequences_in T.units (T.characters text) stored out.new.items
         ≡ sequences para_level stored (per_char 0 T.units (T.characters text) levels.now)) }
-    // Levels that are explicit ones where X9 keeps characters stand for all explicit levels.
+    // Only the levels of characters that X9 keeps need be the explicit ones.
     ensures explicit { let stored = per_char L T.units (T.characters text) original_classes.now in
         OnOk result (HasExplicitLevels para_level stored (per_char 0 T.units (T.characters text) levels.now)
         → sequences_in T.units (T.characters text) stored out.new.items

@@ -1,4 +1,4 @@
-//! An isolating run sequence whose level runs are lent by whoever keeps them.
+//! An isolating run sequence that borrows its level runs.
 
 ghost use Rattle.std.specs.Prelude.{◌≡◌, IsTrue, map};
 ghost use Rattle.bidi_base.specs.Units.{bounds, is_run_sequence};
@@ -6,8 +6,8 @@ ghost use Rattle.bidi_base.specs.Units.{bounds, is_run_sequence};
 use super::{IsolatingRunSequence, LevelRun};
 use bidi_base::char_data::BidiClass;
 
-/// What the passes read of an isolating run sequence: level runs in text order, which someone else
-/// keeps, and the classes at both ends, each L or R.
+/// An isolating run sequence as the passes read it: borrowed level runs in text order, and the classes at
+/// both ends, each L or R.
 #[derive(Clone, Copy, Debug)]
 pub struct LentSequence<'s> {
     runs: &'s [LevelRun],
@@ -19,8 +19,10 @@ pub struct LentSequence<'s> {
 impl<'s> LentSequence<'s> {
     ghost use Rattle.bidi_runs.specs.RunSequence.{lent_runs, lent_sos, lent_eos};
 
-    /// A sequence of these runs: one or more, each non-empty and ending at or before the start of the
-    /// next. `sos` and `eos` are each L or R.
+    /// Creates a sequence of these runs.
+    ///
+    /// There must be at least one run. Each must be non-empty and end at or before the start of the next.
+    /// `sos` and `eos` must each be L or R.
     pub fn new(runs: &'s [LevelRun], sos: BidiClass, eos: BidiClass) -> LentSequence<'s>
         requires { IsTrue (is_run_sequence (map bounds runs.now) sos eos) }
         ensures runs { lent_runs result ≡ runs.now }
@@ -55,7 +57,7 @@ impl<'s> LentSequence<'s> {
 impl IsolatingRunSequence {
     ghost use Rattle.bidi_runs.specs.RunSequence.{lent_runs, lent_sos, lent_eos, runs as runs_of, sos as sos_of, eos as eos_of};
 
-    /// The same sequence, with its runs lent.
+    /// Borrows the sequence's runs.
     pub fn lend(&self) -> LentSequence<'_>
         ensures runs { lent_runs result ≡ runs_of self.now }
         ensures sos { lent_sos result ≡ sos_of self.now }

@@ -1,4 +1,4 @@
-//! An isolating run sequence as the level runs that it joins, and the walks over its units.
+//! Isolating run sequences as lists of level runs, and iterators over their code units.
 
 ghost use Rattle.std.specs.Prelude.{◌≡◌, ◌≤◌, ◌<◌, ◌↔◌, IsTrue, IfSome, IfOk, OnOk, All, [], ◌∷◌, ◌++◌, map, length, get_or, is_some};
 ghost use Rattle.bidi_base.specs.Classes.{is_l_or_r};
@@ -14,7 +14,7 @@ use std::alloc::{AllocError, Global};
 /// hold at its start and at its end (X10), each L or R.
 #[derive(PartialEq, Debug, Drop)]
 pub struct IsolatingRunSequence {
-    /// Most sequences have one run or two, which take no memory of their own.
+    /// Most sequences have one or two runs, which need no allocation.
     runs: SmallVec<LevelRun, 2>,
     sos: BidiClass,
     eos: BidiClass,
@@ -25,8 +25,10 @@ impl IsolatingRunSequence {
     ghost use Rattle.bidi_runs.specs.RunSequence.{runs as runs_of, run_bounds, joined, sos as sos_of, eos as eos_of, forwards_left, backwards_left};
     ghost use Rattle.bidi_base.specs.Units.{AreLines, units_from, units_below};
 
-    /// A sequence of these runs. `None` unless there is a run, each run is non-empty and ends at or
-    /// before the start of the next, and `sos` and `eos` are each L or R.
+    /// Creates a sequence of these runs.
+    ///
+    /// Returns `None` unless there is a run, each run is non-empty and ends at or before the start of the
+    /// next, and `sos` and `eos` are each L or R.
     pub fn new(runs: Vec<LevelRun>, sos: BidiClass, eos: BidiClass) -> Option<IsolatingRunSequence>
         ensures accepted { is_some result ≡ is_run_sequence (map bounds runs.items) sos eos }
         ensures runs { IfSome result (λ s. runs_of s ≡ runs.items) }
@@ -60,7 +62,7 @@ impl IsolatingRunSequence {
         Ok(IsolatingRunSequence { runs, sos, eos })
     }
 
-    /// Goes on with a later run, whose last character has this class after it.
+    /// Adds a later run. `eos` is the class after its last character.
     pub(super) fn join(&mut self, run: LevelRun, eos: BidiClass) -> Result<(), AllocError>
         requires run { run.start < run.end }
         requires later { All (λ r. r.1 ≤ run.start) (run_bounds self.old) }
@@ -94,7 +96,7 @@ impl IsolatingRunSequence {
         self.eos
     }
 
-    /// Whether each run lies in the text and cuts no character, as [`is_line`] says.
+    /// Returns whether each run is in the text and splits no character, see [`is_line`].
     pub fn fits<T: TextSource>(&self, text: T) -> bool
         ensures { IsTrue result ↔ AreLines T.units (T.characters text) (map bounds (runs_of self.now)) }
     {
@@ -106,8 +108,8 @@ impl IsolatingRunSequence {
         true
     }
 
-    /// The units from `pos` to the end of the run at the index `run`, then those of each later run,
-    /// upwards. `pos` lies in that run or at its end.
+    /// Iterates over the code units from `pos` to the end of the run at the index `run`, then over those of
+    /// each later run, upwards. `pos` is in that run or at its end.
     pub fn iter_forwards_from(&self, pos: usize, run: usize) -> ForwardsFrom<'_>
         requires run { run < length (runs_of self.now) }
         requires from { (get_or (map bounds (runs_of self.now)) run (0, 0)).0 ≤ pos }
@@ -122,8 +124,8 @@ impl IsolatingRunSequence {
         }
     }
 
-    /// The units below `pos` down to the start of the run at the index `run`, then those of each earlier
-    /// run, nearest run first, each downwards. `pos` lies in that run or at its end.
+    /// Iterates over the code units below `pos` down to the start of the run at the index `run`. Then come
+    /// those of each earlier run, nearest run first, each downwards. `pos` is in that run or at its end.
     pub fn iter_backwards_from(&self, pos: usize, run: usize) -> BackwardsFrom<'_>
         requires run { run < length (runs_of self.now) }
         requires from { (get_or (map bounds (runs_of self.now)) run (0, 0)).0 ≤ pos }
@@ -139,7 +141,7 @@ impl IsolatingRunSequence {
     }
 }
 
-/// The units of a sequence upwards from a place in it.
+/// Iterates over the code units of a sequence upwards from an index in it.
 #[derive(Debug, Drop)]
 pub struct ForwardsFrom<'s> {
     at: usize,
@@ -172,7 +174,7 @@ impl<'s> Iterator for ForwardsFrom<'s> {
     }
 }
 
-/// The units of a sequence downwards from a place in it.
+/// Iterates over the code units of a sequence downwards from an index in it.
 #[derive(Debug, Drop)]
 pub struct BackwardsFrom<'s> {
     start: usize,
@@ -219,7 +221,7 @@ fn are_in_order(runs: &[LevelRun]) -> bool
     true
 }
 
-// Whether a class may hold at an end of a sequence.
+// Whether a class may be at an end of a sequence.
 fn is_side(class: BidiClass) -> bool
     ensures { result ≡ is_l_or_r class }
 {

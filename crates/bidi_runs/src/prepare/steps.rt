@@ -1,4 +1,4 @@
-//! A count of loop turns that contracts alone see.
+//! A count of loop iterations that only contracts see.
 
 ghost use Rattle.std.specs.Prelude.{◌≡◌, ◌+◌};
 
@@ -6,8 +6,10 @@ use std::marker::{Brand, Model};
 use std::mem::size_of;
 use std::sync::ledger::{Blank, Book, Ledger, Share};
 
-/// How many turns loops have taken. Contracts see it as a number; it holds no bytes at run time, and
-/// only [`Steps::tick`] changes it. The parameter names the ledger that keeps the count.
+/// The number of loop iterations so far.
+///
+/// Contracts see it as a number. It takes no bytes at run time, and only [`Steps::tick`] changes it. The
+/// parameter names the ledger that keeps the count.
 #[derive(Drop)]
 pub struct Steps<L: Ledger> {
     book: Book<L>,
@@ -27,7 +29,7 @@ impl<L: Ledger> Model for Steps<L> {
 const _: () = prove!(size_of::<Steps<Brand>>() == 0);
 
 impl<L: Ledger> Steps<L> {
-    /// A count of 0. The blank opens the ledger `L`, whose one part it holds.
+    /// Starts a count at 0. The blank opens the ledger `L` and holds its only part.
     pub fn new(blank: Blank) -> Steps<L>
         requires name { blank.name ≡ L.name }
         requires parts { blank.parts ≡ L.parts }
@@ -38,7 +40,7 @@ impl<L: Ledger> Steps<L> {
         Steps { book, share }
     }
 
-    /// Counts one turn more.
+    /// Counts one more iteration.
     pub fn tick(&mut self)
         ensures { self.new ≡ self.old + 1 }
     {

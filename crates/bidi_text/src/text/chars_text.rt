@@ -1,4 +1,4 @@
-//! Lists of characters as texts, whose units are characters.
+//! Lists of characters as texts. A code unit is a character.
 
 ghost use Rattle.std.specs.Prelude.{◌≡◌, ℕ, ◌+◌, ◌<◌, ◌≤◌, ◌^◌, length};
 ghost use Rattle.std.specs.Iterator.{YieldsFirst, item_count};
@@ -7,22 +7,23 @@ ghost use Rattle.bidi_base.specs.Text.{char_indices_from, indices_lengths_from, 
 use super::TextSource;
 use std::ops::Range;
 
-/// A list of characters as a text. Its units are characters, so each is one unit long and its place
-/// is its index.
+/// A list of characters as a text.
+///
+/// Each character is one code unit, so its index in the text is its index in the list.
 #[derive(Clone, Copy, Debug, PartialEq)]
 pub struct CharsText<'t> {
     list: &'t [char],
 }
 
 impl<'t> CharsText<'t> {
-    /// The text of a list of characters.
+    /// Creates the text of a list of characters.
     pub fn new(list: &'t [char]) -> CharsText<'t>
         ensures { result.list.now ≡ list.now }
     {
         CharsText { list }
     }
 
-    /// The list, as it was given.
+    /// Returns the list passed to `new`.
     pub fn list(self) -> &'t [char]
         ensures { result.now ≡ self.entry.list.now }
     {
@@ -30,14 +31,14 @@ impl<'t> CharsText<'t> {
     }
 }
 
-/// Gives the characters of a list, in order.
+/// Iterates over the characters of a list, in order.
 #[derive(Debug, Drop)]
 pub struct CharsCharIter<'t> {
     rest: &'t [char],
 }
 
 impl<'t> CharsCharIter<'t> {
-    /// Begins at the list's first character.
+    /// Starts at the list's first character.
     pub fn new(list: &'t [char]) -> CharsCharIter<'t>
         ensures { result.rest.now ≡ list.now }
     {
@@ -59,7 +60,7 @@ impl<'t> Iterator for CharsCharIter<'t> {
     }
 }
 
-/// Gives each character of a list with its index, in order.
+/// Iterates over each character of a list with its index, in order.
 #[derive(Debug, Drop)]
 pub struct CharsCharIndexIter<'t> {
     rest: &'t [char],
@@ -67,7 +68,7 @@ pub struct CharsCharIndexIter<'t> {
 }
 
 impl<'t> CharsCharIndexIter<'t> {
-    /// Begins at the list's first character.
+    /// Starts at the list's first character.
     pub fn new(list: &'t [char]) -> CharsCharIndexIter<'t>
         ensures rest { result.rest.now ≡ list.now }
         ensures at { result.at ≡ 0 }
@@ -94,7 +95,7 @@ impl<'t> Iterator for CharsCharIndexIter<'t> {
     }
 }
 
-/// Gives the index and the length, 1, of each character of a list, in order.
+/// Iterates over the index and the length, 1, of each character of a list, in order.
 #[derive(Debug, Drop)]
 pub struct CharsIndexLenIter<'t> {
     rest: &'t [char],
@@ -102,7 +103,7 @@ pub struct CharsIndexLenIter<'t> {
 }
 
 impl<'t> CharsIndexLenIter<'t> {
-    /// Begins at the list's first character.
+    /// Starts at the list's first character.
     pub fn new(list: &'t [char]) -> CharsIndexLenIter<'t>
         ensures rest { result.rest.now ≡ list.now }
         ensures at { result.at ≡ 0 }

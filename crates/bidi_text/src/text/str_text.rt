@@ -1,4 +1,4 @@
-//! Texts of UTF-8, whose units are bytes.
+//! Texts in UTF-8. A code unit is a byte.
 
 ghost use Rattle.std.specs.Prelude.{◌≡◌, ℕ, ◌+◌, ◌*◌, ◌%◌, ◌<◌, ◌^◌, true, length, get_or};
 ghost use Rattle.std.specs.Char.{len_utf8};
@@ -13,21 +13,23 @@ use std::ops::Range;
 use std::simd::prelude::*;
 use std::str::{CharIndices, Chars};
 
-/// A text of UTF-8. Its units are bytes, so a character is 1 to 4 units long.
+/// A text in UTF-8.
+///
+/// Code units are bytes, so a character is 1 to 4 code units long.
 #[derive(Clone, Copy, PartialEq, Debug)]
 pub struct StrText<'t> {
     text: &'t str,
 }
 
 impl<'t> StrText<'t> {
-    /// The text of a string.
+    /// Creates the text of a string.
     pub fn new(text: &'t str) -> StrText<'t>
         ensures { result.text.now ≡ text.now }
     {
         StrText { text }
     }
 
-    /// The string, as it was given.
+    /// Returns the string passed to `new`.
     pub fn as_str(self) -> &'t str
         ensures { result.now ≡ self.entry.text.now }
     {
@@ -35,14 +37,14 @@ impl<'t> StrText<'t> {
     }
 }
 
-/// Gives the place and the length in bytes of each character of a string, in order.
+/// Iterates over the index and the length, both in bytes, of each character of a string, in order.
 #[derive(Debug, Drop)]
 pub struct Utf8IndexLenIter<'t> {
     iter: CharIndices<'t>,
 }
 
 impl<'t> Utf8IndexLenIter<'t> {
-    /// Begins at the string's first character.
+    /// Starts at the string's first character.
     pub fn new(text: &'t str) -> Utf8IndexLenIter<'t>
         ensures rest { char_indices_rest result.iter ≡ text.now }
         ensures at { char_indices_offset result.iter ≡ 0 }
@@ -76,14 +78,14 @@ impl<'t> Iterator for Utf8IndexLenIter<'t> {
     }
 }
 
-// The character of these two bytes.
+// Decodes a character of two bytes.
 fn char_of_two(first: u8, second: u8) -> char
     ensures { result ≡ first % 32 * 64 + second % 64 }
 {
     char_of_code(u32::from(first) % 32 * 64 + u32::from(second) % 64)
 }
 
-// The character of these three bytes.
+// Decodes a character of three bytes.
 fn char_of_three(first: u8, second: u8, third: u8) -> char
     requires { scalar (first % 16 * 4096 + second % 64 * 64 + third % 64) ≡ true }
     ensures { result ≡ first % 16 * 4096 + second % 64 * 64 + third % 64 }
@@ -93,7 +95,7 @@ fn char_of_three(first: u8, second: u8, third: u8) -> char
     char_of_code(high + middle + u32::from(third) % 64)
 }
 
-// The character of these four bytes.
+// Decodes a character of four bytes.
 fn char_of_four(first: u8, second: u8, third: u8, fourth: u8) -> char
     requires { scalar (first % 8 * 262144 + second % 64 * 4096 + third % 64 * 64 + fourth % 64) ≡ true }
     ensures { result ≡ first % 8 * 262144 + second % 64 * 4096 + third % 64 * 64 + fourth % 64 }
@@ -162,8 +164,8 @@ impl<'t> TextSource for StrText<'t> {
 
     fn next_at(&self, index: usize) -> (char, usize) {
         let bytes = self.as_str().as_bytes();
-        // The length is told by branches, since a processor foresees most of them and goes on. For a length
-        // that is worked out it would have to wait.
+        // Branches find the length, since a processor predicts most of them and goes on. It would have to
+        // wait for a length that is computed.
         let first = bytes[index];
         if first < 0xC0 {
             return (char::from(first), 1);

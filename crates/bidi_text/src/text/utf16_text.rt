@@ -1,4 +1,4 @@
-//! Texts of UTF-16, whose units are those of UTF-16.
+//! Texts in UTF-16. A code unit is a `u16`.
 
 ghost use Rattle.std.specs.Prelude.{◌≡◌, ℕ, ◌+◌, ◌-◌, ◌<◌, ◌≤◌, ◌^◌, length, get_or, [], true, IsTrue, ◌↔◌, MatchOption, IfSome};
 ghost use Rattle.std.specs.List.{list_all};
@@ -10,22 +10,24 @@ use super::{TextSource, char_of_code};
 use std::ops::Range;
 use std::simd::prelude::*;
 
-/// A text of UTF-16. A high surrogate directly followed by a low one is one character, two units
-/// long. Any other unit is a character one unit long: a surrogate is U+FFFD.
+/// A text in UTF-16.
+///
+/// A high surrogate directly followed by a low one is one character, two code units long. Any other code
+/// unit is a character of its own: a lone surrogate counts as U+FFFD.
 #[derive(Clone, Copy, Debug, PartialEq)]
 pub struct Utf16Text<'t> {
     units: &'t [u16],
 }
 
 impl<'t> Utf16Text<'t> {
-    /// The text of some units, lone surrogates included.
+    /// Creates the text of these code units, which may have lone surrogates.
     pub fn new(units: &'t [u16]) -> Utf16Text<'t>
         ensures { result.units.now ≡ units.now }
     {
         Utf16Text { units }
     }
 
-    /// The units, as they were given.
+    /// Returns the code units passed to `new`.
     pub fn units(self) -> &'t [u16]
         ensures { result.now ≡ self.entry.units.now }
     {
@@ -33,21 +35,21 @@ impl<'t> Utf16Text<'t> {
     }
 }
 
-// Whether a unit is a surrogate.
+// Whether a code unit is a surrogate.
 fn is_surrogate(unit: u16) -> bool
     ensures { IsTrue result ↔ ((0xD800 ≤ unit) × (unit < 0xE000)) }
 {
     0xD800 <= unit && unit < 0xE000
 }
 
-/// Returns whether no unit is a surrogate, so that each is a character.
+/// Returns whether no code unit is a surrogate, so that each is a character.
 ///
-/// Takes time linear in the units, whatever they are.
+/// Takes time linear in the number of code units, whatever they are.
 pub fn are_characters(units: &[u16]) -> bool
     ensures { result ≡ list_all is_character units.now }
 {
-    // How far above 0xD800 a unit is, where those below come behind all others. A loop without a branch finds
-    // the least of many units at once.
+    // How far a code unit is above 0xD800. Units below 0xD800 wrap around to the largest numbers. A loop
+    // without a branch finds the minimum of many units at once.
     let mut least = u16::MAX;
     for unit in units {
         least = least.min(unit.wrapping_sub(0xD800));
@@ -55,14 +57,14 @@ pub fn are_characters(units: &[u16]) -> bool
     least >= 0x800
 }
 
-// Whether two units are a high surrogate and a low one.
+// Whether two code units are a high surrogate and a low one.
 fn is_pair(high: u16, low: u16) -> bool
     ensures { result ≡ is_pair_of high low }
 {
     (0xD800 <= high && high < 0xDC00) && (0xDC00 <= low && low < 0xE000)
 }
 
-// Whether an index lies between the units of a pair.
+// Whether an index is between the two code units of a pair.
 fn splits_pair(units: &[u16], index: usize) -> bool
     requires { index < length units.now }
     ensures { result ≡ splits_pair_of units.now index }
@@ -70,7 +72,7 @@ fn splits_pair(units: &[u16], index: usize) -> bool
     index > 0 && is_pair(units[index - 1], units[index])
 }
 
-// Sixteen units from an index on, where there are as many and all are below a limit.
+// Returns the sixteen code units from an index on, if there are that many and all are below a limit.
 fn block_below(units: &[u16], index: usize, limit: u16) -> Option<[u16; 16]>
     ensures { IfSome result (λ block. (index + 16 ≤ length units.now) × (length block ≡ 16)
         × ((k : ℕ) → k < 16 → (get_or block k 0 ≡ get_or units.now (index + k) 0) × (get_or block k 0 < limit))) }
@@ -88,7 +90,7 @@ fn block_below(units: &[u16], index: usize, limit: u16) -> Option<[u16; 16]>
     }
 }
 
-// The character of a pair.
+// Decodes a surrogate pair.
 fn char_of_pair(high: u16, low: u16) -> char
     requires { is_pair_of high low ≡ true }
     ensures { result ≡ pair_char high low }
@@ -96,27 +98,27 @@ fn char_of_pair(high: u16, low: u16) -> char
     char_of_code(0x10000 + (u32::from(high - 0xD800) * 0x400 + u32::from(low - 0xDC00)))
 }
 
-// The character of a unit in no pair.
+// Returns the character of a code unit that is in no pair.
 fn char_of_unit(unit: u16) -> char
     ensures { result ≡ lone_char unit }
 {
     char::from_u32(u32::from(unit)).unwrap_or(char::REPLACEMENT_CHARACTER)
 }
 
-// The first character, with its length in units. `None` where there is no unit.
+// Returns the first character with its length in code units, or `None` if there is no code unit.
 fn first_char(units: &[u16]) -> Option<(char, usize)>
     ensures { MatchOption result (units.now ≡ []) (λ p. IsFirst units.now p.0 p.1) }
 {
     match units {
         [] => None,
-        // Most units are no surrogates, and then the next one is not asked for.
+        // Most code units are no surrogates. Then the next one need not be read.
         [unit, ..] if !is_surrogate(*unit) => Some((char_of_unit(*unit), 1)),
         [high, low, ..] if is_pair(*high, *low) => Some((char_of_pair(*high, *low), 2)),
         [unit, ..] => Some((char_of_unit(*unit), 1)),
     }
 }
 
-// The last character, with its length in units. `None` where there is no unit.
+// Returns the last character with its length in code units, or `None` if there is no code unit.
 fn last_char(units: &[u16]) -> Option<(char, usize)>
     ensures { MatchOption result (units.now ≡ []) (λ p. IsLast units.now p.0 p.1) }
 {
@@ -128,15 +130,16 @@ fn last_char(units: &[u16]) -> Option<(char, usize)>
     }
 }
 
-/// Gives the characters of units of UTF-16, in order. It goes from both ends, and in any mixture
-/// each character comes once.
+/// Iterates over the characters of UTF-16 code units, in order.
+///
+/// It can be read from both ends in any mixture. Each character comes once.
 #[derive(Debug, Drop)]
 pub struct Utf16CharIter<'t> {
     rest: &'t [u16],
 }
 
 impl<'t> Utf16CharIter<'t> {
-    /// Goes over the characters of some units.
+    /// Iterates over the characters of these code units.
     pub fn new(units: &'t [u16]) -> Utf16CharIter<'t>
         ensures { result.rest.now ≡ units.now }
     {
@@ -168,7 +171,7 @@ impl<'t> DoubleEndedIterator for Utf16CharIter<'t> {
     }
 }
 
-/// Gives each character of units of UTF-16 with its place, in order.
+/// Iterates over each character of UTF-16 code units with its index, in order.
 #[derive(Debug, Drop)]
 pub struct Utf16CharIndexIter<'t> {
     rest: &'t [u16],
@@ -176,7 +179,7 @@ pub struct Utf16CharIndexIter<'t> {
 }
 
 impl<'t> Utf16CharIndexIter<'t> {
-    /// Begins at the first unit.
+    /// Starts at the first code unit.
     pub fn new(units: &'t [u16]) -> Utf16CharIndexIter<'t>
         ensures rest { result.rest.now ≡ units.now }
         ensures at { result.at ≡ 0 }
@@ -203,7 +206,7 @@ impl<'t> Iterator for Utf16CharIndexIter<'t> {
     }
 }
 
-/// Gives the place and the length in units of each character of units of UTF-16, in order.
+/// Iterates over the index and the length, in code units, of each character of UTF-16 code units, in order.
 #[derive(Debug, Drop)]
 pub struct Utf16IndexLenIter<'t> {
     rest: &'t [u16],
@@ -211,7 +214,7 @@ pub struct Utf16IndexLenIter<'t> {
 }
 
 impl<'t> Utf16IndexLenIter<'t> {
-    /// Begins at the first unit.
+    /// Starts at the first code unit.
     pub fn new(units: &'t [u16]) -> Utf16IndexLenIter<'t>
         ensures rest { result.rest.now ≡ units.now }
         ensures at { result.at ≡ 0 }
@@ -280,7 +283,7 @@ impl<'t> TextSource for Utf16Text<'t> {
     fn next_at(&self, index: usize) -> (char, usize) {
         let units = self.units();
         let unit = units[index];
-        // Most units are no surrogates, and then the next one is not asked for.
+        // Most code units are no surrogates. Then the next one need not be read.
         if let Some(c) = char::from_u32(u32::from(unit)) {
             return (c, 1);
         }

@@ -1,4 +1,4 @@
-//! ASCII characters, read one by one or by sixteens.
+//! ASCII characters, read one by one or sixteen at a time.
 ghost use Rattle.std.specs.Prelude.{◌≡◌, ℕ, ◌+◌, ◌<◌, ◌≤◌, true, false, length, get_or, take, MatchOption, IsTrue};
 ghost use Rattle.bidi_base.specs.Places.{class_at};
 ghost use Rattle.bidi_base.specs.Text.{text_len, is_boundary as is_boundary_of};
@@ -12,9 +12,9 @@ use bidi_base::char_data::BidiClass;
 use bidi_base::data_source::BidiDataSource;
 use bidi_text::text::TextSource;
 
-// Writes the classes of the ASCII characters, each one unit long, that come one after another from a place
-// on and before a limit, up to the first one on which something depends. Returns that one. Where there is
-// none, the place moves to the first other character, or to the limit.
+// Writes the classes of consecutive ASCII characters, each one code unit long, from an index on and before
+// a limit, up to the first one whose class is in `minded`. Returns that one. If there is none, the index
+// moves to the first other character, or to the limit.
 #[inline(never)]
 fn skim_each<D: BidiDataSource, T: TextSource>(
     data_source: &D,
@@ -52,12 +52,12 @@ fn skim_each<D: BidiDataSource, T: TextSource>(
 // How many ASCII characters are read at once.
 const ASCII_BLOCK: usize = 16;
 
-// How many are passed over one by one before others are read at once. A paragraph of one line is mostly
-// shorter, and where it ends a block would be read in vain.
+// How many characters are read one by one before they are read sixteen at a time. A paragraph of one line
+// is mostly shorter. A block that goes past its end would be read in vain.
 const ONE_BY_ONE: usize = 64;
 
-// Writes the classes of sixteen ASCII characters from a place on. Returns whether nothing depends on them.
-// If something does, what stands from the place on does not count.
+// Writes the classes of sixteen ASCII characters from an index on. Returns whether none of the classes is
+// in `minded`. If one is, the written classes do not count.
 fn write_block<D: BidiDataSource>(
     data_source: &D,
     block: [u8; ASCII_BLOCK],
@@ -81,8 +81,8 @@ fn write_block<D: BidiDataSource>(
     !minded.meets(found)
 }
 
-// Writes the classes of the ASCII characters that come one after another from a place on, by sixteens, as
-// long as nothing depends on them. The place moves behind them.
+// Writes the classes of consecutive ASCII characters from an index on, sixteen at a time, as long as no
+// class is in `minded`. The index moves past them.
 #[inline(never)]
 fn skim_blocks<D: BidiDataSource, T: TextSource>(
     data_source: &D,
@@ -100,8 +100,8 @@ fn skim_blocks<D: BidiDataSource, T: TextSource>(
     let mut start = *at;
     let mut next = text.ascii_block_at(start);
     while let Some(block) = next {
-        // The next block is read before this one is written. Some processors let a read wait for an
-        // earlier write whose address ends in the same twelve bits.
+        // The next block is read before this one is written. On some processors a read waits for an earlier
+        // write if the last twelve bits of their addresses are equal.
         next = text.ascii_block_at(start + ASCII_BLOCK);
         if !write_block(data_source, block, classes, start, minded) {
             break;
@@ -111,10 +111,11 @@ fn skim_blocks<D: BidiDataSource, T: TextSource>(
     *at = start;
 }
 
-/// Writes the classes of the ASCII characters, each one unit long, that come one after another from a place
-/// on, up to the first one on which something depends. Returns that one. Where there is none, the place
-/// moves to the first other character, or to the end. They are read by sixteens only behind many that were
-/// passed over one by one.
+/// Writes the classes of consecutive ASCII characters, each one code unit long, from an index on, up to the
+/// first one whose class is in `minded`.
+///
+/// Returns that one. If there is none, the index moves to the first other character, or to the end. The
+/// characters are read sixteen at a time only after many were read one by one.
 pub(super) fn skim<D: BidiDataSource, T: TextSource>(
     data_source: &D,
     text: T,

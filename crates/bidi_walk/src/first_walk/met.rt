@@ -1,8 +1,8 @@
-//! The character that the walk comes to.
+//! The character at which the pass stops.
 
 use bidi_base::char_data::BidiClass;
 
-/// A character that was read, on whose class something depends.
+/// A character that was read, and whose class matters to the paragraph.
 #[derive(Clone, Copy)]
 pub(super) struct Met {
     pub(super) start: usize,

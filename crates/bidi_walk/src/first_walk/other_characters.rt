@@ -1,4 +1,5 @@
-//! The characters from where no ASCII comes on, read by sixteens, place by place, or by the iterator.
+//! Characters from the first one that is not ASCII on, read sixteen at a time, by index, or by the
+//! iterator.
 ghost use Rattle.std.specs.Prelude.{◌≡◌, ℕ, ◌+◌, ◌-◌, ◌<◌, ◌≤◌, true, false, length, get_or, take, MatchOption, IsTrue, None};
 ghost use Rattle.bidi_base.specs.Places.{class_at};
 ghost use Rattle.bidi_base.specs.Text.{text_len, is_boundary as is_boundary_of};
@@ -20,8 +21,8 @@ const LOW_BLOCK: usize = 16;
 // The first code above those characters.
 const LOW_LIMIT: u16 = 0x800;
 
-// A character below U+0800 by its code. The remainder shows the compiler that the code is a character's, so
-// that it makes no test for that.
+// The character below U+0800 with this code. The remainder shows the compiler that the code is valid, so
+// that it adds no test.
 fn char_of_low(code: u16) -> char
     requires { code < LOW_LIMIT }
     ensures { result ≡ code }
@@ -32,8 +33,8 @@ fn char_of_low(code: u16) -> char
     }
 }
 
-// Writes the classes of sixteen characters below U+0800 from a place on, up to the first one on which
-// something depends. Returns how many come before that one: sixteen where there is none.
+// Writes the classes of sixteen characters below U+0800 from an index on, up to the first one whose class
+// is in `minded`. Returns how many come before that one, or sixteen if there is none.
 fn write_low_block<D: BidiDataSource>(
     data_source: &D,
     block: [u16; LOW_BLOCK],
@@ -60,10 +61,10 @@ fn write_low_block<D: BidiDataSource>(
     LOW_BLOCK
 }
 
-// How many units are read without another look at what is ASCII.
+// How many code units are read before the next test for ASCII.
 const BLOCK: usize = 256;
 
-// The end of the block of characters that begins at a place.
+// The end of the block of characters that begins at an index.
 fn block_end<T: TextSource>(text: T, from: usize) -> usize
     requires { from ≤ text_len T.units (T.characters text) }
     ensures order { from ≤ result }
@@ -81,7 +82,7 @@ fn block_end<T: TextSource>(text: T, from: usize) -> usize
     end
 }
 
-// Writes the classes of a text's characters, up to the first one on which something depends. Returns that
+// Writes the classes of a text's characters, up to the first one whose class is in `minded`. Returns that
 // one.
 #[inline(never)]
 fn read_to_minded<D: BidiDataSource, T: TextSource>(
@@ -106,8 +107,8 @@ fn read_to_minded<D: BidiDataSource, T: TextSource>(
     None
 }
 
-// Writes the classes of the characters of the block that begins at a place, up to the first one on which
-// something depends. Returns that one. Where there is none, the place moves to the block's end.
+// Writes the classes of the characters of the block that begins at an index, up to the first one whose
+// class is in `minded`. Returns that one. If there is none, the index moves to the block's end.
 fn read_block<D: BidiDataSource, T: TextSource>(
     data_source: &D,
     text: T,
@@ -138,9 +139,10 @@ fn read_block<D: BidiDataSource, T: TextSource>(
     None
 }
 
-// The same, place by place, of the characters that begin before a limit. From each of these places on
-// there are as many units as are written at once. Where there is none on which something depends, the place
-// moves to the first character that begins at the limit or behind it.
+// Writes the classes of the characters that begin before a limit, up to the first one whose class is in
+// `minded`. Returns that one. Reads the text by index. From each index before the limit on there must be at
+// least `AT_ONCE` code units. If no class is in `minded`, the index moves to the first character that
+// begins at or after the limit.
 #[inline(never)]
 fn read_in_place<D: BidiDataSource, T: TextSource>(
     data_source: &D,
@@ -174,9 +176,9 @@ fn read_in_place<D: BidiDataSource, T: TextSource>(
     None
 }
 
-// Writes the classes of the characters below U+0800, each one unit long, that come one after another from a
-// place on, by sixteens, up to the first one on which something depends. Returns that one. Where there is
-// none, the place moves to where the text has no such sixteen, or by `BLOCK` units.
+// Writes the classes of consecutive characters below U+0800, each one code unit long, sixteen at a time
+// from an index on, up to the first one whose class is in `minded`. Returns that one. If there is none, the
+// index moves to where the text gives no block of sixteen, or by `BLOCK` code units.
 fn read_low_blocks<D: BidiDataSource, T: TextSource>(
     data_source: &D,
     text: T,
@@ -210,10 +212,11 @@ fn read_low_blocks<D: BidiDataSource, T: TextSource>(
     None
 }
 
-/// Writes the classes of some characters from a place on, up to the first one on which something depends.
-/// Returns that one. Where there is none, the place moves behind them. They are read by sixteens as long as
-/// the text has such, and then place by place. A text that is not read in place is read by the iterator, and
-/// so is a text's end, where fewer units are left than are written at once.
+/// Writes the classes of some characters from an index on, up to the first one whose class is in `minded`.
+///
+/// Returns that one. If there is none, the index moves past them. The characters are read sixteen at a time
+/// as long as the text gives such blocks, and then by index. The iterator reads texts that do not set
+/// `READS_IN_PLACE`, and the end of a text with fewer than `AT_ONCE` code units left.
 pub(super) fn read_on<D: BidiDataSource, T: TextSource>(
     data_source: &D,
     text: T,

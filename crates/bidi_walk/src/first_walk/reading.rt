@@ -1,4 +1,4 @@
-//! What is read of a paragraph: its open isolates, and the character that decides its level.
+//! The state of a paragraph: its open isolates, and the character that decides its level.
 ghost use Rattle.std.specs.Prelude.{◌≡◌, ◌<◌, ◌≤◌, if◌then◌else◌, true, length, OnOk, All, Some};
 ghost use Rattle.std.specs.Option.{is_some};
 ghost use Rattle.bidi_base.specs.declared.char_data.BidiClass.{BidiClass};
@@ -16,7 +16,7 @@ use bidi_base::level::{LTR_LEVEL, Level, RTL_LEVEL};
 use std::alloc::{AllocError, Global};
 use std::ops::Range;
 
-// What an FSI becomes whose isolate has a deciding character of this class.
+// The class that an FSI becomes if the character that decides its isolate has this class.
 fn resolved_by(class: BidiClass) -> BidiClass
     ensures { result ≡ resolved_fsi (Some class) }
 {
@@ -27,7 +27,7 @@ fn resolved_by(class: BidiClass) -> BidiClass
     }
 }
 
-/// The level of a paragraph whose deciding character has this class (P3).
+/// Returns the level of a paragraph whose deciding character has this class (P3).
 pub(super) fn level_of_class(deciding: Option<BidiClass>) -> Level
     ensures { result ≡ level_by deciding }
 {
@@ -37,7 +37,7 @@ pub(super) fn level_of_class(deciding: Option<BidiClass>) -> Level
     }
 }
 
-// Gives the FSI with these units the direction of a strong character.
+// Gives the direction of a strong character to the FSI with these code units.
 fn resolve(classes: &mut [BidiClass], initiator: &Range<usize>, class: BidiClass)
     requires begins { initiator.now.start ≤ initiator.now.end }
     requires ends { initiator.now.end ≤ length classes.old }
@@ -48,23 +48,23 @@ fn resolve(classes: &mut [BidiClass], initiator: &Range<usize>, class: BidiClass
     classes[start..end].fill(resolved_by(class));
 }
 
-// An open isolate of an FSI that no character decided yet.
+// An open isolate of an FSI that no character has decided yet.
 #[derive(Drop)]
 struct Undecided {
-    // The initiator's units.
+    // The code units of the FSI.
     units: Range<usize>,
-    // How many isolates are open up to it, itself among them.
+    // How many isolates are open up to this one, with this one.
     depth: usize,
 }
 
 /// The paragraph that is being read.
 #[derive(Drop)]
 pub(super) struct Reading {
-    /// The unit at which it begins.
+    /// The code unit at which it begins.
     pub(super) start: usize,
     // How many isolates are open.
     depth: usize,
-    // Those of an FSI that no character decided yet, outermost first.
+    // Those of an FSI that no character has decided yet, outermost first.
     undecided: Vec<Undecided>,
     /// The class of the character that decides its level, once there is one.
     pub(super) deciding: Option<BidiClass>,
@@ -72,7 +72,7 @@ pub(super) struct Reading {
 }
 
 impl Reading {
-    /// Nothing is read of a text.
+    /// Starts before the text.
     pub(super) fn new(alloc: Global) -> Reading
         ensures { IsFresh result 0 }
     {
@@ -96,7 +96,7 @@ impl Reading {
         self.flags = ParagraphFlags::NONE;
     }
 
-    // Whether the innermost open isolate is of an FSI that no character decided yet.
+    // Whether the innermost open isolate is of an FSI that no character has decided yet.
     fn is_waiting(&self) -> bool
         ensures { result ≡ is_some (waiting self.now.depth self.now.undecided.items) }
     {
@@ -106,14 +106,14 @@ impl Reading {
         }
     }
 
-    // Whether a strong character, if it came next, would decide something.
+    // Whether a strong character would decide something if it came next.
     fn wants_strong(&self) -> bool
         ensures { result ≡ wants_strong self.now }
     {
         self.is_waiting() || (self.depth == 0 && self.deciding.is_none())
     }
 
-    /// The classes of those characters that would change something here if they came next.
+    /// Returns the classes that would change this state if a character of one came next.
     pub(super) fn minded(&self) -> ClassSet
         ensures { (c : BidiClass) → has result c ≡ minds self.now c }
     {
@@ -123,7 +123,8 @@ impl Reading {
             .union(ClassSet::CLOSING.when(self.depth > 0))
     }
 
-    /// Reads the next character, whose units are given. `classes` has those of the units before it.
+    /// Reads the next character, given its code units. `classes` has the classes of the code units before
+    /// it.
     pub(super) fn read(
         &mut self,
         classes: &mut [BidiClass],
@@ -154,7 +155,7 @@ impl Reading {
         Ok(())
     }
 
-    // Takes the innermost open isolate from the undecided ones, if it is one of them.
+    // Removes the innermost open isolate from the undecided ones, if it is one of them.
     fn take_waiting(&mut self) -> Option<Undecided>
         ensures taken { result ≡ waiting self.old.depth self.old.undecided.items }
         ensures rest { self.new.undecided.items
@@ -172,7 +173,7 @@ impl Reading {
         }
     }
 
-    // A strong character decides the paragraph's level, or what the innermost FSI stands for.
+    // Lets a strong character decide the paragraph's level, or the direction of the innermost FSI.
     fn decide(&mut self, classes: &mut [BidiClass], class: BidiClass)
         requires within { All (λ u. (u.units.start ≤ u.units.end) × (u.units.end ≤ length classes.old)) self.old.undecided.items }
         requires strong { is_strong_class class ≡ true }

@@ -1,11 +1,11 @@
-//! A character's class, written to each of its units.
+//! Writes a character's class to each of its code units.
 ghost use Rattle.std.specs.Prelude.{◌≡◌, ◌+◌, ◌≤◌, ◌++◌, length, take, replicate};
 ghost use Rattle.bidi_walk.specs.declared.first_walk.unit_classes.TheConstants.{AT_ONCE};
 
 use bidi_base::char_data::BidiClass;
 use bidi_text::text::TextSource;
 
-// Writes a character's class to each of its units, of which the first is given.
+// Writes a character's class to each of its code units, from `start` on.
 fn write_each<T: TextSource>(classes: &mut [BidiClass], start: usize, c: char, class: BidiClass)
     requires { start + T.units c ≤ length classes.old }
     ensures { take (start + T.units c) classes.new ≡ take start classes.old ++ replicate (T.units c) class }
@@ -13,11 +13,11 @@ fn write_each<T: TextSource>(classes: &mut [BidiClass], start: usize, c: char, c
     classes[start..start + T::char_len(c)].fill(class);
 }
 
-/// How many units are written at once, where there are as many.
+/// How many code units are written at once, if there are that many.
 pub(super) const AT_ONCE: usize = 4;
 
-/// Writes a character's class to each of its units, where `AT_ONCE` units stand from the first one on. Units
-/// behind the character may get the class too, since what comes next writes over them.
+/// Writes a character's class to each of its code units, if `AT_ONCE` code units follow from the first one
+/// on. Code units after the character may get the class too. The next write replaces it.
 pub(super) fn write_at_once<T: TextSource>(
     classes: &mut [BidiClass],
     start: usize,
@@ -38,7 +38,7 @@ pub(super) fn write_at_once<T: TextSource>(
     }
 }
 
-/// Writes a character's class to each of its units, wherever it stands.
+/// Writes a character's class to each of its code units, anywhere in the text.
 pub(super) fn write<T: TextSource>(
     classes: &mut [BidiClass],
     start: usize,

@@ -1,5 +1,4 @@
-//! What is left of the weak types once W1, W2, W4, W5 and W7 are done: W3 and W6 change each class by
-//! itself.
+//! W3 and W6, which are left once W1, W2, W4, W5 and W7 are done. They change each class by itself.
 
 ghost use Rattle.std.specs.Prelude.{◌≡◌, ℕ, ◌+◌, ◌-◌, ◌*◌, ◌<◌, ◌≤◌, true, false, length, map, All, IsTrue};
 ghost use Rattle.bidi_base.specs.Places.{class_at};
@@ -41,7 +40,8 @@ fn change_run<S: Ledger>(run: &LevelRun, classes: &mut [BidiClass], steps: &mut 
     }
 }
 
-/// What W3 and W6 make of a class. It has no branch, so that a loop changes many units at once.
+/// Returns what W3 and W6 make of a class. It has no branch, so that a loop changes many code units at
+/// once.
 pub fn left_over(class: BidiClass) -> BidiClass
     ensures { result ≡ left_over class }
 {

@@ -16,7 +16,7 @@ use bidi_runs::prepare::{LevelRun, Steps};
 use bidi_runs::written::is_kept_in_place;
 use std::sync::ledger::Ledger;
 
-/// W1 over the units of some runs that are not BN.
+/// Applies W1 to the code units of some runs that are not BN.
 pub fn resolve_marks<S: Ledger>(
     runs: &[LevelRun],
     sos: BidiClass,
@@ -40,14 +40,14 @@ pub fn resolve_marks<S: Ledger>(
     }
 }
 
-/// Whether a nonspacing mark stands in the runs.
+/// Whether the runs have a nonspacing mark.
 fn has_marks(runs: &[LevelRun], classes: &[BidiClass]) -> bool
     ensures { result ≡ is_any is_nsm runs.now classes.now }
 {
     runs.iter().any(|run| is_mark_in(part_of(classes, run)))
 }
 
-/// Whether one of the classes is NSM. All are looked at, many at once.
+/// Whether one of the classes is NSM. Tests all of them, many at once.
 fn is_mark_in(classes: &[BidiClass]) -> bool
     ensures { result ≡ is_any_of is_nsm classes.now }
 {
@@ -56,8 +56,8 @@ fn is_mark_in(classes: &[BidiClass]) -> bool
         .fold(false, |found, class| found | is_nsm(*class))
 }
 
-/// W1 over one run, behind a character of the class `before`. Answers the class of the last character that
-/// is neither BN nor a mark, or `before` where there is none.
+/// Applies W1 to one run after a character of the class `before`. Returns the class of the last character
+/// that is neither BN nor a mark, or `before` if there is none.
 fn resolve_marks_in<S: Ledger>(
     run: &LevelRun,
     before: BidiClass,
@@ -85,7 +85,7 @@ fn resolve_marks_in<S: Ledger>(
     last
 }
 
-/// What a nonspacing mark takes from the character before it.
+/// The class that a nonspacing mark takes from the character before it.
 fn carried(class: BidiClass) -> BidiClass
     ensures { result ≡ carried class }
 {

@@ -1,6 +1,6 @@
-//! W2, W4, W5 and W7 as one walk over the units of a sequence, by stretches of one class. Most of these
-//! rules give a class that stands on several units what they give it where it stands on one; only a
-//! separator between numbers has to be one character.
+//! W2, W4, W5 and W7 in one pass over the code units of a sequence, by stretches of one class. Most of
+//! these rules treat several code units of one class like a single one. Only a separator between numbers
+//! must be one character.
 
 ghost use Rattle.std.specs.Prelude.{◌≡◌, ℕ, ◌+◌, ◌-◌, ◌*◌, ◌<◌, ◌≤◌, true, false, not, ◌&&◌, length, map, min, drop, take, find, get_or, reverse, IsTrue};
 ghost use Rattle.std.specs.List.{position_or_len};
@@ -23,21 +23,21 @@ use bidi_runs::written::{is_kept_in_place, write_over_runs_counted};
 use bidi_text::text::TextSource;
 use std::sync::ledger::Ledger;
 
-/// What a walk over a sequence knows of the units that it has read.
+/// What a pass over a sequence knows of the code units that it has read.
 #[derive(Clone, Copy, Debug)]
 struct Walk {
     /// The nearest L, R or AL before, or else sos.
     strong: BidiClass,
-    /// What stands directly before.
+    /// What is directly before.
     before: Before,
-    /// The unit where those begin that wait, if some do.
+    /// The first code unit that waits, if some do.
     first: usize,
-    /// The index of the run of that unit.
+    /// The index of that code unit's run.
     first_run: usize,
 }
 
-/// W2, W4, W5 and W7 over the units of some runs that are not BN, none of which has NSM. Separators and
-/// terminators that do not become numbers may stay or have ON, and AL stays.
+/// Applies W2, W4, W5 and W7 to the code units of some runs that are not BN. None of them has NSM.
+/// Separators and terminators that do not become numbers keep their class or get ON. AL stays.
 pub fn resolve_numbers<T: TextSource, S: Ledger>(
     text: T,
     runs: &[LevelRun],
@@ -69,15 +69,15 @@ pub fn resolve_numbers<T: TextSource, S: Ledger>(
     walk.settle(runs, classes, end, ON, steps);
 }
 
-/// Whether a number stands in the runs.
+/// Whether the runs have a number.
 fn has_numbers(runs: &[LevelRun], classes: &[BidiClass]) -> bool
     ensures { result ≡ is_any is_number runs.now classes.now }
 {
     runs.iter().any(|run| is_number_in(part_of(classes, run)))
 }
 
-/// Whether one of the classes is a number. All are looked at, many at once, which the compiler sees
-/// only where this stands by itself.
+/// Whether one of the classes is a number. Tests all of them, many at once. The compiler vectorizes the
+/// loop only in a function of its own.
 #[inline(never)]
 fn is_number_in(classes: &[BidiClass]) -> bool
     ensures { result ≡ is_any_of is_number classes.now }
@@ -87,7 +87,7 @@ fn is_number_in(classes: &[BidiClass]) -> bool
         .fold(false, |found, class| found | is_number(*class))
 }
 
-/// Whether a class is a European or Arabic number.
+/// Returns whether a class is a European or Arabic number.
 pub fn is_number(class: BidiClass) -> bool
     ensures { result ≡ is_number class }
 {
@@ -95,7 +95,7 @@ pub fn is_number(class: BidiClass) -> bool
 }
 
 impl Walk {
-    /// Reads the units of the run at the index `run`.
+    /// Reads the code units of the run at the index `run`.
     fn read_run<T: TextSource, S: Ledger>(
         &mut self,
         text: T,
@@ -135,16 +135,16 @@ impl Walk {
         }
     }
 
-    /// Whether a unit of this class is passed over: nothing that is asked for stands before it, and it
-    /// asks for nothing.
+    /// Whether a code unit of this class can be passed over: it does not matter to numbers (see
+    /// `is_asked`), and nothing that matters to them is before it.
     fn passes_over(&self, class: BidiClass) -> bool
         ensures { result ≡ (is_other self.now.before && not (is_asked class)) }
     {
         matches!(self.before, Before::Other) && !is_asked(class)
     }
 
-    /// Passes over the units from `at` on, the first one and those behind it that ask for nothing, below
-    /// `end`. Answers where they end.
+    /// Passes over the code unit at `at` and those after it whose class does not matter (see `is_asked`),
+    /// before `end`. Returns where they end.
     fn pass_over(&mut self, classes: &[BidiClass], at: usize, end: usize) -> usize
         requires other { is_other self.old.before ≡ true }
         requires first { is_asked (class_at classes.now at) ≡ false }
@@ -161,8 +161,8 @@ impl Walk {
         next
     }
 
-    /// The end of the stretch that begins at the unit `at`: units of one class, below `end`. Where one
-    /// separator may stand between numbers it is one character.
+    /// The end of the stretch that begins at `at`: code units of one class, before `end`. A separator that
+    /// can be between numbers is a stretch of one character.
     fn stretch_end<T: TextSource, S: Ledger>(
         &self,
         text: T,
@@ -191,7 +191,8 @@ impl Walk {
         }
     }
 
-    /// Reads the units from `start` up to `end` in the run at the index `run`, a stretch that is not BN.
+    /// Reads the code units from `start` up to `end` in the run at the index `run`. They are a stretch that
+    /// is not BN.
     fn read<S: Ledger>(
         &mut self,
         runs: &[LevelRun],
@@ -234,7 +235,7 @@ impl Walk {
         self.before = next;
     }
 
-    /// Writes the class over the units that wait, if some do. They stand below the unit `to`.
+    /// Writes the class to the code units that wait, if some do. They are before `to`.
     fn settle<S: Ledger>(
         &self,
         runs: &[LevelRun],
@@ -267,7 +268,7 @@ impl Walk {
     }
 }
 
-/// Gives the units from `start` up to `end` the class.
+/// Writes the class to the code units from `start` up to `end`.
 fn fill(classes: &mut [BidiClass], start: usize, end: usize, class: BidiClass)
     requires begins { start ≤ end }
     requires ends { end ≤ length classes.old }
@@ -276,14 +277,15 @@ fn fill(classes: &mut [BidiClass], start: usize, end: usize, class: BidiClass)
     classes[start..end].fill(class);
 }
 
-/// Whether a class asks for what stands around it, or makes others ask, where nothing stands before.
+/// Whether a class depends on its neighbors, or its neighbors on it, even if nothing that matters is
+/// directly before it. These are numbers and ET.
 fn is_asked(class: BidiClass) -> bool
     ensures { result ≡ is_asked class }
 {
     is_number(class) | (class == ET)
 }
 
-/// How many of these classes stand before the first that asks, or all of them.
+/// The number of classes before the first for which `is_asked` holds, or of all.
 fn before_asked(classes: &[BidiClass]) -> usize
     ensures count { result ≡ position_or_len is_asked classes.now }
     ensures within { result ≤ length classes.now }
@@ -292,7 +294,7 @@ fn before_asked(classes: &[BidiClass]) -> usize
     idle + before_near(&classes[idle..])
 }
 
-/// The same, one by one.
+/// Counts like [`before_asked`], but class by class.
 fn before_near(classes: &[BidiClass]) -> usize
     ensures count { result ≡ position_or_len is_asked classes.now }
     ensures within { result ≤ length classes.now }
@@ -303,7 +305,7 @@ fn before_near(classes: &[BidiClass]) -> usize
         .count()
 }
 
-/// How many pieces of that many classes come before the first in which one asks.
+/// The number of pieces of [`WIDE`] classes before the first piece in which `is_asked` holds for a class.
 fn idle_pieces(classes: &[BidiClass]) -> usize
     ensures within { result * 32 ≤ length classes.now }
     ensures idle { (k : ℕ) → k < result → is_any_of is_asked (take 32 (drop (k * 32) classes.now)) ≡ false }
@@ -314,8 +316,8 @@ fn idle_pieces(classes: &[BidiClass]) -> usize
         .count()
 }
 
-/// Whether one of the classes asks. All are looked at, many at once, which the compiler sees only where
-/// this stands by itself.
+/// Whether `is_asked` holds for one of the classes. Tests all of them, many at once. The compiler
+/// vectorizes the loop only in a function of its own.
 #[inline(never)]
 fn is_asked_in(classes: &[BidiClass]) -> bool
     ensures { result ≡ is_any_of is_asked classes.now }
@@ -325,7 +327,7 @@ fn is_asked_in(classes: &[BidiClass]) -> bool
         .fold(false, |found, class| found | is_asked(*class))
 }
 
-/// The last strong class of these.
+/// The last strong class in the slice.
 fn last_strong(classes: &[BidiClass]) -> Option<BidiClass>
     ensures { result ≡ find is_strong (reverse classes.now) }
 {
@@ -336,7 +338,7 @@ fn last_strong(classes: &[BidiClass]) -> Option<BidiClass>
         .find(|class| is_strong(*class))
 }
 
-/// The end of the units from `at` on that have the class of the first, below `end`.
+/// The end of the code units from `at` on that have the class of the first, at most `end`.
 fn alike_end<S: Ledger>(classes: &[BidiClass], at: usize, end: usize, steps: &mut Steps<S>) -> usize
     requires some { at < end }
     requires inside { end ≤ length classes.now }
@@ -355,7 +357,7 @@ fn alike_end<S: Ledger>(classes: &[BidiClass], at: usize, end: usize, steps: &mu
     end
 }
 
-/// The length of the character that begins at a unit; 1 where none begins.
+/// The length of the character that begins at a code unit, or 1 if none begins there.
 fn len_at<T: TextSource>(text: T, unit: usize) -> usize
     ensures { result ≡ len_at T.units (T.characters text) unit }
 {

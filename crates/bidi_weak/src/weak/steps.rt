@@ -1,4 +1,4 @@
-//! The rules W2 to W7 as steps of one walk that looks at each unit once.
+//! The rules W2 to W7 as steps of a pass that reads each code unit once.
 
 ghost use Rattle.std.specs.Prelude.{◌≡◌};
 ghost use Rattle.bidi_base.specs.Classes.{is_l};
@@ -6,27 +6,27 @@ ghost use Rattle.bidi_weak.specs.WeakPass.{strengthened, strong_up_to, w7_by, wa
 
 use bidi_base::char_data::BidiClass::{self, AL, AN, CS, EN, ES, ET, L, ON, R};
 
-/// What stands directly before a character, as far as numbers, separators and terminators ask.
+/// What is directly before a character, as far as it matters to numbers, separators and terminators.
 #[derive(Clone, Copy, Debug)]
 pub enum Before {
-    /// Nothing that they ask for.
+    /// Nothing that matters to them.
     Other,
     /// A European number.
     European,
-    /// Terminators behind a European number.
+    /// Terminators after a European number.
     EuropeanTerminators,
     /// An Arabic number.
     Arabic,
     /// Terminators that wait for a European number.
     Terminators,
-    /// A separator behind a European number, which waits for another.
+    /// A separator after a European number, which waits for another.
     EuropeanSeparator,
-    /// A separator behind an Arabic number, which waits for another.
+    /// A separator after an Arabic number, which waits for another.
     ArabicSeparator,
 }
 
 impl Before {
-    /// Whether what stands before waits for the next character to decide its class.
+    /// Returns whether what is before waits for the next character to decide its class.
     pub fn waits(self) -> bool
         ensures { result ≡ waits self }
     {
@@ -36,14 +36,14 @@ impl Before {
         )
     }
 
-    /// Whether it is a separator that waits.
+    /// Returns whether it is a separator that waits.
     pub fn is_separator(self) -> bool
         ensures { result ≡ is_separator self }
     {
         matches!(self, Before::EuropeanSeparator | Before::ArabicSeparator)
     }
 
-    /// Whether a class after W3 joins what waits.
+    /// Returns whether a class after W3 joins what waits.
     pub fn is_joined_by(self, class: BidiClass) -> bool
         ensures { result ≡ joins class self }
     {
@@ -53,7 +53,7 @@ impl Before {
         }
     }
 
-    /// What stands before the character after one of this class.
+    /// Returns what is before the next character, after one of this class.
     pub fn after(self, class: BidiClass) -> Before
         ensures { result ≡ next_before class self }
     {
@@ -77,7 +77,7 @@ impl Before {
         }
     }
 
-    /// What the characters that wait become where one of this class follows (W4 to W6).
+    /// Returns the class of the characters that wait, if one of this class follows (W4 to W6).
     pub fn settled(self, class: BidiClass) -> BidiClass
         ensures { result ≡ settled class self }
     {
@@ -94,7 +94,7 @@ impl Before {
         }
     }
 
-    /// What a character that need not wait becomes (W4 to W6).
+    /// Returns the class of a character that need not wait (W4 to W6).
     pub fn resolved(self, class: BidiClass) -> BidiClass
         ensures { result ≡ resolved class self }
     {
@@ -109,7 +109,7 @@ impl Before {
     }
 }
 
-/// A class after W3, behind this nearest strong class.
+/// Returns a class after W3, if `strong` is the nearest strong class before it.
 pub fn strengthened(strong: BidiClass, class: BidiClass) -> BidiClass
     ensures { result ≡ strengthened strong class }
 {
@@ -120,7 +120,7 @@ pub fn strengthened(strong: BidiClass, class: BidiClass) -> BidiClass
     }
 }
 
-/// The nearest strong class up to a class, where `strong` is the one before it.
+/// Returns the nearest strong class up to and including a class, if `strong` is the one before it.
 pub fn strong_up_to(strong: BidiClass, class: BidiClass) -> BidiClass
     ensures { result ≡ strong_up_to strong class }
 {
@@ -130,7 +130,7 @@ pub fn strong_up_to(strong: BidiClass, class: BidiClass) -> BidiClass
     }
 }
 
-/// A class after W7, behind this nearest strong class.
+/// Returns a class after W7, if `strong` is the nearest strong class before it.
 pub fn numbered(strong: BidiClass, class: BidiClass) -> BidiClass
     ensures { result ≡ w7_by (is_l strong) class }
 {
