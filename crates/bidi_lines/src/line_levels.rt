@@ -196,12 +196,12 @@ fn gather_by_characters<T: TextSource>(text: T, levels: &mut [Level]) -> usize
     ensures count { result ≡ length (T.characters text) }
     ensures gathered { take result levels.new ≡ per_char 0 T.units (T.characters text) levels.old }
 {
-    let mut count = 0;
+    let mut index = 0;
     for (at, _) in text.indices_lengths() {
-        levels[count] = levels[at];
-        count += 1;
+        levels[index] = levels[at];
+        index += 1;
     }
-    count
+    index
 }
 
 // Brings the level of each character's first unit to the character's index, and counts the characters. Tests each
@@ -240,12 +240,12 @@ fn copy_by_units<T: TextSource>(text: T, levels: &[Level], out: &mut [Level]) ->
     ensures count { result ≡ length (T.characters text) }
     ensures copied { take result out.new ≡ per_char 0 T.units (T.characters text) levels.now }
 {
-    let mut count = 0;
+    let mut copied = 0;
     for at in 0..levels.len() {
-        out[count] = levels[at];
-        count += usize::from(text.is_boundary(at));
+        out[copied] = levels[at];
+        copied += usize::from(text.is_boundary(at));
     }
-    count
+    copied
 }
 
 /// Writes the level of each character of a text, which is that of its first unit, and returns the number of

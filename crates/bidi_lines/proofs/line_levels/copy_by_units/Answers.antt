@@ -8,13 +8,13 @@ use Rattle.bidi_lines.proofs.line_levels.copy_by_units.Goals as goal
 few_before : (len : ℕ → ℕ) (cs levels out : List ℕ) (n at : ℕ) → HasUnits len → IsTaken len cs levels out n at → at < length levels → n < length out
 few_before len cs levels out n at units taken within = omega (arith, IsTaken-le len cs levels units out n at taken, taken.long, within)
 
-pub bounds-out-count : goal.bounds-out-count
-bounds-out-count g c =
-    few_before g.T.TextSource.units (g.T.TextSource.characters c.args.text) c.args.levels.now c.loop-at.out c.loop-at.count c.loop-at.at g.met.T.TextSource.has_units c.loop-at.invariant c.loop-at-test.true
+pub bounds-out-copied : goal.bounds-out-copied
+bounds-out-copied g c =
+    few_before g.T.TextSource.units (g.T.TextSource.characters c.args.text) c.args.levels.now c.loop-at.out c.loop-at.copied c.loop-at.at g.met.T.TextSource.has_units c.loop-at.invariant c.loop-at-test.true
 
-pub overflow_add-count : goal.overflow_add-count
-overflow_add-count g c =
-    let below : c.loop-at.count < length c.loop-at.out = few_before g.T.TextSource.units (g.T.TextSource.characters c.args.text) c.args.levels.now c.loop-at.out c.loop-at.count c.loop-at.at g.met.T.TextSource.has_units c.loop-at.invariant c.loop-at-test.true in
+pub overflow_add-copied : goal.overflow_add-copied
+overflow_add-copied g c =
+    let below : c.loop-at.copied < length c.loop-at.out = few_before g.T.TextSource.units (g.T.TextSource.characters c.args.text) c.args.levels.now c.loop-at.out c.loop-at.copied c.loop-at.at g.met.T.TextSource.has_units c.loop-at.invariant c.loop-at-test.true in
     search rules
 
 pub loop-at-preserved : goal.loop-at-preserved
@@ -24,12 +24,12 @@ loop-at-preserved g c =
     let units = g.met.T.TextSource.has_units in
     let levels = c.args.levels.now in
     let read = c.index-levels-at.is ∙ get_or_default levels c.loop-at.at c.index-levels-at.result 0 c.loop-at-test.true in
-    let new = slice_set c.loop-at.out c.loop-at.count c.index-levels-at.result in
+    let new = slice_set c.loop-at.out c.loop-at.copied c.index-levels-at.result in
     elim (cases_Bool (is_boundary len cs c.loop-at.at)) [
-      | inl begins ↦ subst (λ n. IsTaken len cs levels new n (c.loop-at.at + 1)) (grind (arith, common_steps, begins, c.from-count.ensures, c.is_boundary.ensures))
-          (IsTaken-more len cs levels units c.loop-at.out c.loop-at.count c.loop-at.at c.index-levels-at.result begins (grind (arith, c.loop-at-test.true, c.requires.one_a_unit)) c.requires.one_a_unit read c.loop-at.invariant)
-      | inr inside ↦ subst (λ n. IsTaken len cs levels new n (c.loop-at.at + 1)) (grind (arith, common_steps, inside, c.from-count.ensures, c.is_boundary.ensures))
-          (IsTaken-inside len cs levels units c.loop-at.out c.loop-at.count c.loop-at.at c.index-levels-at.result inside c.loop-at.invariant)
+      | inl begins ↦ subst (λ n. IsTaken len cs levels new n (c.loop-at.at + 1)) (grind (arith, common_steps, begins, c.from-copied.ensures, c.is_boundary.ensures))
+          (IsTaken-more len cs levels units c.loop-at.out c.loop-at.copied c.loop-at.at c.index-levels-at.result begins (grind (arith, c.loop-at-test.true, c.requires.one_a_unit)) c.requires.one_a_unit read c.loop-at.invariant)
+      | inr inside ↦ subst (λ n. IsTaken len cs levels new n (c.loop-at.at + 1)) (grind (arith, common_steps, inside, c.from-copied.ensures, c.is_boundary.ensures))
+          (IsTaken-inside len cs levels units c.loop-at.out c.loop-at.copied c.loop-at.at c.index-levels-at.result inside c.loop-at.invariant)
     ]
 
 pub returns-clause-count : goal.returns-clause-count
@@ -37,8 +37,8 @@ returns-clause-count g c =
     let len = g.T.TextSource.units in
     let cs : List ℕ = g.T.TextSource.characters c.args.text in
     let end : c.loop-at.at ≡ text_len len cs = grind (arith, c.loop-at-test.false, c.loop-at.auto.at-end, c.requires.one_a_unit) in
-    IsTaken-end len cs c.args.levels.now g.met.T.TextSource.has_units c.loop-at.out c.loop-at.count (subst (λ at. IsTaken len cs c.args.levels.now c.loop-at.out c.loop-at.count at) end c.loop-at.invariant)
+    IsTaken-end len cs c.args.levels.now g.met.T.TextSource.has_units c.loop-at.out c.loop-at.copied (subst (λ at. IsTaken len cs c.args.levels.now c.loop-at.out c.loop-at.copied at) end c.loop-at.invariant)
 
 pub returns-clause-copied : goal.returns-clause-copied
 returns-clause-copied g c =
-    taken-all g.T.TextSource.units (g.T.TextSource.characters c.args.text) c.args.levels.now c.loop-at.out c.loop-at.count c.loop-at.at (returns-clause-count g c) c.loop-at.invariant
+    taken-all g.T.TextSource.units (g.T.TextSource.characters c.args.text) c.args.levels.now c.loop-at.out c.loop-at.copied c.loop-at.at (returns-clause-count g c) c.loop-at.invariant
