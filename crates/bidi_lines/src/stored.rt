@@ -62,8 +62,19 @@ impl<'t> ClassList for &'t [BidiClass] {
         self[index]
     }
 
+    // The last block may overlap the one before it: lines are short, and testing the rest one by one would cost more
+    // than the blocks.
     fn next_stop(self, index: usize) -> usize {
-        first_passing(SeparatorOrRemoved, self, index + 1, self.len())
+        let end = self.len();
+        if end - index <= 16 {
+            return first_passing(SeparatorOrRemoved, self, index, end);
+        }
+        let last = end - 16;
+        let found = first_passing(SeparatorOrRemoved, self, index, last);
+        if found < last {
+            return found;
+        }
+        first_passing(SeparatorOrRemoved, self, last, end)
     }
 }
 

@@ -211,6 +211,17 @@ impl LineRuns {
     }
 }
 
+// Returns a list of the same runs.
+fn copied(alloc: Global, runs: &[Range<usize>]) -> Result<Vec<Range<usize>>, AllocError>
+    ensures { IfOk result (λ v. map run_of v.items ≡ map run_of runs.now) }
+{
+    let mut list = Vec::with_capacity(alloc, runs.len())?;
+    for run in runs {
+        list.push(run.start..run.end)?;
+    }
+    Ok(list)
+}
+
 /// Returns the level runs (BD7) of a line from left to right (L2).
 ///
 /// Each run is a range of code units of the text. The line starts at the code unit `start`, and `levels` has the
@@ -224,9 +235,20 @@ pub fn visual_runs_of(
     ensures runs { IfOk result (λ v. map run_of v.items ≡ visual_runs start levels.now) }
     ensures visual { IfOk result (λ v. AreVisualRuns start levels.now (map run_of v.items)) }
 {
+    if levels.is_empty() {
+        return Ok(Vec::new(alloc));
+    }
+    let first = first_run_end(levels);
+    if first == levels.len() {
+        return Ok(vec![in alloc; start..start + first]?);
+    }
     let mut runs = LineRuns::new(alloc);
-    runs.find(levels, start)?;
-    runs.into_vec()
+    runs.find_behind(levels, start, first)?;
+    if runs.as_slice().len() <= FEW_RUNS {
+        copied(alloc, runs.as_slice())
+    } else {
+        runs.into_vec()
+    }
 }
 
 /// Returns the level of each code unit of a text, and the level runs (BD7) of a line from left to right (L2).

@@ -13,7 +13,7 @@ ghost use Rattle.bidi_text_lines.specs.Written.{shown_units, AreRunsOfChars};
 use crate::analysed::Analysed;
 use crate::line_text::{LineText, write_runs};
 use bidi_base::char_data::BidiClass;
-use bidi_base::level::{LTR_LEVEL, Level, has_rtl};
+use bidi_base::level::{Level, has_rtl};
 use bidi_lines::line_levels::write_first_units;
 use bidi_lines::shown_levels::ShownLevels;
 use bidi_lines::visual_order::write_visual_order;
@@ -35,7 +35,8 @@ fn gather_levels<T: TextSource>(
     requires { length levels.now ≡ text_len T.units (T.characters text) }
     ensures { OnOk result (of_chars.new.items ≡ per_char 0 T.units (T.characters text) levels.now) }
 {
-    of_chars.resize(levels.len(), LTR_LEVEL)?;
+    of_chars.clear();
+    of_chars.extend_from_slice(levels)?;
     let count = write_first_units(text, levels, of_chars.as_mut_slice());
     of_chars.truncate(count);
     Ok(())
