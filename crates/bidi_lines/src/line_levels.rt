@@ -205,14 +205,15 @@ fn gather_by_characters<T: TextSource>(text: T, levels: &mut [Level]) -> usize
 }
 
 // Moves the level of each character's first unit to the character's index, and returns the number of characters.
-// Tests each unit, with no branch in the loop.
+// Tests each unit, with no branch in the loop. The loop ends at the text's own length, so that `is_boundary` need not
+// compare the index with it.
 fn gather_by_units<T: TextSource>(text: T, levels: &mut [Level]) -> usize
     requires { length levels.old ≡ text_len T.units (T.characters text) }
     ensures count { result ≡ length (T.characters text) }
     ensures gathered { take result levels.new ≡ per_char 0 T.units (T.characters text) levels.old }
 {
     let mut count = 0;
-    for at in 0..levels.len() {
+    for at in 0..text.len() {
         levels[count] = levels[at];
         count += usize::from(text.is_boundary(at));
     }
@@ -241,7 +242,7 @@ fn copy_by_units<T: TextSource>(text: T, levels: &[Level], out: &mut [Level]) ->
     ensures copied { take result out.new ≡ per_char 0 T.units (T.characters text) levels.now }
 {
     let mut copied = 0;
-    for at in 0..levels.len() {
+    for at in 0..text.len() {
         out[copied] = levels[at];
         copied += usize::from(text.is_boundary(at));
     }

@@ -10,11 +10,11 @@ few_before len cs levels out n at units taken within = omega (arith, IsTaken-le 
 
 pub bounds-out-copied : goal.bounds-out-copied
 bounds-out-copied g c =
-    few_before g.T.TextSource.units (g.T.TextSource.characters c.args.text) c.args.levels.now c.loop-at.out c.loop-at.copied c.loop-at.at g.met.T.TextSource.has_units c.loop-at.invariant c.loop-at-test.true
+    few_before g.T.TextSource.units (g.T.TextSource.characters c.args.text) c.args.levels.now c.loop-at.out c.loop-at.copied c.loop-at.at g.met.T.TextSource.has_units c.loop-at.invariant (omega (arith, c.loop-at-test.true, c.len-at-end.ensures, c.requires.one_a_unit))
 
 pub overflow_add-copied : goal.overflow_add-copied
 overflow_add-copied g c =
-    let below : c.loop-at.copied < length c.loop-at.out = few_before g.T.TextSource.units (g.T.TextSource.characters c.args.text) c.args.levels.now c.loop-at.out c.loop-at.copied c.loop-at.at g.met.T.TextSource.has_units c.loop-at.invariant c.loop-at-test.true in
+    let below : c.loop-at.copied < length c.loop-at.out = few_before g.T.TextSource.units (g.T.TextSource.characters c.args.text) c.args.levels.now c.loop-at.out c.loop-at.copied c.loop-at.at g.met.T.TextSource.has_units c.loop-at.invariant (omega (arith, c.loop-at-test.true, c.len-at-end.ensures, c.requires.one_a_unit)) in
     search rules
 
 pub loop-at-preserved : goal.loop-at-preserved
@@ -23,11 +23,11 @@ loop-at-preserved g c =
     let cs : List ℕ = g.T.TextSource.characters c.args.text in
     let units = g.met.T.TextSource.has_units in
     let levels = c.args.levels.now in
-    let read = c.index-levels-at.is ∙ get_or_default levels c.loop-at.at c.index-levels-at.result 0 c.loop-at-test.true in
+    let read = c.index-levels-at.is ∙ get_or_default levels c.loop-at.at c.index-levels-at.result 0 (omega (arith, c.loop-at-test.true, c.len-at-end.ensures, c.requires.one_a_unit)) in
     let new = slice_set c.loop-at.out c.loop-at.copied c.index-levels-at.result in
     elim (cases_Bool (is_boundary len cs c.loop-at.at)) [
       | inl begins ↦ subst (λ n. IsTaken len cs levels new n (c.loop-at.at + 1)) (grind (arith, common_steps, begins, c.from-copied.ensures, c.is_boundary.ensures))
-          (IsTaken-more len cs levels units c.loop-at.out c.loop-at.copied c.loop-at.at c.index-levels-at.result begins (grind (arith, c.loop-at-test.true, c.requires.one_a_unit)) c.requires.one_a_unit read c.loop-at.invariant)
+          (IsTaken-more len cs levels units c.loop-at.out c.loop-at.copied c.loop-at.at c.index-levels-at.result begins (omega (arith, c.loop-at-test.true, c.len-at-end.ensures)) c.requires.one_a_unit read c.loop-at.invariant)
       | inr inside ↦ subst (λ n. IsTaken len cs levels new n (c.loop-at.at + 1)) (grind (arith, common_steps, inside, c.from-copied.ensures, c.is_boundary.ensures))
           (IsTaken-inside len cs levels units c.loop-at.out c.loop-at.copied c.loop-at.at c.index-levels-at.result inside c.loop-at.invariant)
     ]
@@ -36,7 +36,7 @@ pub returns-clause-count : goal.returns-clause-count
 returns-clause-count g c =
     let len = g.T.TextSource.units in
     let cs : List ℕ = g.T.TextSource.characters c.args.text in
-    let end : c.loop-at.at ≡ text_len len cs = grind (arith, c.loop-at-test.false, c.loop-at.auto.at-end, c.requires.one_a_unit) in
+    let end : c.loop-at.at ≡ text_len len cs = omega (arith, c.loop-at-test.false, c.loop-at.auto.at-end, c.len-at-end.ensures) in
     IsTaken-end len cs c.args.levels.now g.met.T.TextSource.has_units c.loop-at.out c.loop-at.copied (subst (λ at. IsTaken len cs c.args.levels.now c.loop-at.out c.loop-at.copied at) end c.loop-at.invariant)
 
 pub returns-clause-copied : goal.returns-clause-copied
